@@ -1,0 +1,14 @@
+pub mod Places
+pub mod Quoting
+pub mod QuotingLoop
+pub mod Counting
+pub mod PartLoop
+pub mod EndPlaces
+pub mod StepLaws
+pub mod CutLaws
+pub mod StepOutcomes
+pub mod ProgressLaws
+pub mod Reaching
+pub mod Advancing
+pub mod PrintedLength
+pub mod LexerLaws

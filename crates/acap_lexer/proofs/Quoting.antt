@@ -1,0 +1,96 @@
+-- Reading a quoted string.
+use Rattle.std.proofs.Common.{◌≡◌, ℕ, zero, suc, ◌+◌, Bool, true, false, cond, List, [], ◌∷◌, ◌++◌, take, drop, length, Ok, Err, refl, sym, ap, ◌∙◌, append_assoc, eqb, leb, arith, length-append}
+use Rattle.std.specs.Prelude.{not, ◌||◌, ◌&&◌}
+use Rattle.std.specs.Str.{is_utf8}
+use Rattle.std.proofs.lemmas.Bool.{and_parts, or_parts, or_from, not-true, not_from_false, le-leb, leb-true}
+use Rattle.acap_lexer.specs.declared.kind.Kind.TheVariants as kinds
+use Rattle.std.specs.List.{list_all}
+use Rattle.acap_lexer.specs.Printing.{escape, escaped, is_printable, may_quote, quoted}
+use Rattle.std.specs.List.{prefix_len}
+use Rattle.acap_lexer.specs.Octets.{is_quotable, is_escaped}
+use Rattle.acap_lexer.specs.Reading.{Read, behind, quoted_at, string_at, token_at}
+
+pub behind_more : (front more : List ℕ) (read : Read (List ℕ)) → behind front (behind more read) ≡ behind (front ++ more) read
+behind_more front more (Ok x) = ap (λ (bs : List ℕ). Ok (bs, x.1)) (sym (append_assoc front more x.0))
+behind_more front more (Err f) = refl
+
+behind_none : (read : Read (List ℕ)) → behind [] read ≡ read
+behind_none (Ok x) = refl
+behind_none (Err f) = refl
+
+-- what stands for itself is neither a quote nor a backslash
+not_special : (a b : Bool) → not (a || b) ≡ true → (a ≡ false) × (b ≡ false)
+not_special true b e = absurd cc
+not_special false true e = absurd cc
+not_special false false e = (refl, refl)
+
+plain : (c : ℕ) → is_quotable c ≡ true → (eqb c 34 ≡ false) × (eqb c 92 ≡ false)
+unfolding is_quotable
+plain c e =
+    let outer = not_special (eqb c 0 || eqb c 10 || eqb c 13 || eqb c 34) (eqb c 92) e in
+    let inner = not_special (eqb c 0 || eqb c 10 || eqb c 13) (eqb c 34) (ap not outer.0) in
+    (inner.1, outer.1)
+
+-- the octets that stand for themselves may be read at once
+pub quoted_plain : (text : List ℕ) → quoted_at text ≡ behind (take (prefix_len is_quotable text) text) (quoted_at (drop (prefix_len is_quotable text) text))
+unfolding quoted_at
+quoted_plain [] = refl
+quoted_plain (c ∷ rest) = by_test (is_quotable c) refl (quoted_plain rest)
+  where
+    split_at : ℕ → Read (List ℕ)
+    split_at n = behind (take n (c ∷ rest)) (quoted_at (drop n (c ∷ rest)))
+
+    by_test : (b : Bool) → is_quotable c ≡ b → quoted_at rest ≡ behind (take (prefix_len is_quotable rest) rest) (quoted_at (drop (prefix_len is_quotable rest) rest))
+        → quoted_at (c ∷ rest) ≡ split_at (prefix_len is_quotable (c ∷ rest))
+    by_test false e later =
+        let none : prefix_len is_quotable (c ∷ rest) ≡ 0 = rw e refl in
+        sym (behind_none (quoted_at (c ∷ rest))) ∙ ap split_at (sym none)
+    by_test true e later =
+        let n = prefix_len is_quotable rest in
+        let more : prefix_len is_quotable (c ∷ rest) ≡ suc n = rw e (omega arith) in
+        let p = plain c e in
+        let first : quoted_at (c ∷ rest) ≡ behind (c ∷ []) (quoted_at rest) = rw (p.0, p.1, e) refl in
+        first ∙ ap (behind (c ∷ [])) later ∙ behind_more (c ∷ []) (take n rest) (quoted_at (drop n rest)) ∙ ap split_at (sym more)
+
+-- ---- what is printed is read back
+
+read_escaped : (c : ℕ) (rest : List ℕ) → is_escaped c ≡ true → quoted_at (92 ∷ c ∷ rest) ≡ behind (c ∷ []) (quoted_at rest)
+unfolding quoted_at
+read_escaped c rest e = rw e refl
+
+is_plain : (c : ℕ) → is_printable c ≡ true → is_escaped c ≡ false → is_quotable c ≡ true
+unfolding is_printable is_escaped is_quotable
+is_plain c p e =
+    let special = or_parts (eqb c 34) (eqb c 92) e in
+    let control = not-true (eqb c 0 || eqb c 10 || eqb c 13) p in
+    not_from_false _ (or_from (eqb c 0 || eqb c 10 || eqb c 13 || eqb c 34) (eqb c 92) (or_from (eqb c 0 || eqb c 10 || eqb c 13) (eqb c 34) control special.0) special.1)
+
+read_plain : (c : ℕ) (rest : List ℕ) → is_quotable c ≡ true → quoted_at (c ∷ rest) ≡ behind (c ∷ []) (quoted_at rest)
+unfolding quoted_at
+read_plain c rest e = let p = plain c e in rw (p.0, p.1, e) refl
+
+pub escaped_reads : (text rest : List ℕ) → list_all is_printable text ≡ true → quoted_at (escaped text ++ 34 ∷ rest) ≡ Ok (text, rest)
+unfolding quoted_at
+escaped_reads [] rest p = refl
+escaped_reads (c ∷ text) rest p = by_test (is_escaped c) refl (and_parts (is_printable c) (list_all is_printable text) p).0 (escaped_reads text rest (and_parts (is_printable c) (list_all is_printable text) p).1)
+  where
+    tail : List ℕ
+    tail = escaped text ++ 34 ∷ rest
+
+    by_test : (b : Bool) → is_escaped c ≡ b → is_printable c ≡ true → quoted_at tail ≡ Ok (text, rest) → quoted_at (escaped (c ∷ text) ++ 34 ∷ rest) ≡ Ok (c ∷ text, rest)
+    by_test true e printable later =
+        let form : escape c ≡ 92 ∷ c ∷ [] = rw e refl in
+        ap (λ (front : List ℕ). quoted_at ((front ++ escaped text) ++ 34 ∷ rest)) form ∙ read_escaped c tail e ∙ ap (behind (c ∷ [])) later
+    by_test false e printable later =
+        let form : escape c ≡ c ∷ [] = rw e refl in
+        ap (λ (front : List ℕ). quoted_at ((front ++ escaped text) ++ 34 ∷ rest)) form ∙ read_plain c tail (is_plain c printable e) ∙ ap (behind (c ∷ [])) later
+
+pub reads_quoted : (text rest : List ℕ) → may_quote text ≡ true → token_at (quoted text ++ rest) ≡ Ok (record { kind = kinds.Quoted; value = text }, rest)
+unfolding token_at quoted may_quote string_at
+reads_quoted text rest m =
+    let parts = and_parts (leb (length (escaped text)) 1024) (is_utf8 text && list_all is_printable text) m in
+    let printable = (and_parts (is_utf8 text) (list_all is_printable text) parts.1).1 in
+    let read = escaped_reads text rest printable in
+    let regroup : (escaped text ++ 34 ∷ []) ++ rest ≡ escaped text ++ 34 ∷ rest = append_assoc (escaped text) (34 ∷ []) rest in
+    let short : leb (length (escaped text ++ 34 ∷ rest)) (length rest + 1025) ≡ true = le-leb _ _ (omega (arith, length-append (escaped text) (34 ∷ rest), leb-true _ _ parts.0)) in
+    rw (regroup, read, short) refl

@@ -1,0 +1,31 @@
+-- What a step leaves.
+use Rattle.std.proofs.Common.{◌≡◌, ℕ, ◌+◌, ◌-◌, ◌<◌, ◌≤◌, Bool, cond, List, length, drop, Option, Some, None, Result, Ok, Err, sym, ap, subst, arith}
+use Rattle.std.specs.Prelude.{IfOk, is_some}
+use Rattle.acap_lexer.specs.declared.scan.Scan.{Scan}
+use Rattle.acap_lexer.specs.declared.scan.Literal.{Literal}
+use Rattle.acap_lexer.specs.declared.turn.Turn.{Turn}
+use Rattle.acap_lexer.specs.declared.turn.Turn.TheVariants as turns
+use Rattle.acap_lexer.specs.Scanning.{IsSound, IsNearer, StaysSound, OpensOn, Opens, turns_left}
+
+pub at_ok : {E : Type 0} (r : Result Turn E) (P Q : Turn → Type 0) → ((turn : Turn) → P turn → Q turn) → IfOk r P → IfOk r Q
+at_ok (Ok turn) P Q f p = f turn p
+at_ok (Err e) P Q f p = p
+
+pub opens_sound : (text : List ℕ) (place : ℕ) (new : Scan) → place ≤ length text → (turn : Turn) → OpensOn place new turn → StaysSound text new turn
+opens_sound text place new within turns.Waits o = absurd o
+opens_sound text place new within (turns.Ends lexed n) o = tt
+opens_sound text place new within turns.Goes o = record {
+  within = omega (arith, o.octets);
+  looked = omega (arith, o.octets, o.looked);
+  none = λ k lt return feed. absurd (omega (arith, o.looked));
+  waits = omega (arith, o.waits, o.octets);
+}
+
+few : (literal : Option Literal) → (let n : ℕ = cond (is_some literal) 1 0 in n) ≤ 1
+few None = omega arith
+few (Some l) = omega arith
+
+pub opens_nearer : (text : List ℕ) (place : ℕ) (old new : Scan) → old.octets + 2 ≤ place → place ≤ length text → (turn : Turn) → OpensOn place new turn → IsNearer text old new turn
+opens_nearer text place old new behind within turns.Waits o = absurd o
+opens_nearer text place old new behind within (turns.Ends lexed n) o = (omega (arith, o), omega (arith, o))
+opens_nearer text place old new behind within turns.Goes o = omega (arith, o.octets, few new.literal)

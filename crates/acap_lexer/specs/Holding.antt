@@ -1,0 +1,14 @@
+-- What a lexer stands for.
+use Rattle.std.specs.Prelude.{ℕ, List, Option}
+use Rattle.acap_lexer.specs.declared.fault.LexFault.{LexFault}
+
+-- the octets taken after the last item answered, how many continuations have been told since, and the fault
+-- after which nothing is read, if one was answered
+pub record Held : Type 0 where
+  pub text : List ℕ
+  pub told : ℕ
+  pub fatal : Option LexFault
+
+-- so many octets are held at most
+abbrev pub held_limit : ℕ
+held_limit = 270336

@@ -1,0 +1,36 @@
+-- Laws of the definitions.
+use Rattle.std.specs.Prelude.{◌≡◌, ℕ, ◌≤◌, ◌<◌, List, [], ◌∷◌, ◌++◌, length, Option, Some, None, IsTrue, Ok}
+use Rattle.acap_lexer.specs.declared.kind.Kind.TheVariants as kinds
+use Rattle.acap_lexer.specs.declared.lexed.Lexed.{Lexed}
+use Rattle.acap_lexer.specs.declared.mode.Mode.{Mode}
+use Rattle.acap_lexer.specs.Holding.{held_limit}
+use Rattle.acap_lexer.specs.Reading.{token_at}
+use Rattle.acap_lexer.specs.Stream.{Stage, Step, Progress, step_of, octets_of, progress, progress_from, progress_by}
+use Rattle.acap_lexer.specs.Printing.{may_quote, quoted}
+
+-- An item that begins a text begins every longer text, with as many continuations before it.
+abbrev pub KeepsItems : Type 0
+KeepsItems = (mode : Mode) (text more : List ℕ) (x : Lexed × ℕ) → (progress mode text).item ≡ Some x →
+    ((progress mode (text ++ more)).item ≡ Some x) × ((progress mode (text ++ more)).waits ≡ (progress mode text).waits)
+
+-- A longer text has no fewer continuations due.
+abbrev pub KeepsWaits : Type 0
+KeepsWaits = (mode : Mode) (text more : List ℕ) → (progress mode text).waits ≤ (progress mode (text ++ more)).waits
+
+-- An item takes some of the octets that it begins.
+abbrev pub TakesOctets : Type 0
+TakesOctets = (mode : Mode) (text : List ℕ) (x : Lexed × ℕ) → (progress mode text).item ≡ Some x → (0 < x.1) × (x.1 ≤ length text)
+
+-- A text that no item begins is shorter than what may be held.
+abbrev pub LeavesRoom : Type 0
+LeavesRoom = (mode : Mode) (text : List ℕ) → (progress mode text).item ≡ None → length text < held_limit
+
+-- How far a text leads from a stage on is what comes of the stage: the bound on the stages changes nothing.
+abbrev pub GoesByStages : Type 0
+GoesByStages = (mode : Mode) (stage : Stage) (text : List ℕ) → octets_of stage ≤ length text →
+    progress_from mode stage text ≡ progress_by (λ next. progress_from mode next text) (step_of mode stage text)
+
+-- What is printed between quotes is read back as that string, whatever follows.
+abbrev pub ReadsQuoted : Type 0
+ReadsQuoted = (text rest : List ℕ) → IsTrue (may_quote text) →
+    token_at (quoted text ++ rest) ≡ Ok (record { kind = kinds.Quoted; value = text }, rest)

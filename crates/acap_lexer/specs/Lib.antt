@@ -1,0 +1,15 @@
+pub mod Octets
+pub mod Token
+pub mod Marks
+pub mod Reading
+pub mod Part
+pub mod Stream
+pub mod Holding
+pub mod Held
+pub mod Laws
+pub mod Printing
+pub mod Taking
+pub mod Ends
+pub mod CutPlaces
+pub mod Scanning
+pub mod Lexing

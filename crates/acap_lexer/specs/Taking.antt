@@ -1,0 +1,32 @@
+-- What the readers of a part promise of one step, whatever follows it.
+use Rattle.std.specs.Prelude.{◌≡◌, ℕ, ◌<◌, ◌≤◌, List, [], ◌∷◌, length, Option, Some, None, Result, Ok, Err}
+use Rattle.std.specs.Borrow.{Bor}
+use Rattle.acap_lexer.specs.declared.fault.LexError.{LexError}
+use Rattle.acap_lexer.specs.declared.fault.LexFault.{LexFault}
+use Rattle.acap_lexer.specs.declared.found.Found.{Found}
+use Rattle.acap_lexer.specs.declared.found.Found.TheVariants.{Mark, Rest}
+use Rattle.acap_lexer.specs.Token.{Token}
+use Rattle.acap_lexer.specs.Part.{Part, next_at}
+use Rattle.acap_lexer.specs.Reading.{Fails, Read, behind, quoted_at, escaped_at}
+
+-- an octet of a string, or its closing quote
+abbrev pub TakesFrom : Read (List ℕ) → List ℕ → Option ℕ → List ℕ → Type 0
+TakesFrom read text None left = (read ≡ Ok ([], left)) × (length left < length text)
+TakesFrom read text (Some c) left = (read ≡ behind (c ∷ []) (quoted_at left)) × (length left < length text)
+
+abbrev pub TakesOctet : List ℕ → Result (Option ℕ × Bor (List ℕ)) LexError → Type 0
+TakesOctet text (Ok x) = TakesFrom (quoted_at text) text x.0 x.1.now
+TakesOctet text (Err e) = Fails e (quoted_at text)
+
+-- the same behind a backslash
+abbrev pub TakesEscaped : List ℕ → Result (Option ℕ × Bor (List ℕ)) LexError → Type 0
+TakesEscaped text (Ok x) = TakesFrom (escaped_at text) text x.0 x.1.now
+TakesEscaped text (Err e) = Fails e (escaped_at text)
+
+-- the next token of a part, or the mark that it ends in, whatever is read behind it
+abbrev pub TakesNext : ℕ → List Token → List Token → List ℕ → Result Found LexError → Type 0
+TakesNext end old new text (Ok (Mark start announced)) =
+    ((go : List Token → List ℕ → Result Part LexFault) → next_at go end old text ≡ Ok (record { tokens = old; mark = Some (start, announced) })) × (new ≡ old)
+TakesNext end old new text (Ok (Rest left)) =
+    ((go : List Token → List ℕ → Result Part LexFault) → next_at go end old text ≡ go new left.now) × (length left.now ≤ length text)
+TakesNext end old new text (Err e) = (go : List Token → List ℕ → Result Part LexFault) → Fails e (next_at go end old text)

@@ -1,0 +1,12 @@
+//! Where a part ends.
+
+/// The end of the part that begins a text.
+#[derive(Clone, Copy, Debug, PartialEq, Eq)]
+pub(crate) enum Cut {
+    /// Its CR LF begins there.
+    At(usize),
+    /// It has none within the limit.
+    Never,
+    /// It has none yet.
+    NotYet,
+}

@@ -1,0 +1,60 @@
+//! Where a part ends.
+
+ghost use Rattle.std.specs.Prelude.{◌≡◌, ◌≤◌, ◌<◌, ◌+◌, length, IfSome, IfNone};
+ghost use Rattle.acap_lexer.specs.Ends.{NoEnd, follows_return};
+ghost use Rattle.acap_lexer.specs.Stream.{end_of, cut};
+ghost use Rattle.acap_lexer.specs.CutPlaces.{CutsWithin};
+
+use crate::cut::Cut;
+use memchr::memchr;
+
+/// The CR LF of a part ends within so many of its octets.
+pub(crate) const PART_LIMIT: usize = 8192;
+
+/// Whether a CR stands before the place.
+fn follows_return(text: &[u8], at: usize) -> bool
+    requires { at < length text.now }
+    ensures { result ≡ follows_return text.now at }
+{
+    at > 0 && text[at - 1] == b'\r'
+}
+
+/// Where the first CR LF begins, in a text whose first octets have been looked at.
+fn end_of(text: &[u8], looked: usize) -> Option<usize>
+    requires within { looked ≤ length text.now }
+    requires none { NoEnd text.now looked }
+    ensures first { result ≡ end_of text.now }
+    ensures passed { IfNone result (NoEnd text.now (length text.now)) }
+    ensures inside { IfSome result (λ n. n + 2 ≤ length text.now) }
+{
+    let mut from = looked;
+    'feeds: while let Some(passed) = memchr(b'\n', &text[from..]) {
+        let at = from + passed;
+        if follows_return(text, at) {
+            return Some(at - 1);
+        }
+        from = at + 1;
+    }
+    None
+}
+
+/// Where the part that begins the text ends, if its first octets have been looked at.
+#[tactic(auto, using(std::proofs::lemmas::List::take_min), unfolding(crate::specs::Stream::cut))]
+pub(crate) fn cut(text: &[u8], looked: usize) -> Cut
+    requires within { looked ≤ length text.now }
+    requires none { NoEnd text.now looked }
+    ensures cut { result ≡ cut text.now }
+    ensures places { CutsWithin text.now result }
+{
+    let front = &text[..PART_LIMIT.min(text.len())];
+    match end_of(front, looked.min(front.len())) {
+        Some(n) => Cut::At(n),
+        None => {
+            if text.len() < PART_LIMIT {
+                Cut::NotYet
+            } else {
+                Cut::Never
+            }
+        }
+    }
+}

@@ -1,0 +1,68 @@
+//! What is wrong with a line, and want of memory.
+
+ghost use Rattle.std.specs.Prelude.{◌≡◌};
+ghost use Rattle.acap_lexer.specs.declared.fault.LexError.TheVariants as errors;
+
+use std::alloc::{AllocError, AllocFailed};
+
+/// What is wrong with a line or a command: the first fault from the left (RFC 2244, sections 2.2 and 2.6).
+#[derive(Clone, Copy, Debug, PartialEq, Eq)]
+pub enum LexFault {
+    /// No tag of 1 to 32 octets, followed by a space or the CR LF, begins the command.
+    BadTag,
+    /// An octet that may stand in no token at its place, a space too many or too few, or a string that isn't one.
+    BadToken,
+    /// A `{` that doesn't begin a literal mark at the end of its part.
+    BadLiteral,
+    /// The command would have more than 262,144 octets. Nothing is read behind it.
+    CommandTooLong,
+    /// The first 8,192 octets of a part have no CR LF. Nothing is read behind it.
+    LineTooLong,
+}
+
+/// A growth was refused memory.
+#[derive(Clone, Copy, Debug, PartialEq, Eq)]
+pub struct Memory;
+
+/// Why a part wasn't read.
+#[derive(Clone, Copy, Debug, PartialEq, Eq)]
+pub(crate) enum LexError {
+    Memory,
+    Fault(LexFault),
+}
+
+impl From<AllocError> for LexError {
+    ghost from_gives = { λ _ e. e ≡ errors.Memory };
+
+    fn from(_error: AllocError) -> LexError {
+        LexError::Memory
+    }
+}
+
+impl<T: Drop> From<AllocFailed<T>> for LexError {
+    ghost from_gives = { λ _ e. e ≡ errors.Memory };
+
+    fn from(_error: AllocFailed<T>) -> LexError {
+        LexError::Memory
+    }
+}
+
+impl From<Memory> for LexError {
+    ghost from_gives = { λ _ e. e ≡ errors.Memory };
+
+    fn from(_error: Memory) -> LexError {
+        LexError::Memory
+    }
+}
+
+impl From<AllocError> for Memory {
+    fn from(_error: AllocError) -> Memory {
+        Memory
+    }
+}
+
+impl<T: Drop> From<AllocFailed<T>> for Memory {
+    fn from(_error: AllocFailed<T>) -> Memory {
+        Memory
+    }
+}

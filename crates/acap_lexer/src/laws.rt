@@ -1,0 +1,33 @@
+//! Laws of the definitions.
+
+ghost use Rattle.acap_lexer.specs.Laws.{KeepsItems, KeepsWaits, TakesOctets, LeavesRoom, GoesByStages, ReadsQuoted};
+
+/// An item that begins a text begins every longer text.
+pub fn keeps_items()
+    ensures { KeepsItems }
+{}
+
+/// A longer text has no fewer continuations due.
+pub fn keeps_waits()
+    ensures { KeepsWaits }
+{}
+
+/// An item takes some of the octets that it begins.
+pub fn takes_octets()
+    ensures { TakesOctets }
+{}
+
+/// A text that no item begins is shorter than what a lexer holds.
+pub fn leaves_room()
+    ensures { LeavesRoom }
+{}
+
+/// How far a text leads is what comes of its stages, one after the other.
+pub fn goes_by_stages()
+    ensures { GoesByStages }
+{}
+
+/// What is printed between quotes is read back as that string.
+pub fn reads_quoted()
+    ensures { ReadsQuoted }
+{}

@@ -1,0 +1,51 @@
+//! The answers of a lexer.
+
+use crate::fault::LexFault;
+use crate::tokens::Tokens;
+use std::marker::Model;
+
+/// The tag of a command, 1 to 32 octets, as it is written in front of the answers (RFC 2244, section 2.2).
+#[derive(Debug, Drop)]
+pub struct Tag {
+    octets: Vec<u8>,
+}
+
+impl Model for Tag {
+    ghost use Rattle.std.specs.Prelude.{List, ℕ};
+
+    ghost Value = { List ℕ };
+
+    ghost view = { λ t. t.octets.items };
+}
+
+impl Tag {
+    ghost use Rattle.std.specs.Prelude.{◌≡◌};
+
+    pub(crate) fn new(octets: Vec<u8>) -> Tag
+        ensures { result ≡ octets.items }
+    {
+        Tag { octets }
+    }
+
+    /// The octets of the tag.
+    pub fn as_slice(&self) -> &[u8]
+        ensures { result.now ≡ self.now }
+    {
+        &self.octets
+    }
+}
+
+/// What comes next in a stream of octets.
+#[derive(Debug, Drop)]
+pub enum Lexed {
+    /// No further answer stands in the octets so far.
+    More,
+    /// A literal waits for `+ "Ready"` to be sent (RFC 2244, section 2.6.3). It is told once for each.
+    Plus,
+    /// A whole command, or a whole answer line.
+    Line(Tokens),
+    /// A command with a fault, of which the rest of the line is skipped, and its tag where it has one.
+    Bad(LexFault, Option<Tag>),
+    /// A fault after which nothing is read: it is answered ever after.
+    Fatal(LexFault),
+}

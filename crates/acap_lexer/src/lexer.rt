@@ -1,0 +1,134 @@
+//! A stream of octets, taken in pieces and answered command by command.
+
+ghost use Rattle.std.specs.Prelude.{◌≡◌, ◌++◌, ◌+◌, ◌-◌, ◌≤◌, [], min, length, take, drop, IfOk, OnErr};
+ghost use Rattle.acap_lexer.specs.Held.{next_of, fatal_of};
+ghost use Rattle.acap_lexer.specs.Holding.{held_limit};
+
+use crate::advance::{advance, start, turn_to};
+use crate::due::Due;
+use crate::fault::{LexFault, Memory};
+use crate::lexed::Lexed;
+use crate::mode::Mode;
+use crate::scan::Scan;
+use std::alloc::Global;
+use std::marker::Model;
+
+/// So many octets are held at most behind the last item answered: a command and a part.
+const HELD_LIMIT: usize = 270336;
+
+/// The fault after which nothing is read.
+fn fatal_of(lexed: &Lexed) -> Option<LexFault>
+    ensures { result ≡ fatal_of lexed.now }
+{
+    match lexed {
+        Lexed::Fatal(fault) => Some(*fault),
+        _ => None,
+    }
+}
+
+/// Takes the front off where it is longer than the rest, so that each octet is moved once at the most for each
+/// that is taken off. Gives the place of the rest.
+fn compact(text: &mut Vec<u8>, start: usize) -> usize
+    requires { start ≤ length text.old.items }
+    ensures rest { drop result text.new.items ≡ drop start text.old.items }
+    ensures within { result ≤ length text.new.items }
+{
+    if start <= text.len() - start {
+        return start;
+    }
+    let _front = text.drain(..start);
+    0
+}
+
+/// The octets of a session, as they come, and its commands (RFC 2244, section 2.2). A lexer stands for the octets
+/// taken after the last item that it answered, for the number of continuations told since, and for its fatal
+/// fault, if it answered one.
+#[derive(Drop)]
+pub struct Lexer {
+    alloc: Global,
+    text: Vec<u8>,
+    start: usize,
+    told: usize,
+    fatal: Option<LexFault>,
+    scan: Scan,
+}
+
+impl Model for Lexer {
+    ghost use Rattle.std.specs.Prelude.{drop};
+    ghost use Rattle.acap_lexer.specs.Holding.{Held};
+
+    ghost Value = { Held };
+
+    ghost use Rattle.acap_lexer.specs.Lexing.{IsLexer};
+
+    ghost view = { λ a. record { text = drop a.start a.text.items; told = a.told; fatal = a.fatal } };
+
+    ghost invariant = { λ a. IsLexer a.text.items a.start a.scan };
+}
+
+impl Lexer {
+    /// A lexer that has taken nothing.
+    pub fn new(alloc: Global) -> Lexer
+        ensures { result ≡ record { text = []; told = 0; fatal = None } }
+    {
+        Lexer {
+            alloc,
+            text: Vec::new(alloc),
+            start: 0,
+            told: 0,
+            fatal: None,
+            scan: start(alloc, Mode::Command),
+        }
+    }
+
+    /// Takes a front of the piece, and says how many octets that is: all of it, or as much as keeps the octets
+    /// behind the last item answered at 270,336.
+    pub fn push(&mut self, piece: &[u8]) -> Result<usize, Memory>
+        ensures taken { IfOk result (λ n. n ≡ min (length piece.now) (held_limit - length self.old.text)) }
+        ensures held { IfOk result (λ n. self.new ≡ record self.old { text = self.old.text ++ take n piece.now }) }
+        ensures err { OnErr result (self.new ≡ self.old) }
+    {
+        let room = HELD_LIMIT.saturating_sub(self.text.len() - self.start);
+        let taken = piece.len().min(room);
+        self.start = compact(&mut self.text, self.start);
+        self.text.extend_from_slice(&piece[..taken])?;
+        Ok(taken)
+    }
+
+    /// What comes next, where a command that isn't whole is read in this mode from its beginning on: `More` only
+    /// where the octets so far have no further answer.
+    #[tactic(auto, unfolding(crate::specs::Held::next_of))]
+    pub fn next(&mut self, mode: Mode) -> Result<Lexed, Memory>
+        ensures answer { IfOk result (λ lexed. lexed ≡ (next_of mode self.old).0) }
+        ensures held { IfOk result (λ lexed. self.new ≡ (next_of mode self.old).1) }
+        ensures err { OnErr result (self.new ≡ self.old) }
+    {
+        if let Some(fault) = self.fatal {
+            return Ok(Lexed::Fatal(fault));
+        }
+        turn_to(self.alloc, &mut self.scan, mode);
+        match advance(
+            self.alloc,
+            &mut self.scan,
+            self.told,
+            &self.text[self.start..],
+        ) {
+            Err(Memory) => {
+                self.scan = start(self.alloc, mode);
+                Err(Memory)
+            }
+            Ok(Due::More) => Ok(Lexed::More),
+            Ok(Due::Plus) => {
+                self.told += 1;
+                Ok(Lexed::Plus)
+            }
+            Ok(Due::Item(lexed, taken)) => {
+                self.fatal = fatal_of(&lexed);
+                self.start += taken;
+                self.told = 0;
+                self.scan = start(self.alloc, mode);
+                Ok(lexed)
+            }
+        }
+    }
+}

@@ -1,0 +1,35 @@
+//! The octets of a session, which come in pieces, as commands and their tokens (RFC 2244, section 2), and strings
+//! as they are printed.
+#![tactic(auto)]
+
+mod advance;
+mod announced;
+mod cut;
+mod due;
+mod ends;
+mod fault;
+mod found;
+mod kind;
+mod laws;
+mod lexed;
+mod lexer;
+mod marks;
+mod mode;
+mod octets;
+mod part;
+mod print;
+mod reading;
+mod scan;
+mod stages;
+mod strings;
+mod tokens;
+mod turn;
+
+pub use fault::{LexFault, Memory};
+pub use kind::Kind;
+pub use laws::{goes_by_stages, keeps_items, keeps_waits, leaves_room, reads_quoted, takes_octets};
+pub use lexed::{Lexed, Tag};
+pub use lexer::Lexer;
+pub use mode::Mode;
+pub use print::print_string;
+pub use tokens::Tokens;

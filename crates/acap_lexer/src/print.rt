@@ -1,0 +1,118 @@
+//! The printed form of a string.
+
+ghost use Rattle.std.specs.Prelude.{◌≡◌, ◌++◌, OnOk, OnErr, nat_le, length, count_by};
+ghost use Rattle.std.specs.List.{list_all};
+ghost use Rattle.acap_lexer.specs.Octets.{is_escaped as is_escaped_octet};
+ghost use Rattle.std.specs.Str.{is_utf8};
+ghost use Rattle.acap_lexer.specs.Printing.{escaped, is_printable, may_quote, quoted, literal, printed, Grows};
+
+use crate::fault::Memory;
+use crate::octets::is_escaped;
+
+const QUOTED_LIMIT: usize = 1024;
+
+#[tactic(auto, unfolding(crate::specs::Printing::is_printable))]
+fn is_printable(c: u8) -> bool
+    ensures { result ≡ is_printable c }
+{
+    !matches!(c, 0 | b'\n' | b'\r')
+}
+
+/// How many octets want a backslash.
+fn escapes(text: &[u8]) -> usize
+    ensures { result ≡ count_by is_escaped_octet text.now }
+{
+    text.iter().filter(|c| is_escaped(**c)).count()
+}
+
+/// Whether the escaped form is short enough.
+#[tactic(auto, using(crate::proofs::PrintedLength::short_rules))]
+fn is_short(text: &[u8]) -> bool
+    ensures { result ≡ nat_le (length (escaped text.now)) 1024 }
+{
+    text.len() <= QUOTED_LIMIT && text.len() + escapes(text) <= QUOTED_LIMIT
+}
+
+fn is_text(text: &[u8]) -> bool
+    ensures { result ≡ is_utf8 text.now }
+{
+    match str::from_utf8(text) {
+        Ok(_) => true,
+        Err(_) => false,
+    }
+}
+
+fn all_printable(text: &[u8]) -> bool
+    ensures { result ≡ list_all is_printable text.now }
+{
+    text.iter().all(|c| is_printable(*c))
+}
+
+#[tactic(auto, unfolding(crate::specs::Printing::may_quote))]
+fn may_quote(text: &[u8]) -> bool
+    ensures { result ≡ may_quote text.now }
+{
+    is_short(text) && is_text(text) && all_printable(text)
+}
+
+fn append_escaped(text: &[u8], out: &mut Vec<u8>) -> Result<(), Memory>
+    ensures ok { OnOk result (out.new.items ≡ out.old.items ++ escaped text.now) }
+    ensures grows { Grows out.old.items out.new.items }
+{
+    for c in text {
+        if is_escaped(*c) {
+            out.push(b'\\')?;
+        }
+        out.push(*c)?;
+    }
+    Ok(())
+}
+
+#[tactic(auto, unfolding(crate::specs::Printing::quoted))]
+fn append_quoted(text: &[u8], out: &mut Vec<u8>) -> Result<(), Memory>
+    ensures ok { OnOk result (out.new.items ≡ out.old.items ++ quoted text.now) }
+    ensures grows { Grows out.old.items out.new.items }
+{
+    out.push(b'"')?;
+    append_escaped(text, out)?;
+    out.push(b'"')?;
+    Ok(())
+}
+
+#[tactic(auto, unfolding(crate::specs::Printing::literal))]
+fn append_literal(text: &[u8], out: &mut Vec<u8>) -> Result<(), Memory>
+    ensures ok { OnOk result (out.new.items ≡ out.old.items ++ literal text.now) }
+    ensures grows { Grows out.old.items out.new.items }
+{
+    let digits = text.len().to_string(*out.allocator())?;
+    out.push(b'{')?;
+    out.extend_from_slice(digits.as_bytes())?;
+    out.extend_from_slice(b"}\r\n")?;
+    out.extend_from_slice(text)?;
+    Ok(())
+}
+
+#[tactic(auto, unfolding(crate::specs::Printing::printed))]
+fn append_string(text: &[u8], out: &mut Vec<u8>) -> Result<(), Memory>
+    ensures ok { OnOk result (out.new.items ≡ out.old.items ++ printed text.now) }
+    ensures grows { Grows out.old.items out.new.items }
+{
+    if may_quote(text) {
+        append_quoted(text, out)
+    } else {
+        append_literal(text, out)
+    }
+}
+
+/// Adds the printed form of the string: the whole of it, or nothing.
+pub fn print_string(text: &[u8], out: &mut Vec<u8>) -> Result<(), Memory>
+    ensures ok { OnOk result (out.new.items ≡ out.old.items ++ printed text.now) }
+    ensures err { OnErr result (out.new.items ≡ out.old.items) }
+{
+    let len = out.len();
+    let done = append_string(text, out);
+    if done.is_err() {
+        out.truncate(len);
+    }
+    done
+}
