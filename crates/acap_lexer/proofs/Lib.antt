@@ -12,3 +12,4 @@ pub mod Reaching
 pub mod Advancing
 pub mod PrintedLength
 pub mod LexerLaws
+pub mod Computing

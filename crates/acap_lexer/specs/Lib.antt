@@ -7,6 +7,7 @@ pub mod Stream
 pub mod Holding
 pub mod Held
 pub mod Laws
+pub mod Examples
 pub mod Printing
 pub mod Taking
 pub mod Ends

@@ -1,5 +1,6 @@
 //! Laws of the definitions.
 
+ghost use Rattle.acap_lexer.specs.Examples.{Examples};
 ghost use Rattle.acap_lexer.specs.Laws.{KeepsItems, KeepsWaits, TakesOctets, LeavesRoom, GoesByStages, ReadsQuoted};
 
 /// An item that begins a text begins every longer text.
@@ -31,3 +32,9 @@ pub fn goes_by_stages()
 pub fn reads_quoted()
     ensures { ReadsQuoted }
 {}
+
+/// Examples of texts and what begins them, computed from the definitions alone.
+pub fn examples()
+    ensures { Examples }
+{
+}

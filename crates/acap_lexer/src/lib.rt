@@ -27,7 +27,7 @@ mod turn;
 
 pub use fault::{LexFault, Memory};
 pub use kind::Kind;
-pub use laws::{goes_by_stages, keeps_items, keeps_waits, leaves_room, reads_quoted, takes_octets};
+pub use laws::{examples, goes_by_stages, keeps_items, keeps_waits, leaves_room, reads_quoted, takes_octets};
 pub use lexed::{Lexed, Tag};
 pub use lexer::Lexer;
 pub use mode::Mode;

@@ -1,0 +1,5 @@
+pub mod Digits
+pub mod Laws
+pub mod Matching
+pub mod Ranks
+pub mod Spellings

@@ -1,0 +1,302 @@
+//! Tests of the lexer: octets in pieces, and the answers as text.
+
+use acap_lexer::{Kind, LexFault, Lexed, Lexer, Memory, Mode, Tokens};
+use std::alloc::Global;
+use std::process::Abort;
+use std::test::Fail;
+
+/// The letter that stands for a kind of token.
+fn letter(kind: Kind) -> u8 {
+    match kind {
+        Kind::Tag => b'T',
+        Kind::Word => b'W',
+        Kind::Quoted => b'Q',
+        Kind::Literal => b'L',
+        Kind::Open => b'(',
+        Kind::Close => b')',
+    }
+}
+
+fn name(fault: LexFault) -> &'static [u8] {
+    match fault {
+        LexFault::BadTag => b"BadTag",
+        LexFault::BadToken => b"BadToken",
+        LexFault::BadLiteral => b"BadLiteral",
+        LexFault::CommandTooLong => b"CommandTooLong",
+        LexFault::LineTooLong => b"LineTooLong",
+    }
+}
+
+/// Each token as its letter, its value and its place.
+fn write_tokens(alloc: Global, out: &mut Vec<u8>, tokens: &Tokens) -> Result<(), Memory> {
+    for i in 0..tokens.len() {
+        let span = tokens.span(i);
+        let place = format!(in alloc; "@{}-{} ", span.start, span.end)?;
+        out.push(letter(tokens.kind(i)))?;
+        out.extend_from_slice(tokens.value(i))?;
+        out.extend_from_slice(place.as_bytes())?;
+    }
+    Ok(())
+}
+
+/// An answer as a line of text. Tells whether more may follow.
+fn write_answer(alloc: Global, out: &mut Vec<u8>, lexed: &Lexed) -> Result<bool, Memory> {
+    match lexed {
+        Lexed::More => return Ok(false),
+        Lexed::Plus => out.extend_from_slice(b"Plus")?,
+        Lexed::Line(tokens) => write_tokens(alloc, out, tokens)?,
+        Lexed::Bad(fault, tag) => {
+            out.extend_from_slice(name(*fault))?;
+            if let Some(tag) = tag {
+                out.push(b' ')?;
+                out.extend_from_slice(tag.as_slice())?;
+            }
+        }
+        Lexed::Fatal(fault) => {
+            out.extend_from_slice(b"Fatal ")?;
+            out.extend_from_slice(name(*fault))?;
+            return Ok(false);
+        }
+    }
+    out.push(b'\n')?;
+    Ok(true)
+}
+
+/// The answers that the lexer has now.
+fn drain(alloc: Global, lexer: &mut Lexer, mode: Mode, out: &mut Vec<u8>) -> Result<(), Memory> {
+    for _ in 0..1000 {
+        let lexed = lexer.next(mode)?;
+        if !write_answer(alloc, out, &lexed)? {
+            break;
+        }
+    }
+    Ok(())
+}
+
+/// Gives the lexer a piece, as much of it at a time as it takes.
+fn feed(alloc: Global, lexer: &mut Lexer, mode: Mode, piece: &[u8], out: &mut Vec<u8>) -> Result<(), Memory> {
+    let mut rest = piece;
+    for _ in 0..100 {
+        if rest.is_empty() {
+            break;
+        }
+        let taken = lexer.push(rest)?;
+        rest = &rest[taken..];
+        drain(alloc, lexer, mode, out)?;
+    }
+    Ok(())
+}
+
+/// The answers of a stream that comes in these pieces.
+fn answers(alloc: Global, mode: Mode, pieces: &[&[u8]]) -> Result<Vec<u8>, Memory> {
+    let mut lexer = Lexer::new(alloc);
+    let mut out = Vec::new(alloc);
+    for piece in pieces {
+        feed(alloc, &mut lexer, mode, piece, &mut out)?;
+    }
+    Ok(out)
+}
+
+/// The answers are these however the stream is cut in two, and where it comes octet by octet.
+fn check_cuts(rt: &(impl AllocGlobal + Abort), mode: Mode, stream: &[u8], wanted: &[u8]) -> Result<(), Memory> {
+    let alloc = rt.alloc();
+    for i in 0..stream.len() {
+        let (front, back) = stream.split_at(i);
+        let got = answers(alloc, mode, &[front, back])?;
+        assert!(rt; got.as_slice() == wanted, "cut after {i} octets: {got:?}");
+    }
+    let mut lexer = Lexer::new(alloc);
+    let mut out = Vec::new(alloc);
+    for octet in stream {
+        feed(alloc, &mut lexer, mode, &[*octet], &mut out)?;
+    }
+    assert!(rt; out.as_slice() == wanted, "octet by octet: {out:?}");
+    Ok(())
+}
+
+#[test]
+fn one_line_in_any_pieces(rt: HostRuntime) -> Result<(), Fail> {
+    check_cuts(&rt, Mode::Command, b"A1 NOOP\r\n", b"TA1@0-2 WNOOP@3-7 \n")?;
+    check_cuts(
+        &rt,
+        Mode::Command,
+        b"A1 NOOP\r\nA2 LOGOUT\r\n",
+        b"TA1@0-2 WNOOP@3-7 \nTA2@0-2 WLOGOUT@3-9 \n",
+    )?;
+    Ok(())
+}
+
+#[test]
+fn faults_skip_their_line(rt: HostRuntime) -> Result<(), Fail> {
+    check_cuts(&rt, Mode::Command, b"A1  NOOP\r\nA2 X\r\n", b"BadToken A1\nTA2@0-2 WX@3-4 \n")?;
+    check_cuts(&rt, Mode::Command, b"A1 NOOP\nA2 NOOP\r\n", b"BadToken A1\n")?;
+    check_cuts(&rt, Mode::Command, b"\r\nA2 X\r\n", b"BadTag\nTA2@0-2 WX@3-4 \n")?;
+    check_cuts(&rt, Mode::Command, b"A1(\r\nA1{3}\r\n", b"BadTag\nBadTag\n")?;
+    check_cuts(&rt, Mode::Command, b"A1 \r\nA1\r\n", b"BadToken A1\nTA1@0-2 \n")?;
+    check_cuts(&rt, Mode::Command, b"A1 X\rY\r\nA2 {3} x\r\n", b"BadToken A1\nBadLiteral A2\n")?;
+    check_cuts(&rt, Mode::Command, b"A1 X{\r\nA1 X{3}\r\nA1 \"a\"{x\r\n", b"BadLiteral A1\nBadToken A1\nBadLiteral A1\n")?;
+    check_cuts(&rt, Mode::Command, b"A1 (a )\r\nA1 ( a)\r\nA1 a)b\r\n", b"BadToken A1\nBadToken A1\nBadToken A1\n")?;
+    check_cuts(&rt, Mode::Command, b"A1 \"a\\x\" {\r\nA1 \"a\r\n", b"BadToken A1\nBadToken A1\n")?;
+    Ok(())
+}
+
+#[test]
+fn tags_have_32_octets_at_the_most(rt: HostRuntime) -> Result<(), Fail> {
+    let tag = b"abcdefghijklmnopqrstuvwxyz012345 X\r\n";
+    check_cuts(&rt, Mode::Command, tag, b"Tabcdefghijklmnopqrstuvwxyz012345@0-32 WX@33-34 \n")?;
+    check_cuts(&rt, Mode::Command, b"abcdefghijklmnopqrstuvwxyz0123456 X\r\n", b"BadTag\n")?;
+    Ok(())
+}
+
+#[test]
+fn strings_and_parentheses(rt: HostRuntime) -> Result<(), Fail> {
+    check_cuts(
+        &rt,
+        Mode::Command,
+        b"A1 STORE (\"/a\" \"b\"(\"value\" ()))\r\n",
+        b"TA1@0-2 WSTORE@3-8 (@9-10 Q/a@10-14 Qb@15-18 (@18-19 Qvalue@19-26 (@27-28 )@28-29 )@29-30 )@30-31 \n",
+    )?;
+    check_cuts(&rt, Mode::Command, b"A1 \"a\\\"b\\\\c\"\r\n", b"TA1@0-2 Qa\"b\\c@3-12 \n")?;
+    Ok(())
+}
+
+#[test]
+fn literals_in_any_pieces(rt: HostRuntime) -> Result<(), Fail> {
+    check_cuts(
+        &rt,
+        Mode::Command,
+        b"A1 STORE (\"/option/~/font\" \"option.value\" {5}\r\nhello)\r\n",
+        b"Plus\nTA1@0-2 WSTORE@3-8 (@9-10 Q/option/~/font@10-26 Qoption.value@27-41 Lhello@42-52 )@52-53 \n",
+    )?;
+    check_cuts(
+        &rt,
+        Mode::Command,
+        b"A1 STORE (\"/option/~/font\" \"option.value\" {5+}\r\nhello)\r\n",
+        b"TA1@0-2 WSTORE@3-8 (@9-10 Q/option/~/font@10-26 Qoption.value@27-41 Lhello@42-53 )@53-54 \n",
+    )?;
+    check_cuts(&rt, Mode::Command, b"A1 X {0}\r\n {2}\r\n\r\n\r\n", b"Plus\nPlus\nTA1@0-2 WX@3-4 L@5-10 L\r\n@11-18 \n")?;
+    check_cuts(&rt, Mode::Command, b"A1 X {9+}\r\nA2 NOOP\r\n\r\n", b"TA1@0-2 WX@3-4 LA2 NOOP\r\n@5-20 \n")?;
+    check_cuts(&rt, Mode::Command, b"A1 X {1}\r\nab\r\nA2 X\r\n", b"Plus\nBadToken A1\nTA2@0-2 WX@3-4 \n")?;
+    Ok(())
+}
+
+#[test]
+fn malformed_marks(rt: HostRuntime) -> Result<(), Fail> {
+    check_cuts(&rt, Mode::Command, b"A1 X {}\r\nA1 X {12345678901}\r\n", b"BadLiteral A1\nBadLiteral A1\n")?;
+    check_cuts(&rt, Mode::Command, b"A1 X {4294967296}\r\nA1 X {5-}\r\n", b"BadLiteral A1\nBadLiteral A1\n")?;
+    check_cuts(&rt, Mode::Command, b"A1 X {4294967295}\r\n", b"Fatal CommandTooLong")?;
+    check_cuts(&rt, Mode::Command, b"A1 X {262145}\r\n", b"Fatal CommandTooLong")?;
+    check_cuts(&rt, Mode::Command, b"A1 X {0000000001}\r\na\r\n", b"Plus\nTA1@0-2 WX@3-4 La@5-20 \n")?;
+    Ok(())
+}
+
+#[test]
+fn answer_lines(rt: HostRuntime) -> Result<(), Fail> {
+    check_cuts(&rt, Mode::Answer, b"\"tim b913\"\r\n*\r\n", b"Qtim b913@0-10 \nW*@0-1 \n")?;
+    check_cuts(&rt, Mode::Answer, b"{3}\r\na b\r\n", b"Plus\nLa b@0-8 \n")?;
+    check_cuts(&rt, Mode::Answer, b"\r\n x\r\n(\"a\"\r\n", b"\nBadToken\n(@0-1 Qa@1-4 \n")?;
+    Ok(())
+}
+
+/// A text of one octet, so many times.
+fn run_of(alloc: Global, octet: u8, count: usize) -> Result<Vec<u8>, Memory> {
+    let mut text = Vec::new(alloc);
+    for _ in 0..count {
+        text.push(octet)?;
+    }
+    Ok(text)
+}
+
+/// The front, so many `x`, and the back.
+fn framed(alloc: Global, front: &[u8], count: usize, back: &[u8]) -> Result<Vec<u8>, Memory> {
+    let mut text = Vec::from_slice(alloc, front)?;
+    text.extend_from_slice(&run_of(alloc, b'x', count)?)?;
+    text.extend_from_slice(back)?;
+    Ok(text)
+}
+
+/// The answers, where the stream comes in pieces of so many octets.
+fn in_pieces(alloc: Global, stream: &[u8], size: usize) -> Result<Vec<u8>, Memory> {
+    let mut lexer = Lexer::new(alloc);
+    let mut out = Vec::new(alloc);
+    let mut rest = stream;
+    for _ in 0..stream.len() {
+        if rest.is_empty() {
+            break;
+        }
+        let (piece, left) = rest.split_at(size.min(rest.len()));
+        feed(alloc, &mut lexer, Mode::Command, piece, &mut out)?;
+        rest = left;
+    }
+    Ok(out)
+}
+
+#[test]
+fn parts_have_8192_octets_at_the_most(rt: HostRuntime) -> Result<(), Fail> {
+    let alloc = rt.alloc();
+    let wanted = framed(alloc, b"TA1@0-2 W", 8187, b"@3-8190 \n")?;
+    for size in [1, 4096, 10000] {
+        assert!(rt; in_pieces(alloc, &framed(alloc, b"A1 ", 8187, b"\r\n")?, size)?.as_slice() == wanted.as_slice());
+        let longer = in_pieces(alloc, &framed(alloc, b"A1 ", 8188, b"\r\n")?, size)?;
+        assert!(rt; longer.starts_with(b"Fatal LineTooLong"));
+    }
+    // The octets count before the line feed has come.
+    let open = in_pieces(alloc, &framed(alloc, b"A1 ", 8189, b"")?, 8192)?;
+    assert!(rt; open.as_slice() == b"Fatal LineTooLong".as_slice());
+    assert!(rt; in_pieces(alloc, &framed(alloc, b"A1 ", 8188, b"")?, 8192)?.is_empty());
+    Ok(())
+}
+
+#[test]
+fn commands_have_262144_octets_at_the_most(rt: HostRuntime) -> Result<(), Fail> {
+    let alloc = rt.alloc();
+    // 15 octets with the first CR LF, 262,127 of the literal, and the last CR LF.
+    let stream = framed(alloc, b"A1 X {262127}\r\n", 262127, b"\r\n")?;
+    let mut wanted = Vec::from_slice(alloc, b"Plus\nTA1@0-2 WX@3-4 L")?;
+    wanted.extend_from_slice(&run_of(alloc, b'x', 262127)?)?;
+    wanted.extend_from_slice(b"@5-262142 \n")?;
+    assert!(rt; in_pieces(alloc, &stream, 4096)?.as_slice() == wanted.as_slice());
+    let longer = in_pieces(alloc, b"A1 X {262128}\r\n", 4096)?;
+    assert!(rt; longer.as_slice() == b"Fatal CommandTooLong".as_slice());
+    // One octet more behind the literal, before any other fault of that part.
+    let stream = framed(alloc, b"A1 X {262126+}\r\n", 262126, b"  \r\n")?;
+    assert!(rt; in_pieces(alloc, &stream, 4096)?.as_slice() == b"Fatal CommandTooLong".as_slice());
+    Ok(())
+}
+
+#[test]
+fn a_front_is_taken_while_nothing_is_asked(rt: HostRuntime) -> Result<(), Fail> {
+    let alloc = rt.alloc();
+    let mut lexer = Lexer::new(alloc);
+    let piece = run_of(alloc, b'a', 200000)?;
+    assert_eq!(rt; lexer.push(&piece)?, 200000);
+    assert_eq!(rt; lexer.push(&piece)?, 70336);
+    assert_eq!(rt; lexer.push(&piece)?, 0);
+    Ok(())
+}
+
+#[test]
+fn a_fatal_fault_is_answered_ever_after(rt: HostRuntime) -> Result<(), Fail> {
+    let alloc = rt.alloc();
+    let mut lexer = Lexer::new(alloc);
+    let _taken = lexer.push(b"A1 X {262145}\r\nA2 NOOP\r\n")?;
+    for _ in 0..3 {
+        let mut out = Vec::new(alloc);
+        let _more = write_answer(alloc, &mut out, &lexer.next(Mode::Command)?)?;
+        assert!(rt; out.as_slice() == b"Fatal CommandTooLong".as_slice());
+    }
+    Ok(())
+}
+
+#[test]
+fn another_mode_reads_the_command_again(rt: HostRuntime) -> Result<(), Fail> {
+    let alloc = rt.alloc();
+    let mut lexer = Lexer::new(alloc);
+    let mut out = Vec::new(alloc);
+    let _taken = lexer.push(b"x {1}\r\n")?;
+    drain(alloc, &mut lexer, Mode::Command, &mut out)?;
+    let _taken = lexer.push(b"a\r\n")?;
+    drain(alloc, &mut lexer, Mode::Answer, &mut out)?;
+    assert!(rt; out.as_slice() == b"Plus\nWx@0-1 La@2-8 \n".as_slice(), "{out:?}");
+    Ok(())
+}

@@ -1,0 +1,9 @@
+//! Tests of the crates below through their public calls, a module each.
+#![tactic(auto)]
+
+#[cfg(test)]
+mod lexer;
+#[cfg(test)]
+mod order;
+#[cfg(test)]
+mod printing;
