@@ -1,5 +1,5 @@
 -- The number that digits stand for, digit by digit.
-use Rattle.std.proofs.Common.{◌≡◌, ℕ, suc, ◌+◌, ◌-◌, ◌*◌, ◌<◌, ◌≤◌, Bool, true, false, List, [], ◌∷◌, length, drop, None, refl, sym, ap, ◌∙◌, arith, leb, slice_index, drop-cons}
+use Rattle.std.proofs.Common.{◌≡◌, ℕ, suc, ◌+◌, ◌-◌, ◌*◌, ◌<◌, ◌≤◌, false, List, [], ◌∷◌, length, drop, None, refl, sym, ap, ◌∙◌, arith, leb, slice_index, drop-cons}
 use Rattle.std.specs.Prelude.{fold, ◌&&◌}
 use Rattle.std.proofs.lemmas.Bool.{lt-leb, and_right}
 use Rattle.acap_lexer.specs.Reading.{number_of, is_count, count_of}

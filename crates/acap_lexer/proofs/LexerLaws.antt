@@ -1,9 +1,8 @@
 -- What a lexer keeps when it takes a piece.
-use Rattle.std.proofs.Common.{◌≡◌, ℕ, ◌+◌, ◌≤◌, List, ◌++◌, length, drop, sym, arith, length-append, subst}
+use Rattle.std.proofs.Common.{◌≡◌, ℕ, ◌≤◌, List, ◌++◌, length, drop, arith, length-append}
 use Rattle.std.proofs.lemmas.List.{drop-append-le}
 use Rattle.acap_lexer.specs.declared.scan.Scan.{Scan}
 use Rattle.acap_lexer.specs.Lexing.{IsLexer}
-use Rattle.acap_lexer.specs.Scanning.{IsSound, Reaches}
 use Rattle.acap_lexer.proofs.Reaching.{reaches_more, sound_more}
 
 pub pushed : (old new piece : List ℕ) (start place : ℕ) (scan : Scan) → IsLexer old start scan → drop place new ≡ drop start old → place ≤ length new → IsLexer (new ++ piece) place scan

@@ -13,3 +13,6 @@ pub mod Advancing
 pub mod PrintedLength
 pub mod LexerLaws
 pub mod Computing
+pub mod Asking
+pub mod AskLoop
+pub mod PieceLoops

@@ -5,7 +5,7 @@ use Rattle.std.specs.Str.{is_utf8, IsUtf8}
 use Rattle.std.proofs.lemmas.Str.{IsUtf8-from_is_utf8}
 use Rattle.std.proofs.lemmas.List.Recursion.{is_count_by}
 use Rattle.acap_lexer.specs.Octets.{is_escaped}
-use Rattle.acap_lexer.specs.Printing.{escape, escaped}
+use Rattle.acap_lexer.specs.Printing.{escaped}
 
 abbrev more_of : List ℕ → ℕ
 more_of [] = 0

@@ -1,8 +1,8 @@
 -- How far a text leads, and how far a longer one.
-use Rattle.std.proofs.Common.{◌≡◌, ℕ, zero, suc, ◌+◌, ◌-◌, ◌<◌, ◌≤◌, List, [], ◌∷◌, ◌++◌, length, Option, Some, None, refl, sym, ap, subst, ◌∙◌, arith, length-append}
+use Rattle.std.proofs.Common.{◌≡◌, ℕ, zero, suc, ◌+◌, ◌<◌, ◌≤◌, List, [], ◌++◌, length, Some, None, refl, sym, ap, subst, ◌∙◌, arith, length-append}
 use Rattle.acap_lexer.specs.declared.lexed.Lexed.{Lexed}
 use Rattle.acap_lexer.specs.declared.mode.Mode.{Mode}
-use Rattle.acap_lexer.specs.Stream.{Stage, AtPart, InLiteral, Step, Waits, Ends, Goes, Progress, step_of, octets_of, beginning, nothing, waiting, progress_by, progress_within, progress_from, progress, command_limit}
+use Rattle.acap_lexer.specs.Stream.{Stage, AtPart, InLiteral, Step, Waits, Ends, Goes, Progress, IsItem, step_of, octets_of, beginning, nothing, waiting, progress_by, progress_within, progress_from, progress}
 use Rattle.acap_lexer.proofs.StepOutcomes.{Tells, Onwards, FitsIn, rank, step_tells}
 
 some_rank : (stage : Stage) (text : List ℕ) → 0 < rank stage text
@@ -40,14 +40,14 @@ by_stages mode stage text within =
 -- how far a text leads from a stage on, beside how far a longer text does
 pub record Follows (stage : Stage) (text : List ℕ) (here longer : Progress) : Type 0 where
   pub waits : here.waits ≤ longer.waits
-  pub item : (x : Lexed × ℕ) → here.item ≡ Some x → (longer.item ≡ Some x) × (longer.waits ≡ here.waits) × (0 < x.1) × (x.1 ≤ length text)
+  pub item : (x : Lexed × ℕ) → here.item ≡ Some x → (longer.item ≡ Some x) × (longer.waits ≡ here.waits) × IsItem x.0 × (0 < x.1) × (x.1 ≤ length text)
   pub room : here.item ≡ None → FitsIn stage → length text < 270336
 
-follows_ends : (stage : Stage) (text : List ℕ) (item : Lexed) (n : ℕ) → octets_of stage < n → n ≤ length text
+follows_ends : (stage : Stage) (text : List ℕ) (item : Lexed) (n : ℕ) → octets_of stage < n → n ≤ length text → IsItem item
     → Follows stage text (record { waits = 0; item = Some (item, n) }) (record { waits = 0; item = Some (item, n) })
-follows_ends stage text item n some within = record {
+follows_ends stage text item n some within is = record {
   waits = omega arith;
-  item = λ x e. let same : ◌≡◌ {A = Lexed × ℕ} (item, n) x = cc in (e, refl, omega (arith, ap (λ y. y.1) same), omega (arith, ap (λ y. y.1) same));
+  item = λ x e. let same : ◌≡◌ {A = Lexed × ℕ} (item, n) x = cc in (e, refl, subst (λ (y : Lexed × ℕ). IsItem y.0) same is, omega (arith, ap (λ y. y.1) same), omega (arith, ap (λ y. y.1) same));
   room = λ none. absurd cc;
 }
 
@@ -55,7 +55,7 @@ follows_goes : (stage next : Stage) (text : List ℕ) (p : ℕ) (here longer : P
     → Follows stage text (waiting p here) (waiting p longer)
 follows_goes stage next text p here longer o f = record {
   waits = omega (arith, f.waits);
-  item = λ x e. let g = f.item x e in (g.0, ap (λ n. p + n) g.1, g.2, g.3);
+  item = λ x e. let g = f.item x e in (g.0, ap (λ n. p + n) g.1, g.2, g.3, g.4);
   room = λ none fits. f.room none (o.fits fits);
 }
 
@@ -68,8 +68,8 @@ follows_by mode stage text more Waits within e t later =
     subst (λ (p : Progress). Follows stage text p (progress_from mode stage (text ++ more))) (sym here) f
 follows_by mode stage text more (Ends item n) within e t later =
     let here : progress_from mode stage text ≡ record { waits = 0; item = Some (item, n) } = by_stages mode stage text within ∙ ap (progress_by (λ next. progress_from mode next text)) e in
-    let longer : progress_from mode stage (text ++ more) ≡ record { waits = 0; item = Some (item, n) } = by_stages mode stage (text ++ more) (omega (arith, length-append text more)) ∙ ap (progress_by (λ next. progress_from mode next (text ++ more))) (t.2 more) in
-    let f = follows_ends stage text item n (omega (arith, t.0)) t.1 in
+    let longer : progress_from mode stage (text ++ more) ≡ record { waits = 0; item = Some (item, n) } = by_stages mode stage (text ++ more) (omega (arith, length-append text more)) ∙ ap (progress_by (λ next. progress_from mode next (text ++ more))) (t.3 more) in
+    let f = follows_ends stage text item n (omega (arith, t.0)) t.1 t.2 in
     subst (λ (p : Progress). Follows stage text p (progress_from mode stage (text ++ more))) (sym here) (subst (λ (p : Progress). Follows stage text (record { waits = 0; item = Some (item, n) }) p) (sym longer) f)
 follows_by mode stage text more (Goes k next) within e t later =
     let here : progress_from mode stage text ≡ waiting k (progress_from mode next text) = by_stages mode stage text within ∙ ap (progress_by (λ next. progress_from mode next text)) e in
@@ -94,8 +94,8 @@ keeps_items mode text more x e = let f = (follows mode text more).item x e in (f
 pub keeps_waits : (mode : Mode) (text more : List ℕ) → (progress mode text).waits ≤ (progress mode (text ++ more)).waits
 keeps_waits mode text more = (follows mode text more).waits
 
-pub takes_octets : (mode : Mode) (text : List ℕ) (x : Lexed × ℕ) → (progress mode text).item ≡ Some x → (0 < x.1) × (x.1 ≤ length text)
-takes_octets mode text x e = let f = (follows mode text []).item x e in (f.2, f.3)
+pub takes_octets : (mode : Mode) (text : List ℕ) (x : Lexed × ℕ) → (progress mode text).item ≡ Some x → IsItem x.0 × (0 < x.1) × (x.1 ≤ length text)
+takes_octets mode text x e = let f = (follows mode text []).item x e in (f.2, f.3, f.4)
 
 pub leaves_room : (mode : Mode) (text : List ℕ) → (progress mode text).item ≡ None → length text < 270336
 leaves_room mode text none = (follows mode text []).room none (omega arith)

@@ -1,16 +1,14 @@
 -- A scan that goes from stage to stage.
-use Rattle.std.proofs.Common.{◌≡◌, ℕ, zero, suc, ◌+◌, ◌-◌, ◌<◌, ◌≤◌, List, [], ◌∷◌, ◌++◌, length, drop, Option, Some, None, refl, sym, ap, subst, ◌∙◌, arith, zero-add, add_assoc, append_assoc, length-append, length-drop, slice_index}
+use Rattle.std.proofs.Common.{◌≡◌, ℕ, ◌+◌, ◌<◌, ◌≤◌, List, [], ◌++◌, length, drop, Option, Some, None, refl, sym, ap, subst, ◌∙◌, arith, zero-add, add_assoc, append_assoc, length-append, length-drop}
 use Rattle.std.proofs.lemmas.List.{append-nil, drop-append-le, get_or_append_left}
-use Rattle.acap_lexer.specs.declared.due.Due.{Due}
 use Rattle.acap_lexer.specs.declared.due.Due.TheVariants as dues
 use Rattle.acap_lexer.specs.declared.lexed.Lexed.{Lexed}
 use Rattle.acap_lexer.specs.declared.mode.Mode.{Mode}
 use Rattle.acap_lexer.specs.declared.scan.Literal.{Literal}
 use Rattle.acap_lexer.specs.declared.scan.Scan.{Scan}
-use Rattle.acap_lexer.specs.declared.turn.Turn.TheVariants as turns
 use Rattle.acap_lexer.specs.Ends.{NoEnd}
-use Rattle.acap_lexer.specs.Scanning.{IsSound, Reaches, IsDue, KeepsScan, GoesOn, Stays, stage_of, stage_by, front_of}
-use Rattle.acap_lexer.specs.Stream.{Front, Stage, Step, Waits, Ends, Goes, Progress, beginning, nothing, waiting, progress_by, step_of, octets_of, progress, progress_from}
+use Rattle.acap_lexer.specs.Scanning.{IsSound, Reaches, IsDue, GoesOn, Stays, stage_of, stage_by, front_of}
+use Rattle.acap_lexer.specs.Stream.{Front, Stage, Step, Waits, Ends, Goes, Progress, beginning, waiting, progress_by, step_of, octets_of, progress, progress_from}
 use Rattle.acap_lexer.proofs.StepOutcomes.{Tells, step_tells}
 use Rattle.acap_lexer.proofs.ProgressLaws.{by_stages}
 

@@ -1,11 +1,11 @@
 -- What a step leaves.
-use Rattle.std.proofs.Common.{◌≡◌, ℕ, ◌+◌, ◌-◌, ◌<◌, ◌≤◌, Bool, cond, List, length, drop, Option, Some, None, Result, Ok, Err, sym, ap, subst, arith}
+use Rattle.std.proofs.Common.{ℕ, ◌+◌, ◌≤◌, cond, List, length, Option, Some, None, Result, Ok, Err, arith}
 use Rattle.std.specs.Prelude.{IfOk, is_some}
 use Rattle.acap_lexer.specs.declared.scan.Scan.{Scan}
 use Rattle.acap_lexer.specs.declared.scan.Literal.{Literal}
 use Rattle.acap_lexer.specs.declared.turn.Turn.{Turn}
 use Rattle.acap_lexer.specs.declared.turn.Turn.TheVariants as turns
-use Rattle.acap_lexer.specs.Scanning.{IsSound, IsNearer, StaysSound, OpensOn, Opens, turns_left}
+use Rattle.acap_lexer.specs.Scanning.{IsNearer, StaysSound, OpensOn}
 
 pub at_ok : {E : Type 0} (r : Result Turn E) (P Q : Turn → Type 0) → ((turn : Turn) → P turn → Q turn) → IfOk r P → IfOk r Q
 at_ok (Ok turn) P Q f p = f turn p

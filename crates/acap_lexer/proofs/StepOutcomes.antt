@@ -1,40 +1,39 @@
 -- What comes of a stage, and what of a stage in a longer text.
-use Rattle.std.proofs.Common.{◌≡◌, ℕ, zero, suc, ◌+◌, ◌-◌, ◌<◌, ◌≤◌, Bool, true, false, cond, List, [], ◌∷◌, ◌++◌, length, take, drop, Option, Some, None, Result, Ok, Err, refl, sym, ap, subst, ◌∙◌, arith, ltb, inl, inr, length-append, length-take, length-drop}
-use Rattle.std.proofs.lemmas.Bool.{cases_lt, le-ltb, lt-ltb, ltb-false, ltb-true, cases_Bool}
+use Rattle.std.proofs.Common.{◌≡◌, ℕ, ◌+◌, ◌-◌, ◌<◌, ◌≤◌, Bool, true, false, List, ◌++◌, length, take, drop, Option, Some, None, Result, Ok, Err, refl, ap, subst, ◌∙◌, arith, ltb, inl, inr, length-append, length-take, length-drop}
+use Rattle.std.proofs.lemmas.Bool.{cases_lt, le-ltb, lt-ltb, ltb-false}
 use Rattle.std.proofs.lemmas.List.{take-append-le, drop-append-le}
 use Rattle.acap_lexer.specs.declared.announced.Announced.{Announced}
 use Rattle.acap_lexer.specs.declared.cut.Cut.{Cut}
 use Rattle.acap_lexer.specs.declared.cut.Cut.TheVariants.{At, Never, NotYet}
 use Rattle.acap_lexer.specs.declared.fault.LexFault.{LexFault}
-use Rattle.acap_lexer.specs.declared.lexed.Lexed.{Lexed}
 use Rattle.acap_lexer.specs.declared.mode.Mode.{Mode}
 use Rattle.acap_lexer.specs.Token.{Token}
 use Rattle.acap_lexer.specs.Reading.{Read}
 use Rattle.acap_lexer.specs.Part.{Part, part_within, begun_at, tag_of}
-use Rattle.acap_lexer.specs.Stream.{Front, Stage, AtPart, InLiteral, Step, Waits, Ends, Goes, said, step_by_mark, step_by_part, step_by_front, step_by_cut, step_of, octets_of, cut, part_limit, command_limit}
+use Rattle.acap_lexer.specs.Stream.{Front, Stage, AtPart, InLiteral, Step, Waits, Ends, Goes, IsItem, said, step_by_mark, step_by_part, step_by_front, step_by_cut, step_of, octets_of, cut, command_limit}
 use Rattle.acap_lexer.proofs.CutLaws.{is_at, is_never, is_short, keeps_at, keeps_never}
 
 -- what a whole part, which ends there, leads to
 abbrev pub Outcome : ℕ → Step → Type 0
 Outcome place Waits = ⊥
-Outcome place (Ends item n) = n ≡ place
+Outcome place (Ends item n) = (n ≡ place) × IsItem item
 Outcome place (Goes p (AtPart front)) = ⊥
 Outcome place (Goes p (InLiteral start count front)) = (front.octets ≡ place) × (place + count + 2 ≤ command_limit)
 
 outcome_mark : (end : ℕ) (tokens : List Token) (mark : Option (ℕ × Announced)) → Outcome (end + 2) (step_by_mark end tokens mark)
-outcome_mark end tokens None = refl
+outcome_mark end tokens None = (refl, tt)
 outcome_mark end tokens (Some m) = by_test (ltb command_limit (end + 2 + m.1.count + 2)) refl
   where
     by_test : (b : Bool) → ltb command_limit (end + 2 + m.1.count + 2) ≡ b → Outcome (end + 2) (step_by_mark end tokens (Some m))
-    by_test true e = rw e refl
+    by_test true e = rw e (refl, tt)
     by_test false e = rw e (refl, ltb-false _ _ e)
 
 outcome_part : (tag : Option (List ℕ)) (end : ℕ) (part : Result Part LexFault) → Outcome (end + 2) (step_by_part tag end part)
-outcome_part tag end (Err fault) = refl
+outcome_part tag end (Err fault) = (refl, tt)
 outcome_part tag end (Ok part) = outcome_mark end part.tokens part.mark
 
 outcome_front : (mode : Mode) (end : ℕ) (read : Read (List Token)) → Outcome (end + 2) (step_by_front mode end read)
-outcome_front mode end (Err fault) = refl
+outcome_front mode end (Err fault) = (refl, tt)
 outcome_front mode end (Ok x) = outcome_part (tag_of mode x.0) end (part_within (length x.1) end x.0 x.1)
 
 pub outcome : (mode : Mode) (front : Front) (part : List ℕ) → Outcome (front.octets + length part + 2) (said mode front part)
@@ -45,7 +44,7 @@ outcome mode front part = by_test (ltb command_limit (front.octets + length part
     end = front.octets + length part
 
     by_test : (b : Bool) → ltb command_limit (end + 2) ≡ b → Outcome (end + 2) (said mode front part)
-    by_test true e = rw e refl
+    by_test true e = rw e (refl, tt)
     by_test false e = rw e (outcome_front mode end (begun_at mode front.tokens part))
 
 -- an upper bound on the stages that are left
@@ -67,7 +66,7 @@ pub record Onwards (stage next : Stage) (text : List ℕ) : Type 0 where
 -- what a step tells of its text, and of any longer one
 abbrev pub Tells : Mode → Stage → List ℕ → Step → Type 0
 Tells mode stage text Waits = FitsIn stage → length text < 270336
-Tells mode stage text (Ends item n) = (octets_of stage < n) × (n ≤ length text) × ((more : List ℕ) → step_of mode stage (text ++ more) ≡ Ends item n)
+Tells mode stage text (Ends item n) = (octets_of stage < n) × (n ≤ length text) × IsItem item × ((more : List ℕ) → step_of mode stage (text ++ more) ≡ Ends item n)
 Tells mode stage text (Goes p next) = Onwards stage next text × ((more : List ℕ) → step_of mode stage (text ++ more) ≡ Goes p next)
 
 -- a part whose CR LF is there
@@ -88,7 +87,7 @@ part_tells mode front text n step within at is o = by_step step is o
 
     by_step : (s : Step) → said mode front (take n (drop front.octets text)) ≡ s → Outcome (front.octets + n + 2) s → Tells mode (AtPart front) text s
     by_step Waits e o = absurd o
-    by_step (Ends item k) e o = (omega (arith, o), omega (arith, o, room), λ more. longer more ∙ e)
+    by_step (Ends item k) e o = (omega (arith, o.0), omega (arith, o.0, room), o.1, λ more. longer more ∙ e)
     by_step (Goes p (AtPart f)) e o = absurd o
     by_step (Goes p (InLiteral start count f)) e o =
         (record { within = omega (arith, o.0, room); nearer = omega (arith, o.0, room); fits = λ h. omega (arith, o.0, o.1) }, λ more. longer more ∙ e)
@@ -106,6 +105,7 @@ cut_tells mode front text Never within e =
     let long = is_never (drop front.octets text) e in (
       omega arith,
       omega (arith, long, length-drop front.octets text),
+      tt,
       λ more.
           let left : drop front.octets (text ++ more) ≡ drop front.octets text ++ more = drop-append-le front.octets text more within in
           rw (left, keeps_never (drop front.octets text) more e) refl,

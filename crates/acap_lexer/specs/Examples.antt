@@ -1,5 +1,5 @@
 -- Examples of what begins a text. [RFC 2244, 2.2 and 2.6]
-use Rattle.std.specs.Prelude.{◌≡◌, ℕ, List, [], ◌∷◌, ◌++◌, Option, Some, None, false, codes}
+use Rattle.std.specs.Prelude.{◌≡◌, ℕ, List, [], ◌∷◌, ◌++◌, Some, None, false, codes}
 use Rattle.std.specs.List.{list_all}
 use Rattle.acap_lexer.specs.declared.fault.LexFault.TheVariants.{BadTag, BadToken, BadLiteral, CommandTooLong}
 use Rattle.acap_lexer.specs.declared.kind.Kind.{Kind}

@@ -1,11 +1,11 @@
 -- Laws of the definitions.
-use Rattle.std.specs.Prelude.{◌≡◌, ℕ, ◌≤◌, ◌<◌, List, [], ◌∷◌, ◌++◌, length, Option, Some, None, IsTrue, Ok}
+use Rattle.std.specs.Prelude.{◌≡◌, ℕ, ◌≤◌, ◌<◌, List, ◌++◌, length, Some, None, IsTrue, Ok}
 use Rattle.acap_lexer.specs.declared.kind.Kind.TheVariants as kinds
 use Rattle.acap_lexer.specs.declared.lexed.Lexed.{Lexed}
 use Rattle.acap_lexer.specs.declared.mode.Mode.{Mode}
 use Rattle.acap_lexer.specs.Holding.{held_limit}
 use Rattle.acap_lexer.specs.Reading.{token_at}
-use Rattle.acap_lexer.specs.Stream.{Stage, Step, Progress, step_of, octets_of, progress, progress_from, progress_by}
+use Rattle.acap_lexer.specs.Stream.{Stage, IsItem, step_of, octets_of, progress, progress_from, progress_by}
 use Rattle.acap_lexer.specs.Printing.{may_quote, quoted}
 
 -- An item that begins a text begins every longer text, with as many continuations before it.
@@ -17,9 +17,10 @@ KeepsItems = (mode : Mode) (text more : List ℕ) (x : Lexed × ℕ) → (progre
 abbrev pub KeepsWaits : Type 0
 KeepsWaits = (mode : Mode) (text more : List ℕ) → (progress mode text).waits ≤ (progress mode (text ++ more)).waits
 
--- An item takes some of the octets that it begins.
+-- What begins a text is a line or a fault, and takes some of the text's octets.
 abbrev pub TakesOctets : Type 0
-TakesOctets = (mode : Mode) (text : List ℕ) (x : Lexed × ℕ) → (progress mode text).item ≡ Some x → (0 < x.1) × (x.1 ≤ length text)
+TakesOctets = (mode : Mode) (text : List ℕ) (x : Lexed × ℕ) → (progress mode text).item ≡ Some x →
+    IsItem x.0 × (0 < x.1) × (x.1 ≤ length text)
 
 -- A text that no item begins is shorter than what may be held.
 abbrev pub LeavesRoom : Type 0

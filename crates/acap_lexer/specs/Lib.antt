@@ -6,6 +6,7 @@ pub mod Part
 pub mod Stream
 pub mod Holding
 pub mod Held
+pub mod Owing
 pub mod Laws
 pub mod Examples
 pub mod Printing

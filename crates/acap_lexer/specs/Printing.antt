@@ -1,5 +1,5 @@
 -- The printed form of a string.
-use Rattle.std.specs.Prelude.{◌≡◌, ℕ, ◌+◌, List, [], ◌∷◌, ◌++◌, length, take, Bool, not, nat_le, ◌==◌, ◌||◌, ◌&&◌, if◌then◌else◌, flat_map, decimal}
+use Rattle.std.specs.Prelude.{◌≡◌, ℕ, List, [], ◌∷◌, ◌++◌, length, take, Bool, not, nat_le, ◌==◌, ◌||◌, ◌&&◌, if◌then◌else◌, flat_map, decimal}
 use Rattle.std.specs.List.{list_all}
 use Rattle.std.specs.Str.{is_utf8}
 use Rattle.acap_lexer.specs.Octets.{is_escaped}

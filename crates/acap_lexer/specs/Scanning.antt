@@ -2,14 +2,12 @@
 use Rattle.std.specs.Prelude.{◌≡◌, ℕ, ◌+◌, ◌-◌, ◌<◌, ◌≤◌, List, ◌++◌, length, drop, Option, Some, None, is_some, if◌then◌else◌}
 use Rattle.acap_lexer.specs.declared.due.Due.{Due}
 use Rattle.acap_lexer.specs.declared.due.Due.TheVariants as dues
-use Rattle.acap_lexer.specs.declared.lexed.Lexed.{Lexed}
 use Rattle.acap_lexer.specs.declared.mode.Mode.{Mode}
 use Rattle.acap_lexer.specs.declared.scan.Literal.{Literal}
 use Rattle.acap_lexer.specs.declared.scan.Scan.{Scan}
 use Rattle.acap_lexer.specs.declared.turn.Turn.{Turn}
 use Rattle.acap_lexer.specs.declared.turn.Turn.TheVariants as turns
 use Rattle.acap_lexer.specs.Ends.{NoEnd}
-use Rattle.acap_lexer.specs.Token.{Token}
 use Rattle.acap_lexer.specs.Stream.{Front, Stage, AtPart, InLiteral, Step, Waits, Ends, Goes, progress, progress_from, waiting}
 
 abbrev pub front_of : Scan → Front

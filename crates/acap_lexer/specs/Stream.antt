@@ -1,6 +1,6 @@
 -- Which item begins a text, and how many synchronizing literals it follows before. An item is a line with its
 -- tokens, a line with a fault, or a fault after which nothing is read. [RFC 2244, 2.2 and 2.6.3]
-use Rattle.std.specs.Prelude.{ℕ, zero, suc, ◌+◌, List, [], ◌∷◌, ◌++◌, length, take, drop, Bool, Option, Some, None, option_map, Result, Ok, Err, nat_lt, ◌==◌, ◌&&◌, if◌then◌else◌, slice_index}
+use Rattle.std.specs.Prelude.{ℕ, zero, suc, ◌+◌, List, [], ◌∷◌, ◌++◌, length, take, drop, Option, Some, None, option_map, Result, Ok, Err, nat_lt, ◌==◌, ◌&&◌, if◌then◌else◌, slice_index}
 use Rattle.acap_lexer.specs.declared.announced.Announced.{Announced}
 use Rattle.acap_lexer.specs.declared.cut.Cut.{Cut}
 use Rattle.acap_lexer.specs.declared.cut.Cut.TheVariants.{At, Never, NotYet}
@@ -8,7 +8,7 @@ use Rattle.acap_lexer.specs.declared.fault.LexFault.{LexFault}
 use Rattle.acap_lexer.specs.declared.fault.LexFault.TheVariants.{LineTooLong, CommandTooLong}
 use Rattle.acap_lexer.specs.declared.kind.Kind.TheVariants as kinds
 use Rattle.acap_lexer.specs.declared.lexed.Lexed.{Lexed}
-use Rattle.acap_lexer.specs.declared.lexed.Lexed.TheVariants.{Line, Bad, Fatal}
+use Rattle.acap_lexer.specs.declared.lexed.Lexed.TheVariants.{More, Plus, Line, Bad, Fatal}
 use Rattle.acap_lexer.specs.declared.mode.Mode.{Mode}
 use Rattle.acap_lexer.specs.Token.{Token}
 use Rattle.acap_lexer.specs.Reading.{Read}
@@ -101,6 +101,14 @@ step_of mode (InLiteral start count front) text =
       tokens = front.tokens ++ literal_token start count front (take count (drop front.octets text)) ∷ [];
       octets = front.octets + count;
     }))
+
+-- an item is a line, or a fault
+abbrev pub IsItem : Lexed → Type 0
+IsItem More = ⊥
+IsItem Plus = ⊥
+IsItem (Line tokens) = Unit {0}
+IsItem (Bad fault tag) = Unit {0}
+IsItem (Fatal fault) = Unit {0}
 
 -- how far a text leads: how many continuations are due, and the item, if any, with how many octets it takes
 pub record Progress : Type 0 where

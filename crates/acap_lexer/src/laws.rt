@@ -36,5 +36,4 @@ pub fn reads_quoted()
 /// Examples of texts and what begins them, computed from the definitions alone.
 pub fn examples()
     ensures { Examples }
-{
-}
+{}

@@ -4,6 +4,7 @@
 
 mod advance;
 mod announced;
+mod asked;
 mod cut;
 mod due;
 mod ends;
@@ -17,6 +18,7 @@ mod marks;
 mod mode;
 mod octets;
 mod part;
+mod pieces;
 mod print;
 mod reading;
 mod scan;
@@ -27,9 +29,12 @@ mod turn;
 
 pub use fault::{LexFault, Memory};
 pub use kind::Kind;
-pub use laws::{examples, goes_by_stages, keeps_items, keeps_waits, leaves_room, reads_quoted, takes_octets};
+pub use laws::{
+    examples, goes_by_stages, keeps_items, keeps_waits, leaves_room, reads_quoted, takes_octets,
+};
 pub use lexed::{Lexed, Tag};
 pub use lexer::Lexer;
 pub use mode::Mode;
+pub use pieces::answers;
 pub use print::print_string;
 pub use tokens::Tokens;

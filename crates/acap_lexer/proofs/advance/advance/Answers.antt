@@ -1,8 +1,7 @@
-use Rattle.std.proofs.Common.{◌≡◌, ◌≤◌, subst, arith, ◌∙◌}
+use Rattle.std.proofs.Common.{subst, ◌∙◌}
 use Rattle.acap_lexer.specs.declared.due.Due.TheVariants as dues
 use Rattle.acap_lexer.specs.declared.mode.Mode.{Mode}
-use Rattle.acap_lexer.specs.declared.turn.Turn.TheVariants as turns
-use Rattle.acap_lexer.specs.Scanning.{IsDue, Turns, Stays, GoesOn, stage_of}
+use Rattle.acap_lexer.specs.Scanning.{IsDue, Stays, GoesOn, stage_of}
 use Rattle.acap_lexer.specs.Stream.{step_of}
 use Rattle.acap_lexer.proofs.Reaching.{plus_due, more_due, item_due, reaches_goes}
 use Rattle.acap_lexer.proofs.advance.advance.Goals as goal

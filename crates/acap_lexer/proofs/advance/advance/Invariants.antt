@@ -1,5 +1,4 @@
-use Rattle.std.proofs.Common.{◌≡◌}
-use Rattle.acap_lexer.specs.Scanning.{IsSound, Reaches, turns_left}
+use Rattle.acap_lexer.specs.Scanning.{turns_left}
 use Rattle.acap_lexer.proofs.Advancing.{IsSoFar}
 use Rattle.acap_lexer.proofs.advance.advance.Given as goal
 

@@ -1,4 +1,4 @@
-use Rattle.std.proofs.Common.{◌++◌, [], List, ◌≡◌}
+use Rattle.std.proofs.Common.{◌++◌}
 use Rattle.acap_lexer.proofs.Reaching.{reaches_beginning}
 use Rattle.acap_lexer.proofs.advance.start.Goals as goal
 

@@ -1,4 +1,4 @@
-use Rattle.std.proofs.Common.{◌≡◌, arith}
+use Rattle.std.proofs.Common.{arith}
 use Rattle.acap_lexer.proofs.EndPlaces.{never}
 use Rattle.acap_lexer.proofs.ends.cut.Goals as goal
 

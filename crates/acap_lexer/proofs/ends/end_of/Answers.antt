@@ -1,4 +1,4 @@
-use Rattle.std.proofs.Common.{◌≡◌, ◌+◌, ◌≤◌, sym, ◌∙◌, arith, length}
+use Rattle.std.proofs.Common.{sym, arith}
 use Rattle.acap_lexer.proofs.EndPlaces.{feeds, no_end, none_left, feed_ends, feed_passes}
 use Rattle.acap_lexer.proofs.ends.end_of.Goals as goal
 

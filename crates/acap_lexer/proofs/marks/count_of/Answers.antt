@@ -1,4 +1,4 @@
-use Rattle.std.proofs.Common.{◌≡◌, ◌<◌, ◌+◌, ◌-◌, ◌*◌, arith, slice_index}
+use Rattle.std.proofs.Common.{◌<◌, ◌+◌, ◌-◌, ◌*◌, arith, slice_index}
 use Rattle.acap_lexer.proofs.Counting.{too_large}
 use Rattle.acap_lexer.proofs.marks.count_of.Goals as goal
 

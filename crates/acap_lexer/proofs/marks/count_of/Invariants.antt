@@ -1,4 +1,4 @@
-use Rattle.std.proofs.Common.{◌≡◌, ◌≤◌, drop}
+use Rattle.std.proofs.Common.{drop}
 use Rattle.acap_lexer.proofs.Counting.{IsSoFar}
 use Rattle.acap_lexer.proofs.marks.count_of.Given as goal
 

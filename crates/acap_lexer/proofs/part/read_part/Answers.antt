@@ -1,8 +1,6 @@
-use Rattle.std.proofs.Common.{◌≡◌, ◌<◌, ◌≤◌, Ok, length, arith, rules, tests}
+use Rattle.std.proofs.Common.{◌<◌, length, rules, tests}
 use Rattle.std.proofs.lemmas.Result.{err_from_is_err_and}
-use Rattle.acap_lexer.specs.declared.found.Found.TheVariants.{Mark, Rest}
-use Rattle.acap_lexer.specs.Taking.{TakesNext}
-use Rattle.acap_lexer.proofs.PartLoop.{IsSoFar, ends_here, ends_past, goes_on, ends_marked, fails}
+use Rattle.acap_lexer.proofs.PartLoop.{ends_here, ends_past, goes_on, ends_marked, fails}
 use Rattle.acap_lexer.proofs.part.read_part.Goals as goal
 
 pub returns-then-is_empty-clause-gives : goal.returns-then-is_empty-clause-gives

@@ -1,4 +1,3 @@
-use Rattle.std.proofs.Common.{length}
 use Rattle.acap_lexer.proofs.PartLoop.{IsSoFar}
 use Rattle.acap_lexer.proofs.part.read_part.Given as goal
 

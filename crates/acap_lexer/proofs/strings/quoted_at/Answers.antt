@@ -1,8 +1,8 @@
-use Rattle.std.proofs.Common.{◌≡◌, ◌<◌, ◌++◌, ◌∷◌, [], Some, None, List, ℕ, length, arith, ap, sym, ◌∙◌, Bor}
+use Rattle.std.proofs.Common.{◌<◌, Some, None, length, arith}
 use Rattle.std.proofs.lemmas.Result.{err_from_is_err_and}
 use Rattle.acap_lexer.specs.Reading.{quoted_at}
 use Rattle.acap_lexer.specs.Taking.{TakesFrom}
-use Rattle.acap_lexer.proofs.QuotingLoop.{IsSoFar, plain_step, octet_step, closes, fails}
+use Rattle.acap_lexer.proofs.QuotingLoop.{plain_step, octet_step, closes, fails}
 use Rattle.acap_lexer.proofs.strings.quoted_at.Goals as goal
 
 pub returns-in_err-octet-clause-gives : goal.returns-in_err-octet-clause-gives

@@ -1,6 +1,4 @@
-use Rattle.std.proofs.Common.{◌≡◌, length}
-use Rattle.acap_lexer.specs.Printing.{Grows}
-use Rattle.acap_lexer.specs.Reading.{behind, quoted_at}
+use Rattle.std.proofs.Common.{length}
 use Rattle.acap_lexer.proofs.QuotingLoop.{IsSoFar}
 use Rattle.acap_lexer.proofs.strings.quoted_at.Given as goal
 

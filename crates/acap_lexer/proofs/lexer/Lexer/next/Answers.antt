@@ -1,4 +1,4 @@
-use Rattle.std.proofs.Common.{ℕ, ◌+◌, ◌≤◌, ◌<◌, length, arith, length-take, length-drop}
+use Rattle.std.proofs.Common.{ℕ, ◌+◌, ◌≤◌, length, arith, length-take, length-drop}
 use Rattle.acap_lexer.proofs.lexer.Lexer.next.Goals as goal
 
 pub overflow_add-self : goal.overflow_add-self

@@ -1,4 +1,4 @@
-use Rattle.std.proofs.Common.{◌≡◌, ◌++◌, ◌∷◌, [], refl, sym, ap, ◌∙◌, arith, length}
+use Rattle.std.proofs.Common.{◌≡◌, ◌++◌, ◌∷◌, [], ap, ◌∙◌, arith, length}
 use Rattle.acap_lexer.specs.declared.tokens.Mark.{Mark}
 use Rattle.acap_lexer.proofs.Places.{IsNew, tokens_push}
 use Rattle.acap_lexer.proofs.tokens.Tokens.push.Goals as goal

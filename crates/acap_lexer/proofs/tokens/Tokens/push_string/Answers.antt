@@ -1,6 +1,4 @@
-use Rattle.std.proofs.Common.{◌≡◌, ◌+◌, ◌-◌, ◌++◌, ◌∷◌, [], refl, sym, ap, ◌∙◌, arith, length, Ok, ℕ, List}
-use Rattle.acap_lexer.specs.declared.kind.Kind.TheVariants as kinds
-use Rattle.acap_lexer.specs.declared.tokens.Mark.{Mark}
+use Rattle.std.proofs.Common.{◌≡◌, ◌++◌, ◌∷◌, [], refl, ◌∙◌, arith, length}
 use Rattle.acap_lexer.specs.Reading.{string_at}
 use Rattle.acap_lexer.proofs.Places.{Adds, tokens_grows, string_mark, string_adds, pushed_grows}
 use Rattle.acap_lexer.proofs.tokens.Tokens.push_string.Goals as goal
