@@ -81,6 +81,7 @@ fn read_whole(alloc: Global, scan: &mut Scan, part: &[u8]) -> Result<Turn, Memor
     if end + 2 > COMMAND_LIMIT {
         return Ok(Turn::Ends(Lexed::Fatal(LexFault::CommandTooLong), end + 2));
     }
+    scan.tokens.reserve(part.len())?;
     match begin(scan.mode, &mut scan.tokens, part) {
         Err(LexError::Memory) => Err(Memory),
         Err(LexError::Fault(fault)) => Ok(Turn::Ends(Lexed::Bad(fault, None), end + 2)),

@@ -13,6 +13,9 @@ use std::alloc::Global;
 use std::marker::Model;
 use std::ops::Range;
 
+/// Room is made for so many tokens at once.
+const TOKENS_AT_ONCE: usize = 8;
+
 /// Where a token lies: its value in the text of values, and its own octets in the command.
 #[derive(Clone, Copy, Debug)]
 pub(crate) struct Mark {
@@ -93,6 +96,15 @@ impl Tokens {
     {
         let mark = self.marks[index];
         &self.text[mark.value_start..mark.value_end]
+    }
+
+    /// Makes room for values of so many octets and for some tokens, so that they aren't moved one by one.
+    pub(crate) fn reserve(&mut self, octets: usize) -> Result<(), Memory>
+        ensures { self.new ≡ self.old }
+    {
+        self.text.reserve(octets)?;
+        self.marks.reserve(TOKENS_AT_ONCE)?;
+        Ok(())
     }
 
     /// What the last token is, if there is one.

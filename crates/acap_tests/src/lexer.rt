@@ -300,3 +300,16 @@ fn another_mode_reads_the_command_again(rt: HostRuntime) -> Result<(), Fail> {
     assert!(rt; out.as_slice() == b"Plus\nWx@0-1 La@2-8 \n".as_slice(), "{out:?}");
     Ok(())
 }
+
+#[test]
+fn a_stream_in_pieces_and_modes(rt: HostRuntime) -> Result<(), Fail> {
+    let alloc = rt.alloc();
+    let pieces: [&[u8]; 4] = [b"A1 LOG", b"IN {2}\r", b"\nab\r\n\"an", b"swer\"\r\nA2 NOOP"];
+    let said = acap_lexer::answers(alloc, &[Mode::Command, Mode::Answer, Mode::Command], &pieces)?;
+    let mut out = Vec::new(alloc);
+    for lexed in &said {
+        let _more = write_answer(alloc, &mut out, lexed)?;
+    }
+    assert!(rt; out.as_slice() == b"Plus\nTA1@0-2 WLOGIN@3-8 Lab@9-16 \nQanswer@0-8 \n".as_slice(), "{out:?}");
+    Ok(())
+}
