@@ -1,0 +1,12 @@
+pub mod SortedLemmas
+pub mod Halves
+pub mod MapLemmas
+pub mod NameLemmas
+pub mod StoreLemmas
+pub mod StoreLaws
+pub mod RangeLemmas
+pub mod StampLemmas
+pub mod CivilLemmas
+pub mod MarchForm
+pub mod StampLaws
+pub mod Kept

@@ -1,0 +1,64 @@
+-- The order of paths, and what writes leave at each path.
+use Rattle.std.proofs.Common.{◌≡◌, true, false, cond, List, [], ◌∷◌, ◌++◌, Option, Some, None, refl, sym, ap, ◌∙◌}
+use Rattle.std.specs.Option.{unwrap_or}
+use Rattle.std.specs.declared.cmp.Ordering.{Ordering}
+use Rattle.std.specs.declared.cmp.Ordering.TheVariants.{Less, Equal, Greater}
+use Rattle.std.specs.Ordering.{eq_by_cmp, ordering_then}
+use Rattle.std.specs.Cmp.{IsTotalOrder, then_total}
+use Rattle.std.specs.Cmp.Lexicographic.{on_texts}
+use Rattle.std.specs.FinMap.{IsAntisymmetric, find, from_sorted, get, insert, remove, get-insert, get-remove, slice_cmp-IsAntisymmetric, nat_cmp-IsAntisymmetric}
+use Rattle.acap_entries.specs.Orders.{octets_cmp}
+use Rattle.acap_entries.specs.declared.path.Path.{Path}
+use Rattle.acap_entries.specs.declared.record.Record.{Record}
+use Rattle.acap_entries.specs.Store.{path_cmp, Stored, IsPathByPath}
+use Rattle.acap_entries.specs.Sorted.{InOrder}
+use Rattle.acap_entries.proofs.MapLemmas.{get_found}
+
+pub path_cmp_total : IsTotalOrder path_cmp
+path_cmp_total = then_total (on_texts (λ (p : Path). p.dataset)) (on_texts (λ (p : Path). p.name))
+
+pub octets_same : IsAntisymmetric octets_cmp
+octets_same = slice_cmp-IsAntisymmetric nat_cmp-IsAntisymmetric
+
+parts_equal : (a b : Ordering) → ordering_then a b ≡ Equal → (a ≡ Equal) × (b ≡ Equal)
+parts_equal Less b e = cc
+parts_equal Equal b e = (refl, e)
+parts_equal Greater b e = cc
+
+pub path_same : IsAntisymmetric path_cmp
+path_same a b e =
+    let parts = parts_equal _ _ e in
+    let dataset = octets_same _ _ parts.0 in
+    let name = octets_same _ _ parts.1 in
+    λ i. record { dataset = dataset i; name = name i }
+
+-- the writes of a list, done from the last to the first
+abbrev pub after_write : Path → Option Record → Stored → Stored
+after_write p (Some r) m = insert m p r
+after_write p None m = remove m p
+
+abbrev pub after_writes : List (Path × Option Record) → Stored → Stored
+after_writes [] m = m
+after_writes (w ∷ ws) m = after_write w.0 w.1 (after_writes ws m)
+
+pub after_writes-append : (ws : List (Path × Option Record)) (w : Path × Option Record) (m : Stored) → after_writes (ws ++ w ∷ []) m ≡ after_writes ws (after_write w.0 w.1 m)
+after_writes-append [] w m = refl
+after_writes-append (x ∷ ws) w m = ap (after_write x.0 x.1) (after_writes-append ws w m)
+
+get-after_write : (p : Path) (fate : Option Record) (m : Stored) (q : Path) → get (after_write p fate m) q ≡ cond (eq_by_cmp path_cmp q p) fate (get m q)
+get-after_write p (Some r) m q = get-insert path_cmp_total m p r q
+get-after_write p None m q = get-remove path_cmp_total m p q
+
+get_written : (ws : List (Path × Option Record)) (m : Stored) (q : Path) → get (after_writes ws m) q ≡ unwrap_or (find path_cmp q ws) (get m q)
+get_written [] m q = refl
+get_written (w ∷ ws) m q =
+    get-after_write w.0 w.1 (after_writes ws m) q
+    ∙ elim (eq_by_cmp path_cmp q w.0) as (λ b. cond b w.1 (get (after_writes ws m) q) ≡ unwrap_or (cond b (Some w.1) (find path_cmp q ws)) (get m q)) [
+      | true ↦ refl
+      | false ↦ get_written ws m q
+    ]
+
+pub after_writes-IsPathByPath : (ws : List (Path × Option Record)) (m : Stored) → InOrder path_cmp ws → IsPathByPath (from_sorted ws) m (after_writes ws m)
+after_writes-IsPathByPath ws m h = record {
+  at_path = λ p. get_written ws m p ∙ ap (λ o. unwrap_or o (get m p)) (sym (get_found path_cmp path_cmp_total ws p h));
+}

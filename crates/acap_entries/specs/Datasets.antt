@@ -1,0 +1,29 @@
+-- Which datasets exist [RFC 2244 sections 3.1.1 and 4.1].
+use Rattle.std.specs.Prelude.{ℕ, Bool, false, ◌&&◌, ◌||◌, List, [], ◌∷◌, Option, Some, None, codes}
+use Rattle.std.specs.Option.{option_map_or, option_and_then}
+use Rattle.std.specs.FinMap as map
+use Rattle.acap_entries.specs.Orders.{octets_eq}
+use Rattle.acap_entries.specs.Names.{slash, own_entry}
+use Rattle.acap_entries.specs.Store.{Stored}
+use Rattle.acap_entries.specs.declared.cell.Cell.{Cell}
+use Rattle.acap_entries.specs.declared.cell.Cell.TheVariants.{Nil, Single, Multi}
+use Rattle.acap_entries.specs.declared.record.Record.{Record}
+
+-- the list of the one string `.`
+abbrev pub is_dot_list : Option Cell → Bool
+is_dot_list None = false
+is_dot_list (Some Nil) = false
+is_dot_list (Some (Single value)) = false
+is_dot_list (Some (Multi [])) = false
+is_dot_list (Some (Multi (value ∷ []))) = octets_eq value (codes ".")
+is_dot_list (Some (Multi (value ∷ other ∷ values))) = false
+
+-- an entry that is present and whose `subdataset` is (".") makes the dataset of its name
+abbrev pub makes_dataset : Record → Bool
+makes_dataset entry = entry.present && is_dot_list (map.get entry.cells (codes "subdataset"))
+
+-- `/` always exists, and any other dataset exactly where its own entry in the parent makes it
+abbrev pub dataset_exists : Stored → List ℕ → Bool
+dataset_exists records dataset =
+    octets_eq dataset (slash ∷ [])
+    || option_map_or makes_dataset (option_and_then (λ own. map.get records (record { dataset = own.0; name = own.1 })) (own_entry dataset)) false

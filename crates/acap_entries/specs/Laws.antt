@@ -1,0 +1,108 @@
+-- What follows from the definitions alone.
+use Rattle.std.specs.Prelude.{◌≡◌, ℕ, ℤ, pos, true, false, List, [], ◌∷◌, ◌++◌, Some, None, unwrap_or, codes, replicate}
+use Rattle.std.specs.FinMap as map
+use Rattle.acap_entries.specs.Moments.{first_moment, last_moment, IsMoment}
+use Rattle.acap_entries.specs.Names.{is_path, is_dataset_argument, is_attribute, is_user_name, is_context_name, dataset_of, name_of, own_entry, slash}
+use Rattle.acap_entries.specs.Homes.{for_user}
+use Rattle.acap_entries.specs.Stamp.{IsStamp, stamp_of}
+use Rattle.acap_entries.specs.Store.{Store, Written, IsStoreAfter}
+use Rattle.acap_entries.specs.declared.path.Path.{Path}
+use Rattle.acap_entries.specs.declared.record.Record.{Record}
+
+-- a change determines the store that it leaves
+abbrev pub ChangeLaw : Type 0
+ChangeLaw = (written : Written) (moment : ℤ) (old a b : Store) → IsStoreAfter written moment old a → IsStoreAfter written moment old b → a ≡ b
+
+-- after two changes each path has what the later one writes there, else what the earlier one writes, else its old record
+abbrev pub TwoChangesLaw : Type 0
+TwoChangesLaw = (first second : Written) (earlier later : ℤ) (old mid new : Store) → IsStoreAfter first earlier old mid → IsStoreAfter second later mid new
+    → ((p : Path) → map.get new.records p ≡ unwrap_or (map.get second p) (unwrap_or (map.get first p) (map.get old.records p))) × (new.last ≡ later)
+
+-- a record that one change writes and the next removes is gone, and every other path is as before
+abbrev pub RemovalLaw : Type 0
+RemovalLaw = (p : Path) (r : Record) (earlier later : ℤ) (old mid new : Store) → IsStoreAfter (map.insert map.empty p (Some r)) earlier old mid → IsStoreAfter (map.insert map.empty p None) later mid new
+    → (map.get mid.records p ≡ Some r) × (map.get new.records p ≡ None)
+
+-- a path is its dataset and then its name
+abbrev pub PathLaw : Type 0
+PathLaw = (path : List ℕ) → dataset_of path ++ name_of path ≡ path
+
+-- each moment has one stamp, and `stamp_of` is it
+pub record StampLaw : Type 0 where
+  pub exists : (moment : ℤ) → IsMoment moment → IsStamp moment (stamp_of moment)
+  pub only : (moment : ℤ) (a b : List ℕ) → IsStamp moment a → IsStamp moment b → a ≡ b
+
+-- the stamps of the moments 0 and 1, of the first and of the last
+pub record StampExamples : Type 0 where
+  pub zero_is : IsStamp (pos 0) (codes "19700101000000000000")
+  pub one_is : IsStamp (pos 1) (codes "19700101000000000001")
+  pub first_is : IsStamp first_moment (codes "00000101000000000000")
+  pub last_is : IsStamp last_moment (codes "99991231235959999999")
+
+-- names that are accepted and refused, one for each rule
+pub record PathExamples : Type 0 where
+  pub plain : is_path (codes "/option/~/font") ≡ true
+  pub management : is_path (codes "/option/user/joe/") ≡ true
+  pub root : is_path (codes "/") ≡ true
+  pub letters : is_path (47 ∷ 195 ∷ 169 ∷ []) ≡ true
+  pub sixteen : is_path (codes "/a/b/c/d/e/f/g/h/i/j/k/l/m/n/o/p") ≡ true
+  pub sixteen_steps : is_path (codes "/a/b/c/d/e/f/g/h/i/j/k/l/m/n/o/p/") ≡ true
+  pub seventeen : is_path (codes "/a/b/c/d/e/f/g/h/i/j/k/l/m/n/o/p/q") ≡ false
+  pub longest : is_path (slash ∷ replicate 1_023 97) ≡ true
+  pub too_long : is_path (slash ∷ replicate 1_024 97) ≡ false
+  pub relative : is_path (codes "option/font") ≡ false
+  pub nothing : is_path [] ≡ false
+  pub empty_component : is_path (codes "/option//font") ≡ false
+  pub dotted : is_path (codes "/option/.font/x") ≡ false
+  pub dotted_name : is_path (codes "/option/.font") ≡ false
+  pub with_nul : is_path (47 ∷ 97 ∷ 0 ∷ []) ≡ false
+  pub not_utf8 : is_path (47 ∷ 195 ∷ 40 ∷ []) ≡ false
+  pub surrogate : is_path (47 ∷ 237 ∷ 160 ∷ 128 ∷ []) ≡ false
+
+pub record DatasetExamples : Type 0 where
+  pub closed : is_dataset_argument (codes "/option/") ≡ true
+  pub open_ended : is_dataset_argument (codes "/option") ≡ true
+  pub root : is_dataset_argument (codes "/") ≡ true
+  pub sixteen : is_dataset_argument (codes "/a/b/c/d/e/f/g/h/i/j/k/l/m/n/o/p") ≡ true
+  pub seventeen : is_dataset_argument (codes "/a/b/c/d/e/f/g/h/i/j/k/l/m/n/o/p/q/") ≡ false
+  pub relative : is_dataset_argument (codes "option/") ≡ false
+  pub nothing : is_dataset_argument [] ≡ false
+  pub doubled : is_dataset_argument (codes "//") ≡ false
+  pub dotted : is_dataset_argument (codes "/.option/") ≡ false
+
+pub record NameExamples : Type 0 where
+  pub attribute : is_attribute (codes "option.value") ≡ true
+  pub slashed : is_attribute (codes "a/b c") ≡ true
+  pub empty_attribute : is_attribute [] ≡ false
+  pub starred : is_attribute (codes "option.*") ≡ false
+  pub percent : is_attribute (codes "option%") ≡ false
+  pub nul_attribute : is_attribute (97 ∷ 0 ∷ []) ≡ false
+  pub attribute_bytes : is_attribute (255 ∷ []) ≡ false
+  pub longest_attribute : is_attribute (replicate 200 97) ≡ true
+  pub long_attribute : is_attribute (replicate 201 97) ≡ false
+  pub user : is_user_name (codes "joe") ≡ true
+  pub longest_user : is_user_name (replicate 64 97) ≡ true
+  pub long_user : is_user_name (replicate 65 97) ≡ false
+  pub empty_user : is_user_name [] ≡ false
+  pub anyone : is_user_name (codes "anyone") ≡ false
+  pub tilde : is_user_name (codes "~") ≡ false
+  pub negative : is_user_name (codes "-joe") ≡ false
+  pub spaced : is_user_name (codes "joe smith") ≡ false
+  pub tabbed : is_user_name (97 ∷ 9 ∷ []) ≡ false
+  pub slashed_user : is_user_name (codes "a/b") ≡ false
+  pub dotted_user : is_user_name (codes ".joe") ≡ false
+  pub context : is_context_name (codes "c 1") ≡ true
+  pub empty_context : is_context_name [] ≡ false
+  pub slashed_context : is_context_name (codes "/c") ≡ false
+  pub longest_context : is_context_name (replicate 255 97) ≡ true
+  pub long_context : is_context_name (replicate 256 97) ≡ false
+
+pub record HomeExamples : Type 0 where
+  pub own : for_user (codes "joe") (codes "/option/~/") ≡ codes "/option/user/joe/"
+  pub beneath : for_user (codes "joe") (codes "/option/~/x/") ≡ codes "/option/user/joe/x/"
+  pub first_component : for_user (codes "joe") (codes "/~/x/") ≡ codes "/~/x/"
+  pub third_component : for_user (codes "joe") (codes "/a/b/~/") ≡ codes "/a/b/~/"
+  pub longer : for_user (codes "joe") (codes "/a/~b/") ≡ codes "/a/~b/"
+  pub parent : own_entry (codes "/option/user/joe/") ≡ Some (codes "/option/user/", codes "joe")
+  pub top : own_entry (codes "/option/") ≡ Some (codes "/", codes "option")
+  pub root : own_entry (codes "/") ≡ None

@@ -1,0 +1,9 @@
+pub mod Datasets
+pub mod Homes
+pub mod Laws
+pub mod Moments
+pub mod Names
+pub mod Orders
+pub mod Sorted
+pub mod Stamp
+pub mod Store

@@ -1,0 +1,118 @@
+-- The names of datasets, entries, attributes, users and contexts, as lists of octets
+-- [RFC 2244 sections 3.1, 3.1.1, 3.3, 4.1; UTF-8 is that of RFC 3629].
+use Rattle.std.specs.Prelude.{ℕ, ◌+◌, ◌-◌, ◌==◌, Bool, true, false, not, ◌&&◌, nat_le, nat_lt, List, [], ◌∷◌, ◌++◌, length, take, drop, codes, slice_index, Option, Some, None, if◌then◌else◌}
+use Rattle.std.specs.List.{list_any, list_all, slice_split, suffix_len}
+use Rattle.std.specs.Str.{is_utf8}
+use Rattle.acap_entries.specs.Orders.{octets_eq}
+
+-- the octets that rules name: `/`, `.`, `*`, `%`, `-`
+abbrev pub slash : ℕ
+slash = 47
+
+abbrev pub dot : ℕ
+dot = 46
+
+abbrev pub star : ℕ
+star = 42
+
+abbrev pub percent : ℕ
+percent = 37
+
+abbrev pub minus : ℕ
+minus = 45
+
+abbrev pub nul : ℕ
+nul = 0
+
+abbrev pub tab : ℕ
+tab = 9
+
+abbrev pub space : ℕ
+space = 32
+
+abbrev pub is_slash : ℕ → Bool
+is_slash octet = octet == slash
+
+-- whether the octet stands in the text, at its beginning, at its end
+abbrev pub has : ℕ → List ℕ → Bool
+has octet text = list_any (λ x. x == octet) text
+
+abbrev pub begins_with : ℕ → List ℕ → Bool
+begins_with octet [] = false
+begins_with octet (x ∷ xs) = x == octet
+
+abbrev pub ends_with : ℕ → List ℕ → Bool
+ends_with octet text = nat_lt 0 (length text) && (slice_index text (length text - 1) == octet)
+
+-- whether a text has from 1 to that many octets
+abbrev pub is_sized : ℕ → List ℕ → Bool
+is_sized most text = nat_lt 0 (length text) && nat_le (length text) most
+
+-- a component: 1 or more octets of UTF-8 without NUL and `/`, not beginning `.`
+unfoldable pub is_component : List ℕ → Bool
+is_component text =
+    nat_lt 0 (length text) && is_utf8 text && not (has nul text) && not (has slash text) && not (begins_with dot text)
+
+-- the components of a dataset, written with its closing `/` or without: none of `/`, else what stands between slashes
+abbrev pub inside : List ℕ → List ℕ
+inside text = drop 1 (if ends_with slash text then take (length text - 1) text else text)
+
+unfoldable pub components : List ℕ → List (List ℕ)
+components text = if nat_le (length text) 1 then [] else slice_split is_slash (inside text)
+
+-- a dataset, with its closing `/` or without
+abbrev pub is_dataset : List ℕ → Bool
+is_dataset text = begins_with slash text && list_all is_component (components text)
+
+-- with its closing `/`
+abbrev pub closed : List ℕ → List ℕ
+closed text = if ends_with slash text then text else text ++ slash ∷ []
+
+-- a path `/c1/../cn/name`: its dataset is all through the last `/`, its entry name the rest
+abbrev pub cut_of : List ℕ → ℕ
+cut_of text = length text - suffix_len (λ octet. not (is_slash octet)) text
+
+unfoldable pub dataset_of : List ℕ → List ℕ
+dataset_of text = take (cut_of text) text
+
+unfoldable pub name_of : List ℕ → List ℕ
+name_of text = drop (cut_of text) text
+
+-- an entry name is a component, or empty: the management entry's
+abbrev pub is_entry_name : List ℕ → Bool
+is_entry_name text = if length text == 0 then true else is_component text
+
+-- how many components a path has, an entry name that isn't empty counted as one
+abbrev pub step_count : List ℕ → ℕ
+step_count text = length (components (dataset_of text)) + (if length (name_of text) == 0 then 0 else 1)
+
+-- a path as a client sends it: at most 1,024 octets and 16 components
+unfoldable pub is_path : List ℕ → Bool
+is_path text =
+    nat_le (length text) 1024 && is_dataset (dataset_of text) && is_entry_name (name_of text) && nat_le (step_count text) 16
+
+-- a dataset as a client sends it, with its closing `/` or without: at most 1,024 octets and 16 components
+unfoldable pub is_dataset_argument : List ℕ → Bool
+is_dataset_argument text =
+    nat_le (length text) 1024 && is_dataset text && nat_le (length (components text)) 16
+
+-- the name of an attribute: 1 to 200 octets of UTF-8 without NUL, `*` and `%`
+unfoldable pub is_attribute : List ℕ → Bool
+is_attribute text =
+    is_sized 200 text && is_utf8 text && not (has nul text) && not (has star text) && not (has percent text)
+
+-- the name of a user: a component of at most 64 octets, without SP and TAB, not beginning `-`, neither `anyone` nor `~`
+unfoldable pub is_user_name : List ℕ → Bool
+is_user_name text =
+    is_component text && nat_le (length text) 64 && not (has space text) && not (has tab text)
+    && not (begins_with minus text) && not (octets_eq text (codes "anyone")) && not (octets_eq text (codes "~"))
+
+-- the name of a context: 1 to 255 octets of UTF-8, not beginning `/`
+unfoldable pub is_context_name : List ℕ → Bool
+is_context_name text = is_sized 255 text && is_utf8 text && not (begins_with slash text)
+
+-- the own entry of a dataset other than `/`, in its parent: the dataset without its closing `/`, read as a path
+abbrev pub own_entry : List ℕ → Option (List ℕ × List ℕ)
+own_entry dataset =
+    if nat_le (length dataset) 1 then None
+    else (let path = take (length dataset - 1) dataset in Some (dataset_of path, name_of path))

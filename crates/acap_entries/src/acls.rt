@@ -1,0 +1,101 @@
+ghost use Rattle.std.specs.Prelude.{◌≡◌, OnOk, OnErr};
+ghost use Rattle.std.specs.Option.{option_copied};
+ghost use Rattle.std.specs.FinMap as map;
+
+use crate::attribute::Attribute;
+use crate::copying::{Copying, copy_all};
+use crate::keys::{AttributeText, Whole};
+use crate::memory::Memory;
+use crate::sorted::{lookup, put_in_room, take_out};
+use crate::values::Values;
+use std::alloc::Global;
+use std::marker::Model;
+
+/// The access control lists of a record by attribute: seen as a finite map (RFC 2244 section 3.5).
+#[derive(Debug, Drop)]
+pub struct Acls {
+    entries: Vec<(Attribute, Values)>,
+}
+
+impl Model for Acls {
+    ghost use Rattle.acap_entries.specs.Sorted.{InOrder};
+    ghost use Rattle.acap_entries.specs.Orders.{octets_cmp};
+    ghost use Rattle.std.specs.FinMap as map;
+    ghost use Rattle.std.specs.Prelude.{ℕ, List};
+    ghost use Rattle.std.specs.Coded.{coded_list, coded_ℕ};
+
+    ghost Value = { map.FinMap octets_cmp (List (List ℕ)) };
+
+    ghost coded = { map.code (coded_list coded_ℕ) (coded_list (coded_list coded_ℕ)) };
+
+    ghost view = { λ m. map.from_sorted m.entries.items };
+
+    ghost invariant = { λ m. InOrder octets_cmp m.entries.items };
+}
+
+#[tactic(auto, using(crate::proofs::Kept::kept_acls))]
+impl Acls {
+    /// An empty map. Takes no memory.
+    pub fn new(alloc: Global) -> Acls
+        ensures { result ≡ map.empty }
+    {
+        Acls {
+            entries: Vec::new(alloc),
+        }
+    }
+
+    /// What an attribute has, if anything is kept for it.
+    pub fn get(&self, attribute: &Attribute) -> Option<&Values>
+        ensures { option_copied result ≡ map.get self.now attribute.now }
+    {
+        lookup(self.entries.as_slice(), &Whole { key: attribute })
+    }
+
+    /// The same for an attribute that is given by its octets.
+    pub fn find(&self, attribute: &[u8]) -> Option<&Values>
+        ensures { option_copied result ≡ map.get self.now attribute.now }
+    {
+        lookup(
+            self.entries.as_slice(),
+            &AttributeText { octets: attribute },
+        )
+    }
+
+    /// All that is kept, in the order of the attributes' octets.
+    pub fn entries(&self) -> &[(Attribute, Values)]
+        ensures { result.now ≡ map.entries self.now }
+    {
+        self.entries.as_slice()
+    }
+
+    /// How many attributes there are.
+    pub fn len(&self) -> usize
+        ensures { result ≡ map.len self.now }
+    {
+        self.entries.len()
+    }
+
+    /// Sets what an attribute has. Fails only for want of memory, and then nothing has changed.
+    pub fn set(&mut self, attribute: Attribute, given: Values) -> Result<(), Memory>
+        ensures ok { OnOk result (self.new ≡ map.insert self.old attribute given) }
+        ensures err { OnErr result (self.new ≡ self.old) }
+    {
+        self.entries.reserve(1)?;
+        put_in_room(&mut self.entries, attribute, given);
+        Ok(())
+    }
+
+    /// Takes an attribute out. Takes no memory.
+    pub fn remove(&mut self, attribute: &Attribute)
+        ensures { self.new ≡ map.remove self.old attribute.now }
+    {
+        take_out(&mut self.entries, attribute);
+    }
+}
+
+impl Copying for Acls {
+    fn copy(&self) -> Result<Acls, Memory> {
+        let entries = copy_all(&self.entries)?;
+        Ok(Acls { entries })
+    }
+}

@@ -1,0 +1,25 @@
+use crate::copying::Copying;
+use crate::memory::Memory;
+use crate::value::Value;
+use crate::values::Values;
+
+/// What an attribute has: NIL, one string, or a list of strings (RFC 2244 section 3.1).
+#[derive(Debug, Drop)]
+pub enum Cell {
+    /// NIL.
+    Nil,
+    /// One string.
+    Single(Value),
+    /// A list of strings, which may be empty.
+    Multi(Values),
+}
+
+impl Copying for Cell {
+    fn copy(&self) -> Result<Cell, Memory> {
+        match self {
+            Cell::Nil => Ok(Cell::Nil),
+            Cell::Single(value) => Ok(Cell::Single(value.copy()?)),
+            Cell::Multi(values) => Ok(Cell::Multi(values.copy()?)),
+        }
+    }
+}

@@ -1,0 +1,94 @@
+ghost use Rattle.std.specs.Prelude.{◌≡◌, ◌↔◌, IfOk, OnOk, IsTrue, Err, false};
+ghost use Rattle.acap_entries.specs.Names as name;
+ghost use Rattle.acap_entries.specs.Homes as home;
+
+use crate::copying::Copying;
+use crate::memory::Memory;
+use crate::name_fault::NameFault;
+use crate::octets::Octets;
+use crate::user_name::UserName;
+use crate::{homes, names};
+use std::alloc::Global;
+use std::marker::Model;
+
+/// The name of a dataset: an absolute path that ends in `/` (RFC 2244 section 3.1).
+#[derive(Debug, PartialEq, Eq, PartialOrd, Ord, Drop)]
+pub struct Dataset {
+    octets: Octets,
+}
+
+impl Model for Dataset {
+    ghost use Rattle.std.specs.Prelude.{ℕ, List};
+
+    ghost Value = { List ℕ };
+
+    ghost view = { λ v. v.octets };
+
+    ghost inverse = { λ octets. record { octets = octets } };
+}
+
+impl Dataset {
+    /// Reads a dataset as a client sends it, with its closing `/` or without, and gives it that. `BadName` exactly
+    /// where the octets are no such name; a component `~` stays (`for_user`).
+    pub fn read(alloc: Global, octets: &[u8]) -> Result<Dataset, NameFault>
+        ensures good { OnOk result (IsTrue (name.is_dataset_argument octets.now)) }
+        ensures value { IfOk result (λ made. made ≡ name.closed octets.now) }
+        ensures bad { (result ≡ Err NameFault.BadName) ↔ (name.is_dataset_argument octets.now ≡ false) }
+    {
+        if !names::is_dataset_argument(octets) {
+            return Err(NameFault::BadName);
+        }
+        Ok(closed(alloc, octets)?)
+    }
+
+    /// Any octets as they are, in the memory that they have.
+    pub fn new(octets: Octets) -> Dataset
+        ensures { result ≡ octets }
+    {
+        Dataset { octets }
+    }
+
+    /// Any octets as they are, copied. Fails only for want of memory.
+    pub fn from_slice(alloc: Global, octets: &[u8]) -> Result<Dataset, Memory>
+        ensures { IfOk result (λ made. made ≡ octets.now) }
+    {
+        let octets = Octets::from_slice(alloc, octets)?;
+        Ok(Dataset { octets })
+    }
+
+    /// The dataset that a user means: where the second component is `~` it is `user/USER`, else an equal copy.
+    /// Fails only for want of memory.
+    pub fn for_user(&self, user: &UserName) -> Result<Dataset, Memory>
+        ensures { IfOk result (λ made. made ≡ home.for_user user.now self.now) }
+    {
+        let octets = homes::for_user(&self.octets, user.as_slice())?;
+        Ok(Dataset { octets })
+    }
+
+    /// The octets.
+    pub fn as_slice(&self) -> &[u8]
+        ensures { result.now ≡ self.now }
+    {
+        self.octets.as_slice()
+    }
+}
+
+impl Copying for Dataset {
+    fn copy(&self) -> Result<Dataset, Memory> {
+        let octets = self.octets.copy()?;
+        Ok(Dataset { octets })
+    }
+}
+
+// The octets with a closing `/`.
+fn closed(alloc: Global, octets: &[u8]) -> Result<Dataset, Memory>
+    ensures { IfOk result (λ made. made ≡ name.closed octets.now) }
+{
+    let mut bytes = Vec::from_slice(alloc, octets)?;
+    if !names::ends_with(octets, b'/') {
+        bytes.push(b'/')?;
+    }
+    Ok(Dataset {
+        octets: Octets::from_vec(bytes),
+    })
+}

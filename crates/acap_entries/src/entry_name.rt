@@ -1,0 +1,54 @@
+ghost use Rattle.std.specs.Prelude.{◌≡◌, IfOk};
+
+use crate::copying::Copying;
+use crate::memory::Memory;
+use crate::octets::Octets;
+use std::alloc::Global;
+use std::marker::Model;
+
+/// The name of an entry in its dataset, empty for the management entry (RFC 2244 section 3.1).
+#[derive(Debug, PartialEq, Eq, PartialOrd, Ord, Drop)]
+pub struct EntryName {
+    octets: Octets,
+}
+
+impl Model for EntryName {
+    ghost use Rattle.std.specs.Prelude.{ℕ, List};
+
+    ghost Value = { List ℕ };
+
+    ghost view = { λ v. v.octets };
+
+    ghost inverse = { λ octets. record { octets = octets } };
+}
+
+impl EntryName {
+    /// Any octets as they are, in the memory that they have.
+    pub fn new(octets: Octets) -> EntryName
+        ensures { result ≡ octets }
+    {
+        EntryName { octets }
+    }
+
+    /// Any octets as they are, copied. Fails only for want of memory.
+    pub fn from_slice(alloc: Global, octets: &[u8]) -> Result<EntryName, Memory>
+        ensures { IfOk result (λ made. made ≡ octets.now) }
+    {
+        let octets = Octets::from_slice(alloc, octets)?;
+        Ok(EntryName { octets })
+    }
+
+    /// The octets.
+    pub fn as_slice(&self) -> &[u8]
+        ensures { result.now ≡ self.now }
+    {
+        self.octets.as_slice()
+    }
+}
+
+impl Copying for EntryName {
+    fn copy(&self) -> Result<EntryName, Memory> {
+        let octets = self.octets.copy()?;
+        Ok(EntryName { octets })
+    }
+}

@@ -1,0 +1,26 @@
+use crate::cell::Cell;
+use crate::cell_list::CellList;
+use crate::cell_lists::CellLists;
+use crate::copying::Copying;
+use crate::memory::Memory;
+
+/// What is printed for one item of RETURN (RFC 2244 section 6.4.1).
+#[derive(Debug, Drop)]
+pub enum Item {
+    /// One datum, printed bare.
+    One(Cell),
+    /// Several data in one parenthesis.
+    Several(CellList),
+    /// For a name with `*`: a parenthesis that holds one for each attribute.
+    PerAttribute(CellLists),
+}
+
+impl Copying for Item {
+    fn copy(&self) -> Result<Item, Memory> {
+        match self {
+            Item::One(cell) => Ok(Item::One(cell.copy()?)),
+            Item::Several(cells) => Ok(Item::Several(cells.copy()?)),
+            Item::PerAttribute(lists) => Ok(Item::PerAttribute(lists.copy()?)),
+        }
+    }
+}

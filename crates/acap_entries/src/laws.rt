@@ -1,0 +1,52 @@
+//! What follows from the definitions alone: each function does nothing, and its contract is the law.
+ghost use Rattle.acap_entries.specs.Laws.{ChangeLaw, TwoChangesLaw, RemovalLaw, PathLaw, StampLaw, StampExamples, PathExamples, DatasetExamples, NameExamples, HomeExamples};
+
+/// A change determines the store that it leaves.
+pub fn change_law()
+    ensures { ChangeLaw }
+{}
+
+/// What stands at each path after two changes.
+pub fn two_changes_law()
+    ensures { TwoChangesLaw }
+{}
+
+/// A record that one change writes and the next removes is gone.
+pub fn removal_law()
+    ensures { RemovalLaw }
+{}
+
+/// A path is its dataset and then its name.
+pub fn path_law()
+    ensures { PathLaw }
+{}
+
+/// Each moment has exactly one stamp.
+pub fn stamp_law()
+    ensures { StampLaw }
+{}
+
+/// The stamps of the moments 0 and 1, of the first and of the last.
+pub fn stamp_examples()
+    ensures { StampExamples }
+{}
+
+/// Paths that are accepted and refused, one for each rule.
+pub fn path_examples()
+    ensures { PathExamples }
+{}
+
+/// Datasets that are accepted and refused, one for each rule.
+pub fn dataset_examples()
+    ensures { DatasetExamples }
+{}
+
+/// Attributes, users and contexts that are accepted and refused, one for each rule.
+pub fn name_examples()
+    ensures { NameExamples }
+{}
+
+/// Datasets with `~`, and the own entries of datasets.
+pub fn home_examples()
+    ensures { HomeExamples }
+{}

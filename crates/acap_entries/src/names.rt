@@ -1,0 +1,213 @@
+//! Which octets are names (RFC 2244 sections 3.1, 3.1.1 and 3.3). No call here takes memory.
+ghost use Rattle.std.specs.Prelude.{◌≡◌, ◌≤◌, ◌<◌, ◌∷◌, [], length, IfSome, IfNone};
+ghost use Rattle.std.specs.List.{list_all, slice_split, position};
+ghost use Rattle.std.specs.Option.{option_map};
+ghost use Rattle.std.specs.Str as text;
+ghost use Rattle.acap_entries.specs.Names as name;
+
+use std::str;
+
+/// Whether the octets are UTF-8 (RFC 3629).
+pub fn is_utf8(octets: &[u8]) -> bool
+    ensures { result ≡ text.is_utf8 octets.now }
+{
+    str::from_utf8(octets).is_ok()
+}
+
+/// Whether the octets begin with that one.
+pub fn begins_with(octets: &[u8], octet: u8) -> bool
+    ensures { result ≡ name.begins_with octet octets.now }
+{
+    match octets {
+        [first, ..] => *first == octet,
+        [] => false,
+    }
+}
+
+/// Whether the octets end with that one.
+pub fn ends_with(octets: &[u8], octet: u8) -> bool
+    ensures { result ≡ name.ends_with octet octets.now }
+{
+    !octets.is_empty() && octets[octets.len() - 1] == octet
+}
+
+/// Whether they are a component of a path: UTF-8, not empty, without NUL and `/`, not beginning `.`.
+#[tactic(auto, unfolding(crate::specs::Names::is_component))]
+pub fn is_component(octets: &[u8]) -> bool
+    ensures { result ≡ name.is_component octets.now }
+{
+    !octets.is_empty()
+        && is_utf8(octets)
+        && !octets.contains(&0)
+        && !octets.contains(&b'/')
+        && !begins_with(octets, b'.')
+}
+
+// Where the first slash stands.
+#[tactic(auto, using(crate::proofs::NameLemmas::slash_within))]
+pub(crate) fn first_slash(octets: &[u8]) -> Option<usize>
+    ensures value { result ≡ position name.is_slash octets.now }
+    ensures within { IfSome result (λ at. at < length octets.now) }
+{
+    octets.iter().position(|octet| *octet == b'/')
+}
+
+// What stands before the first slash and after it.
+#[tactic(auto, using(crate::proofs::NameLemmas::parts_at, crate::proofs::NameLemmas::parts_none))]
+fn cut_first(octets: &[u8]) -> Option<(&[u8], &[u8])>
+    ensures none { IfNone result (slice_split name.is_slash octets.now ≡ octets.now ∷ []) }
+    ensures some { IfSome result (λ cut. slice_split name.is_slash octets.now ≡ cut.0.now ∷ slice_split name.is_slash cut.1.now) }
+    ensures shorter { IfSome result (λ cut. length cut.1.now < length octets.now) }
+{
+    match first_slash(octets) {
+        Some(at) => {
+            let (part, _) = octets.split_at(at);
+            let (_, after) = octets.split_at(at + 1);
+            Some((part, after))
+        }
+        None => None,
+    }
+}
+
+// Whether each text between slashes is a component.
+fn are_components(octets: &[u8]) -> bool
+    ensures { result ≡ list_all name.is_component (slice_split name.is_slash octets.now) }
+{
+    let mut rest = octets;
+    while let Some((part, after)) = cut_first(rest) {
+        if !is_component(part) {
+            return false;
+        }
+        rest = after;
+    }
+    is_component(rest)
+}
+
+// What stands between the first slash and the closing one, if that is there.
+fn inside(dataset: &[u8]) -> &[u8]
+    ensures { result.now ≡ name.inside dataset.now }
+{
+    if dataset.is_empty() {
+        dataset
+    } else if dataset[dataset.len() - 1] == b'/' {
+        let path = &dataset[..dataset.len() - 1];
+        if path.is_empty() { path } else { &path[1..] }
+    } else {
+        &dataset[1..]
+    }
+}
+
+/// Whether they are a dataset, with its closing `/` or without.
+#[tactic(auto, unfolding(crate::specs::Names::components))]
+pub fn is_dataset(octets: &[u8]) -> bool
+    ensures { result ≡ name.is_dataset octets.now }
+{
+    begins_with(octets, b'/') && (octets.len() <= 1 || are_components(inside(octets)))
+}
+
+/// How many components a dataset has.
+#[tactic(auto, using(crate::proofs::NameLemmas::part_count), unfolding(crate::specs::Names::components))]
+pub fn component_count(dataset: &[u8]) -> usize
+    ensures value { result ≡ length (name.components dataset.now) }
+    ensures bound { result ≤ length dataset.now }
+{
+    if dataset.len() <= 1 {
+        return 0;
+    }
+    inside(dataset)
+        .iter()
+        .filter(|octet| **octet == b'/')
+        .count()
+        + 1
+}
+
+/// How many octets of a path are its dataset: those through the last `/`.
+pub fn cut_of(path: &[u8]) -> usize
+    ensures value { result ≡ name.cut_of path.now }
+    ensures within { result ≤ length path.now }
+{
+    let mut cut = path.len();
+    while cut > 0 && path[cut - 1] != b'/' {
+        cut -= 1;
+    }
+    cut
+}
+
+/// A path's dataset, through the last `/`, and its entry name, the rest.
+#[tactic(auto, unfolding(crate::specs::Names::dataset_of, crate::specs::Names::name_of))]
+pub fn split(path: &[u8]) -> (&[u8], &[u8])
+    ensures dataset { result.0.now ≡ name.dataset_of path.now }
+    ensures name { result.1.now ≡ name.name_of path.now }
+{
+    path.split_at(cut_of(path))
+}
+
+/// Whether they are a path as a client sends it, of at most 1,024 octets and 16 components.
+#[tactic(auto, unfolding(crate::specs::Names::is_path))]
+pub fn is_path(octets: &[u8]) -> bool
+    ensures { result ≡ name.is_path octets.now }
+{
+    if octets.len() > 1024 {
+        return false;
+    }
+    let (dataset, name) = split(octets);
+    let named = if name.is_empty() { 0 } else { 1 };
+    is_dataset(dataset)
+        && (name.is_empty() || is_component(name))
+        && component_count(dataset) + named <= 16
+}
+
+/// Whether they are a dataset as a client sends it, with its closing `/` or without, of at most 1,024 octets and 16 components.
+#[tactic(auto, unfolding(crate::specs::Names::is_dataset_argument))]
+pub fn is_dataset_argument(octets: &[u8]) -> bool
+    ensures { result ≡ name.is_dataset_argument octets.now }
+{
+    octets.len() <= 1024 && is_dataset(octets) && component_count(octets) <= 16
+}
+
+/// Whether they are the name of an attribute: 1 to 200 octets of UTF-8 without NUL, `*` and `%`.
+#[tactic(auto, unfolding(crate::specs::Names::is_attribute))]
+pub fn is_attribute(octets: &[u8]) -> bool
+    ensures { result ≡ name.is_attribute octets.now }
+{
+    !octets.is_empty()
+        && octets.len() <= 200
+        && is_utf8(octets)
+        && !octets.contains(&0)
+        && !octets.contains(&b'*')
+        && !octets.contains(&b'%')
+}
+
+/// Whether they are the name of a user: a component of at most 64 octets, without SP and TAB, not beginning `-`,
+/// and neither `anyone` nor `~`.
+#[tactic(auto, unfolding(crate::specs::Names::is_user_name))]
+pub fn is_user_name(octets: &[u8]) -> bool
+    ensures { result ≡ name.is_user_name octets.now }
+{
+    is_component(octets)
+        && octets.len() <= 64
+        && !octets.contains(&b' ')
+        && !octets.contains(&b'\t')
+        && !begins_with(octets, b'-')
+        && octets != b"anyone".as_slice()
+        && octets != b"~".as_slice()
+}
+
+/// Whether they are the name of a context: 1 to 255 octets of UTF-8, not beginning `/`.
+#[tactic(auto, unfolding(crate::specs::Names::is_context_name))]
+pub fn is_context_name(octets: &[u8]) -> bool
+    ensures { result ≡ name.is_context_name octets.now }
+{
+    !octets.is_empty() && octets.len() <= 255 && is_utf8(octets) && !begins_with(octets, b'/')
+}
+
+/// The own entry of a dataset other than `/`: the dataset that it lies in, and its name there.
+pub fn own_entry_of(dataset: &[u8]) -> Option<(&[u8], &[u8])>
+    ensures { option_map (λ p. (p.0.now, p.1.now)) result ≡ name.own_entry dataset.now }
+{
+    if dataset.len() <= 1 {
+        return None;
+    }
+    let path = &dataset[..dataset.len() - 1];
+    Some(split(path))
+}

@@ -1,0 +1,21 @@
+use crate::copying::Copying;
+use crate::items::Items;
+use crate::memory::Memory;
+use crate::value::Value;
+
+/// What is printed of an entry: its name and an item for each of RETURN (RFC 2244 section 6.4.1).
+#[derive(Debug, Drop)]
+pub struct Row {
+    /// The name as printed, or the full path.
+    pub name: Value,
+    /// The items, in the order of RETURN.
+    pub items: Items,
+}
+
+impl Copying for Row {
+    fn copy(&self) -> Result<Row, Memory> {
+        let name = self.name.copy()?;
+        let items = self.items.copy()?;
+        Ok(Row { name, items })
+    }
+}

@@ -1,0 +1,66 @@
+//! Entries in the order of their keys: look-ups by halves, and edits in room that there is.
+ghost use Rattle.std.specs.Prelude.{◌≡◌, ◌+◌, ◌<◌, ◌≤◌, length, IsTrue, vec_len, vec_capacity};
+ghost use Rattle.std.specs.Option.{option_copied};
+ghost use Rattle.acap_entries.specs.Sorted.{place, is_tied, without, found, put_in, InOrder};
+
+use crate::keys::{Probe, Whole};
+use std::cmp::Ordering;
+
+/// Where a key stands, and whether it is there: found by halving.
+pub fn place_of<K: Ord, V, Q: Probe<K>>(entries: &[(K, V)], probe: &Q) -> (usize, bool)
+    requires { InOrder K.cmp entries.now }
+    ensures place { result.0 ≡ place K.cmp (Q.key probe.now) entries.now }
+    ensures tied { result.1 ≡ is_tied K.cmp (Q.key probe.now) entries.now }
+    ensures within { result.0 ≤ length entries.now }
+    ensures below { IsTrue result.1 → result.0 < length entries.now }
+{
+    let mut low = 0;
+    let mut high = entries.len();
+    while low < high {
+        let mid = low + (high - low) / 2;
+        match probe.compare(&entries[mid].0) {
+            Ordering::Less => high = mid,
+            Ordering::Equal => return (mid, true),
+            Ordering::Greater => low = mid + 1,
+        }
+    }
+    (low, false)
+}
+
+/// The value at a key, if it is there.
+pub fn lookup<'a, K: Ord, V, Q: Probe<K>>(entries: &'a [(K, V)], probe: &Q) -> Option<&'a V>
+    requires { InOrder K.cmp entries.now }
+    ensures { option_copied result ≡ found K.cmp (Q.key probe.now) entries.now }
+{
+    let (at, tied) = place_of(entries, probe);
+    if tied { Some(&entries[at].1) } else { None }
+}
+
+/// Sets the value of a key, in the room that there is. Takes no memory.
+pub fn put_in_room<K: Ord + Drop, V: Drop>(entries: &mut Vec<(K, V)>, key: K, value: V)
+    requires room { vec_len entries.old < vec_capacity entries.old }
+    requires sorted { InOrder K.cmp entries.old.items }
+    ensures len { vec_len entries.new ≤ vec_len entries.old + 1 }
+    ensures items { entries.new.items ≡ put_in K.cmp key value entries.old.items }
+    ensures capacity { vec_capacity entries.new ≡ vec_capacity entries.old }
+{
+    let (at, tied) = place_of(entries.as_slice(), &Whole { key: &key });
+    if tied {
+        entries[at].1 = value;
+    } else {
+        entries.insert(at, (key, value)).unwrap();
+    }
+}
+
+/// Takes the key's entry out, if there is one. Takes no memory.
+pub fn take_out<K: Ord + Drop, V: Drop>(entries: &mut Vec<(K, V)>, key: &K)
+    requires { InOrder K.cmp entries.old.items }
+    ensures len { vec_len entries.new ≤ vec_len entries.old }
+    ensures items { entries.new.items ≡ without K.cmp key.now entries.old.items }
+    ensures capacity { vec_capacity entries.new ≡ vec_capacity entries.old }
+{
+    let (at, tied) = place_of(entries.as_slice(), &Whole { key });
+    if tied {
+        let _ = entries.remove(at);
+    }
+}

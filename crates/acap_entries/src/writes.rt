@@ -1,0 +1,101 @@
+ghost use Rattle.std.specs.Prelude.{◌≡◌, OnOk, OnErr, vec_len};
+ghost use Rattle.std.specs.Option.{option_copied};
+ghost use Rattle.std.specs.FinMap as map;
+ghost use Rattle.acap_entries.specs.Sorted.{InOrder};
+ghost use Rattle.acap_entries.specs.Store.{path_cmp};
+
+use crate::copying::{Copying, copy_all};
+use crate::keys::Whole;
+use crate::memory::Memory;
+use crate::path::Path;
+use crate::record::Record;
+use crate::sorted::{lookup, put_in_room, take_out};
+use std::alloc::Global;
+use std::marker::Model;
+
+/// What is written at some paths, a record or its removal: seen as a finite map.
+#[derive(Debug, Drop)]
+pub struct Writes {
+    entries: Vec<(Path, Option<Record>)>,
+}
+
+impl Model for Writes {
+    ghost use Rattle.std.specs.FinMap as map;
+    ghost use Rattle.acap_entries.specs.Sorted.{InOrder};
+    ghost use Rattle.acap_entries.specs.Store.{Written, written_code, path_cmp};
+
+    ghost Value = { Written };
+
+    ghost coded = { written_code };
+
+    ghost view = { λ w. map.from_sorted w.entries.items };
+
+    ghost invariant = { λ w. InOrder path_cmp w.entries.items };
+}
+
+#[tactic(auto, using(crate::proofs::Kept::kept_written))]
+impl Writes {
+    /// Nothing written yet. Takes no memory.
+    pub fn new(alloc: Global) -> Writes
+        ensures { result ≡ map.empty }
+    {
+        Writes {
+            entries: Vec::new(alloc),
+        }
+    }
+
+    /// How many paths are written.
+    pub fn len(&self) -> usize
+        ensures { result ≡ map.len self.now }
+    {
+        self.entries.len()
+    }
+
+    /// What is written at a path: `None` where nothing is, `Some(None)` for a removal.
+    pub fn get(&self, path: &Path) -> Option<&Option<Record>>
+        ensures { option_copied result ≡ map.get self.now path.now }
+    {
+        lookup(self.entries.as_slice(), &Whole { key: path })
+    }
+
+    /// All that is written, by dataset and then by name.
+    pub fn entries(&self) -> &[(Path, Option<Record>)]
+        ensures { result.now ≡ map.entries self.now }
+    {
+        self.entries.as_slice()
+    }
+
+    /// Writes a record at a path, or its removal by `None`, in place of what was written there.
+    /// Fails only for want of memory, and then nothing has changed.
+    pub fn set(&mut self, path: Path, fate: Option<Record>) -> Result<(), Memory>
+        ensures ok { OnOk result (self.new ≡ map.insert self.old path fate) }
+        ensures err { OnErr result (self.new ≡ self.old) }
+    {
+        self.entries.reserve(1)?;
+        put_in_room(&mut self.entries, path, fate);
+        Ok(())
+    }
+
+    /// Writes nothing at a path after all. Takes no memory.
+    pub fn remove(&mut self, path: &Path)
+        ensures { self.new ≡ map.remove self.old path.now }
+    {
+        take_out(&mut self.entries, path);
+    }
+
+    /// The writes in their order, in their memory.
+    pub(crate) fn into_entries(self) -> Vec<(Path, Option<Record>)>
+        ensures len { vec_len result ≡ map.len self }
+        ensures sorted { InOrder path_cmp result.items }
+        ensures writes { map.from_sorted result.items ≡ self }
+    {
+        self.entries
+    }
+}
+
+impl Copying for Writes {
+    fn copy(&self) -> Result<Writes, Memory> {
+        let entries = copy_all(&self.entries)?;
+        Ok(Writes { entries })
+    }
+}
