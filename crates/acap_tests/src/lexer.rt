@@ -74,7 +74,13 @@ fn drain(alloc: Global, lexer: &mut Lexer, mode: Mode, out: &mut Vec<u8>) -> Res
 }
 
 /// Gives the lexer a piece, as much of it at a time as it takes.
-fn feed(alloc: Global, lexer: &mut Lexer, mode: Mode, piece: &[u8], out: &mut Vec<u8>) -> Result<(), Memory> {
+fn feed(
+    alloc: Global,
+    lexer: &mut Lexer,
+    mode: Mode,
+    piece: &[u8],
+    out: &mut Vec<u8>,
+) -> Result<(), Memory> {
     let mut rest = piece;
     for _ in 0..100 {
         if rest.is_empty() {
@@ -98,7 +104,12 @@ fn answers(alloc: Global, mode: Mode, pieces: &[&[u8]]) -> Result<Vec<u8>, Memor
 }
 
 /// The answers are these however the stream is cut in two, and where it comes octet by octet.
-fn check_cuts(rt: &(impl AllocGlobal + Abort), mode: Mode, stream: &[u8], wanted: &[u8]) -> Result<(), Memory> {
+fn check_cuts(
+    rt: &(impl AllocGlobal + Abort),
+    mode: Mode,
+    stream: &[u8],
+    wanted: &[u8],
+) -> Result<(), Memory> {
     let alloc = rt.alloc();
     for i in 0..stream.len() {
         let (front, back) = stream.split_at(i);
@@ -128,23 +139,73 @@ fn one_line_in_any_pieces(rt: HostRuntime) -> Result<(), Fail> {
 
 #[test]
 fn faults_skip_their_line(rt: HostRuntime) -> Result<(), Fail> {
-    check_cuts(&rt, Mode::Command, b"A1  NOOP\r\nA2 X\r\n", b"BadToken A1\nTA2@0-2 WX@3-4 \n")?;
-    check_cuts(&rt, Mode::Command, b"A1 NOOP\nA2 NOOP\r\n", b"BadToken A1\n")?;
-    check_cuts(&rt, Mode::Command, b"\r\nA2 X\r\n", b"BadTag\nTA2@0-2 WX@3-4 \n")?;
+    check_cuts(
+        &rt,
+        Mode::Command,
+        b"A1  NOOP\r\nA2 X\r\n",
+        b"BadToken A1\nTA2@0-2 WX@3-4 \n",
+    )?;
+    check_cuts(
+        &rt,
+        Mode::Command,
+        b"A1 NOOP\nA2 NOOP\r\n",
+        b"BadToken A1\n",
+    )?;
+    check_cuts(
+        &rt,
+        Mode::Command,
+        b"\r\nA2 X\r\n",
+        b"BadTag\nTA2@0-2 WX@3-4 \n",
+    )?;
     check_cuts(&rt, Mode::Command, b"A1(\r\nA1{3}\r\n", b"BadTag\nBadTag\n")?;
-    check_cuts(&rt, Mode::Command, b"A1 \r\nA1\r\n", b"BadToken A1\nTA1@0-2 \n")?;
-    check_cuts(&rt, Mode::Command, b"A1 X\rY\r\nA2 {3} x\r\n", b"BadToken A1\nBadLiteral A2\n")?;
-    check_cuts(&rt, Mode::Command, b"A1 X{\r\nA1 X{3}\r\nA1 \"a\"{x\r\n", b"BadLiteral A1\nBadToken A1\nBadLiteral A1\n")?;
-    check_cuts(&rt, Mode::Command, b"A1 (a )\r\nA1 ( a)\r\nA1 a)b\r\n", b"BadToken A1\nBadToken A1\nBadToken A1\n")?;
-    check_cuts(&rt, Mode::Command, b"A1 \"a\\x\" {\r\nA1 \"a\r\n", b"BadToken A1\nBadToken A1\n")?;
+    check_cuts(
+        &rt,
+        Mode::Command,
+        b"A1 \r\nA1\r\n",
+        b"BadToken A1\nTA1@0-2 \n",
+    )?;
+    check_cuts(
+        &rt,
+        Mode::Command,
+        b"A1 X\rY\r\nA2 {3} x\r\n",
+        b"BadToken A1\nBadLiteral A2\n",
+    )?;
+    check_cuts(
+        &rt,
+        Mode::Command,
+        b"A1 X{\r\nA1 X{3}\r\nA1 \"a\"{x\r\n",
+        b"BadLiteral A1\nBadToken A1\nBadLiteral A1\n",
+    )?;
+    check_cuts(
+        &rt,
+        Mode::Command,
+        b"A1 (a )\r\nA1 ( a)\r\nA1 a)b\r\n",
+        b"BadToken A1\nBadToken A1\nBadToken A1\n",
+    )?;
+    check_cuts(
+        &rt,
+        Mode::Command,
+        b"A1 \"a\\x\" {\r\nA1 \"a\r\n",
+        b"BadToken A1\nBadToken A1\n",
+    )?;
     Ok(())
 }
 
 #[test]
 fn tags_have_32_octets_at_the_most(rt: HostRuntime) -> Result<(), Fail> {
     let tag = b"abcdefghijklmnopqrstuvwxyz012345 X\r\n";
-    check_cuts(&rt, Mode::Command, tag, b"Tabcdefghijklmnopqrstuvwxyz012345@0-32 WX@33-34 \n")?;
-    check_cuts(&rt, Mode::Command, b"abcdefghijklmnopqrstuvwxyz0123456 X\r\n", b"BadTag\n")?;
+    check_cuts(
+        &rt,
+        Mode::Command,
+        tag,
+        b"Tabcdefghijklmnopqrstuvwxyz012345@0-32 WX@33-34 \n",
+    )?;
+    check_cuts(
+        &rt,
+        Mode::Command,
+        b"abcdefghijklmnopqrstuvwxyz0123456 X\r\n",
+        b"BadTag\n",
+    )?;
     Ok(())
 }
 
@@ -156,7 +217,12 @@ fn strings_and_parentheses(rt: HostRuntime) -> Result<(), Fail> {
         b"A1 STORE (\"/a\" \"b\"(\"value\" ()))\r\n",
         b"TA1@0-2 WSTORE@3-8 (@9-10 Q/a@10-14 Qb@15-18 (@18-19 Qvalue@19-26 (@27-28 )@28-29 )@29-30 )@30-31 \n",
     )?;
-    check_cuts(&rt, Mode::Command, b"A1 \"a\\\"b\\\\c\"\r\n", b"TA1@0-2 Qa\"b\\c@3-12 \n")?;
+    check_cuts(
+        &rt,
+        Mode::Command,
+        b"A1 \"a\\\"b\\\\c\"\r\n",
+        b"TA1@0-2 Qa\"b\\c@3-12 \n",
+    )?;
     Ok(())
 }
 
@@ -174,27 +240,77 @@ fn literals_in_any_pieces(rt: HostRuntime) -> Result<(), Fail> {
         b"A1 STORE (\"/option/~/font\" \"option.value\" {5+}\r\nhello)\r\n",
         b"TA1@0-2 WSTORE@3-8 (@9-10 Q/option/~/font@10-26 Qoption.value@27-41 Lhello@42-53 )@53-54 \n",
     )?;
-    check_cuts(&rt, Mode::Command, b"A1 X {0}\r\n {2}\r\n\r\n\r\n", b"Plus\nPlus\nTA1@0-2 WX@3-4 L@5-10 L\r\n@11-18 \n")?;
-    check_cuts(&rt, Mode::Command, b"A1 X {9+}\r\nA2 NOOP\r\n\r\n", b"TA1@0-2 WX@3-4 LA2 NOOP\r\n@5-20 \n")?;
-    check_cuts(&rt, Mode::Command, b"A1 X {1}\r\nab\r\nA2 X\r\n", b"Plus\nBadToken A1\nTA2@0-2 WX@3-4 \n")?;
+    check_cuts(
+        &rt,
+        Mode::Command,
+        b"A1 X {0}\r\n {2}\r\n\r\n\r\n",
+        b"Plus\nPlus\nTA1@0-2 WX@3-4 L@5-10 L\r\n@11-18 \n",
+    )?;
+    check_cuts(
+        &rt,
+        Mode::Command,
+        b"A1 X {9+}\r\nA2 NOOP\r\n\r\n",
+        b"TA1@0-2 WX@3-4 LA2 NOOP\r\n@5-20 \n",
+    )?;
+    check_cuts(
+        &rt,
+        Mode::Command,
+        b"A1 X {1}\r\nab\r\nA2 X\r\n",
+        b"Plus\nBadToken A1\nTA2@0-2 WX@3-4 \n",
+    )?;
     Ok(())
 }
 
 #[test]
 fn malformed_marks(rt: HostRuntime) -> Result<(), Fail> {
-    check_cuts(&rt, Mode::Command, b"A1 X {}\r\nA1 X {12345678901}\r\n", b"BadLiteral A1\nBadLiteral A1\n")?;
-    check_cuts(&rt, Mode::Command, b"A1 X {4294967296}\r\nA1 X {5-}\r\n", b"BadLiteral A1\nBadLiteral A1\n")?;
-    check_cuts(&rt, Mode::Command, b"A1 X {4294967295}\r\n", b"Fatal CommandTooLong")?;
-    check_cuts(&rt, Mode::Command, b"A1 X {262145}\r\n", b"Fatal CommandTooLong")?;
-    check_cuts(&rt, Mode::Command, b"A1 X {0000000001}\r\na\r\n", b"Plus\nTA1@0-2 WX@3-4 La@5-20 \n")?;
+    check_cuts(
+        &rt,
+        Mode::Command,
+        b"A1 X {}\r\nA1 X {12345678901}\r\n",
+        b"BadLiteral A1\nBadLiteral A1\n",
+    )?;
+    check_cuts(
+        &rt,
+        Mode::Command,
+        b"A1 X {4294967296}\r\nA1 X {5-}\r\n",
+        b"BadLiteral A1\nBadLiteral A1\n",
+    )?;
+    check_cuts(
+        &rt,
+        Mode::Command,
+        b"A1 X {4294967295}\r\n",
+        b"Fatal CommandTooLong",
+    )?;
+    check_cuts(
+        &rt,
+        Mode::Command,
+        b"A1 X {262145}\r\n",
+        b"Fatal CommandTooLong",
+    )?;
+    check_cuts(
+        &rt,
+        Mode::Command,
+        b"A1 X {0000000001}\r\na\r\n",
+        b"Plus\nTA1@0-2 WX@3-4 La@5-20 \n",
+    )?;
     Ok(())
 }
 
 #[test]
 fn answer_lines(rt: HostRuntime) -> Result<(), Fail> {
-    check_cuts(&rt, Mode::Answer, b"\"tim b913\"\r\n*\r\n", b"Qtim b913@0-10 \nW*@0-1 \n")?;
+    check_cuts(
+        &rt,
+        Mode::Answer,
+        b"\"tim b913\"\r\n*\r\n",
+        b"Qtim b913@0-10 \nW*@0-1 \n",
+    )?;
     check_cuts(&rt, Mode::Answer, b"{3}\r\na b\r\n", b"Plus\nLa b@0-8 \n")?;
-    check_cuts(&rt, Mode::Answer, b"\r\n x\r\n(\"a\"\r\n", b"\nBadToken\n(@0-1 Qa@1-4 \n")?;
+    check_cuts(
+        &rt,
+        Mode::Answer,
+        b"\r\n x\r\n(\"a\"\r\n",
+        b"\nBadToken\n(@0-1 Qa@1-4 \n",
+    )?;
     Ok(())
 }
 
@@ -236,7 +352,10 @@ fn parts_have_8192_octets_at_the_most(rt: HostRuntime) -> Result<(), Fail> {
     let alloc = rt.alloc();
     let wanted = framed(alloc, b"TA1@0-2 W", 8187, b"@3-8190 \n")?;
     for size in [1, 4096, 10000] {
-        assert!(rt; in_pieces(alloc, &framed(alloc, b"A1 ", 8187, b"\r\n")?, size)?.as_slice() == wanted.as_slice());
+        assert!(rt;
+            in_pieces(alloc, &framed(alloc, b"A1 ", 8187, b"\r\n")?, size)?.as_slice()
+                == wanted.as_slice()
+        );
         let longer = in_pieces(alloc, &framed(alloc, b"A1 ", 8188, b"\r\n")?, size)?;
         assert!(rt; longer.starts_with(b"Fatal LineTooLong"));
     }
@@ -297,19 +416,34 @@ fn another_mode_reads_the_command_again(rt: HostRuntime) -> Result<(), Fail> {
     drain(alloc, &mut lexer, Mode::Command, &mut out)?;
     let _taken = lexer.push(b"a\r\n")?;
     drain(alloc, &mut lexer, Mode::Answer, &mut out)?;
-    assert!(rt; out.as_slice() == b"Plus\nWx@0-1 La@2-8 \n".as_slice(), "{out:?}");
+    assert!(rt;
+        out.as_slice() == b"Plus\nWx@0-1 La@2-8 \n".as_slice(),
+        "{out:?}"
+    );
     Ok(())
 }
 
 #[test]
 fn a_stream_in_pieces_and_modes(rt: HostRuntime) -> Result<(), Fail> {
     let alloc = rt.alloc();
-    let pieces: [&[u8]; 4] = [b"A1 LOG", b"IN {2}\r", b"\nab\r\n\"an", b"swer\"\r\nA2 NOOP"];
-    let said = acap_lexer::answers(alloc, &[Mode::Command, Mode::Answer, Mode::Command], &pieces)?;
+    let pieces: [&[u8]; 4] = [
+        b"A1 LOG",
+        b"IN {2}\r",
+        b"\nab\r\n\"an",
+        b"swer\"\r\nA2 NOOP",
+    ];
+    let said = acap_lexer::answers(
+        alloc,
+        &[Mode::Command, Mode::Answer, Mode::Command],
+        &pieces,
+    )?;
     let mut out = Vec::new(alloc);
     for lexed in &said {
         let _more = write_answer(alloc, &mut out, lexed)?;
     }
-    assert!(rt; out.as_slice() == b"Plus\nTA1@0-2 WLOGIN@3-8 Lab@9-16 \nQanswer@0-8 \n".as_slice(), "{out:?}");
+    assert!(rt;
+        out.as_slice() == b"Plus\nTA1@0-2 WLOGIN@3-8 Lab@9-16 \nQanswer@0-8 \n".as_slice(),
+        "{out:?}"
+    );
     Ok(())
 }
