@@ -16,3 +16,4 @@ pub mod Computing
 pub mod Asking
 pub mod AskLoop
 pub mod PieceLoops
+pub mod PartBound

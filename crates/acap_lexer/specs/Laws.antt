@@ -4,9 +4,11 @@ use Rattle.acap_lexer.specs.declared.kind.Kind.TheVariants as kinds
 use Rattle.acap_lexer.specs.declared.lexed.Lexed.{Lexed}
 use Rattle.acap_lexer.specs.declared.mode.Mode.{Mode}
 use Rattle.acap_lexer.specs.Holding.{held_limit}
+use Rattle.acap_lexer.specs.Part.{part_within}
 use Rattle.acap_lexer.specs.Reading.{token_at}
 use Rattle.acap_lexer.specs.Stream.{Stage, IsItem, step_of, octets_of, progress, progress_from, progress_by}
 use Rattle.acap_lexer.specs.Printing.{may_quote, quoted}
+use Rattle.acap_lexer.specs.Token.{Token}
 
 -- An item that begins a text begins every longer text, with as many continuations before it.
 abbrev pub KeepsItems : Type 0
@@ -30,6 +32,11 @@ LeavesRoom = (mode : Mode) (text : List ℕ) → (progress mode text).item ≡ N
 abbrev pub GoesByStages : Type 0
 GoesByStages = (mode : Mode) (stage : Stage) (text : List ℕ) → octets_of stage ≤ length text →
     progress_from mode stage text ≡ progress_by (λ next. progress_from mode next text) (step_of mode stage text)
+
+-- A part is read to its end: its octets are a bound on its tokens, and a greater bound changes nothing.
+abbrev pub ReadsParts : Type 0
+ReadsParts = (most end : ℕ) (seen : List Token) (text : List ℕ) → length text ≤ most →
+    part_within most end seen text ≡ part_within (length text) end seen text
 
 -- What is printed between quotes is read back as that string, whatever follows.
 abbrev pub ReadsQuoted : Type 0

@@ -1,7 +1,7 @@
 //! Laws of the definitions.
 
 ghost use Rattle.acap_lexer.specs.Examples.{Examples};
-ghost use Rattle.acap_lexer.specs.Laws.{KeepsItems, KeepsWaits, TakesOctets, LeavesRoom, GoesByStages, ReadsQuoted};
+ghost use Rattle.acap_lexer.specs.Laws.{KeepsItems, KeepsWaits, TakesOctets, LeavesRoom, GoesByStages, ReadsParts, ReadsQuoted};
 
 /// An item that begins a text begins every longer text.
 pub fn keeps_items()
@@ -26,6 +26,11 @@ pub fn leaves_room()
 /// How far a text leads is what comes of its stages, one after the other.
 pub fn goes_by_stages()
     ensures { GoesByStages }
+{}
+
+/// A part is read to its end, whatever the bound on its tokens.
+pub fn reads_parts()
+    ensures { ReadsParts }
 {}
 
 /// What is printed between quotes is read back as that string.
