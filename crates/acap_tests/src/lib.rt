@@ -4,6 +4,8 @@
 #[cfg(test)]
 mod entries;
 #[cfg(test)]
+mod grammar;
+#[cfg(test)]
 mod lexer;
 #[cfg(test)]
 mod order;

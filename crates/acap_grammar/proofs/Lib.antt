@@ -1,0 +1,4 @@
+pub mod Places
+pub mod SeveralSteps
+pub mod Growing
+pub mod NeverMemory

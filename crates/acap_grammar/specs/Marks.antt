@@ -1,0 +1,52 @@
+-- What stands first among tokens [RFC 2244 sections 2.2 and 8].
+use Rattle.std.specs.Prelude.{ℕ, List, [], ◌∷◌, Bool, true, false, Option, Some, None, Result, Ok, Err, ◌&&◌, if◌then◌else◌}
+use Rattle.std.specs.Str.{str_eq_ignore_ascii_case}
+use Rattle.acap_lexer.specs.declared.kind.Kind.{Kind}
+use Rattle.acap_lexer.specs.declared.kind.Kind.TheVariants as kind
+use Rattle.acap_lexer.specs.Token.{Token}
+use Rattle.acap_grammar.specs.declared.grammar_fault.GrammarFault.{GrammarFault}
+use Rattle.acap_grammar.specs.declared.grammar_fault.GrammarFault.TheVariants as fault
+use Rattle.acap_grammar.specs.Outcome.{Read}
+
+-- a string is sent quoted or as a literal
+abbrev pub is_string : Kind → Bool
+is_string kind.Quoted = true
+is_string kind.Literal = true
+is_string _ = false
+
+abbrev pub is_word : Kind → Bool
+is_word kind.Word = true
+is_word _ = false
+
+abbrev pub is_open : Kind → Bool
+is_open kind.Open = true
+is_open _ = false
+
+abbrev pub is_close : Kind → Bool
+is_close kind.Close = true
+is_close _ = false
+
+-- whether no token is left
+unfoldable pub ends : List Token → Bool
+ends [] = true
+ends (t ∷ rest) = false
+
+-- whether a token of that kind stands first
+unfoldable pub starts : (Kind → Bool) → List Token → Bool
+starts is [] = false
+starts is (t ∷ rest) = is t.kind
+
+-- the tokens behind one of that kind
+unfoldable pub behind : (Kind → Bool) → List Token → Result (List Token) GrammarFault
+behind is [] = Err fault.Arguments
+behind is (t ∷ rest) = if is t.kind then Ok rest else Err fault.Arguments
+
+-- the string that stands first
+unfoldable pub string_at : List Token → Read (List ℕ)
+string_at [] = Err fault.Arguments
+string_at (t ∷ rest) = if is_string t.kind then Ok (t.value, rest) else Err fault.Arguments
+
+-- the tokens behind that word, read in any case, if it stands first
+unfoldable pub behind_word : List ℕ → List Token → Option (List Token)
+behind_word word [] = None
+behind_word word (t ∷ rest) = if is_word t.kind && str_eq_ignore_ascii_case t.value word then Some rest else None

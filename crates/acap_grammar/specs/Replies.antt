@@ -1,0 +1,117 @@
+-- The printed form of a reply [RFC 2244 sections 2.2, 3.6, 6.1, 6.2, 6.4 and 8].
+use Rattle.std.specs.Prelude.{ℕ, ℤ, List, [], ◌∷◌, ◌++◌, codes, flat_map, Option, Some, None}
+use Rattle.acap_lexer.specs.Printing.{printed}
+use Rattle.acap_entries.specs.Stamp.{stamp_of}
+use Rattle.acap_entries.specs.declared.cell.Cell.{Cell}
+use Rattle.acap_entries.specs.declared.cell.Cell.TheVariants as cell
+use Rattle.acap_entries.specs.declared.item.Item.{Item}
+use Rattle.acap_entries.specs.declared.item.Item.TheVariants as item
+use Rattle.acap_entries.specs.declared.row.Row.{Row}
+use Rattle.acap_grammar.specs.declared.found.Found.{Found}
+use Rattle.acap_grammar.specs.declared.refusal.Refusal.{Refusal}
+use Rattle.acap_grammar.specs.declared.reply.Reply.{Reply}
+use Rattle.acap_grammar.specs.declared.said.Said.{Said}
+use Rattle.acap_grammar.specs.declared.said.Said.TheVariants as said
+use Rattle.acap_grammar.specs.declared.status.Status.{Status}
+use Rattle.acap_grammar.specs.declared.status.Status.TheVariants as status
+use Rattle.acap_grammar.specs.declared.verb.Verb.{Verb}
+use Rattle.acap_grammar.specs.declared.verb.Verb.TheVariants as verb
+use Rattle.acap_grammar.specs.Refusals.{status_of, code_of, text_of}
+
+-- where a line ends
+abbrev pub crlf : List ℕ
+crlf = 13 ∷ 10 ∷ []
+
+-- each of a list behind a space
+abbrev pub spaced : {A : Type 0} → (A → List ℕ) → List A → List ℕ
+spaced form xs = flat_map (λ x. 32 ∷ form x) xs
+
+-- a list in a parenthesis, with one space between two
+abbrev pub joined : {A : Type 0} → (A → List ℕ) → List A → List ℕ
+joined form [] = []
+joined form (x ∷ xs) = form x ++ spaced form xs
+
+unfoldable pub list_form : {A : Type 0} → (A → List ℕ) → List A → List ℕ
+list_form form xs = codes "(" ++ joined form xs ++ codes ")"
+
+-- a datum: NIL, a string, or a list of strings
+unfoldable pub cell_form : Cell → List ℕ
+cell_form cell.Nil = codes "NIL"
+cell_form (cell.Single value) = printed value
+cell_form (cell.Multi values) = list_form printed values
+
+-- one datum bare, several in one parenthesis, and for a name with `*` a parenthesis of parentheses
+unfoldable pub item_form : Item → List ℕ
+item_form (item.One one) = cell_form one
+item_form (item.Several cells) = list_form cell_form cells
+item_form (item.PerAttribute lists) = list_form (list_form cell_form) lists
+
+-- a row of a search: tag `ENTRY` name data*
+unfoldable pub row_form : List ℕ → Row → List ℕ
+row_form tag row = tag ++ codes " ENTRY " ++ printed row.name ++ spaced item_form row.items ++ crlf
+
+abbrev pub rows_form : List ℕ → List Row → List ℕ
+rows_form tag rows = flat_map (row_form tag) rows
+
+-- the moment that a search tells: tag `MODTIME` stamp
+unfoldable pub last_form : List ℕ → Option ℤ → List ℕ
+last_form tag None = []
+last_form tag (Some moment) = tag ++ codes " MODTIME " ++ printed (stamp_of moment) ++ crlf
+
+-- the text of an OK: the verb in capitals and ` done`
+abbrev pub done_of : Verb → List ℕ
+done_of verb.Noop = codes "NOOP done"
+done_of verb.Logout = codes "LOGOUT done"
+done_of verb.Authenticate = codes "AUTHENTICATE done"
+done_of verb.Search = codes "SEARCH done"
+done_of verb.FreeContext = codes "FREECONTEXT done"
+done_of verb.UpdateContext = codes "UPDATECONTEXT done"
+done_of verb.Store = codes "STORE done"
+done_of verb.DeletedSince = codes "DELETEDSINCE done"
+done_of verb.SetAcl = codes "SETACL done"
+done_of verb.DeleteAcl = codes "DELETEACL done"
+done_of verb.MyRights = codes "MYRIGHTS done"
+done_of verb.ListRights = codes "LISTRIGHTS done"
+
+-- the completion of a command: tag `OK` text
+unfoldable pub done_form : List ℕ → Verb → List ℕ
+done_form tag verb = tag ++ codes " OK " ++ printed (done_of verb) ++ crlf
+
+-- a refusal: NO or BAD under the tag, BYE under none
+abbrev pub status_form : Status → List ℕ → List ℕ
+status_form status.No tag = tag ++ codes " NO "
+status_form status.Bad tag = tag ++ codes " BAD "
+status_form status.Bye tag = codes "* BYE "
+
+unfoldable pub refused_form : List ℕ → Refusal → List ℕ
+refused_form tag refusal = status_form (status_of refusal) tag ++ code_of refusal ++ printed (text_of refusal) ++ crlf
+
+abbrev pub greeting : List ℕ
+greeting = codes "* ACAP (IMPLEMENTATION \"acapd\") (SASL \"CRAM-MD5\") (CONTEXTLIMIT \"200\")" ++ crlf
+
+-- the end of a search: its rows, the moment that it tells, and its completion
+unfoldable pub found_form : List ℕ → Found → List ℕ
+found_form tag found = rows_form tag found.rows ++ last_form tag found.last ++ done_form tag verb.Search
+
+-- the end of a session: BYE under no tag, and then the completion
+unfoldable pub good_bye_form : List ℕ → List ℕ
+good_bye_form tag = codes "* BYE " ++ printed (codes "Good bye") ++ crlf ++ done_form tag verb.Logout
+
+-- what is said, under a tag
+unfoldable pub said_form : List ℕ → Said → List ℕ
+said_form tag said.Greeting = greeting
+said_form tag said.Left = []
+said_form tag said.Drained = []
+said_form tag (said.Done verb) = done_form tag verb
+said_form tag (said.Found found) = found_form tag found
+said_form tag said.GoodBye = good_bye_form tag
+said_form tag (said.Refused refusal) = refused_form tag refusal
+
+-- without a tag a `*` stands in its place
+abbrev pub tag_of : Option (List ℕ) → List ℕ
+tag_of None = codes "*"
+tag_of (Some tag) = tag
+
+-- The octets of a reply.
+unfoldable pub octets_of : Reply → List ℕ
+octets_of reply = said_form (tag_of reply.tag) reply.said

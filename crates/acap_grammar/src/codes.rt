@@ -1,0 +1,118 @@
+//! The codes of refusals, as octets (RFC 2244 section 3.6).
+
+ghost use Rattle.std.specs.Prelude.{◌≡◌, ◌++◌, ◌∷◌, OnOk, codes};
+ghost use Rattle.acap_lexer.specs.Printing.{printed, Grows};
+ghost use Rattle.acap_grammar.specs.Refusals.{object_end, object_form, path_form, code_of};
+
+use crate::object::Object;
+use crate::refusal::Refusal;
+use crate::strings::{append_path, append_string};
+use acap_entries::{Attribute, Dataset, EntryName, Memory, Path};
+
+fn append_argument(text: &[u8], out: &mut Vec<u8>) -> Result<(), Memory>
+    ensures ok { OnOk result (out.new.items ≡ out.old.items ++ 32 ∷ printed text.now) }
+    ensures grows { Grows out.old.items out.new.items }
+{
+    out.push(b' ')?;
+    append_string(text, out)?;
+    Ok(())
+}
+
+fn append_object_end(
+    attribute: &Option<Attribute>,
+    name: &Option<EntryName>,
+    out: &mut Vec<u8>,
+) -> Result<(), Memory>
+    ensures ok { OnOk result (out.new.items ≡ out.old.items ++ object_end attribute.now name.now) }
+    ensures grows { Grows out.old.items out.new.items }
+{
+    let Some(attribute) = attribute else {
+        return Ok(());
+    };
+    append_argument(attribute.as_slice(), out)?;
+    let Some(name) = name else {
+        return Ok(());
+    };
+    append_argument(name.as_slice(), out)
+}
+
+#[tactic(auto, unfolding(crate::specs::Refusals::object_form))]
+fn append_object(object: &Object, out: &mut Vec<u8>) -> Result<(), Memory>
+    ensures ok { OnOk result (out.new.items ≡ out.old.items ++ object_form object.now) }
+    ensures grows { Grows out.old.items out.new.items }
+{
+    out.push(b'(')?;
+    append_string(object.dataset.as_slice(), out)?;
+    append_object_end(&object.attribute, &object.name, out)?;
+    out.push(b')')?;
+    Ok(())
+}
+
+fn append_permission(object: &Object, out: &mut Vec<u8>) -> Result<(), Memory>
+    ensures ok { OnOk result (out.new.items ≡ out.old.items ++ codes "(PERMISSION " ++ object_form object.now ++ codes ") ") }
+    ensures grows { Grows out.old.items out.new.items }
+{
+    out.extend_from_slice(b"(PERMISSION ")?;
+    append_object(object, out)?;
+    out.extend_from_slice(b") ")?;
+    Ok(())
+}
+
+fn append_no_exist(dataset: &Dataset, out: &mut Vec<u8>) -> Result<(), Memory>
+    ensures ok { OnOk result (out.new.items ≡ out.old.items ++ codes "(NOEXIST " ++ printed dataset.now ++ codes ") ") }
+    ensures grows { Grows out.old.items out.new.items }
+{
+    out.extend_from_slice(b"(NOEXIST ")?;
+    append_string(dataset.as_slice(), out)?;
+    out.extend_from_slice(b") ")?;
+    Ok(())
+}
+
+fn append_modified(path: &Path, out: &mut Vec<u8>) -> Result<(), Memory>
+    ensures ok { OnOk result (out.new.items ≡ out.old.items ++ codes "(MODIFIED " ++ path_form path.now ++ codes ") ") }
+    ensures grows { Grows out.old.items out.new.items }
+{
+    out.extend_from_slice(b"(MODIFIED ")?;
+    append_path(path, out)?;
+    out.extend_from_slice(b") ")?;
+    Ok(())
+}
+
+fn append_invalid(path: &Path, attribute: &Attribute, out: &mut Vec<u8>) -> Result<(), Memory>
+    ensures ok { OnOk result (out.new.items ≡ out.old.items ++ codes "(INVALID (" ++ path_form path.now ++ codes " " ++ printed attribute.now ++ codes ")) ") }
+    ensures grows { Grows out.old.items out.new.items }
+{
+    out.extend_from_slice(b"(INVALID (")?;
+    append_path(path, out)?;
+    out.push(b' ')?;
+    append_string(attribute.as_slice(), out)?;
+    out.extend_from_slice(b")) ")?;
+    Ok(())
+}
+
+fn append_word(word: &[u8], out: &mut Vec<u8>) -> Result<(), Memory>
+    ensures ok { OnOk result (out.new.items ≡ out.old.items ++ word.now) }
+    ensures grows { Grows out.old.items out.new.items }
+{
+    out.extend_from_slice(word)?;
+    Ok(())
+}
+
+/// The code of a refusal and the space behind it, where it has one.
+#[tactic(auto, unfolding(crate::specs::Refusals::code_of))]
+pub(crate) fn append_code(refusal: &Refusal, out: &mut Vec<u8>) -> Result<(), Memory>
+    ensures ok { OnOk result (out.new.items ≡ out.old.items ++ code_of refusal.now) }
+    ensures grows { Grows out.old.items out.new.items }
+{
+    match refusal {
+        Refusal::Permission(object) => append_permission(object, out),
+        Refusal::NoExist(dataset) => append_no_exist(dataset, out),
+        Refusal::Modified(path) => append_modified(path, out),
+        Refusal::Invalid(path, attribute) => append_invalid(path, attribute, out),
+        Refusal::TooOld => append_word(b"(TOOOLD) ", out),
+        Refusal::WayTooMany => append_word(b"(WAYTOOMANY) ", out),
+        Refusal::TryFreeContext => append_word(b"(TRYFREECONTEXT) ", out),
+        Refusal::Memory | Refusal::HistoryFull => append_word(b"(TRYLATER) ", out),
+        _ => append_word(b"", out),
+    }
+}

@@ -1,0 +1,97 @@
+//! The data of a row, as octets (RFC 2244 section 6.4.1).
+
+ghost use Rattle.std.specs.Prelude.{◌≡◌, ◌++◌, OnOk};
+ghost use Rattle.acap_lexer.specs.Printing.{Grows};
+ghost use Rattle.acap_grammar.specs.Replies.{spaced, list_form, cell_form, item_form};
+
+use crate::strings::{append_string, append_values};
+use acap_entries::{Cell, CellList, Item, Memory};
+
+#[tactic(auto, unfolding(crate::specs::Replies::cell_form))]
+fn append_cell(cell: &Cell, out: &mut Vec<u8>) -> Result<(), Memory>
+    ensures ok { OnOk result (out.new.items ≡ out.old.items ++ cell_form cell.now) }
+    ensures grows { Grows out.old.items out.new.items }
+{
+    match cell {
+        Cell::Nil => {
+            out.extend_from_slice(b"NIL")?;
+            Ok(())
+        }
+        Cell::Single(value) => append_string(value.as_slice(), out),
+        Cell::Multi(values) => append_values(values.as_slice(), out),
+    }
+}
+
+fn append_spaced_cells(cells: &[Cell], out: &mut Vec<u8>) -> Result<(), Memory>
+    ensures ok { OnOk result (out.new.items ≡ out.old.items ++ spaced cell_form cells.now) }
+    ensures grows { Grows out.old.items out.new.items }
+{
+    for cell in cells {
+        out.push(b' ')?;
+        append_cell(cell, out)?;
+    }
+    Ok(())
+}
+
+#[tactic(auto, unfolding(crate::specs::Replies::list_form))]
+fn append_cells(cells: &[Cell], out: &mut Vec<u8>) -> Result<(), Memory>
+    ensures ok { OnOk result (out.new.items ≡ out.old.items ++ list_form cell_form cells.now) }
+    ensures grows { Grows out.old.items out.new.items }
+{
+    out.push(b'(')?;
+    if let Some((first, others)) = cells.split_first() {
+        append_cell(first, out)?;
+        append_spaced_cells(others, out)?;
+    }
+    out.push(b')')?;
+    Ok(())
+}
+
+fn append_spaced_lists(lists: &[CellList], out: &mut Vec<u8>) -> Result<(), Memory>
+    ensures ok { OnOk result (out.new.items ≡ out.old.items ++ spaced (list_form cell_form) lists.now) }
+    ensures grows { Grows out.old.items out.new.items }
+{
+    for list in lists {
+        out.push(b' ')?;
+        append_cells(list.as_slice(), out)?;
+    }
+    Ok(())
+}
+
+#[tactic(auto, unfolding(crate::specs::Replies::list_form))]
+fn append_lists(lists: &[CellList], out: &mut Vec<u8>) -> Result<(), Memory>
+    ensures ok { OnOk result (out.new.items ≡ out.old.items ++ list_form (list_form cell_form) lists.now) }
+    ensures grows { Grows out.old.items out.new.items }
+{
+    out.push(b'(')?;
+    if let Some((first, others)) = lists.split_first() {
+        append_cells(first.as_slice(), out)?;
+        append_spaced_lists(others, out)?;
+    }
+    out.push(b')')?;
+    Ok(())
+}
+
+#[tactic(auto, unfolding(crate::specs::Replies::item_form))]
+fn append_item(item: &Item, out: &mut Vec<u8>) -> Result<(), Memory>
+    ensures ok { OnOk result (out.new.items ≡ out.old.items ++ item_form item.now) }
+    ensures grows { Grows out.old.items out.new.items }
+{
+    match item {
+        Item::One(cell) => append_cell(cell, out),
+        Item::Several(cells) => append_cells(cells.as_slice(), out),
+        Item::PerAttribute(lists) => append_lists(lists.as_slice(), out),
+    }
+}
+
+/// Each item behind a space.
+pub(crate) fn append_items(items: &[Item], out: &mut Vec<u8>) -> Result<(), Memory>
+    ensures ok { OnOk result (out.new.items ≡ out.old.items ++ spaced item_form items.now) }
+    ensures grows { Grows out.old.items out.new.items }
+{
+    for item in items {
+        out.push(b' ')?;
+        append_item(item, out)?;
+    }
+    Ok(())
+}

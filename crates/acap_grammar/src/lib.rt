@@ -1,0 +1,54 @@
+//! Commands from tokens, and replies to octets (RFC 2244 sections 2.2, 6 and 8).
+#![tactic(auto)]
+
+pub mod attributes;
+mod codes;
+pub mod command;
+mod data;
+mod descent;
+pub mod entries;
+pub mod found;
+pub mod given;
+pub mod grammar_fault;
+pub mod key;
+pub mod laws;
+mod naming;
+pub mod object;
+mod parsing;
+pub mod refusal;
+mod refusing;
+mod rendering;
+pub mod reply;
+pub mod rows;
+pub mod said;
+pub mod search;
+mod searching;
+pub mod status;
+pub mod store_entry;
+pub mod store_item;
+pub mod store_items;
+mod storing;
+mod strings;
+pub mod verb;
+
+pub use acap_entries::{Copying, Memory};
+pub use attributes::Attributes;
+pub use command::Command;
+pub use entries::Entries;
+pub use found::Found;
+pub use given::Given;
+pub use grammar_fault::GrammarFault;
+pub use key::Key;
+pub use object::Object;
+pub use parsing::parse;
+pub use refusal::Refusal;
+pub use rendering::render;
+pub use reply::Reply;
+pub use rows::Rows;
+pub use said::Said;
+pub use search::Search;
+pub use status::Status;
+pub use store_entry::StoreEntry;
+pub use store_item::StoreItem;
+pub use store_items::StoreItems;
+pub use verb::Verb;

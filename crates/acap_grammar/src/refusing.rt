@@ -1,0 +1,114 @@
+//! How refusals are told, and which faults they are.
+
+ghost use Rattle.std.specs.Prelude.{◌≡◌};
+ghost use Rattle.acap_grammar.specs.Refusals.{of_lexical, of_grammar, status_of, text_of};
+
+use crate::grammar_fault::GrammarFault;
+use crate::refusal::Refusal;
+use crate::status::Status;
+use acap_lexer::LexFault;
+
+impl From<LexFault> for Refusal {
+    ghost from_gives = { λ fault refusal. refusal ≡ of_lexical fault };
+
+    fn from(fault: LexFault) -> Refusal {
+        match fault {
+            LexFault::BadTag => Refusal::BadTag,
+            LexFault::BadToken => Refusal::BadToken,
+            LexFault::BadLiteral => Refusal::BadLiteral,
+            LexFault::CommandTooLong => Refusal::CommandTooLong,
+            LexFault::LineTooLong => Refusal::LineTooLong,
+        }
+    }
+}
+
+impl From<GrammarFault> for Refusal {
+    ghost from_gives = { λ fault refusal. refusal ≡ of_grammar fault };
+
+    fn from(fault: GrammarFault) -> Refusal {
+        match fault {
+            GrammarFault::UnknownCommand => Refusal::UnknownCommand,
+            GrammarFault::Arguments => Refusal::Arguments,
+            GrammarFault::NotPermittedTwice => Refusal::NotPermittedTwice,
+            GrammarFault::BadName => Refusal::BadName,
+            GrammarFault::BadTime => Refusal::BadTime,
+            GrammarFault::BadComparator => Refusal::BadComparator,
+            GrammarFault::TooDeep => Refusal::TooDeep,
+            GrammarFault::TooMany => Refusal::TooMany,
+            GrammarFault::Memory => Refusal::Memory,
+        }
+    }
+}
+
+impl Refusal {
+    /// Whether it is told as NO, BAD or BYE (RFC 2244 section 6.2). A session that says BYE is closed.
+    pub fn status(&self) -> Status
+        ensures { result ≡ status_of self.now }
+    {
+        match self {
+            Refusal::CommandTooLong | Refusal::LineTooLong | Refusal::TooManySessions => {
+                Status::Bye
+            }
+            Refusal::BadTag
+            | Refusal::BadToken
+            | Refusal::BadLiteral
+            | Refusal::UnknownCommand
+            | Refusal::Arguments
+            | Refusal::NotPermittedTwice
+            | Refusal::BadName
+            | Refusal::BadTime
+            | Refusal::BadComparator
+            | Refusal::TooDeep
+            | Refusal::TooMany
+            | Refusal::NotLoggedIn
+            | Refusal::LoggedIn
+            | Refusal::Cancelled
+            | Refusal::RangeHere
+            | Refusal::Unserved => Status::Bad,
+            _ => Status::No,
+        }
+    }
+}
+
+/// The text of a refusal.
+pub(crate) fn text_of(refusal: &Refusal) -> &'static [u8]
+    ensures { result.now ≡ text_of refusal.now }
+{
+    match refusal {
+        Refusal::BadTag => b"Bad tag",
+        Refusal::BadToken => b"Bad token",
+        Refusal::BadLiteral => b"Bad literal",
+        Refusal::CommandTooLong => b"Command too long",
+        Refusal::LineTooLong => b"Line too long",
+        Refusal::UnknownCommand => b"Unknown command",
+        Refusal::Arguments => b"Bad arguments",
+        Refusal::NotPermittedTwice => b"Not permitted twice",
+        Refusal::BadName => b"Bad name",
+        Refusal::BadTime => b"Bad time",
+        Refusal::BadComparator => b"Bad comparator",
+        Refusal::TooDeep => b"Too deep",
+        Refusal::TooMany => b"Too many",
+        Refusal::NotLoggedIn => b"Log in first",
+        Refusal::LoggedIn => b"Already logged in",
+        Refusal::Cancelled => b"Login cancelled",
+        Refusal::NoMechanism => b"Mechanism not offered",
+        Refusal::LoginFailed => b"Login failed",
+        Refusal::Permission(_) => b"Permission denied",
+        Refusal::NoExist(_) => b"No such dataset",
+        Refusal::Modified(_) => b"Entry was changed",
+        Refusal::Invalid(..) => b"Invalid value",
+        Refusal::Limit => b"Limit reached",
+        Refusal::ClockEnd => b"Clock at its end",
+        Refusal::RangeHere => b"RANGE needs an enumerated context",
+        Refusal::TooOld => b"Time too old",
+        Refusal::WayTooMany => b"Too many matches",
+        Refusal::TryFreeContext => b"Too many contexts",
+        Refusal::NoContext => b"No such context",
+        Refusal::FreedContext => b"Context was freed",
+        Refusal::NotNotify => b"Context has no NOTIFY",
+        Refusal::Memory => b"No memory",
+        Refusal::HistoryFull => b"History is full",
+        Refusal::TooManySessions => b"Too many sessions",
+        Refusal::Unserved => b"Not served yet",
+    }
+}

@@ -1,0 +1,187 @@
+//! Replies as octets.
+
+ghost use Rattle.std.specs.Prelude.{◌≡◌, ◌++◌, OnOk, OnErr};
+ghost use Rattle.acap_lexer.specs.Printing.{Grows};
+ghost use Rattle.acap_grammar.specs.Replies.{row_form, rows_form, last_form, done_of, done_form, status_form, refused_form, greeting, found_form, good_bye_form, said_form, tag_of, octets_of};
+
+use crate::codes::append_code;
+use crate::data::append_items;
+use crate::found::Found;
+use crate::refusal::Refusal;
+use crate::refusing::text_of;
+use crate::reply::Reply;
+use crate::said::Said;
+use crate::status::Status;
+use crate::strings::append_string;
+use crate::verb::Verb;
+use acap_entries::stamp::stamp;
+use acap_entries::{Memory, Moment, Octets, Row};
+
+#[tactic(auto, unfolding(crate::specs::Replies::row_form))]
+fn append_row(tag: &[u8], row: &Row, out: &mut Vec<u8>) -> Result<(), Memory>
+    ensures ok { OnOk result (out.new.items ≡ out.old.items ++ row_form tag.now row.now) }
+    ensures grows { Grows out.old.items out.new.items }
+{
+    out.extend_from_slice(tag)?;
+    out.extend_from_slice(b" ENTRY ")?;
+    append_string(row.name.as_slice(), out)?;
+    append_items(row.items.as_slice(), out)?;
+    out.extend_from_slice(b"\r\n")?;
+    Ok(())
+}
+
+fn append_rows(tag: &[u8], rows: &[Row], out: &mut Vec<u8>) -> Result<(), Memory>
+    ensures ok { OnOk result (out.new.items ≡ out.old.items ++ rows_form tag.now rows.now) }
+    ensures grows { Grows out.old.items out.new.items }
+{
+    for row in rows {
+        append_row(tag, row, out)?;
+    }
+    Ok(())
+}
+
+#[tactic(auto, unfolding(crate::specs::Replies::last_form))]
+fn append_last(tag: &[u8], last: Option<Moment>, out: &mut Vec<u8>) -> Result<(), Memory>
+    ensures ok { OnOk result (out.new.items ≡ out.old.items ++ last_form tag.now last) }
+    ensures grows { Grows out.old.items out.new.items }
+{
+    let Some(moment) = last else {
+        return Ok(());
+    };
+    out.extend_from_slice(tag)?;
+    out.extend_from_slice(b" MODTIME ")?;
+    append_string(&stamp(moment), out)?;
+    out.extend_from_slice(b"\r\n")?;
+    Ok(())
+}
+
+fn done_of(verb: Verb) -> &'static [u8]
+    ensures { result.now ≡ done_of verb }
+{
+    match verb {
+        Verb::Noop => b"NOOP done",
+        Verb::Logout => b"LOGOUT done",
+        Verb::Authenticate => b"AUTHENTICATE done",
+        Verb::Search => b"SEARCH done",
+        Verb::FreeContext => b"FREECONTEXT done",
+        Verb::UpdateContext => b"UPDATECONTEXT done",
+        Verb::Store => b"STORE done",
+        Verb::DeletedSince => b"DELETEDSINCE done",
+        Verb::SetAcl => b"SETACL done",
+        Verb::DeleteAcl => b"DELETEACL done",
+        Verb::MyRights => b"MYRIGHTS done",
+        Verb::ListRights => b"LISTRIGHTS done",
+    }
+}
+
+#[tactic(auto, unfolding(crate::specs::Replies::done_form))]
+fn append_done(tag: &[u8], verb: Verb, out: &mut Vec<u8>) -> Result<(), Memory>
+    ensures ok { OnOk result (out.new.items ≡ out.old.items ++ done_form tag.now verb) }
+    ensures grows { Grows out.old.items out.new.items }
+{
+    out.extend_from_slice(tag)?;
+    out.extend_from_slice(b" OK ")?;
+    append_string(done_of(verb), out)?;
+    out.extend_from_slice(b"\r\n")?;
+    Ok(())
+}
+
+fn append_status(status: Status, tag: &[u8], out: &mut Vec<u8>) -> Result<(), Memory>
+    ensures ok { OnOk result (out.new.items ≡ out.old.items ++ status_form status tag.now) }
+    ensures grows { Grows out.old.items out.new.items }
+{
+    match status {
+        Status::No => {
+            out.extend_from_slice(tag)?;
+            out.extend_from_slice(b" NO ")?;
+        }
+        Status::Bad => {
+            out.extend_from_slice(tag)?;
+            out.extend_from_slice(b" BAD ")?;
+        }
+        Status::Bye => out.extend_from_slice(b"* BYE ")?,
+    }
+    Ok(())
+}
+
+#[tactic(auto, unfolding(crate::specs::Replies::refused_form))]
+fn append_refused(tag: &[u8], refusal: &Refusal, out: &mut Vec<u8>) -> Result<(), Memory>
+    ensures ok { OnOk result (out.new.items ≡ out.old.items ++ refused_form tag.now refusal.now) }
+    ensures grows { Grows out.old.items out.new.items }
+{
+    append_status(refusal.status(), tag, out)?;
+    append_code(refusal, out)?;
+    append_string(text_of(refusal), out)?;
+    out.extend_from_slice(b"\r\n")?;
+    Ok(())
+}
+
+fn append_greeting(out: &mut Vec<u8>) -> Result<(), Memory>
+    ensures ok { OnOk result (out.new.items ≡ out.old.items ++ greeting) }
+    ensures grows { Grows out.old.items out.new.items }
+{
+    out.extend_from_slice(
+        b"* ACAP (IMPLEMENTATION \"acapd\") (SASL \"CRAM-MD5\") (CONTEXTLIMIT \"200\")\r\n",
+    )?;
+    Ok(())
+}
+
+#[tactic(auto, unfolding(crate::specs::Replies::found_form))]
+fn append_found(tag: &[u8], found: &Found, out: &mut Vec<u8>) -> Result<(), Memory>
+    ensures ok { OnOk result (out.new.items ≡ out.old.items ++ found_form tag.now found.now) }
+    ensures grows { Grows out.old.items out.new.items }
+{
+    append_rows(tag, found.rows.as_slice(), out)?;
+    append_last(tag, found.last, out)?;
+    append_done(tag, Verb::Search, out)
+}
+
+#[tactic(auto, unfolding(crate::specs::Replies::good_bye_form))]
+fn append_good_bye(tag: &[u8], out: &mut Vec<u8>) -> Result<(), Memory>
+    ensures ok { OnOk result (out.new.items ≡ out.old.items ++ good_bye_form tag.now) }
+    ensures grows { Grows out.old.items out.new.items }
+{
+    out.extend_from_slice(b"* BYE ")?;
+    append_string(b"Good bye", out)?;
+    out.extend_from_slice(b"\r\n")?;
+    append_done(tag, Verb::Logout, out)
+}
+
+#[tactic(auto, unfolding(crate::specs::Replies::said_form))]
+fn append_said(tag: &[u8], said: &Said, out: &mut Vec<u8>) -> Result<(), Memory>
+    ensures ok { OnOk result (out.new.items ≡ out.old.items ++ said_form tag.now said.now) }
+    ensures grows { Grows out.old.items out.new.items }
+{
+    match said {
+        Said::Greeting => append_greeting(out),
+        Said::Left | Said::Drained => Ok(()),
+        Said::Done(verb) => append_done(tag, *verb, out),
+        Said::Found(found) => append_found(tag, found, out),
+        Said::GoodBye => append_good_bye(tag, out),
+        Said::Refused(refusal) => append_refused(tag, refusal, out),
+    }
+}
+
+fn tag_of(tag: &Option<Octets>) -> &[u8]
+    ensures { result.now ≡ tag_of tag.now }
+{
+    match tag {
+        Some(tag) => tag.as_slice(),
+        None => b"*",
+    }
+}
+
+/// Appends the printed form of a reply (RFC 2244 sections 2.2 and 6.2): the whole of it, or nothing where memory
+/// was refused.
+#[tactic(auto, unfolding(crate::specs::Replies::octets_of))]
+pub fn render(reply: &Reply, out: &mut Vec<u8>) -> Result<(), Memory>
+    ensures ok { OnOk result (out.new.items ≡ out.old.items ++ octets_of reply.now) }
+    ensures err { OnErr result (out.new.items ≡ out.old.items) }
+{
+    let len = out.len();
+    let done = append_said(tag_of(&reply.tag), &reply.said, out);
+    if done.is_err() {
+        out.truncate(len);
+    }
+    done
+}

@@ -1,0 +1,32 @@
+use crate::said::Said;
+use acap_entries::Octets;
+
+/// A reply: what is said, and the tag of the command that it answers (RFC 2244 section 6.2).
+#[derive(Debug, Drop)]
+pub struct Reply {
+    /// The tag under which it is printed; without one a `*` stands in its place.
+    pub tag: Option<Octets>,
+    /// What is said.
+    pub said: Said,
+}
+
+impl Reply {
+    ghost use Rattle.std.specs.Prelude.{◌≡◌, None, Some};
+
+    /// A reply without a tag.
+    pub fn new(said: Said) -> Reply
+        ensures { result ≡ record { tag = None; said = said } }
+    {
+        Reply { tag: None, said }
+    }
+
+    /// The same said under a tag.
+    pub fn under(self, tag: Octets) -> Reply
+        ensures { result ≡ record self { tag = Some tag } }
+    {
+        Reply {
+            tag: Some(tag),
+            said: self.said,
+        }
+    }
+}

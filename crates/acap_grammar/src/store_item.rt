@@ -1,0 +1,19 @@
+use crate::given::Given;
+use acap_entries::{Attribute, Copying, Memory};
+
+/// What a STORE gives to one attribute of an entry (RFC 2244 section 6.6.1).
+#[derive(Debug, Drop)]
+pub struct StoreItem {
+    /// The attribute.
+    pub attribute: Attribute,
+    /// What it is given.
+    pub given: Given,
+}
+
+impl Copying for StoreItem {
+    fn copy(&self) -> Result<StoreItem, Memory> {
+        let attribute = self.attribute.copy()?;
+        let given = self.given.copy()?;
+        Ok(StoreItem { attribute, given })
+    }
+}

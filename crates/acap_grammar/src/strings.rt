@@ -1,0 +1,55 @@
+//! Strings and lists of strings, as octets.
+
+ghost use Rattle.std.specs.Prelude.{◌≡◌, ◌++◌, OnOk};
+ghost use Rattle.acap_lexer.specs.Printing.{printed, Grows};
+ghost use Rattle.acap_grammar.specs.Replies.{spaced, list_form};
+ghost use Rattle.acap_grammar.specs.Refusals.{path_form};
+
+use acap_entries::{Memory, Path, Value};
+use acap_lexer::print_string;
+
+pub(crate) fn append_string(text: &[u8], out: &mut Vec<u8>) -> Result<(), Memory>
+    ensures ok { OnOk result (out.new.items ≡ out.old.items ++ printed text.now) }
+    ensures grows { Grows out.old.items out.new.items }
+{
+    match print_string(text, out) {
+        Ok(()) => Ok(()),
+        Err(_) => Err(Memory),
+    }
+}
+
+/// Each behind a space.
+fn append_spaced(values: &[Value], out: &mut Vec<u8>) -> Result<(), Memory>
+    ensures ok { OnOk result (out.new.items ≡ out.old.items ++ spaced printed values.now) }
+    ensures grows { Grows out.old.items out.new.items }
+{
+    for value in values {
+        out.push(b' ')?;
+        append_string(value.as_slice(), out)?;
+    }
+    Ok(())
+}
+
+#[tactic(auto, unfolding(crate::specs::Replies::list_form))]
+pub(crate) fn append_values(values: &[Value], out: &mut Vec<u8>) -> Result<(), Memory>
+    ensures ok { OnOk result (out.new.items ≡ out.old.items ++ list_form printed values.now) }
+    ensures grows { Grows out.old.items out.new.items }
+{
+    out.push(b'(')?;
+    if let Some((first, others)) = values.split_first() {
+        append_string(first.as_slice(), out)?;
+        append_spaced(others, out)?;
+    }
+    out.push(b')')?;
+    Ok(())
+}
+
+#[tactic(auto, unfolding(crate::specs::Refusals::path_form))]
+pub(crate) fn append_path(path: &Path, out: &mut Vec<u8>) -> Result<(), Memory>
+    ensures ok { OnOk result (out.new.items ≡ out.old.items ++ path_form path.now) }
+    ensures grows { Grows out.old.items out.new.items }
+{
+    let mut whole = Vec::from_slice(*out.allocator(), path.dataset.as_slice())?;
+    whole.extend_from_slice(path.name.as_slice())?;
+    append_string(&whole, out)
+}
