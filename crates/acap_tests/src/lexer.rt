@@ -447,3 +447,39 @@ fn a_stream_in_pieces_and_modes(rt: HostRuntime) -> Result<(), Fail> {
     );
     Ok(())
 }
+
+/// Gives the lexer a piece, and gives it again where memory was refused.
+fn push_again(lexer: &mut Lexer, piece: &[u8]) -> Result<usize, Memory> {
+    match lexer.push(piece) {
+        Ok(taken) => Ok(taken),
+        Err(_) => lexer.push(piece),
+    }
+}
+
+/// What the lexer has next, asked again where memory was refused.
+fn next_again(lexer: &mut Lexer) -> Result<Lexed, Memory> {
+    match lexer.next(Mode::Command) {
+        Ok(lexed) => Ok(lexed),
+        Err(_) => lexer.next(Mode::Command),
+    }
+}
+
+// Whichever allocation is refused: asked again, the lexer goes on as if nothing had been.
+#[test]
+fn goes_on_after_a_refusal(rt: HostRuntime) {
+    let mut lexer = Lexer::new(rt.alloc());
+    let front = b"A1 STORE (\"/option/~/font\" \"option.value\" {5}\r\n";
+    assert!(rt; matches!(push_again(&mut lexer, front), Ok(47)));
+    assert!(rt; matches!(next_again(&mut lexer), Ok(Lexed::Plus)));
+    assert!(rt; matches!(next_again(&mut lexer), Ok(Lexed::More)));
+    assert!(rt; matches!(push_again(&mut lexer, b"hello)\r\n"), Ok(8)));
+    let lexed = next_again(&mut lexer);
+    match &lexed {
+        Ok(Lexed::Line(tokens)) => {
+            assert!(rt; tokens.len() == 7);
+            assert!(rt; tokens.value(5) == b"hello".as_slice());
+        }
+        _ => assert!(rt; false, "no command"),
+    }
+    assert!(rt; matches!(next_again(&mut lexer), Ok(Lexed::More)));
+}

@@ -54,3 +54,17 @@ fn the_escaped_form_has_1024_octets_at_the_most(rt: HostRuntime) -> Result<(), F
     assert!(rt; printed(alloc, &letters(alloc, 1023, b"\"")?)?.starts_with(b">{1024}\r\naaa"));
     Ok(())
 }
+
+// Whichever allocation is refused: the whole form is there, or nothing of it.
+#[test]
+fn a_refusal_leaves_nothing(rt: HostRuntime) {
+    let rows: [(&[u8], &[u8]); 2] = [(b"a\"b", b">\"a\\\"b\""), (b"a\rb", b">{3}\r\na\rb")];
+    for (text, whole) in rows {
+        if let Ok(mut out) = Vec::from_slice(rt.alloc(), b">") {
+            match print_string(text, &mut out) {
+                Ok(()) => assert!(rt; out.as_slice() == whole),
+                Err(_) => assert!(rt; out.as_slice() == b">".as_slice()),
+            }
+        }
+    }
+}
