@@ -1,20 +1,27 @@
 -- What changes leave.
-use Rattle.std.proofs.Common.{◌≡◌, Option, Some, None, sym, ap, ◌∙◌, cond}
+use Rattle.std.proofs.Common.{◌≡◌, ℤ, refl, Option, Some, None, sym, ap, ◌∙◌, cond}
 use Rattle.std.specs.Option.{unwrap_or}
 use Rattle.std.specs.Cmp.{eq_by_cmp_equiv}
 use Rattle.std.specs.FinMap.{get, get-insert, empty, same_map}
 use Rattle.std.specs.FinMap as map
-use Rattle.acap_entries.specs.Store.{path_cmp}
-use Rattle.acap_entries.specs.Laws.{ChangeLaw, TwoChangesLaw, RemovalLaw}
+use Rattle.acap_entries.specs.Store.{path_cmp, Store, Written, IsStoreAfter, store_after}
+use Rattle.acap_entries.specs.Laws.{ChangeLaw, AfterLaw, TwoChangesLaw, RemovalLaw}
 use Rattle.acap_entries.specs.declared.path.Path.{Path}
 use Rattle.acap_entries.specs.declared.record.Record.{Record}
-use Rattle.acap_entries.proofs.StoreLemmas.{path_cmp_total, path_same}
+use Rattle.acap_entries.proofs.StoreLemmas.{path_cmp_total, path_same, entries-IsPathByPath}
 
 pub same_store : ChangeLaw
 same_store written moment old a b p q =
     let records = same_map path_cmp_total path_same a.records b.records (λ path. p.paths.at_path path ∙ sym (q.paths.at_path path)) in
     let last = p.last ∙ sym q.last in
     λ i. record { records = records i; last = last i }
+
+pub value_after : AfterLaw
+value_after written moment old = record { paths = entries-IsPathByPath written old.records; last = refl }
+
+-- so a store that a change leaves is that value
+pub is_value_after : (written : Written) (moment : ℤ) (old new : Store) → IsStoreAfter written moment old new → new ≡ store_after written moment old
+is_value_after written moment old new p = same_store written moment old new _ p (value_after written moment old)
 
 pub two_changes : TwoChangesLaw
 two_changes first second earlier later old mid new p q =

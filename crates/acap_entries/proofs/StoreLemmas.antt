@@ -6,11 +6,11 @@ use Rattle.std.specs.declared.cmp.Ordering.TheVariants.{Less, Equal, Greater}
 use Rattle.std.specs.Ordering.{eq_by_cmp, ordering_then}
 use Rattle.std.specs.Cmp.{IsTotalOrder, then_total}
 use Rattle.std.specs.Cmp.Lexicographic.{on_texts}
-use Rattle.std.specs.FinMap.{IsAntisymmetric, find, from_sorted, get, insert, remove, get-insert, get-remove, slice_cmp-IsAntisymmetric, nat_cmp-IsAntisymmetric}
+use Rattle.std.specs.FinMap.{IsAntisymmetric, find, from_sorted, get, get-entries, entries, get-insert, get-remove, slice_cmp-IsAntisymmetric, nat_cmp-IsAntisymmetric}
 use Rattle.acap_entries.specs.Orders.{octets_cmp}
 use Rattle.acap_entries.specs.declared.path.Path.{Path}
 use Rattle.acap_entries.specs.declared.record.Record.{Record}
-use Rattle.acap_entries.specs.Store.{path_cmp, Stored, IsPathByPath}
+use Rattle.acap_entries.specs.Store.{path_cmp, Stored, IsPathByPath, Written, after_write, after_writes}
 use Rattle.acap_entries.specs.Sorted.{InOrder}
 use Rattle.acap_entries.proofs.MapLemmas.{get_found}
 
@@ -32,15 +32,6 @@ path_same a b e =
     let name = octets_same _ _ parts.1 in
     λ i. record { dataset = dataset i; name = name i }
 
--- the writes of a list, done from the last to the first
-abbrev pub after_write : Path → Option Record → Stored → Stored
-after_write p (Some r) m = insert m p r
-after_write p None m = remove m p
-
-abbrev pub after_writes : List (Path × Option Record) → Stored → Stored
-after_writes [] m = m
-after_writes (w ∷ ws) m = after_write w.0 w.1 (after_writes ws m)
-
 pub after_writes-append : (ws : List (Path × Option Record)) (w : Path × Option Record) (m : Stored) → after_writes (ws ++ w ∷ []) m ≡ after_writes ws (after_write w.0 w.1 m)
 after_writes-append [] w m = refl
 after_writes-append (x ∷ ws) w m = ap (after_write x.0 x.1) (after_writes-append ws w m)
@@ -49,7 +40,7 @@ get-after_write : (p : Path) (fate : Option Record) (m : Stored) (q : Path) → 
 get-after_write p (Some r) m q = get-insert path_cmp_total m p r q
 get-after_write p None m q = get-remove path_cmp_total m p q
 
-get_written : (ws : List (Path × Option Record)) (m : Stored) (q : Path) → get (after_writes ws m) q ≡ unwrap_or (find path_cmp q ws) (get m q)
+pub get_written : (ws : List (Path × Option Record)) (m : Stored) (q : Path) → get (after_writes ws m) q ≡ unwrap_or (find path_cmp q ws) (get m q)
 get_written [] m q = refl
 get_written (w ∷ ws) m q =
     get-after_write w.0 w.1 (after_writes ws m) q
@@ -61,4 +52,9 @@ get_written (w ∷ ws) m q =
 pub after_writes-IsPathByPath : (ws : List (Path × Option Record)) (m : Stored) → InOrder path_cmp ws → IsPathByPath (from_sorted ws) m (after_writes ws m)
 after_writes-IsPathByPath ws m h = record {
   at_path = λ p. get_written ws m p ∙ ap (λ o. unwrap_or o (get m p)) (sym (get_found path_cmp path_cmp_total ws p h));
+}
+
+pub entries-IsPathByPath : (written : Written) (m : Stored) → IsPathByPath written m (after_writes (entries written) m)
+entries-IsPathByPath written m = record {
+  at_path = λ p. get_written (entries written) m p ∙ ap (λ o. unwrap_or o (get m p)) (sym (get-entries written p));
 }

@@ -5,13 +5,17 @@ use Rattle.acap_entries.specs.Moments.{first_moment, last_moment, IsMoment}
 use Rattle.acap_entries.specs.Names.{is_path, is_dataset_argument, is_attribute, is_user_name, is_context_name, dataset_of, name_of, own_entry, slash}
 use Rattle.acap_entries.specs.Homes.{for_user}
 use Rattle.acap_entries.specs.Stamp.{IsStamp, stamp_of}
-use Rattle.acap_entries.specs.Store.{Store, Written, IsStoreAfter}
+use Rattle.acap_entries.specs.Store.{Store, Written, IsStoreAfter, store_after}
 use Rattle.acap_entries.specs.declared.path.Path.{Path}
 use Rattle.acap_entries.specs.declared.record.Record.{Record}
 
 -- a change determines the store that it leaves
 abbrev pub ChangeLaw : Type 0
 ChangeLaw = (written : Written) (moment : ℤ) (old a b : Store) → IsStoreAfter written moment old a → IsStoreAfter written moment old b → a ≡ b
+
+-- the store that is a change's, as a value, is what the change stands for, path by path
+abbrev pub AfterLaw : Type 0
+AfterLaw = (written : Written) (moment : ℤ) (old : Store) → IsStoreAfter written moment old (store_after written moment old)
 
 -- after two changes each path has what the later one writes there, else what the earlier one writes, else its old record
 abbrev pub TwoChangesLaw : Type 0

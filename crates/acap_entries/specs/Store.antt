@@ -1,5 +1,5 @@
 -- The store: a finite map from paths to records, and the last moment [RFC 2244 section 3.1].
-use Rattle.std.specs.Prelude.{◌≡◌, ℕ, ℤ, Option, unwrap_or, refl}
+use Rattle.std.specs.Prelude.{◌≡◌, ℕ, ℤ, List, [], ◌∷◌, Option, Some, None, unwrap_or, refl}
 use Rattle.std.specs.declared.cmp.Ordering.{Ordering}
 use Rattle.std.specs.Ordering.{ordering_then}
 use Rattle.std.specs.Coded.{Coded, code_by, coded×, coded_ℕ, coded_ℤ, coded_option}
@@ -39,6 +39,19 @@ pub record IsPathByPath (written : Written) (old new : Stored) : Type 0 where
 pub record IsStoreAfter (written : Written) (moment : ℤ) (old new : Store) : Type 0 where
   pub paths : IsPathByPath written old.records new.records
   pub last : new.last ≡ moment
+
+-- the records after writes: each written record is put at its path, and each removed one taken out
+abbrev pub after_write : Path → Option Record → Stored → Stored
+after_write p (Some r) records = map.insert records p r
+after_write p None records = map.remove records p
+
+abbrev pub after_writes : List (Path × Option Record) → Stored → Stored
+after_writes [] records = records
+after_writes (w ∷ ws) records = after_write w.0 w.1 (after_writes ws records)
+
+-- the same store as a value
+abbrev pub store_after : Written → ℤ → Store → Store
+store_after written moment old = record { records = after_writes (map.entries written) old.records; last = moment }
 
 -- how stores and writes are told apart in proofs
 abbrev pub store_code : Coded Store

@@ -1,9 +1,14 @@
 //! What follows from the definitions alone: each function does nothing, and its contract is the law.
-ghost use Rattle.acap_entries.specs.Laws.{ChangeLaw, TwoChangesLaw, RemovalLaw, PathLaw, StampLaw, StampExamples, PathExamples, DatasetExamples, NameExamples, HomeExamples};
+ghost use Rattle.acap_entries.specs.Laws.{ChangeLaw, AfterLaw, TwoChangesLaw, RemovalLaw, PathLaw, StampLaw, StampExamples, PathExamples, DatasetExamples, NameExamples, HomeExamples};
 
 /// A change determines the store that it leaves.
 pub fn change_law()
     ensures { ChangeLaw }
+{}
+
+/// The store after a change, as a value, is the one that the change stands for.
+pub fn after_law()
+    ensures { AfterLaw }
 {}
 
 /// What stands at each path after two changes.

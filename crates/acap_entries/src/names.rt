@@ -43,9 +43,9 @@ pub fn is_component(octets: &[u8]) -> bool
         && !begins_with(octets, b'.')
 }
 
-// Where the first slash stands.
+/// Where the first slash stands.
 #[tactic(auto, using(crate::proofs::NameLemmas::slash_within))]
-pub(crate) fn first_slash(octets: &[u8]) -> Option<usize>
+pub fn first_slash(octets: &[u8]) -> Option<usize>
     ensures value { result ≡ position name.is_slash octets.now }
     ensures within { IfSome result (λ at. at < length octets.now) }
 {

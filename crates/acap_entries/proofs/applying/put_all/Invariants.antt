@@ -1,8 +1,7 @@
 use Rattle.std.proofs.Common.{◌≡◌, ◌+◌, ◌≤◌, vec_len, vec_capacity}
 use Rattle.std.specs.FinMap as map
 use Rattle.acap_entries.specs.Sorted.{InOrder}
-use Rattle.acap_entries.specs.Store.{path_cmp}
-use Rattle.acap_entries.proofs.StoreLemmas.{after_writes}
+use Rattle.acap_entries.specs.Store.{path_cmp, after_writes}
 use Rattle.acap_entries.proofs.applying.put_all.Given as goal
 
 abbrev pub invariant-loop-path : goal.invariant-loop-path

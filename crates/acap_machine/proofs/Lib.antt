@@ -1,0 +1,5 @@
+pub mod HomeLemmas
+pub mod Seated
+pub mod WriteLemmas
+pub mod RunLemmas
+pub mod StoreLaws

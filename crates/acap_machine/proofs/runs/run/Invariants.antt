@@ -1,0 +1,6 @@
+use Rattle.std.proofs.Common.{◌≡◌}
+use Rattle.acap_machine.specs.Runs.{run_of}
+use Rattle.acap_machine.proofs.runs.run.Given as goal
+
+abbrev pub invariant-loop-step : goal.invariant-loop-step
+invariant-loop-step l = (l.outcomes, l.state.machine) ≡ run_of l.fn.state.machine l.yielded

@@ -1,0 +1,11 @@
+pub mod Homes
+pub mod Laws
+pub mod Limits
+pub mod Machine
+pub mod Refusing
+pub mod Rows
+pub mod Runs
+pub mod Seats
+pub mod Serving
+pub mod Stepping
+pub mod Writing

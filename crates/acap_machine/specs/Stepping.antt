@@ -1,0 +1,46 @@
+-- What one event makes of a machine: a reply and the machine afterwards, or a fault and nothing else
+-- [RFC 2244 sections 2 and 6].
+use Rattle.std.specs.Prelude.{◌≡◌, ⊤, ℕ, ℤ, List, Option, None, Some, Result, Ok, Err}
+use Rattle.std.specs.Option.{option_map_or}
+use Rattle.std.specs.FinMap as table
+use Rattle.acap_entries.specs.Store.{Store}
+use Rattle.acap_grammar.specs.declared.reply.Reply.{Reply}
+use Rattle.acap_grammar.specs.declared.said.Said.{Said}
+use Rattle.acap_grammar.specs.declared.said.Said.TheVariants as said
+use Rattle.acap_machine.specs.Machine.{Machine}
+use Rattle.acap_machine.specs.Serving.{served}
+use Rattle.acap_machine.specs.declared.event.Event.{Event}
+use Rattle.acap_machine.specs.declared.event.Event.TheVariants as event
+use Rattle.acap_machine.specs.declared.fault.Fault.{Fault}
+use Rattle.acap_machine.specs.declared.fault.Fault.TheVariants as fault
+
+-- what is said, without a tag
+abbrev pub plain : Said → Reply
+plain words = record { tag = None; said = words }
+
+-- a user takes a seat that is free
+abbrev pub entered : Machine → ℕ → List ℕ → Option (List ℕ) → Result (Reply × Machine) Fault
+entered m seat user None = Ok (plain said.Greeting, record m { seats = table.insert m.seats seat user })
+entered m seat user (Some other) = Err fault.AlreadyEntered
+
+-- the user of a seat asks for something
+abbrev pub asked : Machine → Said × Store → Reply × Machine
+asked m answer = (plain answer.0, record m { store = answer.1 })
+
+-- every other event is a user's who has the seat
+abbrev pub by_user : Option (List ℕ) → (List ℕ → Reply × Machine) → Result (Reply × Machine) Fault
+by_user seated does = option_map_or (λ user. Ok (does user)) seated (Err fault.NotEntered)
+
+abbrev pub step_of : Machine → ℕ → Event → ℤ → Result (Reply × Machine) Fault
+step_of m seat (event.Enter user) clock = entered m seat user (table.get m.seats seat)
+step_of m seat (event.Command command) clock = by_user (table.get m.seats seat) (λ user. asked m (served user m.store command clock))
+step_of m seat event.Drain clock = by_user (table.get m.seats seat) (λ user. (plain said.Drained, m))
+step_of m seat event.Leave clock = by_user (table.get m.seats seat) (λ user. (plain said.Left, record m { seats = table.remove m.seats seat }))
+
+-- a fault that may be told of a step: the one that it ends in, or that memory was refused, which the definition of a
+-- step doesn't speak of
+abbrev pub IsFault : Result (Reply × Machine) Fault → Fault → Type 0
+IsFault stepped fault.Memory = ⊤
+IsFault stepped fault.NotEntered = stepped ≡ Err fault.NotEntered
+IsFault stepped fault.AlreadyEntered = stepped ≡ Err fault.AlreadyEntered
+IsFault stepped fault.HistoryFull = ⊥

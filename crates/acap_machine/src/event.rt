@@ -1,0 +1,26 @@
+use acap_entries::{Copying, Memory, UserName};
+use acap_grammar::Command;
+
+/// What a session brings to the machine (RFC 2244 sections 2 and 6).
+#[derive(Debug, Drop)]
+pub enum Event {
+    /// A user takes the seat.
+    Enter(UserName),
+    /// The user of the seat gives a command.
+    Command(Command),
+    /// The user's pending notices are asked for.
+    Drain,
+    /// The user leaves the seat.
+    Leave,
+}
+
+impl Copying for Event {
+    fn copy(&self) -> Result<Event, Memory> {
+        match self {
+            Event::Enter(user) => Ok(Event::Enter(user.copy()?)),
+            Event::Command(command) => Ok(Event::Command(command.copy()?)),
+            Event::Drain => Ok(Event::Drain),
+            Event::Leave => Ok(Event::Leave),
+        }
+    }
+}

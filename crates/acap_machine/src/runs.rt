@@ -1,0 +1,37 @@
+ghost use Rattle.std.specs.Prelude.{◌≡◌, IfOk, OnErr};
+ghost use Rattle.acap_machine.specs.Runs.{run_of, stepped_at, outcome_of, machine_after};
+
+use crate::fault::Fault;
+use crate::outcomes::Outcomes;
+use crate::state::State;
+use crate::step::Step;
+use crate::steps::Steps;
+use acap_entries::Memory;
+use acap_grammar::Reply;
+use std::alloc::Global;
+
+// Performs one step and tells what it answered.
+fn outcome_at(alloc: Global, state: &mut State, step: Step) -> Result<Result<Reply, Fault>, Memory>
+    ensures answer { IfOk result (λ outcome. outcome ≡ outcome_of (stepped_at state.old.machine step)) }
+    ensures ok { IfOk result (λ outcome. state.new.machine ≡ machine_after state.old.machine (stepped_at state.old.machine step)) }
+    ensures err { OnErr result (state.new.machine ≡ state.old.machine) }
+{
+    let Step { seat, event, clock } = step;
+    match state.step(alloc, seat, event, clock) {
+        Ok(reply) => Ok(Ok(reply)),
+        Err(Fault::Memory) => Err(Memory),
+        Err(fault) => Ok(Err(fault)),
+    }
+}
+
+/// Performs steps one after another and tells what each answered. It ends where memory is refused: the steps before
+/// that have been performed, and the others have not.
+pub fn run(alloc: Global, state: &mut State, steps: Steps) -> Result<Outcomes, Memory>
+    ensures { IfOk result (λ outcomes. (outcomes, state.new.machine) ≡ run_of state.old.machine steps) }
+{
+    let mut outcomes = Outcomes::new(alloc);
+    for step in steps.into_vec() {
+        outcomes.push(outcome_at(alloc, state, step)?)?;
+    }
+    Ok(outcomes)
+}

@@ -1,0 +1,24 @@
+use crate::event::Event;
+use acap_entries::{Copying, Memory, Moment, Seat};
+
+/// One event at a seat, and the moment that the clock shows.
+#[derive(Debug, Drop)]
+pub struct Step {
+    /// The seat.
+    pub seat: Seat,
+    /// The event.
+    pub event: Event,
+    /// The moment.
+    pub clock: Moment,
+}
+
+impl Copying for Step {
+    fn copy(&self) -> Result<Step, Memory> {
+        let event = self.event.copy()?;
+        Ok(Step {
+            seat: self.seat,
+            event,
+            clock: self.clock,
+        })
+    }
+}
