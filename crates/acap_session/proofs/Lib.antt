@@ -1,0 +1,4 @@
+pub mod Fitting
+pub mod Answering
+pub mod Turning
+pub mod Piping

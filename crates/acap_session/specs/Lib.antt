@@ -1,0 +1,5 @@
+pub mod Asking
+pub mod Hearing
+pub mod Run
+pub mod Session
+pub mod Talking

@@ -1,0 +1,15 @@
+use acap_entries::Octets;
+use acap_machine::Event;
+
+/// What a session does next.
+#[derive(Debug, Drop)]
+pub enum Next {
+    /// Nothing: more octets, or the answer to an event, are awaited, or the session is closed.
+    More,
+    /// These octets are to be written.
+    Say(Octets),
+    /// This event is to be performed, and its answer to be given to the session.
+    Ask(Event),
+    /// These octets are to be written, and then the session is closed.
+    Close(Octets),
+}
