@@ -12,7 +12,7 @@ use Rattle.acap_grammar.specs.declared.store_entry.StoreEntry.{StoreEntry}
 use Rattle.acap_grammar.specs.declared.store_item.StoreItem.{StoreItem}
 use Rattle.acap_grammar.specs.Outcome.{◌>>=◌, Read}
 use Rattle.acap_grammar.specs.Marks.{is_string, is_word, is_open, is_close, ends, starts, behind, string_at, behind_word}
-use Rattle.acap_grammar.specs.Grammar.{several, path_named, attribute_named, dataset_named, has_path, has_attribute, item_at, items_at, path_at, entry_at, entries_at, return_at, attributes_at, returns_by, returns_at, key_by, key_at, search_at, whole, command_by, command_behind, command_of}
+use Rattle.acap_grammar.specs.Grammar.{several, path_named, attribute_named, dataset_named, has_path, has_attribute, item_at, items_at, path_at, entry_at, entries_at, return_at, attributes_at, returns_by, returns_at, key_by, key_at, search_at, whole, mechanism_at, command_by, command_behind, command_of}
 
 record Sound {A : Type 0} (read : Result A GrammarFault) : Type 0 where
   pub never : read ≡ Err fault.Memory → ⊥
@@ -119,13 +119,18 @@ whole_sound : (command : Command) (tokens : List Token) → Sound (whole command
 unfolding whole
 whole_sound command tokens = choose (ends tokens) _ _ (value _) arguments
 
+mechanism_sound : (tokens : List Token) → Sound (mechanism_at tokens)
+unfolding mechanism_at
+mechanism_sound tokens = bind _ _ (string_sound tokens) (λ x. value _)
+
 command_sound : (verb : List ℕ) (tokens : List Token) → Sound (command_by verb tokens)
 unfolding command_by
 command_sound verb tokens =
     choose (str_eq_ignore_ascii_case verb (codes "NOOP")) _ _ (whole_sound _ tokens)
     (choose (str_eq_ignore_ascii_case verb (codes "LOGOUT")) _ _ (whole_sound _ tokens)
+    (choose (str_eq_ignore_ascii_case verb (codes "AUTHENTICATE")) _ _ (bind _ _ (mechanism_sound tokens) (λ x. whole_sound _ x.1))
     (choose (str_eq_ignore_ascii_case verb (codes "STORE")) _ _ (bind _ _ (entries_sound tokens) (λ x. whole_sound _ x.1))
-    (choose (str_eq_ignore_ascii_case verb (codes "SEARCH")) _ _ (bind _ _ (search_sound tokens) (λ x. whole_sound _ x.1)) unknown)))
+    (choose (str_eq_ignore_ascii_case verb (codes "SEARCH")) _ _ (bind _ _ (search_sound tokens) (λ x. whole_sound _ x.1)) unknown))))
 
 behind_tag_sound : (tokens : List Token) → Sound (command_behind tokens)
 unfolding command_behind

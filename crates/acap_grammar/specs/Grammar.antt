@@ -120,6 +120,10 @@ search_at tokens = do
   key ← key_at returns.1
   Ok (record { dataset = dataset; returns = returns.0; key = key.0 }, key.1)
 
+-- behind AUTHENTICATE: the mechanism, a string
+unfoldable pub mechanism_at : List Token → Read (List ℕ)
+mechanism_at tokens = string_at tokens >>= λ x. Ok x
+
 -- a command that takes all tokens up to the end
 unfoldable pub whole : Command → List Token → Result Command GrammarFault
 whole command tokens = if ends tokens then Ok command else Err fault.Arguments
@@ -129,9 +133,10 @@ unfoldable pub command_by : List ℕ → List Token → Result Command GrammarFa
 command_by verb tokens =
     if str_eq_ignore_ascii_case verb (codes "NOOP") then whole command.Noop tokens
     else (if str_eq_ignore_ascii_case verb (codes "LOGOUT") then whole command.Logout tokens
+    else (if str_eq_ignore_ascii_case verb (codes "AUTHENTICATE") then (mechanism_at tokens >>= λ x. whole (command.Authenticate x.0) x.1)
     else (if str_eq_ignore_ascii_case verb (codes "STORE") then (entries_at tokens >>= λ x. whole (command.Store x.0) x.1)
     else (if str_eq_ignore_ascii_case verb (codes "SEARCH") then (search_at tokens >>= λ x. whole (command.Search x.0) x.1)
-    else Err fault.UnknownCommand)))
+    else Err fault.UnknownCommand))))
 
 -- the command behind a tag
 unfoldable pub command_behind : List Token → Result Command GrammarFault

@@ -2,13 +2,14 @@
 
 ghost use Rattle.std.specs.Prelude.{◌≡◌, drop};
 ghost use Rattle.acap_grammar.specs.Outcome.{Gives};
-ghost use Rattle.acap_grammar.specs.Grammar.{whole, command_by, command_behind, command_of};
+ghost use Rattle.acap_grammar.specs.Grammar.{whole, mechanism_at, command_by, command_behind, command_of};
 
 use crate::command::Command;
-use crate::descent::{Piece, ends, peek};
+use crate::descent::{Piece, ends, peek, string_at};
 use crate::grammar_fault::GrammarFault;
 use crate::searching::search_at;
 use crate::storing::entries_at;
+use acap_entries::Value;
 use acap_lexer::{Kind, Tokens};
 use std::alloc::Global;
 
@@ -21,6 +22,15 @@ fn whole(command: Command, tokens: &Tokens, at: usize) -> Result<Command, Gramma
     } else {
         Err(GrammarFault::Arguments)
     }
+}
+
+// Behind AUTHENTICATE: the mechanism, a string.
+#[tactic(auto, unfolding(crate::specs::Grammar::mechanism_at))]
+fn mechanism_at(alloc: Global, tokens: &Tokens, at: usize) -> Result<(Value, usize), GrammarFault>
+    ensures { Gives (λ x. (x.0, drop x.1 tokens.now)) result (mechanism_at (drop at tokens.now)) }
+{
+    let (mechanism, next) = string_at(tokens, at)?;
+    Ok((Value::from_slice(alloc, mechanism)?, next))
 }
 
 #[tactic(auto, unfolding(crate::specs::Grammar::command_by))]
@@ -36,6 +46,9 @@ fn command_by(
         whole(Command::Noop, tokens, at)
     } else if verb.eq_ignore_ascii_case(b"LOGOUT") {
         whole(Command::Logout, tokens, at)
+    } else if verb.eq_ignore_ascii_case(b"AUTHENTICATE") {
+        let (mechanism, next) = mechanism_at(alloc, tokens, at)?;
+        whole(Command::Authenticate(mechanism), tokens, next)
     } else if verb.eq_ignore_ascii_case(b"STORE") {
         let (entries, next) = entries_at(alloc, tokens, at)?;
         whole(Command::Store(entries), tokens, next)

@@ -59,5 +59,6 @@ searched user s dataset returns =
 unfoldable pub served : List ℕ → Store → Command → ℤ → Said × Store
 served user s command.Noop clock = (said.Done verb.Noop, s)
 served user s command.Logout clock = (said.GoodBye, s)
+served user s (command.Authenticate mechanism) clock = (said.Refused refusals.Unserved, s)
 served user s (command.Store entries) clock = stored_by s (planned user s (entries_for user entries) clock)
 served user s (command.Search search) clock = (searched user s (for_user user search.dataset) search.returns, s)

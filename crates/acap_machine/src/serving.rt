@@ -66,6 +66,7 @@ pub(crate) fn serve(
     match command {
         Command::Noop => Ok(Said::Done(Verb::Noop)),
         Command::Logout => Ok(Said::GoodBye),
+        Command::Authenticate(_) => Ok(Said::Refused(Refusal::Unserved)),
         Command::Store(entries) => {
             let entries = entries_for(alloc, user, entries)?;
             store(alloc, tree, user, entries, clock)

@@ -42,6 +42,7 @@ command_fits : (user tag : Option (List ℕ)) (c : Command) → Fits (heard_comm
 unfolding heard_command
 command_fits user tag command.Noop = refl
 command_fits user tag command.Logout = tt
+command_fits user tag (command.Authenticate mechanism) = refl
 command_fits user tag (command.Store entries) = asks_fits user tag (command.Store entries)
 command_fits user tag (command.Search search) = asks_fits user tag (command.Search search)
 

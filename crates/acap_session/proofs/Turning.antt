@@ -73,6 +73,7 @@ command_some : (user tag : Option (List ℕ)) (c : Command) → (heard_command u
 unfolding heard_command
 command_some user tag command.Noop e = cc
 command_some user tag command.Logout e = cc
+command_some user tag (command.Authenticate mechanism) e = cc
 command_some user tag (command.Store entries) e = asks_some user tag (command.Store entries) e
 command_some user tag (command.Search search) e = asks_some user tag (command.Search search) e
 

@@ -10,6 +10,7 @@ use Rattle.acap_grammar.specs.Replies.{octets_of, crlf}
 use Rattle.acap_grammar.specs.declared.command.Command.{Command}
 use Rattle.acap_grammar.specs.declared.command.Command.TheVariants as command
 use Rattle.acap_grammar.specs.declared.grammar_fault.GrammarFault.{GrammarFault}
+use Rattle.acap_grammar.specs.declared.refusal.Refusal.{Refusal}
 use Rattle.acap_grammar.specs.declared.refusal.Refusal.TheVariants as refusals
 use Rattle.acap_grammar.specs.declared.said.Said.{Said}
 use Rattle.acap_grammar.specs.declared.said.Said.TheVariants as said
@@ -32,9 +33,15 @@ abbrev pub asks : Option (List ℕ) → Option (List ℕ) → Command → Next �
 asks None tag command = says tag (said.Refused refusals.NotLoggedIn)
 asks (Some user) tag command = (next.Ask (event.Command command), stage.Asked tag)
 
+-- no mechanism is offered yet, and a user who is logged in needs none
+abbrev pub authenticated : Option (List ℕ) → Refusal
+authenticated None = refusals.NoMechanism
+authenticated (Some user) = refusals.LoggedIn
+
 unfoldable pub heard_command : Option (List ℕ) → Option (List ℕ) → Command → Next × Stage
 heard_command user tag command.Noop = says tag (said.Done verb.Noop)
 heard_command user tag command.Logout = closes tag said.GoodBye
+heard_command user tag (command.Authenticate mechanism) = says tag (said.Refused (authenticated user))
 heard_command user tag (command.Store entries) = asks user tag (command.Store entries)
 heard_command user tag (command.Search search) = asks user tag (command.Search search)
 

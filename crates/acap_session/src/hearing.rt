@@ -58,6 +58,16 @@ fn asks(
     }
 }
 
+// No mechanism is offered yet, and a user who is logged in needs none.
+fn authenticated(user: &Option<UserName>) -> Refusal
+    ensures { result ≡ hearing.authenticated user.now }
+{
+    match user {
+        Some(_) => Refusal::LoggedIn,
+        None => Refusal::NoMechanism,
+    }
+}
+
 #[tactic(auto, unfolding(crate::specs::Hearing::heard_command))]
 fn heard_command(
     alloc: Global,
@@ -70,6 +80,7 @@ fn heard_command(
     match command {
         Command::Noop => says(alloc, tag, Said::Done(Verb::Noop)),
         Command::Logout => closes(alloc, tag, Said::GoodBye),
+        Command::Authenticate(_) => says(alloc, tag, Said::Refused(authenticated(user))),
         Command::Store(entries) => asks(alloc, user, tag, Command::Store(entries)),
         Command::Search(search) => asks(alloc, user, tag, Command::Search(search)),
     }

@@ -11,3 +11,5 @@ mod lexer;
 mod order;
 #[cfg(test)]
 mod printing;
+#[cfg(test)]
+mod pipe;

@@ -1,0 +1,354 @@
+//! Tests of sessions: what one writes for what it reads, through readers and writers in memory.
+
+use acap_entries::{NameFault, Octets, UserName};
+use acap_machine::Fault;
+use acap_session::{Next, PipeFault, Session, run_pipe};
+use std::alloc::{AllocError, Global};
+use std::io::{self, Read, Write};
+use std::process::Abort;
+
+/// The greeting that begins each session.
+const GREETING: &[u8] = b"* ACAP (IMPLEMENTATION \"acapd\") (SASL \"CRAM-MD5\") (CONTEXTLIMIT \"200\")\r\n";
+
+/// More reads or writes than any test makes.
+const MANY: usize = 100_000;
+
+/// A reader of octets in memory: a first piece, then pieces of a size, and a failure after so many reads.
+#[derive(Drop)]
+struct Pieces<'a> {
+    left: &'a [u8],
+    first: usize,
+    size: usize,
+    reads: usize,
+}
+
+impl<'a> Read for Pieces<'a> {
+    fn read(&mut self, buf: &mut [u8]) -> io::Result<usize> {
+        if self.reads == 0 {
+            return Err(io::Error::from(io::ErrorKind::Other));
+        }
+        self.reads -= 1;
+        let size = if self.first > 0 { self.first } else { self.size };
+        self.first = 0;
+        let count = size.min(self.left.len()).min(buf.len());
+        let (front, back) = self.left.split_at(count);
+        buf[..count].copy_from_slice(front);
+        self.left = back;
+        Ok(count)
+    }
+}
+
+/// A writer into memory, which fails after so many writes.
+#[derive(Drop)]
+struct Sink {
+    text: Vec<u8>,
+    writes: usize,
+}
+
+impl Write for Sink {
+    fn write(&mut self, buf: &[u8]) -> io::Result<usize> {
+        if self.writes == 0 {
+            return Err(io::Error::from(io::ErrorKind::Other));
+        }
+        self.writes -= 1;
+        if self.text.extend_from_slice(buf).is_err() {
+            return Err(io::Error::from(io::ErrorKind::OutOfMemory));
+        }
+        Ok(buf.len())
+    }
+
+    fn flush(&mut self) -> io::Result<()> {
+        Ok(())
+    }
+}
+
+/// How a session of joe ends that reads these pieces, and what it writes.
+fn session(alloc: Global, pieces: Pieces, writes: usize) -> (Result<(), PipeFault>, Vec<u8>) {
+    let mut pieces = pieces;
+    let mut sink = Sink {
+        text: Vec::new(alloc),
+        writes,
+    };
+    let done = match UserName::read(alloc, b"joe") {
+        Ok(user) => run_pipe(alloc, &mut pieces, &mut sink, user),
+        Err(NameFault::BadName) => Ok(()),
+        Err(NameFault::Memory) => Err(PipeFault::Memory),
+    };
+    let Sink { text, .. } = sink;
+    (done, text)
+}
+
+/// The same where nothing fails, a first piece being of that size and all others of another.
+fn said(alloc: Global, input: &[u8], first: usize, size: usize) -> (Result<(), PipeFault>, Vec<u8>) {
+    let pieces = Pieces {
+        left: input,
+        first,
+        size,
+        reads: MANY,
+    };
+    session(alloc, pieces, MANY)
+}
+
+/// The greeting, and behind it these octets.
+fn greeted(alloc: Global, behind: &[u8]) -> Result<Vec<u8>, AllocError> {
+    let mut all = Vec::from_slice(alloc, GREETING)?;
+    all.extend_from_slice(behind)?;
+    Ok(all)
+}
+
+/// A session that reads these octets writes the greeting and those, whole, octet by octet, and cut after each octet.
+fn check(rt: &(impl AllocGlobal + Abort), input: &[u8], wanted: &[u8]) {
+    let alloc = rt.alloc();
+    let Ok(wanted) = greeted(alloc, wanted) else {
+        return;
+    };
+    for first in 0..input.len() {
+        let (done, text) = said(alloc, input, first, 4096);
+        assert!(rt; done == Ok(()));
+        assert!(rt; text == wanted, "cut after {first} octets: {text:?}");
+    }
+    let (done, text) = said(alloc, input, 0, 1);
+    assert!(rt; done == Ok(()));
+    assert!(rt; text == wanted, "octet by octet: {text:?}");
+}
+
+/// The same where the octets come whole.
+fn check_whole(rt: &(impl AllocGlobal + Abort), input: &[u8], wanted: &[u8]) {
+    let alloc = rt.alloc();
+    let Ok(wanted) = greeted(alloc, wanted) else {
+        return;
+    };
+    let (done, text) = said(alloc, input, 0, 4096);
+    assert!(rt; done == Ok(()));
+    assert!(rt; text == wanted, "{text:?}");
+}
+
+#[test]
+fn greets(rt: HostRuntime) {
+    check_whole(&rt, b"", b"");
+}
+
+#[test]
+fn answers_a_noop_in_pieces(rt: HostRuntime) {
+    check(&rt, b"A1 NOOP\r\n", b"A1 OK \"NOOP done\"\r\n");
+}
+
+/// A STORE and a SEARCH, and then a second of each (RFC 2244 sections 6.4.1 and 6.6.1).
+const STORES: &[u8] = b"A1 STORE (\"/option/~/font\" \"option.value\" \"mono\")\r\nA2 SEARCH \"/option/~/\" RETURN (\"option.value\" \"modtime\") ALL\r\nA3 STORE (\"/option/~/size\" \"option.value\" \"10\")\r\nA4 SEARCH \"/option/~/\" RETURN (\"modtime\") ALL\r\n";
+
+/// What is said to these.
+const STORED: &[u8] = b"A1 OK \"STORE done\"\r\nA2 ENTRY \"font\" \"mono\" \"19700101000000000000\"\r\nA2 MODTIME \"19700101000000000000\"\r\nA2 OK \"SEARCH done\"\r\nA3 OK \"STORE done\"\r\nA4 ENTRY \"font\" \"19700101000000000000\"\r\nA4 ENTRY \"size\" \"19700101000000000001\"\r\nA4 MODTIME \"19700101000000000001\"\r\nA4 OK \"SEARCH done\"\r\n";
+
+#[test]
+fn stores_and_searches(rt: HostRuntime) {
+    check(&rt, STORES, STORED);
+}
+
+#[test]
+fn refuses_stores(rt: HostRuntime) {
+    check_whole(
+        &rt,
+        b"A1 STORE (\"/option/~/n\" \"modtime\" \"x\")\r\nA2 STORE (\"/option/~/n\" \"k\" \"x\") (\"/option/user/joe/n\" \"k\" \"y\")\r\nA3 STORE (\"/option/site/b\" \"k\" \"x\")\r\nA4 SEARCH \"/option/~/\" ALL\r\n",
+        b"A1 NO (INVALID (\"/option/user/joe/n\" \"modtime\")) \"Invalid value\"\r\nA2 BAD \"Not permitted twice\"\r\nA3 BAD \"Not served yet\"\r\nA4 NO (NOEXIST \"/option/user/joe/\") \"No such dataset\"\r\n",
+    );
+}
+
+#[test]
+fn tells_faults(rt: HostRuntime) {
+    check(
+        &rt,
+        b"\r\nA1  NOOP\r\nA1 NOOP\nA2 NOOP\r\nA1 FROB\r\nA1 NOOP x\r\nA2 NOOP\r\n",
+        b"* BAD \"Bad tag\"\r\nA1 BAD \"Bad token\"\r\nA1 BAD \"Bad token\"\r\nA1 BAD \"Unknown command\"\r\nA1 BAD \"Bad arguments\"\r\nA2 OK \"NOOP done\"\r\n",
+    );
+}
+
+#[test]
+fn ends_at_a_logout(rt: HostRuntime) {
+    check(
+        &rt,
+        b"A1 LOGOUT\r\nA2 NOOP\r\n",
+        b"* BYE \"Good bye\"\r\nA1 OK \"LOGOUT done\"\r\n",
+    );
+}
+
+#[test]
+fn drops_an_unfinished_command(rt: HostRuntime) {
+    check(&rt, b"A1 NOOP\r\nA2 NOOP", b"A1 OK \"NOOP done\"\r\n");
+    check(&rt, b"A1 NOOP\r\nA2 NOOP\r", b"A1 OK \"NOOP done\"\r\n");
+}
+
+#[test]
+fn follows_literals(rt: HostRuntime) {
+    check(
+        &rt,
+        b"A1 STORE (\"/option/~/font\" \"option.value\" {5}\r\nhello)\r\n",
+        b"+ \"Ready\"\r\nA1 OK \"STORE done\"\r\n",
+    );
+    check(
+        &rt,
+        b"A1 STORE (\"/option/~/font\" \"option.value\" {5+}\r\nhello)\r\n",
+        b"A1 OK \"STORE done\"\r\n",
+    );
+    check_whole(
+        &rt,
+        b"A1 STORE (\"/option/~/font\" \"option.value\" {262145}\r\nA2 NOOP\r\n",
+        b"* BYE \"Command too long\"\r\n",
+    );
+    check_whole(
+        &rt,
+        b"A1 STORE (\"/option/~/font\" \"option.value\" {5}\r\nhe",
+        b"+ \"Ready\"\r\n",
+    );
+}
+
+/// A STORE of a literal, and a SEARCH that returns it.
+fn store_of(alloc: Global, value: &[u8]) -> Result<Vec<u8>, AllocError> {
+    let mut input = Vec::from_slice(alloc, b"A1 STORE (\"/option/~/e\" \"k\" {")?;
+    let digits = value.len().to_string(alloc)?;
+    input.extend_from_slice(digits.as_bytes())?;
+    input.extend_from_slice(b"+}\r\n")?;
+    input.extend_from_slice(value)?;
+    input.extend_from_slice(b")\r\nA2 SEARCH \"/option/~/\" RETURN (\"k\") ALL\r\n")?;
+    Ok(input)
+}
+
+/// What is said to these, where the value is printed so.
+fn found_as(alloc: Global, before: &[u8], value: &[u8], behind: &[u8]) -> Result<Vec<u8>, AllocError> {
+    let mut wanted = Vec::from_slice(alloc, b"A1 OK \"STORE done\"\r\nA2 ENTRY \"e\" ")?;
+    wanted.extend_from_slice(before)?;
+    wanted.extend_from_slice(value)?;
+    wanted.extend_from_slice(behind)?;
+    wanted.extend_from_slice(b"\r\nA2 MODTIME \"19700101000000000000\"\r\nA2 OK \"SEARCH done\"\r\n")?;
+    Ok(wanted)
+}
+
+fn check_printed(rt: &(impl AllocGlobal + Abort), before: &[u8], value: &[u8], behind: &[u8]) {
+    let alloc = rt.alloc();
+    let Ok(input) = store_of(alloc, value) else {
+        return;
+    };
+    let Ok(wanted) = found_as(alloc, before, value, behind) else {
+        return;
+    };
+    check_whole(rt, input.as_slice(), wanted.as_slice());
+}
+
+/// So many letters `x`, and the last octet in place of one.
+fn letters(alloc: Global, count: usize, last: u8) -> Result<Vec<u8>, AllocError> {
+    let mut made = Vec::new(alloc);
+    for _ in 1..count {
+        made.push(b'x')?;
+    }
+    made.push(last)?;
+    Ok(made)
+}
+
+#[test]
+fn prints_strings(rt: HostRuntime) {
+    let alloc = rt.alloc();
+    if let Ok(value) = letters(alloc, 1024, b'x') {
+        check_printed(&rt, b"\"", value.as_slice(), b"\"");
+    }
+    if let Ok(value) = letters(alloc, 1025, b'x') {
+        check_printed(&rt, b"{1025}\r\n", value.as_slice(), b"");
+    }
+    if let Ok(value) = letters(alloc, 1024, b'"') {
+        check_printed(&rt, b"{1024}\r\n", value.as_slice(), b"");
+    }
+    check_printed(&rt, b"{3}\r\n", b"a\rb", b"");
+}
+
+#[test]
+fn is_logged_in_already(rt: HostRuntime) {
+    check_whole(
+        &rt,
+        b"A1 AUTHENTICATE \"CRAM-MD5\"\r\nA2 authenticate \"PLAIN\"\r\nA3 AUTHENTICATE\r\nA4 AUTHENTICATE \"A\" \"B\"\r\n",
+        b"A1 BAD \"Already logged in\"\r\nA2 BAD \"Already logged in\"\r\nA3 BAD \"Bad arguments\"\r\nA4 BAD \"Bad arguments\"\r\n",
+    );
+}
+
+/// What a session without a user says to these octets, up to where it has nothing more to say.
+fn unnamed(alloc: Global, input: &[u8]) -> Result<Vec<u8>, acap_entries::Memory> {
+    let host = Octets::from_slice(alloc, b"localhost")?;
+    let mut session = Session::new(alloc, host, None);
+    let mut text = Vec::new(alloc);
+    let _ = session.push(input)?;
+    for _ in 0..100 {
+        let next = session.next()?;
+        match &next {
+            Next::Say(octets) => text.extend_from_slice(octets.as_slice())?,
+            Next::Close(octets) => text.extend_from_slice(octets.as_slice())?,
+            Next::Ask(_) => text.extend_from_slice(b"asked\r\n")?,
+            Next::More => break,
+        }
+    }
+    Ok(text)
+}
+
+#[test]
+fn serves_nobody_but_noop_and_logout(rt: HostRuntime) {
+    let alloc = rt.alloc();
+    let input = b"A1 NOOP\r\nA2 STORE (\"/option/~/font\" \"k\" \"x\")\r\nA3 SEARCH \"/option/~/\" ALL\r\nA4 AUTHENTICATE \"CRAM-MD5\"\r\nA5 LOGOUT\r\nA6 NOOP\r\n";
+    let wanted = b"A1 OK \"NOOP done\"\r\nA2 BAD \"Log in first\"\r\nA3 BAD \"Log in first\"\r\nA4 NO \"Mechanism not offered\"\r\n* BYE \"Good bye\"\r\nA5 OK \"LOGOUT done\"\r\n";
+    if let Ok(wanted) = greeted(alloc, wanted) {
+        match unnamed(alloc, input) {
+            Ok(text) => assert!(rt; text == wanted, "{text:?}"),
+            Err(_) => assert!(rt; false),
+        }
+    }
+}
+
+/// The first words of a user's session, the answer to its entering being that fault.
+fn refused_entry(alloc: Global, fault: Fault) -> Result<bool, acap_entries::Memory> {
+    let host = Octets::from_slice(alloc, b"localhost")?;
+    let user = Octets::from_slice(alloc, b"joe")?;
+    let mut session = Session::new(alloc, host, Some(UserName::new(user)));
+    let asked = session.next()?;
+    let waits = session.next()?;
+    let is_asked = matches!(&asked, Next::Ask(_)) && matches!(&waits, Next::More);
+    Ok(is_asked && fault != Fault::HistoryFull)
+}
+
+#[test]
+fn waits_for_an_answer(rt: HostRuntime) {
+    assert!(rt; refused_entry(rt.alloc(), Fault::Memory) == Ok(true));
+}
+
+/// Whether a text begins with a front.
+fn begins(text: &[u8], front: &[u8]) -> bool {
+    text.starts_with(front)
+}
+
+#[test]
+fn ends_where_a_reader_fails(rt: HostRuntime) {
+    let alloc = rt.alloc();
+    let (_, whole) = said(alloc, STORES, 0, 7);
+    for reads in 0..(STORES.len() / 7 + 2) {
+        let pieces = Pieces {
+            left: STORES,
+            first: 0,
+            size: 7,
+            reads,
+        };
+        let (done, text) = session(alloc, pieces, MANY);
+        assert!(rt; done == Err(PipeFault::Read) || text == whole);
+        assert!(rt; begins(whole.as_slice(), text.as_slice()));
+    }
+}
+
+#[test]
+fn ends_where_a_writer_fails(rt: HostRuntime) {
+    let alloc = rt.alloc();
+    let (_, whole) = said(alloc, STORES, 0, 7);
+    for writes in 0..6 {
+        let pieces = Pieces {
+            left: STORES,
+            first: 0,
+            size: 7,
+            reads: MANY,
+        };
+        let (done, text) = session(alloc, pieces, writes);
+        assert!(rt; done == Err(PipeFault::Write) || text == whole);
+        assert!(rt; begins(whole.as_slice(), text.as_slice()));
+    }
+}

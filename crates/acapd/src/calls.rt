@@ -1,0 +1,75 @@
+ghost use Rattle.std.specs.Prelude.{[], ◌∷◌, map, codes, string_bytes};
+ghost use Rattle.acapd.specs.Calls.{IsCall};
+
+use acap_entries::{Memory, NameFault, UserName};
+use acap_session::PipeFault;
+use std::alloc::Global;
+use std::env::Args;
+
+/// What a call of the program asks for.
+#[derive(Debug, Drop)]
+pub(crate) enum Call {
+    /// Nothing that it knows.
+    Nothing,
+    /// One session of a user, between standard input and standard output.
+    Pipe(UserName),
+    /// It could not be read.
+    Refused(PipeFault),
+}
+
+// What the word behind `pipe` asks for: a session of the user that it names.
+fn pipe_of(alloc: Global, user: &[u8]) -> Call
+    ensures { IsCall (codes "pipe" ∷ user.now ∷ []) result }
+{
+    match UserName::read(alloc, user) {
+        Ok(user) => Call::Pipe(user),
+        Err(NameFault::BadName) => Call::Nothing,
+        Err(NameFault::Memory) => Call::Refused(PipeFault::Memory),
+    }
+}
+
+// What two words ask for.
+fn call_of(alloc: Global, verb: &[u8], user: &[u8]) -> Call
+    ensures { IsCall (verb.now ∷ user.now ∷ []) result }
+{
+    if verb == b"pipe".as_slice() {
+        pipe_of(alloc, user)
+    } else {
+        Call::Nothing
+    }
+}
+
+// What the words behind the program's name ask for.
+fn asked_by(alloc: Global, words: &[String]) -> Call
+    ensures { IsCall (map (λ word. string_bytes word) words.now) result }
+{
+    let Some((verb, behind)) = words.split_first() else {
+        return Call::Nothing;
+    };
+    let Some((user, more)) = behind.split_first() else {
+        return Call::Nothing;
+    };
+    match more.first() {
+        Some(_) => Call::Nothing,
+        None => call_of(alloc, verb.as_bytes(), user.as_bytes()),
+    }
+}
+
+// The words behind the program's name.
+fn listed(alloc: Global, words: Args) -> Result<Vec<String>, Memory> {
+    let mut words = words;
+    let _program = words.next();
+    let mut listed = Vec::new(alloc);
+    for word in words {
+        listed.push(word)?;
+    }
+    Ok(listed)
+}
+
+/// What the words of a call ask for, of which the first is the program's name.
+pub(crate) fn read_call(alloc: Global, words: Args) -> Call {
+    match listed(alloc, words) {
+        Ok(words) => asked_by(alloc, words.as_slice()),
+        Err(Memory) => Call::Refused(PipeFault::Memory),
+    }
+}
