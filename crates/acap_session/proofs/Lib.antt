@@ -2,3 +2,4 @@ pub mod Fitting
 pub mod Answering
 pub mod Turning
 pub mod Piping
+pub mod RunLaws

@@ -2,6 +2,7 @@
 #![tactic(auto)]
 
 mod hearing;
+pub mod laws;
 pub mod next;
 pub mod pipe;
 pub mod pipe_fault;

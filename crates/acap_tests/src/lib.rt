@@ -10,6 +10,6 @@ mod lexer;
 #[cfg(test)]
 mod order;
 #[cfg(test)]
-mod printing;
-#[cfg(test)]
 mod pipe;
+#[cfg(test)]
+mod printing;

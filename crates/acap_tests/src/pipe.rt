@@ -8,7 +8,8 @@ use std::io::{self, Read, Write};
 use std::process::Abort;
 
 /// The greeting that begins each session.
-const GREETING: &[u8] = b"* ACAP (IMPLEMENTATION \"acapd\") (SASL \"CRAM-MD5\") (CONTEXTLIMIT \"200\")\r\n";
+const GREETING: &[u8] =
+    b"* ACAP (IMPLEMENTATION \"acapd\") (SASL \"CRAM-MD5\") (CONTEXTLIMIT \"200\")\r\n";
 
 /// More reads or writes than any test makes.
 const MANY: usize = 100_000;
@@ -28,7 +29,11 @@ impl<'a> Read for Pieces<'a> {
             return Err(io::Error::from(io::ErrorKind::Other));
         }
         self.reads -= 1;
-        let size = if self.first > 0 { self.first } else { self.size };
+        let size = if self.first > 0 {
+            self.first
+        } else {
+            self.size
+        };
         self.first = 0;
         let count = size.min(self.left.len()).min(buf.len());
         let (front, back) = self.left.split_at(count);
@@ -79,7 +84,12 @@ fn session(alloc: Global, pieces: Pieces, writes: usize) -> (Result<(), PipeFaul
 }
 
 /// The same where nothing fails, a first piece being of that size and all others of another.
-fn said(alloc: Global, input: &[u8], first: usize, size: usize) -> (Result<(), PipeFault>, Vec<u8>) {
+fn said(
+    alloc: Global,
+    input: &[u8],
+    first: usize,
+    size: usize,
+) -> (Result<(), PipeFault>, Vec<u8>) {
     let pieces = Pieces {
         left: input,
         first,
@@ -134,10 +144,12 @@ fn answers_a_noop_in_pieces(rt: HostRuntime) {
 }
 
 /// A STORE and a SEARCH, and then a second of each (RFC 2244 sections 6.4.1 and 6.6.1).
-const STORES: &[u8] = b"A1 STORE (\"/option/~/font\" \"option.value\" \"mono\")\r\nA2 SEARCH \"/option/~/\" RETURN (\"option.value\" \"modtime\") ALL\r\nA3 STORE (\"/option/~/size\" \"option.value\" \"10\")\r\nA4 SEARCH \"/option/~/\" RETURN (\"modtime\") ALL\r\n";
+const STORES: &[u8] =
+    b"A1 STORE (\"/option/~/font\" \"option.value\" \"mono\")\r\nA2 SEARCH \"/option/~/\" RETURN (\"option.value\" \"modtime\") ALL\r\nA3 STORE (\"/option/~/size\" \"option.value\" \"10\")\r\nA4 SEARCH \"/option/~/\" RETURN (\"modtime\") ALL\r\n";
 
 /// What is said to these.
-const STORED: &[u8] = b"A1 OK \"STORE done\"\r\nA2 ENTRY \"font\" \"mono\" \"19700101000000000000\"\r\nA2 MODTIME \"19700101000000000000\"\r\nA2 OK \"SEARCH done\"\r\nA3 OK \"STORE done\"\r\nA4 ENTRY \"font\" \"19700101000000000000\"\r\nA4 ENTRY \"size\" \"19700101000000000001\"\r\nA4 MODTIME \"19700101000000000001\"\r\nA4 OK \"SEARCH done\"\r\n";
+const STORED: &[u8] =
+    b"A1 OK \"STORE done\"\r\nA2 ENTRY \"font\" \"mono\" \"19700101000000000000\"\r\nA2 MODTIME \"19700101000000000000\"\r\nA2 OK \"SEARCH done\"\r\nA3 OK \"STORE done\"\r\nA4 ENTRY \"font\" \"19700101000000000000\"\r\nA4 ENTRY \"size\" \"19700101000000000001\"\r\nA4 MODTIME \"19700101000000000001\"\r\nA4 OK \"SEARCH done\"\r\n";
 
 #[test]
 fn stores_and_searches(rt: HostRuntime) {
@@ -213,12 +225,19 @@ fn store_of(alloc: Global, value: &[u8]) -> Result<Vec<u8>, AllocError> {
 }
 
 /// What is said to these, where the value is printed so.
-fn found_as(alloc: Global, before: &[u8], value: &[u8], behind: &[u8]) -> Result<Vec<u8>, AllocError> {
+fn found_as(
+    alloc: Global,
+    before: &[u8],
+    value: &[u8],
+    behind: &[u8],
+) -> Result<Vec<u8>, AllocError> {
     let mut wanted = Vec::from_slice(alloc, b"A1 OK \"STORE done\"\r\nA2 ENTRY \"e\" ")?;
     wanted.extend_from_slice(before)?;
     wanted.extend_from_slice(value)?;
     wanted.extend_from_slice(behind)?;
-    wanted.extend_from_slice(b"\r\nA2 MODTIME \"19700101000000000000\"\r\nA2 OK \"SEARCH done\"\r\n")?;
+    wanted.extend_from_slice(
+        b"\r\nA2 MODTIME \"19700101000000000000\"\r\nA2 OK \"SEARCH done\"\r\n",
+    )?;
     Ok(wanted)
 }
 
@@ -288,8 +307,10 @@ fn unnamed(alloc: Global, input: &[u8]) -> Result<Vec<u8>, acap_entries::Memory>
 #[test]
 fn serves_nobody_but_noop_and_logout(rt: HostRuntime) {
     let alloc = rt.alloc();
-    let input = b"A1 NOOP\r\nA2 STORE (\"/option/~/font\" \"k\" \"x\")\r\nA3 SEARCH \"/option/~/\" ALL\r\nA4 AUTHENTICATE \"CRAM-MD5\"\r\nA5 LOGOUT\r\nA6 NOOP\r\n";
-    let wanted = b"A1 OK \"NOOP done\"\r\nA2 BAD \"Log in first\"\r\nA3 BAD \"Log in first\"\r\nA4 NO \"Mechanism not offered\"\r\n* BYE \"Good bye\"\r\nA5 OK \"LOGOUT done\"\r\n";
+    let input =
+        b"A1 NOOP\r\nA2 STORE (\"/option/~/font\" \"k\" \"x\")\r\nA3 SEARCH \"/option/~/\" ALL\r\nA4 AUTHENTICATE \"CRAM-MD5\"\r\nA5 LOGOUT\r\nA6 NOOP\r\n";
+    let wanted =
+        b"A1 OK \"NOOP done\"\r\nA2 BAD \"Log in first\"\r\nA3 BAD \"Log in first\"\r\nA4 NO \"Mechanism not offered\"\r\n* BYE \"Good bye\"\r\nA5 OK \"LOGOUT done\"\r\n";
     if let Ok(wanted) = greeted(alloc, wanted) {
         match unnamed(alloc, input) {
             Ok(text) => assert!(rt; text == wanted, "{text:?}"),
@@ -350,5 +371,49 @@ fn ends_where_a_writer_fails(rt: HostRuntime) {
         let (done, text) = session(alloc, pieces, writes);
         assert!(rt; done == Err(PipeFault::Write) || text == whole);
         assert!(rt; begins(whole.as_slice(), text.as_slice()));
+    }
+}
+
+/// What is said to `STORES` where the Nth of its commands is refused memory, for each of the four: nothing of it is
+/// stored, and all later answers are those of the machine as it was.
+const REFUSED: [&[u8]; 4] = [
+    b"A1 NO (TRYLATER) \"No memory\"\r\nA2 NO (NOEXIST \"/option/user/joe/\") \"No such dataset\"\r\nA3 OK \"STORE done\"\r\nA4 ENTRY \"size\" \"19700101000000000000\"\r\nA4 MODTIME \"19700101000000000000\"\r\nA4 OK \"SEARCH done\"\r\n",
+    b"A1 OK \"STORE done\"\r\nA2 NO (TRYLATER) \"No memory\"\r\nA3 OK \"STORE done\"\r\nA4 ENTRY \"font\" \"19700101000000000000\"\r\nA4 ENTRY \"size\" \"19700101000000000001\"\r\nA4 MODTIME \"19700101000000000001\"\r\nA4 OK \"SEARCH done\"\r\n",
+    b"A1 OK \"STORE done\"\r\nA2 ENTRY \"font\" \"mono\" \"19700101000000000000\"\r\nA2 MODTIME \"19700101000000000000\"\r\nA2 OK \"SEARCH done\"\r\nA3 NO (TRYLATER) \"No memory\"\r\nA4 ENTRY \"font\" \"19700101000000000000\"\r\nA4 MODTIME \"19700101000000000000\"\r\nA4 OK \"SEARCH done\"\r\n",
+    b"A1 OK \"STORE done\"\r\nA2 ENTRY \"font\" \"mono\" \"19700101000000000000\"\r\nA2 MODTIME \"19700101000000000000\"\r\nA2 OK \"SEARCH done\"\r\nA3 OK \"STORE done\"\r\nA4 NO (TRYLATER) \"No memory\"\r\n",
+];
+
+/// Whether a session may end so where one allocation is refused: with the fault of memory and a front of what it would
+/// have written, or well, with one command refused memory or none.
+fn is_allowed(done: &Result<(), PipeFault>, text: &[u8]) -> bool {
+    let behind = match text.strip_prefix(GREETING) {
+        Some(behind) => behind,
+        None => return text.is_empty(),
+    };
+    match done {
+        Ok(()) => behind == STORED || REFUSED.iter().any(|refused| *refused == behind),
+        Err(PipeFault::Memory) => STORED.starts_with(behind),
+        Err(_) => false,
+    }
+}
+
+#[test]
+fn goes_on_after_a_refused_allocation(rt: HostRuntime) {
+    let alloc = rt.alloc();
+    let pieces = Pieces {
+        left: STORES,
+        first: 0,
+        size: 64,
+        reads: MANY,
+    };
+    let mut pieces = pieces;
+    let mut text = Vec::new(alloc);
+    if text.reserve(4096).is_err() {
+        return;
+    }
+    let mut sink = Sink { text, writes: MANY };
+    if let Ok(user) = UserName::read(alloc, b"joe") {
+        let done = run_pipe(alloc, &mut pieces, &mut sink, user);
+        assert!(rt; is_allowed(&done, sink.text.as_slice()));
     }
 }
