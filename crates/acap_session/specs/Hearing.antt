@@ -43,7 +43,7 @@ heard_command user tag command.Noop = says tag (said.Done verb.Noop)
 heard_command user tag command.Logout = closes tag said.GoodBye
 heard_command user tag (command.Authenticate mechanism) = says tag (said.Refused (authenticated user))
 heard_command user tag (command.Store entries) = asks user tag (command.Store entries)
-heard_command user tag (command.Search search) = asks user tag (command.Search search)
+heard_command user tag (command.Search wanted) = asks user tag (command.Search wanted)
 
 abbrev pub heard_line : Option (List ℕ) → Option (List ℕ) → Result Command GrammarFault → Next × Stage
 heard_line user tag (Ok command) = heard_command user tag command

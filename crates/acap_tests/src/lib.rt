@@ -8,6 +8,8 @@ mod grammar;
 #[cfg(test)]
 mod lexer;
 #[cfg(test)]
+mod machine;
+#[cfg(test)]
 mod order;
 #[cfg(test)]
 mod pipe;
