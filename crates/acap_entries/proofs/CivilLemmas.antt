@@ -11,7 +11,7 @@ use Rattle.acap_entries.specs.Stamp.{IsCivil, IsStamp, days_of, clock_of, moment
 use Rattle.acap_entries.specs.declared.civil.Civil.{Civil}
 
 -- no date of the years from 0000 on comes before its first
-at_least : (y m d : ℕ) → IsCivilDate (pos y) m d → day_count (pos 0) 1 1 ≤ day_count (pos y) m d
+pub at_least : (y m d : ℕ) → IsCivilDate (pos y) m d → day_count (pos 0) 1 1 ≤ day_count (pos y) m d
 at_least y m d h =
     let within : day_count (pos y) m d + 1 ≡ day_count (pos y) 1 1 + day_of_year (pos y) m d = day_count-day_of_year (pos y) m d h.2.0 in
     by_lt_z (pos 0) (pos y)

@@ -9,4 +9,6 @@ pub mod StampLemmas
 pub mod CivilLemmas
 pub mod MarchForm
 pub mod StampLaws
+pub mod TimeLemmas
+pub mod TimeLaws
 pub mod Kept

@@ -1,11 +1,12 @@
 -- What follows from the definitions alone.
-use Rattle.std.specs.Prelude.{◌≡◌, ℕ, ℤ, pos, true, false, List, [], ◌∷◌, ◌++◌, Some, None, unwrap_or, codes, replicate}
+use Rattle.std.specs.Prelude.{◌≡◌, ℕ, ℤ, pos, neg_ℤ, true, false, List, [], ◌∷◌, ◌++◌, Some, None, unwrap_or, codes, replicate}
 use Rattle.std.specs.FinMap as map
 use Rattle.acap_entries.specs.Moments.{first_moment, last_moment, IsMoment}
 use Rattle.acap_entries.specs.Names.{is_path, is_dataset_argument, is_attribute, is_user_name, is_context_name, dataset_of, name_of, own_entry, slash}
 use Rattle.acap_entries.specs.Homes.{for_user}
 use Rattle.acap_entries.specs.Stamp.{IsStamp, stamp_of}
 use Rattle.acap_entries.specs.Store.{Store, Written, IsStoreAfter, store_after}
+use Rattle.acap_entries.specs.Times.{time_of}
 use Rattle.acap_entries.specs.declared.path.Path.{Path}
 use Rattle.acap_entries.specs.declared.record.Record.{Record}
 
@@ -42,6 +43,36 @@ pub record StampExamples : Type 0 where
   pub one_is : IsStamp (pos 1) (codes "19700101000000000001")
   pub first_is : IsStamp first_moment (codes "00000101000000000000")
   pub last_is : IsStamp last_moment (codes "99991231235959999999")
+
+-- the stamp of a moment is a time that stands for that moment
+abbrev pub TimeLaw : Type 0
+TimeLaw = (moment : ℤ) → IsMoment moment → time_of (stamp_of moment) ≡ Some moment
+
+-- texts that are times and texts that are none, one for each rule
+pub record TimeExamples : Type 0 where
+  pub zero : time_of (codes "19700101000000") ≡ Some (pos 0)
+  pub tenth : time_of (codes "197001010000001") ≡ Some (pos 100_000)
+  pub twenty_digits : time_of (codes "19700101000000000001") ≡ Some (pos 1)
+  pub thirty_digits : time_of (codes "197001010000000000019999999999") ≡ Some (pos 1)
+  pub first_time : time_of (codes "00000101000000") ≡ Some first_moment
+  pub last_time : time_of (codes "99991231235959999999") ≡ Some last_moment
+  pub before_1970 : time_of (codes "19691231235959") ≡ Some (neg_ℤ (pos 1_000_000))
+  pub leap_second : time_of (codes "19691231235960") ≡ Some (neg_ℤ (pos 1))
+  pub leap_second_fraction : time_of (codes "196912312359605") ≡ Some (neg_ℤ (pos 1))
+  pub second_61 : time_of (codes "19691231235961") ≡ None
+  pub minute_60 : time_of (codes "19700101006000") ≡ None
+  pub hour_24 : time_of (codes "19700101240000") ≡ None
+  pub leap_day : time_of (codes "20000229000000") ≡ Some (pos 951_782_400_000_000)
+  pub no_leap_day : time_of (codes "19000229000000") ≡ None
+  pub april_31 : time_of (codes "20240431000000") ≡ None
+  pub day_0 : time_of (codes "20240400000000") ≡ None
+  pub month_0 : time_of (codes "20240001000000") ≡ None
+  pub month_13 : time_of (codes "20241301000000") ≡ None
+  pub thirteen_digits : time_of (codes "1970010100000") ≡ None
+  pub nothing : time_of [] ≡ None
+  pub letter : time_of (codes "1970010100000O") ≡ None
+  pub sign : time_of (codes "-1970010100000") ≡ None
+  pub letter_behind : time_of (codes "19700101000000000000Z") ≡ None
 
 -- names that are accepted and refused, one for each rule
 pub record PathExamples : Type 0 where

@@ -7,3 +7,4 @@ pub mod Orders
 pub mod Sorted
 pub mod Stamp
 pub mod Store
+pub mod Times

@@ -5,9 +5,9 @@ ghost use Rattle.std.specs.FinMap as map;
 use crate::attribute::Attribute;
 use crate::copying::{Copying, copy_all};
 use crate::keys::{AttributeText, Whole};
+use crate::lists::Values;
 use crate::memory::Memory;
 use crate::sorted::{lookup, put_in_room, take_out};
-use crate::values::Values;
 use std::alloc::Global;
 use std::marker::Model;
 

@@ -1,7 +1,7 @@
 use crate::copying::Copying;
+use crate::lists::Values;
 use crate::memory::Memory;
 use crate::value::Value;
-use crate::values::Values;
 
 /// What an attribute has: NIL, one string, or a list of strings (RFC 2244 section 3.1).
 #[derive(Debug, Drop)]

@@ -1,7 +1,6 @@
 use crate::cell::Cell;
-use crate::cell_list::CellList;
-use crate::cell_lists::CellLists;
 use crate::copying::Copying;
+use crate::lists::{CellList, CellLists};
 use crate::memory::Memory;
 
 /// What is printed for one item of RETURN (RFC 2244 section 6.4.1).

@@ -1,5 +1,5 @@
 //! What follows from the definitions alone: each function does nothing, and its contract is the law.
-ghost use Rattle.acap_entries.specs.Laws.{ChangeLaw, AfterLaw, TwoChangesLaw, RemovalLaw, PathLaw, StampLaw, StampExamples, PathExamples, DatasetExamples, NameExamples, HomeExamples};
+ghost use Rattle.acap_entries.specs.Laws.{ChangeLaw, AfterLaw, TwoChangesLaw, RemovalLaw, PathLaw, StampLaw, StampExamples, TimeLaw, TimeExamples, PathExamples, DatasetExamples, NameExamples, HomeExamples};
 
 /// A change determines the store that it leaves.
 pub fn change_law()
@@ -34,6 +34,16 @@ pub fn stamp_law()
 /// The stamps of the moments 0 and 1, of the first and of the last.
 pub fn stamp_examples()
     ensures { StampExamples }
+{}
+
+/// The stamp of a moment is a time that stands for that moment (RFC 2244 section 8).
+pub fn time_law()
+    ensures { TimeLaw }
+{}
+
+/// Texts that are times and texts that are none, one for each rule (RFC 2244 section 8).
+pub fn time_examples()
+    ensures { TimeExamples }
 {}
 
 /// Paths that are accepted and refused, one for each rule.

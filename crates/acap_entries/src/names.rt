@@ -142,6 +142,13 @@ pub fn split(path: &[u8]) -> (&[u8], &[u8])
     path.split_at(cut_of(path))
 }
 
+/// Whether they are the name of an entry: a component, or empty for the management entry's.
+pub fn is_entry_name(octets: &[u8]) -> bool
+    ensures { result ≡ name.is_entry_name octets.now }
+{
+    octets.is_empty() || is_component(octets)
+}
+
 /// Whether they are a path as a client sends it, of at most 1,024 octets and 16 components.
 #[tactic(auto, unfolding(crate::specs::Names::is_path))]
 pub fn is_path(octets: &[u8]) -> bool
@@ -152,9 +159,7 @@ pub fn is_path(octets: &[u8]) -> bool
     }
     let (dataset, name) = split(octets);
     let named = if name.is_empty() { 0 } else { 1 };
-    is_dataset(dataset)
-        && (name.is_empty() || is_component(name))
-        && component_count(dataset) + named <= 16
+    is_dataset(dataset) && is_entry_name(name) && component_count(dataset) + named <= 16
 }
 
 /// Whether they are a dataset as a client sends it, with its closing `/` or without, of at most 1,024 octets and 16 components.

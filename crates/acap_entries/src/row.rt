@@ -1,5 +1,5 @@
 use crate::copying::Copying;
-use crate::items::Items;
+use crate::lists::Items;
 use crate::memory::Memory;
 use crate::value::Value;
 

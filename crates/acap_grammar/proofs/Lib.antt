@@ -2,3 +2,5 @@ pub mod Places
 pub mod SeveralSteps
 pub mod Growing
 pub mod NeverMemory
+pub mod KeySteps
+pub mod FirstFaults

@@ -1,30 +1,30 @@
 -- One item more, and then those behind it.
-use Rattle.std.proofs.Common.{◌≡◌, ℕ, suc, zero, ◌+◌, ◌-◌, ◌<◌, ◌≤◌, Bool, true, false, List, [], ◌∷◌, ◌++◌, Ok, Err, refl, sym, ◌∙◌, arith}
+use Rattle.std.proofs.Common.{◌≡◌, ℕ, suc, zero, ◌+◌, ◌-◌, ◌<◌, ◌≤◌, Bool, true, false, List, Ok, Err, refl, sym, ◌∙◌, arith}
 use Rattle.acap_lexer.specs.Token.{Token}
 use Rattle.acap_grammar.specs.declared.grammar_fault.GrammarFault.{GrammarFault}
 use Rattle.acap_grammar.specs.declared.grammar_fault.GrammarFault.TheVariants as fault
 use Rattle.acap_grammar.specs.Outcome.{Fails, Read}
-use Rattle.acap_grammar.specs.Grammar.{several}
+use Rattle.acap_grammar.specs.Several.{several}
 
--- the list is over
-pub over_now : {A : Type 0} (over fits : List Token → Bool) (item : List A → List Token → Read A) (count : ℕ) (seen : List A) (tokens : List Token) (total : Read (List A))
+-- no further item comes
+pub over_now : {A : Type 0} (over fits : List Token → Bool) (item : A → List Token → Read A) (count : ℕ) (seen : A) (tokens : List Token) (total : Read A)
     → true ≡ over tokens → several over fits item count seen tokens ≡ total → total ≡ Ok (seen, tokens)
 unfolding several
 over_now over fits item zero seen tokens total c so_far = let one : several over fits item zero seen tokens ≡ Ok (seen, tokens) = rw (← c) refl in sym so_far ∙ one
 over_now over fits item (suc n) seen tokens total c so_far = let one : several over fits item (suc n) seen tokens ≡ Ok (seen, tokens) = rw (← c) refl in sym so_far ∙ one
 
 -- an item is read
-pub goes_on : {A : Type 0} (over fits : List Token → Bool) (item : List A → List Token → Read A) (count i : ℕ) (seen : List A) (tokens : List Token) (x : A × List Token) (total : Read (List A))
+pub goes_on : {A : Type 0} (over fits : List Token → Bool) (item : A → List Token → Read A) (count i : ℕ) (seen : A) (tokens : List Token) (x : A × List Token) (total : Read A)
     → i < count → false ≡ over tokens → item seen tokens ≡ Ok x → several over fits item (count - i) seen tokens ≡ total
-    → several over fits item (count - (i + 1)) (seen ++ x.0 ∷ []) x.1 ≡ total
+    → several over fits item (count - (i + 1)) x.0 x.1 ≡ total
 unfolding several
 goes_on over fits item count i seen tokens x total lt c e so_far =
     let k : count - i ≡ suc (count - (i + 1)) = omega arith in
-    let one : several over fits item (count - i) seen tokens ≡ several over fits item (count - (i + 1)) (seen ++ x.0 ∷ []) x.1 = rw (k, ← c, e) refl in
+    let one : several over fits item (count - i) seen tokens ≡ several over fits item (count - (i + 1)) x.0 x.1 = rw (k, ← c, e) refl in
     sym one ∙ so_far
 
 -- no item is read
-pub fails : {A : Type 0} (e : GrammarFault) (over fits : List Token → Bool) (item : List A → List Token → Read A) (count i : ℕ) (seen : List A) (tokens : List Token) (total : Read (List A))
+pub fails : {A : Type 0} (e : GrammarFault) (over fits : List Token → Bool) (item : A → List Token → Read A) (count i : ℕ) (seen : A) (tokens : List Token) (total : Read A)
     → i < count → false ≡ over tokens → Fails e (item seen tokens) → several over fits item (count - i) seen tokens ≡ total → Fails e total
 unfolding several
 fails e over fits item count i seen tokens total lt c h so_far not_memory =
@@ -33,7 +33,7 @@ fails e over fits item count i seen tokens total lt c h so_far not_memory =
     sym so_far ∙ one
 
 -- one item too many
-pub too_many : {A : Type 0} (over fits : List Token → Bool) (item : List A → List Token → Read A) (count i : ℕ) (seen : List A) (tokens : List Token) (total : Read (List A))
+pub too_many : {A : Type 0} (over fits : List Token → Bool) (item : A → List Token → Read A) (count i : ℕ) (seen : A) (tokens : List Token) (total : Read A)
     → count ≤ i → false ≡ over tokens → true ≡ fits tokens → several over fits item (count - i) seen tokens ≡ total → total ≡ Err fault.TooMany
 unfolding several
 too_many over fits item count i seen tokens total le c f so_far =
@@ -41,7 +41,7 @@ too_many over fits item count i seen tokens total le c f so_far =
     let one : several over fits item (count - i) seen tokens ≡ Err fault.TooMany = rw (k, ← c, ← f) refl in
     sym so_far ∙ one
 
-pub no_item : {A : Type 0} (over fits : List Token → Bool) (item : List A → List Token → Read A) (count i : ℕ) (seen : List A) (tokens : List Token) (total : Read (List A))
+pub no_item : {A : Type 0} (over fits : List Token → Bool) (item : A → List Token → Read A) (count i : ℕ) (seen : A) (tokens : List Token) (total : Read A)
     → count ≤ i → false ≡ over tokens → false ≡ fits tokens → several over fits item (count - i) seen tokens ≡ total → total ≡ Err fault.Arguments
 unfolding several
 no_item over fits item count i seen tokens total le c f so_far =

@@ -1,27 +1,56 @@
 -- What follows from the definitions alone.
-use Rattle.std.specs.Prelude.{◌≡◌, ℕ, pos, List, [], ◌∷◌, ◌++◌, codes, Some, None, Ok, Err}
+use Rattle.std.specs.Prelude.{◌≡◌, ℕ, pos, List, [], ◌∷◌, ◌++◌, replicate, codes, Option, Some, None, Result, Ok, Err}
 use Rattle.acap_lexer.specs.declared.kind.Kind.{Kind}
 use Rattle.acap_lexer.specs.declared.kind.Kind.TheVariants as kind
 use Rattle.acap_lexer.specs.Token.{Token}
 use Rattle.acap_entries.specs.declared.cell.Cell.TheVariants as cell
+use Rattle.acap_entries.specs.declared.item.Item.{Item}
 use Rattle.acap_entries.specs.declared.item.Item.TheVariants as item
 use Rattle.acap_entries.specs.declared.row.Row.{Row}
 use Rattle.acap_grammar.specs.declared.command.Command.{Command}
 use Rattle.acap_grammar.specs.declared.command.Command.TheVariants as command
 use Rattle.acap_grammar.specs.declared.given.Given.TheVariants as given
+use Rattle.acap_grammar.specs.declared.grammar_fault.GrammarFault.{GrammarFault}
 use Rattle.acap_grammar.specs.declared.grammar_fault.GrammarFault.TheVariants as fault
-use Rattle.acap_grammar.specs.declared.key.Key.TheVariants as key
+use Rattle.acap_grammar.specs.declared.metadata.Metadata.TheVariants as metadata
 use Rattle.acap_grammar.specs.declared.reply.Reply.{Reply}
+use Rattle.acap_grammar.specs.declared.refusal.Refusal.{Refusal}
 use Rattle.acap_grammar.specs.declared.refusal.Refusal.TheVariants as refusal
+use Rattle.acap_grammar.specs.declared.return_item.ReturnItem.{ReturnItem}
+use Rattle.acap_grammar.specs.declared.return_name.ReturnName.TheVariants as name
 use Rattle.acap_grammar.specs.declared.said.Said.{Said}
 use Rattle.acap_grammar.specs.declared.said.Said.TheVariants as said
+use Rattle.acap_grammar.specs.declared.store_metadata.StoreMetadata.TheVariants as stored
+use Rattle.acap_grammar.specs.declared.target.Target.TheVariants as target
+use Rattle.acap_grammar.specs.declared.test.Test.TheVariants as test
 use Rattle.acap_grammar.specs.declared.verb.Verb.TheVariants as verb
 use Rattle.acap_grammar.specs.Grammar.{command_of}
 use Rattle.acap_grammar.specs.Replies.{octets_of, crlf}
+use Rattle.acap_grammar.specs.Searching.{unmodified}
+use Rattle.acap_grammar.specs.Storing.{unconditional}
+use Rattle.acap_grammar.specs.Wanted.{One}
 
 -- two different commands never have the same tokens
 abbrev pub OneCommand : Type 0
 OneCommand = (tokens : List Token) (a b : Command) → command_of tokens ≡ Ok a → command_of tokens ≡ Ok b → a ≡ b
+
+-- the first fault from the left of a line that is no command
+abbrev pub fault_in : Result Command GrammarFault → Option GrammarFault
+fault_in (Ok c) = None
+fault_in (Err e) = Some e
+
+abbrev pub fault_of : List Token → Option GrammarFault
+fault_of tokens = fault_in (command_of tokens)
+
+-- a line is a command, or it has a fault, and not both
+pub record CommandOrFault : Type 0 where
+  pub command : (tokens : List Token) (c : Command) → command_of tokens ≡ Ok c → fault_of tokens ≡ None
+  pub fault : (tokens : List Token) (e : GrammarFault) → fault_of tokens ≡ Some e → command_of tokens ≡ Err e
+
+-- the fault is the first from the left: what stands behind it changes nothing (a line that has too few arguments, or no
+-- verb, has its fault at its end)
+abbrev pub FirstFault : Type 0
+FirstFault = (tokens more : List Token) (e : GrammarFault) → (e ≡ fault.Arguments → ⊥) → (e ≡ fault.UnknownCommand → ⊥) → fault_of tokens ≡ Some e → fault_of (tokens ++ more) ≡ Some e
 
 -- what is wrong with the tokens of a line is never want of memory
 abbrev pub NeverMemory : Type 0
@@ -41,7 +70,8 @@ abbrev pub store_command : Command
 store_command = command.Store (
     record {
       path = record { dataset = codes "/option/~/"; name = codes "font" };
-      items = record { attribute = codes "option.value"; given = given.Put (cell.Single (codes "mono")) } ∷ [];
+      modifiers = unconditional;
+      items = record { attribute = codes "option.value"; metadata = stored.Value; given = given.Put (cell.Single (codes "mono")) } ∷ [];
     } ∷ [])
 
 -- the tokens of `A2 SEARCH "/option/~/" RETURN ("option.value" "modtime") ALL`
@@ -51,12 +81,51 @@ search_tokens =
     ∷ at kind.Open [] 30 31 ∷ at kind.Quoted (codes "option.value") 31 45 ∷ at kind.Quoted (codes "modtime") 46 55 ∷ at kind.Close [] 55 56
     ∷ at kind.Word (codes "ALL") 57 60 ∷ []
 
+abbrev pub value_of : List ℕ → ReturnItem
+value_of attribute = record { name = name.Named attribute; metadata = metadata.Value ∷ [] }
+
 abbrev pub search_command : Command
-search_command = command.Search (record { dataset = codes "/option/~/"; returns = Some (codes "option.value" ∷ codes "modtime" ∷ []); key = key.All })
+search_command = command.Search (
+    record {
+      target = target.Dataset (codes "/option/~/");
+      modifiers = record unmodified { returns = Some (value_of (codes "option.value") ∷ value_of (codes "modtime") ∷ []) };
+      key = One test.All;
+    })
+
+-- the tokens of `A3 DELETEACL ("/a" "b" "") "joe"`
+abbrev pub delete_tokens : List Token
+delete_tokens =
+    at kind.Tag (codes "A3") 0 2 ∷ at kind.Word (codes "DELETEACL") 3 12 ∷ at kind.Open [] 13 14 ∷ at kind.Quoted (codes "/a") 14 18
+    ∷ at kind.Quoted (codes "b") 19 22 ∷ at kind.Quoted [] 23 25 ∷ at kind.Close [] 25 26 ∷ at kind.Quoted (codes "joe") 27 32 ∷ []
+
+abbrev pub delete_command : Command
+delete_command = command.DeleteAcl (record { dataset = codes "/a/"; attribute = Some (codes "b"); name = Some [] }) (Some (codes "joe"))
 
 pub record CommandExamples : Type 0 where
   pub store : command_of store_tokens ≡ Ok store_command
   pub search : command_of search_tokens ≡ Ok search_command
+  pub delete : command_of delete_tokens ≡ Ok delete_command
+
+-- a line `A1 SEARCH "/"` with words behind it
+abbrev pub word_token : List ℕ → Token
+word_token text = at kind.Word text 0 0
+
+abbrev pub search_with : List Token → List Token
+search_with behind = at kind.Tag (codes "A1") 0 2 ∷ word_token (codes "SEARCH") ∷ at kind.Quoted (codes "/") 0 0 ∷ behind
+
+abbrev pub nots : ℕ → List Token → List Token
+nots count behind = replicate count (word_token (codes "NOT")) ++ behind
+
+abbrev pub depth_one : List Token → List Token
+depth_one behind = word_token (codes "DEPTH") ∷ word_token (codes "1") ∷ behind
+
+pub record FaultExamples : Type 0 where
+  pub deep : fault_of (search_with (nots 31 (word_token (codes "ALL") ∷ []))) ≡ None
+  pub too_deep : fault_of (search_with (nots 32 (word_token (codes "ALL") ∷ []))) ≡ Some fault.TooDeep
+  pub whatever_it_is : fault_of (search_with (nots 32 (at kind.Close [] 0 0 ∷ []))) ≡ Some fault.TooDeep
+  pub nothing_there : fault_of (search_with (nots 32 [])) ≡ Some fault.Arguments
+  pub twice : fault_of (search_with (depth_one (depth_one []))) ≡ Some fault.NotPermittedTwice
+  pub first : fault_of (search_with (depth_one (word_token (codes "SORT") ∷ at kind.Open [] 0 0 ∷ at kind.Quoted (codes "*") 0 0 ∷ word_token (codes "DEPTH") ∷ []))) ≡ Some fault.BadName
 
 -- the row of `/option/~/font`, of which `option.value` and `modtime` are told
 abbrev pub font_row : Row
@@ -69,16 +138,48 @@ under tag said = record { tag = Some tag; said = said }
 abbrev pub alone : Said → Reply
 alone said = record { tag = None; said = said }
 
+abbrev pub refused : List ℕ → Refusal → Reply
+refused tag refusal = under tag (said.Refused refusal)
+
+-- a search that finds one row, of which this is told
+abbrev pub telling : List Item → Reply
+telling items = under (codes "A3") (said.Found (record { rows = record { name = codes "font"; items = items } ∷ []; last = None; total = None }))
+
 pub record ReplyExamples : Type 0 where
   pub stored : octets_of (under (codes "A1") (said.Done verb.Store)) ≡ codes "A1 OK \"STORE done\"" ++ crlf
-  pub found : octets_of (under (codes "A2") (said.Found (record { rows = font_row ∷ []; last = Some (pos 0) })))
+  pub found : octets_of (under (codes "A2") (said.Found (record { rows = font_row ∷ []; last = Some (pos 0); total = None })))
       ≡ codes "A2 ENTRY \"font\" \"mono\" \"19700101000000000000\"" ++ crlf ++ codes "A2 MODTIME \"19700101000000000000\"" ++ crlf ++ codes "A2 OK \"SEARCH done\"" ++ crlf
   pub good_bye : octets_of (under (codes "A3") said.GoodBye) ≡ codes "* BYE \"Good bye\"" ++ crlf ++ codes "A3 OK \"LOGOUT done\"" ++ crlf
   pub bad_tag : octets_of (alone (said.Refused refusal.BadTag)) ≡ codes "* BAD \"Bad tag\"" ++ crlf
   pub too_long : octets_of (alone (said.Refused refusal.CommandTooLong)) ≡ codes "* BYE \"Command too long\"" ++ crlf
-  pub no_exist : octets_of (under (codes "A4") (said.Refused (refusal.NoExist (codes "/option/user/joe/"))))
+  pub no_exist : octets_of (refused (codes "A4") (refusal.NoExist (codes "/option/user/joe/")))
       ≡ codes "A4 NO (NOEXIST \"/option/user/joe/\") \"No such dataset\"" ++ crlf
-  pub invalid : octets_of (under (codes "A1") (said.Refused (refusal.Invalid (record { dataset = codes "/option/user/joe/"; name = codes "n" }) (codes "modtime"))))
+  pub invalid : octets_of (refused (codes "A1") (refusal.Invalid (record { dataset = codes "/option/user/joe/"; name = codes "n" }) (codes "modtime")))
       ≡ codes "A1 NO (INVALID (\"/option/user/joe/n\" \"modtime\")) \"Invalid value\"" ++ crlf
-  pub permission : octets_of (under (codes "A5") (said.Refused (refusal.Permission (record { dataset = codes "/option/site/"; attribute = Some (codes "entry"); name = Some (codes "b") }))))
+  pub permission : octets_of (refused (codes "A5") (refusal.Permission (record { dataset = codes "/option/site/"; attribute = Some (codes "entry"); name = Some (codes "b") })))
       ≡ codes "A5 NO (PERMISSION (\"/option/site/\" \"entry\" \"b\")) \"Permission denied\"" ++ crlf
+  pub permission_dataset : octets_of (refused (codes "A5") (refusal.Permission (record { dataset = codes "/option/site/"; attribute = None; name = None })))
+      ≡ codes "A5 NO (PERMISSION (\"/option/site/\")) \"Permission denied\"" ++ crlf
+  pub permission_attribute : octets_of (refused (codes "A5") (refusal.Permission (record { dataset = codes "/option/site/"; attribute = Some (codes "entry"); name = None })))
+      ≡ codes "A5 NO (PERMISSION (\"/option/site/\" \"entry\")) \"Permission denied\"" ++ crlf
+  pub modified : octets_of (refused (codes "A6") (refusal.Modified (record { dataset = codes "/option/user/joe/"; name = codes "n" })))
+      ≡ codes "A6 NO (MODIFIED \"/option/user/joe/n\") \"Entry was changed\"" ++ crlf
+  pub too_old : octets_of (refused (codes "A7") refusal.TooOld) ≡ codes "A7 NO (TOOOLD) \"Time too old\"" ++ crlf
+  pub way_too_many : octets_of (refused (codes "A8") refusal.WayTooMany) ≡ codes "A8 NO (WAYTOOMANY) \"Too many matches\"" ++ crlf
+  pub try_free_context : octets_of (refused (codes "A9") refusal.TryFreeContext) ≡ codes "A9 NO (TRYFREECONTEXT) \"Too many contexts\"" ++ crlf
+  pub memory : octets_of (refused (codes "A1") refusal.Memory) ≡ codes "A1 NO (TRYLATER) \"No memory\"" ++ crlf
+  pub history_full : octets_of (refused (codes "A1") refusal.HistoryFull) ≡ codes "A1 NO (TRYLATER) \"History is full\"" ++ crlf
+  pub too_many : octets_of (under (codes "A2") (said.Found (record { rows = []; last = None; total = Some 65_536 }))) ≡ codes "A2 OK (TOOMANY 65536) \"SEARCH done\"" ++ crlf
+  pub list_row : octets_of (telling (item.One (cell.Multi (codes "a" ∷ codes "b" ∷ [])) ∷ [])) ≡ codes "A3 ENTRY \"font\" (\"a\" \"b\")" ++ crlf ++ codes "A3 OK \"SEARCH done\"" ++ crlf
+  pub nil_row : octets_of (telling (item.One cell.Nil ∷ [])) ≡ codes "A3 ENTRY \"font\" NIL" ++ crlf ++ codes "A3 OK \"SEARCH done\"" ++ crlf
+  pub several_row : octets_of (telling (item.Several (cell.Single (codes "mono") ∷ cell.Nil ∷ cell.Multi (codes "a" ∷ codes "b" ∷ []) ∷ []) ∷ []))
+      ≡ codes "A3 ENTRY \"font\" (\"mono\" NIL (\"a\" \"b\"))" ++ crlf ++ codes "A3 OK \"SEARCH done\"" ++ crlf
+  pub starred_row : octets_of (telling (item.PerAttribute ((cell.Single (codes "option.face") ∷ cell.Single (codes "mono") ∷ []) ∷ (cell.Single (codes "option.size") ∷ cell.Single (codes "12") ∷ []) ∷ []) ∷ []))
+      ≡ codes "A3 ENTRY \"font\" ((\"option.face\" \"mono\") (\"option.size\" \"12\"))" ++ crlf ++ codes "A3 OK \"SEARCH done\"" ++ crlf
+  pub starred_nothing_row : octets_of (telling (item.PerAttribute [] ∷ [])) ≡ codes "A3 ENTRY \"font\" ()" ++ crlf ++ codes "A3 OK \"SEARCH done\"" ++ crlf
+  pub deleted : octets_of (under (codes "A4") (said.Deleted (codes "font" ∷ codes "a b" ∷ [])))
+      ≡ codes "A4 DELETED \"font\"" ++ crlf ++ codes "A4 DELETED \"a b\"" ++ crlf ++ codes "A4 OK \"DELETEDSINCE done\"" ++ crlf
+  pub rights : octets_of (under (codes "A5") (said.Rights (codes "xrwia"))) ≡ codes "A5 MYRIGHTS \"xrwia\"" ++ crlf ++ codes "A5 OK \"MYRIGHTS done\"" ++ crlf
+  pub rights_list : octets_of (under (codes "A6") (said.RightsList (codes "xr" ∷ codes "w" ∷ codes "i" ∷ codes "a" ∷ [])))
+      ≡ codes "A6 LISTRIGHTS \"xr\" \"w\" \"i\" \"a\"" ++ crlf ++ codes "A6 OK \"LISTRIGHTS done\"" ++ crlf
+  pub challenge : octets_of (under (codes "A7") (said.Challenge (codes "<1896.697170952@acap.example>"))) ≡ codes "+ \"<1896.697170952@acap.example>\"" ++ crlf

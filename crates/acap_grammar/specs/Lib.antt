@@ -1,6 +1,13 @@
-pub mod Outcome
-pub mod Marks
+pub mod Arguments
 pub mod Grammar
+pub mod Keys
+pub mod Laws
+pub mod Marks
+pub mod Nodes
+pub mod Outcome
 pub mod Refusals
 pub mod Replies
-pub mod Laws
+pub mod Searching
+pub mod Several
+pub mod Storing
+pub mod Wanted

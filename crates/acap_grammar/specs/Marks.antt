@@ -1,6 +1,6 @@
 -- What stands first among tokens [RFC 2244 sections 2.2 and 8].
-use Rattle.std.specs.Prelude.{ℕ, List, [], ◌∷◌, Bool, true, false, Option, Some, None, Result, Ok, Err, ◌&&◌, if◌then◌else◌}
-use Rattle.std.specs.Str.{str_eq_ignore_ascii_case}
+use Rattle.std.specs.Prelude.{ℕ, List, [], ◌∷◌, Bool, true, false, Option, Some, None, option_map, Result, Ok, Err, find, if◌then◌else◌}
+use Rattle.std.specs.Str.{bytes_eq, str_eq_ignore_ascii_case}
 use Rattle.acap_lexer.specs.declared.kind.Kind.{Kind}
 use Rattle.acap_lexer.specs.declared.kind.Kind.TheVariants as kind
 use Rattle.acap_lexer.specs.Token.{Token}
@@ -46,7 +46,20 @@ unfoldable pub string_at : List Token → Read (List ℕ)
 string_at [] = Err fault.Arguments
 string_at (t ∷ rest) = if is_string t.kind then Ok (t.value, rest) else Err fault.Arguments
 
+-- what a table has beside a word, read in any case
+abbrev pub word_in : {A : Type 0} → List (List ℕ × A) → List ℕ → Option A
+word_in table word = option_map (λ row. row.1) (find (λ row. str_eq_ignore_ascii_case word row.0) table)
+
+-- what a table has beside a text, octet by octet
+abbrev pub text_in : {A : Type 0} → List (List ℕ × A) → List ℕ → Option A
+text_in table text = option_map (λ row. row.1) (find (λ row. bytes_eq text row.0) table)
+
+-- what a table has beside the word that stands first, and the tokens behind it
+unfoldable pub word_at : {A : Type 0} → List (List ℕ × A) → List Token → Option (A × List Token)
+word_at table [] = None
+word_at table (t ∷ rest) = if is_word t.kind then option_map (λ x. (x, rest)) (word_in table t.value) else None
+
 -- the tokens behind that word, read in any case, if it stands first
 unfoldable pub behind_word : List ℕ → List Token → Option (List Token)
 behind_word word [] = None
-behind_word word (t ∷ rest) = if is_word t.kind && str_eq_ignore_ascii_case t.value word then Some rest else None
+behind_word word (t ∷ rest) = if is_word t.kind then (if str_eq_ignore_ascii_case t.value word then Some rest else None) else None

@@ -1,5 +1,5 @@
--- The printed form of a reply [RFC 2244 sections 2.2, 3.6, 6.1, 6.2, 6.4 and 8].
-use Rattle.std.specs.Prelude.{ℕ, ℤ, List, [], ◌∷◌, ◌++◌, codes, flat_map, Option, Some, None}
+-- The printed form of a reply [RFC 2244 sections 2.2, 3.6, 6.1 to 6.4, 6.6.2, 6.7 and 8; RFC 2195 section 2].
+use Rattle.std.specs.Prelude.{ℕ, ℤ, List, [], ◌∷◌, ◌++◌, codes, decimal, flat_map, Option, Some, None}
 use Rattle.acap_lexer.specs.Printing.{printed}
 use Rattle.acap_entries.specs.Stamp.{stamp_of}
 use Rattle.acap_entries.specs.declared.cell.Cell.{Cell}
@@ -89,9 +89,41 @@ refused_form tag refusal = status_form (status_of refusal) tag ++ code_of refusa
 abbrev pub greeting : List ℕ
 greeting = codes "* ACAP (IMPLEMENTATION \"acapd\") (SASL \"CRAM-MD5\") (CONTEXTLIMIT \"200\")" ++ crlf
 
+-- how many matched, as a code in its parenthesis and the space behind it
+unfoldable pub total_form : ℕ → List ℕ
+total_form total = codes "(TOOMANY " ++ decimal total ++ codes ") "
+
+-- the completion of a search: with how many matched where LIMIT kept some of them from being printed
+unfoldable pub searched_form : List ℕ → Option ℕ → List ℕ
+searched_form tag None = done_form tag verb.Search
+searched_form tag (Some total) = tag ++ codes " OK " ++ total_form total ++ printed (done_of verb.Search) ++ crlf
+
 -- the end of a search: its rows, the moment that it tells, and its completion
 unfoldable pub found_form : List ℕ → Found → List ℕ
-found_form tag found = rows_form tag found.rows ++ last_form tag found.last ++ done_form tag verb.Search
+found_form tag found = rows_form tag found.rows ++ last_form tag found.last ++ searched_form tag found.total
+
+-- the name of a deleted entry: tag `DELETED` name
+unfoldable pub deleted_name_form : List ℕ → List ℕ → List ℕ
+deleted_name_form tag name = tag ++ codes " DELETED " ++ printed name ++ crlf
+
+abbrev pub deleted_names_form : List ℕ → List (List ℕ) → List ℕ
+deleted_names_form tag names = flat_map (deleted_name_form tag) names
+
+-- the end of a DELETEDSINCE: a line for each name, and its completion
+unfoldable pub deleted_form : List ℕ → List (List ℕ) → List ℕ
+deleted_form tag names = deleted_names_form tag names ++ done_form tag verb.DeletedSince
+
+-- the end of a MYRIGHTS: tag `MYRIGHTS` rights, and its completion
+unfoldable pub rights_form : List ℕ → List ℕ → List ℕ
+rights_form tag rights = tag ++ codes " MYRIGHTS " ++ printed rights ++ crlf ++ done_form tag verb.MyRights
+
+-- the end of a LISTRIGHTS: tag `LISTRIGHTS` rights*, and its completion
+unfoldable pub rights_list_form : List ℕ → List (List ℕ) → List ℕ
+rights_list_form tag rights = tag ++ codes " LISTRIGHTS" ++ spaced printed rights ++ crlf ++ done_form tag verb.ListRights
+
+-- a login that goes on: `+` challenge, under no tag
+unfoldable pub challenge_form : List ℕ → List ℕ
+challenge_form challenge = codes "+ " ++ printed challenge ++ crlf
 
 -- the end of a session: BYE under no tag, and then the completion
 unfoldable pub good_bye_form : List ℕ → List ℕ
@@ -104,6 +136,10 @@ said_form tag said.Left = []
 said_form tag said.Drained = []
 said_form tag (said.Done verb) = done_form tag verb
 said_form tag (said.Found found) = found_form tag found
+said_form tag (said.Deleted names) = deleted_form tag names
+said_form tag (said.Rights rights) = rights_form tag rights
+said_form tag (said.RightsList rights) = rights_list_form tag rights
+said_form tag (said.Challenge challenge) = challenge_form challenge
 said_form tag said.GoodBye = good_bye_form tag
 said_form tag (said.Refused refusal) = refused_form tag refusal
 

@@ -1,6 +1,7 @@
-use crate::entries::Entries;
+use crate::lists::{ContextNames, Entries};
+use crate::object::Object;
 use crate::search::Search;
-use acap_entries::{Copying, Memory, Value};
+use acap_entries::{ContextName, Copying, Dataset, Memory, Moment, Value};
 
 /// What a client asks for (RFC 2244 section 6).
 #[derive(Debug, Drop)]
@@ -15,6 +16,20 @@ pub enum Command {
     Store(Entries),
     /// SEARCH: entries are to be found (section 6.4.1).
     Search(Search),
+    /// SETACL: the identifier is to have these rights on the object, both as sent (section 6.7).
+    SetAcl(Object, Value, Value),
+    /// DELETEACL: the identifier is to be taken off the object's list, or the whole list to be removed (section 6.7).
+    DeleteAcl(Object, Option<Value>),
+    /// MYRIGHTS: the rights are to be told that the user has on the object (section 6.7).
+    MyRights(Object),
+    /// LISTRIGHTS: the rights are to be told that the identifier may have on the object (section 6.7).
+    ListRights(Object, Value),
+    /// DELETEDSINCE: the entries of the dataset are to be told that were deleted later than the time (section 6.6.2).
+    DeletedSince(Dataset, Moment),
+    /// FREECONTEXT: the context is to be given up (section 6.5).
+    FreeContext(ContextName),
+    /// UPDATECONTEXT: the pending notices of the contexts are to be told (section 6.5).
+    UpdateContext(ContextNames),
 }
 
 impl Copying for Command {
@@ -25,6 +40,25 @@ impl Copying for Command {
             Command::Authenticate(mechanism) => Ok(Command::Authenticate(mechanism.copy()?)),
             Command::Store(entries) => Ok(Command::Store(entries.copy()?)),
             Command::Search(search) => Ok(Command::Search(search.copy()?)),
+            Command::SetAcl(object, identifier, rights) => {
+                let object = object.copy()?;
+                let identifier = identifier.copy()?;
+                Ok(Command::SetAcl(object, identifier, rights.copy()?))
+            }
+            Command::DeleteAcl(object, identifier) => {
+                let object = object.copy()?;
+                Ok(Command::DeleteAcl(object, identifier.copy()?))
+            }
+            Command::MyRights(object) => Ok(Command::MyRights(object.copy()?)),
+            Command::ListRights(object, identifier) => {
+                let object = object.copy()?;
+                Ok(Command::ListRights(object, identifier.copy()?))
+            }
+            Command::DeletedSince(dataset, since) => {
+                Ok(Command::DeletedSince(dataset.copy()?, *since))
+            }
+            Command::FreeContext(name) => Ok(Command::FreeContext(name.copy()?)),
+            Command::UpdateContext(names) => Ok(Command::UpdateContext(names.copy()?)),
         }
     }
 }

@@ -1,11 +1,14 @@
-use crate::rows::Rows;
+use crate::lists::Rows;
 use acap_entries::Moment;
 
-/// What a SEARCH tells: its rows, and the store's last moment where a RETURN asked for rows (RFC 2244 section 6.4.1).
+/// What a SEARCH tells: its rows, the store's last moment where a RETURN asked for rows, and how many entries matched
+/// where not all of them are printed (RFC 2244 section 6.4.1).
 #[derive(Debug, Drop)]
 pub struct Found {
     /// The rows, each printed as an ENTRY.
     pub rows: Rows,
     /// The moment printed as a MODTIME after them, if one is.
     pub last: Option<Moment>,
+    /// How many entries matched, told where LIMIT kept some of them from being printed.
+    pub total: Option<u32>,
 }

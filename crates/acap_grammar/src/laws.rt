@@ -1,9 +1,19 @@
 //! What follows from the definitions alone: each function does nothing, and its contract is the law.
-ghost use Rattle.acap_grammar.specs.Laws.{OneCommand, NeverMemory, CommandExamples, ReplyExamples};
+ghost use Rattle.acap_grammar.specs.Laws.{OneCommand, CommandOrFault, FirstFault, NeverMemory, CommandExamples, FaultExamples, ReplyExamples};
 
 /// Two different commands never have the same tokens.
 pub fn one_command()
     ensures { OneCommand }
+{}
+
+/// A line is a command or has a fault, the first from the left, and not both.
+pub fn command_or_fault()
+    ensures { CommandOrFault }
+{}
+
+/// The fault is the first from the left: what stands behind it changes nothing.
+pub fn first_fault()
+    ensures { FirstFault }
 {}
 
 /// What is wrong with a command is never want of memory: `parse` answers that only where memory was refused.
@@ -11,9 +21,14 @@ pub fn never_memory()
     ensures { NeverMemory }
 {}
 
-/// The tokens of a STORE and of a SEARCH (RFC 2244 sections 6.4.1 and 6.6.1) and the commands that they are.
+/// The tokens of a STORE, a SEARCH and a DELETEACL (RFC 2244 sections 6.4.1, 6.6.1 and 6.7) and the commands that they are.
 pub fn command_examples()
     ensures { CommandExamples }
+{}
+
+/// Lines and the faults that are the first from the left in them.
+pub fn fault_examples()
+    ensures { FaultExamples }
 {}
 
 /// Replies and their octets.

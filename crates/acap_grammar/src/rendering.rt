@@ -2,7 +2,7 @@
 
 ghost use Rattle.std.specs.Prelude.{◌≡◌, ◌++◌, OnOk, OnErr};
 ghost use Rattle.acap_lexer.specs.Printing.{Grows};
-ghost use Rattle.acap_grammar.specs.Replies.{row_form, rows_form, last_form, done_of, done_form, status_form, refused_form, greeting, found_form, good_bye_form, said_form, tag_of, octets_of};
+ghost use Rattle.acap_grammar.specs.Replies.{row_form, rows_form, last_form, done_of, done_form, status_form, refused_form, greeting, total_form, searched_form, found_form, deleted_name_form, deleted_names_form, deleted_form, rights_form, rights_list_form, challenge_form, good_bye_form, said_form, tag_of, octets_of};
 
 use crate::codes::append_code;
 use crate::data::append_items;
@@ -12,10 +12,10 @@ use crate::refusing::text_of;
 use crate::reply::Reply;
 use crate::said::Said;
 use crate::status::Status;
-use crate::strings::append_string;
+use crate::strings::{append_spaced, append_string};
 use crate::verb::Verb;
 use acap_entries::stamp::stamp;
-use acap_entries::{Memory, Moment, Octets, Row};
+use acap_entries::{Memory, Moment, Octets, Row, Value};
 
 #[tactic(auto, unfolding(crate::specs::Replies::row_form))]
 fn append_row(tag: &[u8], row: &Row, out: &mut Vec<u8>) -> Result<(), Memory>
@@ -126,6 +126,34 @@ fn append_greeting(out: &mut Vec<u8>) -> Result<(), Memory>
     Ok(())
 }
 
+#[tactic(auto, unfolding(crate::specs::Replies::total_form))]
+fn append_total(total: u32, out: &mut Vec<u8>) -> Result<(), Memory>
+    ensures ok { OnOk result (out.new.items ≡ out.old.items ++ total_form total) }
+    ensures grows { Grows out.old.items out.new.items }
+{
+    let digits = total.to_string(*out.allocator())?;
+    out.extend_from_slice(b"(TOOMANY ")?;
+    out.extend_from_slice(digits.as_bytes())?;
+    out.extend_from_slice(b") ")?;
+    Ok(())
+}
+
+#[tactic(auto, unfolding(crate::specs::Replies::searched_form))]
+fn append_searched(tag: &[u8], total: Option<u32>, out: &mut Vec<u8>) -> Result<(), Memory>
+    ensures ok { OnOk result (out.new.items ≡ out.old.items ++ searched_form tag.now total) }
+    ensures grows { Grows out.old.items out.new.items }
+{
+    let Some(total) = total else {
+        return append_done(tag, Verb::Search, out);
+    };
+    out.extend_from_slice(tag)?;
+    out.extend_from_slice(b" OK ")?;
+    append_total(total, out)?;
+    append_string(done_of(Verb::Search), out)?;
+    out.extend_from_slice(b"\r\n")?;
+    Ok(())
+}
+
 #[tactic(auto, unfolding(crate::specs::Replies::found_form))]
 fn append_found(tag: &[u8], found: &Found, out: &mut Vec<u8>) -> Result<(), Memory>
     ensures ok { OnOk result (out.new.items ≡ out.old.items ++ found_form tag.now found.now) }
@@ -133,7 +161,73 @@ fn append_found(tag: &[u8], found: &Found, out: &mut Vec<u8>) -> Result<(), Memo
 {
     append_rows(tag, found.rows.as_slice(), out)?;
     append_last(tag, found.last, out)?;
-    append_done(tag, Verb::Search, out)
+    append_searched(tag, found.total, out)
+}
+
+#[tactic(auto, unfolding(crate::specs::Replies::deleted_name_form))]
+fn append_deleted_name(tag: &[u8], name: &[u8], out: &mut Vec<u8>) -> Result<(), Memory>
+    ensures ok { OnOk result (out.new.items ≡ out.old.items ++ deleted_name_form tag.now name.now) }
+    ensures grows { Grows out.old.items out.new.items }
+{
+    out.extend_from_slice(tag)?;
+    out.extend_from_slice(b" DELETED ")?;
+    append_string(name, out)?;
+    out.extend_from_slice(b"\r\n")?;
+    Ok(())
+}
+
+fn append_deleted_names(tag: &[u8], names: &[Value], out: &mut Vec<u8>) -> Result<(), Memory>
+    ensures ok { OnOk result (out.new.items ≡ out.old.items ++ deleted_names_form tag.now names.now) }
+    ensures grows { Grows out.old.items out.new.items }
+{
+    for name in names {
+        append_deleted_name(tag, name.as_slice(), out)?;
+    }
+    Ok(())
+}
+
+#[tactic(auto, unfolding(crate::specs::Replies::deleted_form))]
+fn append_deleted(tag: &[u8], names: &[Value], out: &mut Vec<u8>) -> Result<(), Memory>
+    ensures ok { OnOk result (out.new.items ≡ out.old.items ++ deleted_form tag.now names.now) }
+    ensures grows { Grows out.old.items out.new.items }
+{
+    append_deleted_names(tag, names, out)?;
+    append_done(tag, Verb::DeletedSince, out)
+}
+
+#[tactic(auto, unfolding(crate::specs::Replies::rights_form))]
+fn append_rights(tag: &[u8], rights: &[u8], out: &mut Vec<u8>) -> Result<(), Memory>
+    ensures ok { OnOk result (out.new.items ≡ out.old.items ++ rights_form tag.now rights.now) }
+    ensures grows { Grows out.old.items out.new.items }
+{
+    out.extend_from_slice(tag)?;
+    out.extend_from_slice(b" MYRIGHTS ")?;
+    append_string(rights, out)?;
+    out.extend_from_slice(b"\r\n")?;
+    append_done(tag, Verb::MyRights, out)
+}
+
+#[tactic(auto, unfolding(crate::specs::Replies::rights_list_form))]
+fn append_rights_list(tag: &[u8], rights: &[Value], out: &mut Vec<u8>) -> Result<(), Memory>
+    ensures ok { OnOk result (out.new.items ≡ out.old.items ++ rights_list_form tag.now rights.now) }
+    ensures grows { Grows out.old.items out.new.items }
+{
+    out.extend_from_slice(tag)?;
+    out.extend_from_slice(b" LISTRIGHTS")?;
+    append_spaced(rights, out)?;
+    out.extend_from_slice(b"\r\n")?;
+    append_done(tag, Verb::ListRights, out)
+}
+
+#[tactic(auto, unfolding(crate::specs::Replies::challenge_form))]
+fn append_challenge(challenge: &[u8], out: &mut Vec<u8>) -> Result<(), Memory>
+    ensures ok { OnOk result (out.new.items ≡ out.old.items ++ challenge_form challenge.now) }
+    ensures grows { Grows out.old.items out.new.items }
+{
+    out.extend_from_slice(b"+ ")?;
+    append_string(challenge, out)?;
+    out.extend_from_slice(b"\r\n")?;
+    Ok(())
 }
 
 #[tactic(auto, unfolding(crate::specs::Replies::good_bye_form))]
@@ -157,6 +251,10 @@ fn append_said(tag: &[u8], said: &Said, out: &mut Vec<u8>) -> Result<(), Memory>
         Said::Left | Said::Drained => Ok(()),
         Said::Done(verb) => append_done(tag, *verb, out),
         Said::Found(found) => append_found(tag, found, out),
+        Said::Deleted(names) => append_deleted(tag, names.as_slice(), out),
+        Said::Rights(rights) => append_rights(tag, rights.as_slice(), out),
+        Said::RightsList(rights) => append_rights_list(tag, rights.as_slice(), out),
+        Said::Challenge(challenge) => append_challenge(challenge.as_slice(), out),
         Said::GoodBye => append_good_bye(tag, out),
         Said::Refused(refusal) => append_refused(tag, refusal, out),
     }

@@ -1,6 +1,7 @@
 use crate::found::Found;
 use crate::refusal::Refusal;
 use crate::verb::Verb;
+use acap_entries::{Octets, Value, Values};
 
 /// What is said to a client (RFC 2244 section 6.2).
 #[derive(Debug, Drop)]
@@ -15,6 +16,14 @@ pub enum Said {
     Done(Verb),
     /// A SEARCH is done, and this was found.
     Found(Found),
+    /// A DELETEDSINCE is done, and the entries with these names were deleted (section 6.6.2).
+    Deleted(Values),
+    /// A MYRIGHTS is done, and the user has these rights (section 6.7).
+    Rights(Value),
+    /// A LISTRIGHTS is done: what the identifier always has, and then each other right apart (section 6.7).
+    RightsList(Values),
+    /// A login goes on with this challenge (section 6.3.1; RFC 2195 section 2).
+    Challenge(Octets),
     /// A LOGOUT is done, and the session is closed.
     GoodBye,
     /// The command, or the connection, is refused.

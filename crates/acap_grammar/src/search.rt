@@ -1,29 +1,27 @@
-use crate::attributes::Attributes;
 use crate::key::Key;
-use acap_entries::{Copying, Dataset, Memory};
+use crate::search_modifiers::SearchModifiers;
+use crate::target::Target;
+use acap_entries::{Copying, Memory};
 
-/// A SEARCH: what is to be found, and what is to be told of it (RFC 2244 section 6.4.1).
+/// A SEARCH: what is looked through, what is wanted, and what is told of it (RFC 2244 section 6.4.1).
 #[derive(Debug, Drop)]
 pub struct Search {
-    /// The dataset, as sent but with its closing `/`: a component `~` stands.
-    pub dataset: Dataset,
-    /// The attributes to be told, in the order sent, where RETURN stands.
-    pub returns: Option<Attributes>,
+    /// What is looked through.
+    pub target: Target,
+    /// How, and what is told.
+    pub modifiers: SearchModifiers,
     /// Which entries are wanted.
     pub key: Key,
 }
 
 impl Copying for Search {
     fn copy(&self) -> Result<Search, Memory> {
-        let dataset = self.dataset.copy()?;
-        let returns = match &self.returns {
-            Some(attributes) => Some(attributes.copy()?),
-            None => None,
-        };
+        let target = self.target.copy()?;
+        let modifiers = self.modifiers.copy()?;
         let key = self.key.copy()?;
         Ok(Search {
-            dataset,
-            returns,
+            target,
+            modifiers,
             key,
         })
     }

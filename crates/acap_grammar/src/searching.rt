@@ -1,122 +1,414 @@
 //! What a SEARCH asks for (RFC 2244 section 6.4.1).
 
-ghost use Rattle.std.specs.Prelude.{◌≡◌, [], drop, Some};
+ghost use Rattle.std.specs.Prelude.{◌≡◌, drop, IfOk};
 ghost use Rattle.acap_grammar.specs.Outcome.{Gives};
 ghost use Rattle.acap_grammar.specs.Marks.{is_string, is_close, starts};
-ghost use Rattle.acap_grammar.specs.Grammar.{several, return_at, attributes_at, returns_at, key_at, search_at};
+ghost use Rattle.acap_grammar.specs.Searching as searching;
 
-use crate::attributes::Attributes;
-use crate::descent::{behind_close, behind_open, behind_word, closes, starts_string, string_at};
+use crate::arguments::{
+    attribute_at, attribute_named, comparator_at, context_at, number_at, target_at,
+};
+use crate::descent::{
+    behind_close, behind_open, behind_word, closes, opens, starts_string, string_at,
+};
 use crate::grammar_fault::GrammarFault;
-use crate::key::Key;
-use crate::naming::{attribute_named, dataset_named};
+use crate::keys::key_at;
+use crate::limit::Limit;
+use crate::lists::{MetadataList, Returns, SortItems};
+use crate::make_context::MakeContext;
+use crate::metadata::Metadata;
+use crate::return_item::ReturnItem;
+use crate::return_name::ReturnName;
 use crate::search::Search;
-use acap_entries::Attribute;
+use crate::search_modifiers::SearchModifiers;
+use crate::several::{Gather, enclosed, several};
+use crate::sort_item::SortItem;
+use crate::storing::once;
+use crate::target::Target;
+use crate::words::{SearchWord, word_at};
+use acap_entries::names::{ends_with, is_attribute};
+use acap_entries::{Memory, Value};
 use acap_lexer::Tokens;
 use std::alloc::Global;
 
-#[tactic(auto, unfolding(crate::specs::Grammar::return_at))]
-fn return_at(
-    alloc: Global,
-    seen: &[Attribute],
-    tokens: &Tokens,
-    at: usize,
-) -> Result<(Attribute, usize), GrammarFault>
-    ensures { Gives (λ x. (x.0, drop x.1 tokens.now)) result (return_at seen.now (drop at tokens.now)) }
+// ---- RETURN
+
+#[tactic(auto, unfolding(crate::specs::Searching::return_named))]
+fn return_named(alloc: Global, text: &[u8]) -> Result<ReturnName, GrammarFault>
+    ensures { Gives (λ x. x) result (searching.return_named text.now) }
 {
-    let (name, next) = string_at(tokens, at)?;
-    Ok((attribute_named(alloc, name)?, next))
+    if !ends_with(text, b'*') {
+        return Ok(ReturnName::Named(attribute_named(alloc, text)?));
+    }
+    let front = &text[..text.len() - 1];
+    if !front.is_empty() && !is_attribute(front) {
+        return Err(GrammarFault::BadName);
+    }
+    Ok(ReturnName::Beginning(Value::from_slice(alloc, front)?))
 }
 
-/// The attributes up to the parenthesis that closes them.
-fn attributes_inside(
-    alloc: Global,
-    tokens: &Tokens,
-    at: usize,
-) -> Result<(Attributes, usize), GrammarFault>
-    ensures { Gives (λ x. (x.0, drop x.1 tokens.now)) result
-        (several (starts is_close) (starts is_string) return_at 256 [] (drop at tokens.now)) }
+fn metadata_named(text: &[u8]) -> Result<Metadata, GrammarFault>
+    ensures { Gives (λ x. x) result (searching.metadata_named text.now) }
 {
-    let mut attributes = Attributes::new(alloc);
-    let mut next = at;
-    for _ in 0..256u32 {
-        if closes(tokens, next) {
-            return Ok((attributes, next));
-        }
-        let (attribute, left) = return_at(alloc, attributes.as_slice(), tokens, next)?;
-        attributes.push(attribute)?;
-        next = left;
+    if text == b"acl".as_slice() {
+        Ok(Metadata::Acl)
+    } else if text == b"attribute".as_slice() {
+        Ok(Metadata::Attribute)
+    } else if text == b"myrights".as_slice() {
+        Ok(Metadata::MyRights)
+    } else if text == b"size".as_slice() {
+        Ok(Metadata::Size)
+    } else if text == b"value".as_slice() {
+        Ok(Metadata::Value)
+    } else {
+        Err(GrammarFault::Arguments)
     }
-    if closes(tokens, next) {
-        return Ok((attributes, next));
-    }
-    if starts_string(tokens, next) {
-        return Err(GrammarFault::TooMany);
-    }
-    Err(GrammarFault::Arguments)
 }
 
-#[tactic(auto, unfolding(crate::specs::Grammar::attributes_at))]
-fn attributes_at(
+impl Gather for MetadataList {
+    ghost over = { starts is_close };
+
+    ghost fits = { starts is_string };
+
+    ghost item = { searching.metadata_at };
+
+    fn is_over(tokens: &Tokens, at: usize) -> bool {
+        closes(tokens, at)
+    }
+
+    fn may_start(tokens: &Tokens, at: usize) -> bool {
+        starts_string(tokens, at)
+    }
+
+    #[tactic(auto, unfolding(crate::specs::Searching::metadata_at, crate::specs::Arguments::named_at))]
+    fn gather(
+        self,
+        alloc: Global,
+        tokens: &Tokens,
+        at: usize,
+    ) -> Result<(MetadataList, usize), GrammarFault> {
+        let (text, next) = string_at(tokens, at)?;
+        let metadata = metadata_named(text)?;
+        let mut all = self;
+        all.push(metadata)?;
+        Ok((all, next))
+    }
+}
+
+// What is told where no metadata is asked for.
+fn default_metadata(alloc: Global, name: &ReturnName) -> Result<MetadataList, Memory>
+    ensures { IfOk result (λ made. made ≡ searching.default_metadata name.now) }
+{
+    let mut all = MetadataList::new(alloc);
+    if let ReturnName::Beginning(_) = name {
+        all.push(Metadata::Attribute)?;
+    }
+    all.push(Metadata::Value)?;
+    Ok(all)
+}
+
+#[tactic(auto, unfolding(crate::specs::Searching::metadata_part))]
+fn metadata_part(
     alloc: Global,
+    name: &ReturnName,
     tokens: &Tokens,
     at: usize,
-) -> Result<(Attributes, usize), GrammarFault>
-    ensures { Gives (λ x. (x.0, drop x.1 tokens.now)) result (attributes_at (drop at tokens.now)) }
+) -> Result<(MetadataList, usize), GrammarFault>
+    ensures { Gives (λ x. (x.0, drop x.1 tokens.now)) result (searching.metadata_part name.now (drop at tokens.now)) }
+{
+    if opens(tokens, at) {
+        return enclosed(alloc, MetadataList::new(alloc), 31, tokens, at);
+    }
+    Ok((default_metadata(alloc, name)?, at))
+}
+
+impl Gather for Returns {
+    ghost over = { starts is_close };
+
+    ghost fits = { starts is_string };
+
+    ghost item = { searching.return_at };
+
+    fn is_over(tokens: &Tokens, at: usize) -> bool {
+        closes(tokens, at)
+    }
+
+    fn may_start(tokens: &Tokens, at: usize) -> bool {
+        starts_string(tokens, at)
+    }
+
+    #[tactic(auto, unfolding(crate::specs::Searching::return_at, crate::specs::Arguments::named_at))]
+    fn gather(
+        self,
+        alloc: Global,
+        tokens: &Tokens,
+        at: usize,
+    ) -> Result<(Returns, usize), GrammarFault> {
+        let (text, next) = string_at(tokens, at)?;
+        let name = return_named(alloc, text)?;
+        let (metadata, left) = metadata_part(alloc, &name, tokens, next)?;
+        let mut all = self;
+        all.push(ReturnItem { name, metadata })?;
+        Ok((all, left))
+    }
+}
+
+#[tactic(auto, unfolding(crate::specs::Searching::returns_at))]
+fn returns_at(alloc: Global, tokens: &Tokens, at: usize) -> Result<(Returns, usize), GrammarFault>
+    ensures { Gives (λ x. (x.0, drop x.1 tokens.now)) result (searching.returns_at (drop at tokens.now)) }
 {
     let inside = behind_open(tokens, at)?;
-    let (attributes, next) = attributes_inside(alloc, tokens, inside)?;
+    let (items, next) = several(alloc, Returns::new(alloc), 256, tokens, inside)?;
     let left = behind_close(tokens, next)?;
-    Ok((attributes, left))
+    Ok((items, left))
 }
 
-#[tactic(auto, unfolding(crate::specs::Grammar::returns_at))]
-fn returns_at(
+// ---- SORT
+
+impl Gather for SortItems {
+    ghost over = { starts is_close };
+
+    ghost fits = { starts is_string };
+
+    ghost item = { searching.sort_at };
+
+    fn is_over(tokens: &Tokens, at: usize) -> bool {
+        closes(tokens, at)
+    }
+
+    fn may_start(tokens: &Tokens, at: usize) -> bool {
+        starts_string(tokens, at)
+    }
+
+    #[tactic(auto, unfolding(crate::specs::Searching::sort_at))]
+    fn gather(
+        self,
+        alloc: Global,
+        tokens: &Tokens,
+        at: usize,
+    ) -> Result<(SortItems, usize), GrammarFault> {
+        let (attribute, next) = attribute_at(alloc, tokens, at)?;
+        let (comparator, left) = comparator_at(tokens, next)?;
+        let mut all = self;
+        all.push(SortItem {
+            attribute,
+            comparator,
+        })?;
+        Ok((all, left))
+    }
+}
+
+#[tactic(auto, unfolding(crate::specs::Searching::sorts_at))]
+fn sorts_at(alloc: Global, tokens: &Tokens, at: usize) -> Result<(SortItems, usize), GrammarFault>
+    ensures { Gives (λ x. (x.0, drop x.1 tokens.now)) result (searching.sorts_at (drop at tokens.now)) }
+{
+    enclosed(alloc, SortItems::new(alloc), 15, tokens, at)
+}
+
+// ---- the other modifiers
+
+#[tactic(auto, unfolding(crate::specs::Searching::limit_at))]
+fn limit_at(tokens: &Tokens, at: usize) -> Result<(Limit, usize), GrammarFault>
+    ensures { Gives (λ x. (x.0, drop x.1 tokens.now)) result (searching.limit_at (drop at tokens.now)) }
+{
+    let (over, next) = number_at(tokens, at)?;
+    let (most, next) = number_at(tokens, next)?;
+    Ok((Limit { over, most }, next))
+}
+
+// Whether that word stands first, and the index behind it, or the same where it doesn't.
+#[tactic(auto, unfolding(crate::specs::Searching::flag_at))]
+fn flag_at(tokens: &Tokens, at: usize, word: &[u8]) -> (bool, usize)
+    ensures { (result.0, drop result.1 tokens.now) ≡ searching.flag_at word.now (drop at tokens.now) }
+{
+    match behind_word(tokens, at, word) {
+        Some(next) => (true, next),
+        None => (false, at),
+    }
+}
+
+#[tactic(auto, unfolding(crate::specs::Searching::make_context_at))]
+fn make_context_at(
     alloc: Global,
     tokens: &Tokens,
     at: usize,
-) -> Result<(Option<Attributes>, usize), GrammarFault>
-    ensures { Gives (λ x. (x.0, drop x.1 tokens.now)) result (returns_at (drop at tokens.now)) }
+) -> Result<(MakeContext, usize), GrammarFault>
+    ensures { Gives (λ x. (x.0, drop x.1 tokens.now)) result (searching.make_context_at (drop at tokens.now)) }
 {
-    match behind_word(tokens, at, b"RETURN") {
-        Some(rest) => {
-            let (attributes, next) = attributes_at(alloc, tokens, rest)?;
-            Ok((Some(attributes), next))
-        }
-        None => Ok((None, at)),
-    }
-}
-
-#[tactic(auto, unfolding(crate::specs::Grammar::key_at))]
-fn key_at(tokens: &Tokens, at: usize) -> Result<(Key, usize), GrammarFault>
-    ensures { Gives (λ x. (x.0, drop x.1 tokens.now)) result (key_at (drop at tokens.now)) }
-{
-    match behind_word(tokens, at, b"ALL") {
-        Some(rest) => Ok((Key::All, rest)),
-        None => match behind_word(tokens, at, b"RETURN") {
-            Some(_) => Err(GrammarFault::NotPermittedTwice),
-            None => Err(GrammarFault::Arguments),
+    let (enumerate, next) = flag_at(tokens, at, b"ENUMERATE");
+    let (notify, next) = flag_at(tokens, next, b"NOTIFY");
+    let (name, next) = context_at(alloc, tokens, next)?;
+    Ok((
+        MakeContext {
+            enumerate,
+            notify,
+            name,
         },
+        next,
+    ))
+}
+
+// ---- all modifiers
+
+/// What is looked through, and the modifiers read so far.
+#[derive(Drop)]
+pub(crate) struct Scope {
+    pub(crate) target: Target,
+    pub(crate) modifiers: SearchModifiers,
+}
+
+// Behind the word of a modifier, which didn't stand before.
+#[tactic(auto, unfolding(crate::specs::Searching::modified))]
+fn modified(
+    alloc: Global,
+    modifiers: SearchModifiers,
+    word: SearchWord,
+    tokens: &Tokens,
+    at: usize,
+) -> Result<(SearchModifiers, usize), GrammarFault>
+    ensures { Gives (λ x. (x.0, drop x.1 tokens.now)) result (searching.modified modifiers word (drop at tokens.now)) }
+{
+    let mut modifiers = modifiers;
+    let left = match word {
+        SearchWord::Depth => {
+            once(modifiers.depth.is_some())?;
+            let (depth, left) = number_at(tokens, at)?;
+            modifiers.depth = Some(depth);
+            left
+        }
+        SearchWord::HardLimit => {
+            once(modifiers.hard_limit.is_some())?;
+            let (most, left) = number_at(tokens, at)?;
+            modifiers.hard_limit = Some(most);
+            left
+        }
+        SearchWord::Limit => {
+            once(modifiers.limit.is_some())?;
+            let (limit, left) = limit_at(tokens, at)?;
+            modifiers.limit = Some(limit);
+            left
+        }
+        SearchWord::MakeContext => {
+            once(modifiers.make_context.is_some())?;
+            let (context, left) = make_context_at(alloc, tokens, at)?;
+            modifiers.make_context = Some(context);
+            left
+        }
+        SearchWord::NoInherit => {
+            once(modifiers.no_inherit)?;
+            modifiers.no_inherit = true;
+            at
+        }
+        SearchWord::Return => {
+            once(modifiers.returns.is_some())?;
+            let (returns, left) = returns_at(alloc, tokens, at)?;
+            modifiers.returns = Some(returns);
+            left
+        }
+        SearchWord::Sort => {
+            once(modifiers.sort.is_some())?;
+            let (sort, left) = sorts_at(alloc, tokens, at)?;
+            modifiers.sort = Some(sort);
+            left
+        }
+    };
+    Ok((modifiers, left))
+}
+
+fn is_of_datasets(word: SearchWord) -> bool
+    ensures { result ≡ searching.is_of_datasets word }
+{
+    matches!(
+        word,
+        SearchWord::Depth | SearchWord::MakeContext | SearchWord::NoInherit
+    )
+}
+
+fn is_context(target: &Target) -> bool
+    ensures { result ≡ searching.is_context target.now }
+{
+    matches!(target, Target::Context(_))
+}
+
+#[tactic(auto, unfolding(crate::specs::Searching::no_modifier))]
+fn no_modifier(tokens: &Tokens, at: usize) -> bool
+    ensures { result ≡ searching.no_modifier (drop at tokens.now) }
+{
+    let word: Option<(SearchWord, usize)> = word_at(tokens, at);
+    word.is_none()
+}
+
+impl Gather for Scope {
+    ghost over = { searching.no_modifier };
+
+    ghost fits = { searching.no_modifier };
+
+    ghost item = { searching.modifier_at };
+
+    fn is_over(tokens: &Tokens, at: usize) -> bool {
+        no_modifier(tokens, at)
+    }
+
+    fn may_start(tokens: &Tokens, at: usize) -> bool {
+        no_modifier(tokens, at)
+    }
+
+    #[tactic(auto, unfolding(crate::specs::Searching::modifier_at))]
+    fn gather(
+        self,
+        alloc: Global,
+        tokens: &Tokens,
+        at: usize,
+    ) -> Result<(Scope, usize), GrammarFault> {
+        let Some((word, next)) = word_at(tokens, at) else {
+            return Err(GrammarFault::Arguments);
+        };
+        if is_context(&self.target) && is_of_datasets(word) {
+            return Err(GrammarFault::Arguments);
+        }
+        let (modifiers, left) = modified(alloc, self.modifiers, word, tokens, next)?;
+        Ok((
+            Scope {
+                target: self.target,
+                modifiers,
+            },
+            left,
+        ))
     }
 }
 
-/// A search, and the index behind it.
-#[tactic(auto, unfolding(crate::specs::Grammar::search_at))]
+#[tactic(auto, unfolding(crate::specs::Searching::modifiers_at))]
+fn modifiers_at(
+    alloc: Global,
+    target: Target,
+    tokens: &Tokens,
+    at: usize,
+) -> Result<(Scope, usize), GrammarFault>
+    ensures { Gives (λ x. (x.0, drop x.1 tokens.now)) result (searching.modifiers_at target (drop at tokens.now)) }
+{
+    let scope = Scope {
+        target,
+        modifiers: SearchModifiers::none(),
+    };
+    several(alloc, scope, 8, tokens, at)
+}
+
+/// What stands behind SEARCH, and the index behind it.
+#[tactic(auto, unfolding(crate::specs::Searching::search_at))]
 pub(crate) fn search_at(
     alloc: Global,
     tokens: &Tokens,
     at: usize,
 ) -> Result<(Search, usize), GrammarFault>
-    ensures { Gives (λ x. (x.0, drop x.1 tokens.now)) result (search_at (drop at tokens.now)) }
+    ensures { Gives (λ x. (x.0, drop x.1 tokens.now)) result (searching.search_at (drop at tokens.now)) }
 {
-    let (name, next) = string_at(tokens, at)?;
-    let dataset = dataset_named(alloc, name)?;
-    let (returns, next) = returns_at(alloc, tokens, next)?;
-    let (key, next) = key_at(tokens, next)?;
+    let (target, next) = target_at(alloc, tokens, at)?;
+    let (scope, next) = modifiers_at(alloc, target, tokens, next)?;
+    let (key, next) = key_at(alloc, 32, tokens, next)?;
     Ok((
         Search {
-            dataset,
-            returns,
+            target: scope.target,
+            modifiers: scope.modifiers,
             key,
         },
         next,

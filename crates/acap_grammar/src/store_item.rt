@@ -1,4 +1,5 @@
 use crate::given::Given;
+use crate::store_metadata::StoreMetadata;
 use acap_entries::{Attribute, Copying, Memory};
 
 /// What a STORE gives to one attribute of an entry (RFC 2244 section 6.6.1).
@@ -6,6 +7,8 @@ use acap_entries::{Attribute, Copying, Memory};
 pub struct StoreItem {
     /// The attribute.
     pub attribute: Attribute,
+    /// Whether its value or its access control list is stored.
+    pub metadata: StoreMetadata,
     /// What it is given.
     pub given: Given,
 }
@@ -14,6 +17,10 @@ impl Copying for StoreItem {
     fn copy(&self) -> Result<StoreItem, Memory> {
         let attribute = self.attribute.copy()?;
         let given = self.given.copy()?;
-        Ok(StoreItem { attribute, given })
+        Ok(StoreItem {
+            attribute,
+            metadata: self.metadata,
+            given,
+        })
     }
 }

@@ -1,157 +1,405 @@
 //! The entries of a STORE (RFC 2244 section 6.6.1).
 
-ghost use Rattle.std.specs.Prelude.{◌≡◌, ◌∷◌, [], drop};
+ghost use Rattle.std.specs.Prelude.{◌≡◌, ◌++◌, ◌∷◌, [], drop, IfOk, Ok};
 ghost use Rattle.acap_grammar.specs.Outcome.{Gives};
 ghost use Rattle.acap_grammar.specs.Marks.{is_string, is_open, is_close, ends as ends_tokens, starts};
-ghost use Rattle.acap_grammar.specs.Grammar.{several, item_at, items_at, path_at, entry_at, entries_at};
+ghost use Rattle.acap_grammar.specs.Several.{several as items_behind};
+ghost use Rattle.acap_grammar.specs.Storing as storing;
 
-use crate::descent::{behind_close, behind_open, closes, ends, opens, starts_string, string_at};
-use crate::entries::Entries;
+use crate::arguments::{attribute_at, path_at, time_at};
+use crate::descent::{
+    Piece, behind_close, behind_open, closes, ends, opens, peek, starts_string, string_at,
+};
 use crate::given::Given;
 use crate::grammar_fault::GrammarFault;
-use crate::naming::{attribute_named, has_attribute, has_path, path_named};
+use crate::lists::{Entries, StoreItems};
+use crate::several::{Gather, enclosed, some_of};
 use crate::store_entry::StoreEntry;
 use crate::store_item::StoreItem;
-use crate::store_items::StoreItems;
-use acap_entries::{Cell, Path, Value};
-use acap_lexer::Tokens;
+use crate::store_metadata::StoreMetadata;
+use crate::store_modifiers::StoreModifiers;
+use crate::words::{StoreWord, word_at};
+use acap_entries::{Attribute, Cell, Copying, Memory, Path, Value, Values};
+use acap_lexer::{Kind, Tokens};
 use std::alloc::Global;
 
-#[tactic(auto, unfolding(crate::specs::Grammar::item_at))]
-fn item_at(
-    alloc: Global,
-    seen: &[StoreItem],
-    tokens: &Tokens,
-    at: usize,
-) -> Result<(StoreItem, usize), GrammarFault>
-    ensures { Gives (λ x. (x.0, drop x.1 tokens.now)) result (item_at seen.now (drop at tokens.now)) }
+// ---- what may stand once
+
+/// Goes on where what may stand once didn't stand before.
+pub(crate) fn once(stood: bool) -> Result<(), GrammarFault>
+    ensures { Gives (λ x. x) result (storing.once stood (Ok tt)) }
 {
-    let (name, next) = string_at(tokens, at)?;
-    let attribute = attribute_named(alloc, name)?;
-    if has_attribute(&attribute, seen) {
-        return Err(GrammarFault::NotPermittedTwice);
+    if stood {
+        Err(GrammarFault::NotPermittedTwice)
+    } else {
+        Ok(())
     }
-    let (value, next) = string_at(tokens, next)?;
-    let value = Value::from_slice(alloc, value)?;
-    Ok((
-        StoreItem {
-            attribute,
-            given: Given::Put(Cell::Single(value)),
-        },
-        next,
-    ))
 }
 
-/// The items behind the first.
-fn items_behind(
-    alloc: Global,
-    first: StoreItem,
-    tokens: &Tokens,
-    at: usize,
-) -> Result<(StoreItems, usize), GrammarFault>
-    ensures { Gives (λ x. (x.0, drop x.1 tokens.now)) result
-        (several (starts is_close) (starts is_string) item_at 255 (first ∷ []) (drop at tokens.now)) }
+#[tactic(auto, unfolding(crate::specs::Storing::has_path))]
+fn has_path(path: &Path, seen: &[StoreEntry]) -> bool
+    ensures { result ≡ storing.has_path path.now seen.now }
 {
-    let mut items = StoreItems::new(alloc);
-    items.push(first)?;
+    let dataset = path.dataset.as_slice();
+    let name = path.name.as_slice();
+    seen.iter().any(|e| e.path.dataset.as_slice() == dataset && e.path.name.as_slice() == name)
+}
+
+#[tactic(auto, unfolding(crate::specs::Storing::has_attribute))]
+fn has_attribute(attribute: &Attribute, seen: &[StoreItem]) -> bool
+    ensures { result ≡ storing.has_attribute attribute.now seen.now }
+{
+    let attribute = attribute.as_slice();
+    seen.iter().any(|i| i.attribute.as_slice() == attribute)
+}
+
+fn same_metadata(a: StoreMetadata, b: StoreMetadata) -> bool
+    ensures { result ≡ storing.same_metadata a b }
+{
+    a == b
+}
+
+#[tactic(auto, unfolding(crate::specs::Storing::has_item))]
+fn has_item(attribute: &Attribute, metadata: StoreMetadata, seen: &[StoreItem]) -> bool
+    ensures { result ≡ storing.has_item attribute.now metadata seen.now }
+{
+    let attribute = attribute.as_slice();
+    seen.iter().any(|i| i.attribute.as_slice() == attribute && same_metadata(i.metadata, metadata))
+}
+
+// ---- what is given
+
+// The strings up to the parenthesis that closes them.
+#[tactic(auto, unfolding(crate::specs::Storing::strings_at))]
+fn strings_at(alloc: Global, tokens: &Tokens, at: usize) -> Result<(Values, usize), GrammarFault>
+    ensures { Gives (λ x. (x.0, drop x.1 tokens.now)) result (storing.strings_at [] (drop at tokens.now)) }
+{
+    let mut strings = Values::new(alloc);
     let mut next = at;
-    for _ in 0..255u32 {
-        if closes(tokens, next) {
-            return Ok((items, next));
+    while let Some(piece) = peek(tokens, next) {
+        match piece.kind {
+            Kind::Close => return Ok((strings, piece.next)),
+            Kind::Quoted | Kind::Literal => {
+                strings.push(Value::from_slice(alloc, piece.value)?)?;
+            }
+            _ => return Err(GrammarFault::Arguments),
         }
-        let (item, left) = item_at(alloc, items.as_slice(), tokens, next)?;
-        items.push(item)?;
-        next = left;
-    }
-    if closes(tokens, next) {
-        return Ok((items, next));
-    }
-    if starts_string(tokens, next) {
-        return Err(GrammarFault::TooMany);
+        next = piece.next;
     }
     Err(GrammarFault::Arguments)
 }
 
-#[tactic(auto, unfolding(crate::specs::Grammar::items_at))]
-fn items_at(alloc: Global, tokens: &Tokens, at: usize) -> Result<(StoreItems, usize), GrammarFault>
-    ensures { Gives (λ x. (x.0, drop x.1 tokens.now)) result (items_at (drop at tokens.now)) }
+// A string, NIL or DEFAULT.
+#[tactic(auto, unfolding(crate::specs::Storing::plain_at))]
+fn plain_at(alloc: Global, tokens: &Tokens, at: usize) -> Result<(Given, usize), GrammarFault>
+    ensures { Gives (λ x. (x.0, drop x.1 tokens.now)) result (storing.plain_at (drop at tokens.now)) }
 {
-    let (first, next) = item_at(alloc, &[], tokens, at)?;
-    items_behind(alloc, first, tokens, next)
+    if starts_string(tokens, at) {
+        let (text, next) = string_at(tokens, at)?;
+        let value = Value::from_slice(alloc, text)?;
+        return Ok((Given::Put(Cell::Single(value)), next));
+    }
+    match word_at(tokens, at) {
+        Some((given, next)) => Ok((given, next)),
+        None => Err(GrammarFault::Arguments),
+    }
 }
 
-#[tactic(auto, unfolding(crate::specs::Grammar::path_at))]
-fn path_at(
+// One of these, or a list.
+#[tactic(auto, unfolding(crate::specs::Storing::given_at, crate::specs::Marks::starts))]
+fn given_at(alloc: Global, tokens: &Tokens, at: usize) -> Result<(Given, usize), GrammarFault>
+    ensures { Gives (λ x. (x.0, drop x.1 tokens.now)) result (storing.given_at (drop at tokens.now)) }
+{
+    match peek(tokens, at) {
+        Some(
+            Piece {
+                kind: Kind::Open,
+                next,
+                ..
+            },
+        ) => {
+            let (strings, left) = strings_at(alloc, tokens, next)?;
+            Ok((Given::Put(Cell::Multi(strings)), left))
+        }
+        _ => plain_at(alloc, tokens, at),
+    }
+}
+
+// ---- an item
+
+fn metadata_named(text: &[u8]) -> Result<StoreMetadata, GrammarFault>
+    ensures { Gives (λ x. x) result (storing.metadata_named text.now) }
+{
+    if text == b"value".as_slice() {
+        Ok(StoreMetadata::Value)
+    } else if text == b"acl".as_slice() {
+        Ok(StoreMetadata::Acl)
+    } else {
+        Err(GrammarFault::Arguments)
+    }
+}
+
+/// What one attribute is given, behind what those before it are given.
+#[derive(Drop)]
+pub(crate) struct Gifts {
+    pub(crate) attribute: Attribute,
+    pub(crate) items: StoreItems,
+}
+
+impl Gifts {
+    // One thing more for the attribute.
+    fn put(self, metadata: StoreMetadata, given: Given) -> Result<Gifts, Memory>
+        ensures { IfOk result (λ made. made ≡ record self { items = self.items ++ record { attribute = self.attribute; metadata = metadata; given = given } ∷ [] }) }
+    {
+        let attribute = self.attribute.copy()?;
+        let mut items = self.items;
+        items.push(StoreItem {
+            attribute,
+            metadata,
+            given,
+        })?;
+        Ok(Gifts {
+            attribute: self.attribute,
+            items,
+        })
+    }
+}
+
+impl Gather for Gifts {
+    ghost over = { starts is_close };
+
+    ghost fits = { starts is_string };
+
+    ghost item = { storing.gift_at };
+
+    fn is_over(tokens: &Tokens, at: usize) -> bool {
+        closes(tokens, at)
+    }
+
+    fn may_start(tokens: &Tokens, at: usize) -> bool {
+        starts_string(tokens, at)
+    }
+
+    #[tactic(auto, unfolding(crate::specs::Storing::gift_at, crate::specs::Arguments::named_at))]
+    fn gather(
+        self,
+        alloc: Global,
+        tokens: &Tokens,
+        at: usize,
+    ) -> Result<(Gifts, usize), GrammarFault> {
+        let (text, next) = string_at(tokens, at)?;
+        let metadata = metadata_named(text)?;
+        once(has_item(&self.attribute, metadata, self.items.as_slice()))?;
+        let (given, left) = given_at(alloc, tokens, next)?;
+        Ok((self.put(metadata, given)?, left))
+    }
+}
+
+// Behind an attribute: what its value is given, or its metadata.
+#[tactic(auto, unfolding(crate::specs::Storing::gifts_at))]
+fn gifts_at(
+    alloc: Global,
+    seen: Gifts,
+    tokens: &Tokens,
+    at: usize,
+) -> Result<(StoreItems, usize), GrammarFault>
+    ensures { Gives (λ x. (x.0, drop x.1 tokens.now)) result (storing.gifts_at seen (drop at tokens.now)) }
+{
+    if opens(tokens, at) {
+        let (gifts, left) = enclosed(alloc, seen, 2, tokens, at)?;
+        return Ok((gifts.items, left));
+    }
+    let (given, left) = plain_at(alloc, tokens, at)?;
+    let gifts = seen.put(StoreMetadata::Value, given)?;
+    Ok((gifts.items, left))
+}
+
+impl Gather for StoreItems {
+    ghost over = { starts is_close };
+
+    ghost fits = { starts is_string };
+
+    ghost item = { storing.item_at };
+
+    fn is_over(tokens: &Tokens, at: usize) -> bool {
+        closes(tokens, at)
+    }
+
+    fn may_start(tokens: &Tokens, at: usize) -> bool {
+        starts_string(tokens, at)
+    }
+
+    #[tactic(auto, unfolding(crate::specs::Storing::item_at))]
+    fn gather(
+        self,
+        alloc: Global,
+        tokens: &Tokens,
+        at: usize,
+    ) -> Result<(StoreItems, usize), GrammarFault> {
+        let (attribute, next) = attribute_at(alloc, tokens, at)?;
+        once(has_attribute(&attribute, self.as_slice()))?;
+        let seen = Gifts {
+            attribute,
+            items: self,
+        };
+        gifts_at(alloc, seen, tokens, next)
+    }
+}
+
+#[tactic(auto, unfolding(crate::specs::Storing::items_at))]
+fn items_at(alloc: Global, tokens: &Tokens, at: usize) -> Result<(StoreItems, usize), GrammarFault>
+    ensures { Gives (λ x. (x.0, drop x.1 tokens.now)) result (storing.items_at (drop at tokens.now)) }
+{
+    some_of(alloc, StoreItems::new(alloc), 255, tokens, at)
+}
+
+// ---- modifiers
+
+// Behind the word of a modifier, which didn't stand before.
+#[tactic(auto, unfolding(crate::specs::Storing::conditioned))]
+fn conditioned(
+    seen: StoreModifiers,
+    word: StoreWord,
+    tokens: &Tokens,
+    at: usize,
+) -> Result<(StoreModifiers, usize), GrammarFault>
+    ensures { Gives (λ x. (x.0, drop x.1 tokens.now)) result (storing.conditioned seen word (drop at tokens.now)) }
+{
+    match word {
+        StoreWord::NoCreate => {
+            once(seen.no_create)?;
+            Ok((
+                StoreModifiers {
+                    no_create: true,
+                    ..seen
+                },
+                at,
+            ))
+        }
+        StoreWord::UnchangedSince => {
+            once(seen.unchanged_since.is_some())?;
+            let (since, left) = time_at(tokens, at)?;
+            Ok((
+                StoreModifiers {
+                    unchanged_since: Some(since),
+                    ..seen
+                },
+                left,
+            ))
+        }
+    }
+}
+
+#[tactic(auto, unfolding(crate::specs::Storing::no_condition))]
+fn no_condition(tokens: &Tokens, at: usize) -> bool
+    ensures { result ≡ storing.no_condition (drop at tokens.now) }
+{
+    let word: Option<(StoreWord, usize)> = word_at(tokens, at);
+    word.is_none()
+}
+
+#[tactic(auto, unfolding(crate::specs::Storing::condition_at))]
+fn condition_at(
+    seen: StoreModifiers,
+    tokens: &Tokens,
+    at: usize,
+) -> Result<(StoreModifiers, usize), GrammarFault>
+    ensures { Gives (λ x. (x.0, drop x.1 tokens.now)) result (storing.condition_at seen (drop at tokens.now)) }
+{
+    match word_at(tokens, at) {
+        Some((word, next)) => conditioned(seen, word, tokens, next),
+        None => Err(GrammarFault::Arguments),
+    }
+}
+
+// Modifiers behind those seen, so many at most.
+#[tactic(auto, unfolding(crate::specs::Several::several))]
+fn conditions_behind(
+    seen: StoreModifiers,
+    room: u32,
+    tokens: &Tokens,
+    at: usize,
+) -> Result<(StoreModifiers, usize), GrammarFault>
+    ensures { Gives (λ x. (x.0, drop x.1 tokens.now)) result (items_behind storing.no_condition storing.no_condition storing.condition_at room seen (drop at tokens.now)) }
+{
+    if no_condition(tokens, at) {
+        return Ok((seen, at));
+    }
+    if room == 0 {
+        return Err(GrammarFault::Arguments);
+    }
+    let (more, left) = condition_at(seen, tokens, at)?;
+    conditions_behind(more, room - 1, tokens, left)
+}
+
+#[tactic(auto, unfolding(crate::specs::Storing::conditions_at))]
+fn conditions_at(tokens: &Tokens, at: usize) -> Result<(StoreModifiers, usize), GrammarFault>
+    ensures { Gives (λ x. (x.0, drop x.1 tokens.now)) result (storing.conditions_at (drop at tokens.now)) }
+{
+    conditions_behind(StoreModifiers::none(), 3, tokens, at)
+}
+
+// ---- entries
+
+#[tactic(auto, unfolding(crate::specs::Storing::path_at))]
+fn new_path_at(
     alloc: Global,
     seen: &[StoreEntry],
     tokens: &Tokens,
     at: usize,
 ) -> Result<(Path, usize), GrammarFault>
-    ensures { Gives (λ x. (x.0, drop x.1 tokens.now)) result (path_at seen.now (drop at tokens.now)) }
+    ensures { Gives (λ x. (x.0, drop x.1 tokens.now)) result (storing.path_at seen.now (drop at tokens.now)) }
 {
-    let (name, next) = string_at(tokens, at)?;
-    let path = path_named(alloc, name)?;
-    if has_path(&path, seen) {
-        return Err(GrammarFault::NotPermittedTwice);
-    }
+    let (path, next) = path_at(alloc, tokens, at)?;
+    once(has_path(&path, seen))?;
     Ok((path, next))
 }
 
-#[tactic(auto, unfolding(crate::specs::Grammar::entry_at))]
-fn entry_at(
-    alloc: Global,
-    seen: &[StoreEntry],
-    tokens: &Tokens,
-    at: usize,
-) -> Result<(StoreEntry, usize), GrammarFault>
-    ensures { Gives (λ x. (x.0, drop x.1 tokens.now)) result (entry_at seen.now (drop at tokens.now)) }
-{
-    let inside = behind_open(tokens, at)?;
-    let (path, next) = path_at(alloc, seen, tokens, inside)?;
-    let (items, next) = items_at(alloc, tokens, next)?;
-    let left = behind_close(tokens, next)?;
-    Ok((StoreEntry { path, items }, left))
-}
+impl Gather for Entries {
+    ghost over = { ends_tokens };
 
-/// The entries behind the first.
-fn entries_behind(
-    alloc: Global,
-    first: StoreEntry,
-    tokens: &Tokens,
-    at: usize,
-) -> Result<(Entries, usize), GrammarFault>
-    ensures { Gives (λ x. (x.0, drop x.1 tokens.now)) result
-        (several ends_tokens (starts is_open) entry_at 255 (first ∷ []) (drop at tokens.now)) }
-{
-    let mut entries = Entries::new(alloc);
-    entries.push(first)?;
-    let mut next = at;
-    for _ in 0..255u32 {
-        if ends(tokens, next) {
-            return Ok((entries, next));
-        }
-        let (entry, left) = entry_at(alloc, entries.as_slice(), tokens, next)?;
-        entries.push(entry)?;
-        next = left;
+    ghost fits = { starts is_open };
+
+    ghost item = { storing.entry_at };
+
+    fn is_over(tokens: &Tokens, at: usize) -> bool {
+        ends(tokens, at)
     }
-    if ends(tokens, next) {
-        return Ok((entries, next));
+
+    fn may_start(tokens: &Tokens, at: usize) -> bool {
+        opens(tokens, at)
     }
-    if opens(tokens, next) {
-        return Err(GrammarFault::TooMany);
+
+    #[tactic(auto, unfolding(crate::specs::Storing::entry_at))]
+    fn gather(
+        self,
+        alloc: Global,
+        tokens: &Tokens,
+        at: usize,
+    ) -> Result<(Entries, usize), GrammarFault> {
+        let inside = behind_open(tokens, at)?;
+        let (path, next) = new_path_at(alloc, self.as_slice(), tokens, inside)?;
+        let (modifiers, next) = conditions_at(tokens, next)?;
+        let (items, next) = items_at(alloc, tokens, next)?;
+        let left = behind_close(tokens, next)?;
+        let mut entries = self;
+        entries.push(StoreEntry {
+            path,
+            modifiers,
+            items,
+        })?;
+        Ok((entries, left))
     }
-    Err(GrammarFault::Arguments)
 }
 
 /// The entries up to the end of the line.
-#[tactic(auto, unfolding(crate::specs::Grammar::entries_at))]
+#[tactic(auto, unfolding(crate::specs::Storing::entries_at))]
 pub(crate) fn entries_at(
     alloc: Global,
     tokens: &Tokens,
     at: usize,
 ) -> Result<(Entries, usize), GrammarFault>
-    ensures { Gives (λ x. (x.0, drop x.1 tokens.now)) result (entries_at (drop at tokens.now)) }
+    ensures { Gives (λ x. (x.0, drop x.1 tokens.now)) result (storing.entries_at (drop at tokens.now)) }
 {
-    let (first, next) = entry_at(alloc, &[], tokens, at)?;
-    entries_behind(alloc, first, tokens, next)
+    some_of(alloc, Entries::new(alloc), 255, tokens, at)
 }

@@ -19,7 +19,7 @@ pub(crate) fn append_string(text: &[u8], out: &mut Vec<u8>) -> Result<(), Memory
 }
 
 /// Each behind a space.
-fn append_spaced(values: &[Value], out: &mut Vec<u8>) -> Result<(), Memory>
+pub(crate) fn append_spaced(values: &[Value], out: &mut Vec<u8>) -> Result<(), Memory>
     ensures ok { OnOk result (out.new.items ≡ out.old.items ++ spaced printed values.now) }
     ensures grows { Grows out.old.items out.new.items }
 {

@@ -35,6 +35,7 @@ pub use laws::{
 };
 pub use lexed::{Lexed, Tag};
 pub use lexer::Lexer;
+pub use marks::count_of;
 pub use mode::Mode;
 pub use pieces::answers;
 pub use print::print_string;

@@ -22,9 +22,10 @@ fn digits_len(text: &[u8]) -> usize
     text.iter().take_while(|c| is_digit(**c)).count()
 }
 
-/// The number that the digits stand for, if it is a count.
+/// The number that decimal digits stand for, if there are 1 to 10 of them and it is at most 4294967295 (RFC 2244
+/// section 8). Takes no memory.
 #[tactic(auto, unfolding(crate::specs::Reading::count_of, crate::specs::Reading::is_count))]
-fn count_of(digits: &[u8]) -> Option<u32>
+pub fn count_of(digits: &[u8]) -> Option<u32>
     ensures { result ≡ count_of digits.now }
 {
     if digits.is_empty() || digits.len() > DIGITS_LIMIT {

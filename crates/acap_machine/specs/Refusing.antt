@@ -1,16 +1,19 @@
 -- Why a STORE is refused by what it says, whatever the store has [RFC 2244 sections 3.1.1, 3.6 and 6.6.1].
-use Rattle.std.specs.Prelude.{ℕ, List, [], ◌∷◌, length, Bool, true, false, not, ◌&&◌, ◌||◌, ◌==◌, nat_lt, nat_eq, Option, None, Some, option_map, codes, find, if◌then◌else◌}
+use Rattle.std.specs.Prelude.{ℕ, List, [], ◌∷◌, length, Bool, true, false, not, ◌&&◌, ◌||◌, ◌==◌, nat_lt, nat_eq, Option, None, Some, is_none, option_map, codes, find, if◌then◌else◌}
 use Rattle.std.specs.List.{list_any, list_all, starts_with}
 use Rattle.std.specs.Option.{option_or}
 use Rattle.acap_entries.specs.Orders.{octets_eq}
 use Rattle.acap_entries.specs.declared.cell.Cell.TheVariants.{Nil, Single, Multi}
 use Rattle.acap_entries.specs.declared.path.Path.{Path}
 use Rattle.acap_grammar.specs.declared.given.Given.{Given}
-use Rattle.acap_grammar.specs.declared.given.Given.TheVariants.{Put}
+use Rattle.acap_grammar.specs.declared.given.Given.TheVariants.{Put, Default}
 use Rattle.acap_grammar.specs.declared.refusal.Refusal.{Refusal}
 use Rattle.acap_grammar.specs.declared.refusal.Refusal.TheVariants as refusals
 use Rattle.acap_grammar.specs.declared.store_entry.StoreEntry.{StoreEntry}
 use Rattle.acap_grammar.specs.declared.store_item.StoreItem.{StoreItem}
+use Rattle.acap_grammar.specs.declared.store_metadata.StoreMetadata.{StoreMetadata}
+use Rattle.acap_grammar.specs.declared.store_metadata.StoreMetadata.TheVariants as metadata
+use Rattle.acap_grammar.specs.declared.store_modifiers.StoreModifiers.{StoreModifiers}
 use Rattle.acap_machine.specs.Homes.{is_own}
 
 -- a refusal where a condition holds
@@ -24,6 +27,15 @@ abbrev pub is_string : Given → Bool
 is_string (Put Nil) = false
 is_string (Put (Single value)) = true
 is_string (Put (Multi values)) = false
+is_string Default = false
+
+abbrev pub is_value : StoreMetadata → Bool
+is_value metadata.Value = true
+is_value metadata.Acl = false
+
+-- without NOCREATE and UNCHANGEDSINCE
+abbrev pub is_unconditional : StoreModifiers → Bool
+is_unconditional modifiers = not modifiers.no_create && is_none modifiers.unchanged_since
 
 -- the attributes of a management entry that say what is inherited, and who has which rights
 abbrev pub is_governing : List ℕ → Bool
@@ -31,13 +43,13 @@ is_governing attribute =
     octets_eq attribute (codes "dataset.inherit") || octets_eq attribute (codes "dataset.acl")
     || (starts_with nat_eq attribute (codes "dataset.acl.") && nat_lt 12 (length attribute))
 
--- one string, and in the management entry, whose name is empty, for none of those
+-- one string as a value, and in the management entry, whose name is empty, for none of those
 abbrev pub is_served_item : List ℕ → StoreItem → Bool
-is_served_item name item = is_string item.given && not (length name == 0 && is_governing item.attribute)
+is_served_item name item = is_value item.metadata && is_string item.given && not (length name == 0 && is_governing item.attribute)
 
--- an entry in a dataset of the user's own, with items that are served
+-- an entry in a dataset of the user's own, without modifiers and with items that are served
 abbrev pub is_served : List ℕ → StoreEntry → Bool
-is_served user e = is_own user e.path.dataset && list_all (is_served_item e.path.name) e.items
+is_served user e = is_own user e.path.dataset && is_unconditional e.modifiers && list_all (is_served_item e.path.name) e.items
 
 -- ---- what stands twice
 
@@ -56,6 +68,7 @@ abbrev pub string_of : Given → List ℕ
 string_of (Put Nil) = []
 string_of (Put (Single value)) = value
 string_of (Put (Multi values)) = []
+string_of Default = []
 
 -- `modtime` is told by the server, `subdataset` is a list, and `entry` is the entry's own name
 abbrev pub is_invalid : List ℕ → StoreItem → Bool

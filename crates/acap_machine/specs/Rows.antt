@@ -12,6 +12,9 @@ use Rattle.acap_entries.specs.declared.path.Path.{Path}
 use Rattle.acap_entries.specs.declared.record.Record.{Record}
 use Rattle.acap_entries.specs.declared.row.Row.{Row}
 use Rattle.acap_grammar.specs.declared.found.Found.{Found}
+use Rattle.acap_grammar.specs.declared.return_item.ReturnItem.{ReturnItem}
+use Rattle.acap_grammar.specs.declared.return_name.ReturnName.{ReturnName}
+use Rattle.acap_grammar.specs.declared.return_name.ReturnName.TheVariants as name
 
 -- the value of an attribute of a present entry: `entry` is its name, `modtime` the stamp of its last change, and an
 -- attribute for which nothing is kept is NIL
@@ -21,18 +24,23 @@ cell_of path entry attribute =
     else (if octets_eq attribute (codes "modtime") then Single (stamp_of entry.modtime)
     else unwrap_or (table.get entry.cells attribute) Nil)
 
--- the row of an entry that is present: its name, and the value of each attribute
-abbrev pub row_at : List (List ℕ) → Path × Record → Option Row
-row_at attributes e =
+-- the attribute that an item of RETURN names
+abbrev pub named_by : ReturnName → List ℕ
+named_by (name.Named attribute) = attribute
+named_by (name.Beginning front) = front
+
+-- the row of an entry that is present: its name, and the value of each attribute that is asked for
+abbrev pub row_at : List ReturnItem → Path × Record → Option Row
+row_at returns e =
     if e.1.present
-    then Some (record { name = e.0.name; items = map (λ attribute. One (cell_of e.0 e.1 attribute)) attributes })
+    then Some (record { name = e.0.name; items = map (λ item. One (cell_of e.0 e.1 (named_by item.name))) returns })
     else None
 
 -- the rows of a dataset's present entries, in the order of their paths
-abbrev pub rows_of : List ℕ → List (List ℕ) → Stored → List Row
-rows_of dataset attributes records = filter_map (row_at attributes) (filter (λ e. octets_eq dataset e.0.dataset) (table.entries records))
+abbrev pub rows_of : List ℕ → List ReturnItem → Stored → List Row
+rows_of dataset returns records = filter_map (row_at returns) (filter (λ e. octets_eq dataset e.0.dataset) (table.entries records))
 
 -- what is told: without a RETURN nothing, else the rows and the store's last moment
-abbrev pub found_in : Store → List ℕ → Option (List (List ℕ)) → Found
-found_in s dataset None = record { rows = []; last = None }
-found_in s dataset (Some attributes) = record { rows = rows_of dataset attributes s.records; last = Some s.last }
+abbrev pub found_in : Store → List ℕ → Option (List ReturnItem) → Found
+found_in s dataset None = record { rows = []; last = None; total = None }
+found_in s dataset (Some returns) = record { rows = rows_of dataset returns s.records; last = Some s.last; total = None }

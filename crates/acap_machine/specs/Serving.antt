@@ -1,5 +1,6 @@
 -- What a command says and what store it leaves [RFC 2244 sections 6.2, 6.4.1 and 6.6.1].
-use Rattle.std.specs.Prelude.{ℕ, ℤ, List, not, Option, None, Some, unwrap_or, Result, Ok, Err, if◌then◌else◌}
+use Rattle.std.specs.Prelude.{ℕ, ℤ, List, [], ◌∷◌, Bool, true, false, not, ◌&&◌, Option, None, Some, is_none, unwrap_or, Result, Ok, Err, if◌then◌else◌}
+use Rattle.std.specs.List.{list_all}
 use Rattle.acap_entries.specs.Datasets.{dataset_exists}
 use Rattle.acap_entries.specs.Homes.{for_user}
 use Rattle.acap_entries.specs.Moments.{moment_after}
@@ -7,11 +8,22 @@ use Rattle.acap_entries.specs.Store.{Store, Written, store_after}
 use Rattle.acap_entries.specs.declared.change.Change.{Change}
 use Rattle.acap_grammar.specs.declared.command.Command.{Command}
 use Rattle.acap_grammar.specs.declared.command.Command.TheVariants as command
+use Rattle.acap_grammar.specs.Wanted.{Wanted, One}
+use Rattle.acap_grammar.specs.declared.metadata.Metadata.{Metadata}
+use Rattle.acap_grammar.specs.declared.metadata.Metadata.TheVariants as metadata
 use Rattle.acap_grammar.specs.declared.refusal.Refusal.{Refusal}
 use Rattle.acap_grammar.specs.declared.refusal.Refusal.TheVariants as refusals
+use Rattle.acap_grammar.specs.declared.return_item.ReturnItem.{ReturnItem}
+use Rattle.acap_grammar.specs.declared.return_name.ReturnName.{ReturnName}
+use Rattle.acap_grammar.specs.declared.return_name.ReturnName.TheVariants as name
 use Rattle.acap_grammar.specs.declared.said.Said.{Said}
 use Rattle.acap_grammar.specs.declared.said.Said.TheVariants as said
+use Rattle.acap_grammar.specs.declared.search.Search.{Search}
+use Rattle.acap_grammar.specs.declared.search_modifiers.SearchModifiers.{SearchModifiers}
 use Rattle.acap_grammar.specs.declared.store_entry.StoreEntry.{StoreEntry}
+use Rattle.acap_grammar.specs.declared.target.Target.{Target}
+use Rattle.acap_grammar.specs.declared.target.Target.TheVariants as target
+use Rattle.acap_grammar.specs.declared.test.Test.TheVariants.{All}
 use Rattle.acap_grammar.specs.declared.verb.Verb.TheVariants as verb
 use Rattle.acap_machine.specs.Homes.{entries_for, is_own}
 use Rattle.acap_machine.specs.Limits.{is_too_much}
@@ -48,17 +60,47 @@ stored_by s (Err refusal) = (said.Refused refusal, s)
 
 -- ---- SEARCH
 
-unfoldable pub searched : List ℕ → Store → List ℕ → Option (List (List ℕ)) → Said
-searched user s dataset returns =
-    if not (is_own user dataset) then said.Refused refusals.Unserved
+-- what is served of it yet: every entry of a dataset of the user's own, and the values of attributes by their names
+abbrev pub is_all : Wanted → Bool
+is_all (One All) = true
+is_all _ = false
+
+abbrev pub is_named : ReturnName → Bool
+is_named (name.Named attribute) = true
+is_named (name.Beginning front) = false
+
+abbrev pub is_one_value : List Metadata → Bool
+is_one_value (metadata.Value ∷ []) = true
+is_one_value _ = false
+
+abbrev pub is_served_return : ReturnItem → Bool
+is_served_return item = is_named item.name && is_one_value item.metadata
+
+-- no modifier but RETURN
+abbrev pub has_served_modifiers : SearchModifiers → Bool
+has_served_modifiers m =
+    is_none m.depth && is_none m.hard_limit && is_none m.limit && is_none m.make_context && not m.no_inherit && is_none m.sort
+    && list_all is_served_return (unwrap_or m.returns [])
+
+abbrev pub is_served_search : List ℕ → List ℕ → Search → Bool
+is_served_search user dataset wanted = is_own user dataset && has_served_modifiers wanted.modifiers && is_all wanted.key
+
+unfoldable pub searched : List ℕ → Store → List ℕ → Search → Said
+searched user s dataset wanted =
+    if not (is_served_search user dataset wanted) then said.Refused refusals.Unserved
     else (if not (dataset_exists s.records dataset) then said.Refused (refusals.NoExist dataset)
-    else said.Found (found_in s dataset returns))
+    else said.Found (found_in s dataset wanted.modifiers.returns))
+
+-- what a SEARCH looks through: contexts aren't served yet
+abbrev pub searched_in : List ℕ → Store → Target → Search → Said
+searched_in user s (target.Dataset dataset) wanted = searched user s (for_user user dataset) wanted
+searched_in user s (target.Context name) wanted = said.Refused refusals.Unserved
 
 -- ---- every command
 
 unfoldable pub served : List ℕ → Store → Command → ℤ → Said × Store
 served user s command.Noop clock = (said.Done verb.Noop, s)
 served user s command.Logout clock = (said.GoodBye, s)
-served user s (command.Authenticate mechanism) clock = (said.Refused refusals.Unserved, s)
 served user s (command.Store entries) clock = stored_by s (planned user s (entries_for user entries) clock)
-served user s (command.Search wanted) clock = (searched user s (for_user user wanted.dataset) wanted.returns, s)
+served user s (command.Search wanted) clock = (searched_in user s wanted.target wanted, s)
+served user s _ clock = (said.Refused refusals.Unserved, s)

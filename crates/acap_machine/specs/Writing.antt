@@ -11,7 +11,7 @@ use Rattle.acap_entries.specs.declared.cell.Cell.TheVariants.{Multi}
 use Rattle.acap_entries.specs.declared.path.Path.{Path}
 use Rattle.acap_entries.specs.declared.record.Record.{Record}
 use Rattle.acap_grammar.specs.declared.given.Given.{Given}
-use Rattle.acap_grammar.specs.declared.given.Given.TheVariants.{Put}
+use Rattle.acap_grammar.specs.declared.given.Given.TheVariants.{Put, Default}
 use Rattle.acap_grammar.specs.declared.store_entry.StoreEntry.{StoreEntry}
 use Rattle.acap_grammar.specs.declared.store_item.StoreItem.{StoreItem}
 
@@ -66,12 +66,14 @@ steps_for records entries moment = put_all (map (step_at records moment) (missin
 
 -- ---- entries get what is given
 
--- an attribute gets its value; an entry's `entry` is its name, and is not kept
-abbrev pub value_of : Given → Cell
-value_of (Put value) = value
+-- an attribute gets its value, or loses it
+abbrev pub with_given : Celled → List ℕ → Given → Celled
+with_given cells attribute (Put value) = table.insert cells attribute value
+with_given cells attribute Default = table.remove cells attribute
 
+-- an entry's `entry` is its name, and is not kept
 abbrev pub with_item : Celled → StoreItem → Celled
-with_item cells item = if octets_eq item.attribute (codes "entry") then cells else table.insert cells item.attribute (value_of item.given)
+with_item cells item = if octets_eq item.attribute (codes "entry") then cells else with_given cells item.attribute item.given
 
 abbrev pub with_items : Celled → List StoreItem → Celled
 with_items cells [] = cells

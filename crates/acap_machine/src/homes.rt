@@ -18,9 +18,17 @@ pub(crate) fn entries_for(
 {
     let mut made = Entries::new(alloc);
     for entry in entries.into_vec() {
-        let StoreEntry { path, items } = entry;
+        let StoreEntry {
+            path,
+            modifiers,
+            items,
+        } = entry;
         let path = path.for_user(user)?;
-        made.push(StoreEntry { path, items })?;
+        made.push(StoreEntry {
+            path,
+            modifiers,
+            items,
+        })?;
     }
     Ok(made)
 }

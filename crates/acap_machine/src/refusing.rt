@@ -5,7 +5,7 @@ ghost use Rattle.acap_machine.specs.Refusing as refusing;
 
 use crate::homes::is_own;
 use acap_entries::{Cell, Copying, Memory, Path, UserName};
-use acap_grammar::{Given, Refusal, StoreEntry, StoreItem};
+use acap_grammar::{Given, Refusal, StoreEntry, StoreItem, StoreMetadata, StoreModifiers};
 
 // Whether one string is given.
 fn is_string(given: &Given) -> bool
@@ -15,7 +15,21 @@ fn is_string(given: &Given) -> bool
         Given::Put(Cell::Single(_)) => true,
         Given::Put(Cell::Nil) => false,
         Given::Put(Cell::Multi(_)) => false,
+        Given::Default => false,
     }
+}
+
+fn is_value(metadata: StoreMetadata) -> bool
+    ensures { result ≡ refusing.is_value metadata }
+{
+    metadata == StoreMetadata::Value
+}
+
+// Whether nothing is asked of the store.
+fn is_unconditional(modifiers: &StoreModifiers) -> bool
+    ensures { result ≡ refusing.is_unconditional modifiers.now }
+{
+    !modifiers.no_create && modifiers.unchanged_since.is_none()
 }
 
 /// The string that is given, and else the empty one.
@@ -26,6 +40,7 @@ pub(crate) fn string_of(given: &Given) -> &[u8]
         Given::Put(Cell::Single(value)) => value.as_slice(),
         Given::Put(Cell::Nil) => b"",
         Given::Put(Cell::Multi(_)) => b"",
+        Given::Default => b"",
     }
 }
 
@@ -42,7 +57,9 @@ fn is_governing(attribute: &[u8]) -> bool
 fn is_served_item(name: &[u8], item: &StoreItem) -> bool
     ensures { result ≡ refusing.is_served_item name.now item.now }
 {
-    is_string(&item.given) && !(name.is_empty() && is_governing(item.attribute.as_slice()))
+    is_value(item.metadata)
+        && is_string(&item.given)
+        && !(name.is_empty() && is_governing(item.attribute.as_slice()))
 }
 
 // Whether all items are served in the entry of that name.
@@ -57,6 +74,7 @@ fn is_served(user: &UserName, entry: &StoreEntry) -> bool
     ensures { result ≡ refusing.is_served user.now entry.now }
 {
     is_own(user, entry.path.dataset.as_slice())
+        && is_unconditional(&entry.modifiers)
         && are_served_items(entry.path.name.as_slice(), entry.items.as_slice())
 }
 

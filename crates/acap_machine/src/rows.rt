@@ -4,8 +4,8 @@ ghost use Rattle.acap_entries.specs.declared.item.Item.TheVariants as item;
 ghost use Rattle.acap_machine.specs.Rows as rows;
 
 use acap_entries::stamp::stamp;
-use acap_entries::{Attribute, Cell, Copying, Item, Items, Memory, Path, Record, Row, Tree, Value};
-use acap_grammar::{Attributes, Found, Rows};
+use acap_entries::{Cell, Copying, Item, Items, Memory, Path, Record, Row, Tree, Value};
+use acap_grammar::{Found, ReturnItem, ReturnName, Returns, Rows};
 use std::alloc::Global;
 
 // The value of an attribute of a present entry.
@@ -24,18 +24,28 @@ fn cell_of(alloc: Global, path: &Path, entry: &Record, attribute: &[u8]) -> Resu
     }
 }
 
+// The attribute that an item of RETURN names.
+fn named_by(name: &ReturnName) -> &[u8]
+    ensures { result.now ≡ rows.named_by name.now }
+{
+    match name {
+        ReturnName::Named(attribute) => attribute.as_slice(),
+        ReturnName::Beginning(front) => front.as_slice(),
+    }
+}
+
 // What is told of a present entry, attribute by attribute.
 fn items_of(
     alloc: Global,
     path: &Path,
     entry: &Record,
-    attributes: &[Attribute],
+    returns: &[ReturnItem],
 ) -> Result<Items, Memory>
-    ensures { IfOk result (λ made. made ≡ map (λ attribute. item.One (rows.cell_of path.now entry.now attribute)) attributes.now) }
+    ensures { IfOk result (λ made. made ≡ map (λ asked. item.One (rows.cell_of path.now entry.now (rows.named_by asked.name))) returns.now) }
 {
     let mut made = Items::new(alloc);
-    for attribute in attributes {
-        let cell = cell_of(alloc, path, entry, attribute.as_slice())?;
+    for asked in returns {
+        let cell = cell_of(alloc, path, entry, named_by(&asked.name))?;
         made.push(Item::One(cell))?;
     }
     Ok(made)
@@ -46,15 +56,15 @@ fn row_of(
     alloc: Global,
     path: &Path,
     entry: &Record,
-    attributes: &[Attribute],
+    returns: &[ReturnItem],
 ) -> Result<Option<Row>, Memory>
-    ensures { IfOk result (λ row. row ≡ rows.row_at attributes.now (path.now, entry.now)) }
+    ensures { IfOk result (λ row. row ≡ rows.row_at returns.now (path.now, entry.now)) }
 {
     if !entry.present {
         return Ok(None);
     }
     let name = Value::from_slice(alloc, path.name.as_slice())?;
-    let items = items_of(alloc, path, entry, attributes)?;
+    let items = items_of(alloc, path, entry, returns)?;
     Ok(Some(Row { name, items }))
 }
 
@@ -63,13 +73,13 @@ fn rows_of(
     alloc: Global,
     tree: &Tree,
     dataset: &[u8],
-    attributes: &[Attribute],
+    returns: &[ReturnItem],
 ) -> Result<Rows, Memory>
-    ensures { IfOk result (λ made. made ≡ rows.rows_of dataset.now attributes.now tree.now.store.records) }
+    ensures { IfOk result (λ made. made ≡ rows.rows_of dataset.now returns.now tree.now.store.records) }
 {
     let mut made = Rows::new(alloc);
     for (path, entry) in tree.entries_of(dataset) {
-        if let Some(row) = row_of(alloc, path, entry, attributes)? {
+        if let Some(row) = row_of(alloc, path, entry, returns)? {
             made.push(row)?;
         }
     }
@@ -81,21 +91,23 @@ pub(crate) fn found_in(
     alloc: Global,
     tree: &Tree,
     dataset: &[u8],
-    returns: Option<&Attributes>,
+    returns: Option<&Returns>,
 ) -> Result<Found, Memory>
     ensures { IfOk result (λ found. found ≡ rows.found_in tree.now.store dataset.now (option_copied returns.entry)) }
 {
     match returns {
-        Some(attributes) => {
-            let rows = rows_of(alloc, tree, dataset, attributes.as_slice())?;
+        Some(returns) => {
+            let rows = rows_of(alloc, tree, dataset, returns.as_slice())?;
             Ok(Found {
                 rows,
                 last: Some(tree.last()),
+                total: None,
             })
         }
         None => Ok(Found {
             rows: Rows::new(alloc),
             last: None,
+            total: None,
         }),
     }
 }

@@ -2,10 +2,9 @@ ghost use Rattle.std.specs.Prelude.{◌≡◌, IfOk, OnErr};
 ghost use Rattle.acap_machine.specs.Runs.{run_of, stepped_at, outcome_of, machine_after};
 
 use crate::fault::Fault;
-use crate::outcomes::Outcomes;
+use crate::lists::{Outcomes, Steps};
 use crate::state::State;
 use crate::step::Step;
-use crate::steps::Steps;
 use acap_entries::Memory;
 use acap_grammar::Reply;
 use std::alloc::Global;

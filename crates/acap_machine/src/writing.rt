@@ -51,16 +51,25 @@ pub(crate) fn renewed(
     })
 }
 
-// An attribute gets its value; an entry's `entry` is its name, and isn't kept.
+// An attribute gets its value, or loses it; an entry's `entry` is its name, and isn't kept.
 fn give_item(cells: &mut Cells, item: StoreItem) -> Result<(), Memory>
     ensures { OnOk result (cells.new ≡ writing.with_item cells.old item) }
 {
-    let StoreItem { attribute, given } = item;
+    let StoreItem {
+        attribute,
+        given,
+        ..
+    } = item;
     if attribute.as_slice() == b"entry".as_slice() {
         return Ok(());
     }
-    let Given::Put(value) = given;
-    cells.set(attribute, value)
+    match given {
+        Given::Put(value) => cells.set(attribute, value),
+        Given::Default => {
+            cells.remove(&attribute);
+            Ok(())
+        }
+    }
 }
 
 // The attributes of an entry get their values.
@@ -95,7 +104,7 @@ fn entry_at(
 ) -> Result<(Path, Option<Record>), Memory>
     ensures { IfOk result (λ made. made ≡ writing.entry_at tree.now.store.records steps.now moment entry) }
 {
-    let StoreEntry { path, items } = entry;
+    let StoreEntry { path, items, .. } = entry;
     let old = stepped(tree, steps, &path);
     let mut cells = cells_of(alloc, old)?;
     give_items(&mut cells, items)?;

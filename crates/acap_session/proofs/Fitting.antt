@@ -44,7 +44,14 @@ command_fits user tag command.Noop = refl
 command_fits user tag command.Logout = tt
 command_fits user tag (command.Authenticate mechanism) = refl
 command_fits user tag (command.Store entries) = asks_fits user tag (command.Store entries)
-command_fits user tag (command.Search search) = asks_fits user tag (command.Search search)
+command_fits user tag (command.Search wanted) = asks_fits user tag (command.Search wanted)
+command_fits user tag (command.SetAcl object identifier rights) = asks_fits user tag (command.SetAcl object identifier rights)
+command_fits user tag (command.DeleteAcl object identifier) = asks_fits user tag (command.DeleteAcl object identifier)
+command_fits user tag (command.MyRights object) = asks_fits user tag (command.MyRights object)
+command_fits user tag (command.ListRights object identifier) = asks_fits user tag (command.ListRights object identifier)
+command_fits user tag (command.DeletedSince dataset since) = asks_fits user tag (command.DeletedSince dataset since)
+command_fits user tag (command.FreeContext name) = asks_fits user tag (command.FreeContext name)
+command_fits user tag (command.UpdateContext names) = asks_fits user tag (command.UpdateContext names)
 
 line_fits : (user tag : Option (List ℕ)) (r : Result Command GrammarFault) → Fits (heard_line user tag r).0 (heard_line user tag r).1
 line_fits user tag (Ok c) = command_fits user tag c

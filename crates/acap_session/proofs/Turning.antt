@@ -75,7 +75,14 @@ command_some user tag command.Noop e = cc
 command_some user tag command.Logout e = cc
 command_some user tag (command.Authenticate mechanism) e = cc
 command_some user tag (command.Store entries) e = asks_some user tag (command.Store entries) e
-command_some user tag (command.Search search) e = asks_some user tag (command.Search search) e
+command_some user tag (command.Search wanted) e = asks_some user tag (command.Search wanted) e
+command_some user tag (command.SetAcl object identifier rights) e = asks_some user tag (command.SetAcl object identifier rights) e
+command_some user tag (command.DeleteAcl object identifier) e = asks_some user tag (command.DeleteAcl object identifier) e
+command_some user tag (command.MyRights object) e = asks_some user tag (command.MyRights object) e
+command_some user tag (command.ListRights object identifier) e = asks_some user tag (command.ListRights object identifier) e
+command_some user tag (command.DeletedSince dataset since) e = asks_some user tag (command.DeletedSince dataset since) e
+command_some user tag (command.FreeContext name) e = asks_some user tag (command.FreeContext name) e
+command_some user tag (command.UpdateContext names) e = asks_some user tag (command.UpdateContext names) e
 
 line_some : (user tag : Option (List ℕ)) (r : Result Command GrammarFault) → (heard_line user tag r).0 ≡ next.More → ⊥
 line_some user tag (Ok c) e = command_some user tag c e

@@ -42,8 +42,7 @@ unfoldable pub heard_command : Option (List ℕ) → Option (List ℕ) → Comma
 heard_command user tag command.Noop = says tag (said.Done verb.Noop)
 heard_command user tag command.Logout = closes tag said.GoodBye
 heard_command user tag (command.Authenticate mechanism) = says tag (said.Refused (authenticated user))
-heard_command user tag (command.Store entries) = asks user tag (command.Store entries)
-heard_command user tag (command.Search wanted) = asks user tag (command.Search wanted)
+heard_command user tag wanted = asks user tag wanted
 
 abbrev pub heard_line : Option (List ℕ) → Option (List ℕ) → Result Command GrammarFault → Next × Stage
 heard_line user tag (Ok command) = heard_command user tag command

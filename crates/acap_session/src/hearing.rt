@@ -81,8 +81,7 @@ fn heard_command(
         Command::Noop => says(alloc, tag, Said::Done(Verb::Noop)),
         Command::Logout => closes(alloc, tag, Said::GoodBye),
         Command::Authenticate(_) => says(alloc, tag, Said::Refused(authenticated(user))),
-        Command::Store(entries) => asks(alloc, user, tag, Command::Store(entries)),
-        Command::Search(search) => asks(alloc, user, tag, Command::Search(search)),
+        command => asks(alloc, user, tag, command),
     }
 }
 

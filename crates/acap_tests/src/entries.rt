@@ -4,7 +4,7 @@ use acap_entries::stamp::{civil_of, stamp};
 use acap_entries::{
     Acls, Attribute, Cell, CellList, CellLists, Cells, Change, ContextName, Copying, Dataset,
     EntryName, Item, Items, Memory, Moment, NameFault, Octets, Path, Record, Records, Row, Seat,
-    Tree, UserName, Value, Values, Writes,
+    Tree, UserName, Value, Values, Writes, read_time,
 };
 use std::alloc::Global;
 
@@ -272,6 +272,198 @@ fn stamps_moments(rt: HostRuntime) {
         assert_eq!(rt; stamp(moment(micros)).as_slice(), text.as_slice());
     }
     assert_eq!(rt; civil_of(moment(0)).year, 1970);
+}
+
+// Whether a text is the time that is stamped so, or none where no stamp is given.
+fn reads_time(text: &[u8], wanted: Option<&[u8]>) -> bool {
+    match (read_time(text), wanted) {
+        (Some(moment), Some(digits)) => stamp(moment).as_slice() == digits,
+        (None, None) => true,
+        _ => false,
+    }
+}
+
+// Times of 14 digits and more; those behind the twentieth count for nothing (RFC 2244 section 8).
+#[test]
+fn reads_times(rt: HostRuntime) {
+    let rows: [(&[u8], &[u8]); 23] = [
+        (b"19700101000000", b"19700101000000000000"),
+        (b"200902132331301", b"20090213233130100000"),
+        (b"2009021323313012", b"20090213233130120000"),
+        (b"20090213233130123", b"20090213233130123000"),
+        (b"200902132331301234", b"20090213233130123400"),
+        (b"2009021323313012345", b"20090213233130123450"),
+        (b"20090213233130123456", b"20090213233130123456"),
+        (b"200902132331301234567", b"20090213233130123456"),
+        (b"2009021323313000000099", b"20090213233130000000"),
+        (b"20090213233130123456789", b"20090213233130123456"),
+        (b"200902132331301234569999", b"20090213233130123456"),
+        (b"2009021323313012345699999", b"20090213233130123456"),
+        (b"20090213233130123456999999", b"20090213233130123456"),
+        (b"200902132331301234569999999", b"20090213233130123456"),
+        (b"2009021323313012345699999999", b"20090213233130123456"),
+        (b"20090213233130123456999999999", b"20090213233130123456"),
+        (b"200902132331301234569999999999", b"20090213233130123456"),
+        (b"20090213233130000001", b"20090213233130000001"),
+        (b"00000101000000", b"00000101000000000000"),
+        (b"99991231235959", b"99991231235959000000"),
+        (b"99991231235959999999", b"99991231235959999999"),
+        (b"999912312359599999999", b"99991231235959999999"),
+        (b"20381231235959", b"20381231235959000000"),
+    ];
+    for (text, digits) in rows {
+        assert!(rt; reads_time(text, Some(digits)), "{text:?}");
+    }
+}
+
+// A leap second is the last microsecond of its minute, whatever its fraction is.
+#[test]
+fn reads_leap_seconds(rt: HostRuntime) {
+    let rows: [(&[u8], &[u8]); 7] = [
+        (b"20161231235960", b"20161231235959999999"),
+        (b"201612312359600", b"20161231235959999999"),
+        (b"20161231235960000001", b"20161231235959999999"),
+        (b"20161231235960999999", b"20161231235959999999"),
+        (b"201612312359609999999999", b"20161231235959999999"),
+        (b"20000101000060", b"20000101000059999999"),
+        (b"99991231235960", b"99991231235959999999"),
+    ];
+    for (text, digits) in rows {
+        assert!(rt; reads_time(text, Some(digits)), "{text:?}");
+    }
+}
+
+// The calendar has each date, and the day each time, or neither is a time.
+#[test]
+fn refuses_other_times(rt: HostRuntime) {
+    for bad in [
+        b"".as_slice(),
+        b"1970",
+        b"1970010100000",
+        b"19000229000000",
+        b"20230229000000",
+        b"21000229000000",
+        b"20240230000000",
+        b"20000001000000",
+        b"20001301000000",
+        b"20009901000000",
+        b"20000100000000",
+        b"20000132000000",
+        b"20000431000000",
+        b"20000631000000",
+        b"20000931000000",
+        b"20001131000000",
+        b"20000101240000",
+        b"20000101990000",
+        b"20000101006000",
+        b"20000101009900",
+        b"20000101000061",
+        b"20000101000099",
+        b"20000101006060",
+        b"20000101240060",
+    ] {
+        assert!(rt; reads_time(bad, None), "{bad:?}");
+    }
+}
+
+// Only decimal digits stand in a time.
+#[test]
+fn refuses_other_texts(rt: HostRuntime) {
+    for bad in [
+        b"+20000101000000".as_slice(),
+        b"-20000101000000",
+        b" 20000101000000",
+        b"20000101000000 ",
+        b"20000101000000Z",
+        b"20000101000000.5",
+        b"2000010100000x",
+        b"x0000101000000",
+        b"2000-01-01 00:00:00",
+        b"20000101T000000",
+        b"20000101000000\0",
+        b"2009021323313012345x",
+        b"20090213233130123456x",
+        b"2009021323313012345678901234x",
+        b"2000010100000\xd9\xa0",
+    ] {
+        assert!(rt; reads_time(bad, None), "{bad:?}");
+    }
+}
+
+// The days on which months end, in leap years and others.
+#[test]
+fn reads_last_days(rt: HostRuntime) {
+    for good in [
+        b"20000229000000".as_slice(),
+        b"20240229000000",
+        b"00000229000000",
+        b"16000229000000",
+        b"19000228000000",
+        b"20230228000000",
+        b"20000131000000",
+        b"20000331000000",
+        b"20000430000000",
+        b"20000531000000",
+        b"20000630000000",
+        b"20000731000000",
+        b"20000831000000",
+        b"20000930000000",
+        b"20001031000000",
+        b"20001130000000",
+        b"20001231000000",
+    ] {
+        assert!(rt; read_time(good).is_some(), "{good:?}");
+    }
+}
+
+// Times as counts of microseconds from 1970 on, and backwards before it.
+#[test]
+fn counts_times(rt: HostRuntime) {
+    for (text, micros) in [
+        (b"19700101000000".as_slice(), 0i64),
+        (b"19700101000000000001", 1),
+        (b"19691231235959999999", -1),
+        (b"19691231235960", -1),
+        (b"19691231235959", -1_000_000),
+        (b"19691231000000", -86_400_000_000),
+        (b"19000101000000", -2_208_988_800_000_000),
+        (b"15821015000000", -12_219_292_800_000_000),
+        (b"00000101000000", -62_167_219_200_000_000),
+        (b"20000101000000", 946_684_800_000_000),
+        (b"20000229000000", 951_782_400_000_000),
+        (b"20090213233130", 1_234_567_890_000_000),
+        (b"20240229000000", 1_709_164_800_000_000),
+        (b"20380119031408", 2_147_483_648_000_000),
+        (b"99991231235959999999", 253_402_300_799_999_999),
+    ] {
+        assert!(rt; read_time(text) == Moment::new(micros), "{text:?}");
+        assert!(rt; read_time(text) == Some(moment(micros)), "{text:?}");
+    }
+}
+
+// The stamp of a moment is a time, and that moment's.
+#[test]
+fn reads_stamps(rt: HostRuntime) {
+    for micros in [
+        -62_167_219_200_000_000i64,
+        -62_167_219_199_999_999,
+        -2_208_988_800_000_001,
+        -1_000_000,
+        -999_999,
+        -1,
+        0,
+        1,
+        999_999,
+        1_000_000,
+        951_782_399_999_999,
+        951_868_800_000_000,
+        1_234_567_890_123_456,
+        253_402_300_799_999_998,
+        253_402_300_799_999_999,
+    ] {
+        let made = moment(micros);
+        assert!(rt; read_time(&stamp(made)) == Some(made), "{micros}");
+    }
 }
 
 fn lists(alloc: Global) -> Result<bool, Memory> {

@@ -1,18 +1,18 @@
 //! Tests of acap_grammar through its public calls.
 use acap_entries::{
     Attribute, Cell, CellList, CellLists, Dataset, EntryName, Item, Items, Moment, Octets, Path,
-    Row, Value, Values,
+    Row, Sequence, Value, Values,
 };
 use acap_grammar::{
-    Attributes, Command, Copying, Entries, Found, Given, GrammarFault, Key, Memory, Object,
-    Refusal, Reply, Rows, Said, Search, Status, StoreEntry, StoreItem, StoreItems, Verb, parse,
-    render,
+    Command, Copying, Entries, Found, Given, GrammarFault, Memory, Metadata, Object, Refusal,
+    Reply, ReturnItem, ReturnName, Rows, Said, Search, SortItem, Status, StoreEntry, StoreItem,
+    Target, Verb, parse, render,
 };
 use acap_lexer::{LexFault, Lexed, Lexer, Mode};
 use std::alloc::Global;
 
-// What the tokens of a line come to; a line that has none is `TooDeep`, which no line here is.
-fn command_of(alloc: Global, line: &[u8]) -> Result<Command, GrammarFault> {
+/// What the tokens of a line come to; where a line has none, or memory is refused for them, `Memory`.
+pub(crate) fn command_of(alloc: Global, line: &[u8]) -> Result<Command, GrammarFault> {
     let mut lexer = Lexer::new(alloc);
     match lexer.push(line) {
         Ok(_) => {}
@@ -24,13 +24,13 @@ fn command_of(alloc: Global, line: &[u8]) -> Result<Command, GrammarFault> {
     }
     match lexer.next(Mode::Command) {
         Ok(Lexed::Line(tokens)) => parse(alloc, &tokens),
-        Ok(_) => Err(GrammarFault::TooDeep),
+        Ok(_) => Err(GrammarFault::Memory),
         Err(_) => Err(GrammarFault::Memory),
     }
 }
 
-// What is wrong with a line, if anything is.
-fn fault_of(alloc: Global, line: &[u8]) -> Option<GrammarFault> {
+/// What is wrong with a line, if anything is.
+pub(crate) fn fault_of(alloc: Global, line: &[u8]) -> Option<GrammarFault> {
     match command_of(alloc, line) {
         Ok(_) => None,
         Err(fault) => Some(fault),
@@ -86,16 +86,32 @@ fn are_both(entries: &[StoreEntry]) -> bool {
         && stores(&entries[1], b"/option/", b"", b"c", b"x")
 }
 
+// The attribute that an item of RETURN names.
+fn named(name: &ReturnName) -> &[u8] {
+    match name {
+        ReturnName::Named(attribute) => attribute.as_slice(),
+        ReturnName::Beginning(front) => front.as_slice(),
+    }
+}
+
+// Whether a search is of that dataset.
+fn looks_through(search: &Search, dataset: &[u8]) -> bool {
+    match &search.target {
+        Target::Dataset(target) => target.as_slice() == dataset,
+        Target::Context(_) => false,
+    }
+}
+
 // Whether the search has that dataset, and those attributes one after the other.
 fn asks(alloc: Global, search: &Search, dataset: &[u8], attributes: Option<&[u8]>) -> bool {
-    if search.dataset.as_slice() != dataset {
+    if !looks_through(search, dataset) {
         return false;
     }
-    match (&search.returns, attributes) {
+    match (&search.modifiers.returns, attributes) {
         (Some(returns), Some(text)) => {
             let mut all = Vec::new(alloc);
-            for attribute in returns.as_slice() {
-                if all.extend_from_slice(attribute.as_slice()).is_err() {
+            for item in returns.as_slice() {
+                if all.extend_from_slice(named(&item.name)).is_err() {
                     return false;
                 }
             }
@@ -121,11 +137,8 @@ fn reads_search(alloc: Global, line: &[u8], dataset: &[u8], attributes: Option<&
 }
 
 #[test]
-fn reads_each_shape(rt: HostRuntime) {
+fn reads_stores_and_searches(rt: HostRuntime) {
     let alloc = rt.alloc();
-    assert!(rt; matches!(&command_of(alloc, b"A1 NOOP"), Ok(Command::Noop)));
-    assert!(rt; matches!(&command_of(alloc, b"A1 nOoP"), Ok(Command::Noop)));
-    assert!(rt; matches!(&command_of(alloc, b"A1 LOGOUT"), Ok(Command::Logout)));
     assert!(rt;
         reads_store(
             alloc,
@@ -155,7 +168,7 @@ fn finds_the_first_fault(rt: HostRuntime) {
     let arguments = GrammarFault::Arguments;
     let twice = GrammarFault::NotPermittedTwice;
     let bad_name = GrammarFault::BadName;
-    let lines: [(&[u8], GrammarFault); 42] = [
+    let lines: [(&[u8], GrammarFault); 38] = [
         (b"A1", unknown),
         (b"A1 \"NOOP\"", unknown),
         (b"A1 (", unknown),
@@ -172,9 +185,6 @@ fn finds_the_first_fault(rt: HostRuntime) {
         (b"A1 STORE (\"/a/b\" \"c\")", arguments),
         (b"A1 STORE (\"/a/b\" \"c\" \"x\"", arguments),
         (b"A1 STORE (\"/a/b\" \"c\" \"x\" \"d\")", arguments),
-        (b"A1 STORE (\"/a/b\" \"c\" NIL)", arguments),
-        (b"A1 STORE (\"/a/b\" \"c\" (\"value\" \"x\"))", arguments),
-        (b"A1 STORE (\"/a/b\" NOCREATE \"c\" \"x\")", arguments),
         (b"A1 STORE (\"/a/b\" \"c\" \"x\") x", arguments),
         (b"A1 STORE (\"/a/b\" \"c\" \"x\"))", arguments),
         (b"A1 STORE (\"a/b\" \"c\" \"x\")", bad_name),
@@ -195,7 +205,7 @@ fn finds_the_first_fault(rt: HostRuntime) {
         ),
         (b"A1 SEARCH", arguments),
         (b"A1 SEARCH x ALL", arguments),
-        (b"A1 SEARCH \"a\" ALL", bad_name),
+        (b"A1 SEARCH \"\" ALL", bad_name),
         (b"A1 SEARCH \"/a/\"", arguments),
         (b"A1 SEARCH \"/a/\" ALL ALL", arguments),
         (b"A1 SEARCH \"/a/\" \"ALL\"", arguments),
@@ -203,7 +213,6 @@ fn finds_the_first_fault(rt: HostRuntime) {
         (b"A1 SEARCH \"/a/\" RETURN (\"b\" ALL", arguments),
         (b"A1 SEARCH \"/a/\" RETURN (\"b\" \"\" x) ALL", bad_name),
         (b"A1 SEARCH \"/a/\" RETURN (\"b\") RETURN x", twice),
-        (b"A1 SEARCH \"/a/\" DEPTH 1 ALL", arguments),
     ];
     for (n, (line, fault)) in lines.iter().enumerate() {
         assert_eq!(rt; fault_of(alloc, *line), Some(*fault), "line {n}");
@@ -507,6 +516,7 @@ fn found(alloc: Global) -> Result<Found, Memory> {
     Ok(Found {
         rows: rows.copy()?,
         last: Moment::new(0),
+        total: None,
     })
 }
 
@@ -559,6 +569,7 @@ fn prints_replies(rt: HostRuntime) -> Result<(), Memory> {
     let nothing = Found {
         rows: Rows::new(alloc),
         last: None,
+        total: None,
     };
     assert!(rt;
         prints(
@@ -571,54 +582,154 @@ fn prints_replies(rt: HostRuntime) -> Result<(), Memory> {
     Ok(())
 }
 
-// Whether a command and its copy are read alike.
-fn copies_store(alloc: Global, line: &[u8]) -> Result<bool, Memory> {
-    let read = command_of(alloc, line);
-    let Some(entries) = entries_in(&read) else {
-        return Ok(false);
-    };
-    let copied = Command::Store(entries.copy()?).copy()?;
-    let again = Ok(copied);
-    Ok(match entries_in(&again) {
-        Some(entries) => are_both(entries.as_slice()),
-        None => false,
-    })
+// A list of strings.
+fn values(alloc: Global, texts: &[&[u8]]) -> Result<Values, Memory> {
+    let mut made = Values::new(alloc);
+    for text in texts {
+        made.push(Value::from_slice(alloc, text)?)?;
+    }
+    Ok(made)
 }
 
-fn copies_search(alloc: Global, line: &[u8]) -> Result<bool, Memory> {
-    let read = command_of(alloc, line);
-    let Some(search) = search_in(&read) else {
-        return Ok(false);
+// The end of a DELETEDSINCE: a line for each name (RFC 2244 section 6.6.2).
+#[test]
+fn prints_deleted_names(rt: HostRuntime) -> Result<(), Memory> {
+    let alloc = rt.alloc();
+    let rows: [(&[&[u8]], &[u8]); 3] = [
+        (&[], b"A2 OK \"DELETEDSINCE done\"\r\n"),
+        (
+            &[b"font"],
+            b"A2 DELETED \"font\"\r\nA2 OK \"DELETEDSINCE done\"\r\n",
+        ),
+        (
+            &[b"b", b"", b"\n", b"a\"", b"b"],
+            b"A2 DELETED \"b\"\r\nA2 DELETED \"\"\r\nA2 DELETED {1}\r\n\n\r\nA2 DELETED \"a\\\"\"\r\nA2 DELETED \"b\"\r\nA2 OK \"DELETEDSINCE done\"\r\n",
+        ),
+    ];
+    for (names, text) in rows {
+        let said = Said::Deleted(values(alloc, names)?);
+        assert!(rt; prints(alloc, b"A2", said, text)?, "{text:?}");
+    }
+    Ok(())
+}
+
+// The end of a MYRIGHTS: the rights in one string (RFC 2244 section 6.7).
+#[test]
+fn prints_rights(rt: HostRuntime) -> Result<(), Memory> {
+    let alloc = rt.alloc();
+    let rows: [(&[u8], &[u8]); 3] = [
+        (
+            b"xrwia",
+            b"A2 MYRIGHTS \"xrwia\"\r\nA2 OK \"MYRIGHTS done\"\r\n",
+        ),
+        (b"", b"A2 MYRIGHTS \"\"\r\nA2 OK \"MYRIGHTS done\"\r\n"),
+        (
+            b"\\",
+            b"A2 MYRIGHTS \"\\\\\"\r\nA2 OK \"MYRIGHTS done\"\r\n",
+        ),
+    ];
+    for (rights, text) in rows {
+        let said = Said::Rights(Value::from_slice(alloc, rights)?);
+        assert!(rt; prints(alloc, b"A2", said, text)?, "{text:?}");
+    }
+    Ok(())
+}
+
+// The end of a LISTRIGHTS: the rights string by string (RFC 2244 section 6.7).
+#[test]
+fn prints_lists_of_rights(rt: HostRuntime) -> Result<(), Memory> {
+    let alloc = rt.alloc();
+    let rows: [(&[&[u8]], &[u8]); 3] = [
+        (&[], b"A2 LISTRIGHTS\r\nA2 OK \"LISTRIGHTS done\"\r\n"),
+        (
+            &[b"xrwia"],
+            b"A2 LISTRIGHTS \"xrwia\"\r\nA2 OK \"LISTRIGHTS done\"\r\n",
+        ),
+        (
+            &[b"", b"x", b"r", b"w"],
+            b"A2 LISTRIGHTS \"\" \"x\" \"r\" \"w\"\r\nA2 OK \"LISTRIGHTS done\"\r\n",
+        ),
+    ];
+    for (rights, text) in rows {
+        let said = Said::RightsList(values(alloc, rights)?);
+        assert!(rt; prints(alloc, b"A2", said, text)?, "{text:?}");
+    }
+    Ok(())
+}
+
+// A challenge is printed behind `+`, under no tag (RFC 2244 section 6.3.1).
+#[test]
+fn prints_challenges(rt: HostRuntime) -> Result<(), Memory> {
+    let alloc = rt.alloc();
+    let rows: [(&[u8], &[u8]); 4] = [
+        (b"<1.2@localhost>", b"+ \"<1.2@localhost>\"\r\n"),
+        (b"", b"+ \"\"\r\n"),
+        (b"a\"b\\c", b"+ \"a\\\"b\\\\c\"\r\n"),
+        (b"a\r\nb", b"+ {4}\r\na\r\nb\r\n"),
+    ];
+    for (challenge, text) in rows {
+        let tagged = Said::Challenge(Octets::from_slice(alloc, challenge)?);
+        assert!(rt; prints(alloc, b"A2", tagged, text)?, "{text:?}");
+        let untagged = Said::Challenge(Octets::from_slice(alloc, challenge)?);
+        assert!(rt; prints(alloc, b"", untagged, text)?, "{text:?}");
+    }
+    Ok(())
+}
+
+// How many entries matched is told in the completion where not all of them were (RFC 2244 section 6.4.1).
+#[test]
+fn prints_totals(rt: HostRuntime) -> Result<(), Memory> {
+    let alloc = rt.alloc();
+    let rows: [(u32, &[u8]); 3] = [
+        (0, b"A2 OK (TOOMANY 0) \"SEARCH done\"\r\n"),
+        (12, b"A2 OK (TOOMANY 12) \"SEARCH done\"\r\n"),
+        (
+            4_294_967_295,
+            b"A2 OK (TOOMANY 4294967295) \"SEARCH done\"\r\n",
+        ),
+    ];
+    for (total, text) in rows {
+        let nothing = Found {
+            rows: Rows::new(alloc),
+            last: None,
+            total: Some(total),
+        };
+        assert!(rt;
+            prints(alloc, b"A2", Said::Found(nothing), text)?,
+            "{total}"
+        );
+    }
+    let some = Found {
+        total: Some(70_000),
+        ..found(alloc)?
     };
-    let copied = Command::Search(search.copy()?).copy()?;
-    let again = Ok(copied);
-    Ok(match search_in(&again) {
-        Some(search) => asks(alloc, search, b"/a/", Some(b"bc")),
-        None => false,
-    })
+    assert!(rt;
+        prints(
+            alloc,
+            b"A2",
+            Said::Found(some),
+            b"A2 ENTRY \"font\" \"m\\\"o\" NIL () (\"a\" (\"x\" \"y\")) ((\"a\" (\"x\" \"y\")) ()) ()\r\nA2 ENTRY {1}\r\n\n\r\nA2 MODTIME \"19700101000000000000\"\r\nA2 OK (TOOMANY 70000) \"SEARCH done\"\r\n"
+        )?
+    );
+    Ok(())
+}
+
+// Whether a list of none is one of none as a vector and back.
+fn stays_empty<T: Drop>(alloc: Global) -> bool {
+    let made: Sequence<T> = Sequence::new(alloc);
+    let again = Sequence::from_vec(made.into_vec());
+    again.is_empty() && again.len() == 0
 }
 
 #[test]
-fn copies(rt: HostRuntime) -> Result<(), Memory> {
+fn keeps_empty_lists(rt: HostRuntime) {
     let alloc = rt.alloc();
-    assert!(rt;
-        copies_store(
-            alloc,
-            b"A1 STORE (\"/option/~/font\" \"option.value\" \"mono\" \"b\" \"\") (\"/option/\" \"c\" \"x\")"
-        )?
-    );
-    assert!(rt; copies_search(alloc, b"A1 SEARCH \"/a\" RETURN (\"b\" \"c\") ALL")?);
-    let items = StoreItems::from_vec(StoreItems::new(alloc).into_vec());
-    assert!(rt; items.is_empty());
-    let rows = Rows::from_vec(Rows::new(alloc).into_vec());
-    assert!(rt; rows.is_empty());
-    assert_eq!(rt; rows.len(), 0);
-    let entries = Entries::from_vec(Entries::new(alloc).into_vec());
-    assert!(rt; entries.is_empty());
-    let attributes = Attributes::from_vec(Attributes::new(alloc).into_vec());
-    assert!(rt; attributes.is_empty());
-    assert!(rt; matches!(&Key::All.copy()?, Key::All));
-    Ok(())
+    assert!(rt; stays_empty::<StoreEntry>(alloc));
+    assert!(rt; stays_empty::<StoreItem>(alloc));
+    assert!(rt; stays_empty::<ReturnItem>(alloc));
+    assert!(rt; stays_empty::<SortItem>(alloc));
+    assert!(rt; stays_empty::<Metadata>(alloc));
+    assert!(rt; stays_empty::<Row>(alloc));
 }
 
 // What a render into a vector that holds an octet leaves: `None` where memory was refused before it.
@@ -648,5 +759,51 @@ fn keeps_memory(rt: HostRuntime) {
             }
         }
         Err(_) => {}
+    }
+}
+
+// Whether a reply is printed so behind an octet, or nothing of it where memory is refused.
+fn prints_whole_or_nothing(alloc: Global, reply: &Reply, text: &[u8]) -> bool {
+    let Ok(mut out) = Vec::from_slice(alloc, b"!") else {
+        return true;
+    };
+    let done = render(reply, &mut out).is_ok();
+    match out.split_first() {
+        Some((b'!', printed)) => {
+            if done {
+                printed == text
+            } else {
+                printed.is_empty()
+            }
+        }
+        _ => false,
+    }
+}
+
+// Whether a list of rights is printed so or not at all, and so is the end of a DELETEDSINCE with those names.
+fn prints_lists(
+    alloc: Global,
+    texts: &[&[u8]],
+    rights: &[u8],
+    deleted: &[u8],
+) -> Result<bool, Memory> {
+    let listed = Reply::new(Said::RightsList(values(alloc, texts)?));
+    let told = Reply::new(Said::Deleted(values(alloc, texts)?));
+    let both = prints_whole_or_nothing(alloc, &listed, rights)
+        && prints_whole_or_nothing(alloc, &told, deleted);
+    Ok(both)
+}
+
+// Whichever allocation is refused: a reply of several strings or lines is whole, or not there at all.
+#[test]
+fn prints_whole_lists_or_nothing(rt: HostRuntime) {
+    let printed = prints_lists(
+        rt.alloc(),
+        &[b"xrwia", b"\n", b"\""],
+        b"* LISTRIGHTS \"xrwia\" {1}\r\n\n \"\\\"\"\r\n* OK \"LISTRIGHTS done\"\r\n",
+        b"* DELETED \"xrwia\"\r\n* DELETED {1}\r\n\n\r\n* DELETED \"\\\"\"\r\n* OK \"DELETEDSINCE done\"\r\n",
+    );
+    if let Ok(whole) = printed {
+        assert!(rt; whole);
     }
 }

@@ -2,7 +2,11 @@
 #![tactic(auto)]
 
 #[cfg(test)]
+mod commands;
+#[cfg(test)]
 mod entries;
+#[cfg(test)]
+mod faults;
 #[cfg(test)]
 mod grammar;
 #[cfg(test)]
@@ -15,3 +19,5 @@ mod order;
 mod pipe;
 #[cfg(test)]
 mod printing;
+#[cfg(test)]
+mod showing;

@@ -286,6 +286,23 @@ fn is_logged_in_already(rt: HostRuntime) {
     );
 }
 
+/// What is next is added to what was said, and whether there is more.
+fn add_next(next: &Next, text: &mut Vec<u8>) -> Result<bool, acap_entries::Memory> {
+    match next {
+        Next::Say(octets) => text.extend_from_slice(octets.as_slice())?,
+        Next::Close(octets) => text.extend_from_slice(octets.as_slice())?,
+        Next::Ask(_) => text.extend_from_slice(b"asked\r\n")?,
+        Next::More => return Ok(false),
+    }
+    Ok(true)
+}
+
+/// What a session says next is added to what was said, and whether there is more.
+fn hear(session: &mut Session, text: &mut Vec<u8>) -> Result<bool, acap_entries::Memory> {
+    let next = session.next()?;
+    add_next(&next, text)
+}
+
 /// What a session without a user says to these octets, up to where it has nothing more to say.
 fn unnamed(alloc: Global, input: &[u8]) -> Result<Vec<u8>, acap_entries::Memory> {
     let host = Octets::from_slice(alloc, b"localhost")?;
@@ -293,12 +310,8 @@ fn unnamed(alloc: Global, input: &[u8]) -> Result<Vec<u8>, acap_entries::Memory>
     let mut text = Vec::new(alloc);
     let _ = session.push(input)?;
     for _ in 0..100 {
-        let next = session.next()?;
-        match &next {
-            Next::Say(octets) => text.extend_from_slice(octets.as_slice())?,
-            Next::Close(octets) => text.extend_from_slice(octets.as_slice())?,
-            Next::Ask(_) => text.extend_from_slice(b"asked\r\n")?,
-            Next::More => break,
+        if !hear(&mut session, &mut text)? {
+            break;
         }
     }
     Ok(text)
@@ -316,6 +329,202 @@ fn serves_nobody_but_noop_and_logout(rt: HostRuntime) {
             Ok(text) => assert!(rt; text == wanted, "{text:?}"),
             Err(_) => assert!(rt; false),
         }
+    }
+}
+
+/// Octets with a text so many times between two others.
+fn repeated(
+    alloc: Global,
+    begin: &[u8],
+    text: &[u8],
+    count: usize,
+    end: &[u8],
+) -> Result<Vec<u8>, AllocError> {
+    let mut made = Vec::from_slice(alloc, begin)?;
+    for _ in 0..count {
+        made.extend_from_slice(text)?;
+    }
+    made.extend_from_slice(end)?;
+    Ok(made)
+}
+
+/// A session that reads such octets writes the greeting and those.
+fn check_repeated(
+    rt: &(impl AllocGlobal + Abort),
+    begin: &[u8],
+    text: &[u8],
+    count: usize,
+    end: &[u8],
+    wanted: &[u8],
+) {
+    let made = repeated(rt.alloc(), begin, text, count, end);
+    if let Ok(input) = &made {
+        check_whole(rt, input.as_slice(), wanted);
+    }
+}
+
+/// Keys of 32 levels are read, and deeper ones are too deep (RFC 2244 section 6.4.1).
+#[test]
+fn limits_levels(rt: HostRuntime) {
+    let begin = b"A1 SEARCH \"/option/~/\"";
+    let rows: [(usize, &[u8]); 4] = [
+        (1, b"A1 BAD \"Not served yet\"\r\n"),
+        (31, b"A1 BAD \"Not served yet\"\r\n"),
+        (32, b"A1 BAD \"Too deep\"\r\n"),
+        (100, b"A1 BAD \"Too deep\"\r\n"),
+    ];
+    for (count, wanted) in rows {
+        check_repeated(&rt, begin, b" NOT", count, b" ALL\r\n", wanted);
+    }
+    check_repeated(
+        &rt,
+        begin,
+        b" NOT",
+        32,
+        b"\r\n",
+        b"A1 BAD \"Bad arguments\"\r\n",
+    );
+}
+
+/// SORT has at most 16 items (RFC 2244 section 6.4.1).
+#[test]
+fn limits_sorts(rt: HostRuntime) {
+    let begin = b"A1 SEARCH \"/option/~/\" SORT (\"k\" \"i;octet\"";
+    let rows: [(usize, &[u8]); 3] = [
+        (0, b"A1 BAD \"Not served yet\"\r\n"),
+        (15, b"A1 BAD \"Not served yet\"\r\n"),
+        (16, b"A1 BAD \"Too many\"\r\n"),
+    ];
+    for (count, wanted) in rows {
+        let item = b" \"k\" \"-i;ascii-numeric\"";
+        check_repeated(&rt, begin, item, count, b") ALL\r\n", wanted);
+    }
+}
+
+/// A string has at most 65,536 octets where it is stored (RFC 2244 section 6.6.1).
+#[test]
+fn limits_values(rt: HostRuntime) {
+    check_repeated(
+        &rt,
+        b"A1 STORE (\"/option/~/e\" \"k\" {65536+}\r\n",
+        b"x",
+        65_536,
+        b")\r\nA2 NOOP\r\n",
+        b"A1 OK \"STORE done\"\r\nA2 OK \"NOOP done\"\r\n",
+    );
+    check_repeated(
+        &rt,
+        b"A1 STORE (\"/option/~/e\" \"k\" {65537+}\r\n",
+        b"x",
+        65_537,
+        b")\r\nA2 SEARCH \"/option/~/\" ALL\r\n",
+        b"A1 NO \"Limit reached\"\r\nA2 NO (NOEXIST \"/option/user/joe/\") \"No such dataset\"\r\n",
+    );
+}
+
+/// The first 8,192 octets of a command have its CR LF, or nothing more is read.
+#[test]
+fn limits_lines(rt: HostRuntime) {
+    check_repeated(
+        &rt,
+        b"A1 ",
+        b"x",
+        8_187,
+        b"\r\nA2 NOOP\r\n",
+        b"A1 BAD \"Unknown command\"\r\nA2 OK \"NOOP done\"\r\n",
+    );
+    check_repeated(
+        &rt,
+        b"A1 ",
+        b"x",
+        8_188,
+        b"\r\nA2 NOOP\r\n",
+        b"* BYE \"Line too long\"\r\n",
+    );
+}
+
+/// A whole line of each command that concerns the store.
+const LINES: [&[u8]; 12] = [
+    b"A1 STORE (\"/option/~/e\" NOCREATE \"k\" NIL)\r\n",
+    b"A1 SEARCH \"/option/~/\" DEPTH 1 ALL\r\n",
+    b"A1 SEARCH \"c\" NOT ALL\r\n",
+    b"A1 SETACL (\"/option/~/\") \"ann\" \"r\"\r\n",
+    b"A1 DELETEACL (\"/option/~/\")\r\n",
+    b"A1 DELETEACL (\"/option/~/\") \"ann\"\r\n",
+    b"A1 MYRIGHTS (\"/option/~/\" \"k\" \"e\")\r\n",
+    b"A1 LISTRIGHTS (\"/option/~/\") \"ann\"\r\n",
+    b"A1 DELETEDSINCE \"/option/~/\" \"20000101000000\"\r\n",
+    b"A1 FREECONTEXT \"c\"\r\n",
+    b"A1 UPDATECONTEXT \"c\"\r\n",
+    b"A1 UPDATECONTEXT \"c\" \"d\"\r\n",
+];
+
+/// What a user's session says to those that are not served yet.
+#[test]
+fn tells_what_is_not_served(rt: HostRuntime) {
+    for line in LINES {
+        check_whole(&rt, line, b"A1 BAD \"Not served yet\"\r\n");
+    }
+}
+
+/// A session without a user says that to the octets, behind the greeting.
+fn check_unnamed(rt: &(impl AllocGlobal + Abort), input: &[u8], wanted: &[u8]) {
+    let alloc = rt.alloc();
+    let Ok(wanted) = greeted(alloc, wanted) else {
+        return;
+    };
+    match unnamed(alloc, input) {
+        Ok(text) => assert!(rt; text == wanted, "{input:?} {text:?}"),
+        Err(_) => assert!(rt; false),
+    }
+}
+
+/// Without a user each command that concerns the store needs a login first.
+#[test]
+fn asks_for_a_login_first(rt: HostRuntime) {
+    for line in LINES {
+        check_unnamed(&rt, line, b"A1 BAD \"Log in first\"\r\n");
+    }
+    check_unnamed(
+        &rt,
+        b"A1 AUTHENTICATE \"\"\r\n",
+        b"A1 NO \"Mechanism not offered\"\r\n",
+    );
+}
+
+/// Without a user, too, what is wrong with a line is told before that.
+#[test]
+fn tells_faults_before_a_login(rt: HostRuntime) {
+    let rows: [(&[u8], &[u8]); 11] = [
+        (b"A1 STORE\r\n", b"A1 BAD \"Bad arguments\"\r\n"),
+        (
+            b"A1 STORE (\"a\" \"k\" \"x\")\r\n",
+            b"A1 BAD \"Bad name\"\r\n",
+        ),
+        (
+            b"A1 STORE (\"/a/b\" \"k\" \"x\" \"k\" \"y\")\r\n",
+            b"A1 BAD \"Not permitted twice\"\r\n",
+        ),
+        (
+            b"A1 DELETEDSINCE \"/a/\" \"x\"\r\n",
+            b"A1 BAD \"Bad time\"\r\n",
+        ),
+        (
+            b"A1 SEARCH \"c\" EQUAL \"a\" \"x\" NIL\r\n",
+            b"A1 BAD \"Bad comparator\"\r\n",
+        ),
+        (
+            b"A1 SEARCH \"c\" DEPTH 1 ALL\r\n",
+            b"A1 BAD \"Bad arguments\"\r\n",
+        ),
+        (b"A1 SETACL (\"/\")\r\n", b"A1 BAD \"Bad arguments\"\r\n"),
+        (b"A1 FREECONTEXT \"\"\r\n", b"A1 BAD \"Bad name\"\r\n"),
+        (b"A1 UPDATECONTEXT\r\n", b"A1 BAD \"Bad arguments\"\r\n"),
+        (b"A1 FROB\r\n", b"A1 BAD \"Unknown command\"\r\n"),
+        (b"A1 AUTHENTICATE x\r\n", b"A1 BAD \"Bad arguments\"\r\n"),
+    ];
+    for (line, wanted) in rows {
+        check_unnamed(&rt, line, wanted);
     }
 }
 

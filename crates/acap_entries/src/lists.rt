@@ -1,0 +1,18 @@
+//! The lists of which values and rows are made.
+
+use crate::cell::Cell;
+use crate::item::Item;
+use crate::sequence::Sequence;
+use crate::value::Value;
+
+/// A list of strings, as a multi-valued attribute or an access control list has (RFC 2244 section 3.1).
+pub type Values = Sequence<Value>;
+
+/// The items that are printed of an entry, in their order (RFC 2244 section 6.4.1).
+pub type Items = Sequence<Item>;
+
+/// The data that are printed in one parenthesis (RFC 2244 section 6.4.1).
+pub type CellList = Sequence<Cell>;
+
+/// A parenthesis of data for each of some attributes (RFC 2244 section 6.4.1).
+pub type CellLists = Sequence<CellList>;

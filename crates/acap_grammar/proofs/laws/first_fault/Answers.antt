@@ -1,0 +1,5 @@
+use Rattle.acap_grammar.proofs.FirstFaults.{first_fault}
+use Rattle.acap_grammar.proofs.laws.first_fault.Goals as goal
+
+pub returns : goal.returns
+returns c = first_fault

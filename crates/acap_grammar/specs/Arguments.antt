@@ -1,0 +1,110 @@
+-- The arguments of commands: names, numbers, times, comparators, objects [RFC 2244 sections 2.2, 3, 6 and 8].
+use Rattle.std.specs.Prelude.{ℕ, ℤ, List, [], ◌∷◌, ◌++◌, Bool, true, false, ◌&&◌, Option, Some, None, Result, Ok, Err, if◌then◌else◌}
+use Rattle.std.specs.List.{list_all}
+use Rattle.std.specs.Char.{is_ascii_digit}
+use Rattle.acap_lexer.specs.Reading.{count_of}
+use Rattle.acap_lexer.specs.Token.{Token}
+use Rattle.acap_order.specs.Ranks.{is_numeric}
+use Rattle.acap_order.specs.Spellings.{comparator_of}
+use Rattle.acap_order.specs.declared.comparator.Comparator.{Comparator}
+use Rattle.acap_entries.specs.Names.{is_path, is_attribute, is_dataset_argument, is_entry_name, is_context_name, dataset_of, name_of, closed, begins_with, slash}
+use Rattle.acap_entries.specs.Times.{time_of}
+use Rattle.acap_entries.specs.declared.path.Path.{Path}
+use Rattle.acap_grammar.specs.declared.grammar_fault.GrammarFault.{GrammarFault}
+use Rattle.acap_grammar.specs.declared.grammar_fault.GrammarFault.TheVariants as fault
+use Rattle.acap_grammar.specs.declared.object.Object.{Object}
+use Rattle.acap_grammar.specs.declared.relation.Relation.{Relation}
+use Rattle.acap_grammar.specs.declared.relation.Relation.TheVariants as relation
+use Rattle.acap_grammar.specs.declared.target.Target.{Target}
+use Rattle.acap_grammar.specs.declared.target.Target.TheVariants as target
+use Rattle.acap_grammar.specs.Outcome.{◌>>=◌, Read}
+use Rattle.acap_grammar.specs.Marks.{is_word, is_open, is_close, starts, behind, string_at}
+
+-- what is there, or else a fault
+abbrev pub or_fault : {A : Type 0} → GrammarFault → Option A → Result A GrammarFault
+or_fault fault None = Err fault
+or_fault fault (Some x) = Ok x
+
+-- a text, if it is such a name
+abbrev pub if_named : {A : Type 0} → Bool → A → Result A GrammarFault
+if_named good name = if good then Ok name else Err fault.BadName
+
+-- names as they are sent
+unfoldable pub path_named : List ℕ → Result Path GrammarFault
+path_named text = if_named (is_path text) (record { dataset = dataset_of text; name = name_of text })
+
+unfoldable pub attribute_named : List ℕ → Result (List ℕ) GrammarFault
+attribute_named text = if_named (is_attribute text) text
+
+unfoldable pub dataset_named : List ℕ → Result (List ℕ) GrammarFault
+dataset_named text = if_named (is_dataset_argument text) (closed text)
+
+unfoldable pub context_named : List ℕ → Result (List ℕ) GrammarFault
+context_named text = if_named (is_context_name text) text
+
+-- the name of an entry in a dataset: together they are a path as it may be sent
+unfoldable pub entry_named : List ℕ → List ℕ → Result (List ℕ) GrammarFault
+entry_named dataset text = if_named (is_entry_name text && is_path (dataset ++ text)) text
+
+-- what is looked through: a name that begins `/` is a dataset's
+unfoldable pub target_named : List ℕ → Result Target GrammarFault
+target_named text =
+    if begins_with slash text then (dataset_named text >>= λ dataset. Ok (target.Dataset dataset))
+    else (context_named text >>= λ name. Ok (target.Context name))
+
+-- a string that is such a name, and the tokens behind it
+unfoldable pub named_at : {A : Type 0} → (List ℕ → Result A GrammarFault) → List Token → Read A
+named_at named tokens = do
+  text ← string_at tokens
+  name ← named text.0
+  Ok (name, text.1)
+
+-- a number: a word of 1 to 10 digits up to 4294967295
+abbrev pub number_in : List ℕ → Option ℕ
+number_in text = if list_all is_ascii_digit text then count_of text else None
+
+unfoldable pub number_at : List Token → Read ℕ
+number_at [] = Err fault.Arguments
+number_at (t ∷ rest) = if is_word t.kind then (or_fault fault.Arguments (number_in t.value) >>= λ x. Ok (x, rest)) else Err fault.Arguments
+
+-- a time
+abbrev pub time_named : List ℕ → Result ℤ GrammarFault
+time_named text = or_fault fault.BadTime (time_of text)
+
+-- a comparator
+abbrev pub comparator_named : List ℕ → Result Comparator GrammarFault
+comparator_named text = or_fault fault.BadComparator (comparator_of text)
+
+-- numbers have no fronts and no parts
+abbrev pub is_of_texts : Relation → Bool
+is_of_texts relation.Begins = true
+is_of_texts relation.Contains = true
+is_of_texts _ = false
+
+-- a comparator for a relation
+unfoldable pub comparator_for : Relation → List ℕ → Result Comparator GrammarFault
+comparator_for relation text = do
+  comparator ← comparator_named text
+  if is_of_texts relation && is_numeric comparator.collation then Err fault.BadComparator else Ok comparator
+
+-- an object: `(` dataset [attribute [entry name]] `)`
+unfoldable pub entry_part : List ℕ → List Token → Read (Option (List ℕ))
+entry_part dataset tokens =
+    if starts is_close tokens then Ok (None, tokens)
+    else (named_at (entry_named dataset) tokens >>= λ name. Ok (Some name.0, name.1))
+
+unfoldable pub attribute_part : List ℕ → List Token → Read (Option (List ℕ) × Option (List ℕ))
+attribute_part dataset tokens =
+    if starts is_close tokens then Ok ((None, None), tokens)
+    else (do
+      attribute ← named_at attribute_named tokens
+      name ← entry_part dataset attribute.1
+      Ok ((Some attribute.0, name.0), name.1))
+
+unfoldable pub object_at : List Token → Read Object
+object_at tokens = do
+  inside ← behind is_open tokens
+  dataset ← named_at dataset_named inside
+  place ← attribute_part dataset.0 dataset.1
+  left ← behind is_close place.1
+  Ok (record { dataset = dataset.0; attribute = place.0.0; name = place.0.1 }, left)

@@ -1,0 +1,32 @@
+use crate::relation::Relation;
+use acap_entries::{Attribute, Copying, Memory, Moment, Value};
+use acap_order::Comparator;
+
+/// What a key asks of an entry (RFC 2244 section 6.4.1).
+#[derive(Debug, Drop)]
+pub enum Test {
+    /// ALL: nothing.
+    All,
+    /// EQUAL with NIL: the attribute has no value.
+    IsNil(Attribute, Comparator),
+    /// EQUAL, COMPARE, COMPARESTRICT, PREFIX or SUBSTRING: a value of the attribute stands so to the string.
+    Meets(Relation, Attribute, Comparator, Value),
+    /// RANGE: the entry stands in the context at a position from the first to the second, and no position was told
+    /// anew since that time.
+    Range(u32, u32, Moment),
+}
+
+impl Copying for Test {
+    fn copy(&self) -> Result<Test, Memory> {
+        match self {
+            Test::All => Ok(Test::All),
+            Test::IsNil(attribute, comparator) => Ok(Test::IsNil(attribute.copy()?, *comparator)),
+            Test::Meets(relation, attribute, comparator, value) => {
+                let attribute = attribute.copy()?;
+                let value = value.copy()?;
+                Ok(Test::Meets(*relation, attribute, *comparator, value))
+            }
+            Test::Range(first, last, since) => Ok(Test::Range(*first, *last, *since)),
+        }
+    }
+}
