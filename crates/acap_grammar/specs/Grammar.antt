@@ -22,6 +22,10 @@ verbs =
     ∷ (codes "LISTRIGHTS", verb.ListRights) ∷ (codes "DELETEDSINCE", verb.DeletedSince) ∷ (codes "FREECONTEXT", verb.FreeContext)
     ∷ (codes "UPDATECONTEXT", verb.UpdateContext) ∷ []
 
+-- behind AUTHENTICATE: mechanism
+abbrev pub authenticate_at : List Token → Read Command
+authenticate_at tokens = string_at tokens >>= λ x. Ok (command.Authenticate x.0, x.1)
+
 -- behind SETACL: object identifier rights
 unfoldable pub set_acl_at : List Token → Read Command
 set_acl_at tokens = do
@@ -67,7 +71,7 @@ contexts_at tokens = some_of ends (starts is_string) context_at 199 [] tokens
 unfoldable pub arguments_at : Verb → List Token → Read Command
 arguments_at verb.Noop tokens = Ok (command.Noop, tokens)
 arguments_at verb.Logout tokens = Ok (command.Logout, tokens)
-arguments_at verb.Authenticate tokens = string_at tokens >>= λ x. Ok (command.Authenticate x.0, x.1)
+arguments_at verb.Authenticate tokens = authenticate_at tokens
 arguments_at verb.Store tokens = entries_at tokens >>= λ x. Ok (command.Store x.0, x.1)
 arguments_at verb.Search tokens = search_at tokens >>= λ x. Ok (command.Search x.0, x.1)
 arguments_at verb.SetAcl tokens = set_acl_at tokens

@@ -1,8 +1,10 @@
 //! The key of a SEARCH (RFC 2244 section 6.4.1).
 
-ghost use Rattle.std.specs.Prelude.{◌≡◌, drop, codes};
+ghost use Rattle.std.specs.Prelude.{◌≡◌, drop, codes, if◌then◌else◌};
 ghost use Rattle.acap_grammar.specs.Outcome.{Gives};
-ghost use Rattle.acap_grammar.specs.Marks.{behind_word as behind_word_of};
+ghost use Rattle.acap_grammar.specs.Marks.{behind_word as behind_word_of, ends as ends_tokens};
+ghost use Rattle.acap_grammar.specs.Wanted.{One};
+ghost use Rattle.acap_grammar.specs.declared.grammar_fault.GrammarFault.TheVariants as fault;
 ghost use Rattle.acap_grammar.specs.Keys as keys;
 
 use crate::arguments::{attribute_at, comparator_for_at, number_at, time_at, value_at};
@@ -91,6 +93,24 @@ fn range_at(tokens: &Tokens, at: usize) -> Result<(Test, usize), GrammarFault>
     Ok((Test::Range(first, last, since), next))
 }
 
+// One test as a key.
+fn one_of(read: (Test, usize)) -> (Key, usize)
+    ensures { result ≡ (One read.0, read.1) }
+{
+    (Key::one(read.0), read.1)
+}
+
+// What is wrong where one level too many would begin.
+fn too_deep(tokens: &Tokens, at: usize) -> GrammarFault
+    ensures { result ≡ (if ends_tokens (drop at tokens.now) then fault.Arguments else fault.TooDeep) }
+{
+    if ends(tokens, at) {
+        GrammarFault::Arguments
+    } else {
+        GrammarFault::TooDeep
+    }
+}
+
 /// A key of so many levels at most, and the index behind it.
 #[tactic(auto, unfolding(crate::specs::Keys::key_at, crate::specs::Keys::key_behind))]
 pub(crate) fn key_at(
@@ -102,11 +122,7 @@ pub(crate) fn key_at(
     ensures { Gives (λ x. (x.0, drop x.1 tokens.now)) result (keys.key_at levels (drop at tokens.now)) }
 {
     if levels == 0 {
-        return if ends(tokens, at) {
-            Err(GrammarFault::Arguments)
-        } else {
-            Err(GrammarFault::TooDeep)
-        };
+        return Err(too_deep(tokens, at));
     }
     let Some((word, at)) = word_at(tokens, at) else {
         return Err(GrammarFault::Arguments);
@@ -127,13 +143,7 @@ pub(crate) fn key_at(
             let (key, next) = key_at(alloc, levels - 1, tokens, at)?;
             Ok((Key::not(alloc, key)?, next))
         }
-        KeyWord::Range => {
-            let (test, next) = range_at(tokens, at)?;
-            Ok((Key::one(test), next))
-        }
-        KeyWord::Meets(relation) => {
-            let (test, next) = meets_at(alloc, relation, tokens, at)?;
-            Ok((Key::one(test), next))
-        }
+        KeyWord::Range => Ok(one_of(range_at(tokens, at)?)),
+        KeyWord::Meets(relation) => Ok(one_of(meets_at(alloc, relation, tokens, at)?)),
     }
 }

@@ -19,6 +19,18 @@ use acap_entries::Value;
 use acap_lexer::Tokens;
 use std::alloc::Global;
 
+// Behind AUTHENTICATE: mechanism.
+fn authenticate_at(
+    alloc: Global,
+    tokens: &Tokens,
+    at: usize,
+) -> Result<(Command, usize), GrammarFault>
+    ensures { Gives (λ x. (x.0, drop x.1 tokens.now)) result (grammar.authenticate_at (drop at tokens.now)) }
+{
+    let (mechanism, next) = value_at(alloc, tokens, at)?;
+    Ok((Command::Authenticate(mechanism), next))
+}
+
 // Behind SETACL: object identifier rights.
 #[tactic(auto, unfolding(crate::specs::Grammar::set_acl_at))]
 fn set_acl_at(alloc: Global, tokens: &Tokens, at: usize) -> Result<(Command, usize), GrammarFault>
@@ -140,10 +152,7 @@ fn arguments_at(
     match verb {
         Verb::Noop => Ok((Command::Noop, at)),
         Verb::Logout => Ok((Command::Logout, at)),
-        Verb::Authenticate => {
-            let (mechanism, next) = value_at(alloc, tokens, at)?;
-            Ok((Command::Authenticate(mechanism), next))
-        }
+        Verb::Authenticate => authenticate_at(alloc, tokens, at),
         Verb::Store => {
             let (entries, next) = entries_at(alloc, tokens, at)?;
             Ok((Command::Store(entries), next))

@@ -4,6 +4,7 @@ ghost use Rattle.std.specs.Prelude.{◌≡◌, drop, IfOk};
 ghost use Rattle.acap_grammar.specs.Outcome.{Gives};
 ghost use Rattle.acap_grammar.specs.Marks.{is_string, is_close, starts};
 ghost use Rattle.acap_grammar.specs.Searching as searching;
+ghost use Rattle.acap_grammar.specs.declared.words.SearchWord.TheVariants as search_word;
 
 use crate::arguments::{
     attribute_at, attribute_named, comparator_at, context_at, number_at, target_at,
@@ -257,8 +258,149 @@ pub(crate) struct Scope {
     pub(crate) modifiers: SearchModifiers,
 }
 
-// Behind the word of a modifier, which didn't stand before.
+// Behind DEPTH: number. As each modifier it may stand once.
 #[tactic(auto, unfolding(crate::specs::Searching::modified))]
+fn depth_at(
+    modifiers: SearchModifiers,
+    tokens: &Tokens,
+    at: usize,
+) -> Result<(SearchModifiers, usize), GrammarFault>
+    ensures { Gives (λ x. (x.0, drop x.1 tokens.now)) result (searching.modified modifiers search_word.Depth (drop at tokens.now)) }
+{
+    once(modifiers.depth.is_some())?;
+    let (depth, left) = number_at(tokens, at)?;
+    Ok((
+        SearchModifiers {
+            depth: Some(depth),
+            ..modifiers
+        },
+        left,
+    ))
+}
+
+// Behind HARDLIMIT: number.
+#[tactic(auto, unfolding(crate::specs::Searching::modified))]
+fn hard_limit_at(
+    modifiers: SearchModifiers,
+    tokens: &Tokens,
+    at: usize,
+) -> Result<(SearchModifiers, usize), GrammarFault>
+    ensures { Gives (λ x. (x.0, drop x.1 tokens.now)) result (searching.modified modifiers search_word.HardLimit (drop at tokens.now)) }
+{
+    once(modifiers.hard_limit.is_some())?;
+    let (hard_limit, left) = number_at(tokens, at)?;
+    Ok((
+        SearchModifiers {
+            hard_limit: Some(hard_limit),
+            ..modifiers
+        },
+        left,
+    ))
+}
+
+// Behind LIMIT: number number.
+#[tactic(auto, unfolding(crate::specs::Searching::modified))]
+fn new_limit_at(
+    modifiers: SearchModifiers,
+    tokens: &Tokens,
+    at: usize,
+) -> Result<(SearchModifiers, usize), GrammarFault>
+    ensures { Gives (λ x. (x.0, drop x.1 tokens.now)) result (searching.modified modifiers search_word.Limit (drop at tokens.now)) }
+{
+    once(modifiers.limit.is_some())?;
+    let (limit, left) = limit_at(tokens, at)?;
+    Ok((
+        SearchModifiers {
+            limit: Some(limit),
+            ..modifiers
+        },
+        left,
+    ))
+}
+
+// Behind MAKECONTEXT: what context is made.
+#[tactic(auto, unfolding(crate::specs::Searching::modified))]
+fn new_context_at(
+    alloc: Global,
+    modifiers: SearchModifiers,
+    tokens: &Tokens,
+    at: usize,
+) -> Result<(SearchModifiers, usize), GrammarFault>
+    ensures { Gives (λ x. (x.0, drop x.1 tokens.now)) result (searching.modified modifiers search_word.MakeContext (drop at tokens.now)) }
+{
+    once(modifiers.make_context.is_some())?;
+    let (make_context, left) = make_context_at(alloc, tokens, at)?;
+    Ok((
+        SearchModifiers {
+            make_context: Some(make_context),
+            ..modifiers
+        },
+        left,
+    ))
+}
+
+// Behind RETURN: its items.
+#[tactic(auto, unfolding(crate::specs::Searching::modified))]
+fn new_returns_at(
+    alloc: Global,
+    modifiers: SearchModifiers,
+    tokens: &Tokens,
+    at: usize,
+) -> Result<(SearchModifiers, usize), GrammarFault>
+    ensures { Gives (λ x. (x.0, drop x.1 tokens.now)) result (searching.modified modifiers search_word.Return (drop at tokens.now)) }
+{
+    once(modifiers.returns.is_some())?;
+    let (returns, left) = returns_at(alloc, tokens, at)?;
+    Ok((
+        SearchModifiers {
+            returns: Some(returns),
+            ..modifiers
+        },
+        left,
+    ))
+}
+
+// Behind SORT: its items.
+#[tactic(auto, unfolding(crate::specs::Searching::modified))]
+fn new_sort_at(
+    alloc: Global,
+    modifiers: SearchModifiers,
+    tokens: &Tokens,
+    at: usize,
+) -> Result<(SearchModifiers, usize), GrammarFault>
+    ensures { Gives (λ x. (x.0, drop x.1 tokens.now)) result (searching.modified modifiers search_word.Sort (drop at tokens.now)) }
+{
+    once(modifiers.sort.is_some())?;
+    let (sort, left) = sorts_at(alloc, tokens, at)?;
+    Ok((
+        SearchModifiers {
+            sort: Some(sort),
+            ..modifiers
+        },
+        left,
+    ))
+}
+
+// At NOINHERIT, which has nothing behind it.
+#[tactic(auto, unfolding(crate::specs::Searching::modified))]
+fn no_inherit_at(
+    modifiers: SearchModifiers,
+    tokens: &Tokens,
+    at: usize,
+) -> Result<(SearchModifiers, usize), GrammarFault>
+    ensures { Gives (λ x. (x.0, drop x.1 tokens.now)) result (searching.modified modifiers search_word.NoInherit (drop at tokens.now)) }
+{
+    once(modifiers.no_inherit)?;
+    Ok((
+        SearchModifiers {
+            no_inherit: true,
+            ..modifiers
+        },
+        at,
+    ))
+}
+
+// Behind the word of a modifier, which didn't stand before.
 fn modified(
     alloc: Global,
     modifiers: SearchModifiers,
@@ -268,51 +410,15 @@ fn modified(
 ) -> Result<(SearchModifiers, usize), GrammarFault>
     ensures { Gives (λ x. (x.0, drop x.1 tokens.now)) result (searching.modified modifiers word (drop at tokens.now)) }
 {
-    let mut modifiers = modifiers;
-    let left = match word {
-        SearchWord::Depth => {
-            once(modifiers.depth.is_some())?;
-            let (depth, left) = number_at(tokens, at)?;
-            modifiers.depth = Some(depth);
-            left
-        }
-        SearchWord::HardLimit => {
-            once(modifiers.hard_limit.is_some())?;
-            let (most, left) = number_at(tokens, at)?;
-            modifiers.hard_limit = Some(most);
-            left
-        }
-        SearchWord::Limit => {
-            once(modifiers.limit.is_some())?;
-            let (limit, left) = limit_at(tokens, at)?;
-            modifiers.limit = Some(limit);
-            left
-        }
-        SearchWord::MakeContext => {
-            once(modifiers.make_context.is_some())?;
-            let (context, left) = make_context_at(alloc, tokens, at)?;
-            modifiers.make_context = Some(context);
-            left
-        }
-        SearchWord::NoInherit => {
-            once(modifiers.no_inherit)?;
-            modifiers.no_inherit = true;
-            at
-        }
-        SearchWord::Return => {
-            once(modifiers.returns.is_some())?;
-            let (returns, left) = returns_at(alloc, tokens, at)?;
-            modifiers.returns = Some(returns);
-            left
-        }
-        SearchWord::Sort => {
-            once(modifiers.sort.is_some())?;
-            let (sort, left) = sorts_at(alloc, tokens, at)?;
-            modifiers.sort = Some(sort);
-            left
-        }
-    };
-    Ok((modifiers, left))
+    match word {
+        SearchWord::Depth => depth_at(modifiers, tokens, at),
+        SearchWord::HardLimit => hard_limit_at(modifiers, tokens, at),
+        SearchWord::Limit => new_limit_at(modifiers, tokens, at),
+        SearchWord::MakeContext => new_context_at(alloc, modifiers, tokens, at),
+        SearchWord::NoInherit => no_inherit_at(modifiers, tokens, at),
+        SearchWord::Return => new_returns_at(alloc, modifiers, tokens, at),
+        SearchWord::Sort => new_sort_at(alloc, modifiers, tokens, at),
+    }
 }
 
 fn is_of_datasets(word: SearchWord) -> bool
