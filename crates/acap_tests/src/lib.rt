@@ -2,11 +2,7 @@
 #![tactic(auto)]
 
 #[cfg(test)]
-mod commands;
-#[cfg(test)]
 mod entries;
-#[cfg(test)]
-mod faults;
 #[cfg(test)]
 mod grammar;
 #[cfg(test)]
@@ -19,5 +15,3 @@ mod order;
 mod pipe;
 #[cfg(test)]
 mod printing;
-#[cfg(test)]
-mod showing;
