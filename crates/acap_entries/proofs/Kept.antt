@@ -8,6 +8,7 @@ use Rattle.acap_entries.specs.Store.{path_cmp}
 use Rattle.acap_entries.specs.declared.path.Path.{Path}
 use Rattle.acap_entries.specs.declared.record.Record.{Record}
 use Rattle.acap_entries.specs.declared.cell.Cell.{Cell}
+use Rattle.acap_entries.specs.declared.fate.Fate.{Fate}
 use Rattle.acap_entries.proofs.MapLemmas.{len_kept, from_sorted_none, none_in_order, entries_kept, get_kept, insert_kept, put_in_order, without_in_order, remove_kept}
 use Rattle.acap_entries.proofs.StoreLemmas.{path_cmp_total, path_same, octets_same, after_writes-append, after_writes-IsPathByPath}
 
@@ -98,31 +99,31 @@ records_len = len_kept path_cmp
 
 pub ruleset kept_records = (records_entries, records_len, records_none, records_none_in_order, records_get, records_insert, records_put_in_order, records_remove, records_without_in_order, after_writes-append, after_writes-IsPathByPath)
 
-pub written_none : from_sorted {X = Option Record} {R = path_cmp} [] ≡ empty
+pub written_none : from_sorted {X = Fate} {R = path_cmp} [] ≡ empty
 written_none = from_sorted_none path_cmp
 
-pub written_none_in_order : InOrder {X = Option Record} path_cmp []
+pub written_none_in_order : InOrder {X = Fate} path_cmp []
 written_none_in_order = none_in_order path_cmp
 
-pub written_get : (es : List (Path × Option Record)) (q : Path) → InOrder path_cmp es → get (from_sorted {R = path_cmp} es) q ≡ found path_cmp q es
+pub written_get : (es : List (Path × Fate)) (q : Path) → InOrder path_cmp es → get (from_sorted {R = path_cmp} es) q ≡ found path_cmp q es
 written_get = get_kept path_cmp path_cmp_total
 
-pub written_insert : (es : List (Path × Option Record)) (k : Path) (v : Option Record) → InOrder path_cmp es → from_sorted {R = path_cmp} (put_in path_cmp k v es) ≡ insert (from_sorted es) k v
+pub written_insert : (es : List (Path × Fate)) (k : Path) (v : Fate) → InOrder path_cmp es → from_sorted {R = path_cmp} (put_in path_cmp k v es) ≡ insert (from_sorted es) k v
 written_insert = insert_kept path_cmp path_cmp_total
 
-pub written_put_in_order : (es : List (Path × Option Record)) (k : Path) (v : Option Record) → InOrder path_cmp es → InOrder path_cmp (put_in path_cmp k v es)
+pub written_put_in_order : (es : List (Path × Fate)) (k : Path) (v : Fate) → InOrder path_cmp es → InOrder path_cmp (put_in path_cmp k v es)
 written_put_in_order = put_in_order path_cmp path_cmp_total
 
-pub written_remove : (es : List (Path × Option Record)) (k : Path) → InOrder path_cmp es → from_sorted {R = path_cmp} (without path_cmp k es) ≡ remove (from_sorted es) k
+pub written_remove : (es : List (Path × Fate)) (k : Path) → InOrder path_cmp es → from_sorted {R = path_cmp} (without path_cmp k es) ≡ remove (from_sorted es) k
 written_remove = remove_kept path_cmp path_cmp_total path_same
 
-pub written_without_in_order : (es : List (Path × Option Record)) (k : Path) → InOrder path_cmp es → InOrder path_cmp (without path_cmp k es)
+pub written_without_in_order : (es : List (Path × Fate)) (k : Path) → InOrder path_cmp es → InOrder path_cmp (without path_cmp k es)
 written_without_in_order = without_in_order path_cmp path_cmp_total
 
-pub written_len : (es : List (Path × Option Record)) → InOrder path_cmp es → len (from_sorted {R = path_cmp} es) ≡ length es
+pub written_len : (es : List (Path × Fate)) → InOrder path_cmp es → len (from_sorted {R = path_cmp} es) ≡ length es
 written_len = len_kept path_cmp
 
-pub written_entries : (es : List (Path × Option Record)) → InOrder path_cmp es → entries (from_sorted {R = path_cmp} es) ≡ es
+pub written_entries : (es : List (Path × Fate)) → InOrder path_cmp es → entries (from_sorted {R = path_cmp} es) ≡ es
 written_entries = entries_kept path_cmp
 
 pub ruleset kept_written = (written_entries, written_none, written_none_in_order, written_get, written_insert, written_put_in_order, written_remove, written_without_in_order, written_len)

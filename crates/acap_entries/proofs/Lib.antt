@@ -1,4 +1,5 @@
 pub mod SortedLemmas
+pub mod LeafLemmas
 pub mod Halves
 pub mod MapLemmas
 pub mod NameLemmas
@@ -12,3 +13,6 @@ pub mod StampLaws
 pub mod TimeLemmas
 pub mod TimeLaws
 pub mod Kept
+pub mod DeletionLaws
+pub mod FullPathLaws
+pub mod DatasetRanges

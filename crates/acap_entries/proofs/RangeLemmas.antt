@@ -1,19 +1,19 @@
--- The entries of a dataset lie together.
-use Rattle.std.proofs.Common.{◌≡◌, ◌⊎◌, inl, inr, Bool, true, false, cond, T, List, [], ◌∷◌, ℕ, suc, drop, refl, sym, ap, subst, ◌∙◌, ◌&&◌}
-use Rattle.std.specs.Prelude.{filter, take_while}
-use Rattle.std.proofs.lemmas.List.Sums.{take_while-cons}
+-- The entries between two keys lie together; so do those of a dataset, and those of the datasets beneath it.
+use Rattle.std.proofs.Common.{◌≡◌, ◌⊎◌, inl, inr, Bool, true, false, not, cond, T, List, [], ◌∷◌, ◌++◌, ℕ, zero, suc, ◌-◌, ◌≤◌, ◌<◌, length, take, drop, refl, sym, ap, subst, ◌∙◌, ◌&&◌, arith, nat_eq}
+use Rattle.std.specs.Prelude.{filter}
+use Rattle.std.specs.List.{starts_with}
 use Rattle.std.specs.declared.cmp.Ordering.{Ordering}
 use Rattle.std.specs.declared.cmp.Ordering.TheVariants.{Less, Equal, Greater}
-use Rattle.std.specs.Ordering.{is_eq, is_lt, ordering_then}
-use Rattle.std.specs.Cmp.Lexicographic.{nat_list_cmp_total, texts_ties}
+use Rattle.std.specs.Ordering.{is_eq, is_lt, is_gt, ordering_then, ordering_reverse, nat_cmp}
+use Rattle.std.specs.Cmp.{IsTotalOrder}
+use Rattle.std.specs.Cmp.Lexicographic.{texts_ties, pointwise, nat_list_cmp_total}
 use Rattle.std.specs.FinMap.{is_sorted}
 use Rattle.std.specs.FinMap.Entries.{by_order, below_all}
+use Rattle.std.proofs.lemmas.Cmp.{ranked, nat_cmp_total}
+use Rattle.std.proofs.lemmas.Bool.Decides.{nat_tests}
+use Rattle.std.specs.Ordering.{MatchOrdering}
 use Rattle.acap_entries.specs.Orders.{octets_cmp, octets_eq}
 use Rattle.acap_entries.specs.Sorted.{place, InOrder}
-use Rattle.acap_entries.specs.Store.{path_cmp}
-use Rattle.acap_entries.specs.declared.path.Path.{Path}
-use Rattle.acap_entries.specs.declared.record.Record.{Record}
-use Rattle.acap_entries.proofs.StoreLemmas.{octets_same}
 
 first : (a b : Bool) → T (a && b) → T a
 first true b p = tt
@@ -28,78 +28,199 @@ is_less Less p = refl
 is_less Equal p = absurd p
 is_less Greater p = absurd p
 
-then_less : (a b : Ordering) → ordering_then a b ≡ Less → (a ≡ Less) ⊎ (a ≡ Equal)
-then_less Less b e = inl refl
-then_less Equal b e = inr refl
-then_less Greater b e = cc
+told : (r : Ordering) → (r ≡ Greater) ⊎ ((r ≡ Less) ⊎ (r ≡ Equal))
+told Less = inr (inl refl)
+told Equal = inr (inr refl)
+told Greater = inl refl
 
-then_equal : (a b : Ordering) → ordering_then a b ≡ Equal → a ≡ Equal
-then_equal Less b e = cc
-then_equal Equal b e = refl
-then_equal Greater b e = cc
+-- ---- between two keys
 
-nil_first : (ys : List ℕ) → octets_cmp [] ys ≡ Greater → ⊥
-nil_first [] e = cc
-nil_first (y ∷ ys) e = cc
+module _ {K : Type 0} (R : K → K → Ordering) (o : IsTotalOrder R) where
+  beyond : (k : K) (x y : K) → (R k x ≡ Less) ⊎ (R k x ≡ Equal) → R x y ≡ Less → R k y ≡ Less
+  beyond k x y (inl e) h = o.trans k x y e h
+  beyond k x y (inr e) h = o.congr k x y e ∙ h
 
-then_greater : (a b : Ordering) → (b ≡ Greater → ⊥) → ordering_then a b ≡ Greater → a ≡ Greater
-then_greater Less b h e = cc
-then_greater Equal b h e = absurd (h e)
-then_greater Greater b h e = refl
+module _ {K X : Type 0} (R : K → K → Ordering) (o : IsTotalOrder R) where
+  -- the entries from one key on and before another
+  abbrev pub lies_between : K → K → K × X → Bool
+  lies_between k l e = is_gt (R l e.0) && not (is_gt (R k e.0))
 
-module _ (d : List ℕ) where
-  abbrev is_in : Path × Record → Bool
-  is_in e = octets_eq d e.0.dataset
+  none_between : (k l x : K) (es : List (K × X)) → (R l x ≡ Less) ⊎ (R l x ≡ Equal) → T (below_all R x es) → filter (lies_between k l) es ≡ []
+  none_between k l x [] e h = refl
+  none_between k l x (y ∷ es) e h =
+      let past : R l y.0 ≡ Less = beyond R o l x y.0 e (is_less _ (first _ _ h)) in
+      rw past (none_between k l x es e (second _ _ h))
 
-  tested : (x : Path × Record) (r : Ordering) → octets_cmp d x.0.dataset ≡ r → is_in x ≡ is_eq r
-  tested x r e = texts_ties d x.0.dataset ∙ ap is_eq e
+  none_before : (k x : K) (es : List (K × X)) → (R k x ≡ Less) ⊎ (R k x ≡ Equal) → T (below_all R x es) → place R k es ≡ 0
+  none_before k x [] e h = refl
+  none_before k x (y ∷ es) e h = ap (λ r. by_order r 0 0 (suc (place R k es))) (beyond R o k x y.0 e (is_less _ (first _ _ h)))
 
-  far : (a b : List ℕ) → octets_cmp d a ≡ Less → (octets_cmp a b ≡ Less) ⊎ (octets_cmp a b ≡ Equal) → octets_cmp d b ≡ Less
-  far a b p (inl q) = nat_list_cmp_total.trans d a b p q
-  far a b p (inr q) = subst (λ v. octets_cmp d v ≡ Less) (octets_same a b q) p
+  at_front : (k l : K) (x : K × X) (es : List (K × X)) → (R k x.0 ≡ Less) ⊎ (R k x.0 ≡ Equal) → is_gt (R k x.0) ≡ false → by_order (R k x.0) 0 0 (suc (place R k es)) ≡ 0
+      → T (below_all R x.0 es) → filter (lies_between k l) es ≡ take (place R l es - place R k es) (drop (place R k es) es)
+      → filter (lies_between k l) (x ∷ es) ≡ take (place R l (x ∷ es) - place R k (x ∷ es)) (drop (place R k (x ∷ es)) (x ∷ es))
+  at_front k l x es e low none h rest =
+      elim (told (R l x.0)) [
+        | inl past ↦
+            let front = none_before k x.0 es e h in
+            let all : place R l es - 0 ≡ place R l es = omega arith in
+            let more : suc (place R l es) - 0 ≡ suc (place R l es) = omega arith in
+            let after : filter (lies_between k l) es ≡ take (place R l es) es = rest ∙ ap (λ n. take (place R l es - n) (drop n es)) front ∙ ap (λ n. take n es) all in
+            rw (past, low, none, more) (ap (λ (t : List (K × X)). x ∷ t) after)
+        | inr q ↦
+            let gone = none_between k l x.0 es q h in
+            elim q [ inl e2 ↦ rw (none, e2) gone | inr e2 ↦ rw (none, e2) gone ]
+      ]
 
-  near : (a b : List ℕ) → octets_cmp d a ≡ Equal → (octets_cmp a b ≡ Less) ⊎ (octets_cmp a b ≡ Equal) → (octets_cmp d b ≡ Less) ⊎ (octets_cmp d b ≡ Equal)
-  near a b p (inl q) = inl (nat_list_cmp_total.congr d a b p ∙ q)
-  near a b p (inr q) = inr (nat_list_cmp_total.congr d a b p ∙ q)
+  between_within : (k l : K) → ((x : K) → R k x ≡ Greater → R l x ≡ Greater) → (es : List (K × X)) → T (is_sorted R es) → filter (lies_between k l) es ≡ take (place R l es - place R k es) (drop (place R k es) es)
+  between_within k l h [] s = refl
+  between_within k l h (x ∷ es) s =
+      elim (told (R k x.0)) [
+        | inl e ↦
+            let less : suc (place R l es) - suc (place R k es) ≡ place R l es - place R k es = omega arith in
+            rw (e, h x.0 e, less) (between_within k l h es (second _ _ s))
+        | inr (inl e) ↦ at_front k l x es (inl e) (ap is_gt e) (ap (λ r. by_order r 0 0 (suc (place R k es))) e) (first _ _ s) (between_within k l h es (second _ _ s))
+        | inr (inr e) ↦ at_front k l x es (inr e) (ap is_gt e) (ap (λ r. by_order r 0 0 (suc (place R k es))) e) (first _ _ s) (between_within k l h es (second _ _ s))
+      ]
 
-  above : (l : Path) (es : List (Path × Record)) → octets_cmp d l.dataset ≡ Less → T (below_all path_cmp l es) → filter is_in es ≡ []
-  above l [] less h = refl
-  above l (x ∷ es) less h =
-      let beyond = far l.dataset x.0.dataset less (then_less _ _ (is_less _ (first _ _ h))) in
-      ap (λ b. cond b (x ∷ filter is_in es) (filter is_in es)) (tested x Less beyond) ∙ above l es less (second _ _ h)
+  pub between : (k l : K) → ((x : K) → R k x ≡ Greater → R l x ≡ Greater) → (es : List (K × X)) → InOrder R es → filter (lies_between k l) es ≡ take (place R l es - place R k es) (drop (place R k es) es)
+  between k l h es s = between_within k l h es (subst T (sym s.rises) tt)
 
-  passed : (x : Path × Record) (es : List (Path × Record)) → octets_cmp d x.0.dataset ≡ Less → T (below_all path_cmp x.0 es) → filter is_in (x ∷ es) ≡ take_while is_in (x ∷ es)
-  passed x es less h =
-      ap (λ b. cond b (x ∷ filter is_in es) (filter is_in es)) (tested x Less less) ∙ above x.0 es less h
-      ∙ sym (take_while-cons is_in x es ∙ ap (λ b. cond b (x ∷ take_while is_in es) []) (tested x Less less))
+  pub place_rises : (k l : K) → ((x : K) → R k x ≡ Greater → R l x ≡ Greater) → (es : List (K × X)) → place R k es ≤ place R l es
+  place_rises k l h [] = omega arith
+  place_rises k l h (x ∷ es) =
+      elim (told (R k x.0)) [
+        | inl e ↦ rw (e, h x.0 e) (omega (arith, place_rises k l h es))
+        | inr (inl e) ↦ rw e (omega arith)
+        | inr (inr e) ↦ rw e (omega arith)
+      ]
 
-  kept : (x : Path × Record) (es : List (Path × Record)) → octets_cmp d x.0.dataset ≡ Equal → filter is_in es ≡ take_while is_in es → filter is_in (x ∷ es) ≡ take_while is_in (x ∷ es)
-  kept x es equal rest =
-      ap (λ b. cond b (x ∷ filter is_in es) (filter is_in es)) (tested x Equal equal) ∙ ap (λ t. x ∷ t) rest
-      ∙ sym (take_while-cons is_in x es ∙ ap (λ b. cond b (x ∷ take_while is_in es) []) (tested x Equal equal))
+-- ---- texts with a beginning
 
-  run : (es : List (Path × Record)) (x : Path × Record) → octets_cmp d x.0.dataset ≡ Equal → T (below_all path_cmp x.0 es) → T (is_sorted path_cmp es) → filter is_in es ≡ take_while is_in es
-  run [] x equal h s = refl
-  run (y ∷ ys) x equal h s = elim (near x.0.dataset y.0.dataset equal (then_less _ _ (is_less _ (first _ _ h)))) [
-    | inl less ↦ passed y ys less (first _ _ s)
-    | inr same ↦ kept y ys same (run ys y same (first _ _ s) (second _ _ s))
+alone : (v : Bool) → v ≡ v && true
+alone true = refl
+alone false = refl
+
+then_same : (r : Ordering) → ordering_then r Equal ≡ r
+then_same Less = refl
+then_same Equal = refl
+then_same Greater = refl
+
+tied : (a b : ℕ) → nat_eq a b ≡ is_eq (nat_cmp a b)
+tied a b = alone _ ∙ texts_ties (a ∷ []) (b ∷ []) ∙ ap is_eq (then_same (nat_cmp a b))
+
+both_true : (r : Ordering) (v : Bool) → is_eq r && v ≡ true → (r ≡ Equal) × (v ≡ true)
+both_true Less v e = cc
+both_true Equal v e = (refl, e)
+both_true Greater v e = cc
+
+-- the first octets tie, and the rest has the rest of the beginning
+begun : (a b : ℕ) (f x : List ℕ) → starts_with nat_eq (b ∷ x) (a ∷ f) ≡ true → (nat_cmp a b ≡ Equal) × (starts_with nat_eq x f ≡ true)
+begun a b f x e = both_true (nat_cmp a b) (starts_with nat_eq x f) (ap (λ v. v && starts_with nat_eq x f) (sym (tied a b)) ∙ e)
+
+-- the rest decides where a text has the beginning
+pub with_front : (f t x : List ℕ) → starts_with nat_eq x f ≡ true → octets_cmp (f ++ t) x ≡ octets_cmp t (drop (length f) x)
+with_front [] t x e = refl
+with_front (a ∷ f) t [] e = cc
+with_front (a ∷ f) t (b ∷ x) e = let q = begun a b f x e in rw q.0 (with_front f t x q.1)
+
+-- and elsewhere the beginning does
+pub without_front : (f t x : List ℕ) → starts_with nat_eq x f ≡ false → octets_cmp (f ++ t) x ≡ octets_cmp f x
+without_front [] t x e = cc
+without_front (a ∷ f) t [] e = refl
+without_front (a ∷ f) t (b ∷ x) e = elim (nat_cmp a b) as (λ r. is_eq r && starts_with nat_eq x f ≡ false → ordering_then r (octets_cmp (f ++ t) x) ≡ ordering_then r (octets_cmp f x)) [
+    | Less ↦ λ h. refl
+    | Equal ↦ λ h. without_front f t x h
+    | Greater ↦ λ h. refl
+  ] (ap (λ v. v && starts_with nat_eq x f) (sym (tied a b)) ∙ e)
+
+-- the same for two texts of two parts
+pub front_shorter : (a b c d : List ℕ) → starts_with nat_eq c a ≡ true → octets_cmp (a ++ b) (c ++ d) ≡ octets_cmp b (drop (length a) c ++ d)
+front_shorter [] b c d e = refl
+front_shorter (y ∷ a) b [] d e = cc
+front_shorter (y ∷ a) b (x ∷ c) d e = let q = begun y x a c e in rw q.0 (front_shorter a b c d q.1)
+
+swapped : (x y : ℕ) → nat_cmp x y ≡ Equal → nat_cmp y x ≡ Equal
+swapped x y e = nat_cmp_total.antisymm y x ∙ ap ordering_reverse e
+
+pub front_longer : (a b c d : List ℕ) → starts_with nat_eq a c ≡ true → octets_cmp (a ++ b) (c ++ d) ≡ octets_cmp (drop (length c) a ++ b) d
+front_longer a b [] d e = refl
+front_longer [] b (x ∷ c) d e = cc
+front_longer (y ∷ a) b (x ∷ c) d e = let q = begun x y c a e in rw (swapped x y q.0) (front_longer a b c d q.1)
+
+pub fronts_apart : (a b c d : List ℕ) → starts_with nat_eq c a ≡ false → starts_with nat_eq a c ≡ false → octets_cmp (a ++ b) (c ++ d) ≡ octets_cmp a c
+fronts_apart [] b c d e h = cc
+fronts_apart (y ∷ a) b [] d e h = cc
+fronts_apart (y ∷ a) b (x ∷ c) d e h = elim (nat_cmp y x) as (λ r. (nat_cmp y x ≡ r) → is_eq r && starts_with nat_eq c a ≡ false → ordering_then r (octets_cmp (a ++ b) (c ++ d)) ≡ ordering_then r (octets_cmp a c)) [
+    | Less ↦ λ q g. refl
+    | Equal ↦ λ q g. fronts_apart a b c d g (ap (λ r. is_eq r && starts_with nat_eq a c) (sym (swapped y x q)) ∙ ap (λ v. v && starts_with nat_eq a c) (sym (tied x y)) ∙ h)
+    | Greater ↦ λ q g. refl
+  ] refl (ap (λ v. v && starts_with nat_eq c a) (sym (tied y x)) ∙ e)
+
+pub turned : (x y : List ℕ) → ordering_reverse (octets_cmp x y) ≡ octets_cmp y x
+turned x y = sym (nat_list_cmp_total.antisymm y x)
+
+-- ---- the names between two edges
+
+pub never_greater : (n : List ℕ) → is_gt (octets_cmp [] n) ≡ false
+never_greater [] = refl
+never_greater (x ∷ n) = refl
+
+-- the name behind the dataset makes no key greater than the management entry
+pub greater_by_dataset : (r : Ordering) (n : List ℕ) → is_gt (ordering_then r (octets_cmp [] n)) ≡ is_gt r
+greater_by_dataset Less n = refl
+greater_by_dataset Equal n = never_greater n
+greater_by_dataset Greater n = refl
+
+not_greater : (r : Ordering) → (r ≡ Less) ⊎ (r ≡ Equal) → is_gt r ≡ false
+not_greater r (inl e) = ap is_gt e
+not_greater r (inr e) = ap is_gt e
+
+-- of the octets 0, `/` (47) and `0` (48)
+no_octet_before_nul : (y : ℕ) → is_gt (nat_cmp 0 y) ≡ false
+no_octet_before_nul y = elim (nat_cmp 0 y) as (λ r. r ≡ nat_cmp 0 y → is_gt r ≡ false) [
+    | Less ↦ λ e. refl
+    | Equal ↦ λ e. refl
+    | Greater ↦ λ e. let bad : y < 0 = ranked 0 y Greater e in absurd (omega arith)
+  ] refl
+
+abbrev pub in_own : List ℕ → List ℕ → Bool
+in_own d x = is_gt (octets_cmp (d ++ 0 ∷ []) x) && not (is_gt (octets_cmp d x))
+
+pub own_range : (d x : List ℕ) → octets_eq d x ≡ in_own d x
+own_range [] [] = refl
+own_range [] (y ∷ x) = sym (ap (λ v. v && true) (greater_by_dataset (nat_cmp 0 y) x ∙ no_octet_before_nul y))
+own_range (a ∷ d) [] = refl
+own_range (a ∷ d) (b ∷ x) = ap (λ v. v && octets_eq d x) (tied a b) ∙ elim (nat_cmp a b) as (λ r. is_eq r && octets_eq d x ≡ is_gt (ordering_then r (octets_cmp (d ++ 0 ∷ []) x)) && not (is_gt (ordering_then r (octets_cmp d x)))) [
+    | Less ↦ refl
+    | Equal ↦ own_range d x
+    | Greater ↦ refl
   ]
 
-  at_head : (x : Path × Record) (es : List (Path × Record)) → (octets_cmp d x.0.dataset ≡ Less) ⊎ (octets_cmp d x.0.dataset ≡ Equal) → T (is_sorted path_cmp (x ∷ es)) → filter is_in (x ∷ es) ≡ take_while is_in (x ∷ es)
-  at_head x es (inl less) s = passed x es less (first _ _ s)
-  at_head x es (inr same) s = kept x es same (run es x same (first _ _ s) (second _ _ s))
+abbrev pub in_beneath : List ℕ → List ℕ → Bool
+in_beneath f x = is_gt (octets_cmp (f ++ 48 ∷ []) x) && not (is_gt (octets_cmp (f ++ 47 ∷ []) x))
 
-  together : (es : List (Path × Record)) → T (is_sorted path_cmp es) → filter is_in es ≡ take_while is_in (drop (place path_cmp (record { dataset = d; name = [] }) es) es)
-  together [] s = refl
-  together (x ∷ es) s =
-      let from : Path = record { dataset = d; name = [] } in
-      elim (path_cmp from x.0) as (λ r. path_cmp from x.0 ≡ r → filter is_in (x ∷ es) ≡ take_while is_in (drop (by_order r 0 0 (suc (place path_cmp from es))) (x ∷ es))) [
-        | Less ↦ λ e. at_head x es (then_less _ _ e) s
-        | Equal ↦ λ e. at_head x es (inr (then_equal _ _ e)) s
-        | Greater ↦ λ e.
-            let before : octets_cmp d x.0.dataset ≡ Greater = then_greater _ _ (nil_first x.0.name) e in
-            ap (λ b. cond b (x ∷ filter is_in es) (filter is_in es)) (tested x Greater before) ∙ together es (second _ _ s)
-      ] refl
+only_slash : (y : ℕ) → nat_eq 47 y ≡ is_gt (nat_cmp 48 y) && not (is_gt (nat_cmp 47 y))
+only_slash y = grind (arith, nat_tests)
 
-  pub lie_together : (es : List (Path × Record)) → InOrder path_cmp es → filter (λ e. octets_eq d e.0.dataset) es ≡ take_while (λ e. octets_eq d e.0.dataset) (drop (place path_cmp (record { dataset = d; name = [] }) es) es)
-  lie_together es h = together es (subst T (sym h.rises) tt)
+pub beneath_range : (f x : List ℕ) → starts_with nat_eq x (f ++ 47 ∷ []) ≡ in_beneath f x
+beneath_range [] [] = refl
+beneath_range [] (y ∷ x) =
+    sym (alone (nat_eq 47 y)) ∙ only_slash y
+    ∙ ap (λ v. v && not (is_gt (nat_cmp 47 y))) (sym (greater_by_dataset (nat_cmp 48 y) x))
+    ∙ ap (λ v. is_gt (ordering_then (nat_cmp 48 y) (octets_cmp [] x)) && not v) (sym (greater_by_dataset (nat_cmp 47 y) x))
+beneath_range (a ∷ f) [] = refl
+beneath_range (a ∷ f) (b ∷ x) = ap (λ v. v && starts_with nat_eq x (f ++ 47 ∷ [])) (tied a b) ∙ elim (nat_cmp a b) as (λ r. is_eq r && starts_with nat_eq x (f ++ 47 ∷ []) ≡ is_gt (ordering_then r (octets_cmp (f ++ 48 ∷ []) x)) && not (is_gt (ordering_then r (octets_cmp (f ++ 47 ∷ []) x)))) [
+    | Less ↦ refl
+    | Equal ↦ beneath_range f x
+    | Greater ↦ refl
+  ]
+
+-- where a name is less than the front of an edge, it is less than the edge
+pub rises_by : (f s t x : List ℕ) → ((x : List ℕ) → octets_cmp s x ≡ Greater → octets_cmp t x ≡ Greater) → octets_cmp (f ++ s) x ≡ Greater → octets_cmp (f ++ t) x ≡ Greater
+rises_by [] s t x h = λ e. h x e
+rises_by (a ∷ f) s t [] h = λ e. refl
+rises_by (a ∷ f) s t (b ∷ x) h = elim (nat_cmp a b) as (λ r. ordering_then r (octets_cmp (f ++ s) x) ≡ Greater → ordering_then r (octets_cmp (f ++ t) x) ≡ Greater) [
+    | Less ↦ λ e. cc
+    | Equal ↦ λ e. rises_by f s t x h e
+    | Greater ↦ λ e. refl
+  ]

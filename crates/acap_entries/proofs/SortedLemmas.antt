@@ -64,20 +64,20 @@ module _ {K X : Type 0} (R : K → K → Ordering) where
   put_in_tied k v es d e = put_tied k v es d e
 
   module _ (o : IsTotalOrder R) where
-    below_missing : (k l : K) (es : List (K × X)) → R k l ≡ Less → T (below_all R l es) → find R k es ≡ None
+    pub below_missing : (k l : K) (es : List (K × X)) → R k l ≡ Less → T (below_all R l es) → find R k es ≡ None
     below_missing k l [] p h = refl
     below_missing k l (x ∷ es) p h =
         let less : R k x.0 ≡ Less = o.trans k l x.0 p (is_less _ (first _ _ h)) in
         ap (λ r. cond (is_eq r) (Some x.1) (find R k es)) less ∙ below_missing k l es p (second _ _ h)
 
-    below_kept : (k l : K) (es : List (K × X)) → R k l ≡ Less → T (below_all R l es) → without R k es ≡ es
+    pub below_kept : (k l : K) (es : List (K × X)) → R k l ≡ Less → T (below_all R l es) → without R k es ≡ es
     unfolding without
     below_kept k l [] p h = refl
     below_kept k l (x ∷ es) p h =
         let less : R k x.0 ≡ Less = o.trans k l x.0 p (is_less _ (first _ _ h)) in
         ap (λ r. cond (not (is_eq r)) (x ∷ without R k es) (without R k es)) less ∙ ap (λ t. x ∷ t) (below_kept k l es p (second _ _ h))
 
-    equal_kept : (k l : K) (es : List (K × X)) → R k l ≡ Equal → T (below_all R l es) → without R k es ≡ es
+    pub equal_kept : (k l : K) (es : List (K × X)) → R k l ≡ Equal → T (below_all R l es) → without R k es ≡ es
     unfolding without
     equal_kept k l [] p h = refl
     equal_kept k l (x ∷ es) p h =

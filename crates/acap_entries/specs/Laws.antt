@@ -1,32 +1,60 @@
 -- What follows from the definitions alone.
-use Rattle.std.specs.Prelude.{◌≡◌, ℕ, ℤ, pos, neg_ℤ, true, false, List, [], ◌∷◌, ◌++◌, Some, None, unwrap_or, codes, replicate}
+use Rattle.std.specs.Cmp.{IsTotalOrder}
+use Rattle.std.specs.declared.cmp.Ordering.TheVariants.{Equal}
+use Rattle.std.specs.Prelude.{◌≡◌, ◌≤◌, length, Option, ℕ, ℤ, pos, neg_ℤ, true, false, List, [], ◌∷◌, ◌++◌, Some, None, codes, replicate}
 use Rattle.std.specs.FinMap as map
 use Rattle.acap_entries.specs.Moments.{first_moment, last_moment, IsMoment}
 use Rattle.acap_entries.specs.Names.{is_path, is_dataset_argument, is_attribute, is_user_name, is_context_name, dataset_of, name_of, own_entry, slash}
 use Rattle.acap_entries.specs.Homes.{for_user}
 use Rattle.acap_entries.specs.Stamp.{IsStamp, stamp_of}
-use Rattle.acap_entries.specs.Store.{Store, Written, IsStoreAfter, store_after}
+use Rattle.acap_entries.specs.Changes.{IsStoreAfter, store_after}
+use Rattle.acap_entries.specs.Store.{Store, Stored, Written, after_fate}
 use Rattle.acap_entries.specs.Times.{time_of}
+use Rattle.acap_entries.specs.Deletions.{newest_of, others_of, forgotten_of}
+use Rattle.acap_entries.specs.FullPaths.{full_path_cmp, IsWellFormed}
+use Rattle.acap_entries.specs.declared.change.Change.{Change}
+use Rattle.acap_entries.specs.declared.deletion.Deletion.{Deletion}
+use Rattle.acap_entries.specs.declared.fate.Fate.{Fate}
+use Rattle.acap_entries.specs.declared.fate.Fate.TheVariants.{Put, Remove}
 use Rattle.acap_entries.specs.declared.path.Path.{Path}
 use Rattle.acap_entries.specs.declared.record.Record.{Record}
 
 -- a change determines the store that it leaves
 abbrev pub ChangeLaw : Type 0
-ChangeLaw = (written : Written) (moment : ℤ) (old a b : Store) → IsStoreAfter written moment old a → IsStoreAfter written moment old b → a ≡ b
+ChangeLaw = (change : Change) (old a b : Store) → IsStoreAfter change old a → IsStoreAfter change old b → a ≡ b
 
 -- the store that is a change's, as a value, is what the change stands for, path by path
 abbrev pub AfterLaw : Type 0
-AfterLaw = (written : Written) (moment : ℤ) (old : Store) → IsStoreAfter written moment old (store_after written moment old)
+AfterLaw = (change : Change) (old : Store) → IsStoreAfter change old (store_after change old)
 
 -- after two changes each path has what the later one writes there, else what the earlier one writes, else its old record
 abbrev pub TwoChangesLaw : Type 0
-TwoChangesLaw = (first second : Written) (earlier later : ℤ) (old mid new : Store) → IsStoreAfter first earlier old mid → IsStoreAfter second later mid new
-    → ((p : Path) → map.get new.records p ≡ unwrap_or (map.get second p) (unwrap_or (map.get first p) (map.get old.records p))) × (new.last ≡ later)
+TwoChangesLaw = (earlier later : Change) (old mid new : Store) → IsStoreAfter earlier old mid → IsStoreAfter later mid new
+    → ((p : Path) → map.get new.records p ≡ after_fate (map.get later.writes p) (after_fate (map.get earlier.writes p) (map.get old.records p))) × (new.last ≡ later.moment)
 
--- a record that one change writes and the next removes is gone, and every other path is as before
+-- a change that writes at one path alone
+abbrev pub change_of : Path → Fate → ℤ → Change
+change_of p fate moment = record { writes = map.insert map.empty p fate; moment = moment; deleted = [] }
+
+-- a record that one change puts and the next removes is gone
 abbrev pub RemovalLaw : Type 0
-RemovalLaw = (p : Path) (r : Record) (earlier later : ℤ) (old mid new : Store) → IsStoreAfter (map.insert map.empty p (Some r)) earlier old mid → IsStoreAfter (map.insert map.empty p None) later mid new
+RemovalLaw = (p : Path) (r : Record) (earlier later : ℤ) (old mid new : Store) → IsStoreAfter (change_of p (Put r) earlier) old mid → IsStoreAfter (change_of p Remove later) mid new
     → (map.get mid.records p ≡ Some r) × (map.get new.records p ≡ None)
+
+-- the newest deletions are kept, and the rest is forgotten: at most 4,096 are kept, they are the end of all of them, and
+-- of what isn't kept the last moment is known
+pub record DeletionLaw : Type 0 where
+  pub whole : (all : List Deletion) → others_of all ++ newest_of all ≡ all
+  pub few : (all : List Deletion) → length (newest_of all) ≤ 4_096
+  pub all_of_few : (all : List Deletion) → length all ≤ 4_096 → newest_of all ≡ all
+  pub none_of_few : (before : Option ℤ) (all : List Deletion) → length all ≤ 4_096 → forgotten_of before all ≡ before
+  pub last_of_others : (before : Option ℤ) (front : List Deletion) (d : Deletion) (rest : List Deletion) → length rest ≡ 4_096 → forgotten_of before (front ++ d ∷ rest) ≡ Some d.moment
+  pub by_parts : (all more : List Deletion) → newest_of (newest_of all ++ more) ≡ newest_of (all ++ more)
+
+-- the order of full paths is one of lists of octets, and equal full paths of well-formed paths are equal paths
+pub record FullPathLaw : Type 0 where
+  pub total : IsTotalOrder full_path_cmp
+  pub same : (a b : Path) → IsWellFormed a → IsWellFormed b → full_path_cmp a b ≡ Equal → a ≡ b
 
 -- a path is its dataset and then its name
 abbrev pub PathLaw : Type 0
@@ -141,3 +169,6 @@ pub record HomeExamples : Type 0 where
   pub parent : own_entry (codes "/option/user/joe/") ≡ Some (codes "/option/user/", codes "joe")
   pub top : own_entry (codes "/option/") ≡ Some (codes "/", codes "option")
   pub root : own_entry (codes "/") ≡ None
+  pub without_closing_slash : own_entry (codes "/optionX") ≡ None
+  pub without_beginning_slash : own_entry (codes "option/") ≡ None
+  pub nothing : own_entry [] ≡ None

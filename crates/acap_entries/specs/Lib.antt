@@ -1,6 +1,10 @@
+pub mod Changes
 pub mod Datasets
+pub mod Deletions
+pub mod FullPaths
 pub mod Homes
 pub mod Laws
+pub mod Leaves
 pub mod Moments
 pub mod Names
 pub mod Orders

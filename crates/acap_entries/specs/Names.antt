@@ -111,8 +111,9 @@ is_user_name text =
 unfoldable pub is_context_name : List ℕ → Bool
 is_context_name text = is_sized 255 text && is_utf8 text && not (begins_with slash text)
 
--- the own entry of a dataset other than `/`, in its parent: the dataset without its closing `/`, read as a path
+-- the own entry of a dataset other than `/`, in its parent: the dataset without its closing `/`, read as a path. Octets
+-- without a closing `/`, or without one before it, have none
 abbrev pub own_entry : List ℕ → Option (List ℕ × List ℕ)
 own_entry dataset =
-    if nat_le (length dataset) 1 then None
-    else (let path = take (length dataset - 1) dataset in Some (dataset_of path, name_of path))
+    let path = take (length dataset - 1) dataset in
+    if ends_with slash dataset && ends_with slash (dataset_of path) then Some (dataset_of path, name_of path) else None

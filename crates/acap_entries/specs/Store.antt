@@ -1,12 +1,18 @@
--- The store: a finite map from paths to records, and the last moment [RFC 2244 section 3.1].
-use Rattle.std.specs.Prelude.{◌≡◌, ℕ, ℤ, List, [], ◌∷◌, Option, Some, None, unwrap_or, refl}
+-- The store: a finite map from paths to records, the last moment, and the newest deletions [RFC 2244 section 3.1].
+use Rattle.std.specs.Prelude.{◌≡◌, ℕ, ℤ, List, [], ◌∷◌, Option, Some, None, refl}
 use Rattle.std.specs.declared.cmp.Ordering.{Ordering}
 use Rattle.std.specs.Ordering.{ordering_then}
-use Rattle.std.specs.Coded.{Coded, code_by, coded×, coded_ℕ, coded_ℤ, coded_option}
+use Rattle.std.specs.Coded.{Coded, code_by, coded×, coded_ℕ, coded_ℤ, coded_list, coded_option}
 use Rattle.std.specs.FinMap as map
+use Rattle.acap_entries.specs.Moments.{first_moment}
 use Rattle.acap_entries.specs.Orders.{octets_cmp}
+use Rattle.acap_entries.specs.declared.deletion.Deletion.{Deletion}
+use Rattle.acap_entries.specs.declared.fate.Fate.{Fate}
+use Rattle.acap_entries.specs.declared.fate.Fate.TheVariants.{Put, Remove}
 use Rattle.acap_entries.specs.declared.path.Path.{Path}
 use Rattle.acap_entries.specs.declared.record.Record.{Record}
+use Rattle.acap_entries.specs.contracts.deletion.Deletion as deletion
+use Rattle.acap_entries.specs.contracts.fate.Fate as fate
 use Rattle.acap_entries.specs.contracts.path.Path as path
 use Rattle.acap_entries.specs.contracts.record.Record as row
 
@@ -21,44 +27,53 @@ Stored = map.FinMap path_cmp Record
 pub record Store : Type 0 where
   pub records : Stored
   pub last : ℤ
+  -- the newest deletions, in the order in which they came
+  pub deletions : List Deletion
+  -- the moment of the newest one that is not among them, if one is not
+  pub forgotten : Option ℤ
 
--- a store, and how many records there is room for beside those that it has
+-- a store, and what there is room for: so many records beside those that it has, and so many deletions in all
 pub record Roomy : Type 0 where
   pub store : Store
   pub spare : ℕ
+  pub slots : ℕ
 
--- what a change writes: a record at each of some paths, None being its removal
+-- what a change writes: at each of some paths a record, or the removal of the one that is there
 abbrev pub Written : Type 0
-Written = map.FinMap path_cmp (Option Record)
+Written = map.FinMap path_cmp Fate
+
+-- what a path has after a write of it, or after none
+abbrev pub after_fate : Option Fate → Option Record → Option Record
+after_fate None old = old
+after_fate (Some (Put entry)) old = Some entry
+after_fate (Some Remove) old = None
 
 -- each written path has what is written there, and every other path its old record
 pub record IsPathByPath (written : Written) (old new : Stored) : Type 0 where
-  pub at_path : (p : Path) → map.get new p ≡ unwrap_or (map.get written p) (map.get old p)
-
--- the store that writes at a moment make of an old one, path by path
-pub record IsStoreAfter (written : Written) (moment : ℤ) (old new : Store) : Type 0 where
-  pub paths : IsPathByPath written old.records new.records
-  pub last : new.last ≡ moment
+  pub at_path : (p : Path) → map.get new p ≡ after_fate (map.get written p) (map.get old p)
 
 -- the records after writes: each written record is put at its path, and each removed one taken out
-abbrev pub after_write : Path → Option Record → Stored → Stored
-after_write p (Some r) records = map.insert records p r
-after_write p None records = map.remove records p
+abbrev pub after_write : Path → Fate → Stored → Stored
+after_write p (Put entry) records = map.insert records p entry
+after_write p Remove records = map.remove records p
 
-abbrev pub after_writes : List (Path × Option Record) → Stored → Stored
+abbrev pub after_writes : List (Path × Fate) → Stored → Stored
 after_writes [] records = records
 after_writes (w ∷ ws) records = after_write w.0 w.1 (after_writes ws records)
 
--- the same store as a value
-abbrev pub store_after : Written → ℤ → Store → Store
-store_after written moment old = record { records = after_writes (map.entries written) old.records; last = moment }
+-- the empty store: no record, the first of all moments, no deletion
+abbrev pub empty_store : Store
+empty_store = record { records = map.empty; last = first_moment; deletions = []; forgotten = None }
 
 -- how stores and writes are told apart in proofs
 abbrev pub store_code : Coded Store
-store_code = code_by (Stored × ℤ) (coded× (map.code path.the_row.coded row.the_row.coded) coded_ℤ) (λ s. (s.records, s.last)) (λ p. record { records = p.0; last = p.1 }) (λ _. refl)
+store_code =
+    code_by ((Stored × ℤ) × (List Deletion × Option ℤ))
+    (coded× (coded× (map.code path.the_row.coded row.the_row.coded) coded_ℤ) (coded× (coded_list deletion.the_row.coded) (coded_option coded_ℤ)))
+    (λ s. ((s.records, s.last), (s.deletions, s.forgotten))) (λ p. record { records = p.0.0; last = p.0.1; deletions = p.1.0; forgotten = p.1.1 }) (λ _. refl)
 
 abbrev pub roomy_code : Coded Roomy
-roomy_code = code_by (Store × ℕ) (coded× store_code coded_ℕ) (λ s. (s.store, s.spare)) (λ p. record { store = p.0; spare = p.1 }) (λ _. refl)
+roomy_code = code_by (Store × (ℕ × ℕ)) (coded× store_code (coded× coded_ℕ coded_ℕ)) (λ s. (s.store, (s.spare, s.slots))) (λ p. record { store = p.0; spare = p.1.0; slots = p.1.1 }) (λ _. refl)
 
 abbrev pub written_code : Coded Written
-written_code = map.code path.the_row.coded (coded_option row.the_row.coded)
+written_code = map.code path.the_row.coded fate.the_row.coded

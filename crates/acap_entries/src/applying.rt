@@ -1,26 +1,29 @@
-ghost use Rattle.std.specs.Prelude.{◌≤◌, ◌+◌, vec_len, vec_capacity};
+//! Writes performed in the room that there is.
+ghost use Rattle.std.specs.Prelude.{◌≤◌};
 ghost use Rattle.std.specs.FinMap as map;
 ghost use Rattle.acap_entries.specs.Sorted.{InOrder};
 ghost use Rattle.acap_entries.specs.Store.{path_cmp, IsPathByPath};
 
+use crate::boxed::Boxed;
+use crate::fate::Fate;
+use crate::leaves::Leaves;
 use crate::path::Path;
 use crate::record::Record;
-use crate::sorted::{put_in_room, take_out};
 use crate::writes::Writes;
 
-// Performs the writes from the last to the first, in the room that there is.
+// Performs the writes from the last to the first.
 #[tactic(auto, using(crate::proofs::Kept::kept_records))]
-pub(crate) fn put_all(entries: &mut Vec<(Path, Record)>, writes: Writes)
-    requires room { vec_len entries.old + map.len writes ≤ vec_capacity entries.old }
-    requires sorted { InOrder path_cmp entries.old.items }
-    ensures sorted { InOrder path_cmp entries.new.items }
-    ensures paths { IsPathByPath writes (map.from_sorted entries.old.items) (map.from_sorted entries.new.items) }
+pub(crate) fn put_all(entries: &mut Leaves<Path, Boxed<Record>>, writes: Writes)
+    requires room { map.len writes ≤ entries.old.1 }
+    requires sorted { InOrder path_cmp entries.old.0 }
+    ensures sorted { InOrder path_cmp entries.new.0 }
+    ensures paths { IsPathByPath writes (map.from_sorted entries.old.0) (map.from_sorted entries.new.0) }
 {
     let mut left = writes.into_entries();
     while let Some((path, fate)) = left.pop() {
         match fate {
-            Some(record) => put_in_room(entries, path, record),
-            None => take_out(entries, &path),
+            Fate::Put(record) => entries.put(path, record),
+            Fate::Remove => entries.take_out(&path),
         }
     }
 }

@@ -1,23 +1,31 @@
+//! A change: the step from one store to the next.
+
 use crate::copying::Copying;
+use crate::lists::Paths;
 use crate::memory::Memory;
 use crate::moment::Moment;
 use crate::writes::Writes;
 
-/// A step from one store to the next: what is written, and the moment that the store then has.
+/// A step from one store to the next: what is written, the moment that the store then has, and which entries stop
+/// existing (RFC 2244 sections 3.1 and 6.6.2).
 #[derive(Debug, Drop)]
 pub struct Change {
-    /// The records written and removed, by path.
+    /// The records put and removed, by path.
     pub writes: Writes,
     /// The moment of the change.
     pub moment: Moment,
+    /// The paths of the entries that stop existing, in the order in which they were named.
+    pub deleted: Paths,
 }
 
 impl Copying for Change {
     fn copy(&self) -> Result<Change, Memory> {
         let writes = self.writes.copy()?;
+        let deleted = self.deleted.copy()?;
         Ok(Change {
             writes,
             moment: self.moment,
+            deleted,
         })
     }
 }

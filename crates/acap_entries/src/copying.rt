@@ -13,7 +13,7 @@ pub trait Copying: Sized {
 pub fn copy_all<T: Copying + Drop>(items: &Vec<T>) -> Result<Vec<T>, Memory>
     ensures { IfOk result (λ made. made.items ≡ items.now.items) }
 {
-    let mut made = Vec::new(*items.allocator());
+    let mut made = Vec::with_capacity(*items.allocator(), items.len())?;
     for item in items {
         made.push(item.copy()?)?;
     }

@@ -1,4 +1,5 @@
-ghost use Rattle.std.specs.Prelude.{◌≡◌, ◌↔◌, IfOk, OnOk, IsTrue, Err, false};
+//! The names of datasets.
+ghost use Rattle.std.specs.Prelude.{◌≡◌, ◌↔◌, ◌++◌, ◌∷◌, [], IfOk, OnOk, IsTrue, Err, false};
 ghost use Rattle.acap_entries.specs.Names as name;
 ghost use Rattle.acap_entries.specs.Homes as home;
 
@@ -24,6 +25,11 @@ impl Model for Dataset {
 
     ghost view = { λ v. v.octets };
 
+    ghost use Rattle.std.specs.Prelude.{IsTrue};
+    ghost use Rattle.acap_entries.specs.Names.{slash, ends_with};
+
+    ghost invariant = { λ v. IsTrue (ends_with slash v.octets) };
+
     ghost inverse = { λ octets. record { octets = octets } };
 }
 
@@ -41,15 +47,21 @@ impl Dataset {
         Ok(closed(alloc, octets)?)
     }
 
-    /// Any octets as they are, in the memory that they have.
-    pub fn new(octets: Octets) -> Dataset
-        ensures { result ≡ octets }
+    /// The dataset of that very name, copied. `BadName` exactly where the octets don't end in `/`.
+    pub fn from_slice(alloc: Global, octets: &[u8]) -> Result<Dataset, NameFault>
+        ensures good { OnOk result (IsTrue (name.ends_with name.slash octets.now)) }
+        ensures value { IfOk result (λ made. made ≡ octets.now) }
+        ensures bad { (result ≡ Err NameFault.BadName) ↔ (name.ends_with name.slash octets.now ≡ false) }
     {
-        Dataset { octets }
+        if !names::ends_with(octets, b'/') {
+            return Err(NameFault::BadName);
+        }
+        Ok(Dataset::of_closed(alloc, octets)?)
     }
 
-    /// Any octets as they are, copied. Fails only for want of memory.
-    pub fn from_slice(alloc: Global, octets: &[u8]) -> Result<Dataset, Memory>
+    /// The dataset of octets that end in `/`, copied. Fails only for want of memory.
+    pub(crate) fn of_closed(alloc: Global, octets: &[u8]) -> Result<Dataset, Memory>
+        requires { IsTrue (name.ends_with name.slash octets.now) }
         ensures { IfOk result (λ made. made ≡ octets.now) }
     {
         let octets = Octets::from_slice(alloc, octets)?;
@@ -65,9 +77,18 @@ impl Dataset {
         Ok(Dataset { octets })
     }
 
+    /// The octets without the closing `/`.
+    pub(crate) fn open_ended(&self) -> &[u8]
+        ensures { result.now ++ name.slash ∷ [] ≡ self.now }
+    {
+        let octets = self.octets.as_slice();
+        &octets[..octets.len() - 1]
+    }
+
     /// The octets.
     pub fn as_slice(&self) -> &[u8]
-        ensures { result.now ≡ self.now }
+        ensures value { result.now ≡ self.now }
+        ensures closed { IsTrue (name.ends_with name.slash self.now) }
     {
         self.octets.as_slice()
     }

@@ -23,13 +23,6 @@ impl Model for EntryName {
 }
 
 impl EntryName {
-    /// Any octets as they are, in the memory that they have.
-    pub fn new(octets: Octets) -> EntryName
-        ensures { result ≡ octets }
-    {
-        EntryName { octets }
-    }
-
     /// Any octets as they are, copied. Fails only for want of memory.
     pub fn from_slice(alloc: Global, octets: &[u8]) -> Result<EntryName, Memory>
         ensures { IfOk result (λ made. made ≡ octets.now) }

@@ -1,4 +1,6 @@
-ghost use Rattle.std.specs.Prelude.{◌≡◌};
+//! What stands for a key in a look-up, so that a look-up takes no memory.
+ghost use Rattle.std.specs.Prelude.{◌≡◌, ◌++◌, []};
+ghost use Rattle.acap_entries.specs.Orders.{octets_cmp};
 
 use crate::attribute::Attribute;
 use crate::path::Path;
@@ -56,8 +58,72 @@ impl<'a> Probe<Path> for PathText<'a> {
     ghost key = { λ p. record { dataset = p.dataset.now; name = p.name.now } };
 
     fn compare(&self, known: &Path) -> Ordering {
-        let by_dataset = self.dataset.cmp(&known.dataset.as_slice());
-        let by_name = self.name.cmp(&known.name.as_slice());
-        by_dataset.then(by_name)
+        match self.dataset.cmp(&known.dataset.as_slice()) {
+            Ordering::Equal => self.name.cmp(&known.name.as_slice()),
+            unequal => unequal,
+        }
     }
+}
+
+/// The management entry of a name that is an octet behind another one's octets: where a run of datasets begins or ends.
+#[derive(Drop)]
+pub(crate) struct Edge<'a> {
+    /// The octets but for the last.
+    pub(crate) front: &'a [u8],
+    /// The last octet, if there is one.
+    pub(crate) last: &'a [u8],
+}
+
+impl<'a> Probe<Path> for Edge<'a> {
+    ghost key = { λ p. record { dataset = p.front.now ++ p.last.now; name = [] } };
+
+    fn compare(&self, known: &Path) -> Ordering {
+        match cmp_joined(self.front, self.last, known.dataset.as_slice()) {
+            Ordering::Equal => b"".as_slice().cmp(&known.name.as_slice()),
+            unequal => unequal,
+        }
+    }
+}
+
+/// The octets of an attribute's name, one part behind the other.
+#[derive(Drop)]
+pub struct JoinedText<'a> {
+    /// The front of the octets.
+    pub front: &'a [u8],
+    /// The rest of the octets.
+    pub rest: &'a [u8],
+}
+
+impl<'a> Probe<Attribute> for JoinedText<'a> {
+    ghost key = { λ p. p.front.now ++ p.rest.now };
+
+    fn compare(&self, known: &Attribute) -> Ordering {
+        cmp_joined(self.front, self.rest, known.as_slice())
+    }
+}
+
+/// How octets that are given in two parts compare with others.
+pub(crate) fn cmp_joined(front: &[u8], rest: &[u8], other: &[u8]) -> Ordering
+    ensures { result ≡ octets_cmp (front.now ++ rest.now) other.now }
+{
+    if other.starts_with(front) {
+        let (_, behind) = other.split_at(front.len());
+        return rest.cmp(&behind);
+    }
+    front.cmp(&other)
+}
+
+/// How octets that are given in two parts compare with others that are.
+pub(crate) fn cmp_pairs(front: &[u8], rest: &[u8], other_front: &[u8], other_rest: &[u8]) -> Ordering
+    ensures { result ≡ octets_cmp (front.now ++ rest.now) (other_front.now ++ other_rest.now) }
+{
+    if other_front.starts_with(front) {
+        let (_, between) = other_front.split_at(front.len());
+        return cmp_joined(between, other_rest, rest).reverse();
+    }
+    if front.starts_with(other_front) {
+        let (_, between) = front.split_at(other_front.len());
+        return cmp_joined(between, rest, other_rest);
+    }
+    front.cmp(&other_front)
 }

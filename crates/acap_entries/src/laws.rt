@@ -1,5 +1,5 @@
 //! What follows from the definitions alone: each function does nothing, and its contract is the law.
-ghost use Rattle.acap_entries.specs.Laws.{ChangeLaw, AfterLaw, TwoChangesLaw, RemovalLaw, PathLaw, StampLaw, StampExamples, TimeLaw, TimeExamples, PathExamples, DatasetExamples, NameExamples, HomeExamples};
+ghost use Rattle.acap_entries.specs.Laws.{ChangeLaw, AfterLaw, TwoChangesLaw, RemovalLaw, DeletionLaw, FullPathLaw, PathLaw, StampLaw, StampExamples, TimeLaw, TimeExamples, PathExamples, DatasetExamples, NameExamples, HomeExamples};
 
 /// A change determines the store that it leaves.
 pub fn change_law()
@@ -19,6 +19,16 @@ pub fn two_changes_law()
 /// A record that one change writes and the next removes is gone.
 pub fn removal_law()
     ensures { RemovalLaw }
+{}
+
+/// Which deletions are kept, and what is known of those that are not (RFC 2244 section 6.6.2).
+pub fn deletion_law()
+    ensures { DeletionLaw }
+{}
+
+/// The order of full paths is total, and tells well-formed paths apart.
+pub fn full_path_law()
+    ensures { FullPathLaw }
 {}
 
 /// A path is its dataset and then its name.

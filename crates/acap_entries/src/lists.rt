@@ -2,6 +2,7 @@
 
 use crate::cell::Cell;
 use crate::item::Item;
+use crate::path::Path;
 use crate::sequence::Sequence;
 use crate::value::Value;
 
@@ -16,3 +17,6 @@ pub type CellList = Sequence<Cell>;
 
 /// A parenthesis of data for each of some attributes (RFC 2244 section 6.4.1).
 pub type CellLists = Sequence<CellList>;
+
+/// Paths in an order.
+pub type Paths = Sequence<Path>;

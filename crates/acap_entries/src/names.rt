@@ -1,5 +1,5 @@
 //! Which octets are names (RFC 2244 sections 3.1, 3.1.1 and 3.3). No call here takes memory.
-ghost use Rattle.std.specs.Prelude.{◌≡◌, ◌≤◌, ◌<◌, ◌∷◌, [], length, IfSome, IfNone};
+ghost use Rattle.std.specs.Prelude.{◌≡◌, ◌≤◌, ◌<◌, ◌-◌, ◌∷◌, [], length, slice_index, IfSome, IfNone, IsTrue};
 ghost use Rattle.std.specs.List.{list_all, slice_split, position};
 ghost use Rattle.std.specs.Option.{option_map};
 ghost use Rattle.std.specs.Str as text;
@@ -125,6 +125,7 @@ pub fn component_count(dataset: &[u8]) -> usize
 pub fn cut_of(path: &[u8]) -> usize
     ensures value { result ≡ name.cut_of path.now }
     ensures within { result ≤ length path.now }
+    ensures slash { 0 < result → slice_index path.now (result - 1) ≡ 47 }
 {
     let mut cut = path.len();
     while cut > 0 && path[cut - 1] != b'/' {
@@ -138,6 +139,7 @@ pub fn cut_of(path: &[u8]) -> usize
 pub fn split(path: &[u8]) -> (&[u8], &[u8])
     ensures dataset { result.0.now ≡ name.dataset_of path.now }
     ensures name { result.1.now ≡ name.name_of path.now }
+    ensures closed { 0 < length result.0.now → IsTrue (name.ends_with name.slash result.0.now) }
 {
     path.split_at(cut_of(path))
 }
@@ -206,13 +208,19 @@ pub fn is_context_name(octets: &[u8]) -> bool
     !octets.is_empty() && octets.len() <= 255 && is_utf8(octets) && !begins_with(octets, b'/')
 }
 
-/// The own entry of a dataset other than `/`: the dataset that it lies in, and its name there.
+/// The own entry of a dataset other than `/`: the dataset that it lies in, and its name there. None of octets that
+/// are not closed by a `/`, or have no `/` before it.
 pub fn own_entry_of(dataset: &[u8]) -> Option<(&[u8], &[u8])>
-    ensures { option_map (λ p. (p.0.now, p.1.now)) result ≡ name.own_entry dataset.now }
+    ensures value { option_map (λ p. (p.0.now, p.1.now)) result ≡ name.own_entry dataset.now }
+    ensures closed { IfSome result (λ p. IsTrue (name.ends_with name.slash p.0.now)) }
 {
-    if dataset.len() <= 1 {
+    if !ends_with(dataset, b'/') {
         return None;
     }
-    let path = &dataset[..dataset.len() - 1];
-    Some(split(path))
+    let (parent, name) = split(&dataset[..dataset.len() - 1]);
+    if ends_with(parent, b'/') {
+        Some((parent, name))
+    } else {
+        None
+    }
 }

@@ -1,16 +1,19 @@
+//! Where entries are.
 ghost use Rattle.std.specs.Prelude.{◌≡◌, ◌↔◌, IfOk, OnOk, IsTrue, Err, false};
 ghost use Rattle.std.specs.Option.{option_map};
-ghost use Rattle.acap_entries.specs.Names as name;
+ghost use Rattle.acap_entries.specs.Names as rule;
 ghost use Rattle.acap_entries.specs.Homes as home;
 
 use crate::copying::Copying;
 use crate::dataset::Dataset;
 use crate::entry_name::EntryName;
+use crate::keys::cmp_pairs;
 use crate::memory::Memory;
 use crate::name_fault::NameFault;
 use crate::names;
 use crate::user_name::UserName;
 use std::alloc::Global;
+use std::cmp::Ordering;
 
 /// Where an entry is: its dataset and its name there (RFC 2244 section 3.1). Ordered by dataset, then by name.
 #[derive(Debug, PartialEq, Eq, PartialOrd, Ord, Drop)]
@@ -25,32 +28,44 @@ impl Path {
     /// Reads a path as a client sends it: its dataset is all through the last `/`, its name the rest. `BadName`
     /// exactly where the octets are no such name; a component `~` stays (`for_user`).
     pub fn read(alloc: Global, octets: &[u8]) -> Result<Path, NameFault>
-        ensures good { OnOk result (IsTrue (name.is_path octets.now)) }
-        ensures value { IfOk result (λ path. path ≡ record { dataset = name.dataset_of octets.now; name = name.name_of octets.now }) }
-        ensures bad { (result ≡ Err NameFault.BadName) ↔ (name.is_path octets.now ≡ false) }
+        ensures good { OnOk result (IsTrue (rule.is_path octets.now)) }
+        ensures value { IfOk result (λ path. path ≡ record { dataset = rule.dataset_of octets.now; name = rule.name_of octets.now }) }
+        ensures bad { (result ≡ Err NameFault.BadName) ↔ (rule.is_path octets.now ≡ false) }
     {
         if !names::is_path(octets) {
             return Err(NameFault::BadName);
         }
         let (dataset, name) = names::split(octets);
-        Ok(Path::from_slices(alloc, dataset, name)?)
+        Ok(Path::of_closed(alloc, dataset, name)?)
     }
 
-    /// The path with those octets as they are, copied. Fails only for want of memory.
-    pub fn from_slices(alloc: Global, dataset: &[u8], name: &[u8]) -> Result<Path, Memory>
-        ensures { IfOk result (λ path. path ≡ record { dataset = dataset.now; name = name.now }) }
+    /// The path of that very dataset and name, copied. `BadName` exactly where the dataset doesn't end in `/`.
+    pub fn from_slices(alloc: Global, dataset: &[u8], name: &[u8]) -> Result<Path, NameFault>
+        ensures good { OnOk result (IsTrue (rule.ends_with rule.slash dataset.now)) }
+        ensures value { IfOk result (λ path. path ≡ record { dataset = dataset.now; name = name.now }) }
+        ensures bad { (result ≡ Err NameFault.BadName) ↔ (rule.ends_with rule.slash dataset.now ≡ false) }
     {
         let dataset = Dataset::from_slice(alloc, dataset)?;
         let name = EntryName::from_slice(alloc, name)?;
         Ok(Path { dataset, name })
     }
 
-    /// The own entry of a dataset other than `/`, in its parent. Fails only for want of memory.
-    pub fn own_entry(alloc: Global, dataset: &Dataset) -> Result<Option<Path>, Memory>
-        ensures { IfOk result (λ made. option_map (λ p. (p.dataset, p.name)) made ≡ name.own_entry dataset.now) }
+    // The path of a dataset that ends in `/` and a name.
+    fn of_closed(alloc: Global, dataset: &[u8], name: &[u8]) -> Result<Path, Memory>
+        requires { IsTrue (rule.ends_with rule.slash dataset.now) }
+        ensures { IfOk result (λ path. path ≡ record { dataset = dataset.now; name = name.now }) }
     {
-        match names::own_entry_of(dataset.as_slice()) {
-            Some((parent, name)) => Ok(Some(Path::from_slices(alloc, parent, name)?)),
+        let dataset = Dataset::of_closed(alloc, dataset)?;
+        let name = EntryName::from_slice(alloc, name)?;
+        Ok(Path { dataset, name })
+    }
+
+    /// The own entry of a dataset other than `/`, in its parent. Fails only for want of memory.
+    pub fn own_entry(alloc: Global, dataset: &[u8]) -> Result<Option<Path>, Memory>
+        ensures { IfOk result (λ made. option_map (λ p. (p.dataset, p.name)) made ≡ rule.own_entry dataset.now) }
+    {
+        match names::own_entry_of(dataset) {
+            Some((parent, name)) => Ok(Some(Path::of_closed(alloc, parent, name)?)),
             None => Ok(None),
         }
     }
@@ -70,5 +85,22 @@ impl Copying for Path {
         let dataset = self.dataset.copy()?;
         let name = self.name.copy()?;
         Ok(Path { dataset, name })
+    }
+}
+
+impl Path {
+    ghost use Rattle.acap_entries.specs.FullPaths.{full_path_cmp};
+
+    /// How the full octets of this path, its dataset and then its name, compare with those of another. This is another
+    /// order than that of paths. Takes no memory.
+    pub fn cmp_full(&self, other: &Path) -> Ordering
+        ensures { result ≡ full_path_cmp self.now other.now }
+    {
+        cmp_pairs(
+            self.dataset.as_slice(),
+            self.name.as_slice(),
+            other.dataset.as_slice(),
+            other.name.as_slice(),
+        )
     }
 }

@@ -1,32 +1,105 @@
-ghost use Rattle.std.specs.Prelude.{◌≡◌, filter, take_while};
-ghost use Rattle.acap_entries.specs.Orders.{octets_eq};
-ghost use Rattle.acap_entries.specs.Sorted.{InOrder};
+//! The records between two keys, which lie together.
+ghost use Rattle.std.specs.Prelude.{◌≡◌, ◌+◌, ◌-◌, ◌<◌, ◌≤◌, ◌^◌, [], length, slice_index_or, take, drop};
+ghost use Rattle.std.specs.declared.cmp.Ordering.TheVariants.{Greater};
+ghost use Rattle.acap_entries.specs.Sorted.{place, InOrder};
+ghost use Rattle.acap_entries.specs.Leaves.{joined, before, AreFilled};
 ghost use Rattle.acap_entries.specs.Store.{path_cmp};
 
-use crate::keys::PathText;
+use crate::boxed::Boxed;
+use crate::keys::Probe;
+use crate::leaf::Leaf;
+use crate::leaves::leaf_of;
+use crate::listing::Listing;
 use crate::path::Path;
 use crate::record::Record;
 use crate::sorted::place_of;
 
-// The entries of a dataset, which lie together.
-pub(crate) fn entries_of<'a>(entries: &'a [(Path, Record)], dataset: &[u8]) -> &'a [(Path, Record)]
-    requires { InOrder path_cmp entries.now }
-    ensures { result.now ≡ filter (λ e. octets_eq dataset.now e.0.dataset) entries.now }
+// Where a key stands: its leaf, and its place in it.
+fn place_among<K: Ord + Drop, V: Drop, Q: Probe<K>>(
+    leaves: &[Leaf<K, V>],
+    probe: &Q,
+) -> (usize, usize)
+    requires some { 0 < length leaves.now }
+    requires filled { AreFilled leaves.now }
+    requires sorted { InOrder K.cmp (joined leaves.now) }
+    ensures leaf { result.0 < length leaves.now }
+    ensures within { result.1 ≤ length (slice_index_or leaves.now result.0 []) }
+    ensures place { before leaves.now result.0 + result.1 ≡ place K.cmp (Q.key probe.now) (joined leaves.now) }
 {
-    let first = PathText { dataset, name: b"" };
-    let (start, _) = place_of(entries, &first);
-    let (_, rest) = entries.split_at(start);
-    run_of(rest, dataset)
+    let at = leaf_of(leaves, probe);
+    let leaf = &leaves[at];
+    let (place, _) = place_of(leaf.as_slice(), probe);
+    (at, place)
 }
 
-// The entries at the front that are in a dataset.
-fn run_of<'a>(entries: &'a [(Path, Record)], dataset: &[u8]) -> &'a [(Path, Record)]
-    ensures { result.now ≡ take_while (λ e. octets_eq dataset.now e.0.dataset) entries.now }
+// How many entries the leaves hold.
+fn count<K: Ord + Drop, V: Drop>(leaves: &[Leaf<K, V>]) -> usize
+    requires { length (joined leaves.now) < 2 ^ 64 }
+    ensures { result ≡ length (joined leaves.now) }
 {
-    for (count, (path, _)) in entries.iter().enumerate() {
-        if dataset != path.dataset.as_slice() {
-            return &entries[..count];
-        }
+    let mut count = 0;
+    for leaf in leaves {
+        count += leaf.len();
     }
-    entries
+    count
+}
+
+// How many entries stand before a key.
+fn count_before<K: Ord + Drop, V: Drop, Q: Probe<K>>(leaves: &[Leaf<K, V>], probe: &Q) -> usize
+    requires some { 0 < length leaves.now }
+    requires filled { AreFilled leaves.now }
+    requires sorted { InOrder K.cmp (joined leaves.now) }
+    requires counted { length (joined leaves.now) < 2 ^ 64 }
+    ensures { result ≡ place K.cmp (Q.key probe.now) (joined leaves.now) }
+{
+    let (at, place) = place_among(leaves, probe);
+    let (earlier, _) = leaves.split_at(at);
+    count(earlier) + place
+}
+
+// So many records behind some of the first leaf's.
+fn listed(
+    leaves: &[Leaf<Path, Boxed<Record>>],
+    skipped: usize,
+    left: usize,
+) -> Listing<'_>
+    requires some { 0 < length leaves.now }
+    requires filled { AreFilled leaves.now }
+    requires within { skipped ≤ length (slice_index_or leaves.now 0 []) }
+    requires left { skipped + left ≤ length (joined leaves.now) }
+    ensures { result ≡ take left (drop skipped (joined leaves.now)) }
+{
+    let front = &leaves[0];
+    let front = &front.as_slice()[skipped..];
+    let leaves = &leaves[1..];
+    Listing {
+        front,
+        leaves,
+        left,
+    }
+}
+
+// The records from one key on and before another.
+pub(crate) fn between<'a, Q: Probe<Path>>(
+    leaves: &'a [Leaf<Path, Boxed<Record>>],
+    low: &Q,
+    high: &Q,
+) -> Listing<'a>
+    requires filled { AreFilled leaves.now }
+    requires sorted { InOrder path_cmp (joined leaves.now) }
+    requires counted { length (joined leaves.now) < 2 ^ 64 }
+    requires rises { (x : Path) → path_cmp (Q.key low.now) x ≡ Greater → path_cmp (Q.key high.now) x ≡ Greater }
+    ensures { let from = place path_cmp (Q.key low.now) (joined leaves.now) in result ≡ take (place path_cmp (Q.key high.now) (joined leaves.now) - from) (drop from (joined leaves.now)) }
+{
+    if leaves.len() == 0 {
+        return Listing {
+            front: &[],
+            leaves,
+            left: 0,
+        };
+    }
+    let (first, skipped) = place_among(leaves, low);
+    let (_, rest) = leaves.split_at(first);
+    let until = count_before(rest, high);
+    listed(rest, skipped, until - skipped)
 }

@@ -1,35 +1,42 @@
-ghost use Rattle.std.specs.Prelude.{◌≡◌, ◌≤◌, IfOk, OnOk, filter};
+//! The tree of records.
+ghost use Rattle.std.specs.Prelude.{◌≡◌, ◌≤◌, IfOk, OnOk, filter, nat_eq};
 ghost use Rattle.std.specs.Option.{option_copied};
+ghost use Rattle.std.specs.List.{starts_with};
 ghost use Rattle.std.specs.FinMap as map;
 ghost use Rattle.acap_entries.specs.Orders.{octets_eq};
-ghost use Rattle.acap_entries.specs.Store.{IsStoreAfter};
-ghost use Rattle.acap_entries.specs.Moments.{first_moment};
+ghost use Rattle.acap_entries.specs.Store.{empty_store};
+ghost use Rattle.acap_entries.specs.Changes.{HasRoom, IsStoreAfter};
 ghost use Rattle.acap_entries.specs.Datasets as rule;
 
 use crate::applying::put_all;
+use crate::boxed::Boxed;
 use crate::change::Change;
-use crate::copying::copy_all;
-use crate::keys::{PathText, Whole};
+use crate::dataset::Dataset;
+use crate::deletion::Deletion;
+use crate::deletions::Deletions;
+use crate::keys::{Edge, PathText, Whole};
+use crate::leaves::{Leaves, find};
+use crate::listing::Listing;
 use crate::memory::Memory;
 use crate::moment::Moment;
 use crate::path::Path;
-use crate::ranges;
+use crate::ranges::between;
 use crate::record::Record;
 use crate::records::Records;
-use crate::sorted::lookup;
 use std::alloc::Global;
+use std::collections::VecDeque;
 use std::marker::Model;
 
-/// The store in memory: seen as a finite map from paths to records with its last moment, and beside it the
-/// number of records that it has room for, which no equality speaks of (RFC 2244 section 3.1).
+/// The store in memory: seen as a finite map from paths to records with its last moment and newest deletions, and
+/// beside it what it has room for, which no equality speaks of (RFC 2244 section 3.1).
 #[derive(Debug, Drop)]
 pub struct Tree {
-    entries: Vec<(Path, Record)>,
+    entries: Leaves<Path, Boxed<Record>>,
     last: Moment,
+    deletions: Deletions,
 }
 
 impl Model for Tree {
-    ghost use Rattle.std.specs.Prelude.{◌-◌, vec_len, vec_capacity};
     ghost use Rattle.std.specs.FinMap as map;
     ghost use Rattle.acap_entries.specs.Sorted.{InOrder};
     ghost use Rattle.acap_entries.specs.Store.{Roomy, roomy_code, path_cmp};
@@ -39,22 +46,24 @@ impl Model for Tree {
     ghost coded = { roomy_code };
 
     ghost view = { λ t. record {
-      store = record { records = map.from_sorted t.entries.items; last = t.last };
-      spare = vec_capacity t.entries - vec_len t.entries;
+      store = record { records = map.from_sorted t.entries.0; last = t.last; deletions = t.deletions.kept; forgotten = t.deletions.forgotten };
+      spare = t.entries.1;
+      slots = t.deletions.slots;
     } };
 
-    ghost invariant = { λ t. InOrder path_cmp t.entries.items };
+    ghost invariant = { λ t. InOrder path_cmp t.entries.0 };
 }
 
 #[tactic(auto, using(crate::proofs::Kept::kept_records))]
 impl Tree {
     /// The empty store, whose last moment is the first of all moments. Takes no memory.
     pub fn new(alloc: Global) -> Tree
-        ensures { result.store ≡ record { records = map.empty; last = first_moment } }
+        ensures { result.store ≡ empty_store }
     {
         Tree {
-            entries: Vec::new(alloc),
+            entries: Leaves::new(alloc),
             last: Moment::first(),
+            deletions: Deletions::new(alloc),
         }
     }
 
@@ -65,18 +74,34 @@ impl Tree {
         self.last
     }
 
+    /// The newest 4,096 deletions, in the order in which they came.
+    pub fn deletions(&self) -> &VecDeque<Deletion>
+        ensures { result.now.items ≡ self.now.store.deletions }
+    {
+        self.deletions.kept()
+    }
+
+    /// The moment of the newest deletion that is not among those, if there is one.
+    pub fn forgotten(&self) -> Option<Moment>
+        ensures { result ≡ self.now.store.forgotten }
+    {
+        self.deletions.forgotten()
+    }
+
     /// The record at a path, if there is one. Takes as many comparisons as the number of records has binary digits.
     pub fn get(&self, path: &Path) -> Option<&Record>
         ensures { option_copied result ≡ map.get self.now.store.records path.now }
     {
-        lookup(self.entries.as_slice(), &Whole { key: path })
+        let record = find(self.entries.as_slice(), &Whole { key: path })?;
+        Some(record.get())
     }
 
     /// The same for a path that is given by its octets.
     pub fn find(&self, dataset: &[u8], name: &[u8]) -> Option<&Record>
         ensures { option_copied result ≡ map.get self.now.store.records (record { dataset = dataset.now; name = name.now }) }
     {
-        lookup(self.entries.as_slice(), &PathText { dataset, name })
+        let record = find(self.entries.as_slice(), &PathText { dataset, name })?;
+        Some(record.get())
     }
 
     /// Whether a dataset exists: `/` does, and any other where its own entry in the parent has `subdataset` `(".")`
@@ -88,18 +113,40 @@ impl Tree {
     }
 
     /// All records, by dataset and then by name.
-    pub fn entries(&self) -> &[(Path, Record)]
-        ensures { result.now ≡ map.entries self.now.store.records }
+    pub fn entries(&self) -> Listing<'_>
+        ensures { result ≡ map.entries self.now.store.records }
     {
-        self.entries.as_slice()
+        Listing {
+            front: &[],
+            leaves: self.entries.as_slice(),
+            left: self.entries.len(),
+        }
     }
 
-    /// The records of one dataset, by name: they lie together. Takes as many comparisons as the number of records
-    /// has binary digits, and one for each record of the dataset.
-    pub fn entries_of(&self, dataset: &[u8]) -> &[(Path, Record)]
-        ensures { result.now ≡ filter (λ e. octets_eq dataset.now e.0.dataset) (map.entries self.now.store.records) }
+    /// The records of one dataset, by name: they lie together, and both ends are found by halving.
+    pub fn entries_of(&self, dataset: &[u8]) -> Listing<'_>
+        ensures { result ≡ filter (λ e. octets_eq dataset.now e.0.dataset) (map.entries self.now.store.records) }
     {
-        ranges::entries_of(self.entries.as_slice(), dataset)
+        let low = Edge {
+            front: dataset,
+            last: b"",
+        };
+        let high = Edge {
+            front: dataset,
+            last: b"\0",
+        };
+        between(self.entries.as_slice(), &low, &high)
+    }
+
+    /// The records of a dataset and of the datasets beneath it, by dataset and then by name. Their datasets' names
+    /// begin with its name, so that they lie together too.
+    pub fn entries_beneath(&self, dataset: &Dataset) -> Listing<'_>
+        ensures { result ≡ filter (λ e. starts_with nat_eq e.0.dataset dataset.now) (map.entries self.now.store.records) }
+    {
+        let front = dataset.open_ended();
+        let low = Edge { front, last: b"/" };
+        let high = Edge { front, last: b"0" };
+        between(self.entries.as_slice(), &low, &high)
     }
 
     /// How many records there are, those of deleted entries included.
@@ -113,29 +160,38 @@ impl Tree {
     pub fn copy(&self) -> Result<Tree, Memory>
         ensures { IfOk result (λ made. made.store ≡ self.now.store) }
     {
-        let entries = copy_all(&self.entries)?;
+        let entries = self.entries.copy()?;
+        let deletions = self.deletions.copy()?;
         Ok(Tree {
             entries,
             last: self.last,
+            deletions,
         })
     }
 
-    /// Makes room for a change. The store stays as it is, also where memory is refused.
+    /// Makes room for a change. The store stays as it is, and room never shrinks, also where memory is refused.
     pub fn reserve(&mut self, change: &Change) -> Result<(), Memory>
         ensures store { self.new.store ≡ self.old.store }
-        ensures room { OnOk result (map.len change.now.writes ≤ self.new.spare) }
+        ensures spare { self.old.spare ≤ self.new.spare }
+        ensures slots { self.old.slots ≤ self.new.slots }
+        ensures room { OnOk result (HasRoom change.now self.new) }
     {
         self.entries.reserve(change.writes.len())?;
-        Ok(())
+        self.deletions.reserve(change.deleted.len())
     }
 
     /// Performs a change, in the room that `reserve` made for it. Takes no memory and cannot fail.
     pub fn commit(&mut self, change: Change)
-        requires { map.len change.writes ≤ self.old.spare }
-        ensures { IsStoreAfter change.writes change.moment self.old.store self.new.store }
+        requires { HasRoom change self.old }
+        ensures { IsStoreAfter change self.old.store self.new.store }
     {
-        let Change { writes, moment } = change;
+        let Change {
+            writes,
+            moment,
+            deleted,
+        } = change;
         put_all(&mut self.entries, writes);
+        self.deletions.add_all(deleted, moment);
         self.last = moment;
     }
 }

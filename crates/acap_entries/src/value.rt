@@ -23,13 +23,6 @@ impl Model for Value {
 }
 
 impl Value {
-    /// Any octets as they are, in the memory that they have.
-    pub fn new(octets: Octets) -> Value
-        ensures { result ≡ octets }
-    {
-        Value { octets }
-    }
-
     /// Any octets as they are, copied. Fails only for want of memory.
     pub fn from_slice(alloc: Global, octets: &[u8]) -> Result<Value, Memory>
         ensures { IfOk result (λ made. made ≡ octets.now) }

@@ -1,3 +1,4 @@
+//! What a change writes.
 ghost use Rattle.std.specs.Prelude.{◌≡◌, OnOk, OnErr, vec_len};
 ghost use Rattle.std.specs.Option.{option_copied};
 ghost use Rattle.std.specs.FinMap as map;
@@ -5,10 +6,10 @@ ghost use Rattle.acap_entries.specs.Sorted.{InOrder};
 ghost use Rattle.acap_entries.specs.Store.{path_cmp};
 
 use crate::copying::{Copying, copy_all};
-use crate::keys::Whole;
+use crate::fate::Fate;
+use crate::keys::{PathText, Whole};
 use crate::memory::Memory;
 use crate::path::Path;
-use crate::record::Record;
 use crate::sorted::{lookup, put_in_room, take_out};
 use std::alloc::Global;
 use std::marker::Model;
@@ -16,7 +17,7 @@ use std::marker::Model;
 /// What is written at some paths, a record or its removal: seen as a finite map.
 #[derive(Debug, Drop)]
 pub struct Writes {
-    entries: Vec<(Path, Option<Record>)>,
+    entries: Vec<(Path, Fate)>,
 }
 
 impl Model for Writes {
@@ -51,23 +52,30 @@ impl Writes {
         self.entries.len()
     }
 
-    /// What is written at a path: `None` where nothing is, `Some(None)` for a removal.
-    pub fn get(&self, path: &Path) -> Option<&Option<Record>>
+    /// What is written at a path, if anything is.
+    pub fn get(&self, path: &Path) -> Option<&Fate>
         ensures { option_copied result ≡ map.get self.now path.now }
     {
         lookup(self.entries.as_slice(), &Whole { key: path })
     }
 
+    /// The same for a path that is given by its octets.
+    pub fn find(&self, dataset: &[u8], name: &[u8]) -> Option<&Fate>
+        ensures { option_copied result ≡ map.get self.now (record { dataset = dataset.now; name = name.now }) }
+    {
+        lookup(self.entries.as_slice(), &PathText { dataset, name })
+    }
+
     /// All that is written, by dataset and then by name.
-    pub fn entries(&self) -> &[(Path, Option<Record>)]
+    pub fn entries(&self) -> &[(Path, Fate)]
         ensures { result.now ≡ map.entries self.now }
     {
         self.entries.as_slice()
     }
 
-    /// Writes a record at a path, or its removal by `None`, in place of what was written there.
+    /// Writes a record at a path, or its removal, in place of what was written there.
     /// Fails only for want of memory, and then nothing has changed.
-    pub fn set(&mut self, path: Path, fate: Option<Record>) -> Result<(), Memory>
+    pub fn set(&mut self, path: Path, fate: Fate) -> Result<(), Memory>
         ensures ok { OnOk result (self.new ≡ map.insert self.old path fate) }
         ensures err { OnErr result (self.new ≡ self.old) }
     {
@@ -84,7 +92,7 @@ impl Writes {
     }
 
     /// The writes in their order, in their memory.
-    pub(crate) fn into_entries(self) -> Vec<(Path, Option<Record>)>
+    pub(crate) fn into_entries(self) -> Vec<(Path, Fate)>
         ensures len { vec_len result ≡ map.len self }
         ensures sorted { InOrder path_cmp result.items }
         ensures writes { map.from_sorted result.items ≡ self }

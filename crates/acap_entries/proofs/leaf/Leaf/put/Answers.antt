@@ -1,0 +1,11 @@
+use Rattle.std.proofs.Common.{◌≡◌, ◌<◌, ◌+◌, ◌-◌, ◌/◌, List, length, get_or, set, take, drop, [], sym, ap, subst, ◌∙◌, arith, refl}
+use Rattle.acap_entries.specs.Sorted.{InOrder, put_in, without, found}
+use Rattle.acap_entries.specs.Leaves.{joined}
+use Rattle.acap_entries.proofs.LeafLemmas.{put_in_grows}
+use Rattle.acap_entries.proofs.leaf.Leaf.put.Goals as goal
+
+pub returns-clause-grows : goal.returns-clause-grows
+returns-clause-grows g c = rw (c.put_in_room.ensures.items, ← c.self.view_is) (put_in_grows g.K.Ord.cmp c.args.key c.args.value c.self.inside.entries.items).0
+
+pub returns-clause-filled : goal.returns-clause-filled
+returns-clause-filled g c = rw c.put_in_room.ensures.items (put_in_grows g.K.Ord.cmp c.args.key c.args.value c.self.inside.entries.items).1

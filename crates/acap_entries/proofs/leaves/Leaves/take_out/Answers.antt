@@ -1,0 +1,10 @@
+use Rattle.std.proofs.Common.{◌≡◌, List, length, sym, ap, subst, arith}
+use borrow.Author.Tests.{eqb-true}
+use Rattle.acap_entries.specs.Sorted.{without}
+use Rattle.acap_entries.proofs.LeafLemmas.{without_none}
+use Rattle.acap_entries.proofs.leaves.Leaves.take_out.Goals as goal
+
+pub returns-then-is_empty-clause-entries : goal.returns-then-is_empty-clause-entries
+returns-then-is_empty-clause-entries g c =
+    let none : length c.self.inside.leaves.items ≡ 0 = omega (arith, eqb-true _ _ (sym c.if-is_empty.ensures), c.self.inside.leaves.ok) in
+    rw (← ap (λ v. v.0) c.self.view_is) (without_none g.K.Ord.cmp c.args.key.now c.self.inside.leaves.items none)

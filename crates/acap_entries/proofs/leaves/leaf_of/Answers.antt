@@ -1,0 +1,8 @@
+use Rattle.std.proofs.Common.{◌≡◌, ◌<◌, ◌+◌, ◌-◌, ◌/◌, List, length, get_or, set, take, drop, [], sym, ap, subst, ◌∙◌, arith, refl}
+use Rattle.acap_entries.specs.Sorted.{InOrder, put_in, without, found}
+use Rattle.acap_entries.specs.Leaves.{joined}
+use Rattle.acap_entries.proofs.LeafLemmas.{among_all}
+use Rattle.acap_entries.proofs.leaves.leaf_of.Goals as goal
+
+pub leaf_among-requires-clause-among : goal.leaf_among-requires-clause-among
+leaf_among-requires-clause-among g c = among_all g.K.Ord.cmp (g.Q.Probe.key c.args.probe.now) c.args.leaves.now c.requires.some

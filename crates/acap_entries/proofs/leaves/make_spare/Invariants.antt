@@ -1,0 +1,5 @@
+use Rattle.std.proofs.Common.{◌≤◌, vec_len}
+use Rattle.acap_entries.proofs.leaves.make_spare.Given as goal
+
+abbrev pub invariant-loop : goal.invariant-loop
+invariant-loop g l = record { grows : vec_len l.initial.spare ≤ vec_len l.spare; made : l.counter ≤ vec_len l.spare }

@@ -1,0 +1,11 @@
+use Rattle.std.proofs.Common.{◌≡◌, ◌<◌, ◌+◌, ◌-◌, ◌/◌, List, length, get_or, set, take, drop, [], sym, ap, subst, ◌∙◌, arith, refl}
+use Rattle.acap_entries.specs.Sorted.{InOrder, put_in, without, found}
+use Rattle.acap_entries.specs.Leaves.{joined}
+use Rattle.acap_entries.proofs.LeafLemmas.{leaf_read, split_filled}
+use Rattle.acap_entries.proofs.leaves.split_at.Goals as goal
+
+pub returns-clause-filled : goal.returns-clause-filled
+returns-clause-filled g c =
+    let at : c.args.at < length c.args.leaves.now.items = omega (arith, c.requires.within, c.args.leaves.now.ok) in
+    rw (c.insert.ensures.items, c.unwrap.ensures, c.split.ensures.earlier, c.split.ensures.later, ← leaf_read _ _ _ at c.index_mut-leaf.ensures.value)
+    (split_filled _ _ c.requires.filled at c.requires.many)

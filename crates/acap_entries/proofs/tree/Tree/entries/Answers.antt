@@ -1,0 +1,18 @@
+use Rattle.std.proofs.Common.{◌≡◌, ◌++◌, ◌∷◌, ◌-◌, [], ℕ, List, length, take, drop, sym, ap, ◌∙◌, nat_eq}
+use Rattle.std.specs.FinMap as map
+use Rattle.std.specs.List.{starts_with, filter}
+use Rattle.acap_entries.specs.Orders.{octets_eq}
+use Rattle.acap_entries.specs.Leaves.{joined}
+use Rattle.acap_entries.specs.Sorted.{place}
+use Rattle.acap_entries.specs.Store.{path_cmp, Roomy}
+use Rattle.acap_entries.specs.declared.path.Path.{Path}
+use Rattle.acap_entries.specs.declared.record.Record.{Record}
+use Rattle.acap_entries.proofs.LeafLemmas.{taken_whole}
+use Rattle.acap_entries.proofs.DatasetRanges.{edge, own_rises, beneath_rises, own_entries, beneath_entries}
+use Rattle.acap_entries.proofs.Kept.{records_entries}
+use Rattle.acap_entries.proofs.tree.Tree.entries.Goals as goal
+
+pub returns : goal.returns
+returns c =
+    let stored : c.self.inside.entries.0 ≡ map.entries c.args.self.now.store.records = sym (records_entries c.self.inside.entries.0 c.self.invariant) ∙ ap (λ (t : Roomy). map.entries t.store.records) c.self.view_is in
+    taken_whole c.len.result (joined c.as_slice.result.now) (c.len.ensures ∙ ap (λ (es : List (Path × Record)). length es) (sym c.as_slice.ensures.items)) ∙ c.as_slice.ensures.items ∙ stored

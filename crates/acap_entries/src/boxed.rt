@@ -1,0 +1,43 @@
+//! A value in a box of its own, so that what holds it moves eight octets.
+ghost use Rattle.std.specs.Prelude.{◌≡◌, IfOk};
+
+use crate::copying::Copying;
+use crate::memory::Memory;
+use std::alloc::Global;
+use std::marker::Model;
+
+/// A value in memory of its own, which contracts see as the value.
+#[derive(Debug, Drop)]
+pub struct Boxed<T> {
+    held: Box<T>,
+}
+
+impl<T> Model for Boxed<T> {
+    ghost Value = { T };
+
+    ghost view = { λ b. b.held.value };
+}
+
+impl<T: Drop> Boxed<T> {
+    /// The value in a box. Fails only for want of memory.
+    pub fn new(alloc: Global, value: T) -> Result<Boxed<T>, Memory>
+        ensures { IfOk result (λ made. made ≡ value) }
+    {
+        let held = Box::new(alloc, value)?;
+        Ok(Boxed { held })
+    }
+
+    /// The value.
+    pub fn get(&self) -> &T
+        ensures { result.now ≡ self.now }
+    {
+        &self.held
+    }
+}
+
+impl<T: Copying + Drop> Copying for Boxed<T> {
+    fn copy(&self) -> Result<Boxed<T>, Memory> {
+        let value = self.held.copy()?;
+        Boxed::new(*Box::allocator(&self.held), value)
+    }
+}

@@ -1,0 +1,131 @@
+//! A leaf of the tree: a few entries in the order of their keys, with room that is made once.
+ghost use Rattle.std.specs.Prelude.{◌≡◌, ◌+◌, ◌-◌, ◌/◌, ◌++◌, ◌<◌, ◌≤◌, ◌==◌, [], length, take, drop, slice_index_or, IfOk, IsTrue};
+ghost use Rattle.acap_entries.specs.Sorted.{put_in, without, InOrder};
+ghost use Rattle.acap_entries.specs.Leaves.{IsBehind};
+
+use crate::copying::Copying;
+use crate::keys::Probe;
+use crate::memory::Memory;
+use crate::sorted::{put_in_room, take_out};
+use std::alloc::Global;
+use std::cmp::Ordering;
+use std::marker::Model;
+
+/// How many entries a leaf has room for.
+pub(crate) const MOST: usize = 64;
+
+/// Up to 64 entries, which contracts see as their list. Room for 64 is made with the leaf.
+#[derive(Debug, Drop)]
+pub(crate) struct Leaf<K, V> {
+    entries: Vec<(K, V)>,
+}
+
+impl<K, V> Model for Leaf<K, V> {
+    ghost use Rattle.std.specs.Prelude.{List, ◌≤◌, vec_len, vec_capacity};
+
+    ghost Value = { List (K × V) };
+
+    ghost view = { λ l. l.entries.items };
+
+    ghost invariant = { λ l. (vec_len l.entries ≤ 64) × (64 ≤ vec_capacity l.entries) };
+}
+
+impl<K: Ord + Drop, V: Drop> Leaf<K, V> {
+    /// None yet, with room for 64. Fails only for want of memory.
+    pub(crate) fn new(alloc: Global) -> Result<Leaf<K, V>, Memory>
+        ensures { IfOk result (λ made. made ≡ []) }
+    {
+        let entries = Vec::with_capacity(alloc, MOST)?;
+        Ok(Leaf { entries })
+    }
+
+    /// The entries in the order of their keys.
+    pub(crate) fn as_slice(&self) -> &[(K, V)]
+        ensures { result.now ≡ self.now }
+    {
+        self.entries.as_slice()
+    }
+
+    /// The first entry.
+    pub(crate) fn first(&self) -> &(K, V)
+        requires { 0 < length self.now }
+        ensures { result.now ≡ slice_index_or self.now 0 result.now }
+    {
+        &self.entries[0]
+    }
+
+    /// How many entries there are.
+    pub(crate) fn len(&self) -> usize
+        ensures value { result ≡ length self.now }
+        ensures most { result ≤ 64 }
+    {
+        self.entries.len()
+    }
+
+    /// Sets the value of a key. Takes no memory.
+    pub(crate) fn put(&mut self, key: K, value: V)
+        requires room { length self.old < 64 }
+        requires sorted { InOrder K.cmp self.old }
+        ensures value { self.new ≡ put_in K.cmp key value self.old }
+        ensures grows { length self.old ≤ length self.new }
+        ensures by_one { length self.new ≤ length self.old + 1 }
+        ensures filled { 0 < length self.new }
+    {
+        put_in_room(&mut self.entries, key, value);
+    }
+
+    /// Takes the key's entry out, if there is one.
+    pub(crate) fn take_out(&mut self, key: &K)
+        requires { InOrder K.cmp self.old }
+        ensures value { self.new ≡ without K.cmp key.now self.old }
+        ensures falls { length self.new ≤ length self.old }
+    {
+        take_out(&mut self.entries, key);
+    }
+
+    /// Takes all entries out.
+    pub(crate) fn clear(&mut self)
+        ensures { self.new ≡ [] }
+    {
+        self.entries.clear();
+    }
+
+    /// Whether a key stands behind the last entry.
+    pub(crate) fn ends_before<Q: Probe<K>>(&self, probe: &Q) -> bool
+        requires { InOrder K.cmp self.now }
+        ensures { IsTrue result → IsBehind K.cmp (Q.key probe.now) self.now }
+    {
+        let len = self.entries.len();
+        if len == 0 {
+            return true;
+        }
+        match probe.compare(&self.entries[len - 1].0) {
+            Ordering::Greater => true,
+            Ordering::Less | Ordering::Equal => false,
+        }
+    }
+
+    /// Moves the later half of the entries into an empty leaf.
+    pub(crate) fn split(&mut self, later: &mut Leaf<K, V>)
+        requires { later.old ≡ [] }
+        ensures earlier { self.new ≡ take (length self.old / 2) self.old }
+        ensures later { later.new ≡ drop (length self.old / 2) self.old }
+    {
+        let half = self.entries.len() / 2;
+        for _ in half..self.entries.len() {
+            let entry = self.entries.pop().unwrap();
+            later.entries.push(entry).unwrap();
+        }
+        later.entries.reverse();
+    }
+}
+
+impl<K: Ord + Copying + Drop, V: Copying + Drop> Copying for Leaf<K, V> {
+    fn copy(&self) -> Result<Leaf<K, V>, Memory> {
+        let mut entries = Vec::with_capacity(*self.entries.allocator(), MOST)?;
+        for entry in &self.entries {
+            entries.push(entry.copy()?)?;
+        }
+        Ok(Leaf { entries })
+    }
+}

@@ -1,0 +1,321 @@
+//! Entries in the order of their keys, in leaves: an edit moves a part of one leaf, in whatever order edits come.
+ghost use Rattle.std.specs.Prelude.{◌≡◌, ◌+◌, ◌^◌, ◌<◌, ◌≤◌, [], ◌∷◌, length, take, drop, slice_index_or, slice_set, vec_len, vec_capacity, IfSome, IfNone, OnOk, OnErr, IfOk, ◌/◌};
+ghost use Rattle.std.specs.Option.{option_copied};
+ghost use Rattle.std.specs.List.{insert};
+ghost use Rattle.acap_entries.specs.Sorted.{InOrder, put_in, without, found};
+ghost use Rattle.acap_entries.specs.Leaves.{joined, before, AreFilled, IsAmong, IsBehind};
+
+use crate::copying::{Copying, copy_all};
+use crate::keys::{Probe, Whole};
+use crate::leaf::{Leaf, MOST};
+use crate::memory::Memory;
+use crate::sorted::lookup;
+use std::alloc::Global;
+use std::cmp::Ordering;
+use std::marker::Model;
+
+// The leaf in which a key belongs, of those from one on and before another, found by halving.
+pub(crate) fn leaf_among<K: Ord + Drop, V: Drop, Q: Probe<K>>(
+    leaves: &[Leaf<K, V>],
+    mut low: usize,
+    mut high: usize,
+    probe: &Q,
+) -> usize
+    requires among { IsAmong K.cmp (Q.key probe.now) leaves.now low high }
+    requires filled { AreFilled leaves.now }
+    requires sorted { InOrder K.cmp (joined leaves.now) }
+    ensures among { IsAmong K.cmp (Q.key probe.now) leaves.now result (result + 1) }
+    ensures low { low ≤ result }
+    ensures high { result < high }
+{
+    while 1 < high - low {
+        let mid = low + (high - low) / 2;
+        match probe.compare(&leaves[mid].first().0) {
+            Ordering::Less => high = mid,
+            Ordering::Equal | Ordering::Greater => low = mid,
+        }
+    }
+    low
+}
+
+// The leaf in which a key belongs.
+pub(crate) fn leaf_of<K: Ord + Drop, V: Drop, Q: Probe<K>>(
+    leaves: &[Leaf<K, V>],
+    probe: &Q,
+) -> usize
+    requires some { 0 < length leaves.now }
+    requires filled { AreFilled leaves.now }
+    requires sorted { InOrder K.cmp (joined leaves.now) }
+    ensures { IsAmong K.cmp (Q.key probe.now) leaves.now result (result + 1) }
+{
+    leaf_among(leaves, 0, leaves.len(), probe)
+}
+
+// The value at a key, if it is there.
+pub(crate) fn find<'a, K: Ord + Drop, V: Drop, Q: Probe<K>>(
+    leaves: &'a [Leaf<K, V>],
+    probe: &Q,
+) -> Option<&'a V>
+    requires filled { AreFilled leaves.now }
+    requires sorted { InOrder K.cmp (joined leaves.now) }
+    ensures { option_copied result ≡ found K.cmp (Q.key probe.now) (joined leaves.now) }
+{
+    if leaves.is_empty() {
+        return None;
+    }
+    let at = leaf_of(leaves, probe);
+    lookup(leaves[at].as_slice(), probe)
+}
+
+// Sets the value of a key in its leaf, and answers how many entries that adds.
+fn put_at<K: Ord + Drop, V: Drop>(
+    leaves: &mut Vec<Leaf<K, V>>,
+    at: usize,
+    key: K,
+    value: V,
+) -> usize
+    requires among { IsAmong K.cmp key leaves.old.items at (at + 1) }
+    requires room { length (slice_index_or leaves.old.items at []) < 64 }
+    requires filled { AreFilled leaves.old.items }
+    requires sorted { InOrder K.cmp (joined leaves.old.items) }
+    ensures items { joined leaves.new.items ≡ put_in K.cmp key value (joined leaves.old.items) }
+    ensures filled { AreFilled leaves.new.items }
+    ensures count { length (joined leaves.new.items) ≡ length (joined leaves.old.items) + result }
+    ensures few { result ≤ 1 }
+    ensures len { vec_len leaves.new ≡ vec_len leaves.old }
+    ensures capacity { vec_capacity leaves.old ≤ vec_capacity leaves.new }
+{
+    let leaf = &mut leaves[at];
+    let count = leaf.len();
+    leaf.put(key, value);
+    leaf.len() - count
+}
+
+// Puts an entry behind all others, in a leaf of its own.
+fn put_behind<K: Ord + Drop, V: Drop>(
+    leaves: &mut Vec<Leaf<K, V>>,
+    mut leaf: Leaf<K, V>,
+    key: K,
+    value: V,
+)
+    requires behind { IsBehind K.cmp key (joined leaves.old.items) }
+    requires room { vec_len leaves.old < vec_capacity leaves.old }
+    requires filled { AreFilled leaves.old.items }
+    ensures items { joined leaves.new.items ≡ put_in K.cmp key value (joined leaves.old.items) }
+    ensures filled { AreFilled leaves.new.items }
+    ensures count { length (joined leaves.new.items) ≡ length (joined leaves.old.items) + 1 }
+    ensures len { vec_len leaves.new ≡ vec_len leaves.old + 1 }
+    ensures capacity { vec_capacity leaves.old ≤ vec_capacity leaves.new }
+{
+    leaf.clear();
+    leaf.put(key, value);
+    leaves.push(leaf).unwrap();
+}
+
+// Moves the later half of a leaf's entries into a leaf right behind it.
+fn split_at<K: Ord + Drop, V: Drop>(
+    leaves: &mut Vec<Leaf<K, V>>,
+    mut later: Leaf<K, V>,
+    at: usize,
+)
+    requires within { at < vec_len leaves.old }
+    requires many { 1 < length (slice_index_or leaves.old.items at []) }
+    requires room { vec_len leaves.old < vec_capacity leaves.old }
+    requires filled { AreFilled leaves.old.items }
+    ensures items { let leaf = slice_index_or leaves.old.items at [] in leaves.new.items ≡ insert (slice_set leaves.old.items at (take (length leaf / 2) leaf)) (at + 1) (drop (length leaf / 2) leaf) }
+    ensures filled { AreFilled leaves.new.items }
+    ensures len { vec_len leaves.new ≡ vec_len leaves.old + 1 }
+    ensures capacity { vec_capacity leaves.old ≤ vec_capacity leaves.new }
+{
+    later.clear();
+    let leaf = &mut leaves[at];
+    leaf.split(&mut later);
+    leaves.insert(at + 1, later).unwrap();
+}
+
+// Takes a key's entry out of its leaf, if it is there, and the leaf with its last entry, and answers how many
+// entries went.
+fn take_out_at<K: Ord + Drop, V: Drop>(
+    leaves: &mut Vec<Leaf<K, V>>,
+    at: usize,
+    key: &K,
+) -> usize
+    requires among { IsAmong K.cmp key.now leaves.old.items at (at + 1) }
+    requires filled { AreFilled leaves.old.items }
+    requires sorted { InOrder K.cmp (joined leaves.old.items) }
+    ensures items { joined leaves.new.items ≡ without K.cmp key.now (joined leaves.old.items) }
+    ensures filled { AreFilled leaves.new.items }
+    ensures count { length (joined leaves.new.items) + result ≡ length (joined leaves.old.items) }
+    ensures len { vec_len leaves.new ≤ vec_len leaves.old }
+    ensures capacity { vec_capacity leaves.old ≤ vec_capacity leaves.new }
+{
+    let leaf = &mut leaves[at];
+    let count = leaf.len();
+    leaf.take_out(key);
+    let left = leaf.len();
+    if left == 0 {
+        let _ = leaves.remove(at);
+        return count;
+    }
+    count - left
+}
+
+// Makes room for a key's entry in the leaf in which it belongs, if that is full, and answers which leaf it is; none
+// where the key stands behind all entries and the last leaf is full, so that ascending keys fill their leaves.
+fn room_for<K: Ord + Drop, V: Drop, Q: Probe<K>>(
+    leaves: &mut Vec<Leaf<K, V>>,
+    spare: &mut Vec<Leaf<K, V>>,
+    probe: &Q,
+) -> Option<usize>
+    requires room { vec_len leaves.old < vec_capacity leaves.old }
+    requires spare { 0 < vec_len spare.old }
+    requires filled { AreFilled leaves.old.items }
+    requires sorted { InOrder K.cmp (joined leaves.old.items) }
+    ensures items { joined leaves.new.items ≡ joined leaves.old.items }
+    ensures filled { AreFilled leaves.new.items }
+    ensures some { IfSome result (λ at. IsAmong K.cmp (Q.key probe.now) leaves.new.items at (at + 1)) }
+    ensures room { IfSome result (λ at. length (slice_index_or leaves.new.items at []) < 64) }
+    ensures none { IfNone result (IsBehind K.cmp (Q.key probe.now) (joined leaves.new.items)) }
+    ensures kept { IfNone result (spare.new ≡ spare.old) }
+    ensures unsplit { IfNone result (vec_len leaves.new ≡ vec_len leaves.old) }
+    ensures len { vec_len leaves.new ≤ vec_len leaves.old + 1 }
+    ensures spare { vec_len spare.old ≤ vec_len spare.new + 1 }
+    ensures capacity { vec_capacity leaves.old ≤ vec_capacity leaves.new }
+{
+    if leaves.is_empty() {
+        return None;
+    }
+    let at = leaf_of(leaves.as_slice(), probe);
+    let leaf = &leaves[at];
+    if leaf.len() < MOST {
+        return Some(at);
+    }
+    if at + 1 == leaves.len() && leaf.ends_before(probe) {
+        return None;
+    }
+    let later = spare.pop().unwrap();
+    split_at(leaves, later, at);
+    Some(leaf_among(leaves.as_slice(), at, at + 2, probe))
+}
+
+/// Entries in the order of their keys, which contracts see as their list, and beside it the number of entries more
+/// that there is room for.
+#[derive(Debug, Drop)]
+pub(crate) struct Leaves<K, V> {
+    leaves: Vec<Leaf<K, V>>,
+    spare: Vec<Leaf<K, V>>,
+    count: usize,
+}
+
+impl<K, V> Model for Leaves<K, V> {
+    ghost use Rattle.std.specs.Prelude.{◌≡◌, ℕ, ◌-◌, List, length, vec_len, vec_capacity};
+    ghost use Rattle.acap_entries.specs.Leaves.{joined, AreFilled, room_of};
+
+    ghost Value = { List (K × V) × ℕ };
+
+    ghost view = { λ l. (joined l.leaves.items, room_of (vec_len l.spare) (vec_capacity l.leaves - vec_len l.leaves) l.count) };
+
+    ghost invariant = { λ l. AreFilled l.leaves.items × (l.count ≡ length (joined l.leaves.items)) };
+}
+
+impl<K: Ord + Drop, V: Drop> Leaves<K, V> {
+    /// None yet. Takes no memory.
+    pub(crate) fn new(alloc: Global) -> Leaves<K, V>
+        ensures { result.0 ≡ [] }
+    {
+        Leaves {
+            leaves: Vec::new(alloc),
+            spare: Vec::new(alloc),
+            count: 0,
+        }
+    }
+
+    /// How many entries there are.
+    pub(crate) fn len(&self) -> usize
+        ensures { result ≡ length self.now.0 }
+    {
+        self.count
+    }
+
+    /// The leaves in their order, each with an entry.
+    pub(crate) fn as_slice(&self) -> &[Leaf<K, V>]
+        ensures items { joined result.now ≡ self.now.0 }
+        ensures filled { AreFilled result.now }
+        ensures counted { length (joined result.now) < 2 ^ 64 }
+    {
+        let _count = self.count;
+        self.leaves.as_slice()
+    }
+
+    /// Makes room for so many entries more. The entries stay, and room never shrinks, also where memory is refused.
+    pub(crate) fn reserve(&mut self, more: usize) -> Result<(), Memory>
+        ensures entries { self.new.0 ≡ self.old.0 }
+        ensures grows { self.old.1 ≤ self.new.1 }
+        ensures room { OnOk result (more ≤ self.new.1) }
+    {
+        if usize::MAX - self.count < more {
+            return Err(Memory);
+        }
+        self.leaves.reserve(more)?;
+        make_spare(&mut self.spare, more)
+    }
+
+    /// Sets the value of a key, in the room that there is. Takes no memory.
+    pub(crate) fn put(&mut self, key: K, value: V)
+        requires room { 0 < self.old.1 }
+        requires sorted { InOrder K.cmp self.old.0 }
+        ensures entries { self.new.0 ≡ put_in K.cmp key value self.old.0 }
+        ensures room { self.old.1 ≤ self.new.1 + 1 }
+    {
+        match room_for(&mut self.leaves, &mut self.spare, &Whole { key: &key }) {
+            Some(at) => self.count += put_at(&mut self.leaves, at, key, value),
+            None => {
+                let leaf = self.spare.pop().unwrap();
+                put_behind(&mut self.leaves, leaf, key, value);
+                self.count += 1;
+            }
+        }
+    }
+
+    /// Takes a key's entry out, if there is one. Takes no memory.
+    pub(crate) fn take_out(&mut self, key: &K)
+        requires { InOrder K.cmp self.old.0 }
+        ensures entries { self.new.0 ≡ without K.cmp key.now self.old.0 }
+        ensures room { self.old.1 ≤ self.new.1 }
+    {
+        if self.leaves.is_empty() {
+            return;
+        }
+        let at = leaf_of(self.leaves.as_slice(), &Whole { key });
+        self.count -= take_out_at(&mut self.leaves, at, key);
+    }
+}
+
+// Makes empty leaves until there are so many.
+fn make_spare<K: Ord + Drop, V: Drop>(
+    spare: &mut Vec<Leaf<K, V>>,
+    wanted: usize,
+) -> Result<(), Memory>
+    ensures grows { vec_len spare.old ≤ vec_len spare.new }
+    ensures ok { OnOk result (wanted ≤ vec_len spare.new) }
+{
+    let alloc = *spare.allocator();
+    for _ in spare.len()..wanted {
+        spare.push(Leaf::new(alloc)?)?;
+    }
+    Ok(())
+}
+
+impl<K: Ord + Copying + Drop, V: Copying + Drop> Leaves<K, V> {
+    /// Equal entries. Fails only for want of memory.
+    pub(crate) fn copy(&self) -> Result<Leaves<K, V>, Memory>
+        ensures { IfOk result (λ made. made.0 ≡ self.now.0) }
+    {
+        let leaves = copy_all(&self.leaves)?;
+        Ok(Leaves {
+            leaves,
+            spare: Vec::new(*self.spare.allocator()),
+            count: self.count,
+        })
+    }
+}
