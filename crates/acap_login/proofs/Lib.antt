@@ -2,5 +2,4 @@ pub mod Accepting
 pub mod Answers
 pub mod CutLemmas
 pub mod Examples
-pub mod Padding
 pub mod Places

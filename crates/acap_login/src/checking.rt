@@ -34,7 +34,6 @@ fn are_same(wanted: &[u8; 32], given: &[u8; 32]) -> bool
 }
 
 // Whether a user has that name and, for the challenge, these digits.
-#[tactic(auto, using(crate::proofs::Accepting::apart))]
 fn fits(user: &(UserName, Vec<u8>), challenge: &[u8], name: &[u8], digits: &[u8; 32]) -> bool
     ensures { result ≡ bytes_eq (name.now ++ space ∷ digits.now) (answer_of challenge.now (user.now.0, user.now.1.items)) }
 {
@@ -57,8 +56,8 @@ fn find(
 }
 
 /// The place of the first user whom an answer to this challenge fits, if it fits any (RFC 2195 section 2): the user's name
-/// stands before the answer's last SP, and the 32 lower-case digits of the user's secret stand behind it. All 32 digits
-/// are compared before it answers.
+/// stands before the answer's last SP, and the 32 lower-case digits of the user's secret stand behind it. Of a user with
+/// that name all 32 digits are compared, wherever they first differ.
 pub fn check(users: &Users, challenge: &[u8], answer: &[u8]) -> Option<usize>
     ensures value { result ≡ accepted users.now challenge.now answer.now }
     ensures some { (place : _) → (result ≡ Some place) ↔ IsAccepted users.now challenge.now answer.now place }

@@ -8,14 +8,14 @@ use md5::{Digest, Md5};
 /// How many octets MD5 takes at a time.
 const BLOCK: usize = 64;
 
-/// What a block of the key is mixed with before the message is hashed, and before that hash is.
+/// What each octet of the key's block is mixed with before the message is hashed.
 const INNER: u8 = 0x36;
 
+/// What each octet of the key's block is mixed with before that hash is hashed.
 const OUTER: u8 = 0x5C;
 
 // A key of at most a block, with zeros behind it.
-#[tactic(auto, using(crate::proofs::Padding::zeros_behind))]
-fn padded(key: &[u8]) -> [u8; 64]
+fn padded(key: &[u8]) -> [u8; BLOCK]
     requires { length key.now ≤ 64 }
     ensures { result ≡ filled key.now }
 {
@@ -25,7 +25,7 @@ fn padded(key: &[u8]) -> [u8; 64]
 }
 
 // The block of a key, which is hashed if it is longer.
-fn block_of(key: &[u8]) -> [u8; 64]
+fn block_of(key: &[u8]) -> [u8; BLOCK]
     ensures { result ≡ filled (shortened key.now) }
 {
     if key.len() > BLOCK {
@@ -37,7 +37,7 @@ fn block_of(key: &[u8]) -> [u8; 64]
 }
 
 // Each octet of a block xor that octet.
-fn mixed(octet: u8, mut block: [u8; 64]) -> [u8; 64]
+fn mixed(octet: u8, mut block: [u8; BLOCK]) -> [u8; BLOCK]
     ensures { result ≡ map (λ x. bit_xor x octet) block }
 {
     for x in &mut block {
