@@ -1,5 +1,5 @@
 -- What holds of the definitions, and examples that are computed from them.
-use Rattle.std.specs.Prelude.{◌≡◌, ◌↔◌, ℕ, false, List, [], ◌∷◌, length, codes, replicate, Some, None}
+use Rattle.std.specs.Prelude.{◌≡◌, ◌↔◌, ◌<◌, ◌^◌, ℕ, false, List, [], ◌∷◌, length, codes, replicate, Some, None}
 use Rattle.std.specs.List.{list_any, range_with_len}
 use Rattle.acap_login.specs.Login.{User, IsCut, Fits, challenge_of, digest_of, answer_of, accepted, is_space}
 
@@ -13,6 +13,12 @@ pub record CutLaw : Type 0 where
 pub record DigestLaw : Type 0 where
   pub count : (secret challenge : List ℕ) → length (digest_of secret challenge) ≡ 32
   pub no_space : (secret challenge : List ℕ) → list_any is_space (digest_of secret challenge) ≡ false
+
+-- a challenge has one nonce, one number of seconds and one host: none is used for another
+pub record ChallengeLaw : Type 0 where
+  pub one_nonce : (n s : ℕ) (h : List ℕ) (n' s' : ℕ) (h' : List ℕ) → n < 2 ^ 64 → n' < 2 ^ 64 → s < 2 ^ 64 → s' < 2 ^ 64 → challenge_of n s h ≡ challenge_of n' s' h' → n ≡ n'
+  pub one_time : (n s : ℕ) (h : List ℕ) (n' s' : ℕ) (h' : List ℕ) → n < 2 ^ 64 → n' < 2 ^ 64 → s < 2 ^ 64 → s' < 2 ^ 64 → challenge_of n s h ≡ challenge_of n' s' h' → s ≡ s'
+  pub one_host : (n s : ℕ) (h : List ℕ) (n' s' : ℕ) (h' : List ℕ) → n < 2 ^ 64 → n' < 2 ^ 64 → s < 2 ^ 64 → s' < 2 ^ 64 → challenge_of n s h ≡ challenge_of n' s' h' → h ≡ h'
 
 -- the challenge of RFC 2195 section 2, its user's secret, and the digest there
 abbrev pub asked : List ℕ

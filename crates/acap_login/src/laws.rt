@@ -1,5 +1,11 @@
 //! What follows from the definitions alone: each function does nothing, and its contract is the law.
-ghost use Rattle.acap_login.specs.Laws.{CutLaw, DigestLaw, ExchangeExample, HashExamples, SecretExamples, AcceptedExamples, RefusedExamples};
+ghost use Rattle.acap_login.specs.Laws.{ChallengeLaw, CutLaw, DigestLaw, ExchangeExample, HashExamples, SecretExamples, AcceptedExamples, RefusedExamples};
+
+/// Challenges with different nonces, seconds or hosts differ.
+#[tactic(auto, using(crate::proofs::ChallengeLemmas::challenge_law))]
+pub fn challenge_law()
+    ensures { ChallengeLaw }
+{}
 
 /// A text has one last SP, and what a user answers to a challenge is cut there.
 #[tactic(auto, using(crate::proofs::CutLemmas::cut_law))]
