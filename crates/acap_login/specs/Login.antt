@@ -1,6 +1,6 @@
 -- CRAM-MD5 [RFC 2195 section 2]: the challenge, the answer of a user, and whom an answer logs in.
-use Rattle.std.specs.Prelude.{◌≡◌, ℕ, ◌<◌, ◌==◌, Bool, false, List, [], ◌∷◌, ◌++◌, length, codes, decimal, Option}
-use Rattle.std.specs.List.{list_any, position, slice_index_or}
+use Rattle.std.specs.Prelude.{◌≡◌, ℕ, ◌<◌, ◌==◌, Bool, false, List, [], ◌∷◌, ◌++◌, length, codes, decimal, Option, option_map}
+use Rattle.std.specs.List.{list_any, position, slice_get, slice_index_or}
 use Rattle.std.specs.Str.{bytes_eq}
 use Rattle.hex.specs.Hex.{encode_lower}
 use Rattle.acap_login.specs.Hmac.{hmac}
@@ -36,6 +36,10 @@ Fits challenge answer user = IsCut answer user.0 (digest_of user.1 challenge)
 -- the user at a place of a list
 abbrev pub user_at : List User → ℕ → User
 user_at users place = slice_index_or users place ([], [])
+
+-- and the name of that user, if there is one
+abbrev pub name_at : List User → ℕ → Option (List ℕ)
+name_at users place = option_map (λ user. user.0) (slice_get users place)
 
 -- an answer logs the first user in whom it fits
 pub record IsAccepted (users : List User) (challenge answer : List ℕ) (place : ℕ) : Type 0 where

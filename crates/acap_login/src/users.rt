@@ -1,6 +1,6 @@
 //! Who may log in.
-ghost use Rattle.std.specs.Prelude.{◌≡◌, length, map, option_map, option_copied, ◌==◌};
-ghost use Rattle.std.specs.List.{slice_get};
+ghost use Rattle.std.specs.Prelude.{◌≡◌, length, map, option_copied, ◌==◌};
+ghost use Rattle.acap_login.specs.Login.{name_at};
 
 use acap_entries::UserName;
 use std::marker::Model;
@@ -13,8 +13,7 @@ pub struct Users {
 }
 
 impl Model for Users {
-    ghost use Rattle.std.specs.Prelude.{map};
-    ghost use Rattle.std.specs.Prelude.{ℕ, List};
+    ghost use Rattle.std.specs.Prelude.{ℕ, List, map};
 
     ghost Value = { List (List ℕ × List ℕ) };
 
@@ -45,7 +44,7 @@ impl Users {
 
     /// The name of the user at a place, if there is one.
     pub fn name(&self, place: usize) -> Option<&UserName>
-        ensures { option_copied result ≡ option_map (λ user. user.0) (slice_get self.now place) }
+        ensures { option_copied result ≡ name_at self.now place }
     {
         let (name, _) = self.entries.get(place)?;
         Some(name)
