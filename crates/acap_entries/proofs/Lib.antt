@@ -12,3 +12,4 @@ pub mod StampLaws
 pub mod TimeLemmas
 pub mod TimeLaws
 pub mod Kept
+pub mod Equalities
