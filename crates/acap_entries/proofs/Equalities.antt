@@ -1,10 +1,9 @@
 -- Equality is exact: it holds of equal values and of no others.
-use Rattle.std.proofs.Common.{◌≡◌, ℕ, Bool, true, false, ◌&&◌, List, ℤ, refl, sym, ap, ◌∙◌}
+use Rattle.std.proofs.Common.{◌≡◌, ℕ, Bool, ◌&&◌, List, refl, ap}
 use Rattle.std.specs.Bool.{Decides}
-use Rattle.std.specs.Cmp.{first_so, second_so, booleans_Decides, signed_Decides}
+use Rattle.std.specs.Cmp.{first_so, second_so}
 use Rattle.std.specs.Cmp.Derive.{both_true}
 use Rattle.std.specs.Cmp.Lexicographic.{pointwise, pointwise_decides, bytes_decides}
-use Rattle.std.specs.Ordering.{int_eq}
 use Rattle.std.specs.FinMap.{FinMap, entries, same_entries_map}
 use Rattle.acap_entries.specs.Orders.{octets_cmp, octets_eq}
 use Rattle.acap_entries.specs.declared.cell.Cell.{Cell}
@@ -23,8 +22,9 @@ along test a b f h back = (λ e. ap f (h.0 e), λ e. h.1 (back e))
 -- pairs, part by part
 pub pair_exact : {A B : Type 0} {E : A → A → Bool} {F : B → B → Bool} → ((a b : A) → Decides (E a b) (a ≡ b)) → ((a b : B) → Decides (F a b) (a ≡ b)) → (p q : A × B) → Decides (E p.0 q.0 && F p.1 q.1) (p ≡ q)
 pair_exact {A} {B} {E} {F} h k p q = (
-    λ e. let one = (h p.0 q.0).0 (first_so _ _ e) in let two = (k p.1 q.1).0 (second_so _ _ e) in λ i. (one i, two i),
-    λ e. both_true ((h p.0 q.0).1 (λ i. (e i).0)) ((k p.1 q.1).1 (λ i. (e i).1)))
+  λ e. let one = (h p.0 q.0).0 (first_so _ _ e) in let two = (k p.1 q.1).0 (second_so _ _ e) in λ i. (one i, two i),
+  λ e. both_true ((h p.0 q.0).1 (λ i. (e i).0)) ((k p.1 q.1).1 (λ i. (e i).1)),
+)
 
 pub values_exact : (a b : List (List ℕ)) → Decides (pointwise octets_eq a b) (a ≡ b)
 values_exact = pointwise_decides bytes_decides
@@ -62,9 +62,27 @@ items_exact = pointwise_decides item_exact
 
 pub row_exact : (a b : Row) → Decides (row.ghosts.eq a b) (a ≡ b)
 row_exact a b =
-    let parts = pair_exact bytes_decides items_exact (a.name, a.items) (b.name, b.items) in
-    (λ e. let h = parts.0 e in λ i. record { name = (h i).0; items = (h i).1 },
-    λ e. parts.1 (λ i. ((e i).name, (e i).items)))
+    let parts = pair_exact bytes_decides items_exact (a.name, a.items) (b.name, b.items) in (
+      λ e. let h = parts.0 e in λ i. record { name = (h i).0; items = (h i).1 },
+      λ e. parts.1 (λ i. ((e i).name, (e i).items)),
+    )
 
 pub rows_exact : (a b : List Row) → Decides (pointwise row.ghosts.eq a b) (a ≡ b)
 rows_exact = pointwise_decides row_exact
+
+-- the entries of maps
+pub cell_entries_exact : (a b : List (List ℕ × Cell)) → Decides (pointwise (λ p q. octets_eq p.0 q.0 && cell.ghosts.eq p.1 q.1) a b) (a ≡ b)
+cell_entries_exact = pointwise_decides (pair_exact bytes_decides cell_exact)
+
+pub acl_entries_exact : (a b : List (List ℕ × List (List ℕ))) → Decides (pointwise (λ p q. octets_eq p.0 q.0 && pointwise octets_eq p.1 q.1) a b) (a ≡ b)
+acl_entries_exact = pointwise_decides (pair_exact bytes_decides values_exact)
+
+-- maps are equal where their entries are
+map_exact : {X : Type 0} {E : List (List ℕ × X) → List (List ℕ × X) → Bool} → ((a b : List (List ℕ × X)) → Decides (E a b) (a ≡ b)) → (m n : FinMap octets_cmp X) → Decides (E (entries m) (entries n)) (m ≡ n)
+map_exact h m n = (λ e. same_entries_map m n ((h _ _).0 e), λ e. (h _ _).1 (ap entries e))
+
+pub cell_map_exact : (m n : FinMap octets_cmp Cell) → Decides (pointwise (λ p q. octets_eq p.0 q.0 && cell.ghosts.eq p.1 q.1) (entries m) (entries n)) (m ≡ n)
+cell_map_exact = map_exact cell_entries_exact
+
+pub acl_map_exact : (m n : FinMap octets_cmp (List (List ℕ))) → Decides (pointwise (λ p q. octets_eq p.0 q.0 && pointwise octets_eq p.1 q.1) (entries m) (entries n)) (m ≡ n)
+acl_map_exact = map_exact acl_entries_exact

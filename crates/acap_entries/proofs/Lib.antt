@@ -13,3 +13,4 @@ pub mod TimeLemmas
 pub mod TimeLaws
 pub mod Kept
 pub mod Equalities
+pub mod RecordEquality
