@@ -44,6 +44,11 @@ impl<T: Drop> Sequence<T> {
         self.items
     }
 
+    /// The allocator that keeps them.
+    pub fn allocator(&self) -> Global {
+        *self.items.allocator()
+    }
+
     /// The items in their order.
     pub fn as_slice(&self) -> &[T]
         ensures { result.now ≡ self.now }

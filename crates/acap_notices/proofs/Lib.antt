@@ -1,0 +1,4 @@
+pub mod RowLemmas
+pub mod NameLemmas
+pub mod RuleLemmas
+pub mod NoticeEquality

@@ -1,0 +1,5 @@
+pub mod Rows
+pub mod Client
+pub mod Holding
+pub mod Laws
+pub mod Examples
