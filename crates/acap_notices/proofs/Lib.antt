@@ -2,3 +2,4 @@ pub mod RowLemmas
 pub mod NameLemmas
 pub mod RuleLemmas
 pub mod NoticeEquality
+pub mod ExampleLemmas

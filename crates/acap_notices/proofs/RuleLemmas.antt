@@ -7,7 +7,8 @@ use Rattle.std.specs.Cmp.Lexicographic.{bytes_decides}
 use Rattle.std.specs.FinMap as finite
 use Rattle.acap_entries.specs.Orders.{octets_eq}
 use Rattle.acap_entries.specs.declared.row.Row.{Row}
-use Rattle.acap_notices.specs.Rows.{is_held, is_of, stands_at, has_position, place_of, is_each_once, IsEachOnce, RowMap, by_name}
+use Rattle.acap_notices.specs.Rows.{is_held, is_of, stands_at, has_position, is_each_once, IsEachOnce, RowMap, by_name}
+use Rattle.acap_notices.specs.Places.{place_of}
 use Rattle.acap_notices.specs.Client.{listed_after, mapped_after, put_at, taken_from, in_turn}
 use Rattle.acap_notices.specs.Laws.{JoinedLaw, PlacesLaw, OnceLaw, ChangeLaw, SameRowsLaw}
 use Rattle.acap_notices.specs.Holding.{holding_after}
@@ -74,11 +75,12 @@ places = record {
   removed = λ rows new entry position e.
       let h = removed rows new entry position e in
       let g = named entry (slice_get rows (position - 1)) h.there in
-      (g.0, g.1, ap (λ t. insert t (position - 1) g.0) h.left ∙ insert-remove rows (position - 1) g.0 g.2);
+      (g.0, g.1, g.2, ap (λ t. insert t (position - 1) g.0) h.left ∙ insert-remove rows (position - 1) g.0 g.2);
   changed = λ rows new from to row e.
       let h = changed rows new from to row e in
+      let g = named row.name (slice_get rows (from - 1)) h.there in
       let rest = remove rows (from - 1) in
-      (ap (λ t. slice_get t (to - 1)) h.left ∙ get-insert rest (to - 1) row h.within, ap (λ t. remove t (to - 1)) h.left ∙ remove-insert rest (to - 1) row h.within);
+      (g.0, g.1, g.2, ap (λ t. slice_get t (to - 1)) h.left ∙ get-insert rest (to - 1) row h.within, ap (λ t. remove t (to - 1)) h.left ∙ remove-insert rest (to - 1) row h.within);
 }
 
 pub once_after : OnceLaw

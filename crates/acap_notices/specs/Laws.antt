@@ -15,15 +15,15 @@ JoinedLaw =
     (held : Holding) (first second : List Notice)
     → holding_after_all held (first ++ second) ≡ option_and_then (λ next. holding_after_all next second) (holding_after_all held first)
 
--- an entry that is added or changed stands at its new position with its new row, one that is removed stood at its position, and all
--- other entries are as they were, in their order
+-- an entry that is added or changed stands at its new position with its new row, one that is removed or changed stood at its old
+-- position, and all other entries are as they were, in their order
 pub record PlacesLaw : Type 0 where
   pub added : (rows new : List Row) (position : ℕ) (row : Row) → listed_after rows (AddTo position row) ≡ Some new
       → (slice_get new (position - 1) ≡ Some row) × (remove new (position - 1) ≡ rows)
   pub removed : (rows new : List Row) (entry : List ℕ) (position : ℕ) → listed_after rows (RemoveFrom entry position) ≡ Some new
-      → (gone : Row) × (gone.name ≡ entry) × (insert new (position - 1) gone ≡ rows)
+      → (gone : Row) × (gone.name ≡ entry) × (slice_get rows (position - 1) ≡ Some gone) × (insert new (position - 1) gone ≡ rows)
   pub changed : (rows new : List Row) (from to : ℕ) (row : Row) → listed_after rows (Change from to row) ≡ Some new
-      → (slice_get new (to - 1) ≡ Some row) × (remove new (to - 1) ≡ remove rows (from - 1))
+      → (gone : Row) × (gone.name ≡ row.name) × (slice_get rows (from - 1) ≡ Some gone) × (slice_get new (to - 1) ≡ Some row) × (remove new (to - 1) ≡ remove rows (from - 1))
 
 -- where no name comes twice, none does afterwards
 abbrev pub OnceLaw : Type 0

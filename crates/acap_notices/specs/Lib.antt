@@ -1,4 +1,5 @@
 pub mod Rows
+pub mod Places
 pub mod Client
 pub mod Holding
 pub mod Laws

@@ -1,6 +1,6 @@
 -- The rows that a client holds of a context, one for each entry [RFC 2244 sections 3.3 and 6.4.1].
 use Rattle.std.specs.Prelude.{◌≡◌, ℕ, ◌+◌, ◌-◌, Bool, true, false, not, ◌&&◌, nat_le, IsTrue, List, [], ◌∷◌, length, map, Option, Some, None, slice_get}
-use Rattle.std.specs.List.{list_any, position_or_len}
+use Rattle.std.specs.List.{list_any}
 use Rattle.std.specs.FinMap as finite
 use Rattle.acap_entries.specs.Orders.{octets_eq, octets_cmp}
 use Rattle.acap_entries.specs.declared.row.Row.{Row}
@@ -21,10 +21,6 @@ stands_at entry position rows = nat_le 1 position && is_of entry (slice_get rows
 -- whether a row may be put in at the position: from 1 to one behind the last
 abbrev pub has_position : ℕ → List Row → Bool
 has_position position rows = nat_le 1 position && nat_le position (length rows + 1)
-
--- how many rows stand before the entry's, or in all where it isn't held
-abbrev pub place_of : List ℕ → List Row → ℕ
-place_of entry rows = position_or_len (λ row. octets_eq entry row.name) rows
 
 -- no name comes twice
 abbrev pub is_each_once : List Row → Bool

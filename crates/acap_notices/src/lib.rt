@@ -7,16 +7,20 @@ mod laws;
 mod listed;
 mod mapped;
 mod notice;
+mod places;
 mod queue;
 mod queue_fault;
-mod seats;
+#[cfg(test)]
+mod tests;
 mod told;
 
 pub use held::Held;
 pub use held_fault::HeldFault;
-pub use laws::{change_law, joined_law, once_law, places_law, same_rows_law};
+pub use laws::{
+    change_law, joined_law, misfit_examples, once_law, places_law, row_examples, same_rows_law,
+};
 pub use notice::Notice;
+pub use places::is_each_once;
 pub use queue::{MOST, Notices, Queue};
 pub use queue_fault::QueueFault;
-pub use seats::is_each_once;
 pub use told::Told;

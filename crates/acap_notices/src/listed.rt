@@ -4,7 +4,7 @@ ghost use Rattle.acap_notices.specs.Client.{listed_after};
 ghost use Rattle.acap_notices.specs.declared.notice.Notice.TheVariants.{AddTo, RemoveFrom, Change};
 
 use crate::held_fault::HeldFault;
-use crate::seats::{has_position, is_held, stands_at};
+use crate::places::{has_position, is_held, stands_at};
 use acap_entries::{Copying, Row, Value};
 
 /// Puts in an entry that isn't held yet.

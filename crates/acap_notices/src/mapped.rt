@@ -6,7 +6,7 @@ ghost use Rattle.acap_notices.specs.declared.notice.Notice.TheVariants.{AddTo, R
 
 use crate::held_fault::HeldFault;
 use crate::listed;
-use crate::seats::position_of;
+use crate::places::position_of;
 use acap_entries::{Row, Value};
 
 /// Puts in an entry that isn't held yet.

@@ -6,13 +6,29 @@ use acap_entries::{Copying, Memory, Row, Value};
 /// are counted from 1, and are 0 where the context isn't enumerated (RFC 2244 section 6.5).
 #[derive(Debug, PartialEq, Eq, Drop)]
 pub enum Notice {
-    /// An entry has come in, at a position of the list that has it.
-    AddTo { position: usize, row: Row },
-    /// An entry has gone, from a position of the list that had it.
-    RemoveFrom { entry: Value, position: usize },
-    /// An entry has another position or another row: where it stood, where it stands when it has been taken out and put in again, and
-    /// its row now.
-    Change { from: usize, to: usize, row: Row },
+    /// An entry has come in.
+    AddTo {
+        /// Where it stands now.
+        position: usize,
+        /// Its row.
+        row: Row,
+    },
+    /// An entry has gone.
+    RemoveFrom {
+        /// Its name.
+        entry: Value,
+        /// Where it stood.
+        position: usize,
+    },
+    /// An entry has another position or another row.
+    Change {
+        /// Where it stood.
+        from: usize,
+        /// Where it stands now: counted when it has been taken out, and put in again.
+        to: usize,
+        /// Its row now.
+        row: Row,
+    },
 }
 
 impl Notice {

@@ -1,5 +1,5 @@
 use Rattle.std.proofs.Common.{◌+◌, ◌∙◌, ap}
-use Rattle.acap_notices.specs.Rows.{place_of}
+use Rattle.acap_notices.specs.Places.{place_of}
 use Rattle.acap_notices.specs.declared.notice.Notice.TheVariants.{Change}
 use Rattle.acap_notices.proofs.RuleLemmas.{mapped_change_at, mapped_ok, mapped_misfit, once_kept}
 use Rattle.acap_notices.proofs.mapped.change.Goals as goal

@@ -1,5 +1,5 @@
 use Rattle.std.proofs.Common.{◌+◌, ◌∙◌, ap}
-use Rattle.acap_notices.specs.Rows.{place_of}
+use Rattle.acap_notices.specs.Places.{place_of}
 use Rattle.acap_notices.specs.declared.notice.Notice.TheVariants.{RemoveFrom}
 use Rattle.acap_notices.proofs.RuleLemmas.{mapped_remove_at, mapped_ok, mapped_misfit, once_kept}
 use Rattle.acap_notices.proofs.mapped.remove.Goals as goal
