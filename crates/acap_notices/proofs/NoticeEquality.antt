@@ -1,5 +1,5 @@
 -- Equality of notices, and of what is told, is exact.
-use Rattle.std.proofs.Common.{◌≡◌, ℕ, refl, ap, List}
+use Rattle.std.proofs.Common.{◌≡◌, List}
 use Rattle.std.specs.Bool.{Decides}
 use Rattle.std.specs.Cmp.{unsigned_Decides, signed_Decides}
 use Rattle.std.specs.Cmp.Lexicographic.{pointwise, pointwise_decides, bytes_decides}

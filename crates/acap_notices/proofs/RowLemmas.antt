@@ -1,11 +1,11 @@
 -- What putting a row in and taking one out leave.
-use Rattle.std.proofs.Common.{◌≡◌, ℕ, zero, suc, ◌+◌, ◌-◌, ◌<◌, ◌≤◌, Bool, true, false, not, ◌&&◌, ◌||◌, List, [], ◌∷◌, length, refl, sym, ap, ◌∙◌, arith, IsTrue, true≢false}
-use Rattle.std.specs.Prelude.{Option, Some, None, slice_get}
+use Rattle.std.proofs.Common.{◌≡◌, ℕ, zero, suc, ◌+◌, ◌<◌, ◌≤◌, Bool, true, false, not, ◌&&◌, ◌||◌, List, [], ◌∷◌, length, refl, sym, ap, ◌∙◌, arith, true≢false}
+use Rattle.std.specs.Prelude.{Some, slice_get}
 use Rattle.std.specs.List.{insert, remove}
 use Rattle.std.specs.Cmp.Lexicographic.{bytes_decides, nat_list_eq_equiv}
 use Rattle.acap_entries.specs.Orders.{octets_eq}
 use Rattle.acap_entries.specs.declared.row.Row.{Row}
-use Rattle.acap_notices.specs.Rows.{is_held, is_of, is_each_once, IsEachOnce}
+use Rattle.acap_notices.specs.Rows.{is_held, is_of, is_each_once}
 
 -- the first and the second of two that both hold
 first : (a b : Bool) → (a && b) ≡ true → a ≡ true

@@ -1,15 +1,15 @@
 -- What the client's rule makes of rows.
-use Rattle.std.proofs.Common.{◌≡◌, ℕ, zero, suc, ◌+◌, ◌-◌, ◌<◌, ◌≤◌, Bool, true, false, not, ◌&&◌, ◌||◌, nat_le, nat_lt, List, [], ◌∷◌, ◌++◌, length, cond, refl, sym, ap, ◌∙◌, arith, tests, true≢false}
+use Rattle.std.proofs.Common.{◌≡◌, ℕ, suc, ◌+◌, ◌-◌, ◌≤◌, Bool, true, false, not, ◌&&◌, ◌||◌, nat_le, nat_lt, List, [], ◌∷◌, ◌++◌, length, cond, refl, sym, ap, ◌∙◌, arith, tests, true≢false}
 use Rattle.std.specs.Prelude.{◌↔◌, Result, Ok, Err, OnOk, OnErr, Option, Some, None, is_some, slice_get}
 use Rattle.std.specs.Option.{option_and_then, option_map, unwrap_or}
-use Rattle.std.specs.List.{insert, remove, position, position_or_len}
+use Rattle.std.specs.List.{insert, remove, position}
 use Rattle.std.specs.Cmp.Lexicographic.{bytes_decides}
 use Rattle.std.specs.FinMap as finite
 use Rattle.acap_entries.specs.Orders.{octets_eq}
 use Rattle.acap_entries.specs.declared.row.Row.{Row}
 use Rattle.acap_notices.specs.Rows.{is_held, is_of, stands_at, has_position, is_each_once, IsEachOnce, RowMap, by_name}
 use Rattle.acap_notices.specs.Places.{place_of}
-use Rattle.acap_notices.specs.Client.{listed_after, mapped_after, put_at, taken_from, in_turn}
+use Rattle.acap_notices.specs.Client.{listed_after, mapped_after, put_at, in_turn}
 use Rattle.acap_notices.specs.Laws.{JoinedLaw, PlacesLaw, OnceLaw, ChangeLaw, SameRowsLaw}
 use Rattle.acap_notices.specs.Holding.{holding_after}
 use Rattle.acap_notices.specs.declared.held_fault.HeldFault.{HeldFault}

@@ -1,5 +1,5 @@
 -- What follows from the client's rule alone.
-use Rattle.std.specs.Prelude.{◌≡◌, ℕ, ◌-◌, List, ◌++◌, Option, Some, slice_get}
+use Rattle.std.specs.Prelude.{◌≡◌, ℕ, ◌-◌, List, ◌++◌, Some, slice_get}
 use Rattle.std.specs.List.{insert, remove}
 use Rattle.std.specs.Option.{option_and_then}
 use Rattle.acap_entries.specs.declared.row.Row.{Row}

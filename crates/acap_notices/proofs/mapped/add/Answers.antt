@@ -1,4 +1,4 @@
-use Rattle.std.proofs.Common.{◌≡◌, ◌+◌, ◌∙◌, length, ap}
+use Rattle.std.proofs.Common.{◌+◌, ◌∙◌, ap}
 use Rattle.acap_notices.specs.declared.notice.Notice.TheVariants.{AddTo}
 use Rattle.acap_notices.proofs.RuleLemmas.{mapped_add_at, mapped_ok, mapped_misfit, once_kept}
 use Rattle.acap_notices.proofs.mapped.add.Goals as goal
