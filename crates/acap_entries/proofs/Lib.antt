@@ -16,3 +16,5 @@ pub mod Kept
 pub mod DeletionLaws
 pub mod FullPathLaws
 pub mod DatasetRanges
+pub mod Equalities
+pub mod RecordEquality

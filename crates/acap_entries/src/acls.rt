@@ -1,6 +1,9 @@
-ghost use Rattle.std.specs.Prelude.{◌≡◌, OnOk, OnErr};
+ghost use Rattle.std.specs.Prelude.{◌≡◌, ◌&&◌, OnOk, OnErr};
+ghost use Rattle.std.specs.Cmp.{and_equiv, on_equiv, partial_equiv_from_equiv};
+ghost use Rattle.std.specs.Cmp.Lexicographic.{pointwise, lists_equiv, nat_list_eq_equiv};
 ghost use Rattle.std.specs.Option.{option_copied};
 ghost use Rattle.std.specs.FinMap as map;
+ghost use Rattle.acap_entries.specs.Orders.{octets_eq};
 
 use crate::attribute::Attribute;
 use crate::copying::{Copying, copy_all};
@@ -91,6 +94,21 @@ impl Acls {
     {
         take_out(&mut self.entries, attribute);
     }
+}
+
+#[tactic(auto, using(crate::proofs::Kept::kept_acls))]
+impl PartialEq for Acls {
+    ghost eq = { λ m n. pointwise (λ p q. octets_eq p.0 q.0 && pointwise octets_eq p.1 q.1) (map.entries m) (map.entries n) };
+
+    ghost laws = { partial_equiv_from_equiv (on_equiv (λ m. map.entries m) (lists_equiv (and_equiv (on_equiv (λ p. p.0) nat_list_eq_equiv) (on_equiv (λ p. p.1) (lists_equiv nat_list_eq_equiv))))) };
+
+    fn eq(&self, other: &Acls) -> bool {
+        self.entries.as_slice() == other.entries.as_slice()
+    }
+}
+
+impl Eq for Acls {
+    ghost laws = { on_equiv (λ m. map.entries m) (lists_equiv (and_equiv (on_equiv (λ p. p.0) nat_list_eq_equiv) (on_equiv (λ p. p.1) (lists_equiv nat_list_eq_equiv)))) };
 }
 
 impl Copying for Acls {

@@ -1,10 +1,12 @@
+ghost use Rattle.std.specs.Prelude.{◌≡◌, ◌↔◌, IsTrue};
+
 use crate::copying::Copying;
 use crate::lists::Values;
 use crate::memory::Memory;
 use crate::value::Value;
 
 /// What an attribute has: NIL, one string, or a list of strings (RFC 2244 section 3.1).
-#[derive(Debug, Drop)]
+#[derive(Debug, PartialEq, Eq, Drop)]
 pub enum Cell {
     /// NIL.
     Nil,
@@ -12,6 +14,15 @@ pub enum Cell {
     Single(Value),
     /// A list of strings, which may be empty.
     Multi(Values),
+}
+
+impl Cell {
+    /// Whether two of them are equal, as `==` says it. Takes no memory.
+    pub fn equals(&self, other: &Cell) -> bool
+        ensures { IsTrue result ↔ (self.now ≡ other.now) }
+    {
+        *self == *other
+    }
 }
 
 impl Copying for Cell {

@@ -1,6 +1,11 @@
-ghost use Rattle.std.specs.Prelude.{◌≡◌, OnOk, OnErr};
+ghost use Rattle.std.specs.Prelude.{◌≡◌, ◌&&◌, OnOk, OnErr};
+ghost use Rattle.std.specs.Cmp.{and_equiv, on_equiv, partial_equiv_from_equiv};
+ghost use Rattle.std.specs.Cmp.Lexicographic.{pointwise, lists_equiv, nat_list_eq_equiv};
 ghost use Rattle.std.specs.Option.{option_copied};
 ghost use Rattle.std.specs.FinMap as map;
+ghost use Rattle.acap_entries.specs.Orders.{octets_eq};
+ghost use Rattle.acap_entries.specs.contracts.cell.CellEq.TheImpl.Laws as cell_laws;
+ghost use Rattle.acap_entries.specs.contracts.cell.CellPartialEq.TheImpl as cell;
 
 use crate::attribute::Attribute;
 use crate::cell::Cell;
@@ -92,6 +97,21 @@ impl Cells {
     {
         take_out(&mut self.entries, attribute);
     }
+}
+
+#[tactic(auto, using(crate::proofs::Kept::kept_cells))]
+impl PartialEq for Cells {
+    ghost eq = { λ m n. pointwise (λ p q. octets_eq p.0 q.0 && cell.ghosts.eq p.1 q.1) (map.entries m) (map.entries n) };
+
+    ghost laws = { partial_equiv_from_equiv (on_equiv (λ m. map.entries m) (lists_equiv (and_equiv (on_equiv (λ p. p.0) nat_list_eq_equiv) (on_equiv (λ p. p.1) cell_laws.laws-law)))) };
+
+    fn eq(&self, other: &Cells) -> bool {
+        self.entries.as_slice() == other.entries.as_slice()
+    }
+}
+
+impl Eq for Cells {
+    ghost laws = { on_equiv (λ m. map.entries m) (lists_equiv (and_equiv (on_equiv (λ p. p.0) nat_list_eq_equiv) (on_equiv (λ p. p.1) cell_laws.laws-law))) };
 }
 
 impl Copying for Cells {

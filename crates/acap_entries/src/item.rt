@@ -1,10 +1,12 @@
+ghost use Rattle.std.specs.Prelude.{◌≡◌, ◌↔◌, IsTrue};
+
 use crate::cell::Cell;
 use crate::copying::Copying;
 use crate::lists::{CellList, CellLists};
 use crate::memory::Memory;
 
 /// What is printed for one item of RETURN (RFC 2244 section 6.4.1).
-#[derive(Debug, Drop)]
+#[derive(Debug, PartialEq, Eq, Drop)]
 pub enum Item {
     /// One datum, printed bare.
     One(Cell),
@@ -12,6 +14,15 @@ pub enum Item {
     Several(CellList),
     /// For a name with `*`: a parenthesis that holds one for each attribute.
     PerAttribute(CellLists),
+}
+
+impl Item {
+    /// Whether two of them are equal, as `==` says it. Takes no memory.
+    pub fn equals(&self, other: &Item) -> bool
+        ensures { IsTrue result ↔ (self.now ≡ other.now) }
+    {
+        *self == *other
+    }
 }
 
 impl Copying for Item {

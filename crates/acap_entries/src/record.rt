@@ -1,3 +1,5 @@
+ghost use Rattle.std.specs.Prelude.{◌≡◌, ◌↔◌, IsTrue};
+
 use crate::acls::Acls;
 use crate::cells::Cells;
 use crate::copying::Copying;
@@ -5,7 +7,7 @@ use crate::memory::Memory;
 use crate::moment::Moment;
 
 /// What the store keeps at a path (RFC 2244 section 3.1).
-#[derive(Debug, Drop)]
+#[derive(Debug, PartialEq, Eq, Drop)]
 pub struct Record {
     /// Whether the entry exists here; a deleted one leaves its record.
     pub present: bool,
@@ -17,6 +19,15 @@ pub struct Record {
     pub acls: Acls,
     /// The moment of the last change.
     pub modtime: Moment,
+}
+
+impl Record {
+    /// Whether two of them are equal, as `==` says it. Takes no memory.
+    pub fn equals(&self, other: &Record) -> bool
+        ensures { IsTrue result ↔ (self.now ≡ other.now) }
+    {
+        *self == *other
+    }
 }
 
 impl Copying for Record {

@@ -1,15 +1,26 @@
+ghost use Rattle.std.specs.Prelude.{◌≡◌, ◌↔◌, IsTrue};
+
 use crate::copying::Copying;
 use crate::lists::Items;
 use crate::memory::Memory;
 use crate::value::Value;
 
 /// What is printed of an entry: its name and an item for each of RETURN (RFC 2244 section 6.4.1).
-#[derive(Debug, Drop)]
+#[derive(Debug, PartialEq, Eq, Drop)]
 pub struct Row {
     /// The name as printed, or the full path.
     pub name: Value,
     /// The items, in the order of RETURN.
     pub items: Items,
+}
+
+impl Row {
+    /// Whether two of them are equal, as `==` says it. Takes no memory.
+    pub fn equals(&self, other: &Row) -> bool
+        ensures { IsTrue result ↔ (self.now ≡ other.now) }
+    {
+        *self == *other
+    }
 }
 
 impl Copying for Row {

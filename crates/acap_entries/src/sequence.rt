@@ -1,4 +1,5 @@
 ghost use Rattle.std.specs.Prelude.{◌≡◌, [], ◌++◌, ◌∷◌, OnOk, OnErr, length, ◌==◌};
+ghost use Rattle.std.specs.Cmp.Lexicographic.{pointwise, lists_per, lists_equiv};
 
 use crate::copying::{Copying, copy_all};
 use crate::memory::Memory;
@@ -43,6 +44,11 @@ impl<T: Drop> Sequence<T> {
         self.items
     }
 
+    /// The allocator that keeps them.
+    pub fn allocator(&self) -> Global {
+        *self.items.allocator()
+    }
+
     /// The items in their order.
     pub fn as_slice(&self) -> &[T]
         ensures { result.now ≡ self.now }
@@ -79,4 +85,18 @@ impl<T: Copying + Drop> Copying for Sequence<T> {
         let items = copy_all(&self.items)?;
         Ok(Sequence { items })
     }
+}
+
+impl<T: PartialEq> PartialEq for Sequence<T> {
+    ghost eq = { pointwise T.eq };
+
+    ghost laws = { lists_per T.laws };
+
+    fn eq(&self, other: &Sequence<T>) -> bool {
+        self.items.as_slice() == other.items.as_slice()
+    }
+}
+
+impl<T: Eq> Eq for Sequence<T> {
+    ghost laws = { lists_equiv T.Eq.laws };
 }

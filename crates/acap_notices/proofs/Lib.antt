@@ -1,0 +1,5 @@
+pub mod RowLemmas
+pub mod NameLemmas
+pub mod RuleLemmas
+pub mod NoticeEquality
+pub mod ExampleLemmas

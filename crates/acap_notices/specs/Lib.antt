@@ -1,0 +1,6 @@
+pub mod Rows
+pub mod Places
+pub mod Client
+pub mod Holding
+pub mod Laws
+pub mod Examples

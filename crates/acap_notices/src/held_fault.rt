@@ -1,0 +1,38 @@
+ghost use Rattle.acap_notices.specs.declared.held_fault.HeldFault.TheVariants as fault;
+ghost use Rattle.std.specs.Prelude.{◌≡◌};
+
+use acap_entries::Memory;
+use std::alloc::{AllocError, AllocFailed};
+
+/// Why a notice wasn't applied.
+#[derive(Clone, Copy, Debug, PartialEq, Eq)]
+pub enum HeldFault {
+    /// It doesn't fit what is held.
+    Misfit,
+    /// Memory was refused.
+    Memory,
+}
+
+impl From<Memory> for HeldFault {
+    ghost from_gives = { λ _ e. e ≡ fault.Memory };
+
+    fn from(_error: Memory) -> HeldFault {
+        HeldFault::Memory
+    }
+}
+
+impl From<AllocError> for HeldFault {
+    ghost from_gives = { λ _ e. e ≡ fault.Memory };
+
+    fn from(_error: AllocError) -> HeldFault {
+        HeldFault::Memory
+    }
+}
+
+impl<T: Drop> From<AllocFailed<T>> for HeldFault {
+    ghost from_gives = { λ _ e. e ≡ fault.Memory };
+
+    fn from(_error: AllocFailed<T>) -> HeldFault {
+        HeldFault::Memory
+    }
+}

@@ -1,0 +1,21 @@
+ghost use Rattle.acap_notices.specs.declared.queue_fault.QueueFault.TheVariants as fault;
+ghost use Rattle.std.specs.Prelude.{◌≡◌};
+
+use acap_entries::Memory;
+
+/// Why a notice wasn't added to a queue.
+#[derive(Clone, Copy, Debug, PartialEq, Eq)]
+pub enum QueueFault {
+    /// As many are waiting as may wait.
+    Full,
+    /// Memory was refused.
+    Memory,
+}
+
+impl From<Memory> for QueueFault {
+    ghost from_gives = { λ _ e. e ≡ fault.Memory };
+
+    fn from(_error: Memory) -> QueueFault {
+        QueueFault::Memory
+    }
+}
