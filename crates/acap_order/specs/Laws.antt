@@ -10,7 +10,7 @@ use Rattle.acap_order.specs.declared.comparator.Direction.{Direction}
 use Rattle.acap_order.specs.declared.comparator.Comparator.{Comparator}
 use Rattle.acap_order.specs.Matching.{has_prefix, has_substring}
 use Rattle.acap_order.specs.Ranks.{rank_of, is_numeric, upper_case, comparator_cmp, comparator_eq}
-use Rattle.acap_order.specs.Spellings.{ascending, descending, comparator_of}
+use Rattle.acap_order.specs.Spellings.{ascending, descending, collation_of, comparator_of}
 
 -- each comparator orders all strings: of two one is before the other or they are equal, and the order is transitive
 abbrev pub OrderLaw : Type 0
@@ -82,9 +82,10 @@ pub record Examples : Type 0 where
   pub numbers : map is_numeric (Octet ∷ AsciiCasemap ∷ AsciiNumeric ∷ []) ≡ false ∷ false ∷ true ∷ []
   pub no_prefix_of_numbers : prefixed_by (codes "i;ascii-numeric") (codes "12") (codes "1") ≡ Some false
   pub no_part_of_numbers : found_by (codes "i;ascii-numeric") (codes "12") (codes "1") ≡ Some false
-  pub no_sign : comparator_of (codes "i;octet") ≡ Some (ascending Octet)
-  pub plus : comparator_of (codes "+i;ascii-casemap") ≡ Some (ascending AsciiCasemap)
-  pub minus : comparator_of (codes "-i;ascii-numeric") ≡ Some (descending AsciiNumeric)
+  pub no_signs : map comparator_of (codes "i;octet" ∷ codes "i;ascii-casemap" ∷ codes "i;ascii-numeric" ∷ []) ≡ Some (ascending Octet) ∷ Some (ascending AsciiCasemap) ∷ Some (ascending AsciiNumeric) ∷ []
+  pub pluses : map comparator_of (codes "+i;octet" ∷ codes "+i;ascii-casemap" ∷ codes "+i;ascii-numeric" ∷ []) ≡ Some (ascending Octet) ∷ Some (ascending AsciiCasemap) ∷ Some (ascending AsciiNumeric) ∷ []
+  pub minuses : map comparator_of (codes "-i;octet" ∷ codes "-i;ascii-casemap" ∷ codes "-i;ascii-numeric" ∷ []) ≡ Some (descending Octet) ∷ Some (descending AsciiCasemap) ∷ Some (descending AsciiNumeric) ∷ []
+  pub collations : map collation_of (codes "i;octet" ∷ codes "I;ASCII-casemap" ∷ codes "i;ascii-numeric" ∷ codes "+i;octet" ∷ []) ≡ Some Octet ∷ Some AsciiCasemap ∷ Some AsciiNumeric ∷ None ∷ []
   pub two_signs : comparator_of (codes "+-i;octet") ≡ None
   pub longer_name : comparator_of (codes "i;octets") ≡ None
   pub no_name : comparator_of [] ≡ None
