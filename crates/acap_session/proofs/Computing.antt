@@ -1,5 +1,5 @@
 -- The examples, by computation.
-use Rattle.std.proofs.Common.{◌≡◌, ℕ, length, true, false, List, [], ◌∷◌, ◌++◌, Option, refl, ap}
+use Rattle.std.proofs.Common.{ℕ, length, true, List, [], ◌∷◌, ◌++◌, Option, refl, ap}
 use Rattle.std.specs.Prelude.{codes}
 use Rattle.std.specs.Ordering.{nat_cmp}
 use Rattle.std.specs.FinMap.{get-empty}
@@ -21,7 +21,7 @@ use Rattle.acap_grammar.specs.Replies.{done_form, refused_form, good_bye_form, s
 use Rattle.acap_machine.specs.Stepping.{entered}
 use Rattle.acap_session.specs.Examples.{AnswerExamples, HearingExamples, NextExamples, RunExamples}
 use Rattle.acap_session.specs.Hearing.{heard, heard_command, opening}
-use Rattle.acap_session.specs.Run.{Refused, answered_by, said_to, new_machine, commands, octets_with}
+use Rattle.acap_session.specs.Run.{Refused, answered_by, new_machine, commands, octets_with}
 use Rattle.acap_session.specs.Session.{answered, session_next}
 use Rattle.acap_session.specs.declared.stage.Stage.TheVariants as stage
 use Rattle.acap_session.proofs.RunLaws.{behind}

@@ -1,6 +1,5 @@
 -- Examples of what a session says, by the definitions alone [RFC 2244 sections 2.2, 2.6.3, 3.6, 6.2 and 6.3.1].
 use Rattle.std.specs.Prelude.{◌≡◌, ℕ, List, [], ◌∷◌, ◌++◌, map, replicate, codes, true, false, Option, Some, None, Ok, Err}
-use Rattle.acap_lexer.specs.Holding.{Held}
 use Rattle.acap_lexer.specs.Token.{Token}
 use Rattle.acap_lexer.specs.declared.fault.LexFault.TheVariants as lexical
 use Rattle.acap_lexer.specs.declared.kind.Kind.TheVariants as kind
