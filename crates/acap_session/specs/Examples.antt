@@ -1,11 +1,24 @@
 -- Examples of what a session says, by the definitions alone [RFC 2244 sections 2.2, 2.6.3, 3.6, 6.2 and 6.3.1].
-use Rattle.std.specs.Prelude.{◌≡◌, ℕ, List, [], ◌∷◌, ◌++◌, map, replicate, codes, true, false, Option, Some, None, Ok, Err}
+use Rattle.std.specs.Prelude.{◌≡◌, ℕ, List, [], ◌∷◌, ◌++◌, map, replicate, codes, pos, true, false, Option, Some, None, Ok, Err}
 use Rattle.acap_lexer.specs.Token.{Token}
 use Rattle.acap_lexer.specs.declared.fault.LexFault.TheVariants as lexical
+use Rattle.acap_lexer.specs.declared.kind.Kind.{Kind}
 use Rattle.acap_lexer.specs.declared.kind.Kind.TheVariants as kind
 use Rattle.acap_lexer.specs.declared.lexed.Lexed.{Lexed}
 use Rattle.acap_lexer.specs.declared.lexed.Lexed.TheVariants as lexed
-use Rattle.acap_grammar.specs.Replies.{greeting, crlf}
+use Rattle.std.specs.FinMap as table
+use Rattle.acap_entries.specs.Moments.{moment_after}
+use Rattle.acap_entries.specs.Store.{Store}
+use Rattle.acap_entries.specs.declared.cell.Cell.TheVariants.{Single}
+use Rattle.acap_grammar.specs.Searching.{unmodified}
+use Rattle.acap_grammar.specs.Storing.{unconditional}
+use Rattle.acap_grammar.specs.Wanted.{One}
+use Rattle.acap_grammar.specs.declared.given.Given.TheVariants as given
+use Rattle.acap_grammar.specs.declared.store_metadata.StoreMetadata.TheVariants as metadata
+use Rattle.acap_grammar.specs.declared.target.Target.TheVariants as target
+use Rattle.acap_grammar.specs.declared.test.Test.TheVariants as test
+use Rattle.acap_machine.specs.Serving.{served}
+use Rattle.acap_grammar.specs.Replies.{octets_of, greeting, crlf}
 use Rattle.acap_grammar.specs.declared.command.Command.{Command}
 use Rattle.acap_grammar.specs.declared.command.Command.TheVariants as command
 use Rattle.acap_grammar.specs.declared.reply.Reply.{Reply}
@@ -16,7 +29,7 @@ use Rattle.acap_machine.specs.Machine.{Machine}
 use Rattle.acap_machine.specs.declared.event.Event.TheVariants as event
 use Rattle.acap_machine.specs.declared.fault.Fault.TheVariants as fault
 use Rattle.acap_session.specs.Hearing.{heard, opening}
-use Rattle.acap_session.specs.Run.{Refused, turn_by, said_to, octets_for, octets_with}
+use Rattle.acap_session.specs.Run.{Refused, turn_by, said_to, performed, new_machine, octets_for, octets_with}
 use Rattle.acap_session.specs.Session.{answered, is_asked, session_next}
 use Rattle.acap_session.specs.Talking.{Talking}
 use Rattle.acap_session.specs.declared.next.Next.{Next}
@@ -56,6 +69,9 @@ token text = record { kind = kind.Word; value = text; start = 0; end = 0 }
 
 abbrev pub string : List ℕ → Token
 string text = record { kind = kind.Quoted; value = text; start = 0; end = 0 }
+
+abbrev pub mark : Kind → Token
+mark kind = record { kind = kind; value = []; start = 0; end = 0 }
 
 -- the line `A1 ..`
 abbrev pub line : List Token → Lexed
@@ -105,7 +121,37 @@ pub record NextExamples : Type 0 where
 
 -- ---- what a whole session writes
 
+-- `STORE ("/option/~/e" "k" "x")`, `SEARCH "/option/~/" ALL`, and what joe's are told when the clock shows 0
+abbrev pub store_line : Lexed
+store_line = line (token (codes "STORE") ∷ mark kind.Open ∷ string (codes "/option/~/e") ∷ string (codes "k") ∷ string (codes "x") ∷ mark kind.Close ∷ [])
+
+abbrev pub stores : Command
+stores = command.Store (
+    record {
+      path = record { dataset = codes "/option/~/"; name = codes "e" };
+      modifiers = unconditional;
+      items = record { attribute = codes "k"; metadata = metadata.Value; given = given.Put (Single (codes "x")) } ∷ [];
+    } ∷ [])
+
+abbrev pub search_line : Lexed
+search_line = line (token (codes "SEARCH") ∷ string (codes "/option/~/") ∷ token (codes "ALL") ∷ [])
+
+abbrev pub searches : Command
+searches = command.Search (record { target = target.Dataset (codes "/option/~/"); modifiers = unmodified; key = One test.All })
+
+abbrev pub told : Said → List ℕ
+told words = octets_of (record { tag = Some (codes "A1"); said = words })
+
+abbrev pub answer_of : Machine → Command → Said × Store
+answer_of m c = served (codes "joe") m.store c (pos 0)
+
 pub record RunExamples : Type 0 where
+  -- the machine has no change yet, and the one seat and the clock are 0
+  pub begins : (table.get new_machine.seats 0 ≡ None) × (moment_after new_machine.store.last (pos 0) ≡ Some (pos 0))
+  pub performs : (m : Machine) (c : Command) → table.get m.seats 0 ≡ joe → performed false m (event.Command c) ≡ Ok (plain (answer_of m c).0, record m { store = (answer_of m c).1 })
+  -- each command is asked of the machine that the one before it left
+  pub in_turn : (m : Machine) → table.get m.seats 0 ≡ joe → said_to (codes "joe") [] m (store_line ∷ search_line ∷ [])
+      ≡ told (answer_of m stores).0 ++ told (answer_of (record m { store = (answer_of m stores).1 }) searches).0
   -- an event that is refused memory leaves the machine as it was, and the next one has the next answer
   pub refused : (later : Refused) (m : Machine) (c : Command) → turn_by (true ∷ later) m (next.Ask (event.Command c), waiting)
       ≡ record { octets = codes "A1 NO (TRYLATER) \"No memory\"" ++ crlf; closed = false; machine = m; refused = later }
