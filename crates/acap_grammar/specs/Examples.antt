@@ -79,7 +79,6 @@ meets relation comparator behind = test_of relation comparator (string (codes "x
 abbrev pub at_second : ℕ → ℤ
 at_second n = moment_of (record { year = 1970; month = 1; day = 1; hour = 0; minute = 0; second = n; micros = 0 })
 
--- these tokens behind `SEARCH "/" AND` are two such keys
 abbrev pub found_by : Wanted → Wanted → List Token → Type 0
 found_by first second behind = command_of (search (word (codes "AND") behind)) ≡ Ok (command.Search (record { target = target.Dataset (codes "/"); modifiers = unmodified; key = And first second }))
 
