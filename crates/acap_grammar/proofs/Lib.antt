@@ -4,3 +4,4 @@ pub mod Growing
 pub mod NeverMemory
 pub mod KeySteps
 pub mod FirstFaults
+pub mod Computing

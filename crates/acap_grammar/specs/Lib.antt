@@ -2,6 +2,7 @@ pub mod Arguments
 pub mod Grammar
 pub mod Keys
 pub mod Laws
+pub mod Examples
 pub mod Marks
 pub mod Nodes
 pub mod Outcome

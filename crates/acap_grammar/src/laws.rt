@@ -1,4 +1,5 @@
 //! What follows from the definitions alone: each function does nothing, and its contract is the law.
+ghost use Rattle.acap_grammar.specs.Examples.{LineExamples, LineFaults, LimitExamples, TextExamples};
 ghost use Rattle.acap_grammar.specs.Laws.{OneCommand, CommandOrFault, FirstFault, NeverMemory, CommandExamples, FaultExamples, ReplyExamples};
 
 /// Two different commands never have the same tokens.
@@ -34,4 +35,24 @@ pub fn fault_examples()
 /// Replies and their octets.
 pub fn reply_examples()
     ensures { ReplyExamples }
+{}
+
+/// Lines of each verb and the commands that they are (RFC 2244 section 6).
+pub fn line_examples()
+    ensures { LineExamples }
+{}
+
+/// Lines that are no commands, what may stand once, and which fault is the first.
+pub fn line_faults()
+    ensures { LineFaults }
+{}
+
+/// Each limit of a list on both its sides.
+pub fn limit_examples()
+    ensures { LimitExamples }
+{}
+
+/// The texts of refusals and completions (RFC 2244 sections 3.6 and 6.2).
+pub fn text_examples()
+    ensures { TextExamples }
 {}

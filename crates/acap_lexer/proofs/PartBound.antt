@@ -1,5 +1,5 @@
 -- Each token of a part takes an octet at least, so that the bound on their number changes nothing.
-use Rattle.std.proofs.Common.{◌≡◌, ℕ, zero, suc, ◌+◌, ◌-◌, ◌<◌, ◌≤◌, Bool, true, false, cond, List, [], ◌∷◌, ◌++◌, length, take, drop, Option, Some, None, Result, Ok, Err, refl, sym, ap, ◌∙◌, arith, length-drop, eqb, leb, slice_index}
+use Rattle.std.proofs.Common.{◌≡◌, ℕ, zero, suc, ◌+◌, ◌<◌, ◌≤◌, Bool, true, false, cond, List, [], ◌∷◌, ◌++◌, length, drop, Option, Some, None, Result, Ok, Err, refl, arith, length-drop, eqb, leb, slice_index}
 use Rattle.std.specs.List.{prefix_len}
 use Rattle.acap_lexer.specs.declared.announced.Announced.{Announced}
 use Rattle.acap_lexer.specs.declared.fault.LexFault.{LexFault}
@@ -7,7 +7,7 @@ use Rattle.acap_lexer.specs.declared.fault.LexFault.TheVariants.{BadToken}
 use Rattle.acap_lexer.specs.declared.kind.Kind.{Kind}
 use Rattle.acap_lexer.specs.declared.kind.Kind.TheVariants as kinds
 use Rattle.acap_lexer.specs.Octets.{is_word, is_quotable, is_escaped}
-use Rattle.acap_lexer.specs.Part.{Part, last_kind, pushed, placed, part_by, next_at, part_within}
+use Rattle.acap_lexer.specs.Part.{Part, last_kind, pushed, placed, part_by, part_within}
 use Rattle.acap_lexer.specs.Reading.{◌>>=◌, Read, Lexeme, behind, quoted_at, escaped_at, string_at, as_string, token_at, mark_of, may_touch, gap_behind, gap_at, stray, quoted_limit}
 use Rattle.acap_lexer.specs.Token.{Token}
 

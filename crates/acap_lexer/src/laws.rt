@@ -1,6 +1,6 @@
 //! Laws of the definitions.
 
-ghost use Rattle.acap_lexer.specs.Examples.{Examples};
+ghost use Rattle.acap_lexer.specs.Examples.{Examples, OctetExamples, LimitExamples, HeldExamples, PrintedExamples};
 ghost use Rattle.acap_lexer.specs.Laws.{KeepsItems, KeepsWaits, TakesOctets, LeavesRoom, GoesByStages, ReadsParts, ReadsQuoted};
 
 /// An item that begins a text begins every longer text.
@@ -41,4 +41,24 @@ pub fn reads_quoted()
 /// Examples of texts and what begins them, computed from the definitions alone.
 pub fn examples()
     ensures { Examples }
+{}
+
+/// Which octets are of which kind, and which may touch a token.
+pub fn octet_examples()
+    ensures { OctetExamples }
+{}
+
+/// Each limit on both its sides.
+pub fn limit_examples()
+    ensures { LimitExamples }
+{}
+
+/// What comes next of held octets, and what all octets answer.
+pub fn held_examples()
+    ensures { HeldExamples }
+{}
+
+/// Strings as they are printed, quoted or as literals.
+pub fn printed_examples()
+    ensures { PrintedExamples }
 {}

@@ -3,3 +3,4 @@ pub mod Seated
 pub mod WriteLemmas
 pub mod RunLemmas
 pub mod StoreLaws
+pub mod Computing

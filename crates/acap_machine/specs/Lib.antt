@@ -1,3 +1,4 @@
+pub mod Examples
 pub mod Homes
 pub mod Laws
 pub mod Limits

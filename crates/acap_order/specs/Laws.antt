@@ -1,16 +1,16 @@
 -- What holds of every comparator.
-use Rattle.std.specs.Prelude.{◌≡◌, ◌↔◌, ℕ, Bool, true, false, List, [], IsTrue, Option, Some, option_map, codes}
+use Rattle.std.specs.Prelude.{◌≡◌, ◌↔◌, ℕ, Bool, true, false, List, [], ◌∷◌, map, IsTrue, Option, Some, None, option_map, codes}
 use Rattle.std.specs.Cmp.{IsTotalOrder}
 use Rattle.std.specs.Ordering.{ordering_reverse}
 use Rattle.std.specs.declared.cmp.Ordering.{Ordering}
 use Rattle.std.specs.declared.cmp.Ordering.TheVariants.{Less, Equal, Greater}
 use Rattle.acap_order.specs.declared.comparator.Collation.{Collation}
-use Rattle.acap_order.specs.declared.comparator.Collation.TheVariants.{Octet}
+use Rattle.acap_order.specs.declared.comparator.Collation.TheVariants.{Octet, AsciiCasemap, AsciiNumeric}
 use Rattle.acap_order.specs.declared.comparator.Direction.{Direction}
 use Rattle.acap_order.specs.declared.comparator.Comparator.{Comparator}
 use Rattle.acap_order.specs.Matching.{has_prefix, has_substring}
-use Rattle.acap_order.specs.Ranks.{rank_of, comparator_cmp, comparator_eq}
-use Rattle.acap_order.specs.Spellings.{ascending, descending, comparator_of}
+use Rattle.acap_order.specs.Ranks.{rank_of, is_numeric, upper_case, comparator_cmp, comparator_eq}
+use Rattle.acap_order.specs.Spellings.{ascending, descending, collation_of, comparator_of}
 
 -- each comparator orders all strings: of two one is before the other or they are equal, and the order is transitive
 abbrev pub OrderLaw : Type 0
@@ -73,3 +73,19 @@ pub record Examples : Type 0 where
   pub part_in_one_case : found_by (codes "i;octet") (codes "Option") (codes "ION") ≡ Some false
   pub last_octet : found_by (codes "i;octet") (codes "Option") (codes "n") ≡ Some true
   pub nothing_in_nothing : found_by (codes "i;octet") [] [] ≡ Some true
+  pub nothing_in_front : prefixed_by (codes "i;octet") (codes "opt") [] ≡ Some true
+  pub no_longer_part : found_by (codes "i;octet") (codes "on") (codes "ion") ≡ Some false
+  pub only_letters : upper_case (codes "@AZ[`az{") ≡ codes "@AZ[`AZ{"
+  pub letters_reversed : ordered_by (codes "-i;ascii-casemap") (codes "a") (codes "B") ≡ Some Greater
+  pub unsigned_octets : ordered_by (codes "i;octet") (127 ∷ []) (128 ∷ []) ≡ Some Less
+  pub many_digits : ordered_by (codes "i;ascii-numeric") (codes "18446744073709551615") (codes "18446744073709551616") ≡ Some Less
+  pub numbers : map is_numeric (Octet ∷ AsciiCasemap ∷ AsciiNumeric ∷ []) ≡ false ∷ false ∷ true ∷ []
+  pub no_prefix_of_numbers : prefixed_by (codes "i;ascii-numeric") (codes "12") (codes "1") ≡ Some false
+  pub no_part_of_numbers : found_by (codes "i;ascii-numeric") (codes "12") (codes "1") ≡ Some false
+  pub no_signs : map comparator_of (codes "i;octet" ∷ codes "i;ascii-casemap" ∷ codes "i;ascii-numeric" ∷ []) ≡ Some (ascending Octet) ∷ Some (ascending AsciiCasemap) ∷ Some (ascending AsciiNumeric) ∷ []
+  pub pluses : map comparator_of (codes "+i;octet" ∷ codes "+i;ascii-casemap" ∷ codes "+i;ascii-numeric" ∷ []) ≡ Some (ascending Octet) ∷ Some (ascending AsciiCasemap) ∷ Some (ascending AsciiNumeric) ∷ []
+  pub minuses : map comparator_of (codes "-i;octet" ∷ codes "-i;ascii-casemap" ∷ codes "-i;ascii-numeric" ∷ []) ≡ Some (descending Octet) ∷ Some (descending AsciiCasemap) ∷ Some (descending AsciiNumeric) ∷ []
+  pub collations : map collation_of (codes "i;octet" ∷ codes "I;ASCII-casemap" ∷ codes "i;ascii-numeric" ∷ codes "+i;octet" ∷ []) ≡ Some Octet ∷ Some AsciiCasemap ∷ Some AsciiNumeric ∷ None ∷ []
+  pub two_signs : comparator_of (codes "+-i;octet") ≡ None
+  pub longer_name : comparator_of (codes "i;octets") ≡ None
+  pub no_name : comparator_of [] ≡ None

@@ -3,3 +3,4 @@ pub mod Answering
 pub mod Turning
 pub mod Piping
 pub mod RunLaws
+pub mod Computing

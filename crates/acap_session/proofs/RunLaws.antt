@@ -61,7 +61,7 @@ turn_plain refused m (next.Ask event) s e =
     (shown_plain (answered s (outcome_of (performed false m event))).0 (machine_after m (performed false m event)) (drop 1 refused) (no_later refused e))
 turn_plain refused m (next.Close octets) s e = shown_plain (next.Close octets) m refused e
 
-abbrev behind : List ℕ → Turned → List Lexed → List ℕ
+abbrev pub behind : List ℕ → Turned → List Lexed → List ℕ
 behind user t items = t.octets ++ cond t.closed [] (said_to user t.refused t.machine items)
 
 joined : (user : List ℕ) (t plain : Turned) (items : List Lexed) → IsPlain t plain → ((m : Machine) → said_to user t.refused m items ≡ said_to user [] m items) → behind user t items ≡ behind user plain items

@@ -1,4 +1,5 @@
 pub mod Asking
+pub mod Examples
 pub mod Hearing
 pub mod Laws
 pub mod Run

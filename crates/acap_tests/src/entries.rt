@@ -1,4 +1,4 @@
-//! Tests of acap_entries through its public calls, each with ample memory.
+//! Tests of acap_entries through its public calls: each with ample memory, and one where memory may be refused.
 use acap_entries::existence::makes_dataset;
 use acap_entries::stamp::{civil_of, stamp};
 use acap_entries::{

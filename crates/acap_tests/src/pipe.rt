@@ -1,6 +1,7 @@
 //! Tests of sessions: what one writes for what it reads, through readers and writers in memory.
 
 use acap_entries::{NameFault, Octets, UserName};
+use acap_grammar::{Reply, Said};
 use acap_machine::Fault;
 use acap_session::{Next, PipeFault, Session, run_pipe};
 use std::alloc::{AllocError, Global};
@@ -303,17 +304,23 @@ fn hear(session: &mut Session, text: &mut Vec<u8>) -> Result<bool, acap_entries:
     add_next(&next, text)
 }
 
+/// All that a session says is added to what was said, up to where it has nothing more to say.
+fn hear_all(session: &mut Session, text: &mut Vec<u8>) -> Result<(), acap_entries::Memory> {
+    for _ in 0..100 {
+        if !hear(session, text)? {
+            break;
+        }
+    }
+    Ok(())
+}
+
 /// What a session without a user says to these octets, up to where it has nothing more to say.
 fn unnamed(alloc: Global, input: &[u8]) -> Result<Vec<u8>, acap_entries::Memory> {
     let host = Octets::from_slice(alloc, b"localhost")?;
     let mut session = Session::new(alloc, host, None);
     let mut text = Vec::new(alloc);
     let _ = session.push(input)?;
-    for _ in 0..100 {
-        if !hear(&mut session, &mut text)? {
-            break;
-        }
-    }
+    hear_all(&mut session, &mut text)?;
     Ok(text)
 }
 
@@ -528,20 +535,106 @@ fn tells_faults_before_a_login(rt: HostRuntime) {
     }
 }
 
-/// The first words of a user's session, the answer to its entering being that fault.
-fn refused_entry(alloc: Global, fault: Fault) -> Result<bool, acap_entries::Memory> {
+/// A session of joe that has said nothing yet.
+fn begun(alloc: Global) -> Result<Session, acap_entries::Memory> {
     let host = Octets::from_slice(alloc, b"localhost")?;
     let user = Octets::from_slice(alloc, b"joe")?;
-    let mut session = Session::new(alloc, host, Some(UserName::new(user)));
+    Ok(Session::new(alloc, host, Some(UserName::new(user))))
+}
+
+/// Whether a user's session asks to enter first, and then has nothing to say.
+fn waits(alloc: Global) -> Result<bool, acap_entries::Memory> {
+    let mut session = begun(alloc)?;
     let asked = session.next()?;
     let waits = session.next()?;
-    let is_asked = matches!(&asked, Next::Ask(_)) && matches!(&waits, Next::More);
-    Ok(is_asked && fault != Fault::HistoryFull)
+    Ok(matches!(&asked, Next::Ask(_)) && matches!(&waits, Next::More))
 }
 
 #[test]
 fn waits_for_an_answer(rt: HostRuntime) {
-    assert!(rt; refused_entry(rt.alloc(), Fault::Memory) == Ok(true));
+    assert!(rt; waits(rt.alloc()) == Ok(true));
+}
+
+/// What a session says to that outcome of what it asks next, which must be something.
+fn answered(
+    session: &mut Session,
+    outcome: Result<Reply, Fault>,
+) -> Result<Option<Next>, acap_entries::Memory> {
+    match session.next()? {
+        Next::Ask(_) => Ok(Some(session.answer(outcome)?)),
+        _ => Ok(None),
+    }
+}
+
+/// Whether a user's session closes without a word where its entering has that fault, and hears nothing then.
+fn closes_unentered(alloc: Global, fault: Fault) -> Result<bool, acap_entries::Memory> {
+    let mut session = begun(alloc)?;
+    let said = answered(&mut session, Err(fault))?;
+    let is_silent = match &said {
+        Some(Next::Close(octets)) => octets.as_slice().is_empty(),
+        _ => false,
+    };
+    let _ = session.push(b"A1 NOOP\r\n")?;
+    let after = session.next()?;
+    Ok(is_silent && matches!(&after, Next::More))
+}
+
+#[test]
+fn closes_where_its_entry_is_refused(rt: HostRuntime) {
+    let faults = [
+        Fault::Memory,
+        Fault::NotEntered,
+        Fault::AlreadyEntered,
+        Fault::HistoryFull,
+    ];
+    for fault in faults {
+        assert!(rt;
+            closes_unentered(rt.alloc(), fault) == Ok(true),
+            "{fault:?}"
+        );
+    }
+}
+
+/// What an entered session says where a STORE has that fault and a NOOP follows.
+fn said_to_fault(alloc: Global, fault: Fault) -> Result<Vec<u8>, acap_entries::Memory> {
+    let mut session = begun(alloc)?;
+    let mut text = Vec::new(alloc);
+    if let Some(next) = answered(&mut session, Ok(Reply::new(Said::Greeting)))? {
+        add_next(&next, &mut text)?;
+    }
+    let _ = session.push(b"A1 STORE (\"/option/~/e\" \"k\" \"x\")\r\nA2 NOOP\r\n")?;
+    if let Some(next) = answered(&mut session, Err(fault))? {
+        add_next(&next, &mut text)?;
+    }
+    hear_all(&mut session, &mut text)?;
+    Ok(text)
+}
+
+/// Want of memory and a full history are told under the command's tag, and the session goes on; where the seat isn't
+/// its own it closes without a word.
+#[test]
+fn tells_faults_of_the_machine(rt: HostRuntime) {
+    let rows: [(Fault, &[u8]); 4] = [
+        (
+            Fault::Memory,
+            b"A1 NO (TRYLATER) \"No memory\"\r\nA2 OK \"NOOP done\"\r\n",
+        ),
+        (
+            Fault::HistoryFull,
+            b"A1 NO (TRYLATER) \"History is full\"\r\nA2 OK \"NOOP done\"\r\n",
+        ),
+        (Fault::NotEntered, b""),
+        (Fault::AlreadyEntered, b""),
+    ];
+    for (fault, behind) in rows {
+        let Ok(wanted) = greeted(rt.alloc(), behind) else {
+            return;
+        };
+        match said_to_fault(rt.alloc(), fault) {
+            Ok(text) => assert!(rt; text == wanted, "{fault:?} {text:?}"),
+            Err(_) => assert!(rt; false),
+        }
+    }
 }
 
 /// Whether a text begins with a front.

@@ -1,0 +1,5 @@
+use Rattle.acap_lexer.proofs.Computing.{limit_examples}
+use Rattle.acap_lexer.proofs.laws.limit_examples.Goals as goal
+
+pub returns : goal.returns
+returns c = limit_examples
