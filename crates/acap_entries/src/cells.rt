@@ -10,9 +10,9 @@ ghost use Rattle.acap_entries.specs.contracts.cell.CellPartialEq.TheImpl as cell
 use crate::attribute::Attribute;
 use crate::cell::Cell;
 use crate::copying::{Copying, copy_all};
-use crate::keys::{AttributeText, Whole};
+use crate::keys::{AttributeText, Probe, Whole};
 use crate::memory::Memory;
-use crate::sorted::{lookup, put_in_room, take_out};
+use crate::sorted::{lookup, put_in_room, room_for_one, take_out};
 use std::alloc::Global;
 use std::marker::Model;
 
@@ -67,6 +67,13 @@ impl Cells {
         )
     }
 
+    /// The same for an attribute that a probe stands for, as two parts of a name joined.
+    pub fn find_by<Q: Probe<Attribute>>(&self, probe: &Q) -> Option<&Cell>
+        ensures { option_copied result ≡ map.get self.now (Q.key probe.now) }
+    {
+        lookup(self.entries.as_slice(), probe)
+    }
+
     /// All that is kept, in the order of the attributes' octets.
     pub fn entries(&self) -> &[(Attribute, Cell)]
         ensures { result.now ≡ map.entries self.now }
@@ -86,7 +93,7 @@ impl Cells {
         ensures ok { OnOk result (self.new ≡ map.insert self.old attribute given) }
         ensures err { OnErr result (self.new ≡ self.old) }
     {
-        self.entries.reserve(1)?;
+        room_for_one(&mut self.entries)?;
         put_in_room(&mut self.entries, attribute, given);
         Ok(())
     }

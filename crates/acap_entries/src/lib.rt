@@ -59,6 +59,7 @@ pub use deletion::Deletion;
 pub use entry_name::EntryName;
 pub use fate::Fate;
 pub use item::Item;
+pub use keys::{AttributeText, JoinedText, PathText, Probe, Whole};
 pub use listing::Listing;
 pub use lists::{CellList, CellLists, Items, Paths, Values};
 pub use memory::Memory;

@@ -1,9 +1,10 @@
 //! Entries in the order of their keys: look-ups by halves, and edits in room that there is.
-ghost use Rattle.std.specs.Prelude.{◌≡◌, ◌+◌, ◌<◌, ◌≤◌, length, IsTrue, vec_len, vec_capacity};
+ghost use Rattle.std.specs.Prelude.{◌≡◌, ◌+◌, ◌<◌, ◌≤◌, length, IsTrue, vec_len, vec_capacity, OnOk};
 ghost use Rattle.std.specs.Option.{option_copied};
 ghost use Rattle.acap_entries.specs.Sorted.{place, is_tied, without, found, put_in, InOrder};
 
 use crate::keys::{Probe, Whole};
+use crate::memory::Memory;
 use std::cmp::Ordering;
 
 /// Where a key stands, and whether it is there: found by halving.
@@ -50,6 +51,18 @@ pub fn put_in_room<K: Ord + Drop, V: Drop>(entries: &mut Vec<(K, V)>, key: K, va
     } else {
         entries.insert(at, (key, value)).unwrap();
     }
+}
+
+/// Makes room for one entry more: the first has room of its own, and later ones half as much again as there is, so that
+/// a map of one takes no more than it needs. The entries stay, also where memory is refused.
+pub fn room_for_one<T>(entries: &mut Vec<T>) -> Result<(), Memory>
+    ensures items { entries.new.items ≡ entries.old.items }
+    ensures ok { OnOk result (vec_len entries.new < vec_capacity entries.new) }
+{
+    if entries.len() == entries.capacity() {
+        entries.reserve_exact(1 + entries.len() / 2)?;
+    }
+    Ok(())
 }
 
 /// Takes the key's entry out, if there is one. Takes no memory.

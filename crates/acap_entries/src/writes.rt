@@ -10,7 +10,7 @@ use crate::fate::Fate;
 use crate::keys::{PathText, Whole};
 use crate::memory::Memory;
 use crate::path::Path;
-use crate::sorted::{lookup, put_in_room, take_out};
+use crate::sorted::{lookup, put_in_room, room_for_one, take_out};
 use std::alloc::Global;
 use std::marker::Model;
 
@@ -79,7 +79,7 @@ impl Writes {
         ensures ok { OnOk result (self.new ≡ map.insert self.old path fate) }
         ensures err { OnErr result (self.new ≡ self.old) }
     {
-        self.entries.reserve(1)?;
+        room_for_one(&mut self.entries)?;
         put_in_room(&mut self.entries, path, fate);
         Ok(())
     }

@@ -10,7 +10,7 @@ use Rattle.acap_entries.specs.Moments.{moment_after, last_moment}
 use Rattle.acap_entries.specs.Store.{Written, path_cmp}
 use Rattle.acap_entries.specs.declared.change.Change.{Change}
 use Rattle.acap_entries.specs.declared.path.Path.{Path}
-use Rattle.acap_entries.specs.declared.record.Record.{Record}
+use Rattle.acap_entries.specs.declared.fate.Fate.{Fate}
 use Rattle.acap_entries.proofs.StoreLemmas.{path_cmp_total}
 use Rattle.acap_machine.specs.Laws.{WrittenLaw, LaterLaw}
 use Rattle.acap_grammar.specs.declared.refusal.Refusal.{Refusal}
@@ -18,7 +18,7 @@ use Rattle.acap_machine.specs.Refusing.{refusal_of}
 use Rattle.acap_machine.specs.Serving.{planned, planned_at, unless_refused, change_at}
 use Rattle.acap_machine.specs.Writing.{put_all, written_for, steps_for, entry_at, step_at, missing_for}
 
-get_put : (ws : List (Path × Option Record)) (w : Written) (p : Path) → get (put_all ws w) p ≡ option_or (find path_cmp p ws) (get w p)
+get_put : (ws : List (Path × Fate)) (w : Written) (p : Path) → get (put_all ws w) p ≡ option_or (find path_cmp p ws) (get w p)
 get_put [] w p = refl
 get_put (x ∷ ws) w p =
     get-insert path_cmp_total (put_all ws w) x.0 x.1 p
@@ -27,7 +27,7 @@ get_put (x ∷ ws) w p =
       | false ↦ get_put ws w p
     ]
 
-or_none : (o : Option (Option Record)) → option_or o None ≡ o
+or_none : (o : Option Fate) → option_or o None ≡ o
 or_none None = refl
 or_none (Some x) = refl
 
@@ -63,7 +63,7 @@ not_refused None change made = λ e. e
 
 moment_of : (w : Written) (moment : Option ℤ) (made : Change) → change_at w moment ≡ Ok made → moment ≡ Some made.moment
 moment_of w None made = λ e. cc
-moment_of w (Some moment) made = λ e. let same : record { writes = w; moment = moment } ≡ made = cc in ap (λ (change : Change). Some change.moment) same
+moment_of w (Some moment) made = λ e. let same : record { writes = w; moment = moment; deleted = [] } ≡ made = cc in ap (λ (change : Change). Some change.moment) same
 
 pub later : LaterLaw
 unfolding planned planned_at

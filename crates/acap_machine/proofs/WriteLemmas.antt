@@ -1,5 +1,5 @@
 -- What the loops that write need of the definitions.
-use Rattle.std.proofs.Common.{◌≡◌, ℕ, zero, suc, ◌<◌, ◌≤◌, true, false, cond, List, [], ◌∷◌, ◌++◌, length, map, Option, Some, None, refl, sym, ap, ◌∙◌, arith}
+use Rattle.std.proofs.Common.{◌≡◌, ℕ, zero, suc, ◌<◌, ◌≤◌, Bool, true, false, cond, List, [], ◌∷◌, ◌++◌, length, map, Option, Some, None, refl, sym, ap, ◌∙◌, arith}
 use Rattle.std.specs.Prelude.{take, nat_le, ◌-◌}
 use Rattle.std.specs.Option.{option_map_or}
 use Rattle.std.proofs.lemmas.Bool.{leb-false}
@@ -7,12 +7,12 @@ use Rattle.std.specs.FinMap as table
 use Rattle.acap_entries.specs.Names.{own_entry, dataset_of, name_of, cut_of}
 use Rattle.acap_entries.specs.Store.{Stored, Written}
 use Rattle.acap_entries.specs.declared.path.Path.{Path}
-use Rattle.acap_entries.specs.declared.record.Record.{Record}
+use Rattle.acap_entries.specs.declared.fate.Fate.{Fate}
 use Rattle.acap_grammar.specs.declared.store_entry.StoreEntry.{StoreEntry}
 use Rattle.acap_grammar.specs.declared.store_item.StoreItem.{StoreItem}
 use Rattle.acap_machine.specs.Writing.{Celled, put_all, with_item, with_items, missing_within, missing_to, missing_for, own_if_missing}
 
-pub put_all_append : (front back : List (Path × Option Record)) (w : Written) → put_all (front ++ back) w ≡ put_all front (put_all back w)
+pub put_all_append : (front back : List (Path × Fate)) (w : Written) → put_all (front ++ back) w ≡ put_all front (put_all back w)
 put_all_append [] back w = refl
 put_all_append (x ∷ front) back w = ap (λ m. table.insert m x.0 x.1) (put_all_append front back w)
 
@@ -24,7 +24,7 @@ map_append : {A B : Type 0} (f : A → B) (xs ys : List A) → map f (xs ++ ys) 
 map_append f [] ys = refl
 map_append f (x ∷ xs) ys = ap (λ t. f x ∷ t) (map_append f xs ys)
 
-both_put : (f : Path → Path × Option Record) (xs ys : List Path) (w : Written) → put_all (map f (xs ++ ys)) w ≡ put_all (map f xs) (put_all (map f ys) w)
+both_put : (f : Path → Path × Fate) (xs ys : List Path) (w : Written) → put_all (map f (xs ++ ys)) w ≡ put_all (map f xs) (put_all (map f ys) w)
 both_put f xs ys w = ap (λ t. put_all t w) (map_append f xs ys) ∙ put_all_append (map f xs) (map f ys) w
 
 -- ---- the way to a dataset
@@ -44,13 +44,17 @@ unfolding dataset_of
 parent_within text = no_longer (cut_of text) text
 
 -- a parent's name is shorter
+parent_of : (b : Bool) (d p n : List ℕ) (own : List ℕ × List ℕ) → length p ≤ length d → cond b (Some (p, n)) None ≡ Some own → length own.0 ≤ length d
+parent_of true d p n own h e = let same : p ≡ own.0 = cc in omega (arith, ap length same, h)
+parent_of false d p n own h e = cc
+
 pub parent_shorter : (d : List ℕ) (own : List ℕ × List ℕ) → own_entry d ≡ Some own → length own.0 < length d
-parent_shorter d own = elim (nat_le (length d) 1) as (λ b. nat_le (length d) 1 ≡ b → cond b None (Some (dataset_of (take (length d - 1) d), name_of (take (length d - 1) d))) ≡ Some own → length own.0 < length d) [
-  | true ↦ λ p e. cc
-  | false ↦ λ p e.
-      let same : dataset_of (take (length d - 1) d) ≡ own.0 = cc in
-      omega (arith, ap length same, parent_within (take (length d - 1) d), cut_shorter (length d - 1) d, leb-false (length d) 1 p)
-] refl
+parent_shorter [] own e = cc
+parent_shorter (x ∷ d) own e =
+    let path = take (length (x ∷ d) - 1) (x ∷ d) in
+    let shorter : length path ≤ length d = omega (arith, cut_shorter (length (x ∷ d) - 1) (x ∷ d)) in
+    let within : length (dataset_of path) ≤ length d = omega (arith, parent_within path, shorter) in
+    omega (arith, parent_of _ d (dataset_of path) (name_of path) own within e)
 
 -- as many steps as the name has octets are enough
 enough : (records : Stored) (n m : ℕ) (d : List ℕ) → length d ≤ n → length d ≤ m → missing_within n records d ≡ missing_within m records d
@@ -75,14 +79,14 @@ missing_by records (x ∷ d) own e =
     ap (λ o. option_map_or (λ own. missing_within (length d) records own.0 ++ own_if_missing records (x ∷ d) own) o []) e
     ∙ ap (λ t. t ++ own_if_missing records (x ∷ d) own) (enough records (length d) (length own.0) own.0 (omega (arith, less)) (omega arith))
 
-pub way_up : (records : Stored) (f : Path → Path × Option Record) (d : List ℕ) (own : List ℕ × List ℕ) (w : Written) → own_entry d ≡ Some own → put_all (map f (missing_to records own.0)) (put_all (map f (own_if_missing records d own)) w) ≡ put_all (map f (missing_to records d)) w
+pub way_up : (records : Stored) (f : Path → Path × Fate) (d : List ℕ) (own : List ℕ × List ℕ) (w : Written) → own_entry d ≡ Some own → put_all (map f (missing_to records own.0)) (put_all (map f (own_if_missing records d own)) w) ≡ put_all (map f (missing_to records d)) w
 way_up records f d own w e = sym (ap (λ t. put_all (map f t) w) (missing_by records d own e) ∙ both_put f (missing_to records own.0) (own_if_missing records d own) w)
 
 none_within : (records : Stored) (n : ℕ) (d : List ℕ) → own_entry d ≡ None → missing_within n records d ≡ []
 none_within records zero d e = refl
 none_within records (suc n) d e = ap (λ o. option_map_or (λ own. missing_within n records own.0 ++ own_if_missing records d own) o []) e
 
-pub way_ends : (records : Stored) (f : Path → Path × Option Record) (d : List ℕ) (w : Written) → own_entry d ≡ None → put_all (map f (missing_to records d)) w ≡ w
+pub way_ends : (records : Stored) (f : Path → Path × Fate) (d : List ℕ) (w : Written) → own_entry d ≡ None → put_all (map f (missing_to records d)) w ≡ w
 way_ends records f d w e = ap (λ t. put_all (map f t) w) (none_within records (length d) d e)
 
 -- ---- the entries, from the last to the first
@@ -99,5 +103,5 @@ missing_push : (records : Stored) (entries : List StoreEntry) (e : StoreEntry) �
 missing_push records [] e = append_none (missing_to records e.path.dataset)
 missing_push records (x ∷ entries) e = ap (λ t. missing_to records x.path.dataset ++ t) (missing_push records entries e) ∙ sym (append_assoc (missing_to records x.path.dataset) (missing_for records entries) (missing_to records e.path.dataset))
 
-pub last_entry : (records : Stored) (f : Path → Path × Option Record) (entries : List StoreEntry) (e : StoreEntry) (w : Written) → put_all (map f (missing_for records entries)) (put_all (map f (missing_to records e.path.dataset)) w) ≡ put_all (map f (missing_for records (entries ++ e ∷ []))) w
+pub last_entry : (records : Stored) (f : Path → Path × Fate) (entries : List StoreEntry) (e : StoreEntry) (w : Written) → put_all (map f (missing_for records entries)) (put_all (map f (missing_to records e.path.dataset)) w) ≡ put_all (map f (missing_for records (entries ++ e ∷ []))) w
 last_entry records f entries e w = sym (ap (λ t. put_all (map f t) w) (missing_push records entries e) ∙ both_put f (missing_for records entries) (missing_to records e.path.dataset) w)

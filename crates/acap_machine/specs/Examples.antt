@@ -8,6 +8,7 @@ use Rattle.acap_entries.specs.Moments.{last_moment}
 use Rattle.acap_entries.specs.Stamp.{stamp_of}
 use Rattle.acap_entries.specs.Store.{Stored, Store, Written}
 use Rattle.acap_entries.specs.declared.cell.Cell.TheVariants.{Nil, Single, Multi}
+use Rattle.acap_entries.specs.declared.fate.Fate.TheVariants as fates
 use Rattle.acap_entries.specs.declared.item.Item.TheVariants.{One}
 use Rattle.acap_entries.specs.declared.path.Path.{Path}
 use Rattle.acap_entries.specs.declared.record.Record.{Record}
@@ -111,12 +112,12 @@ writes s entries moment = written_for s.records entries moment
 pub record LimitLaw : Type 0 where
   pub string_of_65536 : is_long (long 65_536) ≡ false
   pub string_of_65537 : is_long (long 65_537) ≡ true
-  pub cells_256 : (r : Record) → table.len r.cells ≡ 256 → is_crowded (Some r) ≡ false
-  pub cells_257 : (r : Record) → table.len r.cells ≡ 257 → is_crowded (Some r) ≡ true
+  pub cells_256 : (r : Record) → table.len r.cells ≡ 256 → is_crowded (fates.Put r) ≡ false
+  pub cells_257 : (r : Record) → table.len r.cells ≡ 257 → is_crowded (fates.Put r) ≡ true
   -- a record is new that is written where there was none
-  pub new : (records : Stored) (p : Path) (r : Record) → table.get records p ≡ None → is_new records (p, Some r) ≡ true
-  pub old : (records : Stored) (p : Path) (r other : Record) → table.get records p ≡ Some other → is_new records (p, Some r) ≡ false
-  pub taken_out : (records : Stored) (p : Path) → is_new records (p, None) ≡ false
+  pub new : (records : Stored) (p : Path) (r : Record) → table.get records p ≡ None → is_new records (p, fates.Put r) ≡ true
+  pub old : (records : Stored) (p : Path) (r other : Record) → table.get records p ≡ Some other → is_new records (p, fates.Put r) ≡ false
+  pub taken_out : (records : Stored) (p : Path) → is_new records (p, fates.Remove) ≡ false
   pub records_65536 : (records : Stored) (w : Written) → list_any (λ x. is_crowded x.1) (table.entries w) ≡ false → count_after records w ≡ 65_536 → is_overfull records w ≡ false
   pub records_65537 : (records : Stored) (w : Written) → list_any (λ x. is_crowded x.1) (table.entries w) ≡ false → count_after records w ≡ 65_537 → is_overfull records w ≡ true
   -- what the entries say is refused before a limit, and a limit before the end of the clock
@@ -134,7 +135,7 @@ pub record WritingExamples : Type 0 where
   pub items : (cells : Celled) → with_items cells (text (codes "k") ∷ item (codes "k") (Put Nil) ∷ item (codes "l") Default ∷ text (codes "entry") ∷ [])
       ≡ table.remove (table.insert (table.insert cells (codes "k") (Single (codes "x"))) (codes "k") Nil) (codes "l")
   -- a missing dataset's own entry has `subdataset` (".")
-  pub step : (p : Path) (moment : ℤ) → step_at table.empty moment p ≡ (p, Some (renewed None (table.insert table.empty (codes "subdataset") (Multi (codes "." ∷ []))) moment))
+  pub step : (p : Path) (moment : ℤ) → step_at table.empty moment p ≡ (p, fates.Put (renewed None (table.insert table.empty (codes "subdataset") (Multi (codes "." ∷ []))) moment))
   -- each missing dataset on the way, the nearest to `/` first
   pub missing : missing_to table.empty (codes "/a/b/") ≡ record { dataset = codes "/"; name = codes "a" } ∷ record { dataset = codes "/a/"; name = codes "b" } ∷ []
 

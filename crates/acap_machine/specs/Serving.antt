@@ -4,7 +4,8 @@ use Rattle.std.specs.List.{list_all}
 use Rattle.acap_entries.specs.Datasets.{dataset_exists}
 use Rattle.acap_entries.specs.Homes.{for_user}
 use Rattle.acap_entries.specs.Moments.{moment_after}
-use Rattle.acap_entries.specs.Store.{Store, Written, store_after}
+use Rattle.acap_entries.specs.Changes.{store_after}
+use Rattle.acap_entries.specs.Store.{Store, Written}
 use Rattle.acap_entries.specs.declared.change.Change.{Change}
 use Rattle.acap_grammar.specs.declared.command.Command.{Command}
 use Rattle.acap_grammar.specs.declared.command.Command.TheVariants as command
@@ -38,10 +39,10 @@ abbrev pub unless_refused : Option Refusal → Result Change Refusal → Result 
 unless_refused (Some refusal) change = Err refusal
 unless_refused None change = change
 
--- the change of writes at a moment; none is left where no later moment can be told
+-- the change of writes at a moment, which deletes nothing yet; none is left where no later moment can be told
 abbrev pub change_at : Written → Option ℤ → Result Change Refusal
 change_at written None = Err refusals.ClockEnd
-change_at written (Some moment) = Ok (record { writes = written; moment = moment })
+change_at written (Some moment) = Ok (record { writes = written; moment = moment; deleted = [] })
 
 -- what is written at a moment, where that isn't too much
 unfoldable pub planned_at : Store → List StoreEntry → Option ℤ → Result Change Refusal
@@ -55,7 +56,7 @@ planned user s entries clock = unless_refused (refusal_of user entries) (planned
 
 -- all is stored, or nothing
 abbrev pub stored_by : Store → Result Change Refusal → Said × Store
-stored_by s (Ok change) = (said.Done verb.Store, store_after change.writes change.moment s)
+stored_by s (Ok change) = (said.Done verb.Store, store_after change s)
 stored_by s (Err refusal) = (said.Refused refusal, s)
 
 -- ---- SEARCH

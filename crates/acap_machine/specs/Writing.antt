@@ -1,13 +1,15 @@
 -- What a STORE writes [RFC 2244 sections 3.1, 3.1.1 and 6.6.1].
-use Rattle.std.specs.Prelude.{ℕ, zero, suc, ℤ, List, [], ◌∷◌, ◌++◌, length, true, false, Option, Some, unwrap_or, codes, flat_map, map, if◌then◌else◌}
+use Rattle.std.specs.Prelude.{ℕ, zero, suc, ℤ, List, [], ◌∷◌, ◌++◌, length, true, false, Option, codes, flat_map, map, if◌then◌else◌}
 use Rattle.std.specs.Option.{option_map_or}
 use Rattle.std.specs.FinMap as table
 use Rattle.acap_entries.specs.Datasets.{dataset_exists}
 use Rattle.acap_entries.specs.Names.{own_entry}
 use Rattle.acap_entries.specs.Orders.{octets_cmp, octets_eq}
-use Rattle.acap_entries.specs.Store.{Stored, Written}
+use Rattle.acap_entries.specs.Store.{Stored, Written, after_fate}
 use Rattle.acap_entries.specs.declared.cell.Cell.{Cell}
 use Rattle.acap_entries.specs.declared.cell.Cell.TheVariants.{Multi}
+use Rattle.acap_entries.specs.declared.fate.Fate.{Fate}
+use Rattle.acap_entries.specs.declared.fate.Fate.TheVariants as fate
 use Rattle.acap_entries.specs.declared.path.Path.{Path}
 use Rattle.acap_entries.specs.declared.record.Record.{Record}
 use Rattle.acap_grammar.specs.declared.given.Given.{Given}
@@ -34,7 +36,7 @@ renewed old cells moment = record {
 }
 
 -- the writes of a list, the first of two at one path being the one that counts
-abbrev pub put_all : List (Path × Option Record) → Written → Written
+abbrev pub put_all : List (Path × Fate) → Written → Written
 put_all [] written = written
 put_all (w ∷ ws) written = table.insert (put_all ws written) w.0 w.1
 
@@ -57,9 +59,9 @@ abbrev pub missing_for : Stored → List StoreEntry → List Path
 missing_for records entries = flat_map (λ e. missing_to records e.path.dataset) entries
 
 -- the own entry of a missing dataset gets `subdataset` (".")
-abbrev pub step_at : Stored → ℤ → Path → Path × Option Record
+abbrev pub step_at : Stored → ℤ → Path → Path × Fate
 step_at records moment p =
-    (p, Some (renewed (table.get records p) (table.insert (cells_of (table.get records p)) (codes "subdataset") (Multi (codes "." ∷ []))) moment))
+    (p, fate.Put (renewed (table.get records p) (table.insert (cells_of (table.get records p)) (codes "subdataset") (Multi (codes "." ∷ []))) moment))
 
 unfoldable pub steps_for : Stored → List StoreEntry → ℤ → Written
 steps_for records entries moment = put_all (map (step_at records moment) (missing_for records entries)) table.empty
@@ -81,11 +83,11 @@ with_items cells (item ∷ items) = with_items (with_item cells item) items
 
 -- what a path has when the missing datasets have been made
 abbrev pub stepped : Stored → Written → Path → Option Record
-stepped records steps p = unwrap_or (table.get steps p) (table.get records p)
+stepped records steps p = after_fate (table.get steps p) (table.get records p)
 
-abbrev pub entry_at : Stored → Written → ℤ → StoreEntry → Path × Option Record
+abbrev pub entry_at : Stored → Written → ℤ → StoreEntry → Path × Fate
 entry_at records steps moment e =
-    (e.path, Some (renewed (stepped records steps e.path) (with_items (cells_of (stepped records steps e.path)) e.items) moment))
+    (e.path, fate.Put (renewed (stepped records steps e.path) (with_items (cells_of (stepped records steps e.path)) e.items) moment))
 
 -- ---- all that a STORE writes: the entries, and the own entries of missing datasets
 

@@ -3,7 +3,7 @@ ghost use Rattle.std.specs.List.{list_any};
 ghost use Rattle.acap_machine.specs.Limits as limits;
 
 use crate::refusing::string_of;
-use acap_entries::{Path, Record, Tree, Writes};
+use acap_entries::{Fate, Path, Tree, Writes};
 use acap_grammar::{StoreEntry, StoreItem};
 
 /// How many octets a string may have.
@@ -37,31 +37,31 @@ pub(crate) fn has_long(entries: &[StoreEntry]) -> bool
 }
 
 // Whether too many cells are written.
-fn is_crowded(fate: &Option<Record>) -> bool
+fn is_crowded(fate: &Fate) -> bool
     ensures { result ≡ limits.is_crowded fate.now }
 {
     match fate {
-        Some(entry) => CELLS < entry.cells.len(),
-        None => false,
+        Fate::Put(entry) => CELLS < entry.get().cells.len(),
+        Fate::Remove => false,
     }
 }
 
 // Whether too many cells are written somewhere.
-fn has_crowded(writes: &[(Path, Option<Record>)]) -> bool
+fn has_crowded(writes: &[(Path, Fate)]) -> bool
     ensures { result ≡ list_any (λ w. limits.is_crowded w.1) writes.now }
 {
     writes.iter().any(|(_, fate)| is_crowded(fate))
 }
 
 // Whether a write makes a record where there was none.
-fn is_new(tree: &Tree, path: &Path, fate: &Option<Record>) -> bool
+fn is_new(tree: &Tree, path: &Path, fate: &Fate) -> bool
     ensures { result ≡ limits.is_new tree.now.store.records (path.now, fate.now) }
 {
-    fate.is_some() && tree.get(path).is_none()
+    matches!(fate, Fate::Put(_)) && tree.get(path).is_none()
 }
 
 // How many writes make a record where there was none.
-fn count_new(tree: &Tree, writes: &[(Path, Option<Record>)]) -> usize
+fn count_new(tree: &Tree, writes: &[(Path, Fate)]) -> usize
     ensures { result ≡ length (filter (limits.is_new tree.now.store.records) writes.now) }
 {
     let mut count = 0;

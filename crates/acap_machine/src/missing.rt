@@ -1,10 +1,12 @@
+ghost use Rattle.std.specs.Option.{option_map_or};
+ghost use Rattle.acap_entries.specs.Names.{own_entry};
 ghost use Rattle.std.specs.Prelude.{◌≡◌, [], ◌∷◌, map, codes, IfOk, OnOk};
 ghost use Rattle.acap_entries.specs.declared.cell.Cell.TheVariants as cell;
 ghost use Rattle.acap_machine.specs.Writing as writing;
 
 use crate::writing::{cells_of, renewed};
 use acap_entries::names::own_entry_of;
-use acap_entries::{Attribute, Cell, Memory, Moment, Path, Record, Tree, Value, Values, Writes};
+use acap_entries::{Attribute, Boxed, Cell, Fate, Memory, Moment, Path, Record, Tree, Value, Values, Writes};
 use acap_grammar::StoreEntry;
 use std::alloc::Global;
 
@@ -23,7 +25,7 @@ fn step_at(
     tree: &Tree,
     path: Path,
     moment: Moment,
-) -> Result<(Path, Option<Record>), Memory>
+) -> Result<(Path, Fate), Memory>
     ensures { IfOk result (λ made. made ≡ writing.step_at tree.now.store.records moment path) }
 {
     let old = tree.get(&path);
@@ -31,7 +33,7 @@ fn step_at(
     let attribute = Attribute::from_slice(alloc, b"subdataset")?;
     cells.set(attribute, dot_list(alloc)?)?;
     let record = renewed(alloc, old, cells, moment)?;
-    Ok((path, Some(record)))
+    Ok((path, Fate::Put(Boxed::new(alloc, record)?)))
 }
 
 // Writes the own entry of a dataset, if that is missing.
@@ -40,16 +42,16 @@ fn write_step(
     tree: &Tree,
     writes: &mut Writes,
     dataset: &[u8],
-    parent: &[u8],
-    name: &[u8],
     moment: Moment,
 ) -> Result<(), Memory>
-    ensures { OnOk result (writes.new ≡ writing.put_all (map (writing.step_at tree.now.store.records moment) (writing.own_if_missing tree.now.store.records dataset.now (parent.now, name.now))) writes.old) }
+    ensures { OnOk result (writes.new ≡ writing.put_all (map (writing.step_at tree.now.store.records moment) (option_map_or (writing.own_if_missing tree.now.store.records dataset.now) (own_entry dataset.now) [])) writes.old) }
 {
     if tree.dataset_exists(dataset) {
         return Ok(());
     }
-    let path = Path::from_slices(alloc, parent, name)?;
+    let Some(path) = Path::own_entry(alloc, dataset)? else {
+        return Ok(());
+    };
     let (path, fate) = step_at(alloc, tree, path, moment)?;
     writes.set(path, fate)
 }
@@ -65,8 +67,8 @@ fn write_steps(
     ensures { OnOk result (writes.new ≡ writing.put_all (map (writing.step_at tree.now.store.records moment) (writing.missing_to tree.now.store.records dataset.now)) writes.old) }
 {
     let mut way = dataset;
-    while let Some((parent, name)) = own_entry_of(way) {
-        write_step(alloc, tree, writes, way, parent, name, moment)?;
+    while let Some((parent, _)) = own_entry_of(way) {
+        write_step(alloc, tree, writes, way, moment)?;
         way = parent;
     }
     Ok(())

@@ -7,7 +7,7 @@ ghost use Rattle.acap_machine.specs.Serving as serving;
 use crate::limits::{has_long, is_too_much};
 use crate::refusing::refusal_of;
 use crate::writing::written_for;
-use acap_entries::{Change, Memory, Moment, Tree, UserName, Writes};
+use acap_entries::{Change, Memory, Moment, Paths, Tree, UserName, Writes};
 use acap_grammar::{Entries, Refusal};
 use std::alloc::Global;
 
@@ -23,6 +23,7 @@ fn written_at(moment: &Option<Moment>, last: Moment) -> Moment
 
 // The change of writes, or why the store can't make it: they are too much, or no later moment can be told.
 fn change_of(
+    alloc: Global,
     tree: &Tree,
     has_long: bool,
     writes: Writes,
@@ -34,7 +35,11 @@ fn change_of(
         return Err(Refusal::Limit);
     }
     match moment {
-        Some(moment) => Ok(Change { writes, moment }),
+        Some(moment) => Ok(Change {
+            writes,
+            moment,
+            deleted: Paths::new(alloc),
+        }),
         None => Err(Refusal::ClockEnd),
     }
 }
@@ -51,7 +56,7 @@ fn plan_at(
 {
     let has_long = has_long(entries.as_slice());
     let writes = written_for(alloc, tree, entries, written_at(&moment, tree.last()))?;
-    Ok(change_of(tree, has_long, writes, moment))
+    Ok(change_of(alloc, tree, has_long, writes, moment))
 }
 
 /// The change that a STORE of entries makes when the clock shows that moment, or its first refusal.

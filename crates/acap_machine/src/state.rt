@@ -1,6 +1,6 @@
 ghost use Rattle.std.specs.Prelude.{◌≡◌, IfOk, IfErr, OnErr, IsOk, IsSome, Ok, Err};
 ghost use Rattle.std.specs.FinMap as table;
-ghost use Rattle.acap_entries.specs.Moments.{first_moment};
+ghost use Rattle.acap_entries.specs.Store.{empty_store};
 
 use crate::event::Event;
 use crate::fault::Fault;
@@ -35,7 +35,7 @@ impl State {
 
     /// The empty store, and nobody in any seat. Takes no memory.
     pub fn new(alloc: Global) -> State
-        ensures { result.machine ≡ record { store = record { records = table.empty; last = first_moment }; seats = table.empty } }
+        ensures { result.machine ≡ record { store = empty_store; seats = table.empty } }
     {
         State {
             tree: Tree::new(alloc),

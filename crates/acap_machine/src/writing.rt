@@ -4,7 +4,7 @@ ghost use Rattle.std.specs.FinMap as table;
 ghost use Rattle.acap_machine.specs.Writing as writing;
 
 use crate::missing::steps_for;
-use acap_entries::{Acls, Cells, Copying, Memory, Moment, Path, Record, Tree, Writes};
+use acap_entries::{Acls, Boxed, Cells, Copying, Fate, Memory, Moment, Path, Record, Tree, Writes};
 use acap_grammar::{Entries, Given, StoreEntry, StoreItem, StoreItems};
 use std::alloc::Global;
 
@@ -88,8 +88,8 @@ fn stepped<'a>(tree: &'a Tree, steps: &'a Writes, path: &Path) -> Option<&'a Rec
     ensures { option_copied result ≡ writing.stepped tree.now.store.records steps.now path.now }
 {
     match steps.get(path) {
-        Some(Some(record)) => Some(record),
-        Some(None) => None,
+        Some(Fate::Put(record)) => Some(record.get()),
+        Some(Fate::Remove) => None,
         None => tree.get(path),
     }
 }
@@ -101,7 +101,7 @@ fn entry_at(
     steps: &Writes,
     entry: StoreEntry,
     moment: Moment,
-) -> Result<(Path, Option<Record>), Memory>
+) -> Result<(Path, Fate), Memory>
     ensures { IfOk result (λ made. made ≡ writing.entry_at tree.now.store.records steps.now moment entry) }
 {
     let StoreEntry { path, items, .. } = entry;
@@ -109,7 +109,7 @@ fn entry_at(
     let mut cells = cells_of(alloc, old)?;
     give_items(&mut cells, items)?;
     let record = renewed(alloc, old, cells, moment)?;
-    Ok((path, Some(record)))
+    Ok((path, Fate::Put(Boxed::new(alloc, record)?)))
 }
 
 // What the entries write, each by itself.
@@ -119,10 +119,10 @@ fn entries_at(
     steps: &Writes,
     entries: Entries,
     moment: Moment,
-) -> Result<Vec<(Path, Option<Record>)>, Memory>
+) -> Result<Vec<(Path, Fate)>, Memory>
     ensures { IfOk result (λ made. made.items ≡ map (writing.entry_at tree.now.store.records steps.now moment) entries) }
 {
-    let mut made = Vec::new(alloc);
+    let mut made = Vec::with_capacity(alloc, entries.len())?;
     for entry in entries.into_vec() {
         made.push(entry_at(alloc, tree, steps, entry, moment)?)?;
     }
@@ -131,7 +131,7 @@ fn entries_at(
 
 // Adds writes, the first of two at one path being the one that counts.
 #[tactic(auto, using(crate::proofs::WriteLemmas::put_all_append))]
-fn put_all(writes: &mut Writes, added: Vec<(Path, Option<Record>)>) -> Result<(), Memory>
+fn put_all(writes: &mut Writes, added: Vec<(Path, Fate)>) -> Result<(), Memory>
     ensures { OnOk result (writes.new ≡ writing.put_all added.items writes.old) }
 {
     let mut left = added;

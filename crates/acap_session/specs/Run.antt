@@ -6,7 +6,7 @@ use Rattle.acap_lexer.specs.Held.{answers_of}
 use Rattle.acap_lexer.specs.declared.lexed.Lexed.{Lexed}
 use Rattle.acap_lexer.specs.declared.mode.Mode.{Mode}
 use Rattle.acap_lexer.specs.declared.mode.Mode.TheVariants as mode
-use Rattle.acap_entries.specs.Moments.{first_moment}
+use Rattle.acap_entries.specs.Store.{empty_store}
 use Rattle.acap_grammar.specs.declared.reply.Reply.{Reply}
 use Rattle.acap_machine.specs.Machine.{Machine}
 use Rattle.acap_machine.specs.Runs.{outcome_of, machine_after}
@@ -70,7 +70,7 @@ said_from user refused m items =
     t.octets ++ (if t.closed then [] else said_to user t.refused t.machine items)
 
 abbrev pub new_machine : Machine
-new_machine = record { store = record { records = table.empty; last = first_moment }; seats = table.empty }
+new_machine = record { store = empty_store; seats = table.empty }
 
 -- as many commands as there are octets are enough
 abbrev pub commands : ℕ → List Mode

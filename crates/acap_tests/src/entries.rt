@@ -1,9 +1,9 @@
-//! Tests of acap_entries through its public calls: each with ample memory, and one where memory may be refused.
+//! Tests of acap_entries through its public calls: with ample memory, but for one where memory may be refused.
 use acap_entries::existence::makes_dataset;
 use acap_entries::stamp::{civil_of, stamp};
 use acap_entries::{
-    Acls, Attribute, Cell, CellList, CellLists, Cells, Change, ContextName, Copying, Dataset,
-    EntryName, Item, Items, Memory, Moment, NameFault, Octets, Path, Record, Records, Row, Seat,
+    Acls, Attribute, Boxed, Cell, CellList, CellLists, Cells, Change, ContextName, Copying, Dataset,
+    EntryName, Fate, Item, Items, Memory, Moment, NameFault, Octets, Path, Paths, Record, Records, Row, Seat,
     Tree, UserName, Value, Values, Writes, read_time,
 };
 use std::alloc::Global;
@@ -224,10 +224,10 @@ fn means_by_a_user(rt: HostRuntime) {
 }
 
 fn own_entries(alloc: Global) -> Result<bool, Memory> {
-    let joe = Path::own_entry(alloc, &Dataset::from_slice(alloc, b"/option/user/joe/")?)?;
-    let root = Path::own_entry(alloc, &Dataset::from_slice(alloc, b"/")?)?;
+    let joe = Path::own_entry(alloc, b"/option/user/joe/")?;
+    let root = Path::own_entry(alloc, b"/")?;
     let named = match joe {
-        Some(path) => path == Path::from_slices(alloc, b"/option/user/", b"joe")?,
+        Some(path) => path == path_at(alloc, b"/option/user/", b"joe")?,
         None => false,
     };
     Ok(named && root.is_none())
@@ -470,7 +470,7 @@ fn lists(alloc: Global) -> Result<bool, Memory> {
     let octets = Octets::from_vec(Octets::from_slice(alloc, b"ab")?.copy()?.into_vec());
     let mut values = Values::new(alloc);
     let empty = values.is_empty();
-    values.push(Value::new(octets))?;
+    values.push(Value::from_slice(alloc, octets.as_slice())?)?;
     let values = Values::from_vec(values.copy()?.into_vec());
     let mut acls = Acls::new(alloc);
     acls.set(Attribute::from_slice(alloc, b"k")?, values)?;
@@ -534,6 +534,14 @@ fn keeps_rows(rt: HostRuntime) {
     assert!(rt; rows(rt.alloc()) == Ok(true));
 }
 
+fn path_at(alloc: Global, dataset: &[u8], name: &[u8]) -> Result<Path, Memory> {
+    Path::from_slices(alloc, dataset, name).map_err(|_| Memory)
+}
+
+fn put(alloc: Global, record: Record) -> Result<Fate, Memory> {
+    Ok(Fate::Put(Boxed::new(alloc, record)?))
+}
+
 // The tree with four entries and the dataset `/a/`.
 fn planted(alloc: Global) -> Result<Tree, Memory> {
     let mut writes = Writes::new(alloc);
@@ -543,18 +551,24 @@ fn planted(alloc: Global) -> Result<Tree, Memory> {
         (b"/a/b/", b"z", b"3"),
         (b"/", b"q", b"4"),
     ] {
-        let path = Path::from_slices(alloc, dataset, name)?;
-        writes.set(path, Some(record_with(alloc, text, moment(5))?))?;
+        let path = path_at(alloc, dataset, name)?;
+        writes.set(path, put(alloc, record_with(alloc, text, moment(5))?)?)?;
     }
-    let own = Path::from_slices(alloc, b"/", b"a")?;
-    writes.set(own, Some(dataset_record(alloc)?))?;
+    let own = path_at(alloc, b"/", b"a")?;
+    writes.set(own, put(alloc, dataset_record(alloc)?)?)?;
     let mut tree = Tree::new(alloc);
-    commit(&mut tree, writes, moment(5))?;
+    commit(alloc, &mut tree, writes, moment(5))?;
     Ok(tree)
 }
 
-fn commit(tree: &mut Tree, writes: Writes, moment: Moment) -> Result<(), Memory> {
-    let change = Change { writes, moment }.copy()?;
+fn commit(alloc: Global, tree: &mut Tree, writes: Writes, moment: Moment) -> Result<(), Memory> {
+    let deleted = Paths::new(alloc);
+    let change = Change {
+        writes,
+        moment,
+        deleted,
+    }
+    .copy()?;
     tree.reserve(&change)?;
     tree.commit(change);
     Ok(())
@@ -584,22 +598,22 @@ fn has_datasets(alloc: Global) -> Result<bool, Memory> {
 fn changes(alloc: Global) -> Result<bool, Memory> {
     let mut tree = planted(alloc)?;
     let old = tree.copy()?;
-    let x = Path::from_slices(alloc, b"/a/", b"x")?;
-    let y = Path::from_slices(alloc, b"/a/", b"y")?;
+    let x = path_at(alloc, b"/a/", b"x")?;
+    let y = path_at(alloc, b"/a/", b"y")?;
     let mut writes = Writes::new(alloc);
-    writes.set(x.copy()?, None)?;
-    writes.set(y.copy()?, Some(record_with(alloc, b"9", moment(6))?))?;
-    let kept = matches!(writes.get(&x), Some(None)) && writes.entries().len() == 2;
-    commit(&mut tree, writes, moment(6))?;
+    writes.set(x.copy()?, Fate::Remove)?;
+    writes.set(y.copy()?, put(alloc, record_with(alloc, b"9", moment(6))?)?)?;
+    let kept = matches!(writes.get(&x), Some(Fate::Remove)) && writes.find(b"/a/", b"z").is_none() && writes.entries().len() == 2;
+    commit(alloc, &mut tree, writes, moment(6))?;
     let gone = tree.get(&x).is_none() && holds(&tree, b"/a/", b"y", b"9");
     let before = holds(&old, b"/a/", b"x", b"2") && old.last() == moment(5);
     Ok(kept && gone && before && tree.last() == moment(6))
 }
 
 fn drops_writes(alloc: Global) -> Result<bool, Memory> {
-    let x = Path::from_slices(alloc, b"/a/", b"x")?;
+    let x = path_at(alloc, b"/a/", b"x")?;
     let mut writes = Writes::new(alloc);
-    writes.set(x.copy()?, None)?;
+    writes.set(x.copy()?, Fate::Remove)?;
     let one = writes.len() == 1;
     writes.remove(&x);
     Ok(one && writes.len() == 0)
@@ -614,10 +628,10 @@ fn keeps_a_tree(rt: HostRuntime) {
 }
 
 fn fill(alloc: Global, tree: &mut Tree) -> Result<(), Memory> {
-    let path = Path::from_slices(alloc, b"/a/", b"x")?;
+    let path = path_at(alloc, b"/a/", b"x")?;
     let mut writes = Writes::new(alloc);
-    writes.set(path, Some(record_with(alloc, b"2", moment(5))?))?;
-    commit(tree, writes, moment(5))
+    writes.set(path, put(alloc, record_with(alloc, b"2", moment(5))?)?)?;
+    commit(alloc, tree, writes, moment(5))
 }
 
 // Whichever allocation is refused: the tree is as it was, or as it was to become.

@@ -15,3 +15,5 @@ mod order;
 mod pipe;
 #[cfg(test)]
 mod printing;
+#[cfg(test)]
+mod tree;

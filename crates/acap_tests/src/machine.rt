@@ -106,7 +106,7 @@ fn item_of(alloc: Global, attribute: &[u8], text: &[u8]) -> Result<StoreItem, Me
 // An entry at a path, whose dataset is all through the last `/`.
 fn entry(alloc: Global, path: &[u8], items: StoreItems) -> Result<StoreEntry, Memory> {
     let (dataset, name) = split(path);
-    let path = Path::from_slices(alloc, dataset, name)?;
+    let path = Path::from_slices(alloc, dataset, name).map_err(|_| Memory)?;
     Ok(StoreEntry {
         path,
         modifiers: StoreModifiers::none(),
@@ -190,7 +190,7 @@ pub(crate) fn search(
         Some(texts) => Some(attributes(alloc, texts)?),
         None => None,
     };
-    let target = Target::Dataset(Dataset::from_slice(alloc, dataset)?);
+    let target = Target::Dataset(Dataset::from_slice(alloc, dataset).map_err(|_| Memory)?);
     let modifiers = SearchModifiers {
         returns,
         ..SearchModifiers::none()

@@ -101,7 +101,7 @@ fn prints_refusals(rt: HostRuntime) -> Result<(), Memory> {
 #[test]
 fn prints_codes(rt: HostRuntime) -> Result<(), Memory> {
     let alloc = rt.alloc();
-    let dataset = Dataset::from_slice(alloc, b"/option/user/joe/")?;
+    let dataset = Dataset::from_slice(alloc, b"/option/user/joe/").map_err(|_| Memory)?;
     assert!(rt;
         refuses(
             alloc,
@@ -109,7 +109,7 @@ fn prints_codes(rt: HostRuntime) -> Result<(), Memory> {
             b"A1 NO (NOEXIST \"/option/user/joe/\") \"No such dataset\""
         )?
     );
-    let path = Path::from_slices(alloc, b"/option/user/joe/", b"n")?;
+    let path = Path::from_slices(alloc, b"/option/user/joe/", b"n").map_err(|_| Memory)?;
     assert!(rt;
         refuses(
             alloc,
@@ -117,7 +117,7 @@ fn prints_codes(rt: HostRuntime) -> Result<(), Memory> {
             b"A1 NO (MODIFIED \"/option/user/joe/n\") \"Entry was changed\""
         )?
     );
-    let path = Path::from_slices(alloc, b"/option/user/joe/", b"n")?;
+    let path = Path::from_slices(alloc, b"/option/user/joe/", b"n").map_err(|_| Memory)?;
     let attribute = Attribute::from_slice(alloc, b"modtime")?;
     assert!(rt;
         refuses(
@@ -127,7 +127,7 @@ fn prints_codes(rt: HostRuntime) -> Result<(), Memory> {
         )?
     );
     let object = Object {
-        dataset: Dataset::from_slice(alloc, b"/option/site/")?,
+        dataset: Dataset::from_slice(alloc, b"/option/site/").map_err(|_| Memory)?,
         attribute: Some(Attribute::from_slice(alloc, b"entry")?),
         name: Some(EntryName::from_slice(alloc, b"b")?),
     };
@@ -147,7 +147,7 @@ fn prints_codes(rt: HostRuntime) -> Result<(), Memory> {
         )?
     );
     let object = Object {
-        dataset: Dataset::from_slice(alloc, b"/option/site/")?,
+        dataset: Dataset::from_slice(alloc, b"/option/site/").map_err(|_| Memory)?,
         attribute: Some(Attribute::from_slice(alloc, b"a")?),
         name: None,
     };
@@ -159,7 +159,7 @@ fn prints_codes(rt: HostRuntime) -> Result<(), Memory> {
         )?
     );
     let object = Object {
-        dataset: Dataset::from_slice(alloc, b"/option/site/")?,
+        dataset: Dataset::from_slice(alloc, b"/option/site/").map_err(|_| Memory)?,
         attribute: None,
         name: None,
     };
