@@ -75,6 +75,7 @@ next_examples = record {
   closed = λ text. refl;
   opens = λ text. refl;
   hears = refl;
+  empty_line = refl;
   ends = refl;
 }
 
@@ -118,6 +119,7 @@ run_examples = record {
   others = λ later m octets. refl;
   closes = λ later m. refl;
   may_not_enter = λ later user. refl;
+  empty_line = λ user. ap (written_by [] user crlf) (get-empty nat_cmp 0);
   unfinished = λ user. ap (written_by [] user (codes "A1 NOOP")) (get-empty nat_cmp 0);
   logout = λ user. ap (written_by [] user (codes "A1 LOGOUT" ++ crlf ++ codes "A2 NOOP" ++ crlf)) (get-empty nat_cmp 0);
   no_memory = λ user. ap (written_by (true ∷ []) user (codes "A1 FREECONTEXT \"c\"" ++ crlf ++ codes "A2 NOOP" ++ crlf)) (get-empty nat_cmp 0);

@@ -116,6 +116,7 @@ pub record NextExamples : Type 0 where
   pub closed : (text : List ℕ) → session_next (talking stage.Closed text) ≡ (next.More, talking stage.Closed text)
   pub opens : (text : List ℕ) → session_next (talking stage.Opening text) ≡ (next.Ask (event.Enter (codes "joe")), talking stage.Entering text)
   pub hears : session_next (talking stage.Ready (codes "A1 NOOP" ++ crlf ++ codes "A2")) ≡ (next.Say (codes "A1 OK \"NOOP done\"" ++ crlf), talking stage.Ready (codes "A2"))
+  pub empty_line : session_next (talking stage.Ready crlf) ≡ (next.Say (codes "* BAD \"Bad tag\"" ++ crlf), talking stage.Ready [])
   pub ends : session_next (talking stage.Ready (codes "A1 LOGOUT" ++ crlf ++ codes "A2"))
       ≡ (next.Close (codes "* BYE \"Good bye\"" ++ crlf ++ codes "A1 OK \"LOGOUT done\"" ++ crlf), talking stage.Closed (codes "A2"))
 
@@ -159,6 +160,7 @@ pub record RunExamples : Type 0 where
   -- nothing is said behind a close
   pub closes : (later : Refused) (m : Machine) → said_to (codes "joe") later m (lexed.Plus ∷ lexed.Fatal lexical.LineTooLong ∷ lexed.Plus ∷ []) ≡ codes "+ \"Ready\"" ++ crlf ++ codes "* BYE \"Line too long\"" ++ crlf
   pub may_not_enter : (later : Refused) (user : List ℕ) → octets_with (true ∷ later) user (codes "A1 NOOP" ++ crlf) ≡ []
+  pub empty_line : (user : List ℕ) → octets_for user crlf ≡ greeting ++ (codes "* BAD \"Bad tag\"" ++ crlf)
   pub unfinished : (user : List ℕ) → octets_for user (codes "A1 NOOP") ≡ greeting
   pub logout : (user : List ℕ) → octets_for user (codes "A1 LOGOUT" ++ crlf ++ codes "A2 NOOP" ++ crlf) ≡ greeting ++ (codes "* BYE \"Good bye\"" ++ crlf ++ codes "A1 OK \"LOGOUT done\"" ++ crlf)
   pub no_memory : (user : List ℕ) → octets_with (false ∷ true ∷ []) user (codes "A1 FREECONTEXT \"c\"" ++ crlf ++ codes "A2 NOOP" ++ crlf)
