@@ -1,5 +1,5 @@
 -- The records of a dataset, and those of it and the datasets beneath it, lie between two keys.
-use Rattle.std.proofs.Common.{◌≡◌, ◌<◌, ◌≤◌, ℕ, Bool, true, false, not, List, [], ◌∷◌, ◌++◌, ◌-◌, length, take, drop, refl, sym, ap, ◌∙◌, ◌&&◌, arith, nat_eq, append-nil}
+use Rattle.std.proofs.Common.{◌≡◌, ◌<◌, ℕ, Bool, not, List, [], ◌∷◌, ◌++◌, ◌-◌, take, drop, refl, sym, ap, ◌∙◌, ◌&&◌, arith, nat_eq, append-nil}
 use Rattle.std.specs.Prelude.{filter}
 use Rattle.std.specs.List.{starts_with}
 use Rattle.std.specs.declared.cmp.Ordering.{Ordering}
@@ -40,10 +40,10 @@ none_less x e = absurd (not_greater_than x e)
 
 greater_than : (a b : ℕ) → b < a → nat_cmp a b ≡ Greater
 greater_than a b lt = elim (nat_cmp a b) as (λ r. r ≡ nat_cmp a b → r ≡ Greater) [
-    | Less ↦ λ e. let bad : a < b = ranked a b Less e in absurd (omega arith)
-    | Equal ↦ λ e. let bad : a ≡ b = ranked a b Equal e in absurd (omega arith)
-    | Greater ↦ λ e. refl
-  ] refl
+  | Less ↦ λ e. let bad : a < b = ranked a b Less e in absurd (omega arith)
+  | Equal ↦ λ e. let bad : a ≡ b = ranked a b Equal e in absurd (omega arith)
+  | Greater ↦ λ e. refl
+] refl
 
 slash_less : (x : List ℕ) → octets_cmp (47 ∷ []) x ≡ Greater → octets_cmp (48 ∷ []) x ≡ Greater
 slash_less [] e = refl

@@ -1,8 +1,7 @@
 -- Which deletions are kept.
-use Rattle.std.proofs.Common.{◌≡◌, ℕ, zero, suc, ◌+◌, ◌-◌, ◌<◌, ◌≤◌, List, [], ◌∷◌, ◌++◌, length, take, drop, get_or, Option, Some, None, refl, sym, ap, ◌∙◌, arith, length-append, length-drop, length-take, take-append-drop, append_assoc, append-nil, ◌⊎◌, inl, inr}
+use Rattle.std.proofs.Common.{◌≡◌, ℕ, zero, suc, ◌+◌, ◌-◌, ◌<◌, ◌≤◌, List, [], ◌∷◌, ◌++◌, length, take, drop, Option, Some, refl, sym, ap, ◌∙◌, arith, length-append, length-drop, take-append-drop, append_assoc, append-nil, ◌⊎◌, inl, inr}
 use Rattle.std.specs.Prelude.{ℤ, slice_get}
-use Rattle.std.specs.Option.{option_map, option_or}
-use Rattle.std.proofs.lemmas.List.{drop-append-le, take-append-le}
+use Rattle.std.proofs.lemmas.List.{drop-append-le}
 use Rattle.std.proofs.Math.Seq.{drop-drop}
 use Rattle.acap_entries.specs.Deletions.{newest_of, others_of, forgotten_of, deletions_at, Remembered, IsAdded}
 use Rattle.acap_entries.specs.Laws.{DeletionLaw}
@@ -100,22 +99,22 @@ full_or_not (suc n) (suc m) = elim (full_or_not n m) [ inl h ↦ inl (omega arit
 
 pub forgotten_next : (before : Option ℤ) (all : List Deletion) (d : Deletion) → forgotten_of (forgotten_of before all) (newest_of all ++ d ∷ []) ≡ forgotten_of before (all ++ d ∷ [])
 forgotten_next before all d = elim (full_or_not (length all) 4096) [
-    | inl few ↦
-        let short : length all ≤ 4096 = omega arith in
-        rw (kept_whole all short, none_forgotten before all short) refl
-    | inr many ↦
-        forgotten_at before (forgotten_of before all) (others_of all) (newest_of all) d (newest_full all many)
-        ∙ ap (λ (es : List Deletion). forgotten_of before (es ++ d ∷ [])) (whole all)
-  ]
+  | inl few ↦
+      let short : length all ≤ 4096 = omega arith in
+      rw (kept_whole all short, none_forgotten before all short) refl
+  | inr many ↦
+      forgotten_at before (forgotten_of before all) (others_of all) (newest_of all) d (newest_full all many)
+      ∙ ap (λ (es : List Deletion). forgotten_of before (es ++ d ∷ [])) (whole all)
+]
 
 pub added_next : (old mid new : Remembered) (added : List Deletion) (d : Deletion) → IsAdded added old mid → IsAdded (d ∷ []) mid new → IsAdded (added ++ d ∷ []) old new
 added_next old mid new added d p q = record {
   kept = q.kept ∙ ap (λ (es : List Deletion). newest_of (es ++ d ∷ [])) p.kept ∙ by_parts (old.kept ++ added) (d ∷ []) ∙ ap newest_of (append_assoc old.kept added (d ∷ []));
   forgotten =
-    q.forgotten ∙ ap (λ (es : List Deletion). forgotten_of mid.forgotten (es ++ d ∷ [])) p.kept
-    ∙ ap (λ (f : Option ℤ). forgotten_of f (newest_of (old.kept ++ added) ++ d ∷ [])) p.forgotten
-    ∙ forgotten_next old.forgotten (old.kept ++ added) d
-    ∙ ap (forgotten_of old.forgotten) (append_assoc old.kept added (d ∷ []));
+      q.forgotten ∙ ap (λ (es : List Deletion). forgotten_of mid.forgotten (es ++ d ∷ [])) p.kept
+      ∙ ap (λ (f : Option ℤ). forgotten_of f (newest_of (old.kept ++ added) ++ d ∷ [])) p.forgotten
+      ∙ forgotten_next old.forgotten (old.kept ++ added) d
+      ∙ ap (forgotten_of old.forgotten) (append_assoc old.kept added (d ∷ []));
 }
 
 pub none_added : (old : Remembered) → length old.kept ≤ 4096 → IsAdded [] old old

@@ -1,11 +1,7 @@
 -- The order of full paths.
-use Rattle.std.proofs.Common.{◌≡◌, ℕ, zero, suc, ◌+◌, ◌-◌, ◌<◌, ◌≤◌, Bool, true, false, not, List, [], ◌∷◌, ◌++◌, length, take, drop, refl, sym, ap, ◌∙◌, arith}
-use Rattle.std.specs.declared.cmp.Ordering.TheVariants.{Equal}
 use Rattle.std.specs.Cmp.Lexicographic.{on_texts}
-use Rattle.acap_entries.specs.FullPaths.{full_path, full_path_cmp, IsWellFormed}
+use Rattle.acap_entries.specs.FullPaths.{full_path}
 use Rattle.acap_entries.specs.Laws.{FullPathLaw}
-use Rattle.acap_entries.specs.Names.{slash, has, ends_with}
-use Rattle.acap_entries.specs.declared.path.Path.{Path}
 use Rattle.acap_entries.proofs.NameLemmas.{same_parts}
 use Rattle.acap_entries.proofs.StoreLemmas.{octets_same}
 

@@ -1,5 +1,5 @@
 -- The lemmas on maps in order at the two kinds of key.
-use Rattle.std.proofs.Common.{◌≡◌, ℕ, length, List, Option, []}
+use Rattle.std.proofs.Common.{◌≡◌, ℕ, length, List, []}
 use Rattle.std.specs.Cmp.Lexicographic.{nat_list_cmp_total}
 use Rattle.std.specs.FinMap.{len, get, insert, remove, from_sorted, empty, entries}
 use Rattle.acap_entries.specs.Orders.{octets_cmp}

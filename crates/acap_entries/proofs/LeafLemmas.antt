@@ -1,10 +1,10 @@
 -- Entries that lie in leaves: what an edit of the key's leaf makes of all.
-use Rattle.std.proofs.Common.{◌≡◌, ℕ, zero, suc, ◌+◌, ◌<◌, ◌≤◌, Bool, true, false, not, cond, T, IsTrue, List, [], ◌∷◌, ◌++◌, length, get_or, set, take, drop, Option, Some, None, ◌==◌, refl, sym, ap, subst, ◌∙◌, arith, ◌&&◌, length-append, length-take, length-drop, take-append-drop, ◌-◌, ◌/◌, append_assoc, append-nil, ◌⊎◌, inl, inr}
+use Rattle.std.proofs.Common.{◌≡◌, ℕ, zero, suc, ◌+◌, ◌<◌, ◌≤◌, Bool, true, false, not, cond, T, IsTrue, List, [], ◌∷◌, ◌++◌, length, get_or, set, take, drop, Some, None, ◌==◌, refl, sym, ap, subst, ◌∙◌, arith, ◌&&◌, length-append, length-take, length-drop, take-append-drop, ◌-◌, ◌/◌, append_assoc, append-nil, ◌⊎◌, inl, inr}
 use Rattle.std.specs.declared.cmp.Ordering.{Ordering}
 use Rattle.std.specs.declared.cmp.Ordering.TheVariants.{Less, Equal, Greater}
-use Rattle.std.specs.Ordering.{is_eq, is_lt}
+use Rattle.std.specs.Ordering.{is_eq}
 use Rattle.std.specs.Cmp.{IsTotalOrder}
-use Rattle.std.specs.List.{insert, remove, flat_map, list_all}
+use Rattle.std.specs.List.{insert, remove, list_all}
 use Rattle.std.specs.FinMap.{find, put, is_sorted}
 use Rattle.std.specs.FinMap.Entries.{by_order, below_all}
 use Rattle.acap_entries.specs.Sorted.{place, is_tied, without, found, put_in, InOrder}
@@ -346,6 +346,7 @@ module _ {K X : Type 0} (R : K → K → Ordering) where
       | Equal ↦ λ e h t. refl
       | Greater ↦ λ e h t. find_within k b c (second _ _ s) (omega arith) (λ u. omega (arith, t u))
     ] refl
+
     pub found_in_leaf : (k : K) (ls : List (List (K × X))) (i : ℕ) → InOrder R (joined ls) → IsAmong R k ls i (i + 1) → found R k (get_or ls i []) ≡ found R k (joined ls)
     unfolding found
     found_in_leaf k ls i h among =
@@ -354,7 +355,6 @@ module _ {K X : Type 0} (R : K → K → Ordering) where
         let e = joined_at ls i at in
         let rest = sorted_rest R (joined (take i ls)) _ (subst (λ (es : List (K × X)). T (is_sorted R es)) e (subst T (sym h.rises) tt)) in
         sym (ap (λ (es : List (K × X)). find R k es) e ∙ find_past k (joined (take i ls)) _ l.from ∙ find_within k (get_or ls i []) (joined (drop (suc i) ls)) rest l.until l.tied)
-
 
     -- what stays when a key is taken out
     without_past : (k : K) (a r : List (K × X)) → length a ≤ place R k (a ++ r) → without R k (a ++ r) ≡ a ++ without R k r
@@ -575,7 +575,6 @@ pub next_leaf : {A : Type 0} (ls : List (List A)) (i : ℕ) (leaf : List A) → 
 next_leaf {A} ls i leaf lt is =
     let next : i + 1 ≡ suc i = omega arith in
     rw next (drop_at ls i lt ∙ ap (λ (l : List A). l ++ joined (drop (suc i) ls)) (leaf_read ls i leaf lt is))
-
 
 -- ---- an iterator's first item
 

@@ -151,9 +151,9 @@ home_within d e = let long = long_enough (drop (second_at d) d) (both_hold _ _ e
 pub for_user_closed : (user d : List ℕ) → ends_with slash d ≡ true → ends_with slash (for_user user d) ≡ true
 unfolding for_user
 for_user_closed user d h = elim (is_home d) as (λ b. is_home d ≡ b → ends_with slash (cond b (take (second_at d) d ++ codes "user/" ++ user ++ drop (second_at d + 1) d) d) ≡ true) [
-    | true ↦ λ e. closed_behind (take (second_at d) d ++ codes "user/" ++ user) (drop (second_at d + 1) d) (closed_dropped (second_at d + 1) d (home_within d e) h)
-    | false ↦ λ e. h
-  ] refl
+  | true ↦ λ e. closed_behind (take (second_at d) d ++ codes "user/" ++ user) (drop (second_at d + 1) d) (closed_dropped (second_at d + 1) d (home_within d e) h)
+  | false ↦ λ e. h
+] refl
 
 or_true : (b : Bool) → b || true ≡ true
 or_true true = refl

@@ -1,17 +1,16 @@
 -- The entries between two keys lie together; so do those of a dataset, and those of the datasets beneath it.
-use Rattle.std.proofs.Common.{◌≡◌, ◌⊎◌, inl, inr, Bool, true, false, not, cond, T, List, [], ◌∷◌, ◌++◌, ℕ, zero, suc, ◌-◌, ◌≤◌, ◌<◌, length, take, drop, refl, sym, ap, subst, ◌∙◌, ◌&&◌, arith, nat_eq}
+use Rattle.std.proofs.Common.{◌≡◌, ◌⊎◌, inl, inr, Bool, true, false, not, T, List, [], ◌∷◌, ◌++◌, ℕ, suc, ◌-◌, ◌≤◌, ◌<◌, length, take, drop, refl, sym, ap, subst, ◌∙◌, ◌&&◌, arith, nat_eq}
 use Rattle.std.specs.Prelude.{filter}
 use Rattle.std.specs.List.{starts_with}
 use Rattle.std.specs.declared.cmp.Ordering.{Ordering}
 use Rattle.std.specs.declared.cmp.Ordering.TheVariants.{Less, Equal, Greater}
 use Rattle.std.specs.Ordering.{is_eq, is_lt, is_gt, ordering_then, ordering_reverse, nat_cmp}
 use Rattle.std.specs.Cmp.{IsTotalOrder}
-use Rattle.std.specs.Cmp.Lexicographic.{texts_ties, pointwise, nat_list_cmp_total}
+use Rattle.std.specs.Cmp.Lexicographic.{texts_ties, nat_list_cmp_total}
 use Rattle.std.specs.FinMap.{is_sorted}
 use Rattle.std.specs.FinMap.Entries.{by_order, below_all}
 use Rattle.std.proofs.lemmas.Cmp.{ranked, nat_cmp_total}
 use Rattle.std.proofs.lemmas.Bool.Decides.{nat_tests}
-use Rattle.std.specs.Ordering.{MatchOrdering}
 use Rattle.acap_entries.specs.Orders.{octets_cmp, octets_eq}
 use Rattle.acap_entries.specs.Sorted.{place, InOrder}
 
@@ -128,10 +127,10 @@ pub without_front : (f t x : List ℕ) → starts_with nat_eq x f ≡ false → 
 without_front [] t x e = cc
 without_front (a ∷ f) t [] e = refl
 without_front (a ∷ f) t (b ∷ x) e = elim (nat_cmp a b) as (λ r. is_eq r && starts_with nat_eq x f ≡ false → ordering_then r (octets_cmp (f ++ t) x) ≡ ordering_then r (octets_cmp f x)) [
-    | Less ↦ λ h. refl
-    | Equal ↦ λ h. without_front f t x h
-    | Greater ↦ λ h. refl
-  ] (ap (λ v. v && starts_with nat_eq x f) (sym (tied a b)) ∙ e)
+  | Less ↦ λ h. refl
+  | Equal ↦ λ h. without_front f t x h
+  | Greater ↦ λ h. refl
+] (ap (λ v. v && starts_with nat_eq x f) (sym (tied a b)) ∙ e)
 
 -- the same for two texts of two parts
 pub front_shorter : (a b c d : List ℕ) → starts_with nat_eq c a ≡ true → octets_cmp (a ++ b) (c ++ d) ≡ octets_cmp b (drop (length a) c ++ d)
@@ -151,10 +150,10 @@ pub fronts_apart : (a b c d : List ℕ) → starts_with nat_eq c a ≡ false →
 fronts_apart [] b c d e h = cc
 fronts_apart (y ∷ a) b [] d e h = cc
 fronts_apart (y ∷ a) b (x ∷ c) d e h = elim (nat_cmp y x) as (λ r. (nat_cmp y x ≡ r) → is_eq r && starts_with nat_eq c a ≡ false → ordering_then r (octets_cmp (a ++ b) (c ++ d)) ≡ ordering_then r (octets_cmp a c)) [
-    | Less ↦ λ q g. refl
-    | Equal ↦ λ q g. fronts_apart a b c d g (ap (λ r. is_eq r && starts_with nat_eq a c) (sym (swapped y x q)) ∙ ap (λ v. v && starts_with nat_eq a c) (sym (tied x y)) ∙ h)
-    | Greater ↦ λ q g. refl
-  ] refl (ap (λ v. v && starts_with nat_eq c a) (sym (tied y x)) ∙ e)
+  | Less ↦ λ q g. refl
+  | Equal ↦ λ q g. fronts_apart a b c d g (ap (λ r. is_eq r && starts_with nat_eq a c) (sym (swapped y x q)) ∙ ap (λ v. v && starts_with nat_eq a c) (sym (tied x y)) ∙ h)
+  | Greater ↦ λ q g. refl
+] refl (ap (λ v. v && starts_with nat_eq c a) (sym (tied y x)) ∙ e)
 
 pub turned : (x y : List ℕ) → ordering_reverse (octets_cmp x y) ≡ octets_cmp y x
 turned x y = sym (nat_list_cmp_total.antisymm y x)
@@ -178,10 +177,10 @@ not_greater r (inr e) = ap is_gt e
 -- of the octets 0, `/` (47) and `0` (48)
 no_octet_before_nul : (y : ℕ) → is_gt (nat_cmp 0 y) ≡ false
 no_octet_before_nul y = elim (nat_cmp 0 y) as (λ r. r ≡ nat_cmp 0 y → is_gt r ≡ false) [
-    | Less ↦ λ e. refl
-    | Equal ↦ λ e. refl
-    | Greater ↦ λ e. let bad : y < 0 = ranked 0 y Greater e in absurd (omega arith)
-  ] refl
+  | Less ↦ λ e. refl
+  | Equal ↦ λ e. refl
+  | Greater ↦ λ e. let bad : y < 0 = ranked 0 y Greater e in absurd (omega arith)
+] refl
 
 abbrev pub in_own : List ℕ → List ℕ → Bool
 in_own d x = is_gt (octets_cmp (d ++ 0 ∷ []) x) && not (is_gt (octets_cmp d x))
@@ -191,10 +190,10 @@ own_range [] [] = refl
 own_range [] (y ∷ x) = sym (ap (λ v. v && true) (greater_by_dataset (nat_cmp 0 y) x ∙ no_octet_before_nul y))
 own_range (a ∷ d) [] = refl
 own_range (a ∷ d) (b ∷ x) = ap (λ v. v && octets_eq d x) (tied a b) ∙ elim (nat_cmp a b) as (λ r. is_eq r && octets_eq d x ≡ is_gt (ordering_then r (octets_cmp (d ++ 0 ∷ []) x)) && not (is_gt (ordering_then r (octets_cmp d x)))) [
-    | Less ↦ refl
-    | Equal ↦ own_range d x
-    | Greater ↦ refl
-  ]
+  | Less ↦ refl
+  | Equal ↦ own_range d x
+  | Greater ↦ refl
+]
 
 abbrev pub in_beneath : List ℕ → List ℕ → Bool
 in_beneath f x = is_gt (octets_cmp (f ++ 48 ∷ []) x) && not (is_gt (octets_cmp (f ++ 47 ∷ []) x))
@@ -210,17 +209,17 @@ beneath_range [] (y ∷ x) =
     ∙ ap (λ v. is_gt (ordering_then (nat_cmp 48 y) (octets_cmp [] x)) && not v) (sym (greater_by_dataset (nat_cmp 47 y) x))
 beneath_range (a ∷ f) [] = refl
 beneath_range (a ∷ f) (b ∷ x) = ap (λ v. v && starts_with nat_eq x (f ++ 47 ∷ [])) (tied a b) ∙ elim (nat_cmp a b) as (λ r. is_eq r && starts_with nat_eq x (f ++ 47 ∷ []) ≡ is_gt (ordering_then r (octets_cmp (f ++ 48 ∷ []) x)) && not (is_gt (ordering_then r (octets_cmp (f ++ 47 ∷ []) x)))) [
-    | Less ↦ refl
-    | Equal ↦ beneath_range f x
-    | Greater ↦ refl
-  ]
+  | Less ↦ refl
+  | Equal ↦ beneath_range f x
+  | Greater ↦ refl
+]
 
 -- where a name is less than the front of an edge, it is less than the edge
 pub rises_by : (f s t x : List ℕ) → ((x : List ℕ) → octets_cmp s x ≡ Greater → octets_cmp t x ≡ Greater) → octets_cmp (f ++ s) x ≡ Greater → octets_cmp (f ++ t) x ≡ Greater
 rises_by [] s t x h = λ e. h x e
 rises_by (a ∷ f) s t [] h = λ e. refl
 rises_by (a ∷ f) s t (b ∷ x) h = elim (nat_cmp a b) as (λ r. ordering_then r (octets_cmp (f ++ s) x) ≡ Greater → ordering_then r (octets_cmp (f ++ t) x) ≡ Greater) [
-    | Less ↦ λ e. cc
-    | Equal ↦ λ e. rises_by f s t x h e
-    | Greater ↦ λ e. refl
-  ]
+  | Less ↦ λ e. cc
+  | Equal ↦ λ e. rises_by f s t x h e
+  | Greater ↦ λ e. refl
+]

@@ -1,5 +1,5 @@
 -- What changes leave.
-use Rattle.std.proofs.Common.{◌≡◌, refl, Option, Some, None, sym, ap, ◌∙◌, cond}
+use Rattle.std.proofs.Common.{◌≡◌, refl, Some, sym, ap, ◌∙◌, cond}
 use Rattle.std.specs.Cmp.{eq_by_cmp_equiv}
 use Rattle.std.specs.FinMap.{get, get-insert, empty, same_map}
 use Rattle.std.specs.FinMap as map

@@ -8,7 +8,7 @@ use Rattle.acap_entries.specs.Names.{is_path, is_dataset_argument, is_attribute,
 use Rattle.acap_entries.specs.Homes.{for_user}
 use Rattle.acap_entries.specs.Stamp.{IsStamp, stamp_of}
 use Rattle.acap_entries.specs.Changes.{IsStoreAfter, store_after}
-use Rattle.acap_entries.specs.Store.{Store, Stored, Written, after_fate}
+use Rattle.acap_entries.specs.Store.{Store, after_fate}
 use Rattle.acap_entries.specs.Times.{time_of}
 use Rattle.acap_entries.specs.Deletions.{newest_of, others_of, forgotten_of}
 use Rattle.acap_entries.specs.FullPaths.{full_path_cmp, IsWellFormed}

@@ -114,7 +114,12 @@ pub(crate) fn cmp_joined(front: &[u8], rest: &[u8], other: &[u8]) -> Ordering
 }
 
 /// How octets that are given in two parts compare with others that are.
-pub(crate) fn cmp_pairs(front: &[u8], rest: &[u8], other_front: &[u8], other_rest: &[u8]) -> Ordering
+pub(crate) fn cmp_pairs(
+    front: &[u8],
+    rest: &[u8],
+    other_front: &[u8],
+    other_rest: &[u8],
+) -> Ordering
     ensures { result ≡ octets_cmp (front.now ++ rest.now) (other_front.now ++ other_rest.now) }
 {
     if other_front.starts_with(front) {

@@ -113,11 +113,7 @@ fn put_behind<K: Ord + Drop, V: Drop>(
 }
 
 // Moves the later half of a leaf's entries into a leaf right behind it.
-fn split_at<K: Ord + Drop, V: Drop>(
-    leaves: &mut Vec<Leaf<K, V>>,
-    mut later: Leaf<K, V>,
-    at: usize,
-)
+fn split_at<K: Ord + Drop, V: Drop>(leaves: &mut Vec<Leaf<K, V>>, mut later: Leaf<K, V>, at: usize)
     requires within { at < vec_len leaves.old }
     requires many { 1 < length (slice_index_or leaves.old.items at []) }
     requires room { vec_len leaves.old < vec_capacity leaves.old }
@@ -135,11 +131,7 @@ fn split_at<K: Ord + Drop, V: Drop>(
 
 // Takes a key's entry out of its leaf, if it is there, and the leaf with its last entry, and answers how many
 // entries went.
-fn take_out_at<K: Ord + Drop, V: Drop>(
-    leaves: &mut Vec<Leaf<K, V>>,
-    at: usize,
-    key: &K,
-) -> usize
+fn take_out_at<K: Ord + Drop, V: Drop>(leaves: &mut Vec<Leaf<K, V>>, at: usize, key: &K) -> usize
     requires among { IsAmong K.cmp key.now leaves.old.items at (at + 1) }
     requires filled { AreFilled leaves.old.items }
     requires sorted { InOrder K.cmp (joined leaves.old.items) }

@@ -58,11 +58,7 @@ fn count_before<K: Ord + Drop, V: Drop, Q: Probe<K>>(leaves: &[Leaf<K, V>], prob
 }
 
 // So many records behind some of the first leaf's.
-fn listed(
-    leaves: &[Leaf<Path, Boxed<Record>>],
-    skipped: usize,
-    left: usize,
-) -> Listing<'_>
+fn listed(leaves: &[Leaf<Path, Boxed<Record>>], skipped: usize, left: usize) -> Listing<'_>
     requires some { 0 < length leaves.now }
     requires filled { AreFilled leaves.now }
     requires within { skipped ≤ length (slice_index_or leaves.now 0 []) }

@@ -6,7 +6,9 @@ ghost use Rattle.acap_machine.specs.Writing as writing;
 
 use crate::writing::{cells_of, renewed};
 use acap_entries::names::own_entry_of;
-use acap_entries::{Attribute, Boxed, Cell, Fate, Memory, Moment, Path, Record, Tree, Value, Values, Writes};
+use acap_entries::{
+    Attribute, Boxed, Cell, Fate, Memory, Moment, Path, Record, Tree, Value, Values, Writes,
+};
 use acap_grammar::StoreEntry;
 use std::alloc::Global;
 
@@ -20,12 +22,7 @@ fn dot_list(alloc: Global) -> Result<Cell, Memory>
 }
 
 // What the own entry of a missing dataset gets.
-fn step_at(
-    alloc: Global,
-    tree: &Tree,
-    path: Path,
-    moment: Moment,
-) -> Result<(Path, Fate), Memory>
+fn step_at(alloc: Global, tree: &Tree, path: Path, moment: Moment) -> Result<(Path, Fate), Memory>
     ensures { IfOk result (λ made. made ≡ writing.step_at tree.now.store.records moment path) }
 {
     let old = tree.get(&path);

@@ -2,9 +2,9 @@
 use acap_entries::existence::makes_dataset;
 use acap_entries::stamp::{civil_of, stamp};
 use acap_entries::{
-    Acls, Attribute, Boxed, Cell, CellList, CellLists, Cells, Change, ContextName, Copying, Dataset,
-    EntryName, Fate, Item, Items, Memory, Moment, NameFault, Octets, Path, Paths, Record, Records, Row, Seat,
-    Tree, UserName, Value, Values, Writes, read_time,
+    Acls, Attribute, Boxed, Cell, CellList, CellLists, Cells, Change, ContextName, Copying,
+    Dataset, EntryName, Fate, Item, Items, Memory, Moment, NameFault, Octets, Path, Paths, Record,
+    Records, Row, Seat, Tree, UserName, Value, Values, Writes, read_time,
 };
 use std::alloc::Global;
 
@@ -603,7 +603,9 @@ fn changes(alloc: Global) -> Result<bool, Memory> {
     let mut writes = Writes::new(alloc);
     writes.set(x.copy()?, Fate::Remove)?;
     writes.set(y.copy()?, put(alloc, record_with(alloc, b"9", moment(6))?)?)?;
-    let kept = matches!(writes.get(&x), Some(Fate::Remove)) && writes.find(b"/a/", b"z").is_none() && writes.entries().len() == 2;
+    let kept = matches!(writes.get(&x), Some(Fate::Remove))
+        && writes.find(b"/a/", b"z").is_none()
+        && writes.entries().len() == 2;
     commit(alloc, &mut tree, writes, moment(6))?;
     let gone = tree.get(&x).is_none() && holds(&tree, b"/a/", b"y", b"9");
     let before = holds(&old, b"/a/", b"x", b"2") && old.last() == moment(5);

@@ -85,8 +85,14 @@ fn keeps_many_in_order(rt: HostRuntime) -> Result<(), Memory> {
     let alloc = rt.alloc();
     for step in [1, 249, 77] {
         let tree = filled(alloc, step)?;
-        assert!(rt; tree.len() == MANY && rising(tree.entries()) == MANY, "by {step}");
-        assert!(rt; rising(tree.copy()?.entries_of(b"/a/")) == MANY, "by {step}");
+        assert!(rt;
+            tree.len() == MANY && rising(tree.entries()) == MANY,
+            "by {step}"
+        );
+        assert!(rt;
+            rising(tree.copy()?.entries_of(b"/a/")) == MANY,
+            "by {step}"
+        );
         let kept = numbered(alloc, 128)?;
         assert!(rt; tree.get(&kept).is_some() && tree.find(b"/a/", b"250").is_none());
     }

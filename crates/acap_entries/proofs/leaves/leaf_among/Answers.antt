@@ -1,5 +1,4 @@
-use Rattle.std.proofs.Common.{◌≡◌, ◌<◌, ◌+◌, ◌-◌, ◌/◌, length, sym, ap, inl, inr, ◌⊎◌, ◌∙◌, arith}
-use Rattle.std.specs.declared.cmp.Ordering.TheVariants.{Less, Equal, Greater}
+use Rattle.std.proofs.Common.{◌<◌, ◌+◌, ◌-◌, ◌/◌, length, sym, inl, inr, ◌∙◌, arith}
 use Rattle.acap_entries.proofs.LeafLemmas.{is_first, leaf_less, leaf_from}
 use Rattle.acap_entries.proofs.leaves.leaf_among.Goals as goal
 

@@ -1,6 +1,3 @@
-use Rattle.std.proofs.Common.{◌≡◌, ◌<◌, ◌+◌, ◌-◌, ◌/◌, List, length, get_or, set, take, drop, [], sym, ap, subst, ◌∙◌, arith, refl}
-use Rattle.acap_entries.specs.Sorted.{InOrder, put_in, without, found}
-use Rattle.acap_entries.specs.Leaves.{joined}
 use Rattle.acap_entries.proofs.LeafLemmas.{among_all}
 use Rattle.acap_entries.proofs.leaves.leaf_of.Goals as goal
 

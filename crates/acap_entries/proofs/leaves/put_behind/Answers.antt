@@ -1,6 +1,4 @@
-use Rattle.std.proofs.Common.{◌≡◌, ◌<◌, ◌+◌, ◌-◌, ◌/◌, List, length, get_or, set, take, drop, [], sym, ap, subst, ◌∙◌, arith, refl}
-use Rattle.acap_entries.specs.Sorted.{InOrder, put_in, without, found}
-use Rattle.acap_entries.specs.Leaves.{joined}
+use Rattle.std.proofs.Common.{[], sym}
 use Rattle.acap_entries.proofs.LeafLemmas.{put_in_behind, behind_none, push_filled, joined_push}
 use Rattle.acap_entries.proofs.leaves.put_behind.Goals as goal
 

@@ -1,6 +1,5 @@
-use Rattle.std.proofs.Common.{◌≡◌, ◌<◌, ◌≤◌, ◌+◌, ◌-◌, ◌/◌, List, length, get_or, set, take, drop, [], sym, ap, subst, ◌∙◌, arith, refl}
-use Rattle.acap_entries.specs.Sorted.{InOrder, put_in, without, found}
-use Rattle.acap_entries.specs.Leaves.{joined, IsAmong}
+use Rattle.std.proofs.Common.{◌≡◌, ◌<◌, ◌≤◌, ◌+◌, length, get_or, [], ap, subst, arith}
+use Rattle.acap_entries.specs.Leaves.{IsAmong}
 use Rattle.acap_entries.proofs.LeafLemmas.{leaf_read, leaf_in_order, behind_all, joined_halved, halved_room, among_halves}
 use Rattle.acap_entries.proofs.leaves.room_for.Goals as goal
 

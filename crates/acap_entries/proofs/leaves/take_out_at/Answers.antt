@@ -1,6 +1,4 @@
-use Rattle.std.proofs.Common.{◌≡◌, ◌<◌, ◌+◌, ◌-◌, ◌/◌, List, length, get_or, set, take, drop, [], sym, ap, subst, ◌∙◌, arith, refl}
-use Rattle.acap_entries.specs.Sorted.{InOrder, put_in, without, found}
-use Rattle.acap_entries.specs.Leaves.{joined}
+use Rattle.std.proofs.Common.{◌≡◌, ◌<◌, length, sym, ap, ◌∙◌, arith}
 use Rattle.acap_entries.proofs.LeafLemmas.{leaf_read, leaf_in_order, without_in_leaf, filled_set, filled_emptied, joined_emptied, positive_if, joined_set_length}
 use Rattle.acap_entries.proofs.leaves.take_out_at.Goals as goal
 

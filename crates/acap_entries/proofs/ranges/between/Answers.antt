@@ -1,4 +1,4 @@
-use Rattle.std.proofs.Common.{ℕ, ◌≡◌, ◌≤◌, ◌<◌, List, length, arith, ap, sym, ◌∙◌, ◌+◌, ◌-◌, drop, take}
+use Rattle.std.proofs.Common.{ℕ, ◌≡◌, ◌≤◌, List, arith, ap, sym, ◌∙◌, ◌-◌, drop, take}
 use Rattle.acap_entries.specs.Sorted.{place}
 use Rattle.acap_entries.specs.Leaves.{joined, before}
 use Rattle.acap_entries.specs.Store.{path_cmp}

@@ -1,5 +1,4 @@
 use Rattle.std.proofs.Common.{length, arith, ap}
-use Rattle.acap_entries.specs.Sorted.{place}
 use Rattle.acap_entries.specs.Leaves.{joined}
 use Rattle.acap_entries.proofs.SortedLemmas.{place_le}
 use Rattle.acap_entries.proofs.ranges.count_before.Goals as goal

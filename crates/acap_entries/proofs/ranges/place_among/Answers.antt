@@ -1,5 +1,4 @@
-use Rattle.std.proofs.Common.{◌<◌, ◌≤◌, length, arith, sym, ap, ◌∙◌}
-use Rattle.acap_entries.specs.Sorted.{place}
+use Rattle.std.proofs.Common.{◌<◌, length, arith}
 use Rattle.acap_entries.proofs.LeafLemmas.{leaf_read, leaf_in_order, place_of_leaf}
 use Rattle.acap_entries.proofs.SortedLemmas.{place_le}
 use Rattle.acap_entries.proofs.ranges.place_among.Goals as goal

@@ -1,4 +1,4 @@
-use Rattle.std.proofs.Common.{◌≡◌, ◌≤◌, ◌++◌, ◌∷◌, [], length, length-append, arith, sym, ap, ◌∙◌, refl}
+use Rattle.std.proofs.Common.{◌++◌, ◌∷◌, [], length, length-append, arith, ap, ◌∙◌, refl}
 use Rattle.acap_entries.specs.Deletions.{deletions_at}
 use Rattle.acap_entries.proofs.DeletionLaws.{added_next, none_added, newest_short, deletions_more, deletions_length}
 use Rattle.acap_entries.proofs.deletions.Deletions.add_all.Goals as goal

@@ -1,6 +1,4 @@
-use Rattle.std.proofs.Common.{◌≡◌, ◌<◌, ◌+◌, ◌-◌, ◌/◌, List, length, get_or, set, take, drop, [], sym, ap, subst, ◌∙◌, arith, refl}
-use Rattle.acap_entries.specs.Sorted.{InOrder, put_in, without, found}
-use Rattle.acap_entries.specs.Leaves.{joined}
+use Rattle.std.proofs.Common.{◌≡◌, ◌+◌, ◌-◌, length, get_or, sym, ap, ◌∙◌, arith}
 use Rattle.acap_entries.proofs.LeafLemmas.{behind_last, behind_short}
 use Rattle.acap_entries.proofs.leaf.Leaf.ends_before.Goals as goal
 

@@ -1,6 +1,3 @@
-use Rattle.std.proofs.Common.{◌≡◌, ◌<◌, ◌+◌, ◌-◌, ◌/◌, List, length, get_or, set, take, drop, [], sym, ap, subst, ◌∙◌, arith, refl}
-use Rattle.acap_entries.specs.Sorted.{InOrder, put_in, without, found}
-use Rattle.acap_entries.specs.Leaves.{joined}
 use Rattle.acap_entries.proofs.LeafLemmas.{put_in_grows}
 use Rattle.acap_entries.proofs.leaf.Leaf.put.Goals as goal
 

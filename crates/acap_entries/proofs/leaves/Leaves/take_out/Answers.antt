@@ -1,6 +1,5 @@
-use Rattle.std.proofs.Common.{◌≡◌, List, length, sym, ap, subst, arith}
+use Rattle.std.proofs.Common.{◌≡◌, length, sym, ap, arith}
 use borrow.Author.Tests.{eqb-true}
-use Rattle.acap_entries.specs.Sorted.{without}
 use Rattle.acap_entries.proofs.LeafLemmas.{without_none}
 use Rattle.acap_entries.proofs.leaves.Leaves.take_out.Goals as goal
 

@@ -1,14 +1,12 @@
-use Rattle.std.proofs.Common.{◌≡◌, ◌++◌, ◌∷◌, ◌-◌, [], ℕ, List, length, take, drop, sym, ap, ◌∙◌, nat_eq}
+use Rattle.std.proofs.Common.{◌≡◌, ◌++◌, ◌∷◌, ◌-◌, [], List, take, drop, sym, ap, ◌∙◌}
 use Rattle.std.specs.FinMap as map
-use Rattle.std.specs.List.{starts_with, filter}
+use Rattle.std.specs.List.{filter}
 use Rattle.acap_entries.specs.Orders.{octets_eq}
-use Rattle.acap_entries.specs.Leaves.{joined}
 use Rattle.acap_entries.specs.Sorted.{place}
 use Rattle.acap_entries.specs.Store.{path_cmp, Roomy}
 use Rattle.acap_entries.specs.declared.path.Path.{Path}
 use Rattle.acap_entries.specs.declared.record.Record.{Record}
-use Rattle.acap_entries.proofs.LeafLemmas.{taken_whole}
-use Rattle.acap_entries.proofs.DatasetRanges.{edge, own_rises, beneath_rises, own_entries, beneath_entries}
+use Rattle.acap_entries.proofs.DatasetRanges.{edge, own_rises, own_entries}
 use Rattle.acap_entries.proofs.Kept.{records_entries}
 use Rattle.acap_entries.proofs.tree.Tree.entries_of.Goals as goal
 
