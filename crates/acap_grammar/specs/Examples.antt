@@ -79,6 +79,7 @@ meets relation comparator behind = test_of relation comparator (string (codes "x
 abbrev pub at_second : ℕ → ℤ
 at_second n = moment_of (record { year = 1970; month = 1; day = 1; hour = 0; minute = 0; second = n; micros = 0 })
 
+-- these tokens behind `SEARCH "/" AND` are two such keys
 abbrev pub found_by : Wanted → Wanted → List Token → Type 0
 found_by first second behind = command_of (search (word (codes "AND") behind)) ≡ Ok (command.Search (record { target = target.Dataset (codes "/"); modifiers = unmodified; key = And first second }))
 
@@ -156,6 +157,9 @@ pub record LineFaults : Type 0 where
   pub bad_comparator : fault_of (search (meets (codes "EQUAL") (codes "i;other") [])) ≡ Some fault.BadComparator
   pub front_of_a_number : fault_of (search (meets (codes "PREFIX") (codes "i;ascii-numeric") [])) ≡ Some fault.BadComparator
   pub part_of_a_number : fault_of (search (meets (codes "SUBSTRING") (codes "-i;ascii-numeric") [])) ≡ Some fault.BadComparator
+  -- an object's dataset and entry name are a path of at most 16 components
+  pub object_of_16 : fault_of (line (codes "MYRIGHTS") (opened (string (codes "/a/b/c/d/e/f/g/h/i/j/k/l/m/n/o/") (string (codes "k") (string (codes "p") (shut [])))))) ≡ None
+  pub object_of_17 : fault_of (line (codes "MYRIGHTS") (opened (string (codes "/a/b/c/d/e/f/g/h/i/j/k/l/m/n/o/p/") (string (codes "k") (string (codes "q") (shut [])))))) ≡ Some fault.BadName
   -- what may stand once
   pub attribute_twice : fault_of (store (gift (gift (shut [])))) ≡ Some fault.NotPermittedTwice
   pub path_twice : fault_of (store (gift (shut (opened (string (codes "/a/b") (gift (shut []))))))) ≡ Some fault.NotPermittedTwice

@@ -595,18 +595,35 @@ fn closes_where_its_entry_is_refused(rt: HostRuntime) {
     }
 }
 
-/// What an entered session says where a STORE has that fault and a NOOP follows.
+/// What a session says to that outcome of what it asks next is added to what was said.
+fn add_answer(
+    session: &mut Session,
+    outcome: Result<Reply, Fault>,
+    text: &mut Vec<u8>,
+) -> Result<(), acap_entries::Memory> {
+    if let Some(next) = answered(session, outcome)? {
+        add_next(&next, text)?;
+    }
+    Ok(())
+}
+
+/// What a session says that enters, whose STORE has that fault, and which a NOOP follows, is added to what was said.
+fn add_fault(
+    session: &mut Session,
+    fault: Fault,
+    text: &mut Vec<u8>,
+) -> Result<(), acap_entries::Memory> {
+    add_answer(session, Ok(Reply::new(Said::Greeting)), text)?;
+    let _ = session.push(b"A1 STORE (\"/option/~/e\" \"k\" \"x\")\r\nA2 NOOP\r\n")?;
+    add_answer(session, Err(fault), text)?;
+    hear_all(session, text)
+}
+
+/// All that such a session says.
 fn said_to_fault(alloc: Global, fault: Fault) -> Result<Vec<u8>, acap_entries::Memory> {
     let mut session = begun(alloc)?;
     let mut text = Vec::new(alloc);
-    if let Some(next) = answered(&mut session, Ok(Reply::new(Said::Greeting)))? {
-        add_next(&next, &mut text)?;
-    }
-    let _ = session.push(b"A1 STORE (\"/option/~/e\" \"k\" \"x\")\r\nA2 NOOP\r\n")?;
-    if let Some(next) = answered(&mut session, Err(fault))? {
-        add_next(&next, &mut text)?;
-    }
-    hear_all(&mut session, &mut text)?;
+    add_fault(&mut session, fault, &mut text)?;
     Ok(text)
 }
 
