@@ -1,3 +1,4 @@
+//! The names of attributes.
 ghost use Rattle.std.specs.Prelude.{◌≡◌, ◌↔◌, IfOk, OnOk, IsTrue, Err, false};
 ghost use Rattle.acap_entries.specs.Names as name;
 

@@ -1,3 +1,4 @@
+//! What an attribute has.
 ghost use Rattle.std.specs.Prelude.{◌≡◌, ◌↔◌, IsTrue};
 
 use crate::copying::Copying;

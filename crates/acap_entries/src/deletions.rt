@@ -94,6 +94,7 @@ impl Deletions {
         requires { HasSlots (length paths) self.old }
         ensures { IsAdded (deletions_at paths moment) self.old self.new }
     {
+        // That few enough are kept, which the loop starts from, is known of an opened value.
         let _ = &self.kept;
         for path in paths.into_vec() {
             self.add(Deletion { path, moment });

@@ -1,3 +1,4 @@
+//! The names of entries in their datasets.
 ghost use Rattle.std.specs.Prelude.{◌≡◌, IfOk};
 
 use crate::copying::Copying;

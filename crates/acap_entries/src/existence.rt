@@ -1,3 +1,4 @@
+//! Which records make datasets.
 ghost use Rattle.std.specs.Prelude.{◌≡◌};
 ghost use Rattle.std.specs.Option.{option_copied};
 ghost use Rattle.acap_entries.specs.Datasets as rule;

@@ -1,3 +1,4 @@
+//! What `~` stands for.
 ghost use Rattle.std.specs.Prelude.{◌≡◌, ◌<◌, length, IfOk, IfNone, IfSome, true, false};
 ghost use Rattle.acap_entries.specs.Homes as home;
 

@@ -1,3 +1,4 @@
+//! What is printed for one item of RETURN.
 ghost use Rattle.std.specs.Prelude.{◌≡◌, ◌↔◌, IsTrue};
 
 use crate::cell::Cell;

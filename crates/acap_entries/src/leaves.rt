@@ -235,6 +235,7 @@ impl<K: Ord + Drop, V: Drop> Leaves<K, V> {
         ensures filled { AreFilled result.now }
         ensures counted { length (joined result.now) < 2 ^ 64 }
     {
+        // The entries are as many as a number counts.
         let _count = self.count;
         self.leaves.as_slice()
     }

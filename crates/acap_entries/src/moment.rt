@@ -1,3 +1,4 @@
+//! The moments of changes.
 ghost use Rattle.std.specs.Prelude.{◌≡◌, ◌↔◌, IsSome, IfSome};
 ghost use Rattle.acap_entries.specs.Moments.{IsMoment, moment_after, first_moment};
 

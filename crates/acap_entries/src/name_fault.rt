@@ -1,3 +1,4 @@
+//! Why a name is not read.
 use crate::memory::Memory;
 
 /// Why a name was not read.

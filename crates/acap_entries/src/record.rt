@@ -1,3 +1,4 @@
+//! What the store keeps at a path.
 ghost use Rattle.std.specs.Prelude.{◌≡◌, ◌↔◌, IsTrue};
 
 use crate::acls::Acls;

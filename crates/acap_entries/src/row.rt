@@ -1,3 +1,4 @@
+//! What is printed of an entry.
 ghost use Rattle.std.specs.Prelude.{◌≡◌, ◌↔◌, IsTrue};
 
 use crate::copying::Copying;

@@ -1,3 +1,4 @@
+//! The seats of sessions.
 ghost use Rattle.std.specs.Prelude.{◌≡◌, ◌<◌, ◌↔◌, IsSome, IfSome};
 
 use crate::copying::Copying;

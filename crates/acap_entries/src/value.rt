@@ -1,3 +1,4 @@
+//! The strings of attributes.
 ghost use Rattle.std.specs.Prelude.{◌≡◌, IfOk};
 
 use crate::copying::Copying;
