@@ -3,12 +3,14 @@ use Rattle.std.specs.Cmp.{IsTotalOrder}
 use Rattle.std.specs.declared.cmp.Ordering.TheVariants.{Equal}
 use Rattle.std.specs.Prelude.{◌≡◌, ◌≤◌, length, Option, ℕ, ℤ, pos, neg_ℤ, true, false, List, [], ◌∷◌, ◌++◌, Some, None, codes, replicate}
 use Rattle.std.specs.FinMap as map
-use Rattle.acap_entries.specs.Moments.{first_moment, last_moment, IsMoment}
+use Rattle.acap_entries.specs.Datasets.{is_dot_list, makes_dataset, dataset_exists}
+use Rattle.acap_entries.specs.Moments.{first_moment, last_moment, IsMoment, moment_after}
+use Rattle.acap_entries.specs.declared.cell.Cell.TheVariants.{Nil, Single, Multi}
 use Rattle.acap_entries.specs.Names.{is_path, is_dataset_argument, is_attribute, is_user_name, is_context_name, dataset_of, name_of, own_entry, slash}
 use Rattle.acap_entries.specs.Homes.{for_user}
 use Rattle.acap_entries.specs.Stamp.{IsStamp, stamp_of}
 use Rattle.acap_entries.specs.Changes.{IsStoreAfter, store_after}
-use Rattle.acap_entries.specs.Store.{Store, after_fate}
+use Rattle.acap_entries.specs.Store.{Store, Stored, after_fate}
 use Rattle.acap_entries.specs.Times.{time_of}
 use Rattle.acap_entries.specs.Deletions.{newest_of, others_of, forgotten_of}
 use Rattle.acap_entries.specs.FullPaths.{full_path_cmp, IsWellFormed}
@@ -55,6 +57,31 @@ pub record DeletionLaw : Type 0 where
 pub record FullPathLaw : Type 0 where
   pub total : IsTotalOrder full_path_cmp
   pub same : (a b : Path) → IsWellFormed a → IsWellFormed b → full_path_cmp a b ≡ Equal → a ≡ b
+
+-- the moment of a change is the clock's where that is later than the last one, else the next, and there is none after the
+-- last of all moments
+pub record MomentExamples : Type 0 where
+  pub later_clock : moment_after (pos 5) (pos 9) ≡ Some (pos 9)
+  pub same_clock : moment_after (pos 5) (pos 5) ≡ Some (pos 6)
+  pub earlier_clock : moment_after (pos 5) (pos 3) ≡ Some (pos 6)
+  pub before_the_last : moment_after (pos 253_402_300_799_999_998) (pos 0) ≡ Some last_moment
+  pub at_the_last : (clock : ℤ) → moment_after last_moment clock ≡ None
+
+-- which records make datasets, and which datasets exist
+pub record ExistenceLaw : Type 0 where
+  pub dot : is_dot_list (Some (Multi (codes "." ∷ []))) ≡ true
+  pub nothing : is_dot_list None ≡ false
+  pub nil : is_dot_list (Some Nil) ≡ false
+  pub text : is_dot_list (Some (Single (codes "."))) ≡ false
+  pub no_string : is_dot_list (Some (Multi [])) ≡ false
+  pub two_dots : is_dot_list (Some (Multi (codes ".." ∷ []))) ≡ false
+  pub twice : is_dot_list (Some (Multi (codes "." ∷ codes "." ∷ []))) ≡ false
+  pub present : (e : Record) → map.get e.cells (codes "subdataset") ≡ Some (Multi (codes "." ∷ [])) → makes_dataset e ≡ e.present
+  pub without : (e : Record) → map.get e.cells (codes "subdataset") ≡ None → e.present ≡ true → makes_dataset e ≡ false
+  pub root : (records : Stored) → dataset_exists records (codes "/") ≡ true
+  pub made : (records : Stored) (e : Record) → map.get records (record { dataset = codes "/a/"; name = codes "b" }) ≡ Some e → dataset_exists records (codes "/a/b/") ≡ makes_dataset e
+  pub missing : (records : Stored) → map.get records (record { dataset = codes "/a/"; name = codes "b" }) ≡ None → dataset_exists records (codes "/a/b/") ≡ false
+  pub unclosed : (records : Stored) → dataset_exists records (codes "/a/b") ≡ false
 
 -- a path is its dataset and then its name
 abbrev pub PathLaw : Type 0

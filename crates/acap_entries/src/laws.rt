@@ -1,5 +1,5 @@
 //! What follows from the definitions alone: each function does nothing, and its contract is the law.
-ghost use Rattle.acap_entries.specs.Laws.{ChangeLaw, AfterLaw, TwoChangesLaw, RemovalLaw, DeletionLaw, FullPathLaw, PathLaw, StampLaw, StampExamples, TimeLaw, TimeExamples, PathExamples, DatasetExamples, NameExamples, HomeExamples};
+ghost use Rattle.acap_entries.specs.Laws.{ChangeLaw, AfterLaw, TwoChangesLaw, RemovalLaw, DeletionLaw, FullPathLaw, MomentExamples, ExistenceLaw, PathLaw, StampLaw, StampExamples, TimeLaw, TimeExamples, PathExamples, DatasetExamples, NameExamples, HomeExamples};
 
 /// A change determines the store that it leaves.
 pub fn change_law()
@@ -29,6 +29,16 @@ pub fn deletion_law()
 /// The order of full paths is total, and tells well-formed paths apart.
 pub fn full_path_law()
     ensures { FullPathLaw }
+{}
+
+/// The moment of a change, by the clock and by the last one.
+pub fn moment_examples()
+    ensures { MomentExamples }
+{}
+
+/// Which records make datasets, and which datasets exist (RFC 2244 section 3.1.1).
+pub fn existence_law()
+    ensures { ExistenceLaw }
 {}
 
 /// A path is its dataset and then its name.
