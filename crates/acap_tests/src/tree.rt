@@ -57,7 +57,7 @@ fn filled(alloc: Global, step: usize) -> Result<Tree, Memory> {
     let mut number = 0;
     for _ in 0..MANY {
         write(alloc, &mut tree, numbered(alloc, number)?, put(alloc)?)?;
-        number = (number + step % MANY) % MANY;
+        number = number.wrapping_add(step) % MANY;
     }
     Ok(tree)
 }
@@ -106,10 +106,10 @@ fn takes_all_out(rt: HostRuntime) -> Result<(), Memory> {
     let mut tree = filled(alloc, 1)?;
     let mut number = 0;
     for left in 0..MANY {
-        assert!(rt; tree.len() + left == MANY, "{left}");
+        assert!(rt; tree.len() == MANY - left, "{left}");
         let path = numbered(alloc, number)?;
         write(alloc, &mut tree, path, Fate::Remove)?;
-        number = (number + 77) % MANY;
+        number = number.wrapping_add(77) % MANY;
     }
     assert!(rt; tree.len() == 0 && tree.entries().is_empty());
     write(alloc, &mut tree, numbered(alloc, 7)?, put(alloc)?)?;
