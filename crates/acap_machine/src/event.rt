@@ -1,3 +1,4 @@
+//! What sessions bring to the machine.
 use acap_entries::{Copying, Memory, UserName};
 use acap_grammar::Command;
 

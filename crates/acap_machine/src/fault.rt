@@ -1,3 +1,4 @@
+//! Why an event is not performed.
 use acap_entries::Memory;
 
 /// Why an event isn't performed; the machine is as before.

@@ -1,3 +1,4 @@
+//! The entries and datasets that a user means.
 ghost use Rattle.std.specs.Prelude.{◌≡◌, [], ◌∷◌, ◌++◌, IfOk, codes, nat_eq};
 ghost use Rattle.std.specs.List.{starts_with};
 ghost use Rattle.acap_entries.specs.Names.{slash};

@@ -1,3 +1,4 @@
+//! What is too much for the store.
 ghost use Rattle.std.specs.Prelude.{◌≡◌, ◌||◌, length, filter, nat_lt};
 ghost use Rattle.std.specs.List.{list_any};
 ghost use Rattle.acap_machine.specs.Limits as limits;

@@ -1,3 +1,4 @@
+//! The own entries of datasets that are missing.
 ghost use Rattle.std.specs.Option.{option_map_or};
 ghost use Rattle.acap_entries.specs.Names.{own_entry};
 ghost use Rattle.std.specs.Prelude.{◌≡◌, [], ◌∷◌, map, codes, IfOk, OnOk};

@@ -1,3 +1,4 @@
+//! The change that a STORE makes, or why it is refused.
 ghost use Rattle.std.specs.Prelude.{◌≡◌, ◌||◌, IfOk, unwrap_or};
 ghost use Rattle.acap_grammar.specs.declared.refusal.Refusal.TheVariants as refusals;
 ghost use Rattle.acap_machine.specs.Limits as limits;

@@ -1,3 +1,4 @@
+//! What a STORE is refused for by what it says.
 ghost use Rattle.std.specs.Prelude.{◌≡◌, option_map, find, IfOk};
 ghost use Rattle.std.specs.List.{list_any, list_all};
 ghost use Rattle.std.specs.Option.{option_copied};

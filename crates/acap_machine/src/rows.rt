@@ -1,3 +1,4 @@
+//! The rows that a SEARCH tells.
 ghost use Rattle.std.specs.Prelude.{◌≡◌, IfOk, map};
 ghost use Rattle.std.specs.Option.{option_copied};
 ghost use Rattle.acap_entries.specs.declared.item.Item.TheVariants as item;

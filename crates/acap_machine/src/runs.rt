@@ -1,3 +1,4 @@
+//! Whole runs: steps one after the other.
 ghost use Rattle.std.specs.Prelude.{◌≡◌, IfOk, OnErr};
 ghost use Rattle.acap_machine.specs.Runs.{run_of, stepped_at, outcome_of, machine_after};
 

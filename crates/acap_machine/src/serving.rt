@@ -1,3 +1,4 @@
+//! What is said to a command, and what it leaves.
 ghost use Rattle.std.specs.Prelude.{◌≡◌, IfOk, OnErr};
 ghost use Rattle.std.specs.List.{list_all};
 ghost use Rattle.acap_machine.specs.Serving as serving;

@@ -1,3 +1,4 @@
+//! One event at a seat.
 use crate::event::Event;
 use acap_entries::{Copying, Memory, Moment, Seat};
 

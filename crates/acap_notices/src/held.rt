@@ -1,3 +1,4 @@
+//! What a client holds of a context.
 ghost use Rattle.std.specs.Prelude.{◌≡◌, ◌↔◌, Err, Some, None, OnOk, OnErr};
 ghost use Rattle.acap_notices.specs.Rows.{IsEachOnce};
 ghost use Rattle.acap_notices.specs.Holding.{HasRows, holding, holding_after};

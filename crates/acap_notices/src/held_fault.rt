@@ -1,3 +1,4 @@
+//! Why a notice is not applied.
 ghost use Rattle.acap_notices.specs.declared.held_fault.HeldFault.TheVariants as fault;
 ghost use Rattle.std.specs.Prelude.{◌≡◌};
 

@@ -1,3 +1,4 @@
+//! A change of one entry in the list of a live search.
 ghost use Rattle.std.specs.Prelude.{◌≡◌, ◌↔◌, IsTrue};
 
 use acap_entries::{Copying, Memory, Row, Value};

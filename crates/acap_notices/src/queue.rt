@@ -1,3 +1,4 @@
+//! The notices that wait for a client.
 ghost use Rattle.std.specs.Prelude.{◌≡◌, ◌↔◌, ◌≤◌, ◌==◌, [], ◌∷◌, ◌++◌, Err, OnOk, OnErr, IsTrue, length};
 
 use crate::notice::Notice;

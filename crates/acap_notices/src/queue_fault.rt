@@ -1,3 +1,4 @@
+//! Why a notice is not added to a queue.
 ghost use Rattle.acap_notices.specs.declared.queue_fault.QueueFault.TheVariants as fault;
 ghost use Rattle.std.specs.Prelude.{◌≡◌};
 

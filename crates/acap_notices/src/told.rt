@@ -1,3 +1,4 @@
+//! What a client is told of its contexts.
 ghost use Rattle.std.specs.Prelude.{◌≡◌, ◌↔◌, IsTrue};
 
 use crate::notice::Notice;
