@@ -5,47 +5,58 @@ use Rattle.std.proofs.lemmas.Bool.Decides.{nat_tests}
 use borrow.Author.Tests.{eqb-true}
 use Rattle.std.specs.Prelude.{nat_lt, count_by, slice_index, ◌==◌, ◌&&◌, ◌||◌, nat_eq, codes}
 use Rattle.std.specs.Result.{is_ok}
-use Rattle.std.specs.List.{starts_with, slice_split, onto_first, position, position_or_len}
+use Rattle.std.specs.List.{starts_with, slice_split, position, position_or_len, suffix_len}
 use Rattle.std.specs.Str.{IsUtf8, is_utf8}
 use Rattle.std.proofs.lemmas.Str.{is_utf8-from_IsUtf8, IsUtf8-from_is_utf8}
-use Rattle.std.proofs.lemmas.List.Splits.{slice_split_first, length-slice_split}
+use Rattle.std.proofs.Common.{Bor, Iter, MatchOption, reverse, subst, Option}
+use Rattle.std.proofs.lemmas.List.{length-reverse, reverse-append}
+use Rattle.std.specs.Fn.{Mut, Called}
+use Rattle.std.specs.Slice.Iter.{iter_rest, iter_steps_back}
+use Rattle.std.specs.Iterator.{FindsPositionBack}
+use Rattle.std.proofs.lemmas.Iterator.{YieldsList}
+use Rattle.std.proofs.lemmas.Iterator.Consumers.{YieldsList-from_shown}
+use Rattle.std.proofs.lemmas.Iterator.Search.{position_from_yields_List}
+use Rattle.std.proofs.lemmas.List.Splits.{length-slice_split}
 use Rattle.acap_entries.specs.Names.{is_slash, slash, ends_with, begins_with, has, is_path, dataset_of}
 use Rattle.acap_entries.specs.Homes.{for_user, is_home, second_at}
 
-module _ (p : ℕ → Bool) where
-  parts_first : (xs : List ℕ) → position_or_len p xs < length xs → slice_split p xs ≡ take (position_or_len p xs) xs ∷ slice_split p (drop (position_or_len p xs + 1) xs)
-  parts_first xs lt = slice_split_first p xs 0 lt
+abbrev pub behind_slash : List ℕ → ℕ
+behind_slash xs = suffix_len (λ octet. not (is_slash octet)) xs
 
-  one_part : (xs : List ℕ) → length xs ≤ position_or_len p xs → slice_split p xs ≡ xs ∷ []
-  one_part [] = λ le. refl
-  one_part (x ∷ xs) = elim (p x) as (λ b. suc (length xs) ≤ cond (not b) (1 + position_or_len p xs) 0 → cond b ([] ∷ slice_split p xs) (onto_first x (slice_split p xs)) ≡ (x ∷ xs) ∷ []) [
-    | true ↦ λ le. absurd (omega arith)
-    | false ↦ λ le. ap (onto_first x) (one_part xs (omega arith))
-  ]
+-- the last slash stands at an index, or there is none
+abbrev pub LastSlash : List ℕ → Option ℕ → Type 0
+LastSlash xs r = MatchOption r (length xs ≤ behind_slash xs) (λ i. i + 1 + behind_slash xs ≡ length xs)
 
-  at_first : (xs : List ℕ) (at : ℕ) → position p xs ≡ Some at → (at < length xs) × (slice_split p xs ≡ take at xs ∷ slice_split p (drop (at + 1) xs))
-  at_first xs at = elim (nat_lt (position_or_len p xs) (length xs)) as (λ b. nat_lt (position_or_len p xs) (length xs) ≡ b → cond b (Some (position_or_len p xs)) None ≡ Some at → (at < length xs) × (slice_split p xs ≡ take at xs ∷ slice_split p (drop (at + 1) xs))) [
-    | true ↦ λ lt e.
-        let same : position_or_len p xs ≡ at = cc in
-        let below : position_or_len p xs < length xs = ltb-true _ _ lt in
-        (omega arith, rw same at (parts_first xs below))
-    | false ↦ λ lt e. cc
-  ] refl
+found_behind : (xs : List ℕ) (n : ℕ) → Some n ≡ cond (nat_lt (position_or_len is_slash (reverse xs)) (length (reverse xs))) (Some (position_or_len is_slash (reverse xs))) None → behind_slash xs ≡ n
+found_behind xs n = elim (nat_lt (position_or_len is_slash (reverse xs)) (length (reverse xs))) as (λ b. Some n ≡ cond b (Some (position_or_len is_slash (reverse xs))) None → behind_slash xs ≡ n) [ true ↦ λ e. cc | false ↦ λ e. cc ]
 
-  none_at : (xs : List ℕ) → position p xs ≡ None → slice_split p xs ≡ xs ∷ []
-  none_at xs = elim (nat_lt (position_or_len p xs) (length xs)) as (λ b. nat_lt (position_or_len p xs) (length xs) ≡ b → cond b (Some (position_or_len p xs)) None ≡ None → slice_split p xs ≡ xs ∷ []) [
-    | true ↦ λ lt e. cc
-    | false ↦ λ lt e. one_part xs (ltb-false _ _ lt)
-  ] refl
+found_nowhere : (xs : List ℕ) → None ≡ cond (nat_lt (position_or_len is_slash (reverse xs)) (length (reverse xs))) (Some (position_or_len is_slash (reverse xs))) None → length xs ≤ behind_slash xs
+found_nowhere xs = elim (nat_lt (position_or_len is_slash (reverse xs)) (length (reverse xs))) as (λ b. nat_lt (position_or_len is_slash (reverse xs)) (length (reverse xs)) ≡ b → None ≡ cond b (Some (position_or_len is_slash (reverse xs))) None → length xs ≤ behind_slash xs) [
+  | true ↦ λ t e. cc
+  | false ↦ λ t e. let last = ltb-false _ _ t in omega (arith, last, length-reverse xs)
+] refl
 
+from_the_end : {s : Iter ℕ} (xs : List ℕ) → iter_rest s ≡ xs → YieldsList iter_steps_back (λ y. y.now) s (reverse xs)
+from_the_end {s} xs rest = subst (λ ys. YieldsList iter_steps_back (λ y. y.now) s (reverse ys)) rest
+    (YieldsList-from_shown iter_steps_back (λ y. y.now) (λ t. reverse (iter_rest t)) (λ t v p. length-reverse _ ∙ p.0)
+    (λ t x v p. ap reverse p ∙ reverse-append (iter_rest v) (x.now ∷ [])) s)
+
+-- what `rposition` answers says how many octets stand behind the last slash
+module _ {F : Type 0} {g : Mut F (Bor ℕ × Unit {0}) Bool} {s u : Iter ℕ} {f : F} (xs : List ℕ) (rest : iter_rest s ≡ xs) (k : (x : Bor ℕ) (b : Bool) (q : F) → Called g f (x, tt) b q → (q ≡ f) × (b ≡ is_slash x.now)) where
+  pub last_slash : (n : ℕ) (r : Option ℕ) → FindsPositionBack iter_steps_back g s f n r u → n ≡ length xs → LastSlash xs r
+  last_slash n r (seen, None, j, y, c, m) same = subst (LastSlash xs) (sym m) (found_nowhere xs (position_from_yields_List is_slash u f None (seen, None, j, y, c, refl) (from_the_end xs rest) k))
+  last_slash n None (seen, Some x, j, y, c, m) same = absurd m.0
+  last_slash n (Some i) (seen, Some x, j, y, c, m) same =
+      let at : i + 1 + length seen ≡ n = m.0 in
+      let behind = found_behind xs (length seen) (position_from_yields_List is_slash u f (Some (length seen)) (seen, Some x, j, y, c, (refl, m.1)) (from_the_end xs rest) k) in
+      omega (arith, at, behind, same)
+
+-- a first slash stands within the text
 pub slash_within : (xs : List ℕ) (at : ℕ) → position is_slash xs ≡ Some at → at < length xs
-slash_within xs at e = (at_first is_slash xs at e).0
-
-pub parts_at : (xs : List ℕ) (at : ℕ) → position is_slash xs ≡ Some at → slice_split is_slash xs ≡ take at xs ∷ slice_split is_slash (drop (at + 1) xs)
-parts_at xs at e = (at_first is_slash xs at e).1
-
-pub parts_none : (xs : List ℕ) → position is_slash xs ≡ None → slice_split is_slash xs ≡ xs ∷ []
-parts_none = none_at is_slash
+slash_within xs at = elim (nat_lt (position_or_len is_slash xs) (length xs)) as (λ b. nat_lt (position_or_len is_slash xs) (length xs) ≡ b → cond b (Some (position_or_len is_slash xs)) None ≡ Some at → at < length xs) [
+  | true ↦ λ lt e. let same : position_or_len is_slash xs ≡ at = cc in let below : position_or_len is_slash xs < length xs = ltb-true _ _ lt in omega arith
+  | false ↦ λ lt e. cc
+] refl
 
 pub part_count : (xs : List ℕ) → length (slice_split is_slash xs) ≡ count_by is_slash xs + 1
 part_count = length-slice_split is_slash
@@ -145,7 +156,7 @@ long_enough (x ∷ y ∷ xs) e = omega arith
 
 home_within : (d : List ℕ) → is_home d ≡ true → second_at d + 1 < length d
 unfolding is_home
-home_within d e = let long = long_enough (drop (second_at d) d) (both_hold _ _ e).1 in omega (arith, length-drop (second_at d) d, long)
+home_within d e = let long : 1 < length (drop (second_at d) d) = long_enough (drop (second_at d) d) (both_hold _ _ e).1 in omega (arith, length-drop (second_at d) d, long)
 
 -- the dataset that is meant is closed as the one that is named
 pub for_user_closed : (user d : List ℕ) → ends_with slash d ≡ true → ends_with slash (for_user user d) ≡ true

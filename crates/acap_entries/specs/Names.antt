@@ -69,14 +69,14 @@ abbrev pub closed : List ℕ → List ℕ
 closed text = if ends_with slash text then text else text ++ slash ∷ []
 
 -- a path `/c1/../cn/name`: its dataset is all through the last `/`, its entry name the rest
-abbrev pub cut_of : List ℕ → ℕ
-cut_of text = length text - suffix_len (λ octet. not (is_slash octet)) text
+abbrev pub dataset_len : List ℕ → ℕ
+dataset_len text = length text - suffix_len (λ octet. not (is_slash octet)) text
 
 unfoldable pub dataset_of : List ℕ → List ℕ
-dataset_of text = take (cut_of text) text
+dataset_of text = take (dataset_len text) text
 
 unfoldable pub name_of : List ℕ → List ℕ
-name_of text = drop (cut_of text) text
+name_of text = drop (dataset_len text) text
 
 -- an entry name is a component, or empty: the management entry's
 abbrev pub is_entry_name : List ℕ → Bool

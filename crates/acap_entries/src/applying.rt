@@ -12,7 +12,7 @@ use crate::record::Record;
 use crate::writes::Writes;
 
 // Performs the writes from the last to the first.
-#[tactic(auto, using(crate::proofs::Kept::kept_records))]
+#[tactic(auto, using(crate::proofs::Kept::kept))]
 pub(crate) fn put_all(entries: &mut Leaves<Path, Boxed<Record>>, writes: Writes)
     requires room { map.len writes ≤ entries.old.1 }
     requires sorted { InOrder path_cmp entries.old.0 }

@@ -4,7 +4,7 @@ ghost use Rattle.std.specs.Prelude.{◌≡◌, ◌↔◌, IsTrue};
 use crate::copying::Copying;
 use crate::lists::Values;
 use crate::memory::Memory;
-use crate::value::Value;
+use crate::text::Value;
 
 /// What an attribute has: NIL, one string, or a list of strings (RFC 2244 section 3.1).
 #[derive(Debug, PartialEq, Eq, Drop)]

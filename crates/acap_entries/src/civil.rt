@@ -1,4 +1,5 @@
 //! A date and a time of day.
+
 /// A date and a time of day in UTC, of the proleptic Gregorian calendar.
 #[derive(Clone, Copy, Debug, PartialEq, Eq)]
 pub struct Civil {

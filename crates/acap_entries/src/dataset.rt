@@ -7,7 +7,7 @@ use crate::copying::Copying;
 use crate::memory::Memory;
 use crate::name_fault::NameFault;
 use crate::octets::Octets;
-use crate::user_name::UserName;
+use crate::text::UserName;
 use crate::{homes, names};
 use std::alloc::Global;
 use std::marker::Model;
@@ -74,6 +74,14 @@ impl Dataset {
         ensures { IfOk result (λ made. made ≡ home.for_user user.now self.now) }
     {
         let octets = homes::for_user(&self.octets, user.as_slice())?;
+        Ok(Dataset { octets })
+    }
+
+    /// The same, in the memory that it has where it stays. Fails only for want of memory.
+    pub(crate) fn into_for_user(self, user: &UserName) -> Result<Dataset, Memory>
+        ensures { IfOk result (λ made. made ≡ home.for_user user.now self) }
+    {
+        let octets = homes::into_for_user(self.octets, user.as_slice())?;
         Ok(Dataset { octets })
     }
 

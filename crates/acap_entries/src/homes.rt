@@ -1,11 +1,12 @@
 //! What `~` stands for.
-ghost use Rattle.std.specs.Prelude.{◌≡◌, ◌<◌, length, IfOk, IfNone, IfSome, true, false};
+ghost use Rattle.std.specs.Prelude.{◌≡◌, ◌<◌, ◌+◌, ◌++◌, length, take, drop, codes, IfOk, IfNone, IfSome, true, false};
 ghost use Rattle.acap_entries.specs.Homes as home;
 
 use crate::copying::Copying;
 use crate::memory::Memory;
 use crate::names::first_slash;
 use crate::octets::Octets;
+use std::alloc::Global;
 
 // Where the second component of a dataset begins, if that is `~`.
 #[tactic(auto, unfolding(crate::specs::Homes::is_home))]
@@ -24,18 +25,38 @@ fn tilde_at(dataset: &[u8]) -> Option<usize>
     }
 }
 
-// The dataset that a user means.
-#[tactic(auto, unfolding(crate::specs::Homes::for_user))]
-pub(crate) fn for_user(dataset: &Octets, user: &[u8]) -> Result<Octets, Memory>
-    ensures { IfOk result (λ made. made ≡ home.for_user user.now dataset.now) }
+// The octets with `user/USER` in place of the one octet there, in no more memory than they need.
+fn replaced(alloc: Global, octets: &[u8], at: usize, user: &[u8]) -> Result<Octets, Memory>
+    requires { at < length octets.now }
+    ensures { IfOk result (λ made. made ≡ take at octets.now ++ codes "user/" ++ user.now ++ drop (at + 1) octets.now) }
 {
-    let octets = dataset.as_slice();
-    let Some(at) = tilde_at(octets) else {
-        return dataset.copy();
-    };
-    let mut made = Vec::from_slice(dataset.allocator(), &octets[..at])?;
+    let room = octets.len().saturating_add(user.len()).saturating_add(4);
+    let mut made = Vec::with_capacity(alloc, room)?;
+    made.extend_from_slice(&octets[..at])?;
     made.extend_from_slice(b"user/")?;
     made.extend_from_slice(user)?;
     made.extend_from_slice(&octets[at + 1..])?;
     Ok(Octets::from_vec(made))
+}
+
+// The dataset that a user means, in memory of its own.
+#[tactic(auto, unfolding(crate::specs::Homes::for_user))]
+pub(crate) fn for_user(dataset: &Octets, user: &[u8]) -> Result<Octets, Memory>
+    ensures { IfOk result (λ made. made ≡ home.for_user user.now dataset.now) }
+{
+    match tilde_at(dataset.as_slice()) {
+        Some(at) => replaced(dataset.allocator(), dataset.as_slice(), at, user),
+        None => dataset.copy(),
+    }
+}
+
+// The same, in the memory that the octets have where they stay.
+#[tactic(auto, unfolding(crate::specs::Homes::for_user))]
+pub(crate) fn into_for_user(dataset: Octets, user: &[u8]) -> Result<Octets, Memory>
+    ensures { IfOk result (λ made. made ≡ home.for_user user.now dataset) }
+{
+    match tilde_at(dataset.as_slice()) {
+        Some(at) => replaced(dataset.allocator(), dataset.as_slice(), at, user),
+        None => Ok(dataset),
+    }
 }

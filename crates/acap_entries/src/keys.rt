@@ -2,8 +2,8 @@
 ghost use Rattle.std.specs.Prelude.{◌≡◌, ◌++◌, []};
 ghost use Rattle.acap_entries.specs.Orders.{octets_cmp};
 
-use crate::attribute::Attribute;
 use crate::path::Path;
+use crate::text::Attribute;
 use std::cmp::Ordering;
 
 /// What stands for a key in a look-up, so that it needs no key in memory of its own.

@@ -1,79 +1,82 @@
 //! Names, values, records, moments and the tree of an ACAP dataset server (RFC 2244 sections 2 and 3).
 #![tactic(auto)]
 
-pub mod acls;
 mod applying;
-pub mod attribute;
-pub mod boxed;
-pub mod cell;
-pub mod cells;
-pub mod change;
-pub mod civil;
-pub mod context_name;
-pub mod copying;
-pub mod dataset;
-pub mod deletion;
+mod boxed;
+mod cell;
+mod change;
+mod civil;
+mod copying;
+mod dataset;
+mod deletion;
 mod deletions;
-pub mod entry_name;
-pub mod existence;
-pub mod fate;
+mod existence;
+mod fate;
 mod homes;
-pub mod item;
-pub mod keys;
-pub mod laws;
+mod item;
+mod keys;
+mod laws;
 mod leaf;
 mod leaves;
-pub mod listing;
-pub mod lists;
-pub mod memory;
-pub mod moment;
+mod listing;
+mod lists;
+mod memory;
+mod moment;
 mod name_fault;
-pub mod names;
-pub mod octets;
-pub mod path;
+mod names;
+mod octets;
+mod path;
 mod ranges;
-pub mod record;
-pub mod records;
-pub mod row;
-pub mod seat;
-pub mod sequence;
-pub mod sorted;
-pub mod stamp;
+mod record;
+mod records;
+mod row;
+mod seat;
+mod seats;
+mod sequence;
+mod sorted;
+mod stamps;
+mod table;
+mod text;
 mod times;
-pub mod tree;
-pub mod user_name;
-pub mod value;
-pub mod writes;
+mod tree;
+mod writes;
 
-pub use acls::Acls;
-pub use attribute::Attribute;
 pub use boxed::Boxed;
 pub use cell::Cell;
-pub use cells::Cells;
 pub use change::Change;
 pub use civil::Civil;
-pub use context_name::ContextName;
-pub use copying::Copying;
+pub use copying::{Copying, copy_all};
 pub use dataset::Dataset;
 pub use deletion::Deletion;
-pub use entry_name::EntryName;
+pub use existence::makes_dataset;
 pub use fate::Fate;
 pub use item::Item;
 pub use keys::{AttributeText, JoinedText, PathText, Probe, Whole};
+pub use laws::{
+    after_law, change_law, dataset_examples, deletion_law, existence_law, full_path_law,
+    home_examples, moment_examples, name_examples, path_examples, path_law, removal_law,
+    stamp_examples, stamp_law, time_examples, time_law, two_changes_law,
+};
 pub use listing::Listing;
 pub use lists::{CellList, CellLists, Items, Paths, Values};
 pub use memory::Memory;
 pub use moment::Moment;
 pub use name_fault::NameFault;
+pub use names::{
+    begins_with, ends_with, first_slash, is_attribute, is_entry_name, is_path, own_entry_of,
+    split_path,
+};
 pub use octets::Octets;
 pub use path::Path;
 pub use record::Record;
 pub use records::Records;
 pub use row::Row;
 pub use seat::Seat;
+pub use seats::Seats;
 pub use sequence::Sequence;
+pub use stamps::{civil_of, stamp};
+pub use table::{Acls, Cells, Table};
+pub use text::{Attribute, ContextName, EntryName, Kind, Text, UserName, Value};
 pub use times::read_time;
 pub use tree::Tree;
-pub use user_name::UserName;
-pub use value::Value;
 pub use writes::Writes;

@@ -4,7 +4,7 @@ use crate::cell::Cell;
 use crate::item::Item;
 use crate::path::Path;
 use crate::sequence::Sequence;
-use crate::value::Value;
+use crate::text::Value;
 
 /// A list of strings, as a multi-valued attribute or an access control list has (RFC 2244 section 3.1).
 pub type Values = Sequence<Value>;

@@ -37,7 +37,7 @@ impl Moment {
         ensures valid { IsSome result ↔ IsMoment micros }
         ensures value { IfSome result (λ moment. moment ≡ micros) }
     {
-        if Moment::START <= micros && micros <= Moment::END {
+        if matches!(micros, Moment::START..=Moment::END) {
             Some(Moment { micros })
         } else {
             None

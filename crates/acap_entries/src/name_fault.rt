@@ -1,5 +1,7 @@
 //! Why a name is not read.
 use crate::memory::Memory;
+use std::error::Error;
+use std::fmt;
 
 /// Why a name was not read.
 #[derive(Clone, Copy, Debug, PartialEq, Eq)]
@@ -20,3 +22,14 @@ impl From<Memory> for NameFault {
         NameFault::Memory
     }
 }
+
+impl fmt::Display for NameFault {
+    fn fmt<W: fmt::Write>(&self, f: &mut fmt::Formatter<W>) -> fmt::Result {
+        match self {
+            NameFault::BadName => f.write_str("no such name"),
+            NameFault::Memory => f.write_str("out of memory"),
+        }
+    }
+}
+
+impl Error for NameFault {}

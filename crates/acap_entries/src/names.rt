@@ -52,35 +52,11 @@ pub fn first_slash(octets: &[u8]) -> Option<usize>
     octets.iter().position(|octet| *octet == b'/')
 }
 
-// What stands before the first slash and after it.
-#[tactic(auto, using(crate::proofs::NameLemmas::parts_at, crate::proofs::NameLemmas::parts_none))]
-fn cut_first(octets: &[u8]) -> Option<(&[u8], &[u8])>
-    ensures none { IfNone result (slice_split name.is_slash octets.now ≡ octets.now ∷ []) }
-    ensures some { IfSome result (λ cut. slice_split name.is_slash octets.now ≡ cut.0.now ∷ slice_split name.is_slash cut.1.now) }
-    ensures shorter { IfSome result (λ cut. length cut.1.now < length octets.now) }
-{
-    match first_slash(octets) {
-        Some(at) => {
-            let (part, _) = octets.split_at(at);
-            let (_, after) = octets.split_at(at + 1);
-            Some((part, after))
-        }
-        None => None,
-    }
-}
-
 // Whether each text between slashes is a component.
 fn are_components(octets: &[u8]) -> bool
     ensures { result ≡ list_all name.is_component (slice_split name.is_slash octets.now) }
 {
-    let mut rest = octets;
-    while let Some((part, after)) = cut_first(rest) {
-        if !is_component(part) {
-            return false;
-        }
-        rest = after;
-    }
-    is_component(rest)
+    octets.split(|octet| *octet == b'/').all(is_component)
 }
 
 // What stands between the first slash and the closing one, if that is there.
@@ -122,26 +98,25 @@ pub fn component_count(dataset: &[u8]) -> usize
 }
 
 /// How many octets of a path are its dataset: those through the last `/`.
-pub fn cut_of(path: &[u8]) -> usize
-    ensures value { result ≡ name.cut_of path.now }
+pub fn dataset_len(path: &[u8]) -> usize
+    ensures value { result ≡ name.dataset_len path.now }
     ensures within { result ≤ length path.now }
     ensures slash { 0 < result → slice_index path.now (result - 1) ≡ 47 }
 {
-    let mut cut = path.len();
-    while cut > 0 && path[cut - 1] != b'/' {
-        cut -= 1;
+    match path.iter().rposition(|octet| *octet == b'/') {
+        Some(last) => last + 1,
+        None => 0,
     }
-    cut
 }
 
 /// A path's dataset, through the last `/`, and its entry name, the rest.
 #[tactic(auto, unfolding(crate::specs::Names::dataset_of, crate::specs::Names::name_of))]
-pub fn split(path: &[u8]) -> (&[u8], &[u8])
+pub fn split_path(path: &[u8]) -> (&[u8], &[u8])
     ensures dataset { result.0.now ≡ name.dataset_of path.now }
     ensures name { result.1.now ≡ name.name_of path.now }
     ensures closed { 0 < length result.0.now → IsTrue (name.ends_with name.slash result.0.now) }
 {
-    path.split_at(cut_of(path))
+    path.split_at(dataset_len(path))
 }
 
 /// Whether they are the name of an entry: a component, or empty for the management entry's.
@@ -159,7 +134,7 @@ pub fn is_path(octets: &[u8]) -> bool
     if octets.len() > 1024 {
         return false;
     }
-    let (dataset, name) = split(octets);
+    let (dataset, name) = split_path(octets);
     let named = if name.is_empty() { 0 } else { 1 };
     is_dataset(dataset) && is_entry_name(name) && component_count(dataset) + named <= 16
 }
@@ -217,7 +192,7 @@ pub fn own_entry_of(dataset: &[u8]) -> Option<(&[u8], &[u8])>
     if !ends_with(dataset, b'/') {
         return None;
     }
-    let (parent, name) = split(&dataset[..dataset.len() - 1]);
+    let (parent, name) = split_path(&dataset[..dataset.len() - 1]);
     if ends_with(parent, b'/') {
         Some((parent, name))
     } else {

@@ -6,12 +6,11 @@ ghost use Rattle.acap_entries.specs.Homes as home;
 
 use crate::copying::Copying;
 use crate::dataset::Dataset;
-use crate::entry_name::EntryName;
 use crate::keys::cmp_pairs;
 use crate::memory::Memory;
 use crate::name_fault::NameFault;
 use crate::names;
-use crate::user_name::UserName;
+use crate::text::{EntryName, UserName};
 use std::alloc::Global;
 use std::cmp::Ordering;
 
@@ -35,7 +34,7 @@ impl Path {
         if !names::is_path(octets) {
             return Err(NameFault::BadName);
         }
-        let (dataset, name) = names::split(octets);
+        let (dataset, name) = names::split_path(octets);
         Ok(Path::of_closed(alloc, dataset, name)?)
     }
 
@@ -70,12 +69,13 @@ impl Path {
         }
     }
 
-    /// The path that a user means: its dataset is the one that the user means. Fails only for want of memory.
-    pub fn for_user(&self, user: &UserName) -> Result<Path, Memory>
-        ensures { IfOk result (λ made. made ≡ record self.now { dataset = home.for_user user.now self.now.dataset }) }
+    /// The path that a user means: its dataset is the one that the user means. Takes memory where that is another, and
+    /// fails only for want of it.
+    pub fn for_user(self, user: &UserName) -> Result<Path, Memory>
+        ensures { IfOk result (λ made. made ≡ record self { dataset = home.for_user user.now self.dataset }) }
     {
-        let dataset = self.dataset.for_user(user)?;
-        let name = self.name.copy()?;
+        let Path { dataset, name } = self;
+        let dataset = dataset.into_for_user(user)?;
         Ok(Path { dataset, name })
     }
 }

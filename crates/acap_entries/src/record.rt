@@ -1,11 +1,10 @@
 //! What the store keeps at a path.
 ghost use Rattle.std.specs.Prelude.{◌≡◌, ◌↔◌, IsTrue};
 
-use crate::acls::Acls;
-use crate::cells::Cells;
 use crate::copying::Copying;
 use crate::memory::Memory;
 use crate::moment::Moment;
+use crate::table::{Acls, Cells};
 
 /// What the store keeps at a path (RFC 2244 section 3.1).
 #[derive(Debug, PartialEq, Eq, Drop)]
@@ -13,7 +12,7 @@ pub struct Record {
     /// Whether the entry exists here; a deleted one leaves its record.
     pub present: bool,
     /// Whether inheritance ends at this record (RFC 2244 section 5.1).
-    pub cut: bool,
+    pub blocks_inheritance: bool,
     /// The values by attribute.
     pub cells: Cells,
     /// The access control lists by attribute.
@@ -37,7 +36,7 @@ impl Copying for Record {
         let acls = self.acls.copy()?;
         Ok(Record {
             present: self.present,
-            cut: self.cut,
+            blocks_inheritance: self.blocks_inheritance,
             cells,
             acls,
             modtime: self.modtime,

@@ -4,7 +4,7 @@ ghost use Rattle.std.specs.Prelude.{◌≡◌, ◌↔◌, IsTrue};
 use crate::copying::Copying;
 use crate::lists::Items;
 use crate::memory::Memory;
-use crate::value::Value;
+use crate::text::Value;
 
 /// What is printed of an entry: its name and an item for each of RETURN (RFC 2244 section 6.4.1).
 #[derive(Debug, PartialEq, Eq, Drop)]

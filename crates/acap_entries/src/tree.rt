@@ -54,7 +54,7 @@ impl Model for Tree {
     ghost invariant = { λ t. InOrder path_cmp t.entries.0 };
 }
 
-#[tactic(auto, using(crate::proofs::Kept::kept_records))]
+#[tactic(auto, using(crate::proofs::Kept::kept))]
 impl Tree {
     /// The empty store, whose last moment is the first of all moments. Takes no memory.
     pub fn new(alloc: Global) -> Tree

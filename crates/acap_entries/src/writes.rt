@@ -34,7 +34,7 @@ impl Model for Writes {
     ghost invariant = { λ w. InOrder path_cmp w.entries.items };
 }
 
-#[tactic(auto, using(crate::proofs::Kept::kept_written))]
+#[tactic(auto, using(crate::proofs::Kept::kept))]
 impl Writes {
     /// Nothing written yet. Takes no memory.
     pub fn new(alloc: Global) -> Writes

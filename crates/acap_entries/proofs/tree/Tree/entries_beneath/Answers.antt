@@ -1,3 +1,4 @@
+use Rattle.acap_entries.proofs.MapLemmas.{entries_kept}
 use Rattle.std.proofs.Common.{◌≡◌, ◌++◌, ◌∷◌, ◌-◌, [], ℕ, List, take, drop, sym, ap, ◌∙◌, nat_eq}
 use Rattle.std.specs.FinMap as map
 use Rattle.std.specs.List.{starts_with, filter}
@@ -6,7 +7,6 @@ use Rattle.acap_entries.specs.Store.{path_cmp, Roomy}
 use Rattle.acap_entries.specs.declared.path.Path.{Path}
 use Rattle.acap_entries.specs.declared.record.Record.{Record}
 use Rattle.acap_entries.proofs.DatasetRanges.{edge, beneath_rises, beneath_entries}
-use Rattle.acap_entries.proofs.Kept.{records_entries}
 use Rattle.acap_entries.proofs.tree.Tree.entries_beneath.Goals as goal
 
 pub between-requires-clause-rises : goal.between-requires-clause-rises
@@ -14,7 +14,7 @@ between-requires-clause-rises c = beneath_rises c.open_ended-front.result.now
 
 pub returns : goal.returns
 returns c =
-    let stored : c.self.inside.entries.0 ≡ map.entries c.args.self.now.store.records = sym (records_entries c.self.inside.entries.0 c.self.invariant) ∙ ap (λ (t : Roomy). map.entries t.store.records) c.self.view_is in
+    let stored : c.self.inside.entries.0 ≡ map.entries c.args.self.now.store.records = sym (entries_kept path_cmp c.self.inside.entries.0 c.self.invariant) ∙ ap (λ (t : Roomy). map.entries t.store.records) c.self.view_is in
     let f = c.open_ended-front.result.now in
     c.between.ensures
     ∙ ap (λ (es : List (Path × Record)). take (place path_cmp (edge (f ++ 48 ∷ [])) es - place path_cmp (edge (f ++ 47 ∷ [])) es) (drop (place path_cmp (edge (f ++ 47 ∷ [])) es) es)) c.as_slice.ensures.items

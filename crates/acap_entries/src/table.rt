@@ -1,62 +1,68 @@
-//! The access control lists of a record.
+//! What a record keeps for each of its attributes: one table for cells and for access control lists.
 ghost use Rattle.std.specs.Prelude.{◌≡◌, ◌&&◌, OnOk, OnErr};
-ghost use Rattle.std.specs.Cmp.{and_equiv, on_equiv, partial_equiv_from_equiv};
-ghost use Rattle.std.specs.Cmp.Lexicographic.{pointwise, lists_equiv, nat_list_eq_equiv};
+ghost use Rattle.std.specs.Cmp.{and_equiv, and_per, on_equiv, on_per, partial_equiv_from_equiv};
+ghost use Rattle.std.specs.Cmp.Lexicographic.{pointwise, lists_equiv, lists_per, nat_list_eq_equiv};
 ghost use Rattle.std.specs.Option.{option_copied};
 ghost use Rattle.std.specs.FinMap as map;
 ghost use Rattle.acap_entries.specs.Orders.{octets_eq};
 
-use crate::attribute::Attribute;
+use crate::cell::Cell;
 use crate::copying::{Copying, copy_all};
 use crate::keys::{AttributeText, Probe, Whole};
 use crate::lists::Values;
 use crate::memory::Memory;
 use crate::sorted::{lookup, put_in_room, room_for_one, take_out};
+use crate::text::Attribute;
 use std::alloc::Global;
 use std::marker::Model;
 
-/// The access control lists of a record by attribute: seen as a finite map (RFC 2244 section 3.5).
+/// The values of a record by attribute, NIL included (RFC 2244 section 3.1).
+pub type Cells = Table<Cell>;
+
+/// The access control lists of a record by attribute (RFC 2244 section 3.5).
+pub type Acls = Table<Values>;
+
+/// What is kept for some attributes: seen as a finite map.
 #[derive(Debug, Drop)]
-pub struct Acls {
-    entries: Vec<(Attribute, Values)>,
+pub struct Table<V> {
+    entries: Vec<(Attribute, V)>,
 }
 
-impl Model for Acls {
+impl<V> Model for Table<V> {
     ghost use Rattle.acap_entries.specs.Sorted.{InOrder};
     ghost use Rattle.acap_entries.specs.Orders.{octets_cmp};
     ghost use Rattle.std.specs.FinMap as map;
-    ghost use Rattle.std.specs.Prelude.{ℕ, List};
     ghost use Rattle.std.specs.Coded.{coded_list, coded_ℕ};
 
-    ghost Value = { map.FinMap octets_cmp (List (List ℕ)) };
+    ghost Value = { map.FinMap octets_cmp V };
 
-    ghost coded = { map.code (coded_list coded_ℕ) (coded_list (coded_list coded_ℕ)) };
+    ghost coded = { map.code (coded_list coded_ℕ) V.code };
 
     ghost view = { λ m. map.from_sorted m.entries.items };
 
     ghost invariant = { λ m. InOrder octets_cmp m.entries.items };
 }
 
-#[tactic(auto, using(crate::proofs::Kept::kept_acls))]
-impl Acls {
-    /// An empty map. Takes no memory.
-    pub fn new(alloc: Global) -> Acls
+#[tactic(auto, using(crate::proofs::Kept::kept))]
+impl<V: Drop> Table<V> {
+    /// An empty table. Takes no memory.
+    pub fn new(alloc: Global) -> Table<V>
         ensures { result ≡ map.empty }
     {
-        Acls {
+        Table {
             entries: Vec::new(alloc),
         }
     }
 
     /// What an attribute has, if anything is kept for it.
-    pub fn get(&self, attribute: &Attribute) -> Option<&Values>
+    pub fn get(&self, attribute: &Attribute) -> Option<&V>
         ensures { option_copied result ≡ map.get self.now attribute.now }
     {
         lookup(self.entries.as_slice(), &Whole { key: attribute })
     }
 
     /// The same for an attribute that is given by its octets.
-    pub fn find(&self, attribute: &[u8]) -> Option<&Values>
+    pub fn find(&self, attribute: &[u8]) -> Option<&V>
         ensures { option_copied result ≡ map.get self.now attribute.now }
     {
         lookup(
@@ -66,14 +72,14 @@ impl Acls {
     }
 
     /// The same for an attribute that a probe stands for, as two parts of a name joined.
-    pub fn find_by<Q: Probe<Attribute>>(&self, probe: &Q) -> Option<&Values>
+    pub fn find_by<Q: Probe<Attribute>>(&self, probe: &Q) -> Option<&V>
         ensures { option_copied result ≡ map.get self.now (Q.key probe.now) }
     {
         lookup(self.entries.as_slice(), probe)
     }
 
     /// All that is kept, in the order of the attributes' octets.
-    pub fn entries(&self) -> &[(Attribute, Values)]
+    pub fn entries(&self) -> &[(Attribute, V)]
         ensures { result.now ≡ map.entries self.now }
     {
         self.entries.as_slice()
@@ -87,7 +93,7 @@ impl Acls {
     }
 
     /// Sets what an attribute has. Fails only for want of memory, and then nothing has changed.
-    pub fn set(&mut self, attribute: Attribute, given: Values) -> Result<(), Memory>
+    pub fn set(&mut self, attribute: Attribute, given: V) -> Result<(), Memory>
         ensures ok { OnOk result (self.new ≡ map.insert self.old attribute given) }
         ensures err { OnErr result (self.new ≡ self.old) }
     {
@@ -104,24 +110,24 @@ impl Acls {
     }
 }
 
-#[tactic(auto, using(crate::proofs::Kept::kept_acls))]
-impl PartialEq for Acls {
-    ghost eq = { λ m n. pointwise (λ p q. octets_eq p.0 q.0 && pointwise octets_eq p.1 q.1) (map.entries m) (map.entries n) };
+#[tactic(auto, using(crate::proofs::Kept::kept))]
+impl<V: PartialEq> PartialEq for Table<V> {
+    ghost eq = { λ m n. pointwise (λ p q. octets_eq p.0 q.0 && V.eq p.1 q.1) (map.entries m) (map.entries n) };
 
-    ghost laws = { partial_equiv_from_equiv (on_equiv (λ m. map.entries m) (lists_equiv (and_equiv (on_equiv (λ p. p.0) nat_list_eq_equiv) (on_equiv (λ p. p.1) (lists_equiv nat_list_eq_equiv))))) };
+    ghost laws = { on_per (λ m. map.entries m) (lists_per (and_per (on_per (λ p. p.0) (partial_equiv_from_equiv nat_list_eq_equiv)) (on_per (λ p. p.1) V.laws))) };
 
-    fn eq(&self, other: &Acls) -> bool {
+    fn eq(&self, other: &Table<V>) -> bool {
         self.entries.as_slice() == other.entries.as_slice()
     }
 }
 
-impl Eq for Acls {
-    ghost laws = { on_equiv (λ m. map.entries m) (lists_equiv (and_equiv (on_equiv (λ p. p.0) nat_list_eq_equiv) (on_equiv (λ p. p.1) (lists_equiv nat_list_eq_equiv)))) };
+impl<V: Eq> Eq for Table<V> {
+    ghost laws = { on_equiv (λ m. map.entries m) (lists_equiv (and_equiv (on_equiv (λ p. p.0) nat_list_eq_equiv) (on_equiv (λ p. p.1) V.Eq.laws))) };
 }
 
-impl Copying for Acls {
-    fn copy(&self) -> Result<Acls, Memory> {
+impl<V: Copying + Drop> Copying for Table<V> {
+    fn copy(&self) -> Result<Table<V>, Memory> {
         let entries = copy_all(&self.entries)?;
-        Ok(Acls { entries })
+        Ok(Table { entries })
     }
 }

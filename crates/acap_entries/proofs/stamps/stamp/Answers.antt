@@ -1,6 +1,6 @@
 use Rattle.acap_entries.proofs.CivilLemmas.{same_stamp}
 use Rattle.acap_entries.proofs.StampLaws.{stamp_is}
-use Rattle.acap_entries.proofs.stamp.stamp.Goals as goal
+use Rattle.acap_entries.proofs.stamps.stamp.Goals as goal
 
 pub returns-clause-value : goal.returns-clause-value
 returns-clause-value c =

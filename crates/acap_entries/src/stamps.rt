@@ -11,6 +11,9 @@ use jiff_core::civil::Date;
 // The microseconds of a day.
 const DAY: u64 = 86_400_000_000;
 
+// The days from 1 January of the year 0000 to 1 January 1970, from which the calendar counts.
+const DAYS_TO_1970: i64 = 719_528;
+
 /// The twenty digits of a moment in UTC: `YYYYMMDDHHMMSS` and the microseconds. Takes no memory.
 pub fn stamp(moment: Moment) -> [u8; 20]
     ensures meaning { calendar.IsStamp moment result }
@@ -39,7 +42,7 @@ pub fn civil_of(moment: Moment) -> Civil
     }
 }
 
-// The microseconds from the first moment on.
+// The microseconds from the first moment on. The years 0000 to 9999 have 25 times the 146,097 days of 400 years.
 fn since_first(moment: Moment) -> u64
     ensures value { moment ≡ first_moment +ℤ pos result }
     ensures bound { result < 3_652_425 * 86_400_000_000 }
@@ -55,7 +58,7 @@ fn date_after(days: u32) -> Date
     ensures date { IsCivilDate result.year result.month result.day }
     ensures year { IsBetween (pos 0) (pos 9999) result.year }
 {
-    Date::from_unix_epoch_day(days as i64 - 719_528).unwrap()
+    Date::from_unix_epoch_day(days as i64 - DAYS_TO_1970).unwrap()
 }
 
 // The decimal digit of a number below ten.

@@ -3,7 +3,7 @@ use Rattle.std.proofs.lemmas.Int.{to_z_pos}
 use Rattle.jiff_core.specs.Date.{epoch_day}
 use Rattle.jiff_core.proofs.SignedLemmas.{signed_arith}
 use Rattle.acap_entries.proofs.StampLemmas.{count_of, not_before}
-use Rattle.acap_entries.proofs.stamp.date_after.Goals as goal
+use Rattle.acap_entries.proofs.stamps.date_after.Goals as goal
 
 pub returns-clause-value : goal.returns-clause-value
 returns-clause-value c =

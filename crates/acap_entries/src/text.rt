@@ -1,0 +1,192 @@
+//! The texts of a server: attributes, entries, users, contexts and values, each a string of octets of its own kind.
+ghost use Rattle.std.specs.Prelude.{◌≡◌, ◌↔◌, IfOk, OnOk, IsTrue, Err, Some, refl, false, nat_eq, ℕ, List, Bool};
+ghost use Rattle.std.specs.Cmp.Lexicographic.{pointwise, slice_cmp, nat_list_eq_equiv, nat_list_cmp_total, texts_ties, texts_po};
+ghost use Rattle.std.specs.Cmp.{partial_equiv_from_equiv};
+ghost use Rattle.std.specs.Ordering.{nat_cmp};
+ghost use Rattle.acap_entries.specs.Names as name;
+
+use crate::copying::Copying;
+use crate::memory::Memory;
+use crate::name_fault::NameFault;
+use crate::names;
+use crate::octets::Octets;
+use std::alloc::Global;
+use std::cmp::Ordering;
+use std::marker::{Model, PhantomData};
+
+/// The name of an attribute (RFC 2244 section 3.1.1).
+pub type Attribute = Text<AttributeKind>;
+
+/// The name of an entry in its dataset, empty for the management entry (RFC 2244 section 3.1).
+pub type EntryName = Text<EntryKind>;
+
+/// The name of a context (RFC 2244 section 3.3).
+pub type ContextName = Text<ContextKind>;
+
+/// The name of a user.
+pub type UserName = Text<UserKind>;
+
+/// A string of octets that an attribute may have (RFC 2244 section 3.1).
+pub type Value = Text<ValueKind>;
+
+/// The names of attributes.
+#[derive(Debug, Drop)]
+pub struct AttributeKind;
+
+/// The names of entries.
+#[derive(Debug, Drop)]
+pub struct EntryKind;
+
+/// The names of contexts.
+#[derive(Debug, Drop)]
+pub struct ContextKind;
+
+/// The names of users.
+#[derive(Debug, Drop)]
+pub struct UserKind;
+
+/// The values of attributes.
+#[derive(Debug, Drop)]
+pub struct ValueKind;
+
+/// A kind of names: which octets are such a name.
+pub trait Kind {
+    ghost is_name: { List ℕ → Bool };
+
+    /// Whether the octets are such a name. Takes no memory.
+    fn is_name(octets: &[u8]) -> bool
+        ensures { result ≡ is_name octets.now };
+}
+
+/// Octets of a kind, ordered octet by octet with a proper prefix first.
+#[derive(Debug, Drop)]
+pub struct Text<K> {
+    octets: Octets,
+    kind: PhantomData<K>,
+}
+
+impl<K> Model for Text<K> {
+    ghost use Rattle.std.specs.Prelude.{ℕ, List};
+
+    ghost Value = { List ℕ };
+
+    ghost view = { λ v. v.octets };
+}
+
+impl<K: Kind> Text<K> {
+    /// Reads a name of this kind. `BadName` exactly where the octets are none.
+    pub fn read(alloc: Global, octets: &[u8]) -> Result<Text<K>, NameFault>
+        ensures good { OnOk result (IsTrue (K.is_name octets.now)) }
+        ensures value { IfOk result (λ made. made ≡ octets.now) }
+        ensures bad { (result ≡ Err NameFault.BadName) ↔ (K.is_name octets.now ≡ false) }
+    {
+        if !K::is_name(octets) {
+            return Err(NameFault::BadName);
+        }
+        Ok(Text::from_slice(alloc, octets)?)
+    }
+}
+
+impl<K> Text<K> {
+    /// Any octets as they are, in the memory that they have.
+    pub fn new(octets: Octets) -> Text<K>
+        ensures { result ≡ octets }
+    {
+        Text {
+            octets,
+            kind: PhantomData,
+        }
+    }
+
+    /// Any octets as they are, copied. Fails only for want of memory.
+    pub fn from_slice(alloc: Global, octets: &[u8]) -> Result<Text<K>, Memory>
+        ensures { IfOk result (λ made. made ≡ octets.now) }
+    {
+        let octets = Octets::from_slice(alloc, octets)?;
+        Ok(Text::new(octets))
+    }
+
+    /// The octets.
+    pub fn as_slice(&self) -> &[u8]
+        ensures { result.now ≡ self.now }
+    {
+        self.octets.as_slice()
+    }
+}
+
+impl<K> Copying for Text<K> {
+    fn copy(&self) -> Result<Text<K>, Memory> {
+        let octets = self.octets.copy()?;
+        Ok(Text::new(octets))
+    }
+}
+
+impl<K> PartialEq for Text<K> {
+    ghost eq = { pointwise nat_eq };
+
+    ghost laws = { partial_equiv_from_equiv nat_list_eq_equiv };
+
+    fn eq(&self, other: &Text<K>) -> bool {
+        self.octets == other.octets
+    }
+}
+
+impl<K> Eq for Text<K> {
+    ghost laws = { nat_list_eq_equiv };
+}
+
+impl<K> PartialOrd for Text<K> {
+    ghost partial_cmp = { λ x y. Some (slice_cmp nat_cmp x y) };
+
+    ghost laws = { texts_po };
+
+    fn partial_cmp(&self, other: &Text<K>) -> Option<Ordering> {
+        Some(self.cmp(other))
+    }
+}
+
+impl<K> Ord for Text<K> {
+    ghost cmp = { slice_cmp nat_cmp };
+
+    ghost total = { nat_list_cmp_total };
+
+    ghost matches_partial_cmp = { λ x y. refl };
+
+    ghost matches_eq = { texts_ties };
+
+    fn cmp(&self, other: &Text<K>) -> Ordering {
+        self.octets.cmp(&other.octets)
+    }
+}
+
+impl Kind for AttributeKind {
+    ghost is_name = { name.is_attribute };
+
+    fn is_name(octets: &[u8]) -> bool {
+        names::is_attribute(octets)
+    }
+}
+
+impl Kind for EntryKind {
+    ghost is_name = { name.is_entry_name };
+
+    fn is_name(octets: &[u8]) -> bool {
+        names::is_entry_name(octets)
+    }
+}
+
+impl Kind for ContextKind {
+    ghost is_name = { name.is_context_name };
+
+    fn is_name(octets: &[u8]) -> bool {
+        names::is_context_name(octets)
+    }
+}
+
+impl Kind for UserKind {
+    ghost is_name = { name.is_user_name };
+
+    fn is_name(octets: &[u8]) -> bool {
+        names::is_user_name(octets)
+    }
+}
