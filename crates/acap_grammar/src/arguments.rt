@@ -13,7 +13,7 @@ use crate::grammar_fault::GrammarFault;
 use crate::object::Object;
 use crate::relation::Relation;
 use crate::target::Target;
-use acap_entries::names::{begins_with, is_entry_name, is_path};
+use acap_entries::{begins_with, is_entry_name, is_path};
 use acap_entries::{
     Attribute, ContextName, Dataset, EntryName, Memory, Moment, NameFault, Path, Value, read_time,
 };

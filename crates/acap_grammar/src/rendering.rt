@@ -14,7 +14,7 @@ use crate::said::Said;
 use crate::status::Status;
 use crate::strings::{append_spaced, append_string};
 use crate::verb::Verb;
-use acap_entries::stamp::stamp;
+use acap_entries::stamp;
 use acap_entries::{Memory, Moment, Octets, Row, Value};
 
 #[tactic(auto, unfolding(crate::specs::Replies::row_form))]

@@ -1,5 +1,4 @@
 pub mod HomeLemmas
-pub mod Seated
 pub mod WriteLemmas
 pub mod RunLemmas
 pub mod StoreLaws

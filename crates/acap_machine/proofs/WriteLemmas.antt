@@ -3,7 +3,7 @@ use Rattle.std.proofs.Common.{◌≡◌, ℕ, zero, suc, ◌<◌, ◌≤◌, Boo
 use Rattle.std.specs.Prelude.{take, ◌-◌}
 use Rattle.std.specs.Option.{option_map_or}
 use Rattle.std.specs.FinMap as table
-use Rattle.acap_entries.specs.Names.{own_entry, dataset_of, name_of, cut_of}
+use Rattle.acap_entries.specs.Names.{own_entry, dataset_of, name_of, dataset_len}
 use Rattle.acap_entries.specs.Store.{Stored, Written}
 use Rattle.acap_entries.specs.declared.path.Path.{Path}
 use Rattle.acap_entries.specs.declared.fate.Fate.{Fate}
@@ -40,7 +40,7 @@ cut_shorter (suc n) (x ∷ xs) = omega (arith, cut_shorter n xs)
 
 parent_within : (text : List ℕ) → length (dataset_of text) ≤ length text
 unfolding dataset_of
-parent_within text = no_longer (cut_of text) text
+parent_within text = no_longer (dataset_len text) text
 
 -- a parent's name is shorter
 parent_of : (b : Bool) (d p n : List ℕ) (own : List ℕ × List ℕ) → length p ≤ length d → cond b (Some (p, n)) None ≡ Some own → length own.0 ≤ length d

@@ -129,7 +129,7 @@ pub record LimitLaw : Type 0 where
 
 pub record WritingExamples : Type 0 where
   -- a new entry, and one that keeps the rest of what it had
-  pub fresh : (cells : Celled) (moment : ℤ) → renewed None cells moment ≡ record { present = true; cut = false; cells = cells; acls = table.empty; modtime = moment }
+  pub fresh : (cells : Celled) (moment : ℤ) → renewed None cells moment ≡ record { present = true; blocks_inheritance = false; cells = cells; acls = table.empty; modtime = moment }
   pub kept : (old : Record) (cells : Celled) (moment : ℤ) → renewed (Some old) cells moment ≡ record old { present = true; cells = cells; modtime = moment }
   -- a later item counts, a default takes the value away, and `entry` is not kept
   pub items : (cells : Celled) → with_items cells (text (codes "k") ∷ item (codes "k") (Put Nil) ∷ item (codes "l") Default ∷ text (codes "entry") ∷ [])

@@ -29,7 +29,7 @@ cells_of old = option_map_or (λ entry. entry.cells) old table.empty
 abbrev pub renewed : Option Record → Celled → ℤ → Record
 renewed old cells moment = record {
   present = true;
-  cut = option_map_or (λ entry. entry.cut) old false;
+  blocks_inheritance = option_map_or (λ entry. entry.blocks_inheritance) old false;
   cells = cells;
   acls = option_map_or (λ entry. entry.acls) old table.empty;
   modtime = moment;

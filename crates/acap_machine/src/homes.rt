@@ -4,7 +4,7 @@ ghost use Rattle.std.specs.List.{starts_with};
 ghost use Rattle.acap_entries.specs.Names.{slash};
 ghost use Rattle.acap_machine.specs.Homes as home;
 
-use acap_entries::names::first_slash;
+use acap_entries::first_slash;
 use acap_entries::{Memory, UserName};
 use acap_grammar::{Entries, StoreEntry};
 use std::alloc::Global;

@@ -12,7 +12,6 @@ mod planning;
 mod refusing;
 mod rows;
 pub mod runs;
-mod seats;
 mod serving;
 pub mod state;
 pub mod step;

@@ -5,9 +5,8 @@ ghost use Rattle.acap_entries.specs.Store.{empty_store};
 
 use crate::event::Event;
 use crate::fault::Fault;
-use crate::seats::Seats;
 use crate::serving::serve;
-use acap_entries::{Copying, Memory, Moment, Seat, Tree, UserName};
+use acap_entries::{Copying, Memory, Moment, Seat, Seats, Tree, UserName};
 use acap_grammar::{Command, Reply, Said};
 use std::alloc::Global;
 use std::marker::Model;
@@ -17,7 +16,7 @@ use std::marker::Model;
 #[derive(Debug, Drop)]
 pub struct State {
     tree: Tree,
-    seats: Seats,
+    seats: Seats<UserName>,
 }
 
 impl Model for State {

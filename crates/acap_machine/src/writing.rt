@@ -39,13 +39,13 @@ pub(crate) fn renewed(
     ensures { IfOk result (λ made. made ≡ writing.renewed (option_copied old.entry) cells moment) }
 {
     let acls = acls_of(alloc, old)?;
-    let cut = match old {
-        Some(entry) => entry.cut,
+    let blocks_inheritance = match old {
+        Some(entry) => entry.blocks_inheritance,
         None => false,
     };
     Ok(Record {
         present: true,
-        cut,
+        blocks_inheritance,
         cells,
         acls,
         modtime: moment,

@@ -1,6 +1,6 @@
 //! Tests of acap_entries through its public calls: with ample memory, but for one where memory may be refused.
-use acap_entries::existence::makes_dataset;
-use acap_entries::stamp::{civil_of, stamp};
+use acap_entries::makes_dataset;
+use acap_entries::{civil_of, stamp};
 use acap_entries::{
     Acls, Attribute, Boxed, Cell, CellList, CellLists, Cells, Change, ContextName, Copying,
     Dataset, EntryName, Fate, Item, Items, Memory, Moment, NameFault, Octets, Path, Paths, Record,
@@ -26,7 +26,7 @@ fn cells_with(alloc: Global, attribute: &[u8], cell: Cell) -> Result<Cells, Memo
 fn present(alloc: Global, cells: Cells, modtime: Moment) -> Record {
     Record {
         present: true,
-        cut: false,
+        blocks_inheritance: false,
         cells,
         acls: Acls::new(alloc),
         modtime,

@@ -1,8 +1,8 @@
 //! Tests of acap_machine through its public calls.
 ghost use Rattle.std.specs.Prelude.{◌<◌};
 
-use acap_entries::existence::makes_dataset;
-use acap_entries::names::split;
+use acap_entries::makes_dataset;
+use acap_entries::split_path;
 use acap_entries::{
     Attribute, Cell, Dataset, Memory, Moment, Octets, Path, Seat, Tree, UserName, Value,
 };
@@ -105,7 +105,7 @@ fn item_of(alloc: Global, attribute: &[u8], text: &[u8]) -> Result<StoreItem, Me
 
 // An entry at a path, whose dataset is all through the last `/`.
 fn entry(alloc: Global, path: &[u8], items: StoreItems) -> Result<StoreEntry, Memory> {
-    let (dataset, name) = split(path);
+    let (dataset, name) = split_path(path);
     let path = Path::from_slices(alloc, dataset, name).map_err(|_| Memory)?;
     Ok(StoreEntry {
         path,

@@ -26,7 +26,7 @@ fn numbered(alloc: Global, number: usize) -> Result<Path, Memory> {
 fn empty_record(alloc: Global) -> Record {
     Record {
         present: true,
-        cut: false,
+        blocks_inheritance: false,
         cells: Cells::new(alloc),
         acls: Acls::new(alloc),
         modtime: Moment::first(),
