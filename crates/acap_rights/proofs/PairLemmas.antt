@@ -8,7 +8,7 @@ use Rattle.std.proofs.Math.Bool.{and-false}
 use borrow.Author.Tests.{eqb-true}
 use Rattle.acap_entries.specs.Names.{tab, minus, has, begins_with, is_user_name, is_component}
 use Rattle.acap_entries.specs.Orders.{octets_eq}
-use Rattle.acap_rights.specs.Pairs.{Pair, form_of, is_tab, is_letter, is_identifier, pair_in, pair_of}
+use Rattle.acap_rights.specs.Pairs.{Pair, form_of, is_tab, is_letter, is_identifier, pair_in, pair_of, IsPair}
 
 tab_no_letter : (xs : List ℕ) → list_any is_tab xs ≡ true → list_all is_letter xs ≡ false
 tab_no_letter [] = λ h. cc
@@ -119,36 +119,30 @@ only_part xs p h = elim (list_any is_tab xs) as (λ b. list_any is_tab xs ≡ b 
   | false ↦ λ t. let e = whole xs t in cc
 ] refl
 
--- a string that says a pair is the string of that pair
-pub record Says (text : List ℕ) (pair : Pair) : Type 0 where
-  pub form : text ≡ form_of pair
-  pub identifier : is_identifier pair.identifier ≡ true
-  pub letters : list_all is_letter pair.letters ≡ true
-
 both_hold : (a b : Bool) → (a && b) ≡ true → (a ≡ true) × (b ≡ true)
 both_hold true b e = (refl, e)
 both_hold false b e = cc
 
-of_two : (text identifier letters : List ℕ) (pair : Pair) → slice_split is_tab text ≡ identifier ∷ letters ∷ [] → said identifier letters ≡ Some pair → Says text pair
-of_two text identifier letters pair s = elim (is_identifier identifier && list_all is_letter letters) as (λ b. (is_identifier identifier && list_all is_letter letters) ≡ b → (if b then Some (record { identifier = identifier; letters = letters }) else None) ≡ Some pair → Says text pair) [
+of_two : (text identifier letters : List ℕ) (pair : Pair) → slice_split is_tab text ≡ identifier ∷ letters ∷ [] → said identifier letters ≡ Some pair → IsPair text pair
+of_two text identifier letters pair s = elim (is_identifier identifier && list_all is_letter letters) as (λ b. (is_identifier identifier && list_all is_letter letters) ≡ b → (if b then Some (record { identifier = identifier; letters = letters }) else None) ≡ Some pair → IsPair text pair) [
   | true ↦ λ t h.
       let parts = rejoined text identifier letters [] s in
       let rest = only_part parts.0 letters parts.2 in
       let tests = both_hold _ _ t in
       let same : record { identifier = identifier; letters = letters } ≡ pair = cc in
-      subst (Says text) same (record { form = parts.1 ∙ ap (λ ys. identifier ++ tab ∷ ys) rest; identifier = tests.0; letters = tests.1 })
+      subst (IsPair text) same (record { form = parts.1 ∙ ap (λ ys. identifier ++ tab ∷ ys) rest; identifier = tests.0; letters = tests.1 })
   | false ↦ λ t h. cc
 ] refl
 
-in_parts : (text : List ℕ) (parts : List (List ℕ)) (pair : Pair) → slice_split is_tab text ≡ parts → pair_in parts ≡ Some pair → Says text pair
+in_parts : (text : List ℕ) (parts : List (List ℕ)) (pair : Pair) → slice_split is_tab text ≡ parts → pair_in parts ≡ Some pair → IsPair text pair
 in_parts text [] pair s h = cc
 in_parts text (identifier ∷ []) pair s h = cc
 in_parts text (identifier ∷ letters ∷ []) pair s h = of_two text identifier letters pair s h
 in_parts text (identifier ∷ letters ∷ more ∷ others) pair s h = cc
 
-pub said_form : (text : List ℕ) (pair : Pair) → pair_of text ≡ Some pair → Says text pair
+pub is_form : (text : List ℕ) (pair : Pair) → pair_of text ≡ Some pair → IsPair text pair
 unfolding pair_of
-said_form text pair h = in_parts text (slice_split is_tab text) pair refl h
+is_form text pair h = in_parts text (slice_split is_tab text) pair refl h
 
 -- the name of a user is an identifier, and doesn't begin with `-`
 unsigned : (xs : List ℕ) → begins_with minus xs ≡ false → octets_eq xs (codes "-") ≡ false
@@ -173,3 +167,6 @@ user_identifier name h =
     let alone : octets_eq name (codes "-") ≡ false = unsigned name (negated _ (second_so _ _ signed)) in
     let free : not (has tab name) ≡ true = second_so _ _ tabbed in
     rw (some, alone, free) refl
+
+pub is_said : (text : List ℕ) (pair : Pair) → IsPair text pair → pair_of text ≡ Some pair
+is_said text pair h = ap pair_of h.form ∙ (pair_of_form pair.identifier pair.letters ∙ rw (h.identifier, h.letters) refl)

@@ -49,15 +49,22 @@ own_list records (OfAttribute dataset attribute) = None
 own_list records (OfEntry dataset attribute name) =
     option_and_then (λ entry. map.get entry.acls attribute) (map.get records (record { dataset = dataset; name = name }))
 
+-- the attributes of a management entry that are lists: of an attribute in the dataset, and of the dataset
+abbrev pub attribute_list_name : List ℕ → List ℕ
+attribute_list_name attribute = codes "dataset.acl." ++ attribute
+
+abbrev pub dataset_list_name : List ℕ
+dataset_list_name = codes "dataset.acl"
+
 -- the list for the attribute in the dataset, `dataset.acl.ATTRIBUTE`
 abbrev pub attribute_list : Stored → Target → Option (List (List ℕ))
 attribute_list records (OfDataset dataset) = None
-attribute_list records (OfAttribute dataset attribute) = kept_list records dataset (codes "dataset.acl." ++ attribute)
-attribute_list records (OfEntry dataset attribute name) = kept_list records dataset (codes "dataset.acl." ++ attribute)
+attribute_list records (OfAttribute dataset attribute) = kept_list records dataset (attribute_list_name attribute)
+attribute_list records (OfEntry dataset attribute name) = kept_list records dataset (attribute_list_name attribute)
 
 -- the list for the dataset, `dataset.acl`
 abbrev pub dataset_list : Stored → Target → Option (List (List ℕ))
-dataset_list records target = kept_list records (dataset_in target) (codes "dataset.acl")
+dataset_list records target = kept_list records (dataset_in target) dataset_list_name
 
 -- the first of these that there is
 abbrev pub stored_list : Stored → Target → Option (List (List ℕ))

@@ -29,8 +29,14 @@ pub record Pair : Type 0 where
 abbrev pub form_of : Pair → List ℕ
 form_of pair = pair.identifier ++ tab ∷ pair.letters
 
--- what a string of a list says: the two texts with one TAB between them, where they are an identifier and letters. Any other
--- string says nothing
+-- a string is a pair's if it is its form, the identifier is one, and the letters are
+pub record IsPair (text : List ℕ) (pair : Pair) : Type 0 where
+  pub form : text ≡ form_of pair
+  pub identifier : is_identifier pair.identifier ≡ true
+  pub letters : list_all is_letter pair.letters ≡ true
+
+-- the same as a function: the two texts of a string with one TAB between them, where they are an identifier and
+-- letters. Any other string says nothing
 abbrev pub pair_in : List (List ℕ) → Option Pair
 pair_in [] = None
 pair_in (identifier ∷ []) = None

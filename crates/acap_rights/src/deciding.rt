@@ -83,14 +83,16 @@ pub(crate) fn stored_list<'a, R: Records>(
     ensures { option_copied result ≡ rule.stored_list (R.store records.now).records (rule.target_of object.now) }
 {
     match object {
-        Object::Dataset(dataset) => dataset_list(records.find(dataset, b"")),
-        Object::Attribute(dataset, attribute) => shared_list(records, dataset, attribute),
-        Object::Entry(dataset, attribute, name) => {
-            match own_list(records.find(dataset, name), attribute) {
-                Some(strings) => Some(strings),
-                None => shared_list(records, dataset, attribute),
-            }
-        }
+        Object::Dataset { dataset } => dataset_list(records.find(dataset, b"")),
+        Object::Attribute { dataset, attribute } => shared_list(records, dataset, attribute),
+        Object::Entry {
+            dataset,
+            attribute,
+            name,
+        } => match own_list(records.find(dataset, name), attribute) {
+            Some(strings) => Some(strings),
+            None => shared_list(records, dataset, attribute),
+        },
     }
 }
 

@@ -9,6 +9,8 @@ mod deciding;
 mod forms;
 mod granting;
 mod homes;
+mod keeping;
+mod laws;
 mod object;
 mod pairs;
 mod realm;
@@ -19,6 +21,11 @@ pub use acl_fault::AclFault;
 pub use deciding::decided_list;
 pub use granting::{implicit_rights, rights_of};
 pub use homes::is_owner;
+pub use keeping::{list_attribute, object_of_list};
+pub use laws::{
+    administrator_law, deciding_law, edit_examples, edit_law, home_examples, keeping_law, negative_law, order_law,
+    owner_law, pair_examples, pair_law, rights_examples, whom_law,
+};
 pub use object::Object;
 pub use pairs::{is_acl, is_pair};
 pub use realm::Realm;

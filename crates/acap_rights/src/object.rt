@@ -7,11 +7,26 @@ ghost use Rattle.acap_rights.specs.Deciding.{target_of, dataset_in};
 #[derive(Clone, Copy, Debug, Drop)]
 pub enum Object<'a> {
     /// A dataset.
-    Dataset(&'a [u8]),
+    Dataset {
+        /// The dataset.
+        dataset: &'a [u8],
+    },
     /// An attribute in a dataset.
-    Attribute(&'a [u8], &'a [u8]),
-    /// In a dataset an attribute of the entry of that name.
-    Entry(&'a [u8], &'a [u8], &'a [u8]),
+    Attribute {
+        /// The dataset.
+        dataset: &'a [u8],
+        /// The attribute.
+        attribute: &'a [u8],
+    },
+    /// An attribute of one entry.
+    Entry {
+        /// The dataset.
+        dataset: &'a [u8],
+        /// The attribute.
+        attribute: &'a [u8],
+        /// The entry's name in the dataset, empty for the management entry.
+        name: &'a [u8],
+    },
 }
 
 impl<'a> Object<'a> {
@@ -20,9 +35,9 @@ impl<'a> Object<'a> {
         ensures { result.now ≡ dataset_in (target_of self.now) }
     {
         match self {
-            Object::Dataset(dataset) => dataset,
-            Object::Attribute(dataset, _) => dataset,
-            Object::Entry(dataset, _, _) => dataset,
+            Object::Dataset { dataset } => dataset,
+            Object::Attribute { dataset, .. } => dataset,
+            Object::Entry { dataset, .. } => dataset,
         }
     }
 }
