@@ -58,7 +58,7 @@ unfolding rights_in
 taken_here realm user front back text =
     let all = front ++ text ∷ back in
     let held : (letter : ℕ) → ((list_any (says (gives realm user letter)) all && not (list_any (says (takes realm user letter)) all)) && (says (takes realm user letter) text || false)) ≡ false =
-      λ letter. blocked (list_any (says (gives realm user letter)) all) (says (takes realm user letter)) front back text in
+    λ letter. blocked (list_any (says (gives realm user letter)) all) (says (takes realm user letter)) front back text in
     λ i. record { x = held 120 i; r = held 114 i; w = held 119 i; i = held 105 i; a = held 97 i }
 
 kept_off : (r i t : Bool) → (r && t) ≡ false → (((r || i) && not i) && t) ≡ false

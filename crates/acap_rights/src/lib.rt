@@ -15,6 +15,8 @@ mod object;
 mod pairs;
 mod realm;
 mod rights;
+#[cfg(test)]
+mod tests;
 
 pub use acl::Acl;
 pub use acl_fault::AclFault;
@@ -23,8 +25,8 @@ pub use granting::{implicit_rights, rights_of};
 pub use homes::is_owner;
 pub use keeping::{list_attribute, object_of_list};
 pub use laws::{
-    administrator_law, deciding_law, edit_examples, edit_law, home_examples, keeping_law, negative_law, order_law,
-    owner_law, pair_examples, pair_law, rights_examples, whom_law,
+    administrator_law, deciding_law, edit_examples, edit_law, home_examples, keeping_law,
+    negative_law, order_law, owner_law, pair_examples, pair_law, rights_examples, whom_law,
 };
 pub use object::Object;
 pub use pairs::{is_acl, is_pair};
