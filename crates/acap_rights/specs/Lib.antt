@@ -1,0 +1,9 @@
+pub mod Deciding
+pub mod Edits
+pub mod Examples
+pub mod Homes
+pub mod Keeping
+pub mod Laws
+pub mod Pairs
+pub mod Realms
+pub mod Rights

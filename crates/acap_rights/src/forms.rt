@@ -1,0 +1,55 @@
+//! Lists and their strings in memory.
+ghost use Rattle.std.specs.Prelude.{◌≡◌, ◌∷◌, [], IfOk};
+ghost use Rattle.acap_rights.specs.Pairs as rule;
+ghost use Rattle.acap_rights.specs.Homes.{default_list};
+
+use crate::homes::{home_of, is_user_name};
+use acap_entries::{Copying, Memory, Value, Values};
+use std::alloc::Global;
+
+/// The string of an identifier and letters. Fails only for want of memory.
+pub(crate) fn form_of(alloc: Global, identifier: &[u8], letters: &[u8]) -> Result<Value, Memory>
+    ensures { IfOk result (λ text. text ≡ rule.form_of (record { identifier = identifier.now; letters = letters.now })) }
+{
+    let mut text = Vec::from_slice(alloc, identifier)?;
+    text.push(b'\t')?;
+    text.extend_from_slice(letters)?;
+    Value::from_slice(alloc, text.as_slice())
+}
+
+/// The same strings in memory of their own. Fails only for want of memory.
+pub(crate) fn copy_of(alloc: Global, strings: &[Value]) -> Result<Values, Memory>
+    ensures { IfOk result (λ made. made ≡ strings.now) }
+{
+    let mut made = Values::new(alloc);
+    for text in strings {
+        made.push(text.copy()?)?;
+    }
+    Ok(made)
+}
+
+// The list of one pair.
+fn one(alloc: Global, identifier: &[u8], letters: &[u8]) -> Result<Values, Memory>
+    ensures { IfOk result (λ made. made ≡ rule.form_of (record { identifier = identifier.now; letters = letters.now }) ∷ []) }
+{
+    let mut made = Values::new(alloc);
+    made.push(form_of(alloc, identifier, letters)?)?;
+    Ok(made)
+}
+
+/// The list that decides in a dataset where none is stored. Fails only for want of memory.
+#[tactic(auto, unfolding(crate::specs::Homes::default_list))]
+pub(crate) fn default_list(alloc: Global, dataset: &[u8]) -> Result<Values, Memory>
+    ensures { IfOk result (λ made. made ≡ default_list dataset.now) }
+{
+    match home_of(dataset) {
+        Some(name) => {
+            if is_user_name(name) {
+                one(alloc, name, b"xrwia")
+            } else {
+                Ok(Values::new(alloc))
+            }
+        }
+        None => one(alloc, b"anyone", b"xr"),
+    }
+}

@@ -1,0 +1,112 @@
+//! Whose datasets are whose (RFC 2244 section 4.1). No call here takes memory.
+ghost use Rattle.std.specs.Prelude.{◌≡◌};
+ghost use Rattle.std.specs.List.{slice_split};
+ghost use Rattle.std.specs.Option.{option_copied};
+ghost use Rattle.std.specs.Str as text;
+ghost use Rattle.acap_entries.specs.Names as name;
+ghost use Rattle.acap_rights.specs.Homes as rule;
+
+use crate::cutting::cut_at;
+use acap_entries::{Dataset, UserName};
+use std::str;
+
+// What stands between the first octet of a dataset and its closing slash, if that is there.
+fn inside(dataset: &[u8]) -> &[u8]
+    ensures { result.now ≡ name.inside dataset.now }
+{
+    match dataset {
+        [] => dataset,
+        [.., b'/'] => {
+            let path = &dataset[..dataset.len() - 1];
+            if path.is_empty() { path } else { &path[1..] }
+        }
+        _ => &dataset[1..],
+    }
+}
+
+// Of the parts between slashes the third, if the second is `user`.
+fn third_of(path: &[u8]) -> Option<&[u8]>
+    ensures { option_copied result ≡ rule.third_of (slice_split name.is_slash path.now) }
+{
+    let (_, rest) = cut_at(path, b'/')?;
+    let (second, rest) = cut_at(rest, b'/')?;
+    if second != b"user".as_slice() {
+        return None;
+    }
+    match cut_at(rest, b'/') {
+        Some((third, _)) => Some(third),
+        None => Some(rest),
+    }
+}
+
+/// Whose home a dataset lies in: NAME of `/CLASS/user/NAME/` and of the datasets beneath it.
+#[tactic(auto, unfolding(crate::specs::Homes::home_of, acap_entries::specs::Names::components))]
+pub(crate) fn home_of(dataset: &[u8]) -> Option<&[u8]>
+    ensures { option_copied result ≡ rule.home_of dataset.now }
+{
+    match dataset {
+        [b'/', _, ..] => third_of(inside(dataset)),
+        _ => None,
+    }
+}
+
+// Whether the octets are UTF-8 (RFC 3629).
+fn is_utf8(octets: &[u8]) -> bool
+    ensures { result ≡ text.is_utf8 octets.now }
+{
+    str::from_utf8(octets).is_ok()
+}
+
+// Whether the octets begin with that one.
+fn begins_with(octets: &[u8], octet: u8) -> bool
+    ensures { result ≡ name.begins_with octet octets.now }
+{
+    match octets {
+        [first, ..] => *first == octet,
+        [] => false,
+    }
+}
+
+// Whether they are a component of a path.
+#[tactic(auto, unfolding(acap_entries::specs::Names::is_component))]
+fn is_component(octets: &[u8]) -> bool
+    ensures { result ≡ name.is_component octets.now }
+{
+    !octets.is_empty()
+        && is_utf8(octets)
+        && !octets.contains(&0)
+        && !octets.contains(&b'/')
+        && !begins_with(octets, b'.')
+}
+
+/// Whether they are the name of a user.
+#[tactic(auto, unfolding(acap_entries::specs::Names::is_user_name))]
+pub(crate) fn is_user_name(octets: &[u8]) -> bool
+    ensures { result ≡ name.is_user_name octets.now }
+{
+    is_component(octets)
+        && octets.len() <= 64
+        && !octets.contains(&b' ')
+        && !octets.contains(&b'\t')
+        && !begins_with(octets, b'-')
+        && octets != b"anyone".as_slice()
+        && octets != b"~".as_slice()
+}
+
+/// Whether the octets are the name of the user whose home a dataset lies in.
+#[tactic(auto, unfolding(crate::specs::Homes::is_owner))]
+pub(crate) fn owns(user: &[u8], dataset: &[u8]) -> bool
+    ensures { result ≡ rule.is_owner user.now dataset.now }
+{
+    match home_of(dataset) {
+        Some(name) => is_user_name(name) && name == user,
+        None => false,
+    }
+}
+
+/// Whether a dataset is the user's own: `/CLASS/user/USER/` or one beneath it. Where USER is no user's name nobody owns it.
+pub fn is_owner(user: &UserName, dataset: &Dataset) -> bool
+    ensures { result ≡ rule.is_owner user.now dataset.now }
+{
+    owns(user.as_slice(), dataset.as_slice())
+}
