@@ -1,0 +1,2 @@
+mod ChainSteps
+mod Moments

@@ -1,0 +1,4 @@
+pub mod Chains
+pub mod Records
+pub mod Resolving
+pub mod Values
