@@ -1,2 +1,4 @@
 mod ChainSteps
+mod MergeLemmas
 mod Moments
+mod NameLemmas

@@ -1,4 +1,6 @@
 pub mod Chains
+pub mod EntryNames
+pub mod Merging
 pub mod Records
 pub mod Resolving
 pub mod Values

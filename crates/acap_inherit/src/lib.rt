@@ -2,12 +2,16 @@
 #![tactic(auto)]
 
 mod chains;
+mod entry_names;
 mod found;
 mod lent;
 mod lineage;
+mod merging;
+mod range;
 mod resolving;
 
 pub use chains::chain;
+pub use entry_names::{EntryNames, names_on};
 pub use found::Found;
 pub use lent::Lent;
 pub use lineage::Lineage;
