@@ -1,4 +1,7 @@
+mod ChainLaws
 mod ChainSteps
 mod MergeLemmas
 mod Moments
 mod NameLemmas
+mod NamesLaws
+mod RepeatLaws

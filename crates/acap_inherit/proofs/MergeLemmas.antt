@@ -98,7 +98,7 @@ pub all_rising_passed : (m : List ℕ) (lists : List (List (List ℕ))) → all_
 all_rising_passed m [] r = refl
 all_rising_passed m (xs ∷ lists) r = both_of _ _ (rising_passed m xs (first_of _ _ r)) (all_rising_passed m lists (second_of _ _ r))
 
-abbrev all_of : List (List (List ℕ)) → List (List ℕ)
+abbrev pub all_of : List (List (List ℕ)) → List (List ℕ)
 all_of lists = flat_map (λ names. names) lists
 
 above_all : (m : List ℕ) (lists : List (List (List ℕ))) → all_rising lists ≡ true → list_all (is_least m) lists ≡ true → is_below m (all_of (map (passed m) lists)) ≡ true
@@ -108,7 +108,7 @@ above_all m (xs ∷ lists) r l =
 
 -- ---- which names there are
 
-abbrev is_name : List ℕ → List ℕ → Bool
+abbrev pub is_name : List ℕ → List ℕ → Bool
 is_name q = eq_by_cmp octets_cmp q
 
 any_passed : (m q : List ℕ) (xs : List (List ℕ)) → list_any (is_name q) xs ≡ (is_first m xs && is_name q m || list_any (is_name q) (passed m xs))
@@ -142,6 +142,10 @@ marked None None e = refl
 marked None (Some b) e = cc
 marked (Some a) None e = cc
 marked (Some a) (Some b) e = refl
+
+-- lists of the same names have the same set
+pub same_sets : (xs ys : List (List ℕ)) → ((q : List ℕ) → list_any (is_name q) xs ≡ list_any (is_name q) ys) → set_of xs ≡ set_of ys
+same_sets xs ys h = names.same_map total same_names _ _ (λ q. marked _ _ (in_set xs q ∙ (h q ∙ sym (in_set ys q))))
 
 marked_or : (b : Bool) (x : Option (Unit {0})) → is_some (cond b (Some tt) x) ≡ (b || is_some x)
 marked_or true x = refl

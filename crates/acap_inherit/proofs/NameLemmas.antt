@@ -17,15 +17,15 @@ use Rattle.acap_inherit.specs.EntryNames.{names_in}
 use Rattle.acap_inherit.specs.Merging.{is_below, is_rising}
 use Rattle.acap_inherit.proofs.MergeLemmas.{both_of, all_rising}
 
-first : (a b : Bool) → T (a && b) → T a
+pub first : (a b : Bool) → T (a && b) → T a
 first true b p = tt
 first false b p = p
 
-second : (a b : Bool) → T (a && b) → T b
+pub second : (a b : Bool) → T (a && b) → T b
 second true b p = p
 second false b p = absurd p
 
-yes : (b : Bool) → T b → b ≡ true
+pub yes : (b : Bool) → T b → b ≡ true
 yes true p = refl
 yes false p = absurd p
 

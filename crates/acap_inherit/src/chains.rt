@@ -6,9 +6,7 @@ ghost use Rattle.acap_inherit.specs.Chains as rule;
 use crate::lineage::Lineage;
 use crate::resolving::cell_in;
 use acap_entries::{Cell, Dataset, Records};
-
-// How many names a chain has at most.
-const MOST: usize = 8;
+use arrayvec::ArrayVec;
 
 // The dataset that a dataset inherits from.
 fn base_of<'a, R: Records>(records: &'a R, dataset: &[u8]) -> Option<&'a [u8]>
@@ -25,20 +23,21 @@ fn base_of<'a, R: Records>(records: &'a R, dataset: &[u8]) -> Option<&'a [u8]>
 fn inherited<'a, R: Records>(records: &'a R, dataset: &'a [u8]) -> Lineage<'a>
     ensures { result ≡ rule.chain_within 8 (R.store records.now).records dataset.now }
 {
-    let mut names = [dataset; MOST];
+    let mut names = ArrayVec::new();
     let mut last = dataset;
-    for at in 0..MOST {
-        names[at] = last;
+    for _ in 0..8u8 {
+        names.push(last);
         match base_of(records, last) {
             Some(base) => last = base,
-            None => return Lineage { names, len: at + 1 },
+            None => return Lineage { names },
         }
     }
-    Lineage { names, len: MOST }
+    Lineage { names }
 }
 
 /// The dataset, then the one that the `dataset.inherit` of its management entry names, and so on, at most eight names in
-/// all; where nothing is to be inherited the dataset alone (RFC 2244 sections 5.1 and 5.2). Takes no memory.
+/// all, whether these datasets exist or come twice; where nothing is to be inherited, the dataset alone (RFC 2244
+/// sections 5.1 and 5.2). Takes no memory.
 pub fn chain<'a, R: Records>(
     records: &'a R,
     dataset: &'a Dataset,
@@ -46,12 +45,10 @@ pub fn chain<'a, R: Records>(
 ) -> Lineage<'a>
     ensures { result ≡ rule.chain_of (R.store records.now).records dataset.now no_inherit }
 {
-    let dataset = dataset.as_slice();
     if no_inherit {
-        return Lineage {
-            names: [dataset; MOST],
-            len: 1,
-        };
+        let mut names = ArrayVec::new();
+        names.push(dataset.as_slice());
+        return Lineage { names };
     }
-    inherited(records, dataset)
+    inherited(records, dataset.as_slice())
 }

@@ -4,6 +4,7 @@
 mod chains;
 mod entry_names;
 mod found;
+mod laws;
 mod lent;
 mod lineage;
 mod merging;
@@ -13,6 +14,10 @@ mod resolving;
 pub use chains::chain;
 pub use entry_names::{EntryNames, names_on};
 pub use found::Found;
+pub use laws::{
+    base_law, chain_law, first_dataset_law, first_law, moment_law, names_law, nothing_law, reading_law,
+    repeat_law,
+};
 pub use lent::Lent;
 pub use lineage::Lineage;
 pub use resolving::{entry_exists, modtime, resolve};

@@ -1,23 +1,23 @@
 //! Chains of datasets.
 ghost use Rattle.std.specs.Prelude.{◌≡◌, ◌≤◌, ◌<◌, length, map};
 
+use arrayvec::ArrayVec;
 use std::marker::Model;
 
-/// The chain of a dataset, from itself on: one to eight names that are lent by their owners (RFC 2244 section 5.2).
+/// The chain of a dataset, from itself on: one to eight names, which lie where they are stored (RFC 2244 section 5.2).
 #[derive(Debug, Drop)]
 pub struct Lineage<'a> {
-    pub(crate) names: [&'a [u8]; 8],
-    pub(crate) len: usize,
+    pub(crate) names: ArrayVec<&'a [u8], 8>,
 }
 
 impl<'a> Model for Lineage<'a> {
-    ghost use Rattle.std.specs.Prelude.{ℕ, ◌<◌, ◌≤◌, List, map, take};
+    ghost use Rattle.std.specs.Prelude.{ℕ, ◌<◌, List, map, length};
 
     ghost Value = { List (List ℕ) };
 
-    ghost view = { λ c. map (λ name. name.now) (take c.len c.names) };
+    ghost view = { λ c. map (λ name. name.now) c.names.items };
 
-    ghost invariant = { λ c. (0 < c.len) × (c.len ≤ 8) };
+    ghost invariant = { λ c. 0 < length c.names.items };
 }
 
 impl<'a> Lineage<'a> {
@@ -27,6 +27,6 @@ impl<'a> Lineage<'a> {
         ensures some { 0 < length result.now }
         ensures few { length result.now ≤ 8 }
     {
-        &self.names[..self.len]
+        self.names.as_slice()
     }
 }
