@@ -1,5 +1,6 @@
 mod ChainLaws
 mod ChainSteps
+mod FirstLaws
 mod MergeLemmas
 mod Moments
 mod NameLemmas
