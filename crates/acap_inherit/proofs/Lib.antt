@@ -5,4 +5,5 @@ mod MergeLemmas
 mod Moments
 mod NameLemmas
 mod NamesLaws
+mod ReadingLaws
 mod RepeatLaws
