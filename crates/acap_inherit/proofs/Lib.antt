@@ -1,5 +1,6 @@
 mod ChainLaws
 mod ChainSteps
+mod ExampleLemmas
 mod FirstLaws
 mod MergeLemmas
 mod Moments

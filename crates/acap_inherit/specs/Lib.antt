@@ -1,5 +1,6 @@
 pub mod Chains
 pub mod EntryNames
+pub mod Examples
 pub mod Laws
 pub mod Merging
 pub mod Records

@@ -1,4 +1,5 @@
 //! What follows from the definitions alone: each function does nothing, and its contract is the law.
+ghost use Rattle.acap_inherit.specs.Examples.{ChainExamples, OverBaseExamples, MomentExamples};
 ghost use Rattle.acap_inherit.specs.Laws.{ChainLaw, BaseLaw, RepeatLaw, FirstLaw, MomentLaw, FirstDatasetLaw, NothingLaw, ReadingLaw, NamesLaw};
 
 /// Which datasets a chain has: each names the next (RFC 2244 section 5.2).
@@ -44,4 +45,19 @@ pub fn reading_law()
 /// Which names there are along a chain.
 pub fn names_law()
     ensures { NamesLaw }
+{}
+
+/// Chains by what management entries name, one for each case.
+pub fn chain_examples()
+    ensures { ChainExamples }
+{}
+
+/// What an entry shows over a base, by what is stored of it, one for each case.
+pub fn over_base_examples()
+    ensures { OverBaseExamples }
+{}
+
+/// The moments of entries with several records.
+pub fn moment_examples()
+    ensures { MomentExamples }
 {}

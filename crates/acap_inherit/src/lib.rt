@@ -15,8 +15,8 @@ pub use chains::chain;
 pub use entry_names::{EntryNames, names_on};
 pub use found::Found;
 pub use laws::{
-    base_law, chain_law, first_dataset_law, first_law, moment_law, names_law, nothing_law, reading_law,
-    repeat_law,
+    base_law, chain_examples, chain_law, first_dataset_law, first_law, moment_examples, moment_law,
+    names_law, nothing_law, over_base_examples, reading_law, repeat_law,
 };
 pub use lent::Lent;
 pub use lineage::Lineage;
