@@ -61,7 +61,7 @@ fn put(
 ) -> Result<(), Memory> {
     let record = Record {
         present: true,
-        cut: false,
+        blocks_inheritance: false,
         cells,
         acls,
         modtime: Moment::first(),

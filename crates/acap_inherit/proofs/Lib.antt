@@ -1,0 +1,10 @@
+mod ChainLaws
+mod ChainSteps
+mod ExampleLemmas
+mod FirstLaws
+mod MergeLemmas
+mod Moments
+mod NameLemmas
+mod NamesLaws
+mod ReadingLaws
+mod RepeatLaws

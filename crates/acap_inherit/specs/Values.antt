@@ -1,0 +1,18 @@
+-- A value that is lent, as the value that it is.
+use Rattle.std.specs.Prelude.{ℕ, List, Option, Some, None}
+use Rattle.acap_entries.specs.declared.cell.Cell.{Cell}
+use Rattle.acap_entries.specs.declared.cell.Cell.TheVariants as cell
+use Rattle.acap_inherit.specs.declared.lent.Lent.{Lent}
+use Rattle.acap_inherit.specs.declared.lent.Lent.TheVariants.{Single, Multi, Stamp}
+use Rattle.acap_inherit.specs.declared.found.Found.{Found}
+use Rattle.acap_inherit.specs.declared.found.Found.TheVariants.{Nil, At}
+use Rattle.acap_inherit.specs.Resolving.{Resolution}
+
+abbrev pub cell_of : Lent → Cell
+cell_of (Single text) = cell.Single text.now
+cell_of (Multi texts) = cell.Multi texts.now
+cell_of (Stamp digits) = cell.Single digits
+
+abbrev pub found_of : Found → Resolution
+found_of Nil = None
+found_of (At dataset value) = Some (cell_of value, dataset.now)

@@ -1,0 +1,57 @@
+//! The names of entries along chains.
+ghost use Rattle.std.specs.Prelude.{◌≡◌};
+ghost use Rattle.std.specs.Iterator.{YieldsFirstBy, item_count};
+ghost use Rattle.acap_inherit.specs.EntryNames as rule;
+
+use crate::lineage::Lineage;
+use crate::merging::{least_of, pass_all};
+use crate::range::Range;
+use acap_entries::Tree;
+use arrayvec::ArrayVec;
+use std::marker::Model;
+
+/// Names of entries, each once, in the order of their octets: an iterator, seen as the list of those that are still to
+/// come. Takes no memory.
+#[derive(Debug, Drop)]
+pub struct EntryNames<'a> {
+    ranges: ArrayVec<Range<'a>, 8>,
+}
+
+impl<'a> Model for EntryNames<'a> {
+    ghost use Rattle.std.specs.Prelude.{◌≡◌, ℕ, true, List};
+    ghost use Rattle.std.specs.List.{list_all};
+    ghost use Rattle.acap_inherit.specs.EntryNames.{merged};
+    ghost use Rattle.acap_inherit.specs.Merging.{is_rising};
+
+    ghost Value = { List (List ℕ) };
+
+    ghost view = { λ n. merged n.ranges.items };
+
+    ghost invariant = { λ n. list_all is_rising n.ranges.items ≡ true };
+}
+
+impl<'a> Iterator for EntryNames<'a> {
+    type Item = &'a [u8];
+
+    ghost next_gives = { YieldsFirstBy (λ name. name.now) (λ names. names) };
+
+    ghost remaining = { item_count (λ names. names) };
+
+    fn next(&mut self) -> Option<&'a [u8]> {
+        let name = least_of(self.ranges.as_slice())?;
+        pass_all(self.ranges.as_mut_slice(), name);
+        Some(name)
+    }
+}
+
+/// The names that have a record in a dataset of a chain, each once, in the order of their octets: also those of deleted
+/// entries, and the empty name of management entries. Takes no memory; each name is told after at most eight comparisons.
+pub fn names_on<'a>(tree: &'a Tree, chain: &Lineage<'a>) -> EntryNames<'a>
+    ensures { result ≡ rule.names_on tree.now.store.records chain.now }
+{
+    let mut ranges = ArrayVec::new();
+    for dataset in chain.names() {
+        ranges.push(Range::of(tree.entries_of(*dataset)));
+    }
+    EntryNames { ranges }
+}

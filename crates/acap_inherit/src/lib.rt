@@ -1,0 +1,23 @@
+//! What the entries of a dataset inherit from other datasets (RFC 2244 sections 5.1 and 5.2).
+#![tactic(auto)]
+
+mod chains;
+mod entry_names;
+mod found;
+mod laws;
+mod lent;
+mod lineage;
+mod merging;
+mod range;
+mod resolving;
+
+pub use chains::chain;
+pub use entry_names::{EntryNames, names_on};
+pub use found::Found;
+pub use laws::{
+    base_law, chain_examples, chain_law, first_dataset_law, first_law, moment_examples, moment_law,
+    names_law, nothing_law, over_base_examples, reading_law, repeat_law,
+};
+pub use lent::Lent;
+pub use lineage::Lineage;
+pub use resolving::{entry_exists, modtime, resolve};
