@@ -5,7 +5,7 @@ ghost use Rattle.acap_entries.specs.Names.{slash};
 ghost use Rattle.acap_machine.specs.Homes as home;
 
 use acap_entries::names::first_slash;
-use acap_entries::{Memory, UserName};
+use acap_entries::{Memory, Path, UserName};
 use acap_grammar::{Entries, StoreEntry};
 use std::alloc::Global;
 
@@ -17,16 +17,17 @@ pub(crate) fn entries_for(
 ) -> Result<Entries, Memory>
     ensures { IfOk result (λ made. made ≡ home.entries_for user.now entries) }
 {
-    let mut made = Entries::new(alloc);
+    let mut made = Entries::from_vec(Vec::with_capacity(alloc, entries.len())?);
     for entry in entries.into_vec() {
         let StoreEntry {
             path,
             modifiers,
             items,
         } = entry;
-        let path = path.for_user(user)?;
+        let Path { dataset, name } = path;
+        let dataset = dataset.for_user(user)?;
         made.push(StoreEntry {
-            path,
+            path: Path { dataset, name },
             modifiers,
             items,
         })?;
