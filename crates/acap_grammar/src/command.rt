@@ -1,7 +1,9 @@
+//! What a client asks for.
+
 use crate::lists::{ContextNames, Entries};
 use crate::object::Object;
 use crate::search::Search;
-use acap_entries::{ContextName, Copying, Dataset, Memory, Moment, Value};
+use acap_entries::{Boxed, ContextName, Copying, Dataset, Memory, Moment, Value};
 
 /// What a client asks for (RFC 2244 section 6).
 #[derive(Debug, Drop)]
@@ -14,8 +16,8 @@ pub enum Command {
     Authenticate(Value),
     /// STORE: entries are to be changed, all or none (section 6.6.1).
     Store(Entries),
-    /// SEARCH: entries are to be found (section 6.4.1).
-    Search(Search),
+    /// SEARCH: entries are to be found (section 6.4.1). It stands in a box, so that the other commands are short.
+    Search(Boxed<Search>),
     /// SETACL: the identifier is to have these rights on the object, both as sent (section 6.7).
     SetAcl(Object, Value, Value),
     /// DELETEACL: the identifier is to be taken off the object's list, or the whole list to be removed (section 6.7).

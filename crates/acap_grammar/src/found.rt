@@ -1,3 +1,5 @@
+//! What a SEARCH tells.
+
 use crate::lists::Rows;
 use acap_entries::Moment;
 

@@ -1,3 +1,5 @@
+//! What an attribute is given.
+
 use acap_entries::{Cell, Copying, Memory};
 
 /// What a STORE gives to an attribute or to its access control list (RFC 2244 section 6.6.1).

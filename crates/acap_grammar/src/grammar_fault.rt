@@ -1,3 +1,5 @@
+//! What is wrong with a command.
+
 use acap_entries::{Memory, NameFault};
 use std::alloc::{AllocError, AllocFailed};
 

@@ -1,3 +1,5 @@
+//! Which entries a SEARCH wants.
+
 ghost use Rattle.std.specs.Prelude.{◌≡◌, IfOk};
 ghost use Rattle.acap_grammar.specs.Nodes.{wanted_of};
 ghost use Rattle.acap_grammar.specs.Wanted as wanted;

@@ -1,3 +1,5 @@
+//! How many matches are told.
+
 /// LIMIT: how many entries a SEARCH tells where many match (RFC 2244 section 6.4.1).
 #[derive(Clone, Copy, Debug, PartialEq, Eq)]
 pub struct Limit {

@@ -1,3 +1,5 @@
+//! The context that a SEARCH makes.
+
 use acap_entries::{ContextName, Copying, Memory};
 
 /// MAKECONTEXT: what a SEARCH finds is to be kept as a context (RFC 2244 section 6.4.1).

@@ -1,3 +1,5 @@
+//! What is told of an attribute.
+
 use acap_entries::{Copying, Memory};
 
 /// What is told of an attribute (RFC 2244 sections 3.1.2 and 6.4.1).

@@ -1,3 +1,5 @@
+//! What rights are held on.
+
 use acap_entries::{Attribute, Copying, Dataset, EntryName, Memory};
 
 /// What rights are about: a dataset, an attribute of it, or that attribute of one entry (RFC 2244 section 3.5).

@@ -15,7 +15,7 @@ use crate::several::{Gather, some_of};
 use crate::storing::entries_at;
 use crate::verb::Verb;
 use crate::words::word_at;
-use acap_entries::Value;
+use acap_entries::{Boxed, Value};
 use acap_lexer::Tokens;
 use std::alloc::Global;
 
@@ -159,7 +159,7 @@ fn arguments_at(
         }
         Verb::Search => {
             let (search, next) = search_at(alloc, tokens, at)?;
-            Ok((Command::Search(search), next))
+            Ok((Command::Search(Boxed::new(alloc, search)?), next))
         }
         Verb::SetAcl => set_acl_at(alloc, tokens, at),
         Verb::DeleteAcl => delete_acl_at(alloc, tokens, at),

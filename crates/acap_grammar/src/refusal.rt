@@ -1,3 +1,5 @@
+//! Why a command is refused.
+
 use crate::object::Object;
 use acap_entries::{Attribute, Dataset, Path};
 

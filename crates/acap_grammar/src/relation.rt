@@ -1,3 +1,5 @@
+//! How a value meets a string.
+
 /// How a value is to stand to the string of a key (RFC 2244 section 6.4.1).
 #[derive(Clone, Copy, Debug, PartialEq, Eq)]
 pub enum Relation {

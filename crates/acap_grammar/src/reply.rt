@@ -1,3 +1,5 @@
+//! An answer under its tag.
+
 use crate::said::Said;
 use acap_entries::Octets;
 

@@ -1,3 +1,5 @@
+//! One item of a RETURN.
+
 use crate::lists::MetadataList;
 use crate::return_name::ReturnName;
 use acap_entries::{Copying, Memory};

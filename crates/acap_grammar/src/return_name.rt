@@ -1,3 +1,5 @@
+//! The attributes that an item of RETURN names.
+
 use acap_entries::{Attribute, Copying, Memory, Value};
 
 /// Of which attributes an item of RETURN tells (RFC 2244 section 6.4.1).

@@ -1,3 +1,5 @@
+//! What is said to a client.
+
 use crate::found::Found;
 use crate::refusal::Refusal;
 use crate::verb::Verb;

@@ -1,3 +1,5 @@
+//! A SEARCH.
+
 use crate::key::Key;
 use crate::search_modifiers::SearchModifiers;
 use crate::target::Target;

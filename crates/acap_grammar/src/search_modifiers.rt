@@ -1,3 +1,5 @@
+//! How a SEARCH is made.
+
 use crate::limit::Limit;
 use crate::lists::{Returns, SortItems};
 use crate::make_context::MakeContext;

@@ -1,3 +1,5 @@
+//! One item of a SORT.
+
 use acap_entries::{Attribute, Copying, Memory};
 use acap_order::Comparator;
 

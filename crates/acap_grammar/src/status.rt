@@ -1,3 +1,5 @@
+//! How a refusal begins.
+
 /// How a refusal is told (RFC 2244 section 6.2).
 #[derive(Clone, Copy, Debug, PartialEq, Eq)]
 pub enum Status {

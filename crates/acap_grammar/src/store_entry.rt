@@ -1,3 +1,5 @@
+//! One entry of a STORE.
+
 use crate::lists::StoreItems;
 use crate::store_modifiers::StoreModifiers;
 use acap_entries::{Copying, Memory, Path};

@@ -1,3 +1,5 @@
+//! One item of a STORE.
+
 use crate::given::Given;
 use crate::store_metadata::StoreMetadata;
 use acap_entries::{Attribute, Copying, Memory};

@@ -1,3 +1,5 @@
+//! What of an attribute a STORE gives.
+
 use acap_entries::{Copying, Memory};
 
 /// What of an attribute is stored (RFC 2244 sections 3.1.2 and 6.6.1).

@@ -1,3 +1,5 @@
+//! The conditions of a STORE.
+
 use acap_entries::{Copying, Memory, Moment};
 
 /// On what the STORE of an entry depends (RFC 2244 section 6.6.1).

@@ -165,6 +165,22 @@ impl Gifts {
     }
 }
 
+impl Gifts {
+    // One last thing for the attribute, which moves there.
+    fn put_last(self, metadata: StoreMetadata, given: Given) -> Result<StoreItems, Memory>
+        ensures { IfOk result (λ made. made ≡ self.items ++ record { attribute = self.attribute; metadata = metadata; given = given } ∷ []) }
+    {
+        let Gifts { attribute, items } = self;
+        let mut items = items;
+        items.push(StoreItem {
+            attribute,
+            metadata,
+            given,
+        })?;
+        Ok(items)
+    }
+}
+
 impl Gather for Gifts {
     ghost over = { starts is_close };
 
@@ -210,8 +226,8 @@ fn gifts_at(
         return Ok((gifts.items, left));
     }
     let (given, left) = plain_at(alloc, tokens, at)?;
-    let gifts = seen.put(StoreMetadata::Value, given)?;
-    Ok((gifts.items, left))
+    let items = seen.put_last(StoreMetadata::Value, given)?;
+    Ok((items, left))
 }
 
 impl Gather for StoreItems {

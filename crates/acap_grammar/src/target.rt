@@ -1,3 +1,5 @@
+//! What a SEARCH looks through.
+
 use acap_entries::{ContextName, Copying, Dataset, Memory};
 
 /// What a SEARCH looks through (RFC 2244 section 6.4.1).

@@ -1,3 +1,5 @@
+//! One test of a key.
+
 use crate::relation::Relation;
 use acap_entries::{Attribute, Copying, Memory, Moment, Value};
 use acap_order::Comparator;

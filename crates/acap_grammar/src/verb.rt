@@ -1,3 +1,5 @@
+//! The verbs of commands.
+
 /// The verbs of commands (RFC 2244 section 6).
 #[derive(Clone, Copy, Debug, PartialEq, Eq)]
 pub enum Verb {

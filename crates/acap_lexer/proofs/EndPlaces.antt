@@ -5,8 +5,8 @@ use Rattle.std.proofs.lemmas.Bool.{and_parts, eqb-true, eq-eqb, and_from, cases_
 use Rattle.std.proofs.lemmas.List.{get_or-drop, take_all}
 use Rattle.memchr.specs.Find.{IsFirstByte, is_byte}
 use Rattle.acap_lexer.specs.Ends.{NoEnd, follows_return}
-use Rattle.acap_lexer.specs.declared.cut.Cut.TheVariants.{Never}
-use Rattle.acap_lexer.specs.Stream.{end_of, cut, part_limit}
+use Rattle.acap_lexer.specs.declared.part_end.PartEnd.TheVariants.{Never}
+use Rattle.acap_lexer.specs.Stream.{end_of, part_end, part_limit}
 
 -- a CR LF lies there
 pub record IsEnd (text : List ℕ) (n : ℕ) : Type 0 where
@@ -159,8 +159,8 @@ feed_passes text from passed none f r k lt return feed =
     ]
 
 -- a front that is as long as a part may be, with no end in it
-pub never : (text : List ℕ) (n : ℕ) → n ≡ part_limit → None ≡ end_of (take n text) → part_limit ≤ length text → Never ≡ cut text
-unfolding cut
+pub never : (text : List ℕ) (n : ℕ) → n ≡ part_limit → None ≡ end_of (take n text) → part_limit ≤ length text → Never ≡ part_end text
+unfolding part_end
 never text n is none long =
     let a : end_of (take part_limit text) ≡ None = subst (λ (m : ℕ). end_of (take m text) ≡ None) is (sym none) in
     let b : ltb (length text) part_limit ≡ false = le-ltb _ _ long in

@@ -5,7 +5,7 @@ use Rattle.acap_lexer.specs.declared.announced.Announced.{Announced}
 use Rattle.acap_lexer.specs.declared.fault.LexError.{LexError}
 use Rattle.acap_lexer.specs.declared.fault.LexFault.{LexFault}
 use Rattle.acap_lexer.specs.declared.fault.LexFault.TheVariants.{BadToken}
-use Rattle.acap_lexer.specs.declared.found.Found.TheVariants.{Mark, Rest}
+use Rattle.acap_lexer.specs.declared.coming.Coming.TheVariants.{Mark, Rest}
 use Rattle.std.specs.Borrow.{Bor}
 use Rattle.acap_lexer.specs.Token.{Token}
 use Rattle.acap_lexer.specs.Part.{Part, next_at, part_within}

@@ -8,7 +8,7 @@ use Rattle.acap_lexer.specs.declared.mode.Mode.{Mode}
 use Rattle.acap_lexer.specs.Holding.{Held, held_limit}
 use Rattle.acap_lexer.specs.Held.{answers_from, answers_of}
 use Rattle.acap_lexer.specs.Owing.{Owes, IsReady, AsksFor, AsksAll, Feeds, with_more}
-use Rattle.acap_lexer.specs.Stream.{end_of, cut, step_of, progress_within, progress_from, progress}
+use Rattle.acap_lexer.specs.Stream.{end_of, part_end, step_of, progress_within, progress_from, progress}
 
 pub record AsksSoFar (modes : List Mode) (old : Held) (said : List Lexed) (left : List Mode) (new : Held) (now : List Lexed) : Type 0 where
   pub owes : Owes modes old said left new now
@@ -73,7 +73,7 @@ feeds_none piece modes (m ∷ left) old new said now rest none s = absurd (omega
 -- ---- pieces
 
 nothing_yet : (mode : Mode) → progress mode [] ≡ record { waits = 0; item = None }
-unfolding progress progress_from progress_within step_of cut end_of
+unfolding progress progress_from progress_within step_of part_end end_of
 nothing_yet mode = refl
 
 nothing_owed : (modes : List Mode) → answers_of modes [] ≡ []

@@ -1,9 +1,11 @@
 -- How long the escaped form is, and whether a text is UTF-8.
-use Rattle.std.proofs.Common.{◌≡◌, ℕ, ◌+◌, Bool, true, false, cond, List, [], ◌∷◌, ◌++◌, length, refl, arith, suc}
+use Rattle.std.proofs.Common.{◌≡◌, ℕ, ◌+◌, Bool, true, false, cond, List, [], ◌∷◌, ◌++◌, length, refl, sym, arith, suc, ◌≤◌, leb}
 use Rattle.std.specs.Prelude.{count_by}
 use Rattle.std.specs.Str.{is_utf8, IsUtf8}
 use Rattle.std.proofs.lemmas.Str.{IsUtf8-from_is_utf8}
 use Rattle.std.proofs.lemmas.List.Recursion.{is_count_by}
+use Rattle.std.proofs.lemmas.Bool.{le-leb}
+use Rattle.std.proofs.lemmas.List.Sums.{count_by-le-length}
 use Rattle.acap_lexer.specs.Octets.{is_escaped}
 use Rattle.acap_lexer.specs.Printing.{escaped}
 
@@ -30,3 +32,6 @@ is_utf8_not text wrong = by_test (is_utf8 text) (λ e. wrong (IsUtf8-from_is_utf
     by_test false h = refl
 
 pub ruleset short_rules = (length-escaped)
+
+pub short_half : (text : List ℕ) → length text ≤ 512 → true ≡ leb (length (escaped text)) 1024
+short_half text short = sym (le-leb _ _ (omega (arith, short, length-escaped text, count_by-le-length is_escaped text)))

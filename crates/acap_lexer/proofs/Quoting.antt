@@ -1,8 +1,9 @@
 -- Reading a quoted string.
-use Rattle.std.proofs.Common.{◌≡◌, ℕ, suc, ◌+◌, Bool, true, false, List, [], ◌∷◌, ◌++◌, take, drop, length, Ok, Err, refl, sym, ap, ◌∙◌, append_assoc, eqb, leb, arith, length-append}
+use Rattle.std.proofs.Common.{◌≡◌, ℕ, suc, ◌+◌, Bool, true, false, List, [], ◌∷◌, ◌++◌, take, drop, length, Ok, Err, refl, sym, ap, ◌∙◌, append_assoc, eqb, leb, ◌≤◌, arith, length-append, length-drop}
 use Rattle.std.specs.Prelude.{not, ◌||◌, ◌&&◌}
 use Rattle.std.specs.Str.{is_utf8}
 use Rattle.std.proofs.lemmas.Bool.{and_parts, or_parts, or_from, not-true, not_from_false, le-leb, leb-true}
+use Rattle.std.proofs.lemmas.List.{append-nil}
 use Rattle.acap_lexer.specs.declared.kind.Kind.TheVariants as kinds
 use Rattle.std.specs.List.{list_all}
 use Rattle.acap_lexer.specs.Printing.{escape, escaped, is_printable, may_quote, quoted}
@@ -94,3 +95,17 @@ reads_quoted text rest m =
     let regroup : (escaped text ++ 34 ∷ []) ++ rest ≡ escaped text ++ 34 ∷ rest = append_assoc (escaped text) (34 ∷ []) rest in
     let short : leb (length (escaped text ++ 34 ∷ rest)) (length rest + 1025) ≡ true = le-leb _ _ (omega (arith, length-append (escaped text) (34 ∷ rest), leb-true _ _ parts.0)) in
     rw (regroup, read, short) refl
+
+-- ---- a string without escapes
+
+pub plain_string : (rest left : List ℕ) (n : ℕ) → n ≡ prefix_len is_quotable rest → drop n rest ≡ 34 ∷ left → n ≤ 1024 → string_at rest ≡ Ok (take n rest, left)
+unfolding string_at quoted_at
+plain_string rest left n longest back short =
+    let split : quoted_at rest ≡ behind (take n rest) (quoted_at (drop n rest)) = rw longest (quoted_plain rest) in
+    let closed : quoted_at (34 ∷ left) ≡ Ok ([], left) = refl in
+    let read : quoted_at rest ≡ Ok (take n rest, left) =
+    split ∙ ap (λ (xs : List ℕ). behind (take n rest) (quoted_at xs)) back ∙ ap (behind (take n rest)) closed
+    ∙ ap (λ (xs : List ℕ). let r : Read (List ℕ) = Ok (xs, left) in r) (append-nil (take n rest)) in
+    let whole : length rest ≤ length left + 1025 = omega (arith, ap length back, length-drop n rest) in
+    let test : leb (length rest) (length left + 1025) ≡ true = le-leb _ _ whole in
+    rw (read, test) refl

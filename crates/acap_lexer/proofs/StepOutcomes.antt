@@ -3,15 +3,15 @@ use Rattle.std.proofs.Common.{◌≡◌, ℕ, ◌+◌, ◌-◌, ◌<◌, ◌≤�
 use Rattle.std.proofs.lemmas.Bool.{cases_lt, le-ltb, lt-ltb, ltb-false}
 use Rattle.std.proofs.lemmas.List.{take-append-le, drop-append-le}
 use Rattle.acap_lexer.specs.declared.announced.Announced.{Announced}
-use Rattle.acap_lexer.specs.declared.cut.Cut.{Cut}
-use Rattle.acap_lexer.specs.declared.cut.Cut.TheVariants.{At, Never, NotYet}
+use Rattle.acap_lexer.specs.declared.part_end.PartEnd.{PartEnd}
+use Rattle.acap_lexer.specs.declared.part_end.PartEnd.TheVariants.{At, Never, NotYet}
 use Rattle.acap_lexer.specs.declared.fault.LexFault.{LexFault}
 use Rattle.acap_lexer.specs.declared.mode.Mode.{Mode}
 use Rattle.acap_lexer.specs.Token.{Token}
 use Rattle.acap_lexer.specs.Reading.{Read}
 use Rattle.acap_lexer.specs.Part.{Part, part_within, begun_at, tag_of}
-use Rattle.acap_lexer.specs.Stream.{Front, Stage, AtPart, InLiteral, Step, Waits, Ends, Goes, IsItem, said, step_by_mark, step_by_part, step_by_front, step_by_cut, step_of, octets_of, cut, command_limit}
-use Rattle.acap_lexer.proofs.CutLaws.{is_at, is_never, is_short, keeps_at, keeps_never}
+use Rattle.acap_lexer.specs.Stream.{Front, Stage, AtPart, InLiteral, Step, Waits, Ends, Goes, IsItem, said, step_by_mark, step_by_part, step_by_front, step_by_end, step_of, octets_of, part_end, command_limit}
+use Rattle.acap_lexer.proofs.EndLaws.{is_at, is_never, is_short, keeps_at, keeps_never}
 
 -- what a whole part, which ends there, leads to
 abbrev pub Outcome : ℕ → Step → Type 0
@@ -70,7 +70,7 @@ Tells mode stage text (Ends item n) = (octets_of stage < n) × (n ≤ length tex
 Tells mode stage text (Goes p next) = Onwards stage next text × ((more : List ℕ) → step_of mode stage (text ++ more) ≡ Goes p next)
 
 -- a part whose CR LF is there
-part_tells : (mode : Mode) (front : Front) (text : List ℕ) (n : ℕ) (step : Step) → front.octets ≤ length text → cut (drop front.octets text) ≡ At n
+part_tells : (mode : Mode) (front : Front) (text : List ℕ) (n : ℕ) (step : Step) → front.octets ≤ length text → part_end (drop front.octets text) ≡ At n
     → said mode front (take n (drop front.octets text)) ≡ step → Outcome (front.octets + n + 2) step → Tells mode (AtPart front) text step
 unfolding step_of
 part_tells mode front text n step within at is o = by_step step is o
@@ -92,16 +92,16 @@ part_tells mode front text n step within at is o = by_step step is o
     by_step (Goes p (InLiteral start count f)) e o =
         (record { within = omega (arith, o.0, room); nearer = omega (arith, o.0, room); fits = λ h. omega (arith, o.0, o.1) }, λ more. longer more ∙ e)
 
-cut_tells : (mode : Mode) (front : Front) (text : List ℕ) (c : Cut) → front.octets ≤ length text → cut (drop front.octets text) ≡ c
-    → Tells mode (AtPart front) text (step_by_cut mode front (drop front.octets text) c)
+end_tells : (mode : Mode) (front : Front) (text : List ℕ) (c : PartEnd) → front.octets ≤ length text → part_end (drop front.octets text) ≡ c
+    → Tells mode (AtPart front) text (step_by_end mode front (drop front.octets text) c)
 unfolding step_of
-cut_tells mode front text (At n) within e =
+end_tells mode front text (At n) within e =
     let a = is_at (drop front.octets text) n e in
     let len : length (take n (drop front.octets text)) ≡ n = omega (arith, length-take n (drop front.octets text), a.within) in
     let o : Outcome (front.octets + n + 2) (said mode front (take n (drop front.octets text))) =
     subst (λ (k : ℕ). Outcome (front.octets + k + 2) (said mode front (take n (drop front.octets text)))) len (outcome mode front (take n (drop front.octets text))) in
     part_tells mode front text n (said mode front (take n (drop front.octets text))) within e refl o
-cut_tells mode front text Never within e =
+end_tells mode front text Never within e =
     let long = is_never (drop front.octets text) e in (
       omega arith,
       omega (arith, long, length-drop front.octets text),
@@ -110,7 +110,7 @@ cut_tells mode front text Never within e =
           let left : drop front.octets (text ++ more) ≡ drop front.octets text ++ more = drop-append-le front.octets text more within in
           rw (left, keeps_never (drop front.octets text) more e) refl,
     )
-cut_tells mode front text NotYet within e = λ fits. omega (arith, is_short (drop front.octets text) e, length-drop front.octets text)
+end_tells mode front text NotYet within e = λ fits. omega (arith, is_short (drop front.octets text) e, length-drop front.octets text)
 
 literal_tells : (mode : Mode) (start count : ℕ) (front : Front) (text : List ℕ) → front.octets ≤ length text → Tells mode (InLiteral start count front) text (step_of mode (InLiteral start count front) text)
 unfolding step_of
@@ -132,5 +132,5 @@ literal_tells mode start count front text within =
 -- What a step tells of its text.
 pub step_tells : (mode : Mode) (stage : Stage) (text : List ℕ) → octets_of stage ≤ length text → Tells mode stage text (step_of mode stage text)
 unfolding step_of
-step_tells mode (AtPart front) text within = cut_tells mode front text (cut (drop front.octets text)) within refl
+step_tells mode (AtPart front) text within = end_tells mode front text (part_end (drop front.octets text)) within refl
 step_tells mode (InLiteral start count front) text within = literal_tells mode start count front text within

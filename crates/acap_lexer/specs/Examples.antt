@@ -1,7 +1,7 @@
 -- Examples of what begins a text, of limits, and of what is printed. [RFC 2244, 2.2 and 2.6]
 use Rattle.std.specs.Prelude.{◌≡◌, ℕ, ◌+◌, List, [], ◌∷◌, ◌++◌, Some, None, Ok, Err, Bool, not, codes, filter, replicate}
 use Rattle.std.specs.List.{range_with_len}
-use Rattle.acap_lexer.specs.declared.cut.Cut.TheVariants.{At, Never, NotYet}
+use Rattle.acap_lexer.specs.declared.part_end.PartEnd.TheVariants.{At, Never, NotYet}
 use Rattle.acap_lexer.specs.declared.fault.LexFault.TheVariants.{BadTag, BadToken, BadLiteral, CommandTooLong, LineTooLong}
 use Rattle.acap_lexer.specs.declared.kind.Kind.{Kind}
 use Rattle.acap_lexer.specs.declared.kind.Kind.TheVariants as kinds
@@ -13,7 +13,7 @@ use Rattle.acap_lexer.specs.Holding.{Held, held_limit}
 use Rattle.acap_lexer.specs.Octets.{is_word, is_tag, is_quotable, is_escaped, is_digit}
 use Rattle.acap_lexer.specs.Printing.{is_printable, printed}
 use Rattle.acap_lexer.specs.Reading.{count_of, mark_of, may_touch, string_at}
-use Rattle.acap_lexer.specs.Stream.{Front, Ends, Progress, progress, part_limit, command_limit, cut, said}
+use Rattle.acap_lexer.specs.Stream.{Front, Ends, Progress, progress, part_limit, command_limit, part_end, said}
 use Rattle.acap_lexer.specs.Token.{Token}
 
 abbrev pub crlf : List ℕ
@@ -108,9 +108,9 @@ pub record LimitExamples : Type 0 where
   pub behind_a_mark : mark_of (codes "{5}x") ≡ None
   pub behind_a_plus : mark_of (codes "{5+}x") ≡ None
   -- the first 8,192 octets of a part have its CR LF
-  pub part_of_8192 : cut (letters 8190 ++ crlf) ≡ At 8190
-  pub part_of_8193 : cut (letters 8191 ++ crlf) ≡ Never
-  pub not_8192_yet : cut (letters 8191) ≡ NotYet
+  pub part_of_8192 : part_end (letters 8190 ++ crlf) ≡ At 8190
+  pub part_of_8193 : part_end (letters 8191 ++ crlf) ≡ Never
+  pub not_8192_yet : part_end (letters 8191) ≡ NotYet
   pub no_part : command (letters 8192) ≡ item 0 (Fatal LineTooLong) 8192
   -- a command has 262,144 octets, its literals and each CR LF counted, which is seen before another fault of its part
   pub announced : command (codes "A1 X {262127}" ++ crlf) ≡ record { waits = 1; item = None }

@@ -1,6 +1,7 @@
 pub mod Octets
 pub mod Token
-pub mod Marks
+pub mod Drafting
+pub mod Places
 pub mod Reading
 pub mod Part
 pub mod Stream
@@ -10,8 +11,9 @@ pub mod Owing
 pub mod Laws
 pub mod Examples
 pub mod Printing
+pub mod Escapes
 pub mod Taking
 pub mod Ends
-pub mod CutPlaces
+pub mod PartEnds
 pub mod Scanning
 pub mod Lexing

@@ -5,13 +5,13 @@ use Rattle.acap_lexer.specs.declared.due.Due.TheVariants as dues
 use Rattle.acap_lexer.specs.declared.mode.Mode.{Mode}
 use Rattle.acap_lexer.specs.declared.scan.Literal.{Literal}
 use Rattle.acap_lexer.specs.declared.scan.Scan.{Scan}
-use Rattle.acap_lexer.specs.declared.turn.Turn.{Turn}
-use Rattle.acap_lexer.specs.declared.turn.Turn.TheVariants as turns
+use Rattle.acap_lexer.specs.declared.stage_outcome.StageOutcome.{StageOutcome}
+use Rattle.acap_lexer.specs.declared.stage_outcome.StageOutcome.TheVariants as outcomes
 use Rattle.acap_lexer.specs.Ends.{NoEnd}
 use Rattle.acap_lexer.specs.Stream.{Front, Stage, AtPart, InLiteral, Step, Waits, Ends, Goes, progress, progress_from, waiting}
 
 abbrev pub front_of : Scan → Front
-front_of scan = record { tokens = scan.tokens; octets = scan.octets }
+front_of scan = record { tokens = scan.draft.tokens; octets = scan.octets }
 
 abbrev pub stage_by : Option Literal → Front → Stage
 stage_by None front = AtPart front
@@ -42,10 +42,10 @@ pub record Stays (step : Step) (old new : Scan) : Type 0 where
   pub mode : new.mode ≡ old.mode
 
 -- a turn of a scan does what comes of its stage
-abbrev pub Turns : Step → Scan → Scan → Turn → Type 0
-Turns step old new turns.Waits = Stays step old new
-Turns step old new (turns.Ends lexed n) = step ≡ Ends lexed n
-Turns step old new turns.Goes = GoesOn step old new
+abbrev pub Turns : Step → Scan → Scan → StageOutcome → Type 0
+Turns step old new outcomes.Waits = Stays step old new
+Turns step old new (outcomes.Ends lexed n) = step ≡ Ends lexed n
+Turns step old new outcomes.Goes = GoesOn step old new
 
 -- the scan is at the octets of a literal that begin there, or an item ends there
 pub record Opens (place : ℕ) (scan : Scan) : Type 0 where
@@ -53,25 +53,25 @@ pub record Opens (place : ℕ) (scan : Scan) : Type 0 where
   pub looked : scan.looked ≡ 0
   pub waits : scan.waits ≤ place
 
-abbrev pub OpensOn : ℕ → Scan → Turn → Type 0
-OpensOn place scan turns.Waits = ⊥
-OpensOn place scan (turns.Ends lexed n) = n ≡ place
-OpensOn place scan turns.Goes = Opens place scan
+abbrev pub OpensOn : ℕ → Scan → StageOutcome → Type 0
+OpensOn place scan outcomes.Waits = ⊥
+OpensOn place scan (outcomes.Ends lexed n) = n ≡ place
+OpensOn place scan outcomes.Goes = Opens place scan
 
 -- so that the next turn may be made
-abbrev pub StaysSound : List ℕ → Scan → Turn → Type 0
-StaysSound text scan turns.Waits = IsSound text scan
-StaysSound text scan (turns.Ends lexed n) = Unit {0}
-StaysSound text scan turns.Goes = IsSound text scan
+abbrev pub StaysSound : List ℕ → Scan → StageOutcome → Type 0
+StaysSound text scan outcomes.Waits = IsSound text scan
+StaysSound text scan (outcomes.Ends lexed n) = Unit {0}
+StaysSound text scan outcomes.Goes = IsSound text scan
 
 -- how many turns are left at the most
 abbrev pub turns_left : List ℕ → Scan → ℕ
 turns_left text scan = (length text - scan.octets) + (if is_some scan.literal then 1 else 0)
 
-abbrev pub IsNearer : List ℕ → Scan → Scan → Turn → Type 0
-IsNearer text old new turns.Waits = Unit {0}
-IsNearer text old new (turns.Ends lexed n) = (0 < n) × (n ≤ length text)
-IsNearer text old new turns.Goes = turns_left text new < turns_left text old
+abbrev pub IsNearer : List ℕ → Scan → Scan → StageOutcome → Type 0
+IsNearer text old new outcomes.Waits = Unit {0}
+IsNearer text old new (outcomes.Ends lexed n) = (0 < n) × (n ≤ length text)
+IsNearer text old new outcomes.Goes = turns_left text new < turns_left text old
 
 -- the scan has gone through stages of the command that begins the text, however that goes on
 abbrev pub Reaches : List ℕ → Scan → Type 0

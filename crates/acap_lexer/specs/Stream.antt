@@ -2,8 +2,8 @@
 -- tokens, a line with a fault, or a fault after which nothing is read. [RFC 2244, 2.2 and 2.6.3]
 use Rattle.std.specs.Prelude.{ℕ, zero, suc, ◌+◌, List, [], ◌∷◌, ◌++◌, length, take, drop, Option, Some, None, option_map, Result, Ok, Err, nat_lt, ◌==◌, ◌&&◌, if◌then◌else◌, slice_index}
 use Rattle.acap_lexer.specs.declared.announced.Announced.{Announced}
-use Rattle.acap_lexer.specs.declared.cut.Cut.{Cut}
-use Rattle.acap_lexer.specs.declared.cut.Cut.TheVariants.{At, Never, NotYet}
+use Rattle.acap_lexer.specs.declared.part_end.PartEnd.{PartEnd}
+use Rattle.acap_lexer.specs.declared.part_end.PartEnd.TheVariants.{At, Never, NotYet}
 use Rattle.acap_lexer.specs.declared.fault.LexFault.{LexFault}
 use Rattle.acap_lexer.specs.declared.fault.LexFault.TheVariants.{LineTooLong, CommandTooLong}
 use Rattle.acap_lexer.specs.declared.kind.Kind.TheVariants as kinds
@@ -28,12 +28,12 @@ end_of [] = None
 end_of (c ∷ rest) = if c == 13 && slice_index rest 0 == 10 then Some 0 else option_map (λ n. n + 1) (end_of rest)
 
 -- where a part ends: there, nowhere within the limit, or not yet
-abbrev pub cut_by : Option ℕ → ℕ → Cut
-cut_by (Some n) len = At n
-cut_by None len = if nat_lt len part_limit then NotYet else Never
+abbrev pub part_end_by : Option ℕ → ℕ → PartEnd
+part_end_by (Some n) len = At n
+part_end_by None len = if nat_lt len part_limit then NotYet else Never
 
-unfoldable pub cut : List ℕ → Cut
-cut text = cut_by (end_of (take part_limit text)) (length text)
+unfoldable pub part_end : List ℕ → PartEnd
+part_end text = part_end_by (end_of (take part_limit text)) (length text)
 
 -- what has been read of a command: its tokens, and how many octets they took, each CR LF counted
 pub record Front : Type 0 where
@@ -83,10 +83,10 @@ said mode front part =
     if nat_lt command_limit (end + 2) then Ends (Fatal CommandTooLong) (end + 2)
     else step_by_front mode end (begun_at mode front.tokens part)
 
-abbrev pub step_by_cut : Mode → Front → List ℕ → Cut → Step
-step_by_cut mode front text (At n) = said mode front (take n text)
-step_by_cut mode front text Never = Ends (Fatal LineTooLong) (front.octets + part_limit)
-step_by_cut mode front text NotYet = Waits
+abbrev pub step_by_end : Mode → Front → List ℕ → PartEnd → Step
+step_by_end mode front text (At n) = said mode front (take n text)
+step_by_end mode front text Never = Ends (Fatal LineTooLong) (front.octets + part_limit)
+step_by_end mode front text NotYet = Waits
 
 -- the token of a literal with these octets
 abbrev pub literal_token : ℕ → ℕ → Front → List ℕ → Token
@@ -94,7 +94,7 @@ literal_token start count front octets = record { kind = kinds.Literal; value = 
 
 -- what comes of a stage of the command that begins the text
 unfoldable pub step_of : Mode → Stage → List ℕ → Step
-step_of mode (AtPart front) text = step_by_cut mode front (drop front.octets text) (cut (drop front.octets text))
+step_of mode (AtPart front) text = step_by_end mode front (drop front.octets text) (part_end (drop front.octets text))
 step_of mode (InLiteral start count front) text =
     if nat_lt (length text) (front.octets + count) then Waits
     else Goes 0 (AtPart (record {

@@ -1,27 +1,28 @@
 //! A scan that goes on as far as its text does.
 
-ghost use Rattle.std.specs.Prelude.{◌≡◌, ◌<◌, ◌^◌, List, ℕ, length, IfOk};
+ghost use Rattle.std.specs.Prelude.{◌≡◌, ◌<◌, ◌^◌, [], List, ℕ, length, IfOk};
 ghost use Rattle.acap_lexer.specs.Scanning.{IsSound, Reaches, IsDue, FitsIn, KeepsScan};
 
+use crate::draft::Draft;
 use crate::due::Due;
 use crate::fault::Memory;
 use crate::mode::Mode;
 use crate::scan::Scan;
+use crate::stage_outcome::StageOutcome;
 use crate::stages::step;
-use crate::tokens::Tokens;
-use crate::turn::Turn;
 use std::alloc::Global;
 
-/// A scan at the beginning of a command.
+/// A scan at the beginning of a command, which has read no token yet.
 #[tactic(auto, using(crate::proofs::Reaching::reaches_start))]
-pub(crate) fn start(alloc: Global, mode: Mode) -> Scan
+pub(crate) fn start(draft: Draft, mode: Mode) -> Scan
+    requires { draft.tokens ≡ [] }
     ensures sound { (text : List ℕ) → IsSound text result }
     ensures reaches { (text : List ℕ) → Reaches text result }
     ensures mode { result.mode ≡ mode }
 {
     Scan {
         mode,
-        tokens: Tokens::new(alloc),
+        draft,
         octets: 0,
         looked: 0,
         waits: 0,
@@ -36,7 +37,7 @@ pub(crate) fn turn_to(alloc: Global, scan: &mut Scan, mode: Mode)
     ensures mode { scan.new.mode ≡ mode }
 {
     if scan.mode != mode {
-        *scan = start(alloc, mode);
+        *scan = start(Draft::new(alloc), mode);
     }
 }
 
@@ -59,9 +60,9 @@ pub(crate) fn advance(
             return Ok(Due::Plus);
         }
         match step(alloc, scan, text)? {
-            Turn::Waits => return Ok(Due::More),
-            Turn::Ends(lexed, taken) => return Ok(Due::Item(lexed, taken)),
-            Turn::Goes => {}
+            StageOutcome::Waits => return Ok(Due::More),
+            StageOutcome::Ends(lexed, taken) => return Ok(Due::Item(lexed, taken)),
+            StageOutcome::Goes => {}
         }
     }
 }

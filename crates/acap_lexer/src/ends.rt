@@ -2,10 +2,10 @@
 
 ghost use Rattle.std.specs.Prelude.{◌≡◌, ◌≤◌, ◌<◌, ◌+◌, length, IfSome, IfNone};
 ghost use Rattle.acap_lexer.specs.Ends.{NoEnd, follows_return};
-ghost use Rattle.acap_lexer.specs.Stream.{end_of, cut};
-ghost use Rattle.acap_lexer.specs.CutPlaces.{CutsWithin};
+ghost use Rattle.acap_lexer.specs.Stream.{end_of, part_end};
+ghost use Rattle.acap_lexer.specs.PartEnds.{EndsWithin};
 
-use crate::cut::Cut;
+use crate::part_end::PartEnd;
 use memchr::memchr;
 
 /// The CR LF of a part ends within so many of its octets.
@@ -39,21 +39,21 @@ fn end_of(text: &[u8], looked: usize) -> Option<usize>
 }
 
 /// Where the part that begins the text ends, if its first octets have been looked at.
-#[tactic(auto, using(std::proofs::lemmas::List::take_min), unfolding(crate::specs::Stream::cut))]
-pub(crate) fn cut(text: &[u8], looked: usize) -> Cut
+#[tactic(auto, using(std::proofs::lemmas::List::take_min), unfolding(crate::specs::Stream::part_end))]
+pub(crate) fn part_end(text: &[u8], looked: usize) -> PartEnd
     requires within { looked ≤ length text.now }
     requires none { NoEnd text.now looked }
-    ensures cut { result ≡ cut text.now }
-    ensures places { CutsWithin text.now result }
+    ensures part_end { result ≡ part_end text.now }
+    ensures places { EndsWithin text.now result }
 {
     let front = &text[..PART_LIMIT.min(text.len())];
     match end_of(front, looked.min(front.len())) {
-        Some(n) => Cut::At(n),
+        Some(n) => PartEnd::At(n),
         None => {
             if text.len() < PART_LIMIT {
-                Cut::NotYet
+                PartEnd::NotYet
             } else {
-                Cut::Never
+                PartEnd::Never
             }
         }
     }

@@ -5,11 +5,13 @@ ghost use Rattle.acap_lexer.specs.Held.{next_of, fatal_of};
 ghost use Rattle.acap_lexer.specs.Holding.{held_limit};
 
 use crate::advance::{advance, start, turn_to};
+use crate::draft::Draft;
 use crate::due::Due;
 use crate::fault::{LexFault, Memory};
 use crate::lexed::Lexed;
 use crate::mode::Mode;
 use crate::scan::Scan;
+use crate::tokens::Tokens;
 use std::alloc::Global;
 use std::marker::Model;
 
@@ -36,7 +38,9 @@ fn compact(text: &mut Vec<u8>, start: usize) -> usize
     if start <= text.len() - start {
         return start;
     }
-    let _front = text.drain(..start);
+    let left = text.len() - start;
+    text.copy_within(start.., 0);
+    text.truncate(left);
     0
 }
 
@@ -77,7 +81,7 @@ impl Lexer {
             start: 0,
             told: 0,
             fatal: None,
-            scan: start(alloc, Mode::Command),
+            scan: start(Draft::new(alloc), Mode::Command),
         }
     }
 
@@ -114,7 +118,7 @@ impl Lexer {
             &self.text[self.start..],
         ) {
             Err(Memory) => {
-                self.scan = start(self.alloc, mode);
+                self.scan = start(Draft::new(self.alloc), mode);
                 Err(Memory)
             }
             Ok(Due::More) => Ok(Lexed::More),
@@ -126,9 +130,19 @@ impl Lexer {
                 self.fatal = fatal_of(&lexed);
                 self.start += taken;
                 self.told = 0;
-                self.scan = start(self.alloc, mode);
+                self.scan = start(Draft::new(self.alloc), mode);
                 Ok(lexed)
             }
+        }
+    }
+
+    /// Takes back the memory of a command's tokens, so that the next command's lie there. What the lexer stands for
+    /// stays as it is.
+    pub fn take_back(&mut self, tokens: Tokens)
+        ensures { self.new ≡ self.old }
+    {
+        if self.scan.draft.is_empty() {
+            self.scan.draft = tokens.emptied(self.alloc);
         }
     }
 }

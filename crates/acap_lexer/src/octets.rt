@@ -3,25 +3,36 @@
 ghost use Rattle.std.specs.Prelude.{◌≡◌};
 ghost use Rattle.acap_lexer.specs.Octets.{is_word, is_tag, is_quotable, is_escaped, is_digit};
 
-#[tactic(auto, unfolding(crate::specs::Octets::is_word))]
+/// Where each octet may stand: `0` nowhere as itself, `1` in a quoted string, `2` in a word too, `3` in a tag too.
+static CLASSES: [u8; 256] = *b"\
+    01111111110110111111111111111111\
+    13033333112233333333333333333333\
+    33333333333333333333333333330333\
+    33333333333333333333333333313331\
+    11111111111111111111111111111111\
+    11111111111111111111111111111111\
+    11111111111111111111111111111111\
+    11111111111111111111111111111111";
+
+#[inline]
 pub(crate) fn is_word(c: u8) -> bool
     ensures { result ≡ is_word c }
 {
-    matches!(c, 0x21 | 0x23..=0x27 | 0x2A..=0x5B | 0x5D..=0x7A | 0x7C..=0x7E)
+    CLASSES[c as usize] >= b'2'
 }
 
-#[tactic(auto, unfolding(crate::specs::Octets::is_tag))]
+#[inline]
 pub(crate) fn is_tag(c: u8) -> bool
     ensures { result ≡ is_tag c }
 {
-    matches!(c, 0x21 | 0x23..=0x27 | 0x2C..=0x5B | 0x5D..=0x7A | 0x7C..=0x7E)
+    CLASSES[c as usize] == b'3'
 }
 
-#[tactic(auto, unfolding(crate::specs::Octets::is_quotable))]
+#[inline]
 pub(crate) fn is_quotable(c: u8) -> bool
     ensures { result ≡ is_quotable c }
 {
-    !matches!(c, 0 | b'\n' | b'\r' | b'"' | b'\\')
+    CLASSES[c as usize] != b'0'
 }
 
 #[tactic(auto, unfolding(crate::specs::Octets::is_escaped))]

@@ -86,7 +86,7 @@ fn feed<'m>(
 }
 
 /// The answers of a stream that comes in these pieces, its commands being asked for in these modes. They are
-/// those of the octets joined, however they were cut (RFC 2244, section 2.2).
+/// those of the octets joined, however they were divided (RFC 2244, section 2.2).
 pub fn answers(alloc: Global, modes: &[Mode], pieces: &[&[u8]]) -> Result<Vec<Lexed>, Memory>
     ensures { IfOk result (λ said. said.items ≡ answers_of modes.now (flat_map (λ piece. piece.now) pieces.now)) }
 {

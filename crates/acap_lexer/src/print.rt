@@ -1,22 +1,17 @@
 //! The printed form of a string.
 
-ghost use Rattle.std.specs.Prelude.{◌≡◌, ◌++◌, OnOk, OnErr, nat_le, length, count_by};
+ghost use Rattle.std.specs.Prelude.{◌≡◌, ◌++◌, OnOk, OnErr, MatchOption, nat_le, length, count_by};
 ghost use Rattle.std.specs.List.{list_all};
 ghost use Rattle.acap_lexer.specs.Octets.{is_escaped as is_escaped_octet};
 ghost use Rattle.std.specs.Str.{is_utf8};
 ghost use Rattle.acap_lexer.specs.Printing.{escaped, is_printable, may_quote, quoted, literal, printed, Grows};
+ghost use Rattle.acap_lexer.specs.Escapes.{IsSplitAtEscape};
 
 use crate::fault::Memory;
 use crate::octets::is_escaped;
+use memchr::{memchr2, memchr3};
 
 const QUOTED_LIMIT: usize = 1024;
-
-#[tactic(auto, unfolding(crate::specs::Printing::is_printable))]
-fn is_printable(c: u8) -> bool
-    ensures { result ≡ is_printable c }
-{
-    !matches!(c, 0 | b'\n' | b'\r')
-}
 
 /// How many octets want a backslash.
 fn escapes(text: &[u8]) -> usize
@@ -25,11 +20,14 @@ fn escapes(text: &[u8]) -> usize
     text.iter().filter(|c| is_escaped(**c)).count()
 }
 
-/// Whether the escaped form is short enough.
+/// Whether the escaped form is short enough. A text of half that length is, whatever its octets.
 #[tactic(auto, using(crate::proofs::PrintedLength::short_rules))]
 fn is_short(text: &[u8]) -> bool
     ensures { result ≡ nat_le (length (escaped text.now)) 1024 }
 {
+    if text.len() <= QUOTED_LIMIT / 2 {
+        return true;
+    }
     text.len() <= QUOTED_LIMIT && text.len() + escapes(text) <= QUOTED_LIMIT
 }
 
@@ -45,7 +43,10 @@ fn is_text(text: &[u8]) -> bool
 fn all_printable(text: &[u8]) -> bool
     ensures { result ≡ list_all is_printable text.now }
 {
-    text.iter().all(|c| is_printable(*c))
+    match memchr3(0, b'\n', b'\r', text) {
+        None => true,
+        Some(_) => false,
+    }
 }
 
 #[tactic(auto, unfolding(crate::specs::Printing::may_quote))]
@@ -55,16 +56,32 @@ fn may_quote(text: &[u8]) -> bool
     is_short(text) && is_text(text) && all_printable(text)
 }
 
+/// What stands before the first octet that wants a backslash, that octet, and what stands behind it.
+fn split_at_escape(text: &[u8]) -> Option<(&[u8], u8, &[u8])>
+    ensures { MatchOption result (escaped text.now ≡ text.now) (λ x. IsSplitAtEscape text.now x.0.now x.1 x.2.now) }
+{
+    match memchr2(b'"', b'\\', text) {
+        None => None,
+        Some(at) => {
+            let (run, rest) = text.split_at(at);
+            let (escape, behind) = rest.split_first()?;
+            Some((run, *escape, behind))
+        }
+    }
+}
+
 fn append_escaped(text: &[u8], out: &mut Vec<u8>) -> Result<(), Memory>
     ensures ok { OnOk result (out.new.items ≡ out.old.items ++ escaped text.now) }
     ensures grows { Grows out.old.items out.new.items }
 {
-    for c in text {
-        if is_escaped(*c) {
-            out.push(b'\\')?;
-        }
-        out.push(*c)?;
+    let mut left = text;
+    'escapes: while let Some((run, escape, behind)) = split_at_escape(left) {
+        out.extend_from_slice(run)?;
+        out.push(b'\\')?;
+        out.push(escape)?;
+        left = behind;
     }
+    out.extend_from_slice(left)?;
     Ok(())
 }
 
@@ -73,6 +90,7 @@ fn append_quoted(text: &[u8], out: &mut Vec<u8>) -> Result<(), Memory>
     ensures ok { OnOk result (out.new.items ≡ out.old.items ++ quoted text.now) }
     ensures grows { Grows out.old.items out.new.items }
 {
+    out.reserve(text.len() + 2)?;
     out.push(b'"')?;
     append_escaped(text, out)?;
     out.push(b'"')?;

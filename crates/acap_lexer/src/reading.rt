@@ -1,17 +1,18 @@
 //! The tokens of a part, one by one.
 
-ghost use Rattle.std.specs.Prelude.{◌≡◌, ◌≤◌, ◌<◌, ◌-◌, [], length, slice_index, IfOk};
+ghost use Rattle.std.specs.Prelude.{◌≡◌, ◌≤◌, ◌<◌, ◌-◌, [], length, take, slice_index, IfOk};
 ghost use Rattle.std.specs.List.{prefix_len};
 ghost use Rattle.acap_lexer.specs.Octets.{is_word as is_word_octet, is_tag as is_tag_octet};
 ghost use Rattle.acap_lexer.specs.Part.{pushed};
+ghost use Rattle.acap_lexer.specs.Places.{LiesIn, Splits};
 ghost use Rattle.acap_lexer.specs.Printing.{Grows};
 ghost use Rattle.acap_lexer.specs.Reading.{Gives, stray, token_at, may_touch, gap_behind, gap_at, ends_tag, tag_at};
 
+use crate::draft::Draft;
 use crate::fault::{LexError, LexFault};
 use crate::kind::Kind;
 use crate::marks::mark_of;
 use crate::octets::{is_tag, is_word};
-use crate::tokens::Tokens;
 
 const BAD_TOKEN: LexError = LexError::Fault(LexFault::BadToken);
 
@@ -43,44 +44,52 @@ fn stray(text: &[u8]) -> LexFault
     }
 }
 
-/// The token at the front, where that is no string: its kind, what it stands for, and what is left.
+/// The token at the front, where that is no string: its kind, how many octets at the front it stands for, and what is
+/// left.
 #[tactic(auto, unfolding(crate::specs::Reading::token_at))]
-fn plain_at(text: &[u8]) -> Result<(Kind, &[u8], &[u8]), LexError>
-    ensures gives { (slice_index text.now 0 ≡ 34 → ⊥) → Gives (λ x. (record { kind = x.0; value = x.1.now }, x.2.now)) result (token_at text.now) }
+fn plain_at(text: &[u8]) -> Result<(Kind, usize, &[u8]), LexError>
+    ensures gives { (slice_index text.now 0 ≡ 34 → ⊥) → Gives (λ x. (record { kind = x.0; value = take x.1 text.now }, x.2.now)) result (token_at text.now) }
+    ensures value { IfOk result (λ x. x.1 ≤ length text.now) }
     ensures within { IfOk result (λ x. length x.2.now ≤ length text.now) }
 {
     let Some((c, left)) = text.split_first() else {
         return Err(BAD_TOKEN);
     };
     match *c {
-        b'(' => Ok((Kind::Open, &[], left)),
-        b')' => Ok((Kind::Close, &[], left)),
+        b'(' => Ok((Kind::Open, 0, left)),
+        b')' => Ok((Kind::Close, 0, left)),
         c if is_word(c) => {
-            let (word, left) = text.split_at(word_len(text));
-            Ok((Kind::Word, word, left))
+            let len = word_len(text);
+            let (_, left) = text.split_at(len);
+            Ok((Kind::Word, len, left))
         }
         _ => Err(LexError::Fault(stray(text))),
     }
 }
 
-/// Adds the token at the front of a text that goes up to the place `end` of the command, and gives what is left.
+/// Adds the token at the front of a text that goes up to the place `end` of the command, and whose copy goes up to
+/// the index `behind`. Gives what is left.
 #[tactic(auto, unfolding(crate::specs::Reading::token_at))]
 pub(crate) fn push_token<'a>(
-    tokens: &mut Tokens,
+    draft: &mut Draft,
     text: &'a [u8],
     end: usize,
+    behind: usize,
 ) -> Result<&'a [u8], LexError>
-    requires { length text.now ≤ end }
-    ensures gives { Gives (λ left. (tokens.new, left.now)) result
-        (pushed tokens.old end text.now (token_at text.now)) }
-    ensures grows { Grows tokens.old tokens.new }
+    requires within { length text.now ≤ end }
+    requires copied { LiesIn draft.old.text behind text.now }
+    ensures gives { Gives (λ left. (draft.new.tokens, left.now)) result
+        (pushed draft.old.tokens end text.now (token_at text.now)) }
+    ensures grows { Grows draft.old.tokens draft.new.tokens }
+    ensures text { Grows draft.old.text draft.new.text }
     ensures within { IfOk result (λ left. length left.now ≤ length text.now) }
 {
     if let Some((b'"', rest)) = text.split_first() {
-        return tokens.push_string(rest, end);
+        return draft.push_string(rest, end, behind);
     }
-    let (kind, value, left) = plain_at(text)?;
-    tokens.push(kind, value, end - text.len()..end - left.len())?;
+    let (kind, len, left) = plain_at(text)?;
+    let span = end - text.len()..end - left.len();
+    draft.push_front(kind, text, len, behind, span)?;
     Ok(left)
 }
 
@@ -143,6 +152,7 @@ fn ends_tag(text: &[u8]) -> bool
 #[tactic(auto, unfolding(crate::specs::Reading::tag_at))]
 pub(crate) fn tag_at(part: &[u8]) -> Result<(&[u8], &[u8]), LexError>
     ensures gives { Gives (λ x. (x.0.now, x.1.now)) result (tag_at part.now) }
+    ensures splits { IfOk result (λ x. Splits part.now x.0.now x.1.now) }
     ensures within { IfOk result (λ x. length x.1.now ≤ length part.now) }
 {
     let n = tag_len(part);

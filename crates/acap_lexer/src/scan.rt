@@ -1,7 +1,7 @@
 //! How far a command has been read.
 
+use crate::draft::Draft;
 use crate::mode::Mode;
-use crate::tokens::Tokens;
 
 /// A literal whose octets come next: where its mark begins in the command, and how many octets it has.
 #[derive(Clone, Copy, Debug)]
@@ -16,7 +16,7 @@ pub(crate) struct Scan {
     /// What the command is read as.
     pub(crate) mode: Mode,
     /// The tokens so far.
-    pub(crate) tokens: Tokens,
+    pub(crate) draft: Draft,
     /// How many octets they took, each CR LF counted.
     pub(crate) octets: usize,
     /// How many octets of the current part have been looked at, and have no CR LF.

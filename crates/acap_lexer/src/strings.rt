@@ -1,11 +1,11 @@
 //! Quoted strings.
 
-ghost use Rattle.std.specs.Prelude.{◌≡◌, ◌≤◌, ◌++◌, length, IfOk};
+ghost use Rattle.std.specs.Prelude.{◌≡◌, ◌≤◌, ◌++◌, length, IfOk, IfSome};
 ghost use Rattle.std.specs.List.{prefix_len};
 ghost use Rattle.acap_lexer.specs.Octets.{is_quotable as is_quotable_octet};
 ghost use Rattle.acap_lexer.specs.Reading.{Gives, behind, quoted_at, string_at};
 ghost use Rattle.acap_lexer.specs.Printing.{Grows};
-ghost use Rattle.acap_lexer.specs.Taking.{TakesOctet, TakesEscaped};
+ghost use Rattle.acap_lexer.specs.Taking.{TakesOctet, TakesEscaped, IsPlainString};
 
 use crate::fault::{LexError, LexFault};
 use crate::octets::{is_escaped, is_quotable};
@@ -21,6 +21,20 @@ fn plain_len(text: &[u8]) -> usize
     ensures longest { result ≡ prefix_len is_quotable_octet text.now }
 {
     text.iter().take_while(|c| is_quotable(**c)).count()
+}
+
+/// How many octets lie between the quotes of the string without escapes at the front, and what is left behind it, if
+/// there is one and it isn't too long.
+pub(crate) fn plain_string_at(rest: &[u8]) -> Option<(usize, &[u8])>
+    ensures { IfSome result (λ x. IsPlainString rest.now x.0 x.1.now) }
+{
+    let len = plain_len(rest);
+    let (_, behind) = rest.split_at(len);
+    let (quote, left) = behind.split_first()?;
+    if *quote != b'"' || len > QUOTED_LIMIT {
+        return None;
+    }
+    Some((len, left))
 }
 
 /// The first octet that a string stands for, or none at its closing quote, and what is left behind it.

@@ -4,8 +4,7 @@ ghost use Rattle.std.specs.List.{starts_with};
 ghost use Rattle.acap_entries.specs.Names.{slash};
 ghost use Rattle.acap_machine.specs.Homes as home;
 
-use acap_entries::first_slash;
-use acap_entries::{Memory, UserName};
+use acap_entries::{Memory, UserName, first_slash};
 use acap_grammar::{Entries, StoreEntry};
 use std::alloc::Global;
 
@@ -17,7 +16,7 @@ pub(crate) fn entries_for(
 ) -> Result<Entries, Memory>
     ensures { IfOk result (λ made. made ≡ home.entries_for user.now entries) }
 {
-    let mut made = Entries::new(alloc);
+    let mut made = Entries::from_vec(Vec::with_capacity(alloc, entries.len())?);
     for entry in entries.into_vec() {
         let StoreEntry {
             path,

@@ -44,7 +44,7 @@ fn items_of(
 ) -> Result<Items, Memory>
     ensures { IfOk result (λ made. made ≡ map (λ asked. item.One (rows.cell_of path.now entry.now (rows.named_by asked.name))) returns.now) }
 {
-    let mut made = Items::new(alloc);
+    let mut made = Items::from_vec(Vec::with_capacity(alloc, returns.len())?);
     for asked in returns {
         let cell = cell_of(alloc, path, entry, named_by(&asked.name))?;
         made.push(Item::One(cell))?;

@@ -140,7 +140,7 @@ pub(crate) fn serve(
             let entries = entries_for(alloc, user, entries)?;
             store(alloc, tree, user, entries, clock)
         }
-        Command::Search(wanted) => search_in(alloc, tree, user, &wanted),
+        Command::Search(wanted) => search_in(alloc, tree, user, wanted.get()),
         _ => Ok(Said::Refused(Refusal::Unserved)),
     }
 }

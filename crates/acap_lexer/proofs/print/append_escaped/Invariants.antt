@@ -1,6 +1,12 @@
-use Rattle.std.proofs.Common.{◌≡◌, ◌++◌, take}
-use Rattle.acap_lexer.specs.Printing.{escaped}
+use Rattle.std.proofs.Common.{◌≡◌, ◌++◌, length}
+use Rattle.acap_lexer.specs.Printing.{escaped, Grows}
 use Rattle.acap_lexer.proofs.print.append_escaped.Given as goal
 
-abbrev pub invariant-loop-c : goal.invariant-loop-c
-invariant-loop-c l = l.out.items ≡ l.initial.out.items ++ escaped (take l.c-index l.text)
+abbrev pub invariant-escapes : goal.invariant-escapes
+invariant-escapes l = record {
+  form : l.out.items ++ escaped l.left ≡ l.initial.out.items ++ escaped l.text;
+  grows : Grows l.initial.out.items l.out.items;
+}
+
+abbrev pub decreases-escapes : goal.decreases-escapes
+decreases-escapes l = length l.left

@@ -4,8 +4,8 @@ use Rattle.std.specs.Prelude.{option_map, ◌&&◌}
 use Rattle.std.proofs.lemmas.Bool.{cases_lt, le-ltb, lt-ltb}
 use Rattle.std.proofs.lemmas.List.{take-append-le, take_all}
 use Rattle.std.proofs.Math.Seq.{take-append-add}
-use Rattle.acap_lexer.specs.declared.cut.Cut.TheVariants.{At, Never, NotYet}
-use Rattle.acap_lexer.specs.Stream.{end_of, cut, cut_by, part_limit}
+use Rattle.acap_lexer.specs.declared.part_end.PartEnd.TheVariants.{At, Never, NotYet}
+use Rattle.acap_lexer.specs.Stream.{end_of, part_end, part_end_by, part_limit}
 use Rattle.acap_lexer.proofs.EndPlaces.{end_of_within}
 
 end_more : (found : Bool) (later after : Option ℕ) (n : ℕ) → ((k : ℕ) → later ≡ Some k → after ≡ Some k)
@@ -55,11 +55,11 @@ pub record IsAt (text : List ℕ) (n : ℕ) : Type 0 where
   pub end : end_of (take part_limit text) ≡ Some n
   pub within : n + 2 ≤ length text
 
-by_at : (end : Option ℕ) (len n : ℕ) → cut_by end len ≡ At n → end ≡ Some n
+by_at : (end : Option ℕ) (len n : ℕ) → part_end_by end len ≡ At n → end ≡ Some n
 by_at (Some k) len n e = let same : k ≡ n = cc in ap (λ (i : ℕ). Some i) same
 by_at None len n e = elim (ltb len part_limit) as (λ b. cond b NotYet Never ≡ At n → None ≡ Some n) [ true ↦ (λ h. absurd cc) | false ↦ (λ h. absurd cc) ] e
 
-by_never : (end : Option ℕ) (len : ℕ) → cut_by end len ≡ Never → (end ≡ None) × (part_limit ≤ len)
+by_never : (end : Option ℕ) (len : ℕ) → part_end_by end len ≡ Never → (end ≡ None) × (part_limit ≤ len)
 by_never (Some k) len e = absurd cc
 by_never None len e =
     elim (cases_lt len part_limit) [
@@ -67,7 +67,7 @@ by_never None len e =
       | inr le ↦ (refl, le)
     ]
 
-by_not_yet : (end : Option ℕ) (len : ℕ) → cut_by end len ≡ NotYet → len < part_limit
+by_not_yet : (end : Option ℕ) (len : ℕ) → part_end_by end len ≡ NotYet → len < part_limit
 by_not_yet (Some k) len e = absurd cc
 by_not_yet None len e =
     elim (cases_lt len part_limit) [
@@ -75,29 +75,29 @@ by_not_yet None len e =
       | inr le ↦ (let a : ltb len part_limit ≡ false = le-ltb _ _ le in let f : Never ≡ NotYet = rw a at e in absurd cc)
     ]
 
-pub is_at : (text : List ℕ) (n : ℕ) → cut text ≡ At n → IsAt text n
-unfolding cut
+pub is_at : (text : List ℕ) (n : ℕ) → part_end text ≡ At n → IsAt text n
+unfolding part_end
 is_at text n e =
     let end = by_at (end_of (take part_limit text)) (length text) n e in
     record { end = end; within = omega (arith, end_of_within (take part_limit text) n end, length-take part_limit text) }
 
-pub is_never : (text : List ℕ) → cut text ≡ Never → part_limit ≤ length text
-unfolding cut
+pub is_never : (text : List ℕ) → part_end text ≡ Never → part_limit ≤ length text
+unfolding part_end
 is_never text e = (by_never (end_of (take part_limit text)) (length text) e).1
 
-pub is_short : (text : List ℕ) → cut text ≡ NotYet → length text < part_limit
-unfolding cut
+pub is_short : (text : List ℕ) → part_end text ≡ NotYet → length text < part_limit
+unfolding part_end
 is_short text e = by_not_yet (end_of (take part_limit text)) (length text) e
 
-pub keeps_at : (text more : List ℕ) (n : ℕ) → cut text ≡ At n → cut (text ++ more) ≡ At n
-unfolding cut
+pub keeps_at : (text more : List ℕ) (n : ℕ) → part_end text ≡ At n → part_end (text ++ more) ≡ At n
+unfolding part_end
 keeps_at text more n e =
     let end = by_at (end_of (take part_limit text)) (length text) n e in
     let same = same_end part_limit text more (λ none. let f : Some n ≡ None = sym end ∙ none in absurd cc) in
     rw (same, end) refl
 
-pub keeps_never : (text more : List ℕ) → cut text ≡ Never → cut (text ++ more) ≡ Never
-unfolding cut
+pub keeps_never : (text more : List ℕ) → part_end text ≡ Never → part_end (text ++ more) ≡ Never
+unfolding part_end
 keeps_never text more e =
     let k = by_never (end_of (take part_limit text)) (length text) e in
     let same = same_end part_limit text more (λ none. k.1) in

@@ -4,7 +4,7 @@ use crate::lexed::Lexed;
 
 /// What comes of a stage of a command.
 #[derive(Drop)]
-pub(crate) enum Turn {
+pub(crate) enum StageOutcome {
     /// Nothing yet.
     Waits,
     /// An item, and how many octets it takes.

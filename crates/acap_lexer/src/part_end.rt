@@ -2,7 +2,7 @@
 
 /// The end of the part that begins a text.
 #[derive(Clone, Copy, Debug, PartialEq, Eq)]
-pub(crate) enum Cut {
+pub(crate) enum PartEnd {
     /// Its CR LF begins there.
     At(usize),
     /// It has none within the limit.
