@@ -156,11 +156,11 @@ same_set : (m : List ℕ) (lists : List (List (List ℕ))) → list_any (is_firs
 same_set m lists f =
     let rest = all_of (map (passed m) lists) in
     names.same_map total same_names _ _ (λ q. marked _ _
-      (in_set (all_of lists) q
-      ∙ (any_all m q lists
-      ∙ (ap (λ b. b && is_name q m || list_any (is_name q) rest) f
-      ∙ (ap (λ b. is_name q m || b) (sym (in_set rest q))
-      ∙ (sym (marked_or (is_name q m) (names.get (set_of rest) q)) ∙ ap is_some (sym (names.get-insert total (set_of rest) m tt q))))))))
+    (in_set (all_of lists) q
+    ∙ (any_all m q lists
+    ∙ (ap (λ b. b && is_name q m || list_any (is_name q) rest) f
+    ∙ (ap (λ b. is_name q m || b) (sym (in_set rest q))
+    ∙ (sym (marked_or (is_name q m) (names.get (set_of rest) q)) ∙ ap is_some (sym (names.get-insert total (set_of rest) m tt q))))))))
 
 -- ---- the least comes first
 
@@ -177,7 +177,7 @@ put_front : (m : List ℕ) (es : List (List ℕ × Unit {0})) → ((q : List ℕ
 put_front m [] h = refl
 put_front m (e ∷ es) h =
     ap (λ r. by_order r ((m, tt) ∷ e ∷ es) ((e.0, tt) ∷ es) (e ∷ put octets_cmp m tt es))
-      (h e.0 (ap (λ b. b || list_any (is_name e.0) (map (λ e. e.0) es)) (ap is_eq (tied_itself total e.0))))
+    (h e.0 (ap (λ b. b || list_any (is_name e.0) (map (λ e. e.0) es)) (ap is_eq (tied_itself total e.0))))
 
 least_first : (m : List ℕ) (xs : List (List ℕ)) → is_below m xs ≡ true → names.keys (names.insert (set_of xs) m tt) ≡ m ∷ names.keys (set_of xs)
 least_first m xs b =

@@ -38,9 +38,9 @@ any_filtered q d (e ∷ es) =
     let behind = list_any (eq_by_cmp path_cmp (path_at d q)) (map (λ (e : Path × Record). e.0) es) in
     ap (λ b. list_any (is_name q) (map (λ (e : Path × Record). e.0.name) (cond b (e ∷ others) others))) (texts_ties d e.0.dataset)
     ∙ (elim (eq_by_cmp octets_cmp d e.0.dataset) as (λ b. list_any (is_name q) (map (λ (e : Path × Record). e.0.name) (cond b (e ∷ others) others)) ≡ (b && is_name q e.0.name || behind)) [
-        | true ↦ ap (λ b. is_name q e.0.name || b) (any_filtered q d es)
-        | false ↦ any_filtered q d es
-      ]
+      | true ↦ ap (λ b. is_name q e.0.name || b) (any_filtered q d es)
+      | false ↦ any_filtered q d es
+    ]
     ∙ ap (λ b. b || behind) (sym (tied_parts (octets_cmp d e.0.dataset) (octets_cmp q e.0.name))))
 
 listed : (records : Stored) (q d : List ℕ) → list_any (is_name q) (names_in records d) ≡ is_some (record_at records d q)

@@ -148,7 +148,7 @@ lies_within records chain name attribute found dataset =
 pub nothing_law : NothingLaw
 nothing_law = record {
   attribute = λ records chain name attribute e m h.
-    stored_value records chain name attribute e m ∙ value_none records (members_of chain name attribute) name attribute (λ d k. h d (of_members chain name attribute d k));
+      stored_value records chain name attribute e m ∙ value_none records (members_of chain name attribute) name attribute (λ d k. h d (of_members chain name attribute d k));
   entry = λ records chain name h. (no_entry records chain name h, no_moment records chain name h, λ attribute. all_none records chain name attribute h);
   within = lies_within;
 }
@@ -190,15 +190,15 @@ attribute_same : (old new : Stored) (chain : List (List ℕ)) (name attribute : 
 unfolding resolved
 attribute_same old new chain name attribute h =
     elim (octets_eq attribute (codes "entry")) as (λ b. octets_eq attribute (codes "entry") ≡ b →
-        (if b then entry_on old (members_for chain name) name else (if octets_eq attribute (codes "modtime") then stamped chain (modtime_on old (members_for chain name) name) else value_on old (members_of chain name attribute) name attribute))
-        ≡ (if b then entry_on new (members_for chain name) name else (if octets_eq attribute (codes "modtime") then stamped chain (modtime_on new (members_for chain name) name) else value_on new (members_of chain name attribute) name attribute))) [
+    (if b then entry_on old (members_for chain name) name else (if octets_eq attribute (codes "modtime") then stamped chain (modtime_on old (members_for chain name) name) else value_on old (members_of chain name attribute) name attribute))
+    ≡ (if b then entry_on new (members_for chain name) name else (if octets_eq attribute (codes "modtime") then stamped chain (modtime_on new (members_for chain name) name) else value_on new (members_of chain name attribute) name attribute))) [
       | true ↦ λ e. entry_same old new (members_for chain name) name (for_entry old new chain name attribute h e)
       | false ↦ λ _. elim (octets_eq attribute (codes "modtime")) as (λ b. octets_eq attribute (codes "modtime") ≡ b →
           (if b then stamped chain (modtime_on old (members_for chain name) name) else value_on old (members_of chain name attribute) name attribute)
           ≡ (if b then stamped chain (modtime_on new (members_for chain name) name) else value_on new (members_of chain name attribute) name attribute)) [
-        | true ↦ λ e. ap (stamped chain) (modtime_same old new (members_for chain name) name (for_modtime old new chain name attribute h e))
-        | false ↦ λ _. value_same old new (members_of chain name attribute) name attribute h
-      ] refl
+            | true ↦ λ e. ap (stamped chain) (modtime_same old new (members_for chain name) name (for_modtime old new chain name attribute h e))
+            | false ↦ λ _. value_same old new (members_of chain name attribute) name attribute h
+          ] refl
     ] refl
 
 existence_same : (old new : Stored) (chain : List (List ℕ)) (name : List ℕ) → AgreeOn old new (members_for chain name) name → entry_exists old chain name ≡ entry_exists new chain name
@@ -223,11 +223,11 @@ chain_same zero old new dataset h = ap (λ rest. dataset ∷ rest) (no_more old 
 chain_same (suc most) old new dataset h =
     let same : base_at old dataset ≡ base_at new dataset = ap base_in (h dataset (here dataset _)) in
     ap (λ rest. dataset ∷ rest)
-      (elim (base_at old dataset) as (λ base. AgreeOn old new (take most (onward base (chain_within (suc most) old))) [] → onward base (chain_within (suc most) old) ≡ onward base (chain_within (suc most) new)) [
-        | None ↦ λ _. refl
-        | Some base ↦ λ k. chain_same most old new base k
-      ] (λ x k. h x (there dataset x _ k))
-      ∙ ap (λ base. onward base (chain_within (suc most) new)) same)
+    (elim (base_at old dataset) as (λ base. AgreeOn old new (take most (onward base (chain_within (suc most) old))) [] → onward base (chain_within (suc most) old) ≡ onward base (chain_within (suc most) new)) [
+      | None ↦ λ _. refl
+      | Some base ↦ λ k. chain_same most old new base k
+    ] (λ x k. h x (there dataset x _ k))
+    ∙ ap (λ base. onward base (chain_within (suc most) new)) same)
 
 any_same : (old new : Stored) (chain : List (List ℕ)) (name : List ℕ) → ((d : List ℕ) → Contains chain d → is_some (record_at old d name) ≡ is_some (record_at new d name)) → list_any (λ d. is_some (record_at old d name)) chain ≡ list_any (λ d. is_some (record_at new d name)) chain
 any_same old new [] name h = refl

@@ -37,9 +37,9 @@ walked_twice : {X : Type 0} (step : List ℕ → X → X) (front between rest : 
 walked_twice step front between rest dataset end h =
     walked_append step front (dataset ∷ (between ++ dataset ∷ rest)) end
     ∙ (ap (walked step front)
-      (ap (step dataset) (walked_append step between (dataset ∷ rest) end)
-      ∙ (h between (walked step rest end)
-      ∙ ap (step dataset) (sym (walked_append step between rest end))))
+    (ap (step dataset) (walked_append step between (dataset ∷ rest) end)
+    ∙ (h between (walked step rest end)
+    ∙ ap (step dataset) (sym (walked_append step between rest end))))
     ∙ sym (walked_append step front (dataset ∷ (between ++ rest)) end))
 
 again : (a b c : Bool) → (a || (b || (a || c))) ≡ (a || (b || c))
@@ -190,9 +190,9 @@ any_twice : {A : Type 0} (p : A → Bool) (front between rest : List A) (x : A) 
 any_twice p front between rest x =
     list_any-append p front (x ∷ (between ++ x ∷ rest))
     ∙ (ap (λ b. list_any p front || b)
-        (ap (λ b. p x || b) (list_any-append p between (x ∷ rest))
-        ∙ (again (p x) (list_any p between) (list_any p rest)
-        ∙ ap (λ b. p x || b) (sym (list_any-append p between rest))))
+    (ap (λ b. p x || b) (list_any-append p between (x ∷ rest))
+    ∙ (again (p x) (list_any p between) (list_any p rest)
+    ∙ ap (λ b. p x || b) (sym (list_any-append p between rest))))
     ∙ sym (list_any-append p front (x ∷ (between ++ rest))))
 
 pub repeat_law : RepeatLaw

@@ -56,10 +56,10 @@ cells_among attribute places = filter_map (λ place. option_map (λ cell. (cell,
 pub record FirstLaw : Type 0 where
   pub value : (records : Stored) (chain : List (List ℕ)) (name attribute : List ℕ) → octets_eq attribute (codes "entry") ≡ false → octets_eq attribute (codes "modtime") ≡ false
       → resolved records chain name attribute
-        ≡ option_and_then (λ found. lying found.0 found.1) (slice_get (cells_among attribute (down_to_end (placed records (members_of chain name attribute) name))) 0)
+      ≡ option_and_then (λ found. lying found.0 found.1) (slice_get (cells_among attribute (down_to_end (placed records (members_of chain name attribute) name))) 0)
   pub entry : (records : Stored) (chain : List (List ℕ)) (name : List ℕ)
       → resolved records chain name (codes "entry")
-        ≡ option_and_then (λ place. if place.1.present then Some (Single name, place.0) else None) (slice_get (placed records (members_for chain name) name) 0)
+      ≡ option_and_then (λ place. if place.1.present then Some (Single name, place.0) else None) (slice_get (placed records (members_for chain name) name) 0)
   pub existence : (records : Stored) (chain : List (List ℕ)) (name : List ℕ) → entry_exists records chain name ≡ is_some (resolved records chain name (codes "entry"))
 
 -- the moments of an entry's records down to the end of inheritance

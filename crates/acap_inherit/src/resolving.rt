@@ -92,13 +92,7 @@ fn later(moment: Moment, other: Option<Moment>) -> Moment
     ensures { result ≡ option_map_or (int_max moment) other moment }
 {
     match other {
-        Some(other) => {
-            if other < moment {
-                moment
-            } else {
-                other
-            }
-        }
+        Some(other) => { if other < moment { moment } else { other } }
         None => moment,
     }
 }
