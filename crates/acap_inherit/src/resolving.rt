@@ -1,5 +1,5 @@
 //! What attributes of entries resolve to along chains.
-ghost use Rattle.std.specs.Prelude.{◌≡◌, map, Some};
+ghost use Rattle.std.specs.Prelude.{◌≡◌, map, Some, None};
 ghost use Rattle.std.specs.Int.{int_max};
 ghost use Rattle.std.specs.Option.{option_copied, option_map_or};
 ghost use Rattle.acap_inherit.specs.Records as kept;
@@ -69,19 +69,26 @@ fn value_on<'a, R: Records>(
     Found::Nil
 }
 
+// The name of an entry, if the record that decides is present.
+fn named<'a>(record: &Record, dataset: &'a [u8], name: &'a [u8]) -> Found<'a>
+    ensures { found_of result ≡ rule.by_presence (Some record.now) name.now dataset.now None }
+{
+    if !record.present {
+        return Found::Nil;
+    }
+    Found::At {
+        dataset,
+        value: Lent::Single(name),
+    }
+}
+
 // The name of an entry that exists.
 fn entry_on<'a, R: Records>(records: &'a R, members: &[&'a [u8]], name: &'a [u8]) -> Found<'a>
     ensures { found_of result ≡ rule.entry_on (R.store records.now).records (map (λ d. d.now) members.now) name.now }
 {
-    for dataset in members {
-        if let Some(record) = records.find(dataset, name) {
-            if record.present {
-                return Found::At {
-                    dataset: *dataset,
-                    value: Lent::Single(name),
-                };
-            }
-            return Found::Nil;
+    for member in members {
+        if let Some(record) = records.find(member, name) {
+            return named(record, *member, name);
         }
     }
     Found::Nil
