@@ -7,6 +7,7 @@ use Rattle.std.specs.Option.{option_map, option_map_or, option_and_then}
 use Rattle.std.proofs.lemmas.Int.{ints, int_max_is}
 use Rattle.std.proofs.lemmas.List.Elements.{All-cons}
 use Rattle.acap_entries.specs.Orders.{octets_eq}
+use Rattle.acap_entries.specs.Stamp.{stamp_of}
 use Rattle.acap_entries.specs.Store.{Stored}
 use Rattle.acap_entries.specs.declared.cell.Cell.{Cell}
 use Rattle.acap_entries.specs.declared.cell.Cell.TheVariants.{Nil, Single, Multi}
@@ -126,8 +127,16 @@ none_of : (records : Stored) (chain : List (List ℕ)) (name : List ℕ) → mod
 unfolding modtime_of
 none_of records chain name e = moment_none _ e
 
+as_stamp : (dataset : List ℕ) (chain : List (List ℕ)) (moment : Option ℤ) → stamped (dataset ∷ chain) moment ≡ option_map (λ m. (Single (stamp_of m), dataset)) moment
+as_stamp dataset chain None = refl
+as_stamp dataset chain (Some moment) = refl
+
+shown : (records : Stored) (dataset : List ℕ) (chain : List (List ℕ)) (name : List ℕ) → resolved records (dataset ∷ chain) name (codes "modtime") ≡ option_map (λ m. (Single (stamp_of m), dataset)) (modtime_of records (dataset ∷ chain) name)
+unfolding resolved modtime_of
+shown records dataset chain name = as_stamp dataset chain (modtime_on records (members_for (dataset ∷ chain) name) name)
+
 pub moment_law : MomentLaw
-moment_law = record { reached = reached_of; bound = bound_of; none = none_of }
+moment_law = record { shown = shown; reached = reached_of; bound = bound_of; none = none_of }
 
 -- ---- the first dataset alone
 

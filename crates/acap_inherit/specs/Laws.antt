@@ -3,6 +3,7 @@ use Rattle.std.specs.Prelude.{◌≡◌, ◌≢◌, ◌≤◌, ◌<◌, ℕ, ℤ
 use Rattle.std.specs.List.{list_any, filter_map, Contains, All}
 use Rattle.std.specs.Option.{option_map, option_map_or, option_and_then}
 use Rattle.acap_entries.specs.Orders.{octets_eq}
+use Rattle.acap_entries.specs.Stamp.{stamp_of}
 use Rattle.acap_entries.specs.Store.{Stored}
 use Rattle.acap_entries.specs.declared.cell.Cell.{Cell}
 use Rattle.acap_entries.specs.declared.cell.Cell.TheVariants.{Single}
@@ -66,8 +67,11 @@ pub record FirstLaw : Type 0 where
 abbrev pub moments_of : Stored → List (List ℕ) → List ℕ → List ℤ
 moments_of records chain name = map (λ entry. entry.modtime) (until_end (records_along records (members_for chain name) name))
 
--- an entry's moment is one of these and none of them is later; it has none only where there is no record
+-- an entry's moment is one of these and none of them is later; it has none only where there is no record; `modtime` is its stamp, and lies in
+-- the first dataset of the chain
 pub record MomentLaw : Type 0 where
+  pub shown : (records : Stored) (dataset : List ℕ) (chain : List (List ℕ)) (name : List ℕ)
+      → resolved records (dataset ∷ chain) name (codes "modtime") ≡ option_map (λ moment. (Single (stamp_of moment), dataset)) (modtime_of records (dataset ∷ chain) name)
   pub reached : (records : Stored) (chain : List (List ℕ)) (name : List ℕ) (moment : ℤ) → modtime_of records chain name ≡ Some moment → Contains (moments_of records chain name) moment
   pub bound : (records : Stored) (chain : List (List ℕ)) (name : List ℕ) (moment : ℤ) → modtime_of records chain name ≡ Some moment → All (λ other. other ≤ℤ moment) (moments_of records chain name)
   pub none : (records : Stored) (chain : List (List ℕ)) (name : List ℕ) → modtime_of records chain name ≡ None → records_along records (members_for chain name) name ≡ []

@@ -13,21 +13,21 @@ use acap_entries::stamp::stamp;
 use acap_entries::{Cell, Moment, Record, Records};
 
 // What a record has for an attribute.
-pub(crate) fn cell_in<'a>(record: &'a Record, attribute: &[u8]) -> Option<&'a Cell>
-    ensures { option_copied result ≡ kept.cell_in record.now attribute.now }
+pub(crate) fn cell_in<'a>(entry: &'a Record, attribute: &[u8]) -> Option<&'a Cell>
+    ensures { option_copied result ≡ kept.cell_in entry.now attribute.now }
 {
-    if record.present {
-        record.cells.find(attribute)
+    if entry.present {
+        entry.cells.find(attribute)
     } else {
         None
     }
 }
 
 // Whether nothing is inherited from beyond a record.
-fn ends_inheritance(record: &Record) -> bool
-    ensures { result ≡ kept.ends_inheritance record.now }
+fn ends_inheritance(entry: &Record) -> bool
+    ensures { result ≡ kept.ends_inheritance entry.now }
 {
-    record.cut
+    entry.cut
 }
 
 // What a cell of a dataset answers.
@@ -70,10 +70,10 @@ fn value_on<'a, R: Records>(
 }
 
 // The name of an entry, if the record that decides is present.
-fn named<'a>(record: &Record, dataset: &'a [u8], name: &'a [u8]) -> Found<'a>
-    ensures { found_of result ≡ rule.by_presence (Some record.now) name.now dataset.now None }
+fn named<'a>(entry: &Record, dataset: &'a [u8], name: &'a [u8]) -> Found<'a>
+    ensures { found_of result ≡ rule.by_presence (Some entry.now) name.now dataset.now None }
 {
-    if !record.present {
+    if !entry.present {
         return Found::Nil;
     }
     Found::At {
