@@ -1,7 +1,7 @@
 -- What is read of a store, and what is NIL where nothing is found.
-use Rattle.std.proofs.Common.{◌≡◌, ℕ, suc, zero, ◌+◌, ◌<◌, ℤ, Bool, true, false, cond, ◌==◌, ◌||◌, List, [], ◌∷◌, ◌++◌, length, take, map, Option, Some, None, arith, refl, sym, ap, subst, ◌∙◌}
+use Rattle.std.proofs.Common.{◌≡◌, ℕ, suc, zero, ℤ, Bool, true, false, cond, ◌==◌, ◌||◌, List, [], ◌∷◌, length, take, map, Option, Some, None, arith, refl, sym, ap, subst, ◌∙◌}
 use Rattle.std.specs.Prelude.{codes, is_some, if◌then◌else◌}
-use Rattle.std.specs.List.{list_any, cons_option, filter_map, Contains}
+use Rattle.std.specs.List.{list_any, cons_option, Contains}
 use Rattle.std.specs.Option.{option_and_then}
 use Rattle.std.specs.Cmp.Lexicographic.{same_text}
 use Rattle.acap_entries.specs.Orders.{octets_eq}
@@ -10,7 +10,6 @@ use Rattle.acap_entries.specs.declared.cell.Cell.{Cell}
 use Rattle.acap_entries.specs.declared.cell.Cell.TheVariants.{Nil, Single, Multi}
 use Rattle.acap_entries.specs.declared.record.Record.{Record}
 use Rattle.acap_inherit.specs.Chains.{name_in, base_at, onward, chain_within, chain_of}
-use Rattle.acap_inherit.specs.EntryNames.{names_on}
 use Rattle.acap_inherit.specs.Records.{record_at, cell_in, ends_inheritance}
 use Rattle.acap_inherit.specs.Resolving.{Resolution, lying, by_cell, by_record, by_presence, value_on, entry_on, records_along, until_end, greatest, modtime_on, stamped, members_for, members_of, resolved, entry_exists, modtime_of}
 use Rattle.acap_inherit.specs.Laws.{NothingLaw, ReadingLaw, AgreeOn}

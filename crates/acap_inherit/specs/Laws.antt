@@ -1,7 +1,7 @@
 -- What follows from the definitions alone [RFC 2244 sections 5.1 and 5.2].
-use Rattle.std.specs.Prelude.{◌≡◌, ◌≢◌, ◌≤◌, ◌<◌, ℕ, ℤ, ◌+◌, ◌≤ℤ◌, Bool, true, false, IsTrue, List, [], ◌∷◌, ◌++◌, length, take, map, Option, Some, None, is_some, slice_get, slice_index_or, codes, if◌then◌else◌}
+use Rattle.std.specs.Prelude.{◌≡◌, ◌≤◌, ◌<◌, ℕ, ℤ, ◌+◌, ◌≤ℤ◌, Bool, true, false, IsTrue, List, [], ◌∷◌, ◌++◌, length, take, map, Some, None, is_some, slice_get, codes, if◌then◌else◌}
 use Rattle.std.specs.List.{list_any, filter_map, Contains, All}
-use Rattle.std.specs.Option.{option_map, option_map_or, option_and_then}
+use Rattle.std.specs.Option.{option_map, option_and_then}
 use Rattle.acap_entries.specs.Orders.{octets_eq}
 use Rattle.acap_entries.specs.Stamp.{stamp_of}
 use Rattle.acap_entries.specs.Store.{Stored}
@@ -12,7 +12,7 @@ use Rattle.acap_inherit.specs.Chains.{name_in, base_at, chain_of}
 use Rattle.acap_inherit.specs.EntryNames.{names_on}
 use Rattle.acap_inherit.specs.Merging.{is_rising}
 use Rattle.acap_inherit.specs.Records.{record_at, cell_in, ends_inheritance}
-use Rattle.acap_inherit.specs.Resolving.{Resolution, lying, records_along, until_end, members_for, members_of, resolved, entry_exists, modtime_of}
+use Rattle.acap_inherit.specs.Resolving.{lying, records_along, until_end, members_for, members_of, resolved, entry_exists, modtime_of}
 
 -- a chain begins with its dataset and has at most eight names, of which each of the first seven names the next, or none where it is the
 -- last; where nothing is to be inherited it is its first name alone

@@ -85,14 +85,16 @@ fn dataset(alloc: Global, octets: &[u8]) -> Result<Dataset, Memory> {
 
 // Whether that is NIL, or that string in that dataset.
 fn is_text(found: Found<'_>, wanted: Option<(&[u8], &[u8])>) -> bool {
-    match (found, wanted) {
-        (Found::Nil, None) => true,
-        (Found::At { dataset, value }, Some((octets, place))) => match value {
+    let Some((octets, place)) = wanted else {
+        return found.is_nil();
+    };
+    match found {
+        Found::At { dataset, value } => match value {
             Lent::Single(text) => dataset == place && text == octets,
             Lent::Stamp(digits) => dataset == place && digits.as_slice() == octets,
             Lent::Multi(_) => false,
         },
-        _ => false,
+        Found::Nil => false,
     }
 }
 
@@ -157,16 +159,12 @@ fn shows_the_base(alloc: Global) -> Result<bool, Memory> {
 
 // NIL is not seen through, a record without the cell is.
 fn shows_nil(alloc: Global) -> Result<bool, Memory> {
-    let nil = record(
-        alloc,
-        true,
-        false,
-        1,
-        Some((b"option.value", Cell::Nil)),
-    )?;
+    let nil = record(alloc, true, false, 1, Some((b"option.value", Cell::Nil)))?;
     let default = record(alloc, true, false, 2, None)?;
-    Ok(shows_over(alloc, nil, None, Some(b"/d/"), 1)?
-        && shows_over(alloc, default, Some((b"1", b"/b/")), Some(b"/d/"), 2)?)
+    Ok(
+        shows_over(alloc, nil, None, Some(b"/d/"), 1)?
+            && shows_over(alloc, default, Some((b"1", b"/b/")), Some(b"/d/"), 2)?,
+    )
 }
 
 // Neither is a deleted entry, nor one that was stored again.
@@ -179,8 +177,10 @@ fn shows_nothing(alloc: Global) -> Result<bool, Memory> {
         4,
         Some((b"option.k", text(alloc, b"2")?)),
     )?;
-    Ok(shows_over(alloc, deleted, None, None, 3)?
-        && shows_over(alloc, again, None, Some(b"/d/"), 4)?)
+    Ok(
+        shows_over(alloc, deleted, None, None, 3)?
+            && shows_over(alloc, again, None, Some(b"/d/"), 4)?,
+    )
 }
 
 #[test]
@@ -218,9 +218,11 @@ fn names_each_once(alloc: Global) -> Result<bool, Memory> {
     let p = dataset(alloc, b"/p/")?;
     let members = chain(&tree, &p, false);
     let alone = chain(&tree, &p, true);
-    Ok(members.names().len() == 8
-        && has_names(&tree, &members, &[b"", b"x", b"y"])
-        && has_names(&tree, &alone, &[b"", b"y"]))
+    Ok(
+        members.names().len() == 8
+            && has_names(&tree, &members, &[b"", b"x", b"y"])
+            && has_names(&tree, &alone, &[b"", b"y"]),
+    )
 }
 
 // Where what the server tells of entries lies.
@@ -231,8 +233,14 @@ fn finds_places(alloc: Global) -> Result<bool, Memory> {
     let stamp: &[u8] = b"19700101000000000001";
     Ok(
         is_text(resolve(&tree, &members, b"", b"entry"), Some((b"", b"/p/")))
-            && is_text(resolve(&tree, &members, b"x", b"entry"), Some((b"x", b"/q/")))
-            && is_text(resolve(&tree, &members, b"x", b"modtime"), Some((stamp, b"/p/"))),
+            && is_text(
+                resolve(&tree, &members, b"x", b"entry"),
+                Some((b"x", b"/q/")),
+            )
+            && is_text(
+                resolve(&tree, &members, b"x", b"modtime"),
+                Some((stamp, b"/p/")),
+            ),
     )
 }
 

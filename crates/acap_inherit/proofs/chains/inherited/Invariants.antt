@@ -1,4 +1,4 @@
-use Rattle.std.proofs.Common.{◌≡◌, ◌++◌, ◌-◌, ◌<◌, map, length}
+use Rattle.std.proofs.Common.{◌≡◌, ◌++◌, ◌-◌, map, length}
 use Rattle.arrayvec.specs.ArrayVec.{array_vec_len}
 use Rattle.acap_inherit.specs.Chains.{chain_within}
 use Rattle.acap_inherit.proofs.chains.inherited.Given as goal
