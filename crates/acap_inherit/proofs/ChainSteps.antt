@@ -1,5 +1,5 @@
 -- A chain, one dataset after the other.
-use Rattle.std.proofs.Common.{◌≡◌, ℕ, suc, zero, ◌+◌, ◌-◌, ◌<◌, ◌≤◌, List, [], ◌∷◌, ◌++◌, Option, Some, None, arith, sym, ◌∙◌, ap, refl, append_assoc, append-nil}
+use Rattle.std.proofs.Common.{◌≡◌, ℕ, suc, ◌+◌, ◌-◌, ◌<◌, ◌≤◌, List, [], ◌∷◌, ◌++◌, Some, None, arith, sym, ◌∙◌, ap, append_assoc, append-nil}
 use Rattle.acap_entries.specs.Store.{Stored}
 use Rattle.acap_inherit.specs.Chains.{chain_within, onward, base_at}
 

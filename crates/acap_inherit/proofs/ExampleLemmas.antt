@@ -11,10 +11,10 @@ use Rattle.acap_entries.specs.Store.{Stored}
 use Rattle.acap_entries.specs.declared.cell.Cell.{Cell}
 use Rattle.acap_entries.specs.declared.cell.Cell.TheVariants.{Nil, Single, Multi}
 use Rattle.acap_entries.specs.declared.record.Record.{Record}
-use Rattle.acap_inherit.specs.Chains.{name_in, base_at, onward, chain_within, chain_of}
-use Rattle.acap_inherit.specs.Records.{record_at, cell_in}
+use Rattle.acap_inherit.specs.Chains.{name_in, base_at, onward, chain_within}
+use Rattle.acap_inherit.specs.Records.{cell_in}
 use Rattle.acap_inherit.specs.Resolving.{resolved, modtime_of}
-use Rattle.acap_inherit.specs.Examples.{kept, no_cells, one_cell, inherits, management_of, a, b, e, value, IsOver, Shows, ChainExamples, OverBaseExamples, MomentExamples}
+use Rattle.acap_inherit.specs.Examples.{kept, no_cells, one_cell, inherits, management_of, a, b, value, ChainExamples, OverBaseExamples, MomentExamples}
 
 -- ---- cells
 

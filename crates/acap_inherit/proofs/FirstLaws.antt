@@ -1,15 +1,16 @@
 -- Which record decides, and what is not inherited.
-use Rattle.std.proofs.Common.{◌≡◌, ℕ, suc, zero, ◌+◌, ◌<◌, ℤ, ◌≤ℤ◌, Bool, true, false, cond, ◌==◌, List, [], ◌∷◌, ◌++◌, length, take, map, Option, Some, None, arith, refl, sym, ap, subst, ◌∙◌}
+use Rattle.std.proofs.Common.{◌≡◌, ℕ, suc, zero, ℤ, ◌≤ℤ◌, true, false, cond, List, [], ◌∷◌, map, Option, Some, None, arith, refl, sym, ap, subst, ◌∙◌}
 use Rattle.std.specs.Prelude.{codes, is_some, if◌then◌else◌, slice_get, int_lt}
 use Rattle.std.specs.Int.{int_max}
-use Rattle.std.specs.List.{cons_option, filter_map, Contains, All}
+use Rattle.std.specs.List.{cons_option, Contains, All}
 use Rattle.std.specs.Option.{option_map, option_map_or, option_and_then}
 use Rattle.std.proofs.lemmas.Int.{ints, int_max_is}
 use Rattle.std.proofs.lemmas.List.Elements.{All-cons}
 use Rattle.acap_entries.specs.Orders.{octets_eq}
+use Rattle.acap_entries.specs.Stamp.{stamp_of}
 use Rattle.acap_entries.specs.Store.{Stored}
 use Rattle.acap_entries.specs.declared.cell.Cell.{Cell}
-use Rattle.acap_entries.specs.declared.cell.Cell.TheVariants.{Nil, Single, Multi}
+use Rattle.acap_entries.specs.declared.cell.Cell.TheVariants.{Single}
 use Rattle.acap_entries.specs.declared.record.Record.{Record}
 use Rattle.acap_inherit.specs.Records.{record_at, cell_in, ends_inheritance}
 use Rattle.acap_inherit.specs.Resolving.{Resolution, lying, by_cell, by_record, by_presence, value_on, entry_on, records_along, until_end, greatest, modtime_on, stamped, members_for, members_of, resolved, entry_exists, modtime_of}
@@ -126,8 +127,16 @@ none_of : (records : Stored) (chain : List (List ℕ)) (name : List ℕ) → mod
 unfolding modtime_of
 none_of records chain name e = moment_none _ e
 
+as_stamp : (dataset : List ℕ) (chain : List (List ℕ)) (moment : Option ℤ) → stamped (dataset ∷ chain) moment ≡ option_map (λ m. (Single (stamp_of m), dataset)) moment
+as_stamp dataset chain None = refl
+as_stamp dataset chain (Some moment) = refl
+
+shown : (records : Stored) (dataset : List ℕ) (chain : List (List ℕ)) (name : List ℕ) → resolved records (dataset ∷ chain) name (codes "modtime") ≡ option_map (λ m. (Single (stamp_of m), dataset)) (modtime_of records (dataset ∷ chain) name)
+unfolding resolved modtime_of
+shown records dataset chain name = as_stamp dataset chain (modtime_on records (members_for (dataset ∷ chain) name) name)
+
 pub moment_law : MomentLaw
-moment_law = record { reached = reached_of; bound = bound_of; none = none_of }
+moment_law = record { shown = shown; reached = reached_of; bound = bound_of; none = none_of }
 
 -- ---- the first dataset alone
 

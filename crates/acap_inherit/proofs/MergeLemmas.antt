@@ -1,23 +1,20 @@
 -- Ascending lists of names are merged by taking the least of their first names again and again.
-use Rattle.std.proofs.Common.{◌≡◌, ℕ, ◌⊎◌, inl, inr, Bool, true, false, not, cond, T, ◌&&◌, ◌||◌, List, [], ◌∷◌, ◌++◌, map, length, Option, Some, None, is_some, arith, append-nil, refl, sym, ap, subst, ◌∙◌}
-use Rattle.std.specs.Prelude.{filter, nat_eq, slice_get, take, drop}
+use Rattle.std.proofs.Common.{◌≡◌, ℕ, Bool, true, false, not, cond, ◌&&◌, ◌||◌, List, [], ◌∷◌, ◌++◌, map, length, Option, Some, None, is_some, arith, append-nil, refl, sym, ap, subst, ◌∙◌}
+use Rattle.std.specs.Prelude.{slice_get, take, drop}
 use Rattle.std.specs.FinMap as names
-use Rattle.std.specs.FinMap.{IsAntisymmetric, slice_cmp-IsAntisymmetric, nat_cmp-IsAntisymmetric, is_sorted, put}
-use Rattle.std.specs.FinMap.Entries.{below_all, by_order, is_some-find}
+use Rattle.std.specs.FinMap.{IsAntisymmetric, slice_cmp-IsAntisymmetric, nat_cmp-IsAntisymmetric, put}
+use Rattle.std.specs.FinMap.Entries.{by_order, is_some-find}
 use Rattle.std.specs.List.{list_all, list_any, flat_map, refill}
 use Rattle.std.specs.declared.cmp.Ordering.{Ordering}
 use Rattle.std.specs.declared.cmp.Ordering.TheVariants.{Less, Equal, Greater}
-use Rattle.std.specs.Ordering.{is_eq, is_lt, is_gt, eq_by_cmp, ordering_then, ordering_reverse}
+use Rattle.std.specs.Ordering.{is_eq, is_lt, is_gt, eq_by_cmp, ordering_reverse}
 use Rattle.std.specs.Cmp.{IsTotalOrder, tied_itself, eq_by_cmp_equiv, upto}
 use Rattle.std.specs.Cmp.Lexicographic.{texts_ties, nat_list_cmp_total, same_text}
 use Rattle.std.proofs.lemmas.List.{length-map}
 use Rattle.std.proofs.Math.Seq.{drop-length, take-length}
 use Rattle.std.proofs.lemmas.List.Folds.{list_any-append, list_all-append}
 use Rattle.acap_entries.specs.Orders.{octets_cmp, octets_eq}
-use Rattle.acap_entries.specs.Store.{Stored, path_cmp}
-use Rattle.acap_entries.specs.declared.path.Path.{Path}
-use Rattle.acap_entries.specs.declared.record.Record.{Record}
-use Rattle.acap_inherit.specs.EntryNames.{names_in, set_of, merged}
+use Rattle.acap_inherit.specs.EntryNames.{set_of, merged}
 use Rattle.acap_inherit.specs.Merging.{is_below, is_rising, passed, is_ended, is_first, is_least, IsLeast, lesser}
 
 total : IsTotalOrder octets_cmp
@@ -156,11 +153,11 @@ same_set : (m : List ℕ) (lists : List (List (List ℕ))) → list_any (is_firs
 same_set m lists f =
     let rest = all_of (map (passed m) lists) in
     names.same_map total same_names _ _ (λ q. marked _ _
-      (in_set (all_of lists) q
-      ∙ (any_all m q lists
-      ∙ (ap (λ b. b && is_name q m || list_any (is_name q) rest) f
-      ∙ (ap (λ b. is_name q m || b) (sym (in_set rest q))
-      ∙ (sym (marked_or (is_name q m) (names.get (set_of rest) q)) ∙ ap is_some (sym (names.get-insert total (set_of rest) m tt q))))))))
+    (in_set (all_of lists) q
+    ∙ (any_all m q lists
+    ∙ (ap (λ b. b && is_name q m || list_any (is_name q) rest) f
+    ∙ (ap (λ b. is_name q m || b) (sym (in_set rest q))
+    ∙ (sym (marked_or (is_name q m) (names.get (set_of rest) q)) ∙ ap is_some (sym (names.get-insert total (set_of rest) m tt q))))))))
 
 -- ---- the least comes first
 
@@ -177,7 +174,7 @@ put_front : (m : List ℕ) (es : List (List ℕ × Unit {0})) → ((q : List ℕ
 put_front m [] h = refl
 put_front m (e ∷ es) h =
     ap (λ r. by_order r ((m, tt) ∷ e ∷ es) ((e.0, tt) ∷ es) (e ∷ put octets_cmp m tt es))
-      (h e.0 (ap (λ b. b || list_any (is_name e.0) (map (λ e. e.0) es)) (ap is_eq (tied_itself total e.0))))
+    (h e.0 (ap (λ b. b || list_any (is_name e.0) (map (λ e. e.0) es)) (ap is_eq (tied_itself total e.0))))
 
 least_first : (m : List ℕ) (xs : List (List ℕ)) → is_below m xs ≡ true → names.keys (names.insert (set_of xs) m tt) ≡ m ∷ names.keys (set_of xs)
 least_first m xs b =

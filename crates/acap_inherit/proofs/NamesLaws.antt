@@ -1,14 +1,14 @@
 -- Which names there are along a chain.
-use Rattle.std.proofs.Common.{◌≡◌, ℕ, Bool, true, false, cond, T, ◌&&◌, ◌||◌, List, [], ◌∷◌, ◌++◌, map, Option, Some, None, refl, sym, ap, subst, ◌∙◌}
+use Rattle.std.proofs.Common.{◌≡◌, ℕ, true, false, cond, T, ◌&&◌, ◌||◌, List, [], ◌∷◌, map, refl, sym, ap, ◌∙◌}
 use Rattle.std.specs.Prelude.{filter, is_some}
 use Rattle.std.specs.FinMap as names
-use Rattle.std.specs.FinMap.{is_sorted, find}
-use Rattle.std.specs.FinMap.Entries.{below_all, is_some-find}
-use Rattle.std.specs.List.{list_any, flat_map}
-use Rattle.std.specs.Ordering.{eq_by_cmp, is_lt, is_eq, ordering_then}
+use Rattle.std.specs.FinMap.{is_sorted}
+use Rattle.std.specs.FinMap.Entries.{below_all}
+use Rattle.std.specs.List.{list_any}
+use Rattle.std.specs.Ordering.{eq_by_cmp, is_eq, ordering_then}
 use Rattle.std.specs.declared.cmp.Ordering.{Ordering}
 use Rattle.std.specs.declared.cmp.Ordering.TheVariants.{Less, Equal, Greater}
-use Rattle.std.specs.Cmp.Lexicographic.{texts_ties, nat_list_cmp_total}
+use Rattle.std.specs.Cmp.Lexicographic.{texts_ties}
 use Rattle.std.proofs.lemmas.List.Folds.{list_any-append}
 use Rattle.acap_entries.specs.Orders.{octets_cmp, octets_eq}
 use Rattle.acap_entries.specs.Store.{Stored, path_cmp}
@@ -38,9 +38,9 @@ any_filtered q d (e ∷ es) =
     let behind = list_any (eq_by_cmp path_cmp (path_at d q)) (map (λ (e : Path × Record). e.0) es) in
     ap (λ b. list_any (is_name q) (map (λ (e : Path × Record). e.0.name) (cond b (e ∷ others) others))) (texts_ties d e.0.dataset)
     ∙ (elim (eq_by_cmp octets_cmp d e.0.dataset) as (λ b. list_any (is_name q) (map (λ (e : Path × Record). e.0.name) (cond b (e ∷ others) others)) ≡ (b && is_name q e.0.name || behind)) [
-        | true ↦ ap (λ b. is_name q e.0.name || b) (any_filtered q d es)
-        | false ↦ any_filtered q d es
-      ]
+      | true ↦ ap (λ b. is_name q e.0.name || b) (any_filtered q d es)
+      | false ↦ any_filtered q d es
+    ]
     ∙ ap (λ b. b || behind) (sym (tied_parts (octets_cmp d e.0.dataset) (octets_cmp q e.0.name))))
 
 listed : (records : Stored) (q d : List ℕ) → list_any (is_name q) (names_in records d) ≡ is_some (record_at records d q)

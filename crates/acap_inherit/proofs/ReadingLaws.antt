@@ -1,7 +1,7 @@
 -- What is read of a store, and what is NIL where nothing is found.
-use Rattle.std.proofs.Common.{◌≡◌, ℕ, suc, zero, ◌+◌, ◌<◌, ℤ, Bool, true, false, cond, ◌==◌, ◌||◌, List, [], ◌∷◌, ◌++◌, length, take, map, Option, Some, None, arith, refl, sym, ap, subst, ◌∙◌}
+use Rattle.std.proofs.Common.{◌≡◌, ℕ, suc, zero, ℤ, Bool, true, false, cond, ◌==◌, ◌||◌, List, [], ◌∷◌, length, take, map, Option, Some, None, arith, refl, sym, ap, subst, ◌∙◌}
 use Rattle.std.specs.Prelude.{codes, is_some, if◌then◌else◌}
-use Rattle.std.specs.List.{list_any, cons_option, filter_map, Contains}
+use Rattle.std.specs.List.{list_any, cons_option, Contains}
 use Rattle.std.specs.Option.{option_and_then}
 use Rattle.std.specs.Cmp.Lexicographic.{same_text}
 use Rattle.acap_entries.specs.Orders.{octets_eq}
@@ -10,7 +10,6 @@ use Rattle.acap_entries.specs.declared.cell.Cell.{Cell}
 use Rattle.acap_entries.specs.declared.cell.Cell.TheVariants.{Nil, Single, Multi}
 use Rattle.acap_entries.specs.declared.record.Record.{Record}
 use Rattle.acap_inherit.specs.Chains.{name_in, base_at, onward, chain_within, chain_of}
-use Rattle.acap_inherit.specs.EntryNames.{names_on}
 use Rattle.acap_inherit.specs.Records.{record_at, cell_in, ends_inheritance}
 use Rattle.acap_inherit.specs.Resolving.{Resolution, lying, by_cell, by_record, by_presence, value_on, entry_on, records_along, until_end, greatest, modtime_on, stamped, members_for, members_of, resolved, entry_exists, modtime_of}
 use Rattle.acap_inherit.specs.Laws.{NothingLaw, ReadingLaw, AgreeOn}
@@ -148,7 +147,7 @@ lies_within records chain name attribute found dataset =
 pub nothing_law : NothingLaw
 nothing_law = record {
   attribute = λ records chain name attribute e m h.
-    stored_value records chain name attribute e m ∙ value_none records (members_of chain name attribute) name attribute (λ d k. h d (of_members chain name attribute d k));
+      stored_value records chain name attribute e m ∙ value_none records (members_of chain name attribute) name attribute (λ d k. h d (of_members chain name attribute d k));
   entry = λ records chain name h. (no_entry records chain name h, no_moment records chain name h, λ attribute. all_none records chain name attribute h);
   within = lies_within;
 }
@@ -190,15 +189,15 @@ attribute_same : (old new : Stored) (chain : List (List ℕ)) (name attribute : 
 unfolding resolved
 attribute_same old new chain name attribute h =
     elim (octets_eq attribute (codes "entry")) as (λ b. octets_eq attribute (codes "entry") ≡ b →
-        (if b then entry_on old (members_for chain name) name else (if octets_eq attribute (codes "modtime") then stamped chain (modtime_on old (members_for chain name) name) else value_on old (members_of chain name attribute) name attribute))
-        ≡ (if b then entry_on new (members_for chain name) name else (if octets_eq attribute (codes "modtime") then stamped chain (modtime_on new (members_for chain name) name) else value_on new (members_of chain name attribute) name attribute))) [
+    (if b then entry_on old (members_for chain name) name else (if octets_eq attribute (codes "modtime") then stamped chain (modtime_on old (members_for chain name) name) else value_on old (members_of chain name attribute) name attribute))
+    ≡ (if b then entry_on new (members_for chain name) name else (if octets_eq attribute (codes "modtime") then stamped chain (modtime_on new (members_for chain name) name) else value_on new (members_of chain name attribute) name attribute))) [
       | true ↦ λ e. entry_same old new (members_for chain name) name (for_entry old new chain name attribute h e)
       | false ↦ λ _. elim (octets_eq attribute (codes "modtime")) as (λ b. octets_eq attribute (codes "modtime") ≡ b →
           (if b then stamped chain (modtime_on old (members_for chain name) name) else value_on old (members_of chain name attribute) name attribute)
           ≡ (if b then stamped chain (modtime_on new (members_for chain name) name) else value_on new (members_of chain name attribute) name attribute)) [
-        | true ↦ λ e. ap (stamped chain) (modtime_same old new (members_for chain name) name (for_modtime old new chain name attribute h e))
-        | false ↦ λ _. value_same old new (members_of chain name attribute) name attribute h
-      ] refl
+            | true ↦ λ e. ap (stamped chain) (modtime_same old new (members_for chain name) name (for_modtime old new chain name attribute h e))
+            | false ↦ λ _. value_same old new (members_of chain name attribute) name attribute h
+          ] refl
     ] refl
 
 existence_same : (old new : Stored) (chain : List (List ℕ)) (name : List ℕ) → AgreeOn old new (members_for chain name) name → entry_exists old chain name ≡ entry_exists new chain name
@@ -223,11 +222,11 @@ chain_same zero old new dataset h = ap (λ rest. dataset ∷ rest) (no_more old 
 chain_same (suc most) old new dataset h =
     let same : base_at old dataset ≡ base_at new dataset = ap base_in (h dataset (here dataset _)) in
     ap (λ rest. dataset ∷ rest)
-      (elim (base_at old dataset) as (λ base. AgreeOn old new (take most (onward base (chain_within (suc most) old))) [] → onward base (chain_within (suc most) old) ≡ onward base (chain_within (suc most) new)) [
-        | None ↦ λ _. refl
-        | Some base ↦ λ k. chain_same most old new base k
-      ] (λ x k. h x (there dataset x _ k))
-      ∙ ap (λ base. onward base (chain_within (suc most) new)) same)
+    (elim (base_at old dataset) as (λ base. AgreeOn old new (take most (onward base (chain_within (suc most) old))) [] → onward base (chain_within (suc most) old) ≡ onward base (chain_within (suc most) new)) [
+      | None ↦ λ _. refl
+      | Some base ↦ λ k. chain_same most old new base k
+    ] (λ x k. h x (there dataset x _ k))
+    ∙ ap (λ base. onward base (chain_within (suc most) new)) same)
 
 any_same : (old new : Stored) (chain : List (List ℕ)) (name : List ℕ) → ((d : List ℕ) → Contains chain d → is_some (record_at old d name) ≡ is_some (record_at new d name)) → list_any (λ d. is_some (record_at old d name)) chain ≡ list_any (λ d. is_some (record_at new d name)) chain
 any_same old new [] name h = refl

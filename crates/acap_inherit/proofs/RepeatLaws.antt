@@ -1,9 +1,7 @@
 -- A dataset that comes again in a chain changes nothing.
-use Rattle.std.proofs.Common.{◌≡◌, ℕ, ℤ, Bool, true, false, cond, ◌==◌, ◌||◌, List, [], ◌∷◌, ◌++◌, length, take, map, Option, Some, None, arith, refl, sym, ap, ◌∙◌}
+use Rattle.std.proofs.Common.{◌≡◌, ℕ, ℤ, Bool, true, false, cond, ◌==◌, ◌||◌, List, [], ◌∷◌, ◌++◌, length, take, map, Option, Some, None, refl, sym, ap, ◌∙◌}
 use Rattle.std.specs.Prelude.{codes, is_some, if◌then◌else◌}
-use Rattle.std.specs.Int.{int_max}
 use Rattle.std.specs.List.{list_any, cons_option}
-use Rattle.std.specs.Option.{option_map_or}
 use Rattle.std.proofs.lemmas.List.Folds.{list_any-append}
 use Rattle.acap_entries.specs.Orders.{octets_eq}
 use Rattle.acap_entries.specs.Store.{Stored}
@@ -37,9 +35,9 @@ walked_twice : {X : Type 0} (step : List ℕ → X → X) (front between rest : 
 walked_twice step front between rest dataset end h =
     walked_append step front (dataset ∷ (between ++ dataset ∷ rest)) end
     ∙ (ap (walked step front)
-      (ap (step dataset) (walked_append step between (dataset ∷ rest) end)
-      ∙ (h between (walked step rest end)
-      ∙ ap (step dataset) (sym (walked_append step between rest end))))
+    (ap (step dataset) (walked_append step between (dataset ∷ rest) end)
+    ∙ (h between (walked step rest end)
+    ∙ ap (step dataset) (sym (walked_append step between rest end))))
     ∙ sym (walked_append step front (dataset ∷ (between ++ rest)) end))
 
 again : (a b c : Bool) → (a || (b || (a || c))) ≡ (a || (b || c))
@@ -190,9 +188,9 @@ any_twice : {A : Type 0} (p : A → Bool) (front between rest : List A) (x : A) 
 any_twice p front between rest x =
     list_any-append p front (x ∷ (between ++ x ∷ rest))
     ∙ (ap (λ b. list_any p front || b)
-        (ap (λ b. p x || b) (list_any-append p between (x ∷ rest))
-        ∙ (again (p x) (list_any p between) (list_any p rest)
-        ∙ ap (λ b. p x || b) (sym (list_any-append p between rest))))
+    (ap (λ b. p x || b) (list_any-append p between (x ∷ rest))
+    ∙ (again (p x) (list_any p between) (list_any p rest)
+    ∙ ap (λ b. p x || b) (sym (list_any-append p between rest))))
     ∙ sym (list_any-append p front (x ∷ (between ++ rest))))
 
 pub repeat_law : RepeatLaw

@@ -1,8 +1,9 @@
 -- What follows from the definitions alone [RFC 2244 sections 5.1 and 5.2].
-use Rattle.std.specs.Prelude.{◌≡◌, ◌≢◌, ◌≤◌, ◌<◌, ℕ, ℤ, ◌+◌, ◌≤ℤ◌, Bool, true, false, IsTrue, List, [], ◌∷◌, ◌++◌, length, take, map, Option, Some, None, is_some, slice_get, slice_index_or, codes, if◌then◌else◌}
+use Rattle.std.specs.Prelude.{◌≡◌, ◌≤◌, ◌<◌, ℕ, ℤ, ◌+◌, ◌≤ℤ◌, Bool, true, false, IsTrue, List, [], ◌∷◌, ◌++◌, length, take, map, Some, None, is_some, slice_get, codes, if◌then◌else◌}
 use Rattle.std.specs.List.{list_any, filter_map, Contains, All}
-use Rattle.std.specs.Option.{option_map, option_map_or, option_and_then}
+use Rattle.std.specs.Option.{option_map, option_and_then}
 use Rattle.acap_entries.specs.Orders.{octets_eq}
+use Rattle.acap_entries.specs.Stamp.{stamp_of}
 use Rattle.acap_entries.specs.Store.{Stored}
 use Rattle.acap_entries.specs.declared.cell.Cell.{Cell}
 use Rattle.acap_entries.specs.declared.cell.Cell.TheVariants.{Single}
@@ -11,7 +12,7 @@ use Rattle.acap_inherit.specs.Chains.{name_in, base_at, chain_of}
 use Rattle.acap_inherit.specs.EntryNames.{names_on}
 use Rattle.acap_inherit.specs.Merging.{is_rising}
 use Rattle.acap_inherit.specs.Records.{record_at, cell_in, ends_inheritance}
-use Rattle.acap_inherit.specs.Resolving.{Resolution, lying, records_along, until_end, members_for, members_of, resolved, entry_exists, modtime_of}
+use Rattle.acap_inherit.specs.Resolving.{lying, records_along, until_end, members_for, members_of, resolved, entry_exists, modtime_of}
 
 -- a chain begins with its dataset and has at most eight names, of which each of the first seven names the next, or none where it is the
 -- last; where nothing is to be inherited it is its first name alone
@@ -56,18 +57,21 @@ cells_among attribute places = filter_map (λ place. option_map (λ cell. (cell,
 pub record FirstLaw : Type 0 where
   pub value : (records : Stored) (chain : List (List ℕ)) (name attribute : List ℕ) → octets_eq attribute (codes "entry") ≡ false → octets_eq attribute (codes "modtime") ≡ false
       → resolved records chain name attribute
-        ≡ option_and_then (λ found. lying found.0 found.1) (slice_get (cells_among attribute (down_to_end (placed records (members_of chain name attribute) name))) 0)
+      ≡ option_and_then (λ found. lying found.0 found.1) (slice_get (cells_among attribute (down_to_end (placed records (members_of chain name attribute) name))) 0)
   pub entry : (records : Stored) (chain : List (List ℕ)) (name : List ℕ)
       → resolved records chain name (codes "entry")
-        ≡ option_and_then (λ place. if place.1.present then Some (Single name, place.0) else None) (slice_get (placed records (members_for chain name) name) 0)
+      ≡ option_and_then (λ place. if place.1.present then Some (Single name, place.0) else None) (slice_get (placed records (members_for chain name) name) 0)
   pub existence : (records : Stored) (chain : List (List ℕ)) (name : List ℕ) → entry_exists records chain name ≡ is_some (resolved records chain name (codes "entry"))
 
 -- the moments of an entry's records down to the end of inheritance
 abbrev pub moments_of : Stored → List (List ℕ) → List ℕ → List ℤ
 moments_of records chain name = map (λ entry. entry.modtime) (until_end (records_along records (members_for chain name) name))
 
--- an entry's moment is one of these and none of them is later; it has none only where there is no record
+-- an entry's moment is one of these and none of them is later; it has none only where there is no record; `modtime` is its stamp, and lies in
+-- the first dataset of the chain
 pub record MomentLaw : Type 0 where
+  pub shown : (records : Stored) (dataset : List ℕ) (chain : List (List ℕ)) (name : List ℕ)
+      → resolved records (dataset ∷ chain) name (codes "modtime") ≡ option_map (λ moment. (Single (stamp_of moment), dataset)) (modtime_of records (dataset ∷ chain) name)
   pub reached : (records : Stored) (chain : List (List ℕ)) (name : List ℕ) (moment : ℤ) → modtime_of records chain name ≡ Some moment → Contains (moments_of records chain name) moment
   pub bound : (records : Stored) (chain : List (List ℕ)) (name : List ℕ) (moment : ℤ) → modtime_of records chain name ≡ Some moment → All (λ other. other ≤ℤ moment) (moments_of records chain name)
   pub none : (records : Stored) (chain : List (List ℕ)) (name : List ℕ) → modtime_of records chain name ≡ None → records_along records (members_for chain name) name ≡ []

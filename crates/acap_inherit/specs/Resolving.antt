@@ -1,5 +1,5 @@
 -- What an attribute of an entry resolves to along a chain of datasets [RFC 2244 sections 3.1.1, 5.1 and 5.2].
-use Rattle.std.specs.Prelude.{ℕ, ℤ, Bool, ◌||◌, ◌==◌, List, [], ◌∷◌, length, take, map, Option, Some, None, is_some, codes, if◌then◌else◌}
+use Rattle.std.specs.Prelude.{ℕ, ℤ, Bool, ◌==◌, List, [], ◌∷◌, length, take, map, Option, Some, None, is_some, codes, if◌then◌else◌}
 use Rattle.std.specs.Int.{int_max}
 use Rattle.std.specs.List.{filter_map}
 use Rattle.std.specs.Option.{option_map_or}

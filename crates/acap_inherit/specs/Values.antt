@@ -1,5 +1,5 @@
 -- A value that is lent, as the value that it is.
-use Rattle.std.specs.Prelude.{ℕ, List, Option, Some, None}
+use Rattle.std.specs.Prelude.{Some, None}
 use Rattle.acap_entries.specs.declared.cell.Cell.{Cell}
 use Rattle.acap_entries.specs.declared.cell.Cell.TheVariants as cell
 use Rattle.acap_inherit.specs.declared.lent.Lent.{Lent}

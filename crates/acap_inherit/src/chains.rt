@@ -38,11 +38,7 @@ fn inherited<'a, R: Records>(records: &'a R, dataset: &'a [u8]) -> Lineage<'a>
 /// The dataset, then the one that the `dataset.inherit` of its management entry names, and so on, at most eight names in
 /// all, whether these datasets exist or come twice; where nothing is to be inherited, the dataset alone (RFC 2244
 /// sections 5.1 and 5.2). Takes no memory.
-pub fn chain<'a, R: Records>(
-    records: &'a R,
-    dataset: &'a Dataset,
-    no_inherit: bool,
-) -> Lineage<'a>
+pub fn chain<'a, R: Records>(records: &'a R, dataset: &'a Dataset, no_inherit: bool) -> Lineage<'a>
     ensures { result ≡ rule.chain_of (R.store records.now).records dataset.now no_inherit }
 {
     if no_inherit {

@@ -14,3 +14,15 @@ pub enum Found<'a> {
         value: Lent<'a>,
     },
 }
+
+impl<'a> Found<'a> {
+    ghost use Rattle.std.specs.Prelude.{◌≡◌, is_none};
+    ghost use Rattle.acap_inherit.specs.Values.{found_of};
+
+    /// Whether it is NIL.
+    pub fn is_nil(&self) -> bool
+        ensures { result ≡ is_none (found_of self.now) }
+    {
+        matches!(self, Found::Nil)
+    }
+}

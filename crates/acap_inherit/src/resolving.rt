@@ -1,5 +1,5 @@
 //! What attributes of entries resolve to along chains.
-ghost use Rattle.std.specs.Prelude.{◌≡◌, map, Some};
+ghost use Rattle.std.specs.Prelude.{◌≡◌, map, Some, None};
 ghost use Rattle.std.specs.Int.{int_max};
 ghost use Rattle.std.specs.Option.{option_copied, option_map_or};
 ghost use Rattle.acap_inherit.specs.Records as kept;
@@ -9,25 +9,24 @@ ghost use Rattle.acap_inherit.specs.Values.{found_of};
 use crate::found::Found;
 use crate::lent::Lent;
 use crate::lineage::Lineage;
-use acap_entries::stamp;
-use acap_entries::{Cell, Moment, Record, Records};
+use acap_entries::{Cell, Moment, Record, Records, stamp};
 
 // What a record has for an attribute.
-pub(crate) fn cell_in<'a>(record: &'a Record, attribute: &[u8]) -> Option<&'a Cell>
-    ensures { option_copied result ≡ kept.cell_in record.now attribute.now }
+pub(crate) fn cell_in<'a>(entry: &'a Record, attribute: &[u8]) -> Option<&'a Cell>
+    ensures { option_copied result ≡ kept.cell_in entry.now attribute.now }
 {
-    if record.present {
-        record.cells.find(attribute)
+    if entry.present {
+        entry.cells.find(attribute)
     } else {
         None
     }
 }
 
 // Whether nothing is inherited from beyond a record.
-fn ends_inheritance(record: &Record) -> bool
-    ensures { result ≡ kept.ends_inheritance record.now }
+fn ends_inheritance(entry: &Record) -> bool
+    ensures { result ≡ kept.ends_inheritance entry.now }
 {
-    record.blocks_inheritance
+    entry.blocks_inheritance
 }
 
 // What a cell of a dataset answers.
@@ -69,19 +68,26 @@ fn value_on<'a, R: Records>(
     Found::Nil
 }
 
+// The name of an entry, if the record that decides is present.
+fn named<'a>(entry: &Record, dataset: &'a [u8], name: &'a [u8]) -> Found<'a>
+    ensures { found_of result ≡ rule.by_presence (Some entry.now) name.now dataset.now None }
+{
+    if !entry.present {
+        return Found::Nil;
+    }
+    Found::At {
+        dataset,
+        value: Lent::Single(name),
+    }
+}
+
 // The name of an entry that exists.
 fn entry_on<'a, R: Records>(records: &'a R, members: &[&'a [u8]], name: &'a [u8]) -> Found<'a>
     ensures { found_of result ≡ rule.entry_on (R.store records.now).records (map (λ d. d.now) members.now) name.now }
 {
-    for dataset in members {
-        if let Some(record) = records.find(dataset, name) {
-            if record.present {
-                return Found::At {
-                    dataset: *dataset,
-                    value: Lent::Single(name),
-                };
-            }
-            return Found::Nil;
+    for member in members {
+        if let Some(record) = records.find(member, name) {
+            return named(record, *member, name);
         }
     }
     Found::Nil
@@ -92,13 +98,7 @@ fn later(moment: Moment, other: Option<Moment>) -> Moment
     ensures { result ≡ option_map_or (int_max moment) other moment }
 {
     match other {
-        Some(other) => {
-            if other < moment {
-                moment
-            } else {
-                other
-            }
-        }
+        Some(other) => { if other < moment { moment } else { other } }
         None => moment,
     }
 }

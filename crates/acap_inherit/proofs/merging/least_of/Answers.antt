@@ -1,4 +1,4 @@
-use Rattle.std.proofs.Common.{◌≡◌, ◌<◌, ◌+◌, ◌++◌, ◌∷◌, [], take, get_or, length, sym, ◌∙◌, ap, subst, arith}
+use Rattle.std.proofs.Common.{◌<◌, ◌+◌, ◌++◌, ◌∷◌, [], take, length, sym, ◌∙◌, ap, subst, arith}
 use Rattle.std.specs.Prelude.{slice_get}
 use Rattle.std.proofs.lemmas.List.{take_more}
 use Rattle.std.specs.Option.{option_copied}
@@ -13,5 +13,5 @@ loop-range-preserved c =
     let least = lesser (option_copied c.loop-range.least) in
     let within : c.loop-range.range-index < length c.args.ranges.now = omega arith in
     subst (λ o. IsLeast o (take (c.loop-range.range-index + 1) c.args.ranges.now)) (sym (c.lesser-least.ensures ∙ ap least c.first.ensures))
-      (subst (λ lists. IsLeast (least (slice_get names 0)) lists) (ap (λ name. before ++ name ∷ []) c.range-item.is ∙ sym (take_more c.args.ranges.now c.loop-range.range-index c.range-item.result within))
-        (least_more (option_copied c.loop-range.least) before names c.loop-range.invariant))
+    (subst (λ lists. IsLeast (least (slice_get names 0)) lists) (ap (λ name. before ++ name ∷ []) c.range-item.is ∙ sym (take_more c.args.ranges.now c.loop-range.range-index c.range-item.result within))
+    (least_more (option_copied c.loop-range.least) before names c.loop-range.invariant))

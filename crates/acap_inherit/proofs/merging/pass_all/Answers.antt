@@ -1,4 +1,4 @@
-use Rattle.std.proofs.Common.{◌≡◌, set, sym, ◌∙◌, ap, arith}
+use Rattle.std.proofs.Common.{set, sym, ◌∙◌, ap, arith}
 use Rattle.std.proofs.lemmas.List.Edits.{map_over_more}
 use Rattle.acap_inherit.specs.Merging.{passed}
 use Rattle.acap_inherit.proofs.merging.pass_all.Goals as goal

@@ -8,7 +8,7 @@ use Rattle.acap_inherit.proofs.entry_names.EntryNamesIterator.next.Goals as goal
 pub returns-in_err-name-clause-steps : goal.returns-in_err-name-clause-steps
 returns-in_err-name-clause-steps c =
     let none : c.args.self.now ≡ [] =
-      sym c.self.view_is ∙ merged_ended c.self.inside.ranges.items (subst (λ lists. IsLeast None lists) c.as_slice.ensures.value c.in_err-name.ensures) in
+    sym c.self.view_is ∙ merged_ended c.self.inside.ranges.items (subst (λ lists. IsLeast None lists) c.as_slice.ensures.value c.in_err-name.ensures) in
     rw c.from_residual.ensures (none, none)
 
 pub invariant_of-self : goal.invariant_of-self
