@@ -1,5 +1,5 @@
 -- Examples that are computed from the definitions.
-use Rattle.std.specs.Prelude.{◌≡◌, ℕ, true, false, List, [], ◌∷◌, ◌++◌, map, codes, Option, Some, None}
+use Rattle.std.specs.Prelude.{◌≡◌, ℕ, true, false, List, [], ◌∷◌, ◌++◌, map, codes, Some, None}
 use Rattle.std.specs.Option.{is_some}
 use Rattle.acap_entries.specs.Names.{tab}
 use Rattle.acap_rights.specs.Deciding.{implicit_rights}
