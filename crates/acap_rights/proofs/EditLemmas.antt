@@ -1,24 +1,21 @@
 -- The laws of SETACL and DELETEACL.
-use Rattle.std.proofs.Common.{◌≡◌, ℕ, suc, ◌+◌, Bool, true, false, not, cond, List, [], ◌∷◌, ◌++◌, take, drop, Option, Some, None, refl, sym, ap, ◌∙◌, arith}
+use Rattle.std.proofs.Common.{◌≡◌, ℕ, suc, ◌+◌, Bool, true, false, not, cond, List, [], ◌∷◌, ◌++◌, take, drop, Some, None, refl, sym, ap, ◌∙◌, arith}
 use Rattle.std.specs.Prelude.{◌&&◌, ◌||◌, if◌then◌else◌}
+use Rattle.std.specs.Cmp.{first_so, second_so}
 use Rattle.std.specs.Cmp.Lexicographic.{bytes_decides}
 use Rattle.std.specs.List.{filter, list_any, list_all, position_or_len}
 use Rattle.std.specs.Option.{is_some}
 use Rattle.std.proofs.lemmas.List.{take-append-drop}
 use Rattle.std.proofs.lemmas.List.Elements.{filter-append}
 use Rattle.std.proofs.lemmas.List.Folds.{list_all-append}
-use Rattle.acap_rights.specs.Edits.{is_about, place_in, without, with_pair}
+use Rattle.acap_rights.specs.Edits.{is_about, without, with_pair}
 use Rattle.acap_rights.specs.Laws.{EditLaw, string_of}
-use Rattle.acap_rights.specs.Pairs.{pair_of, is_acl, is_identifier, is_letter}
+use Rattle.acap_rights.specs.Pairs.{pair_of, is_identifier, is_letter}
 use Rattle.acap_rights.proofs.PairLemmas.{pair_of_form, makes_pair}
 
 or_parts : (a b : Bool) → (a || b) ≡ false → (a ≡ false) × (b ≡ false)
 or_parts true b h = cc
 or_parts false b h = (refl, h)
-
-and_parts : (a b : Bool) → (a && b) ≡ true → (a ≡ true) × (b ≡ true)
-and_parts true b h = (refl, h)
-and_parts false b h = cc
 
 module _ {X : Type 0} (test : X → Bool) where
   abbrev others : List X → List X
@@ -71,19 +68,19 @@ module _ {X : Type 0} (test : X → Bool) where
   all_others : (p : X → Bool) (xs : List X) → list_all p xs ≡ true → list_all p (others xs) ≡ true
   all_others p [] h = refl
   all_others p (x ∷ xs) h =
-      let parts = and_parts (p x) (list_all p xs) h in
-      let first : p x ≡ true = parts.0 in
+      let first : p x ≡ true = first_so _ _ h in
+      let rest : list_all p xs ≡ true = second_so _ _ h in
       elim (test x) as (λ b. list_all p (cond (not b) (x ∷ others xs) (others xs)) ≡ true) [
-        | true ↦ all_others p xs parts.1
-        | false ↦ rw first (all_others p xs parts.1)
+        | true ↦ all_others p xs rest
+        | false ↦ rw first (all_others p xs rest)
       ]
 
   all_put : (p : X → Bool) (y : X) (xs : List X) → list_all p xs ≡ true → p y ≡ true → list_all p (put y xs) ≡ true
   all_put p y xs h k =
       let n = position_or_len test xs in
-      let parts = and_parts (list_all p (take n xs)) (list_all p (drop n xs)) (sym (list_all-append p (take n xs) (drop n xs)) ∙ (ap (list_all p) (take-append-drop n xs) ∙ h)) in
-      let front : list_all p (take n xs) ≡ true = parts.0 in
-      let behind : list_all p (others (drop n xs)) ≡ true = all_others p (drop n xs) parts.1 in
+      let parts : (list_all p (take n xs) && list_all p (drop n xs)) ≡ true = sym (list_all-append p (take n xs) (drop n xs)) ∙ (ap (list_all p) (take-append-drop n xs) ∙ h) in
+      let front : list_all p (take n xs) ≡ true = first_so _ _ parts in
+      let behind : list_all p (others (drop n xs)) ≡ true = all_others p (drop n xs) (second_so _ _ parts) in
       list_all-append p (take n xs) (y ∷ others (drop n xs)) ∙ rw (front, k, behind) refl
 
 -- the new string says something of its identifier

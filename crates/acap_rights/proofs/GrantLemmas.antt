@@ -1,13 +1,12 @@
 -- What lists give.
-use Rattle.std.proofs.Common.{◌≡◌, ℕ, suc, ◌+◌, ◌<◌, ◌≤◌, Bool, true, false, not, cond, List, [], ◌∷◌, length, drop, get_or, Option, Some, None, refl, sym, ap, ◌∙◌, arith, add-one}
+use Rattle.std.proofs.Common.{◌≡◌, ℕ, suc, ◌+◌, ◌<◌, ◌≤◌, Bool, true, false, List, [], ◌∷◌, length, drop, get_or, Some, None, refl, sym, ap, ◌∙◌, add-one}
 use Rattle.std.proofs.Math.Seq.{drop-cons}
 use Rattle.std.proofs.lemmas.List.{drop_all}
-use Rattle.std.specs.Prelude.{◌&&◌, ◌||◌, codes, if◌then◌else◌}
+use Rattle.std.specs.Prelude.{◌||◌, codes, if◌then◌else◌}
 use Rattle.std.specs.List.{list_any}
-use Rattle.std.specs.Option.{option_map_or}
 use Rattle.acap_entries.specs.Names.{is_user_name}
-use Rattle.acap_rights.specs.Pairs.{form_of, gives, takes, says, given, taken, rights_in, pair_of, is_identifier}
-use Rattle.acap_rights.specs.Homes.{home_of, home_list, default_list}
+use Rattle.acap_rights.specs.Pairs.{form_of, rights_in, pair_of, is_identifier}
+use Rattle.acap_rights.specs.Homes.{home_of, default_list}
 use Rattle.acap_rights.specs.Realms.{names}
 use Rattle.acap_rights.specs.Rights.{rights_by, union, no_rights, all_rights}
 use Rattle.acap_rights.specs.declared.realm.Realm.{Realm}
@@ -18,11 +17,11 @@ or_both : (a b c : Bool) → ((a || b) || c) ≡ (a || (b || c))
 or_both true b c = refl
 or_both false b c = refl
 
-or_none : (a : Bool) → (a || false) ≡ a
+pub or_none : (a : Bool) → (a || false) ≡ a
 or_none true = refl
 or_none false = refl
 
-or_all : (a : Bool) → (a || true) ≡ true
+pub or_all : (a : Bool) → (a || true) ≡ true
 or_all true = refl
 or_all false = refl
 
@@ -66,7 +65,7 @@ owner_list realm user name h =
       | false ↦ λ e. rw (said, positive, e) refl
     ] refl
 
-named_all : (realm : Realm) (user : List ℕ) → names realm user (codes "anyone") ≡ true
+pub named_all : (realm : Realm) (user : List ℕ) → names realm user (codes "anyone") ≡ true
 unfolding names
 named_all realm user = or_all _
 

@@ -1,6 +1,6 @@
 -- Pairs and the strings that they are.
-use Rattle.std.proofs.Common.{◌≡◌, ℕ, suc, ◌+◌, ◌<◌, ◌≤◌, Bool, true, false, not, cond, List, [], ◌∷◌, ◌++◌, length, take, drop, Option, Some, None, refl, sym, ap, subst, ◌∙◌, arith}
-use Rattle.std.specs.Prelude.{◌==◌, ◌&&◌, ◌||◌, nat_lt, nat_eq, codes, if◌then◌else◌}
+use Rattle.std.proofs.Common.{◌≡◌, ℕ, Bool, true, false, not, cond, List, [], ◌∷◌, ◌++◌, length, Option, Some, None, refl, sym, ap, subst, ◌∙◌}
+use Rattle.std.specs.Prelude.{◌&&◌, ◌||◌, nat_lt, codes, if◌then◌else◌}
 use Rattle.std.specs.Cmp.{first_so, second_so}
 use Rattle.std.specs.List.{slice_split, onto_first, list_any, list_all}
 use Rattle.std.specs.Option.{is_some}
@@ -8,6 +8,7 @@ use Rattle.std.proofs.Math.Bool.{and-false}
 use borrow.Author.Tests.{eqb-true}
 use Rattle.acap_entries.specs.Names.{tab, minus, has, begins_with, is_user_name, is_component}
 use Rattle.acap_entries.specs.Orders.{octets_eq}
+use Rattle.acap_rights.proofs.HomeLemmas.{not_true}
 use Rattle.acap_rights.specs.Pairs.{Pair, form_of, is_tab, is_letter, is_identifier, pair_in, pair_of, IsPair}
 
 tab_no_letter : (xs : List ℕ) → list_any is_tab xs ≡ true → list_all is_letter xs ≡ false
@@ -119,18 +120,13 @@ only_part xs p h = elim (list_any is_tab xs) as (λ b. list_any is_tab xs ≡ b 
   | false ↦ λ t. let e = whole xs t in cc
 ] refl
 
-both_hold : (a b : Bool) → (a && b) ≡ true → (a ≡ true) × (b ≡ true)
-both_hold true b e = (refl, e)
-both_hold false b e = cc
-
 of_two : (text identifier letters : List ℕ) (pair : Pair) → slice_split is_tab text ≡ identifier ∷ letters ∷ [] → said identifier letters ≡ Some pair → IsPair text pair
 of_two text identifier letters pair s = elim (is_identifier identifier && list_all is_letter letters) as (λ b. (is_identifier identifier && list_all is_letter letters) ≡ b → (if b then Some (record { identifier = identifier; letters = letters }) else None) ≡ Some pair → IsPair text pair) [
   | true ↦ λ t h.
       let parts = rejoined text identifier letters [] s in
       let rest = only_part parts.0 letters parts.2 in
-      let tests = both_hold _ _ t in
       let same : record { identifier = identifier; letters = letters } ≡ pair = cc in
-      subst (IsPair text) same (record { form = parts.1 ∙ ap (λ ys. identifier ++ tab ∷ ys) rest; identifier = tests.0; letters = tests.1 })
+      subst (IsPair text) same (record { form = parts.1 ∙ ap (λ ys. identifier ++ tab ∷ ys) rest; identifier = first_so _ _ t; letters = second_so _ _ t })
   | false ↦ λ t h. cc
 ] refl
 
@@ -149,13 +145,9 @@ unsigned : (xs : List ℕ) → begins_with minus xs ≡ false → octets_eq xs (
 unsigned [] h = refl
 unsigned (x ∷ xs) h = rw h refl
 
-negated : (b : Bool) → not b ≡ true → b ≡ false
-negated true h = cc
-negated false h = refl
-
 pub user_unsigned : (name : List ℕ) → is_user_name name ≡ true → begins_with minus name ≡ false
 unfolding is_user_name
-user_unsigned name h = negated _ (second_so _ _ (first_so _ _ (first_so _ _ h)))
+user_unsigned name h = not_true _ (second_so _ _ (first_so _ _ (first_so _ _ h)))
 
 pub user_identifier : (name : List ℕ) → is_user_name name ≡ true → is_identifier name ≡ true
 unfolding is_user_name is_identifier is_component
@@ -164,7 +156,7 @@ user_identifier name h =
     let tabbed = first_so _ _ signed in
     let component = first_so _ _ (first_so _ _ (first_so _ _ tabbed)) in
     let some : nat_lt 0 (length name) ≡ true = first_so _ _ (first_so _ _ (first_so _ _ (first_so _ _ component))) in
-    let alone : octets_eq name (codes "-") ≡ false = unsigned name (negated _ (second_so _ _ signed)) in
+    let alone : octets_eq name (codes "-") ≡ false = unsigned name (not_true _ (second_so _ _ signed)) in
     let free : not (has tab name) ≡ true = second_so _ _ tabbed in
     rw (some, alone, free) refl
 

@@ -1,33 +1,25 @@
 -- The laws of what lists give and take, and of the implicit rights.
-use Rattle.std.proofs.Common.{◌≡◌, ◌≢◌, ℕ, Bool, true, false, not, cond, List, [], ◌∷◌, ◌++◌, length, Option, Some, None, refl, sym, ap, ◌∙◌, arith}
+use Rattle.std.proofs.Common.{◌≡◌, ◌≢◌, ℕ, Bool, true, false, not, List, [], ◌∷◌, ◌++◌, length, Some, None, refl, ap, ◌∙◌, arith}
 use Rattle.std.specs.Prelude.{◌&&◌, ◌||◌, codes, nat_lt, if◌then◌else◌}
 use Rattle.std.specs.Cmp.{second_so}
 use Rattle.std.specs.Option.{option_map_or}
 use Rattle.std.proofs.lemmas.Bool.Decides.{nat_tests}
 use Rattle.std.specs.Cmp.Lexicographic.{bytes_decides}
 use Rattle.std.specs.List.{list_any, list_all}
-use Rattle.std.specs.List.Sorted.{IsPermutation}
 use Rattle.std.proofs.lemmas.List.Sorted.{list_any-IsPermutation}
 use Rattle.acap_entries.specs.Names.{tab, minus, has, begins_with, is_user_name}
 use Rattle.acap_entries.specs.Orders.{octets_eq}
 use Rattle.acap_entries.specs.Store.{Stored}
 use Rattle.acap_rights.specs.Deciding.{Target, dataset_in, deciding_list, implicit_rights, rights_of}
 use Rattle.acap_rights.specs.Homes.{is_owner}
-use Rattle.acap_rights.specs.Laws.{WhomLaw, NegativeLaw, OrderLaw, AdministratorLaw, OwnerLaw, string_of, rights_of_letters, common}
+use Rattle.acap_rights.specs.Laws.{WhomLaw, NegativeLaw, OrderLaw, AdministratorLaw, OwnerLaw, string_of, common}
 use Rattle.acap_rights.specs.Pairs.{Pair, pair_of, says, gives, takes, given, taken, rights_in, is_identifier, is_letter}
 use Rattle.acap_rights.specs.Realms.{names, is_administrator}
 use Rattle.acap_rights.specs.Rights.{rights_by, no_rights, all_rights, less, union}
 use Rattle.acap_rights.specs.declared.realm.Realm.{Realm}
 use Rattle.acap_rights.specs.declared.rights.Rights.{Rights}
+use Rattle.acap_rights.proofs.GrantLemmas.{or_none, or_all, named_all}
 use Rattle.acap_rights.proofs.PairLemmas.{pair_of_form, user_unsigned, user_identifier}
-
-or_none : (a : Bool) → (a || false) ≡ a
-or_none true = refl
-or_none false = refl
-
-or_all : (a : Bool) → (a || true) ≡ true
-or_all true = refl
-or_all false = refl
 
 by_letter : (f g : ℕ → Bool) → ((letter : ℕ) → f letter ≡ g letter) → rights_by f ≡ rights_by g
 by_letter f g h = λ i. record { x = h 120 i; r = h 114 i; w = h 119 i; i = h 105 i; a = h 97 i }
@@ -123,10 +115,6 @@ other_text one two h = elim (octets_eq one two) as (λ b. octets_eq one two ≡ 
 named_self : (realm : Realm) (user : List ℕ) → names realm user user ≡ true
 unfolding names
 named_self realm user = rw (same_text user) refl
-
-named_all : (realm : Realm) (user : List ℕ) → names realm user (codes "anyone") ≡ true
-unfolding names
-named_all realm user = or_all _
 
 named_other : (realm : Realm) (user identifier : List ℕ) → identifier ≢ user → identifier ≢ codes "anyone" → names realm user identifier ≡ false
 unfolding names

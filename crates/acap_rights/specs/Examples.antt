@@ -1,5 +1,5 @@
 -- Examples that are computed from the definitions.
-use Rattle.std.specs.Prelude.{◌≡◌, ℕ, true, false, List, [], ◌∷◌, ◌++◌, map, codes, Option, Some, None}
+use Rattle.std.specs.Prelude.{◌≡◌, ℕ, true, false, List, [], ◌∷◌, ◌++◌, map, codes, Some, None}
 use Rattle.std.specs.Option.{is_some}
 use Rattle.acap_entries.specs.Names.{tab}
 use Rattle.acap_rights.specs.Deciding.{implicit_rights}
@@ -60,6 +60,7 @@ pub record RightsExamples : Type 0 where
   pub wrong_strings : to_joe (codes "joe" ∷ row joe (codes "rz") ∷ row (row joe (codes "r")) (codes "w") ∷ row [] (codes "r") ∷ []) ≡ []
   pub wrong_negative : to_joe (row joe (codes "r") ∷ row (codes "-joe") (codes "rz") ∷ []) ≡ codes "r"
   pub nothing : to_joe [] ≡ []
+  pub signed_user : letters_of (rights_in realm (codes "-joe") (row (codes "-joe") (codes "r") ∷ [])) ≡ []
   pub of_administrator : letters_of (implicit_rights realm (codes "root") (codes "/option/user/joe/")) ≡ codes "xrwia"
   pub of_owner : letters_of (implicit_rights realm joe (codes "/option/user/joe/")) ≡ codes "ra"
   pub of_nobody : letters_of (implicit_rights realm joe (codes "/option/site/")) ≡ []

@@ -1,5 +1,5 @@
 -- Whose datasets are whose, and what lists decide where none is stored [RFC 2244 sections 3.5 and 4.1].
-use Rattle.std.specs.Prelude.{ℕ, Bool, true, false, if◌then◌else◌, List, [], ◌∷◌, codes, Option, Some, None}
+use Rattle.std.specs.Prelude.{ℕ, Bool, false, if◌then◌else◌, List, [], ◌∷◌, codes, Option, Some, None}
 use Rattle.std.specs.Option.{option_map_or}
 use Rattle.acap_entries.specs.Names.{slash, begins_with, components, is_user_name}
 use Rattle.acap_entries.specs.Orders.{octets_eq}

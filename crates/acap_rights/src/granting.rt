@@ -45,10 +45,10 @@ fn granted(realm: &Realm, user: &[u8], text: &[u8]) -> (Rights, Rights)
     }
 }
 
-// The rights of a user by a list: all that its pairs give, without all that they take away.
-#[tactic(auto, unfolding(crate::specs::Pairs::rights_in))]
-fn rights_in(realm: &Realm, user: &[u8], acl: &[Value]) -> Rights
-    ensures { result ≡ rule.rights_in realm.now user.now acl.now }
+// All that the pairs of a list give to the user, and all that they take away.
+fn gathered(realm: &Realm, user: &[u8], acl: &[Value]) -> (Rights, Rights)
+    ensures given { result.0 ≡ rule.given realm.now user.now acl.now }
+    ensures taken { result.1 ≡ rule.taken realm.now user.now acl.now }
 {
     let mut given = Rights::none();
     let mut taken = Rights::none();
@@ -57,6 +57,15 @@ fn rights_in(realm: &Realm, user: &[u8], acl: &[Value]) -> Rights
         given = given.union(more);
         taken = taken.union(away);
     }
+    (given, taken)
+}
+
+// The rights of a user by a list.
+#[tactic(auto, unfolding(crate::specs::Pairs::rights_in))]
+fn rights_in(realm: &Realm, user: &[u8], acl: &[Value]) -> Rights
+    ensures { result ≡ rule.rights_in realm.now user.now acl.now }
+{
+    let (given, taken) = gathered(realm, user, acl);
     given.less(taken)
 }
 

@@ -1,8 +1,6 @@
-use Rattle.std.proofs.Common.{◌≡◌, sym, ap, ◌∙◌, ◌∷◌, false}
-use Rattle.std.specs.Prelude.{codes}
+use Rattle.std.proofs.Common.{sym, ap, ◌∙◌, ◌∷◌}
 use Rattle.std.specs.List.{slice_split}
 use Rattle.acap_entries.specs.Names.{is_slash}
-use Rattle.acap_entries.specs.Orders.{octets_eq}
 use Rattle.acap_rights.specs.Homes.{third_of}
 use Rattle.acap_rights.proofs.HomeLemmas.{no_third, not_true}
 use Rattle.acap_rights.proofs.homes.third_of.Goals as goal

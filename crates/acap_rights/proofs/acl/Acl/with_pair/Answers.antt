@@ -1,5 +1,4 @@
-use Rattle.std.proofs.Common.{arith, sym, ap, ◌∙◌, length}
-use Rattle.std.specs.Vec.{vec_len}
+use Rattle.std.proofs.Common.{arith, ap, ◌∙◌, length}
 use Rattle.acap_rights.specs.Edits.{is_about, without, with_pair, place_in}
 use Rattle.acap_rights.proofs.ListLemmas.{place_within, put_there}
 use Rattle.acap_rights.proofs.acl.Acl.with_pair.Goals as goal

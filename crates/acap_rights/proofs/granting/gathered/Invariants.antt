@@ -1,7 +1,7 @@
 use Rattle.std.proofs.Common.{◌≡◌, drop}
 use Rattle.acap_rights.specs.Pairs as rule
 use Rattle.acap_rights.specs.Rights.{union}
-use Rattle.acap_rights.proofs.granting.rights_in.Given as goal
+use Rattle.acap_rights.proofs.granting.gathered.Given as goal
 
 abbrev pub invariant-loop-text : goal.invariant-loop-text
 invariant-loop-text l = record {
