@@ -156,8 +156,9 @@ fn stamped<'a>(chain: &Lineage<'a>, moment: Option<Moment>) -> Found<'a>
 }
 
 /// What an attribute of an entry resolves to along a chain (RFC 2244 sections 3.1.1 and 5.1). `entry` is the name of an
-/// entry that exists, and lies where its first record is; `modtime` is the stamp of `modtime`; `subdataset` and all of the
-/// management entry, whose name is empty, are those of the first dataset alone. Takes no memory.
+/// entry that exists, and lies where its first record is; `modtime` is the stamp of its moment, and lies in the first
+/// dataset; `subdataset` and all of the management entry, whose name is empty, are those of the first dataset alone. Takes
+/// no memory.
 #[tactic(auto, unfolding(crate::specs::Resolving::resolved))]
 pub fn resolve<'a, R: Records>(
     records: &'a R,
