@@ -63,8 +63,8 @@ pub use memory::Memory;
 pub use moment::Moment;
 pub use name_fault::NameFault;
 pub use names::{
-    begins_with, ends_with, first_slash, is_attribute, is_entry_name, is_path, own_entry_of,
-    split_path,
+    begins_with, ends_with, first_slash, is_attribute, is_dataset_argument, is_entry_name, is_path,
+    is_user_name, own_entry_of, split_path,
 };
 pub use octets::Octets;
 pub use path::Path;

@@ -3,8 +3,8 @@ ghost use Rattle.std.specs.Prelude.{◌≡◌, ◌∷◌, [], IfOk};
 ghost use Rattle.acap_rights.specs.Pairs as rule;
 ghost use Rattle.acap_rights.specs.Homes.{default_list};
 
-use crate::homes::{home_of, is_user_name};
-use acap_entries::{Copying, Memory, Value, Values};
+use crate::homes::home_of;
+use acap_entries::{Copying, Memory, Value, Values, is_user_name};
 use std::alloc::Global;
 
 /// The string of an identifier and letters. Fails only for want of memory.

@@ -7,12 +7,12 @@ ghost use Rattle.acap_rights.specs.Deciding as decided;
 ghost use Rattle.acap_entries.specs.Names.{has};
 
 use crate::deciding::stored_list;
-use crate::homes::{home_of, is_user_name, owns};
+use crate::homes::{home_of, owns};
 use crate::object::Object;
 use crate::pairs::pair_of;
 use crate::realm::Realm;
 use crate::rights::Rights;
-use acap_entries::{Records, UserName, Value};
+use acap_entries::{Records, UserName, Value, is_user_name};
 
 // The rights whose letters stand in a text.
 fn by_letters(letters: &[u8]) -> Rights

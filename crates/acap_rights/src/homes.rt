@@ -2,13 +2,11 @@
 ghost use Rattle.std.specs.Prelude.{◌≡◌};
 ghost use Rattle.std.specs.List.{slice_split};
 ghost use Rattle.std.specs.Option.{option_copied};
-ghost use Rattle.std.specs.Str as text;
 ghost use Rattle.acap_entries.specs.Names as name;
 ghost use Rattle.acap_rights.specs.Homes as rule;
 
 use crate::cutting::cut_at;
-use acap_entries::{Dataset, UserName};
-use std::str;
+use acap_entries::{Dataset, UserName, is_user_name};
 
 // What stands between the first octet of a dataset and its closing slash, if that is there.
 fn inside(dataset: &[u8]) -> &[u8]
@@ -48,49 +46,6 @@ pub(crate) fn home_of(dataset: &[u8]) -> Option<&[u8]>
         [b'/', _, ..] => third_of(inside(dataset)),
         _ => None,
     }
-}
-
-// Whether the octets are UTF-8 (RFC 3629).
-fn is_utf8(octets: &[u8]) -> bool
-    ensures { result ≡ text.is_utf8 octets.now }
-{
-    str::from_utf8(octets).is_ok()
-}
-
-// Whether the octets begin with that one.
-fn begins_with(octets: &[u8], octet: u8) -> bool
-    ensures { result ≡ name.begins_with octet octets.now }
-{
-    match octets {
-        [first, ..] => *first == octet,
-        [] => false,
-    }
-}
-
-// Whether they are a component of a path.
-#[tactic(auto, unfolding(acap_entries::specs::Names::is_component))]
-fn is_component(octets: &[u8]) -> bool
-    ensures { result ≡ name.is_component octets.now }
-{
-    !octets.is_empty()
-        && is_utf8(octets)
-        && !octets.contains(&0)
-        && !octets.contains(&b'/')
-        && !begins_with(octets, b'.')
-}
-
-/// Whether they are the name of a user.
-#[tactic(auto, unfolding(acap_entries::specs::Names::is_user_name))]
-pub(crate) fn is_user_name(octets: &[u8]) -> bool
-    ensures { result ≡ name.is_user_name octets.now }
-{
-    is_component(octets)
-        && octets.len() <= 64
-        && !octets.contains(&b' ')
-        && !octets.contains(&b'\t')
-        && !begins_with(octets, b'-')
-        && octets != b"anyone".as_slice()
-        && octets != b"~".as_slice()
 }
 
 /// Whether the octets are the name of the user whose home a dataset lies in.
