@@ -9,14 +9,14 @@ use Rattle.acap_lexer.specs.declared.mode.Mode.TheVariants as mode
 use Rattle.acap_lexer.specs.Holding.{Held, held_limit}
 use Rattle.acap_lexer.specs.Held.{held_behind, answers_from, answers_by, answers_by_item}
 use Rattle.acap_lexer.specs.Owing.{with_more}
-use Rattle.acap_lexer.specs.Stream.{end_of, cut, step_of, progress_within, progress_from, progress}
+use Rattle.acap_lexer.specs.Stream.{end_of, part_end, step_of, progress_within, progress_from, progress}
 use Rattle.acap_lexer.proofs.Asking.{Next, plus_cases, more_cases, item_cases, owes_plus, owes_item, none_owed}
 use Rattle.acap_lexer.proofs.ProgressLaws.{takes_octets, leaves_room}
 use Rattle.acap_session.specs.Asking.{answers_in}
 use Rattle.acap_session.specs.Run.{commands}
 
 nothing_yet : progress mode.Command [] ≡ record { waits = 0; item = None }
-unfolding progress progress_from progress_within step_of cut end_of
+unfolding progress progress_from progress_within step_of part_end end_of
 nothing_yet = refl
 
 none_of_nothing : (modes : ℕ) (told : ℕ) (f : Option LexFault) → answers_from (commands modes) (record { text = []; told = told; fatal = f }) ≡ []

@@ -10,7 +10,7 @@ use Rattle.acap_lexer.specs.Reading as reading
 use Rattle.acap_lexer.specs.Reading.{quoted_at, escaped_at, is_count, count_of, closing_of, mark_of, stray, token_at, may_touch, gap_behind, ends_tag, tag_at}
 use Rattle.acap_lexer.specs.Part.{part_within}
 use Rattle.acap_lexer.specs.Printing.{printed, quoted, may_quote, is_printable}
-use Rattle.acap_lexer.specs.Stream.{end_of, cut, said, step_of, progress_within, progress_from, progress}
+use Rattle.acap_lexer.specs.Stream.{end_of, part_end, said, step_of, progress_within, progress_from, progress}
 use Rattle.acap_lexer.specs.Held.{next_of, answers_of, answers_from}
 use Rattle.acap_entries.specs.Names.{is_path, is_attribute, is_dataset_argument, is_context_name, is_component, components, dataset_of, name_of}
 use Rattle.acap_grammar.specs.Arguments.{path_named, dataset_named, attribute_named, target_named, context_named, named_at}
@@ -68,7 +68,7 @@ hearing_examples = record {
 }
 
 pub next_examples : NextExamples
-unfolding answered heard heard_command opening session_next command_of word_at arguments_at ends string_at named_at context_named is_context_name octets_of said_form done_form refused_form good_bye_form code_of printed quoted may_quote is_printable is_escaped is_utf8 chars encode_utf8 is_word is_tag is_quotable is_digit quoted_at escaped_at reading.string_at is_count count_of closing_of mark_of stray token_at may_touch gap_behind ends_tag tag_at part_within end_of cut said step_of progress_within progress_from progress next_of answers_from octets_with
+unfolding answered heard heard_command opening session_next command_of word_at arguments_at ends string_at named_at context_named is_context_name octets_of said_form done_form refused_form good_bye_form code_of printed quoted may_quote is_printable is_escaped is_utf8 chars encode_utf8 is_word is_tag is_quotable is_digit quoted_at escaped_at reading.string_at is_count count_of closing_of mark_of stray token_at may_touch gap_behind ends_tag tag_at part_within end_of part_end said step_of progress_within progress_from progress next_of answers_from octets_with
 next_examples = record {
   entering = λ text. refl;
   asked = λ text. refl;
@@ -110,7 +110,7 @@ in_turn m e =
     ∙ ap (λ more. told (answer_of m stores).0 ++ more) (said_behind (record m { store = (answer_of m stores).1 }) searches search_line [] e search_heard ∙ append-nil _)
 
 pub run_examples : RunExamples
-unfolding answered heard heard_command opening session_next command_of word_at arguments_at ends string_at named_at context_named is_context_name octets_of said_form done_form refused_form good_bye_form code_of printed quoted may_quote is_printable is_escaped is_utf8 chars encode_utf8 is_word is_tag is_quotable is_digit quoted_at escaped_at reading.string_at is_count count_of closing_of mark_of stray token_at may_touch gap_behind ends_tag tag_at part_within end_of cut said step_of progress_within progress_from progress next_of answers_from octets_with
+unfolding answered heard heard_command opening session_next command_of word_at arguments_at ends string_at named_at context_named is_context_name octets_of said_form done_form refused_form good_bye_form code_of printed quoted may_quote is_printable is_escaped is_utf8 chars encode_utf8 is_word is_tag is_quotable is_digit quoted_at escaped_at reading.string_at is_count count_of closing_of mark_of stray token_at may_touch gap_behind ends_tag tag_at part_within end_of part_end said step_of progress_within progress_from progress next_of answers_from octets_with
 run_examples = record {
   begins = (get-empty nat_cmp 0, refl);
   performs = performs;

@@ -10,7 +10,7 @@ use Rattle.acap_lexer.specs.Octets.{is_word, is_tag, is_quotable, is_escaped, is
 use Rattle.acap_lexer.specs.Reading.{quoted_at, escaped_at, string_at, is_count, count_of, closing_of, mark_of, stray, token_at, may_touch, gap_behind, ends_tag, tag_at}
 use Rattle.acap_lexer.specs.Part.{part_within}
 use Rattle.acap_lexer.specs.Printing.{printed, quoted, may_quote, is_printable}
-use Rattle.acap_lexer.specs.Stream.{end_of, cut, said, step_of, progress_within, progress_from, progress}
+use Rattle.acap_lexer.specs.Stream.{end_of, part_end, said, step_of, progress_within, progress_from, progress}
 use Rattle.acap_lexer.specs.Held.{answers_of, answers_from}
 use Rattle.acap_lexer.specs.declared.lexed.Lexed.{Lexed}
 use Rattle.acap_grammar.specs.Grammar.{arguments_at, command_of}
@@ -94,5 +94,5 @@ noop_by user seated =
     behind user t (answers_of (commands 9) (codes "A1 NOOP" ++ crlf))
 
 pub noop : NoopLaw
-unfolding octets_with opening answered heard heard_command command_of word_at arguments_at ends octets_of said_form done_form printed quoted may_quote is_printable is_utf8 chars encode_utf8 is_word is_tag is_quotable is_escaped is_digit quoted_at escaped_at string_at is_count count_of closing_of mark_of stray token_at may_touch gap_behind ends_tag tag_at part_within end_of cut said step_of progress_within progress_from progress answers_from
+unfolding octets_with opening answered heard heard_command command_of word_at arguments_at ends octets_of said_form done_form printed quoted may_quote is_printable is_utf8 chars encode_utf8 is_word is_tag is_quotable is_escaped is_digit quoted_at escaped_at string_at is_count count_of closing_of mark_of stray token_at may_touch gap_behind ends_tag tag_at part_within end_of part_end said step_of progress_within progress_from progress answers_from
 noop user = ap (noop_by user) (get-empty nat_cmp 0)

@@ -290,7 +290,7 @@ regrouped : (text rest more : List ℕ) (n : ℕ) → text ++ (rest ++ more) ≡
 regrouped text rest more n =
     ap (λ (xs : List ℕ). text ++ (xs ++ more)) (sym (take-append-drop n rest)) ∙ ap (λ (xs : List ℕ). text ++ xs) (append_assoc (take n rest) (drop n rest) more) ∙ sym (append_assoc text (take n rest) (drop n rest ++ more))
 
-abbrev pushed_by : ℕ → List ℕ → Talking → Talking
+abbrev pub pushed_by : ℕ → List ℕ → Talking → Talking
 pushed_by n rest t = record t { held = record t.held { text = t.held.text ++ take n rest } }
 
 owed_pushed : (n : ℕ) (r : Refused) (m : Machine) (t : Talking) (rest more : List ℕ) → owed r m t (rest ++ more) ≡ owed r m (pushed_by n rest t) (drop n rest ++ more)

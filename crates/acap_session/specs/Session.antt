@@ -38,12 +38,12 @@ is_asked stage.Closed = false
 
 -- the machine's answer to a command is said under its tag; want of memory and a full history are refusals, and a
 -- session whose seat isn't its own is closed
-abbrev pub told : Option (List ℕ) → Result Reply Fault → Next × Stage
-told tag (Ok reply) = says tag reply.said
-told tag (Err fault.Memory) = says tag (said.Refused refusals.Memory)
-told tag (Err fault.HistoryFull) = says tag (said.Refused refusals.HistoryFull)
-told tag (Err fault.NotEntered) = (next.Close [], stage.Closed)
-told tag (Err fault.AlreadyEntered) = (next.Close [], stage.Closed)
+abbrev pub replied : Option (List ℕ) → Result Reply Fault → Next × Stage
+replied tag (Ok reply) = says tag reply.said
+replied tag (Err fault.Memory) = says tag (said.Refused refusals.Memory)
+replied tag (Err fault.HistoryFull) = says tag (said.Refused refusals.HistoryFull)
+replied tag (Err fault.NotEntered) = (next.Close [], stage.Closed)
+replied tag (Err fault.AlreadyEntered) = (next.Close [], stage.Closed)
 
 -- that of a user's entering begins the session, or ends it without a word
 abbrev pub welcomed : Result Reply Fault → Next × Stage
@@ -52,7 +52,7 @@ welcomed (Err fault) = (next.Close [], stage.Closed)
 
 unfoldable pub answered : Stage → Result Reply Fault → Next × Stage
 answered stage.Entering outcome = welcomed outcome
-answered (stage.Asked tag) outcome = told tag outcome
+answered (stage.Asked tag) outcome = replied tag outcome
 answered stage.Opening outcome = (next.More, stage.Opening)
 answered stage.Ready outcome = (next.More, stage.Ready)
 answered stage.Closed outcome = (next.More, stage.Closed)

@@ -1,3 +1,5 @@
+//! What is said to what a session hears.
+
 ghost use Rattle.std.specs.Prelude.{◌≡◌, [], IfOk};
 ghost use Rattle.acap_grammar.specs.Grammar.{command_of};
 ghost use Rattle.acap_grammar.specs.Replies.{octets_of};
@@ -14,11 +16,14 @@ use acap_lexer::{Lexed, Tag, Tokens};
 use acap_machine::{Event, Fault};
 use std::alloc::Global;
 
+/// Most replies have no more octets than these.
+const REPLY_ROOM: usize = 64;
+
 // A reply as it is printed.
 fn printed(alloc: Global, reply: &Reply) -> Result<Octets, Memory>
     ensures { IfOk result (λ made. made ≡ octets_of reply.now) }
 {
-    let mut octets = Vec::new(alloc);
+    let mut octets = Vec::with_capacity(alloc, REPLY_ROOM)?;
     render(reply, &mut octets)?;
     Ok(Octets::from_vec(octets))
 }
@@ -131,19 +136,19 @@ fn copied(alloc: Global, tag: &Option<Tag>) -> Result<Option<Octets>, Memory>
 pub(crate) fn heard(
     alloc: Global,
     user: &Option<UserName>,
-    lexed: Lexed,
+    lexed: &Lexed,
 ) -> Result<(Next, Stage), Memory>
-    ensures { IfOk result (λ turn. turn ≡ hearing.heard user.now lexed) }
+    ensures { IfOk result (λ turn. turn ≡ hearing.heard user.now lexed.now) }
 {
     match lexed {
         Lexed::More => Ok((Next::More, Stage::Ready)),
         Lexed::Plus => Ok((Next::Say(ready_line(alloc)?), Stage::Ready)),
-        Lexed::Line(tokens) => heard_line(alloc, user, &tokens),
+        Lexed::Line(tokens) => heard_line(alloc, user, tokens),
         Lexed::Bad(fault, tag) => {
-            let tag = copied(alloc, &tag)?;
-            says(alloc, tag, Said::Refused(Refusal::from(fault)))
+            let tag = copied(alloc, tag)?;
+            says(alloc, tag, Said::Refused(Refusal::from(*fault)))
         }
-        Lexed::Fatal(fault) => closes(alloc, None, Said::Refused(Refusal::from(fault))),
+        Lexed::Fatal(fault) => closes(alloc, None, Said::Refused(Refusal::from(*fault))),
     }
 }
 
@@ -159,12 +164,12 @@ pub(crate) fn opening(alloc: Global, user: &Option<UserName>) -> Result<(Next, S
 }
 
 // The machine's answer to a command is said under its tag.
-fn told(
+fn replied(
     alloc: Global,
     tag: Option<Octets>,
     outcome: Result<Reply, Fault>,
 ) -> Result<(Next, Stage), Memory>
-    ensures { IfOk result (λ turn. turn ≡ talk.told tag outcome) }
+    ensures { IfOk result (λ turn. turn ≡ talk.replied tag outcome) }
 {
     match outcome {
         Ok(reply) => says(alloc, tag, reply.said),
@@ -205,7 +210,7 @@ pub(crate) fn answered(
 {
     match stage {
         Stage::Entering => welcomed(alloc, outcome),
-        Stage::Asked(tag) => told(alloc, tag, outcome),
+        Stage::Asked(tag) => replied(alloc, tag, outcome),
         Stage::Opening => Ok((Next::More, Stage::Opening)),
         Stage::Ready => Ok((Next::More, Stage::Ready)),
         Stage::Closed => Ok((Next::More, Stage::Closed)),

@@ -1,3 +1,5 @@
+//! What a session does next.
+
 use acap_entries::Octets;
 use acap_machine::Event;
 

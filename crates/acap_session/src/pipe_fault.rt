@@ -1,3 +1,5 @@
+//! Why a session between a reader and a writer ends.
+
 use acap_entries::Memory;
 
 /// Why a session between a reader and a writer could not go on.

@@ -1,5 +1,10 @@
+//! One session between a client and the machine.
+
 ghost use Rattle.std.specs.Prelude.{◌≡◌, ◌-◌, ◌++◌, [], true, None, min, length, take, IfOk, OnErr, Ok};
 ghost use Rattle.acap_lexer.specs.Holding.{held_limit};
+ghost use Rattle.acap_lexer.specs.Held.{next_of};
+ghost use Rattle.acap_lexer.specs.declared.mode.Mode.TheVariants as mode;
+ghost use Rattle.acap_session.specs.Hearing.{heard};
 ghost use Rattle.acap_session.specs.Session.{session_next, next_at, answered, is_asked};
 ghost use Rattle.acap_session.specs.declared.stage.Stage.TheVariants as stages;
 
@@ -8,10 +13,20 @@ use crate::next::Next;
 use crate::stage::Stage;
 use acap_entries::{Memory, Octets, UserName};
 use acap_grammar::Reply;
-use acap_lexer::{Lexer, Mode};
+use acap_lexer::{Lexed, Lexer, Mode};
 use acap_machine::Fault;
 use std::alloc::Global;
 use std::marker::Model;
+
+// Hands the memory of a line's tokens back to its lexer.
+fn hand_back(lexer: &mut Lexer, lexed: Lexed)
+    ensures { lexer.new ≡ lexer.old }
+{
+    match lexed {
+        Lexed::Line(tokens) => lexer.take_back(tokens),
+        _ => {}
+    }
+}
 
 /// A session between a client and the machine (RFC 2244 section 2): octets come in pieces, and it says what is next.
 /// It performs no event itself: it asks for one, and is given the machine's answer.
@@ -81,11 +96,23 @@ impl Session {
         ensures ok { IfOk result (λ next. (next, self.new) ≡ next_at stages.Ready self.old) }
         ensures err { OnErr result (self.new.stage ≡ stages.Closed) }
     {
-        let turn = match self.lexer.next(Mode::Command) {
-            Ok(lexed) => heard(self.alloc, &self.user, lexed),
-            Err(_) => Err(Memory),
-        };
+        let turn = self.heard_next();
         self.settle(turn)
+    }
+
+    // What is said to the lexer's next answer. The memory of a line's tokens is the next line's.
+    fn heard_next(&mut self) -> Result<(Next, Stage), Memory>
+        ensures turn { IfOk result (λ turn. turn ≡ heard self.old.user (next_of mode.Command self.old.held).0) }
+        ensures session { IfOk result (λ turn. self.new ≡ record self.old { held = (next_of mode.Command self.old.held).1 }) }
+    {
+        match self.lexer.next(Mode::Command) {
+            Ok(lexed) => {
+                let turn = heard(self.alloc, &self.user, &lexed);
+                hand_back(&mut self.lexer, lexed);
+                turn
+            }
+            Err(_) => Err(Memory),
+        }
     }
 
     // Comes to the stage that a turn leads to: where memory was refused the session is closed.

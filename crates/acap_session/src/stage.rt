@@ -1,3 +1,5 @@
+//! What a session is about to do.
+
 use acap_entries::Octets;
 
 /// What a session is about to do.

@@ -1,3 +1,5 @@
+//! What a turn of a session came to.
+
 /// What a turn of a session came to.
 #[derive(Clone, Copy, Debug, PartialEq, Eq)]
 pub(crate) enum Turn {

@@ -4,7 +4,7 @@ ghost use Rattle.std.specs.Prelude.{◌<◌};
 use acap_entries::makes_dataset;
 use acap_entries::split_path;
 use acap_entries::{
-    Attribute, Cell, Dataset, Memory, Moment, Octets, Path, Seat, Tree, UserName, Value,
+    Attribute, Boxed, Cell, Dataset, Memory, Moment, Octets, Path, Seat, Tree, UserName, Value,
 };
 use acap_grammar::{
     Command, Entries, Given, Key, Metadata, MetadataList, Reply, ReturnItem, ReturnName, Returns,
@@ -195,11 +195,12 @@ pub(crate) fn search(
         returns,
         ..SearchModifiers::none()
     };
-    Ok(Event::Command(Command::Search(Search {
+    let search = Search {
         target,
         modifiers,
         key: Key::one(Test::All),
-    })))
+    };
+    Ok(Event::Command(Command::Search(Boxed::new(alloc, search)?)))
 }
 
 // Whether a reply is printed so under A1.

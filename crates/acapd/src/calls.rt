@@ -1,3 +1,5 @@
+//! What the words of a call ask for.
+
 ghost use Rattle.std.specs.Prelude.{[], ◌∷◌, map, codes, string_bytes};
 ghost use Rattle.acapd.specs.Calls.{IsCall};
 

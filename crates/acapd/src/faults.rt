@@ -1,3 +1,5 @@
+//! What the program says of a fault or a wrong call.
+
 ghost use Rattle.std.specs.Io.KnownBytes.{Appends};
 ghost use Rattle.std.specs.Prelude.{◌≡◌, IfOk, OnOk, codes};
 ghost use Rattle.std.specs.Process.{exit_status};

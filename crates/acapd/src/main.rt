@@ -2,10 +2,10 @@
 #![tactic(auto)]
 
 mod calls;
-mod told;
+mod faults;
 
 use crate::calls::{Call, read_call};
-use crate::told::{refuse, tell};
+use crate::faults::{refuse, tell};
 use acap_session::run_pipe;
 use std::process::ExitCode;
 use std::{env, io};

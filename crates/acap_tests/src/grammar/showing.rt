@@ -457,7 +457,7 @@ fn show_command(command: &Command, out: &mut Vec<u8>) -> Result<(), Memory> {
             show_string(mechanism, out)
         }
         Command::Store(entries) => show_store(entries.as_slice(), out),
-        Command::Search(search) => show_search(search, out),
+        Command::Search(search) => show_search(search.get(), out),
         Command::SetAcl(object, identifier, rights) => {
             show_about(b"SETACL", object, out)?;
             show_string(identifier, out)?;
