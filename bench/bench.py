@@ -56,7 +56,7 @@ def line_of(piece, total=8000):
 
 
 def literals(count, length):
-    return (f"B FROB" + f" {{{length}+}}\r\n{'a' * length}" * count + "\r\n").encode("latin-1")
+    return ("B FROB" + f" {{{length}+}}\r\n{'a' * length}" * count + "\r\n").encode("latin-1")
 
 
 def inputs():
@@ -80,21 +80,22 @@ def inputs():
     for count in (1, 5):
         yield f"SEARCH of 10,000 entries, {count} attributes", "us", filled(10_000, count), lines([search(count)] * 40), 40
     yield "SEARCH of 2,000 rows of 1,000 octets", "us", filled(2000, 1, 1000), lines([search(1)] * 80), 80
-    mega = lambda octets: len(octets) / 1e6
     for name, octets in (
         ("short tokens", line_of(" ab (cd ef) ghi") * 2500),
         ("strings of 1,000 octets, quoted", line_of(' "' + "abcdefghi " * 100 + '"') * 5000),
         ("strings of 1,000 octets, an escape in twenty", line_of(' "' + 'abcdefghi abcdefgh\\"' * 50 + '"') * 2500),
         ("strings of 1,000 octets, literals", literals(7, 1000) * 5000),
     ):
-        yield f"octets of {name}", "ns", b"", octets, len(octets) / 1
+        yield f"octets of {name}", "ns", b"", octets, len(octets)
 
 
 def memory_inputs():
-    yield "octets an entry, 60,000 of one attribute", filled(60_000, 1), 60_000
-    yield "octets an entry, 10,000 of ten attributes", filled(10_000, 10), 10_000
+    """A name, an input and one with more entries, if that is what is measured, and how many more."""
+    single = lambda numbers: lines(one(f"e{i:06}", "value") for i in numbers)
+    yield "octets an entry, the second 30,000 of 60,000, one attribute", single(range(30_000)), single(range(60_000)), 30_000
+    yield "octets an entry, the second 10,000 of 20,000, ten attributes", filled(10_000, 10), filled(20_000, 10), 10_000
     search = lines(['SEARCH "/option/~/" RETURN ("option.a0") ALL'] * 100)
-    yield "peak octets, 100 SEARCHes of 10,000 entries in one piece", filled(10_000, 1) + search, 1
+    yield "peak octets, 100 SEARCHes of 10,000 entries at once", None, filled(10_000, 1) + search, 1
 
 
 def allocation_inputs():
@@ -106,14 +107,35 @@ def allocation_inputs():
 # ---- runs
 
 def run(program, file, out=os.devnull, **env):
-    """Processor seconds and the greatest memory in octets of one run."""
+    """Processor seconds of one run."""
     with open(file, "rb") as given, open(out, "wb") as taken:
         child = subprocess.Popen([program, "pipe", USER], stdin=given, stdout=taken, env={**os.environ, **env})
         _, status, used = os.wait4(child.pid, 0)
         child.returncode = os.waitstatus_to_exitcode(status)
     if child.returncode:
         sys.exit(f"{program} ended with status {child.returncode} on {file}")
-    return used.ru_utime + used.ru_stime, used.ru_maxrss * 1024
+    return used.ru_utime + used.ru_stime
+
+
+# What a run takes is told from the memory that its parent had, so a small parent is needed.
+PEAK = """
+import os, sys
+program, user, file = sys.argv[1:]
+given = (os.POSIX_SPAWN_OPEN, 0, file, os.O_RDONLY, 0)
+taken = (os.POSIX_SPAWN_OPEN, 1, os.devnull, os.O_WRONLY, 0)
+child = os.posix_spawn(program, [program, "pipe", user], os.environ, file_actions=[given, taken])
+print(os.wait4(child, 0)[2].ru_maxrss * 1024)
+"""
+
+
+def peak(program, octets, folder):
+    """The most memory of one run, in octets."""
+    file = f"{folder}/peak_in"
+    with open(file, "wb") as it:
+        it.write(octets)
+    words = [sys.executable, "-S", "-c", PEAK, program, USER, file]
+    told = subprocess.run(words, stdout=subprocess.PIPE, check=True)
+    return int(told.stdout)
 
 
 def least(programs, files, rounds):
@@ -122,7 +144,7 @@ def least(programs, files, rounds):
     for _ in range(rounds):
         for i, program in enumerate(programs):
             for j, file in enumerate(files):
-                times[i][j] = min(times[i][j], run(program, file)[0])
+                times[i][j] = min(times[i][j], run(program, file))
     return times
 
 
@@ -208,12 +230,10 @@ def main():
             times = least(programs, [ready, whole], given.rounds)
             scale = {"us": 1e6, "ns": 1e9}[unit]
             shown(name, [(all_ - before) * scale / count for before, all_ in times], unit)
-        for name, octets, count in memory_inputs():
+        for name, few, many, count in memory_inputs():
             if given.only not in name:
                 continue
-            with open(whole, "wb") as it:
-                it.write(octets)
-            peaks = [run(it, whole)[1] - (run(it, nothing)[1] if count > 1 else 0) for it in programs]
+            peaks = [peak(it, many, folder) - (peak(it, few, folder) if few else 0) for it in programs]
             shown(name, [it / count for it in peaks], "octets", 0)
         if given.only in "allocations":
             count_allocations(programs, folder)
