@@ -1,0 +1,10 @@
+//! What searches tell of entries (RFC 2244 section 6.4.1): what a user may see of an entry, and whether a key wants it.
+#![tactic(auto)]
+
+mod looking;
+mod matching;
+mod viewer;
+
+pub use looking::{Shown, look, sees};
+pub use matching::matches;
+pub use viewer::Viewer;
