@@ -1,5 +1,5 @@
 -- What a RETURN tells of an entry, of what is seen of it [RFC 2244 sections 3.1.2 and 6.4.1].
-use Rattle.std.specs.Prelude.{ℕ, ◌&&◌, not, nat_eq, List, [], ◌∷◌, ◌++◌, length, decimal, codes, Option, Some, None, if◌then◌else◌, map as each}
+use Rattle.std.specs.Prelude.{ℕ, Bool, true, ◌&&◌, not, nat_eq, List, [], ◌∷◌, ◌++◌, length, decimal, codes, Option, Some, None, if◌then◌else◌, map as each}
 use Rattle.std.specs.FinMap as map
 use Rattle.std.specs.List.{starts_with}
 use Rattle.acap_entries.specs.Orders.{octets_cmp}
@@ -19,8 +19,11 @@ use Rattle.acap_rights.specs.Rights.{letters_of}
 use Rattle.acap_search.specs.Sight.{Answers, is_nil}
 
 -- how many octets a string has, in decimal digits
+abbrev pub digits : ℕ → List ℕ
+digits count = decimal count
+
 abbrev pub size_of : List ℕ → List ℕ
-size_of text = decimal (length text)
+size_of text = digits (length text)
 
 -- NIL has no size, and a list that of each of its strings
 abbrev pub sizes_of : Cell → Cell
@@ -41,7 +44,7 @@ datum answers attribute metadata.MyRights = Single (letters_of (answers.rights a
 datum answers attribute metadata.Size = sizes_of (answers.read attribute)
 datum answers attribute metadata.Value = answers.read attribute
 
-abbrev pub data_of : Answers → List Metadata → List ℕ → List Cell
+unfoldable pub data_of : Answers → List Metadata → List ℕ → List Cell
 data_of answers wanted attribute = each (datum answers attribute) wanted
 
 -- one datum stands bare, several in one parenthesis
@@ -50,16 +53,20 @@ gathered [] = Several []
 gathered (cell ∷ []) = One cell
 gathered (cell ∷ second ∷ cells) = Several (cell ∷ second ∷ cells)
 
--- the attributes that begin with some octets and have a value that is seen, in the order of their octets, found among some
-abbrev pub put_star : (List ℕ → Cell) → List ℕ → List ℕ → map.FinMap octets_cmp Cell → map.FinMap octets_cmp Cell
-put_star read front attribute stars =
-    if starts_with nat_eq attribute front && not (is_nil (read attribute)) then map.insert stars attribute (read attribute) else stars
+-- a set of names, as the map that has `true` at each of them
+abbrev pub Names : Type 0
+Names = map.FinMap octets_cmp Bool
 
-abbrev pub stars_from : (List ℕ → Cell) → List ℕ → List (List ℕ) → map.FinMap octets_cmp Cell → map.FinMap octets_cmp Cell
+-- the attributes that begin with some octets and have a value that is seen, in the order of their octets, found among some
+abbrev pub put_star : (List ℕ → Cell) → List ℕ → List ℕ → Names → Names
+put_star read front attribute stars =
+    if starts_with nat_eq attribute front && not (is_nil (read attribute)) then map.insert stars attribute true else stars
+
+abbrev pub stars_from : (List ℕ → Cell) → List ℕ → List (List ℕ) → Names → Names
 stars_from read front [] stars = stars
 stars_from read front (attribute ∷ rest) stars = stars_from read front rest (put_star read front attribute stars)
 
-unfoldable pub stars_of : (List ℕ → Cell) → List (List ℕ) → List ℕ → map.FinMap octets_cmp Cell
+unfoldable pub stars_of : (List ℕ → Cell) → List (List ℕ) → List ℕ → Names
 stars_of read names front = stars_from read front names map.empty
 
 -- among which they all are: the attributes that every entry has, and those of its records along a chain
@@ -75,10 +82,10 @@ abbrev pub attributes_at : Stored → List ℕ → List (List ℕ) → List (Lis
 attributes_at records name chain = codes "entry" ∷ codes "modtime" ∷ attributes_on records name chain
 
 -- what one item of RETURN tells
-abbrev pub item_of : Answers → (List ℕ → map.FinMap octets_cmp Cell) → ReturnName → List Metadata → Item
+abbrev pub item_of : Answers → (List ℕ → Names) → ReturnName → List Metadata → Item
 item_of answers stars (name.Named attribute) wanted = gathered (data_of answers wanted attribute)
 item_of answers stars (name.Beginning front) wanted = PerAttribute (each (data_of answers wanted) (map.keys (stars front)))
 
 -- what a RETURN tells
-abbrev pub items_of : Answers → (List ℕ → map.FinMap octets_cmp Cell) → List ReturnItem → List Item
+abbrev pub items_of : Answers → (List ℕ → Names) → List ReturnItem → List Item
 items_of answers stars returns = each (λ item. item_of answers stars item.name item.metadata) returns

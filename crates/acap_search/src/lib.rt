@@ -3,8 +3,10 @@
 
 mod looking;
 mod matching;
+mod rows;
 mod viewer;
 
 pub use looking::{Shown, look, sees};
 pub use matching::matches;
+pub use rows::items_of;
 pub use viewer::Viewer;

@@ -47,6 +47,18 @@ fn only_if(value: Lent<'_>, test: bool) -> Option<Lent<'_>>
     if test { Some(value) } else { None }
 }
 
+/// Whether nothing is there.
+pub(crate) fn is_nil(value: Option<Lent<'_>>) -> bool
+    ensures { result ≡ rule.is_nil (shown.cell_of value.entry) }
+{
+    match value {
+        Some(Lent::Single(_)) => false,
+        Some(Lent::Stamp(_)) => false,
+        Some(Lent::Multi(_)) => false,
+        None => true,
+    }
+}
+
 /// What a user sees of an attribute of an entry. Takes no memory.
 pub fn look<'a, R: Records>(by: &Viewer<'a, R>, name: &'a [u8], attribute: &[u8]) -> Shown<'a>
     ensures read { shown.cell_of result.read ≡ (rule.answers_at (R.store by.now.records.now).records by.now.realm.now by.now.user.now by.now.dataset.now by.now.chain name.now).read attribute.now }

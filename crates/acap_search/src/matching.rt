@@ -5,7 +5,7 @@ ghost use Rattle.acap_search.specs.Keys as rule;
 ghost use Rattle.acap_search.specs.Shown as shown;
 ghost use Rattle.acap_search.specs.Sight as sight;
 
-use crate::looking::look;
+use crate::looking::{is_nil, look};
 use crate::viewer::Viewer;
 use acap_entries::{Records, Value};
 use acap_grammar::{Key, Node, Relation, Test};
@@ -81,18 +81,6 @@ fn tested<'a, R: Records>(
 {
     let seen = look(by, name, attribute);
     if by_octets { seen.test } else { seen.read }
-}
-
-// Whether nothing is there.
-fn is_nil(value: Option<Lent<'_>>) -> bool
-    ensures { result ≡ sight.is_nil (shown.cell_of value.entry) }
-{
-    match value {
-        Some(Lent::Single(_)) => false,
-        Some(Lent::Stamp(_)) => false,
-        Some(Lent::Multi(_)) => false,
-        None => true,
-    }
 }
 
 // Whether a position is one from the first to the last.
