@@ -1,0 +1,9 @@
+use Rattle.std.proofs.Common.{◌≡◌, drop, map}
+use Rattle.acap_search.specs.Rows.{stars_from}
+use Rattle.acap_search.specs.Sight.{answers_at}
+use Rattle.acap_search.proofs.rows.add_stars.Given as goal
+
+abbrev pub invariant-loop-attribute : goal.invariant-loop-attribute
+invariant-loop-attribute g l =
+    stars_from (answers_at (g.R.Records.store l.by.records.now).records l.by.realm.now l.by.user.now l.by.dataset.now l.by.chain l.name).read l.front (map (λ e. e.0) (drop l.attribute-index l.attribute-items)) l.stars
+    ≡ stars_from (answers_at (g.R.Records.store l.by.records.now).records l.by.realm.now l.by.user.now l.by.dataset.now l.by.chain l.name).read l.front (map (λ e. e.0) l.attribute-items) l.initial.stars

@@ -1,0 +1,96 @@
+//! What is seen of an attribute.
+ghost use Rattle.std.specs.Prelude.{◌≡◌, None, if◌then◌else◌};
+ghost use Rattle.acap_entries.specs.declared.cell.Cell.TheVariants.{Nil};
+ghost use Rattle.acap_inherit.specs.Values as lent;
+ghost use Rattle.acap_search.specs.Sight as rule;
+ghost use Rattle.acap_search.specs.Shown as shown;
+
+use crate::viewer::Viewer;
+use acap_entries::Records;
+use acap_inherit::{Found, Lent, resolve};
+use acap_rights::{Object, Rights, rights_of};
+
+/// What a user sees of an attribute of an entry, as it is lent: nothing is copied (RFC 2244 section 3.5).
+#[derive(Clone, Copy, Debug)]
+pub struct Shown<'a> {
+    /// Its value where the user may read it, else none.
+    pub read: Option<Lent<'a>>,
+    /// Its value where the user may test or read it, else none.
+    pub test: Option<Lent<'a>>,
+    /// Whether the user may read what it has, be it NIL.
+    pub is_readable: bool,
+    /// The user's rights on it in the searched dataset.
+    pub rights: Rights,
+}
+
+// The user's rights on an attribute of an entry, in some dataset.
+fn rights_on<R: Records>(
+    by: &Viewer<'_, R>,
+    dataset: &[u8],
+    attribute: &[u8],
+    name: &[u8],
+) -> Rights
+    ensures { result ≡ rule.rights_on (R.store by.now.records.now).records by.now.realm.now by.now.user.now attribute.now name.now dataset.now }
+{
+    let object = Object::Entry {
+        dataset,
+        attribute,
+        name,
+    };
+    rights_of(by.records, by.realm, by.user, &object)
+}
+
+// The value where the test holds.
+fn only_if(value: Lent<'_>, test: bool) -> Option<Lent<'_>>
+    ensures { shown.cell_of result ≡ (if test then lent.cell_of value.entry else Nil) }
+{
+    if test { Some(value) } else { None }
+}
+
+/// Whether nothing is there.
+pub(crate) fn is_nil(value: Option<Lent<'_>>) -> bool
+    ensures { result ≡ rule.is_nil (shown.cell_of value.entry) }
+{
+    match value {
+        Some(Lent::Single(_)) => false,
+        Some(Lent::Stamp(_)) => false,
+        Some(Lent::Multi(_)) => false,
+        None => true,
+    }
+}
+
+/// What a user sees of an attribute of an entry. Takes no memory.
+pub fn look<'a, R: Records>(by: &Viewer<'a, R>, name: &'a [u8], attribute: &[u8]) -> Shown<'a>
+    ensures read { shown.cell_of result.read ≡ (rule.answers_at (R.store by.now.records.now).records by.now.realm.now by.now.user.now by.now.dataset.now by.now.chain name.now).read attribute.now }
+    ensures test { shown.cell_of result.test ≡ (rule.answers_at (R.store by.now.records.now).records by.now.realm.now by.now.user.now by.now.dataset.now by.now.chain name.now).test attribute.now }
+    ensures rights { result.rights ≡ (rule.answers_at (R.store by.now.records.now).records by.now.realm.now by.now.user.now by.now.dataset.now by.now.chain name.now).rights attribute.now }
+    ensures acl { (if result.is_readable then rule.own_acl (R.store by.now.records.now).records by.now.dataset.now name.now attribute.now else None) ≡ (rule.answers_at (R.store by.now.records.now).records by.now.realm.now by.now.user.now by.now.dataset.now by.now.chain name.now).acl attribute.now }
+{
+    let rights = rights_on(by, by.dataset, attribute, name);
+    match resolve(by.records, &by.chain, name, attribute) {
+        Found::At { dataset, value } => {
+            let there = rights_on(by, dataset, attribute, name);
+            let is_readable = rights.r && there.r;
+            let is_testable = (rights.x || rights.r) && (there.x || there.r);
+            Shown {
+                read: only_if(value, is_readable),
+                test: only_if(value, is_testable),
+                is_readable,
+                rights,
+            }
+        }
+        Found::Nil => Shown {
+            read: None,
+            test: None,
+            is_readable: rights.r,
+            rights,
+        },
+    }
+}
+
+/// Whether the user sees an entry at all: whether its name may be read. Takes no memory.
+pub fn sees<'a, R: Records>(by: &Viewer<'a, R>, name: &'a [u8]) -> bool
+    ensures { result ≡ rule.is_seen (rule.answers_at (R.store by.now.records.now).records by.now.realm.now by.now.user.now by.now.dataset.now by.now.chain name.now) }
+{
+    look(by, name, b"entry").read.is_some()
+}

@@ -1,0 +1,139 @@
+//! Whether a key wants an entry.
+ghost use Rattle.std.specs.Prelude.{◌≡◌};
+ghost use Rattle.std.specs.List.{list_any};
+ghost use Rattle.acap_search.specs.Keys as rule;
+ghost use Rattle.acap_search.specs.Shown as shown;
+ghost use Rattle.acap_search.specs.Sight as sight;
+
+use crate::looking::{is_nil, look};
+use crate::viewer::Viewer;
+use acap_entries::{Records, Value};
+use acap_grammar::{Key, Node, Relation, Test};
+use acap_inherit::Lent;
+use acap_order::{Collation, Comparator};
+
+// How a string stands to the string of a key.
+fn stands_so(relation: Relation, comparator: &Comparator, wanted: &[u8], text: &[u8]) -> bool
+    ensures { result ≡ rule.stands_so relation comparator.now wanted.now text.now }
+{
+    match relation {
+        Relation::Equal => comparator.equal(text, wanted),
+        Relation::AtLeast => comparator.cmp(text, wanted).is_ge(),
+        Relation::Greater => comparator.cmp(text, wanted).is_gt(),
+        Relation::Begins => !comparator.is_numeric() && comparator.prefix(text, wanted),
+        Relation::Contains => !comparator.is_numeric() && comparator.substring(text, wanted),
+    }
+}
+
+// Whether one of some strings stands so.
+fn any_stands_so(
+    relation: Relation,
+    comparator: &Comparator,
+    wanted: &[u8],
+    texts: &[Value],
+) -> bool
+    ensures { result ≡ list_any (rule.stands_so relation comparator.now wanted.now) texts.now }
+{
+    texts.iter().any(|text| stands_so(relation, comparator, wanted, text.as_slice()))
+}
+
+// Whether a value stands so: a list does where one of its strings does.
+fn meets(
+    value: Option<Lent<'_>>,
+    relation: Relation,
+    comparator: &Comparator,
+    wanted: &[u8],
+) -> bool
+    ensures { result ≡ rule.some_text (rule.stands_so relation comparator.now wanted.now) (shown.cell_of value.entry) }
+{
+    match value {
+        Some(Lent::Single(text)) => stands_so(relation, comparator, wanted, text),
+        Some(Lent::Stamp(digits)) => stands_so(relation, comparator, wanted, &digits),
+        Some(Lent::Multi(texts)) => {
+            any_stands_so(relation, comparator, wanted, texts.as_slice())
+        }
+        None => false,
+    }
+}
+
+// Whether strings are compared by their octets, whatever the sign.
+fn is_octet(comparator: &Comparator) -> bool
+    ensures { result ≡ rule.is_octet comparator.now.collation }
+{
+    matches!(comparator.collation, Collation::Octet)
+}
+
+// Whether the relation is that of EQUAL.
+fn is_equal(relation: Relation) -> bool
+    ensures { result ≡ rule.is_equal relation }
+{
+    matches!(relation, Relation::Equal)
+}
+
+// What is tested of an attribute: where octets are to be equal that which may be tested, else that which may be read.
+fn tested<'a, R: Records>(
+    by: &Viewer<'a, R>,
+    name: &'a [u8],
+    attribute: &[u8],
+    by_octets: bool,
+) -> Option<Lent<'a>>
+    ensures { shown.cell_of result ≡ rule.tested by_octets (sight.answers_at (R.store by.now.records.now).records by.now.realm.now by.now.user.now by.now.dataset.now by.now.chain name.now) attribute.now }
+{
+    let seen = look(by, name, attribute);
+    if by_octets { seen.test } else { seen.read }
+}
+
+// Whether a position is one from the first to the last.
+fn is_within(first: u32, last: u32, place: Option<u32>) -> bool
+    ensures { result ≡ rule.is_within first last place }
+{
+    match place {
+        Some(position) => first <= position && position <= last,
+        None => false,
+    }
+}
+
+// Whether an entry passes one test.
+fn passes<'a, R: Records>(
+    by: &Viewer<'a, R>,
+    name: &'a [u8],
+    test: &Test,
+    place: Option<u32>,
+) -> bool
+    ensures { result ≡ rule.passes test.now place (sight.answers_at (R.store by.now.records.now).records by.now.realm.now by.now.user.now by.now.dataset.now by.now.chain name.now) }
+{
+    match test {
+        Test::All => true,
+        Test::IsNil(attribute, comparator) => {
+            is_nil(tested(by, name, attribute.as_slice(), is_octet(comparator)))
+        }
+        Test::Meets(relation, attribute, comparator, wanted) => {
+            let by_octets = is_equal(*relation) && is_octet(comparator);
+            let value = tested(by, name, attribute.as_slice(), by_octets);
+            meets(value, *relation, comparator, wanted.as_slice())
+        }
+        Test::Range(first, last, _) => is_within(*first, *last, place),
+    }
+}
+
+/// Whether a key wants an entry, by what the user sees of it (RFC 2244 section 6.4.1). The place is the entry's position in
+/// the context that is searched, and none over a dataset; RANGE asks for it, and is false where there is none. Takes no memory.
+pub fn matches<'a, R: Records>(
+    by: &Viewer<'a, R>,
+    name: &'a [u8],
+    key: &Key,
+    place: Option<u32>,
+) -> bool
+    ensures { result ≡ rule.holds key.now place (sight.answers_at (R.store by.now.records.now).records by.now.realm.now by.now.user.now by.now.dataset.now by.now.chain name.now) }
+{
+    match key.node() {
+        Node::One(test) => passes(by, name, test, place),
+        Node::And(first, second) => {
+            matches(by, name, first, place) && matches(by, name, second, place)
+        }
+        Node::Or(first, second) => {
+            matches(by, name, first, place) || matches(by, name, second, place)
+        }
+        Node::Not(key) => !matches(by, name, key, place),
+    }
+}

@@ -1,0 +1,284 @@
+//! What a RETURN tells of an entry.
+ghost use Rattle.std.specs.Prelude.{◌≡◌, IfOk, OnOk, None, if◌then◌else◌, map as each};
+ghost use Rattle.std.specs.FinMap as map;
+ghost use Rattle.acap_inherit.specs.Records.{record_at};
+ghost use Rattle.acap_search.specs.Rows as rule;
+ghost use Rattle.acap_search.specs.Shown as shown;
+ghost use Rattle.acap_search.specs.Sight as sight;
+
+use crate::looking::{is_nil, look};
+use crate::viewer::Viewer;
+use acap_entries::{
+    Attribute, Cell, CellList, CellLists, Cells, Copying, Item, Items, Memory, Records, Table,
+    Value, Values,
+};
+use acap_grammar::{Metadata, ReturnItem, ReturnName};
+use acap_inherit::Lent;
+use std::alloc::Global;
+
+// A number in decimal digits.
+fn digits_of(alloc: Global, count: usize) -> Result<Value, Memory>
+    ensures { IfOk result (λ made. made ≡ rule.digits count) }
+{
+    let digits = count.to_string(alloc)?;
+    Value::from_slice(alloc, digits.as_bytes())
+}
+
+// How many octets each of some strings has.
+fn list_sizes(alloc: Global, texts: &[Value]) -> Result<Values, Memory>
+    ensures { IfOk result (λ made. made ≡ each rule.size_of texts.now) }
+{
+    let mut made = Values::new(alloc);
+    for text in texts {
+        made.push(digits_of(alloc, text.as_slice().len())?)?;
+    }
+    Ok(made)
+}
+
+// How many octets a value has.
+fn sizes_of(alloc: Global, value: Option<Lent<'_>>) -> Result<Cell, Memory>
+    ensures { IfOk result (λ cell. cell ≡ rule.sizes_of (shown.cell_of value.entry)) }
+{
+    match value {
+        Some(Lent::Single(text)) => Ok(Cell::Single(digits_of(alloc, text.len())?)),
+        Some(Lent::Stamp(digits)) => Ok(Cell::Single(digits_of(alloc, digits.len())?)),
+        Some(Lent::Multi(texts)) => Ok(Cell::Multi(list_sizes(alloc, texts.as_slice())?)),
+        None => Ok(Cell::Nil),
+    }
+}
+
+// A value in memory of its own.
+fn value_of(alloc: Global, value: Option<Lent<'_>>) -> Result<Cell, Memory>
+    ensures { IfOk result (λ cell. cell ≡ shown.cell_of value.entry) }
+{
+    match value {
+        Some(Lent::Single(text)) => Ok(Cell::Single(Value::from_slice(alloc, text)?)),
+        Some(Lent::Stamp(digits)) => Ok(Cell::Single(Value::from_slice(alloc, &digits)?)),
+        Some(Lent::Multi(texts)) => Ok(Cell::Multi(texts.copy()?)),
+        None => Ok(Cell::Nil),
+    }
+}
+
+// The list of an attribute in the record of the searched dataset, if there is one.
+fn acl_of<R: Records>(by: &Viewer<'_, R>, name: &[u8], attribute: &[u8]) -> Result<Cell, Memory>
+    ensures { IfOk result (λ cell. cell ≡ rule.list_cell (sight.own_acl (R.store by.now.records.now).records by.now.dataset.now name.now attribute.now)) }
+{
+    match by.records.find(by.dataset, name) {
+        Some(record) => match record.acls.find(attribute) {
+            Some(list) => Ok(Cell::Multi(list.copy()?)),
+            None => Ok(Cell::Nil),
+        },
+        None => Ok(Cell::Nil),
+    }
+}
+
+// The same where it is seen.
+fn seen_acl<R: Records>(
+    by: &Viewer<'_, R>,
+    name: &[u8],
+    attribute: &[u8],
+    is_readable: bool,
+) -> Result<Cell, Memory>
+    ensures { IfOk result (λ cell. cell ≡ rule.list_cell (if is_readable then sight.own_acl (R.store by.now.records.now).records by.now.dataset.now name.now attribute.now else None)) }
+{
+    if is_readable {
+        acl_of(by, name, attribute)
+    } else {
+        Ok(Cell::Nil)
+    }
+}
+
+// What is told of an attribute.
+fn datum<'a, R: Records>(
+    alloc: Global,
+    by: &Viewer<'a, R>,
+    name: &'a [u8],
+    attribute: &[u8],
+    wanted: Metadata,
+) -> Result<Cell, Memory>
+    ensures { IfOk result (λ cell. cell ≡ rule.datum (sight.answers_at (R.store by.now.records.now).records by.now.realm.now by.now.user.now by.now.dataset.now by.now.chain name.now) attribute.now wanted) }
+{
+    let seen = look(by, name, attribute);
+    match wanted {
+        Metadata::Acl => seen_acl(by, name, attribute, seen.is_readable),
+        Metadata::Attribute => Ok(Cell::Single(Value::from_slice(alloc, attribute)?)),
+        Metadata::MyRights => Ok(Cell::Single(seen.rights.letters(alloc)?)),
+        Metadata::Size => sizes_of(alloc, seen.read),
+        Metadata::Value => value_of(alloc, seen.read),
+    }
+}
+
+// What is told of an attribute for each metadata.
+#[tactic(auto, unfolding(crate::specs::Rows::data_of))]
+fn data_of<'a, R: Records>(
+    alloc: Global,
+    by: &Viewer<'a, R>,
+    name: &'a [u8],
+    attribute: &[u8],
+    wanted: &[Metadata],
+) -> Result<CellList, Memory>
+    ensures { IfOk result (λ cells. cells ≡ rule.data_of (sight.answers_at (R.store by.now.records.now).records by.now.realm.now by.now.user.now by.now.dataset.now by.now.chain name.now) wanted.now attribute.now) }
+{
+    let mut cells = CellList::new(alloc);
+    for metadata in wanted {
+        cells.push(datum(alloc, by, name, attribute, *metadata)?)?;
+    }
+    Ok(cells)
+}
+
+// Adds an attribute that begins with some octets and has a value that is seen.
+fn add_star<'a, R: Records>(
+    alloc: Global,
+    by: &Viewer<'a, R>,
+    name: &'a [u8],
+    front: &[u8],
+    attribute: &[u8],
+    stars: &mut Table<bool>,
+) -> Result<(), Memory>
+    ensures { OnOk result (stars.new ≡ rule.put_star (sight.answers_at (R.store by.now.records.now).records by.now.realm.now by.now.user.now by.now.dataset.now by.now.chain name.now).read front.now attribute.now stars.old) }
+{
+    if attribute.starts_with(front) && !is_nil(look(by, name, attribute).read) {
+        stars.set(Attribute::from_slice(alloc, attribute)?, true)?;
+    }
+    Ok(())
+}
+
+// Adds those of the attributes for which cells are kept.
+fn add_stars<'a, R: Records>(
+    alloc: Global,
+    by: &Viewer<'a, R>,
+    name: &'a [u8],
+    front: &[u8],
+    cells: &Cells,
+    stars: &mut Table<bool>,
+) -> Result<(), Memory>
+    ensures { OnOk result (stars.new ≡ rule.stars_from (sight.answers_at (R.store by.now.records.now).records by.now.realm.now by.now.user.now by.now.dataset.now by.now.chain name.now).read front.now (map.keys cells.now) stars.old) }
+{
+    for (attribute, _) in cells.entries() {
+        add_star(alloc, by, name, front, attribute.as_slice(), stars)?;
+    }
+    Ok(())
+}
+
+// Adds those of the attributes in the record of one dataset.
+fn add_record_stars<'a, R: Records>(
+    alloc: Global,
+    by: &Viewer<'a, R>,
+    name: &'a [u8],
+    front: &[u8],
+    dataset: &[u8],
+    stars: &mut Table<bool>,
+) -> Result<(), Memory>
+    ensures { OnOk result (stars.new ≡ rule.stars_from (sight.answers_at (R.store by.now.records.now).records by.now.realm.now by.now.user.now by.now.dataset.now by.now.chain name.now).read front.now (rule.attributes_in (record_at (R.store by.now.records.now).records dataset.now name.now)) stars.old) }
+{
+    match by.records.find(dataset, name) {
+        Some(record) => add_stars(alloc, by, name, front, &record.cells, stars),
+        None => Ok(()),
+    }
+}
+
+// Adds those of the attributes in the records along the chain.
+fn add_chain_stars<'a, R: Records>(
+    alloc: Global,
+    by: &Viewer<'a, R>,
+    name: &'a [u8],
+    front: &[u8],
+    stars: &mut Table<bool>,
+) -> Result<(), Memory>
+    ensures { OnOk result (stars.new ≡ rule.stars_from (sight.answers_at (R.store by.now.records.now).records by.now.realm.now by.now.user.now by.now.dataset.now by.now.chain name.now).read front.now (rule.attributes_on (R.store by.now.records.now).records name.now by.now.chain) stars.old) }
+{
+    for dataset in by.chain.names() {
+        add_record_stars(alloc, by, name, front, dataset, stars)?;
+    }
+    Ok(())
+}
+
+// The attributes that begin with some octets and have a value that is seen.
+#[tactic(auto, unfolding(crate::specs::Rows::stars_of))]
+fn stars_of<'a, R: Records>(
+    alloc: Global,
+    by: &Viewer<'a, R>,
+    name: &'a [u8],
+    front: &[u8],
+) -> Result<Table<bool>, Memory>
+    ensures { IfOk result (λ stars. stars ≡ rule.stars_of (sight.answers_at (R.store by.now.records.now).records by.now.realm.now by.now.user.now by.now.dataset.now by.now.chain name.now).read (rule.attributes_at (R.store by.now.records.now).records name.now by.now.chain) front.now) }
+{
+    let mut stars = Table::new(alloc);
+    add_star(alloc, by, name, front, b"entry", &mut stars)?;
+    add_star(alloc, by, name, front, b"modtime", &mut stars)?;
+    add_chain_stars(alloc, by, name, front, &mut stars)?;
+    Ok(stars)
+}
+
+// What is told of each of some attributes.
+fn lists_of<'a, R: Records>(
+    alloc: Global,
+    by: &Viewer<'a, R>,
+    name: &'a [u8],
+    stars: &Table<bool>,
+    wanted: &[Metadata],
+) -> Result<CellLists, Memory>
+    ensures { IfOk result (λ lists. lists ≡ each (rule.data_of (sight.answers_at (R.store by.now.records.now).records by.now.realm.now by.now.user.now by.now.dataset.now by.now.chain name.now) wanted.now) (map.keys stars.now)) }
+{
+    let mut lists = CellLists::new(alloc);
+    for (attribute, _) in stars.entries() {
+        lists.push(data_of(alloc, by, name, attribute.as_slice(), wanted)?)?;
+    }
+    Ok(lists)
+}
+
+// What is told of one attribute: one datum bare, several in one parenthesis.
+#[tactic(auto, unfolding(crate::specs::Rows::data_of))]
+fn named_item<'a, R: Records>(
+    alloc: Global,
+    by: &Viewer<'a, R>,
+    name: &'a [u8],
+    attribute: &[u8],
+    wanted: &[Metadata],
+) -> Result<Item, Memory>
+    ensures { IfOk result (λ item. item ≡ rule.gathered (rule.data_of (sight.answers_at (R.store by.now.records.now).records by.now.realm.now by.now.user.now by.now.dataset.now by.now.chain name.now) wanted.now attribute.now)) }
+{
+    match wanted {
+        [] => Ok(Item::Several(CellList::new(alloc))),
+        [metadata] => Ok(Item::One(datum(alloc, by, name, attribute, *metadata)?)),
+        [_, _, ..] => Ok(Item::Several(data_of(alloc, by, name, attribute, wanted)?)),
+    }
+}
+
+// What one item of RETURN tells.
+fn item_of<'a, R: Records>(
+    alloc: Global,
+    by: &Viewer<'a, R>,
+    name: &'a [u8],
+    asked: &ReturnItem,
+) -> Result<Item, Memory>
+    ensures { IfOk result (λ item. item ≡ rule.item_of (sight.answers_at (R.store by.now.records.now).records by.now.realm.now by.now.user.now by.now.dataset.now by.now.chain name.now) (rule.stars_of (sight.answers_at (R.store by.now.records.now).records by.now.realm.now by.now.user.now by.now.dataset.now by.now.chain name.now).read (rule.attributes_at (R.store by.now.records.now).records name.now by.now.chain)) asked.now.name asked.now.metadata) }
+{
+    let wanted = asked.metadata.as_slice();
+    match &asked.name {
+        ReturnName::Named(attribute) => {
+            named_item(alloc, by, name, attribute.as_slice(), wanted)
+        }
+        ReturnName::Beginning(front) => {
+            let stars = stars_of(alloc, by, name, front.as_slice())?;
+            Ok(Item::PerAttribute(lists_of(alloc, by, name, &stars, wanted)?))
+        }
+    }
+}
+
+/// What a RETURN tells of an entry, by what the user sees of it (RFC 2244 section 6.4.1): an item for each of its items. Fails
+/// only for want of memory.
+pub fn items_of<'a, R: Records>(
+    alloc: Global,
+    by: &Viewer<'a, R>,
+    name: &'a [u8],
+    returns: &[ReturnItem],
+) -> Result<Items, Memory>
+    ensures { IfOk result (λ items. items ≡ rule.items_of (sight.answers_at (R.store by.now.records.now).records by.now.realm.now by.now.user.now by.now.dataset.now by.now.chain name.now) (rule.stars_of (sight.answers_at (R.store by.now.records.now).records by.now.realm.now by.now.user.now by.now.dataset.now by.now.chain name.now).read (rule.attributes_at (R.store by.now.records.now).records name.now by.now.chain)) returns.now) }
+{
+    let mut items = Items::new(alloc);
+    for asked in returns {
+        items.push(item_of(alloc, by, name, asked)?)?;
+    }
+    Ok(items)
+}
