@@ -2,11 +2,11 @@
 use Rattle.std.specs.Prelude.{ℤ, pos, neg_ℤ, ◌+ℤ◌, ◌≤ℤ◌, if◌then◌else◌, Option, Some, None, int_lt}
 use Rattle.std.specs.Ordering.{int_eq}
 
--- the first microsecond of the year 0000, counted from the start of 1970
+-- the first microsecond of the year 0000, counted from the start of 1970: 719,528 days of 86,400,000,000 earlier
 abbrev pub first_moment : ℤ
 first_moment = neg_ℤ (pos 62_167_219_200_000_000)
 
--- the last microsecond of the year 9999
+-- the last microsecond of the year 9999: the end of the 3,652,425 days of 10,000 years
 abbrev pub last_moment : ℤ
 last_moment = pos 253_402_300_799_999_999
 

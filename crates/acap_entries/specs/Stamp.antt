@@ -47,7 +47,8 @@ pub record IsStamp (moment : ℤ) (text : List ℕ) : Type 0 where
   pub shown : text ≡ text_of civil
 
 -- The same as a function of the moment. Years are counted as beginning on 1 March, from 1 March of the year -10000 on,
--- so that a leap day ends its year: a year has 1461 / 4 days on average within a century, a century 146097 / 4.
+-- so that a leap day ends its year: a year has 1461 / 4 days on average within a century, a century 146097 / 4. From that day
+-- 1 January of the year 0000 is 3,652,365 days: 25 times the 146,097 of 400 years, less the 60 of its January and February.
 abbrev pub in_century : ℕ → ℕ
 in_century day = (4 * (day + 3_652_365) + 3) % 146_097 / 4 * 4 + 3
 
