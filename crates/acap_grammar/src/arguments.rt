@@ -13,9 +13,9 @@ use crate::grammar_fault::GrammarFault;
 use crate::object::Object;
 use crate::relation::Relation;
 use crate::target::Target;
-use acap_entries::{begins_with, is_entry_name, is_path};
 use acap_entries::{
-    Attribute, ContextName, Dataset, EntryName, Memory, Moment, NameFault, Path, Value, read_time,
+    Attribute, ContextName, Dataset, EntryName, Memory, Moment, NameFault, Path, Value,
+    begins_with, is_entry_name, is_path, read_time,
 };
 use acap_lexer::{Kind, Tokens, count_of};
 use acap_order::Comparator;

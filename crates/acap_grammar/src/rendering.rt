@@ -14,8 +14,7 @@ use crate::said::Said;
 use crate::status::Status;
 use crate::strings::{append_spaced, append_string};
 use crate::verb::Verb;
-use acap_entries::stamp;
-use acap_entries::{Memory, Moment, Octets, Row, Value};
+use acap_entries::{Memory, Moment, Octets, Row, Value, stamp};
 
 #[tactic(auto, unfolding(crate::specs::Replies::row_form))]
 fn append_row(tag: &[u8], row: &Row, out: &mut Vec<u8>) -> Result<(), Memory>

@@ -27,8 +27,7 @@ use crate::sort_item::SortItem;
 use crate::storing::once;
 use crate::target::Target;
 use crate::words::{SearchWord, word_at};
-use acap_entries::{ends_with, is_attribute};
-use acap_entries::{Memory, Value};
+use acap_entries::{Memory, Value, ends_with, is_attribute};
 use acap_lexer::Tokens;
 use std::alloc::Global;
 

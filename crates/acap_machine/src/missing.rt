@@ -6,9 +6,9 @@ ghost use Rattle.acap_entries.specs.declared.cell.Cell.TheVariants as cell;
 ghost use Rattle.acap_machine.specs.Writing as writing;
 
 use crate::writing::{cells_of, renewed};
-use acap_entries::own_entry_of;
 use acap_entries::{
     Attribute, Boxed, Cell, Fate, Memory, Moment, Path, Record, Tree, Value, Values, Writes,
+    own_entry_of,
 };
 use acap_grammar::StoreEntry;
 use std::alloc::Global;

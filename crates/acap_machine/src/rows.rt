@@ -4,8 +4,7 @@ ghost use Rattle.std.specs.Option.{option_copied};
 ghost use Rattle.acap_entries.specs.declared.item.Item.TheVariants as item;
 ghost use Rattle.acap_machine.specs.Rows as rows;
 
-use acap_entries::stamp;
-use acap_entries::{Cell, Copying, Item, Items, Memory, Path, Record, Row, Tree, Value};
+use acap_entries::{Cell, Copying, Item, Items, Memory, Path, Record, Row, Tree, Value, stamp};
 use acap_grammar::{Found, ReturnItem, ReturnName, Returns, Rows};
 use std::alloc::Global;
 

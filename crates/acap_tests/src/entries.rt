@@ -1,10 +1,9 @@
 //! Tests of acap_entries through its public calls: with ample memory, but for one where memory may be refused.
-use acap_entries::makes_dataset;
-use acap_entries::{civil_of, stamp};
 use acap_entries::{
     Acls, Attribute, Boxed, Cell, CellList, CellLists, Cells, Change, ContextName, Copying,
     Dataset, EntryName, Fate, Item, Items, Memory, Moment, NameFault, Octets, Path, Paths, Record,
-    Records, Row, Seat, Tree, UserName, Value, Values, Writes, read_time,
+    Records, Row, Seat, Tree, UserName, Value, Values, Writes, civil_of, makes_dataset, read_time,
+    stamp,
 };
 use std::alloc::Global;
 

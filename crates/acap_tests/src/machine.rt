@@ -1,10 +1,9 @@
 //! Tests of acap_machine through its public calls.
 ghost use Rattle.std.specs.Prelude.{◌<◌};
 
-use acap_entries::makes_dataset;
-use acap_entries::split_path;
 use acap_entries::{
     Attribute, Boxed, Cell, Dataset, Memory, Moment, Octets, Path, Seat, Tree, UserName, Value,
+    makes_dataset, split_path,
 };
 use acap_grammar::{
     Command, Entries, Given, Key, Metadata, MetadataList, Reply, ReturnItem, ReturnName, Returns,

@@ -1,6 +1,5 @@
 //! Commands as plain texts that show every field, for comparing them in tests.
-use acap_entries::stamp;
-use acap_entries::{Cell, ContextName, Dataset, Memory, Moment, Path, Value};
+use acap_entries::{Cell, ContextName, Dataset, Memory, Moment, Path, Value, stamp};
 use acap_grammar::{
     Command, Given, Key, Limit, MakeContext, Metadata, Node, Object, Relation, ReturnItem,
     ReturnName, Search, SearchModifiers, SortItem, StoreEntry, StoreItem, StoreMetadata,
