@@ -1,5 +1,6 @@
 pub mod Places
 pub mod SeveralSteps
+pub mod SpellingReads
 pub mod Growing
 pub mod NeverMemory
 pub mod KeySteps

@@ -10,5 +10,6 @@ pub mod Refusals
 pub mod Replies
 pub mod Searching
 pub mod Several
+pub mod Spelling
 pub mod Storing
 pub mod Wanted

@@ -1,1 +1,9 @@
-mod Stars
+pub mod EqualLemmas
+pub mod ExampleLemmas
+pub mod OrderLemmas
+pub mod PlaceLaws
+pub mod SeenLemmas
+pub mod SightLemmas
+pub mod SortLemmas
+pub mod Stars
+pub mod WalkLemmas

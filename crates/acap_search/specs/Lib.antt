@@ -1,4 +1,14 @@
+pub mod Asking
+pub mod Cutting
+pub mod Examples
+pub mod Fresh
 pub mod Keys
+pub mod Laws
+pub mod Matches
+pub mod Places
 pub mod Rows
+pub mod Scopes
 pub mod Shown
 pub mod Sight
+pub mod Tuples
+pub mod Walks

@@ -1,12 +1,37 @@
-//! What searches tell of entries (RFC 2244 section 6.4.1): what a user may see of an entry, and whether a key wants it.
+//! Searches (RFC 2244 section 6.4.1): what a user may see of an entry, whether a key wants it, what is told of it, and what a
+//! search over a dataset finds, in which order.
 #![tactic(auto)]
 
+mod cutting;
+mod hit;
+mod laws;
 mod looking;
 mod matching;
+mod ordering;
+mod query;
+mod rank;
+mod ranking;
+mod refusal;
 mod rows;
+mod searching;
+#[cfg(test)]
+mod tests;
+mod tuples;
 mod viewer;
 
+pub use acap_entries::Row;
+pub use cutting::{Cut, cut_by};
+pub use hit::{Hit, Hits, first_rows};
+pub use laws::{
+    acl_law, key_examples, limit_examples, order_examples, place_law, row_examples, scope_examples,
+    seen_law, sight_examples, sight_law, star_law,
+};
 pub use looking::{Shown, look, sees};
 pub use matching::matches;
+pub use query::{Asked, Query};
+pub use rank::{Place, Places, Rank};
+pub use refusal::SearchRefusal;
 pub use rows::items_of;
+pub use searching::fresh;
+pub use tuples::row_of;
 pub use viewer::Viewer;

@@ -40,6 +40,24 @@ fn rights_on<R: Records>(
     rights_of(by.records, by.realm, by.user, &object)
 }
 
+// The same where a value lies, asked again only where that is another dataset than the searched one.
+fn rights_there<R: Records>(
+    by: &Viewer<'_, R>,
+    here: Rights,
+    dataset: &[u8],
+    attribute: &[u8],
+    name: &[u8],
+) -> Rights
+    requires { here ≡ rule.rights_on (R.store by.now.records.now).records by.now.realm.now by.now.user.now attribute.now name.now by.now.dataset.now }
+    ensures { result ≡ rule.rights_on (R.store by.now.records.now).records by.now.realm.now by.now.user.now attribute.now name.now dataset.now }
+{
+    if dataset == by.dataset.as_slice() {
+        here
+    } else {
+        rights_on(by, dataset, attribute, name)
+    }
+}
+
 // The value where the test holds.
 fn only_if(value: Lent<'_>, test: bool) -> Option<Lent<'_>>
     ensures { shown.cell_of result ≡ (if test then lent.cell_of value.entry else Nil) }
@@ -66,10 +84,10 @@ pub fn look<'a, R: Records>(by: &Viewer<'a, R>, name: &'a [u8], attribute: &[u8]
     ensures rights { result.rights ≡ (rule.answers_at (R.store by.now.records.now).records by.now.realm.now by.now.user.now by.now.dataset.now by.now.chain name.now).rights attribute.now }
     ensures acl { (if result.is_readable then rule.own_acl (R.store by.now.records.now).records by.now.dataset.now name.now attribute.now else None) ≡ (rule.answers_at (R.store by.now.records.now).records by.now.realm.now by.now.user.now by.now.dataset.now by.now.chain name.now).acl attribute.now }
 {
-    let rights = rights_on(by, by.dataset, attribute, name);
+    let rights = rights_on(by, by.dataset.as_slice(), attribute, name);
     match resolve(by.records, &by.chain, name, attribute) {
         Found::At { dataset, value } => {
-            let there = rights_on(by, dataset, attribute, name);
+            let there = rights_there(by, rights, dataset, attribute, name);
             let is_readable = rights.r && there.r;
             let is_testable = (rights.x || rights.r) && (there.x || there.r);
             Shown {

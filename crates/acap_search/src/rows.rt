@@ -63,7 +63,7 @@ fn value_of(alloc: Global, value: Option<Lent<'_>>) -> Result<Cell, Memory>
 fn acl_of<R: Records>(by: &Viewer<'_, R>, name: &[u8], attribute: &[u8]) -> Result<Cell, Memory>
     ensures { IfOk result (λ cell. cell ≡ rule.list_cell (sight.own_acl (R.store by.now.records.now).records by.now.dataset.now name.now attribute.now)) }
 {
-    match by.records.find(by.dataset, name) {
+    match by.records.find(by.dataset.as_slice(), name) {
         Some(record) => match record.acls.find(attribute) {
             Some(list) => Ok(Cell::Multi(list.copy()?)),
             None => Ok(Cell::Nil),

@@ -1,5 +1,5 @@
 //! Who looks, and from where.
-use acap_entries::UserName;
+use acap_entries::{Dataset, UserName};
 use acap_inherit::Lineage;
 use acap_rights::Realm;
 
@@ -14,7 +14,7 @@ pub struct Viewer<'a, R> {
     /// The user who looks.
     pub user: &'a UserName,
     /// The dataset.
-    pub dataset: &'a [u8],
+    pub dataset: &'a Dataset,
     /// From which datasets its entries are: its chain, or the dataset alone where nothing is to be inherited.
     pub chain: Lineage<'a>,
 }

@@ -1,6 +1,7 @@
-pub mod Fitting
-pub mod Answering
-pub mod Turning
-pub mod Piping
-pub mod RunLaws
 pub mod Computing
+pub mod Counting
+pub mod Performing
+pub mod Piping
+pub mod Placing
+pub mod Speaking
+pub mod Turning

@@ -1,31 +1,183 @@
--- What was written and is still owed, between a reader and a writer.
-use Rattle.std.proofs.Common.{◌≡◌, ℕ, Bool, true, false, List, [], ◌++◌, Option, Some, None, refl, sym, ap, subst, ◌∙◌, append_assoc}
-use Rattle.std.specs.Prelude.{IfSome}
+-- What was written so far, between a reader and a writer.
+use Rattle.std.proofs.Common.{◌≡◌, inl, inr, ℕ, pos, ◌<◌, ◌≤◌, min, Bool, true, false, ◌||◌, is_ok, List, [], ◌∷◌, ◌++◌, length, take, drop, Option, Some, None, refl, sym, ap, subst, ◌∙◌, append_assoc, arith, length-drop}
+use Rattle.std.specs.Prelude.{◌==◌, codes}
 use Rattle.std.specs.Io.KnownBytes.{Appends, Consumes, IsAtEnd, Keeps}
-use Rattle.std.proofs.lemmas.List.{append-nil}
-use Rattle.acap_lexer.specs.Owing.{with_more}
+use Rattle.std.proofs.lemmas.Bool.{eqb-true}
+use Rattle.std.proofs.lemmas.List.{append-nil, take-append-drop}
+use Rattle.acap_lexer.specs.Holding.{Held}
+use Rattle.acap_login.specs.Login.{User}
 use Rattle.acap_machine.specs.Machine.{Machine}
-use Rattle.acap_session.specs.Asking.{Answered, answers_in, user_of, owed, owed_at, owed_unless, IsDone}
-use Rattle.acap_session.specs.Run.{Refused, IsWritten, octets_with, new_machine, said_to}
+use Rattle.acap_session.specs.Piping.{Fed, fed, fed_all, turns, hears, joined, always, begins, entered, IsQuiet, AreAnswered, IsWritten, HasRead, HasEnded, IsSettled, IsFed, HasTurned, HasRoom, Goes, SoFar, IsSoFar, new_machine}
+use Rattle.acap_machine.specs.Runs.{outcome_of, machine_after}
+use Rattle.acap_session.specs.Hearing.{opening}
+use Rattle.acap_session.specs.Saying.{added}
+use Rattle.acap_session.specs.Session.{session_next, is_closed, answered, has_seat}
 use Rattle.acap_session.specs.Talking.{Talking}
+use Rattle.acap_session.specs.Turning.{Scene, scene, turn_of, turn_by, shown, performed, turn_in, left_after, IsTurn}
+use Rattle.acap_session.specs.declared.next.Next.{Next}
+use Rattle.acap_session.specs.declared.occasion.Occasion.{Occasion}
+use Rattle.acap_session.specs.declared.next.Next.TheVariants as next
 use Rattle.acap_session.specs.declared.stage.Stage.TheVariants as stage
-use Rattle.acap_session.proofs.Answering.{with_none}
+use Rattle.acap_session.specs.declared.turn.Turn.{Turn}
+use Rattle.acap_session.specs.declared.turn.Turn.TheVariants as turn
+use Rattle.acap_session.proofs.Turning.{still, goes_on, held_kept, over, closed_is_quiet, room_left}
 
--- what was sent, what is to be sent, and what is still owed for the octets that remain, are the octets of the session
-pub record SoFar (user input rest : List ℕ) (w0 w : Option (List ℕ)) (out : List ℕ) (closed : Bool) (m : Machine) (t : Talking) : Type 0 where
-  pub sent : List ℕ
-  pub refused : Refused
-  pub appends : Appends w0 w sent
-  pub same : (later : Refused) → sent ++ (out ++ owed_unless closed later m t rest) ≡ octets_with (refused ++ later) user input
+-- ---- turns, one after another
 
-abbrev pub IsSoFar : List ℕ → Option (List ℕ) → Option (List ℕ) → Option (List ℕ) → Option (List ℕ) → List ℕ → Bool → Machine → Talking → Type 0
-IsSoFar user None r w0 w out closed m t = Unit {0}
-IsSoFar user (Some input) None w0 w out closed m t = ⊥
-IsSoFar user (Some input) (Some rest) w0 w out closed m t = SoFar user input rest w0 w out closed m t
+turns_snoc : (users : List User) (a : List Bool) (refused : Bool) (s : Scene) → turns users (a ++ refused ∷ []) s ≡ (turn_of users always refused (turns users a s)).1
+turns_snoc users [] refused s = refl
+turns_snoc users (x ∷ a) refused s = turns_snoc users a refused (turn_of users always x s).1
 
-appends_none : (w : Option (List ℕ)) → Appends w w []
-appends_none None = tt
-appends_none (Some xs) = sym (append-nil xs)
+-- some turns were made
+pub record SomeTurns (users : List User) (old new : Scene) : Type 0 where
+  pub refused : List Bool
+  pub is : new ≡ turns users refused old
+
+pub no_turns : (users : List User) (s : Scene) → SomeTurns users s s
+no_turns users s = record { refused = []; is = refl }
+
+pub turn_more : (users : List User) (old mid new : Scene) (came : Turn) → SomeTurns users old mid → IsTurn users always mid came new → SomeTurns users old new
+turn_more users old mid new came a k = record {
+  refused = a.refused ++ k.refused ∷ [];
+  is = ap (λ p. p.1) k.is ∙ ap (λ s. (turn_of users always k.refused s).1) a.is ∙ sym (turns_snoc users a.refused k.refused old);
+}
+
+-- nothing is next
+pub settled_more : (users : List User) (old mid new : Scene) → SomeTurns users old mid → Goes mid.talk → IsTurn users always mid turn.More new → IsSettled users old new
+settled_more users old mid new a g k =
+    let s = still users always mid new k in
+    let b = turn_more users old mid new turn.More a k in
+    record {
+      refused = b.refused;
+      is = b.is;
+      quiet = subst (IsQuiet users) (sym s.same) s.quiet;
+      room = subst (λ (q : Scene). HasRoom q.talk) (sym s.same) (λ o. (g o, room_left users 0 (pos 0) mid.talk (g o) s.quiet));
+    }
+
+pub settled_closed : (users : List User) (old mid new : Scene) → SomeTurns users old mid → IsTurn users always mid turn.Closed new → IsSettled users old new
+settled_closed users old mid new a k =
+    let b = turn_more users old mid new turn.Closed a k in
+    let c = over users always mid new k in
+    record { refused = b.refused; is = b.is; quiet = closed_is_quiet users 0 (pos 0) new.talk c; room = λ o. absurd (let both : true ≡ false = sym c ∙ o in cc) }
+
+-- ---- pieces, one after another
+
+fed_snoc : (users : List User) (a : List Fed) (x : Fed) (s : Scene) → fed_all users (a ++ x ∷ []) s ≡ fed users x (fed_all users a s)
+fed_snoc users [] x s = refl
+fed_snoc users (y ∷ a) x s = fed_snoc users a x (fed users y s)
+
+pub answered_snoc : (users : List User) (a : List Fed) (x : Fed) (s : Scene) → AreAnswered users a s → IsQuiet users (fed users x (fed_all users a s)) → AreAnswered users (a ++ x ∷ []) s
+answered_snoc users [] x s h q = (q, tt)
+answered_snoc users (y ∷ a) x s h q = (h.0, answered_snoc users a x (fed users y s) h.1 q)
+
+joined_snoc : (a : List Fed) (x : Fed) → joined (a ++ x ∷ []) ≡ joined a ++ x.0
+joined_snoc [] x = append-nil x.0
+joined_snoc (y ∷ a) x = ap (λ ys. y.0 ++ ys) (joined_snoc a x) ∙ sym (append_assoc y.0 (joined a) x.0)
+
+-- parts of a piece, up to some place
+pub record IsPartly (users : List User) (piece rest : List ℕ) (old new : Scene) : Type 0 where
+  pub parts : List Fed
+  pub joined_is : piece ≡ joined parts ++ rest
+  pub answered : AreAnswered users parts old
+  pub is : new ≡ fed_all users parts old
+  pub room : HasRoom new.talk
+
+pub partly_none : (users : List User) (piece : List ℕ) (s : Scene) → HasRoom s.talk → IsPartly users piece piece s s
+partly_none users piece s r = record { parts = []; joined_is = refl; answered = tt; is = refl; room = r }
+
+-- the session with that many octets more
+abbrev pub pushed : List ℕ → ℕ → Scene → Scene
+pushed rest n s = hears (take n rest) s
+
+pub partly_more : (users : List User) (piece rest back : List ℕ) (n : ℕ) (old mid new : Scene) → IsPartly users piece rest old mid → back ≡ drop n rest → IsSettled users (pushed rest n mid) new → IsPartly users piece back old new
+partly_more users piece rest back n old mid new a b s =
+    let x : Fed = (take n rest, s.refused) in
+    let whole : new ≡ fed users x (fed_all users a.parts old) = s.is ∙ ap (λ q. fed users x q) a.is in
+    record {
+      parts = a.parts ++ x ∷ [];
+      joined_is = a.joined_is ∙ ap (λ ys. joined a.parts ++ ys) (sym (take-append-drop n rest) ∙ ap (λ ys. take n rest ++ ys) (sym b)) ∙ sym (append_assoc (joined a.parts) (take n rest) back) ∙ ap (λ ys. ys ++ back) (sym (joined_snoc a.parts x));
+      answered = answered_snoc users a.parts x old a.answered (subst (IsQuiet users) whole s.quiet);
+      is = whole ∙ sym (fed_snoc users a.parts x old);
+      room = s.room;
+    }
+
+pub fed_whole : (users : List User) (piece rest : List ℕ) (old new : Scene) → IsPartly users piece rest old new → (is_closed new.talk.stage ≡ false → rest ≡ []) → IsFed users piece old new
+fed_whole users piece rest old new a all = record { parts = a.parts; rest = rest; joined_is = a.joined_is; answered = a.answered; is = a.is; room = a.room; all = all }
+
+pub shrinks : (rest back : List ℕ) (n k : ℕ) → back ≡ drop n rest → n ≡ min (length rest) k → 0 < k → 0 < length rest → length back < length rest
+shrinks rest back n k b e room some = omega (arith, ap (λ (ys : List ℕ). length ys) b, length-drop n rest, e, room, some)
+
+pub no_octets : (xs : List ℕ) → length xs ≤ 0 → xs ≡ []
+no_octets [] e = refl
+no_octets (x ∷ xs) e = absurd (omega (arith, e))
+
+pub some_octets : (xs : List ℕ) → false ≡ (length xs == 0) → 0 < length xs
+some_octets [] e = cc
+some_octets (x ∷ xs) e = omega arith
+
+pub none_left : (xs : List ℕ) → true ≡ (length xs == 0) → xs ≡ []
+none_left xs e = let k : length xs ≡ 0 = eqb-true (length xs) 0 (sym e) in no_octets xs (omega (arith, k))
+
+-- ---- what is said comes behind what was said
+
+abbrev pub prefixed : List ℕ → Scene → Scene
+prefixed xs s = record s { out = xs ++ s.out }
+
+abbrev pre : List ℕ → Turn × Scene → Turn × Scene
+pre xs k = (k.0, prefixed xs k.1)
+
+added_pre : (xs out : List ℕ) (n : Next) → added (xs ++ out) n ≡ xs ++ added out n
+added_pre xs out next.More = refl
+added_pre xs out (next.Say octets) = append_assoc xs out octets
+added_pre xs out (next.Ask event) = refl
+added_pre xs out (next.Close octets) = append_assoc xs out octets
+
+shown_pre : (xs : List ℕ) (o : Occasion) (seated : Bool) (m : Machine) (out : List ℕ) (x : Next × Talking) → shown o seated m (xs ++ out) x ≡ pre xs (shown o seated m out x)
+shown_pre xs o seated m out x = ap (λ (ys : List ℕ). let k : Turn × Scene = (turn_in x.0, record { machine = left_after x.0 seated o m; talk = x.1; out = ys }) in k) (added_pre xs out x.0)
+
+turn_pre_by : (xs : List ℕ) (o : Occasion) (refused : Bool) (s : Scene) (n : Next) (t : Talking) → turn_by o refused (prefixed xs s) (n, t) ≡ pre xs (turn_by o refused s (n, t))
+turn_pre_by xs o refused s next.More t = shown_pre xs o (has_seat s.talk) s.machine s.out (next.More, t)
+turn_pre_by xs o refused s (next.Say octets) t = shown_pre xs o (has_seat s.talk) s.machine s.out (next.Say octets, t)
+turn_pre_by xs o refused s (next.Ask event) t =
+    let r = performed refused s.machine o event in
+    shown_pre xs o (has_seat t || is_ok r) (machine_after s.machine r) s.out (answered t (outcome_of r))
+turn_pre_by xs o refused s (next.Close octets) t = shown_pre xs o (has_seat s.talk) s.machine s.out (next.Close octets, t)
+
+turn_pre : (users : List User) (xs : List ℕ) (o : Occasion) (refused : Bool) (s : Scene) → turn_of users o refused (prefixed xs s) ≡ pre xs (turn_of users o refused s)
+unfolding turn_of
+turn_pre users xs o refused s = let x = session_next users o.nonce o.clock s.talk in turn_pre_by xs o refused s x.0 x.1
+
+turns_pre : (users : List User) (xs : List ℕ) (refused : List Bool) (s : Scene) → turns users refused (prefixed xs s) ≡ prefixed xs (turns users refused s)
+turns_pre users xs [] s = refl
+turns_pre users xs (r ∷ refused) s = ap (λ (k : Turn × Scene). turns users refused k.1) (turn_pre users xs always r s) ∙ turns_pre users xs refused (turn_of users always r s).1
+
+fed_pre : (users : List User) (xs : List ℕ) (x : Fed) (s : Scene) → fed users x (prefixed xs s) ≡ prefixed xs (fed users x s)
+fed_pre users xs x s = turns_pre users xs x.1 (hears x.0 s)
+
+all_pre : (users : List User) (xs : List ℕ) (a : List Fed) (s : Scene) → fed_all users a (prefixed xs s) ≡ prefixed xs (fed_all users a s)
+all_pre users xs [] s = refl
+all_pre users xs (x ∷ a) s = ap (fed_all users a) (fed_pre users xs x s) ∙ all_pre users xs a (fed users x s)
+
+answered_pre : (users : List User) (xs : List ℕ) (a : List Fed) (s : Scene) → AreAnswered users a s → AreAnswered users a (prefixed xs s)
+answered_pre users xs [] s h = tt
+answered_pre users xs (x ∷ a) s h =
+    subst (λ (q : Scene). IsQuiet users q × AreAnswered users a q) (sym (fed_pre users xs x s)) (h.0, answered_pre users xs a (fed users x s) h.1)
+
+-- ---- pieces behind pieces
+
+all_append : (users : List User) (a b : List Fed) (s : Scene) → fed_all users (a ++ b) s ≡ fed_all users b (fed_all users a s)
+all_append users [] b s = refl
+all_append users (x ∷ a) b s = all_append users a b (fed users x s)
+
+answered_append : (users : List User) (a b : List Fed) (s : Scene) → AreAnswered users a s → AreAnswered users b (fed_all users a s) → AreAnswered users (a ++ b) s
+answered_append users [] b s h k = k
+answered_append users (x ∷ a) b s h k = (h.0, answered_append users a b (fed users x s) h.1 k)
+
+joined_append : (a b : List Fed) → joined (a ++ b) ≡ joined a ++ joined b
+joined_append [] b = refl
+joined_append (x ∷ a) b = ap (λ ys. x.0 ++ ys) (joined_append a b) ∙ sym (append_assoc x.0 (joined a) (joined b))
+
+-- ---- what was written so far
 
 appends_then : (a b c : Option (List ℕ)) (x y : List ℕ) → Appends a b x → Appends b c y → Appends a c (x ++ y)
 appends_then None b c x y p q = tt
@@ -33,77 +185,119 @@ appends_then (Some u) None c x y p q = absurd p
 appends_then (Some u) (Some v) None x y p q = absurd q
 appends_then (Some u) (Some v) (Some w) x y p q = q ∙ ap (λ (t : List ℕ). t ++ y) p ∙ append_assoc u x y
 
--- what was written stays written
-pub appends_kept : (a b c : Option (List ℕ)) (x : List ℕ) → Appends a b x → Keeps b c → Appends a c x
-appends_kept None b c x p q = tt
-appends_kept (Some u) None c x p q = absurd p
-appends_kept (Some u) (Some v) None x p q = absurd q
-appends_kept (Some u) (Some v) (Some w) x p q = q ∙ p
+-- a piece is heard
+pub record IsHeard (user : List ℕ) (pieces : List Fed) (piece : List ℕ) (m : Machine) (t : Talking) (written : List ℕ) : Type 0 where
+  pub after : List Fed
+  pub unread : List ℕ
+  pub joined_is : joined pieces ++ piece ≡ joined after ++ unread
+  pub answered : AreAnswered [] after (entered user)
+  pub is : fed_all [] after (entered user) ≡ scene m t written
+  pub all : is_closed t.stage ≡ false → unread ≡ []
 
-abbrev pub opened : List ℕ → List ℕ → Talking
-opened host user = record { host = host; user = Some user; held = record { text = []; told = 0; fatal = None }; stage = stage.Opening }
+heard_more : (user input rest piece : List ℕ) (w0 w : Option (List ℕ)) (m new_m : Machine) (t new_t : Talking) (out : List ℕ) → (h : SoFar user input rest w0 w m t) → IsFed [] piece (scene m t []) (scene new_m new_t out) → IsHeard user h.pieces piece new_m new_t (h.written ++ out)
+heard_more user input rest piece w0 w m new_m t new_t out h f =
+    let none : prefixed h.written (scene m t []) ≡ scene m t h.written = ap (scene m t) (append-nil h.written) in
+    let whole : fed_all [] f.parts (scene m t h.written) ≡ prefixed h.written (scene new_m new_t out) = ap (fed_all [] f.parts) (sym none) ∙ all_pre [] h.written f.parts (scene m t []) ∙ ap (prefixed h.written) (sym f.is) in
+    record {
+      after = h.pieces ++ f.parts;
+      unread = f.rest;
+      joined_is = ap (λ ys. joined h.pieces ++ ys) f.joined_is ∙ sym (append_assoc (joined h.pieces) (joined f.parts) f.rest) ∙ ap (λ ys. ys ++ f.rest) (sym (joined_append h.pieces f.parts));
+      answered = answered_append [] h.pieces f.parts (entered user) h.answered (subst (AreAnswered [] f.parts) (none ∙ sym h.is) (answered_pre [] h.written f.parts (scene m t []) f.answered));
+      is = all_append [] h.pieces f.parts (entered user) ∙ ap (fed_all [] f.parts) h.is ∙ whole;
+      all = f.all;
+    }
 
-at_first : (r : Refused) (host user input : List ℕ) → owed r new_machine (opened host user) input ≡ octets_with r user input
-unfolding answers_in octets_with
-at_first r host user input = refl
+pub has_read : (user : List ℕ) (r0 r new w0 w sent : Option (List ℕ)) (piece out : List ℕ) (m new_m : Machine) (t new_t : Talking) → Consumes r new piece → IsFed [] piece (scene m t []) (scene new_m new_t out) → is_closed new_t.stage ≡ false → Appends w sent out → IsSoFar user r0 r w0 w m t
+    → IsSoFar user r0 new w0 sent new_m new_t
+has_read user None r new w0 w sent piece out m new_m t new_t c f o a h = tt
+has_read user (Some input) None new w0 w sent piece out m new_m t new_t c f o a h = absurd h
+has_read user (Some input) (Some rest) None w0 w sent piece out m new_m t new_t c f o a h = absurd c
+has_read user (Some input) (Some rest) (Some left) w0 w sent piece out m new_m t new_t c f o a h =
+    let k = heard_more user input rest piece w0 w m new_m t new_t out h f in
+    record {
+      pieces = k.after;
+      written = h.written ++ out;
+      input_is = h.input_is ∙ ap (λ ys. joined h.pieces ++ ys) c ∙ sym (append_assoc (joined h.pieces) piece left) ∙ ap (λ ys. ys ++ left) (k.joined_is ∙ ap (λ ys. joined k.after ++ ys) (k.all o) ∙ append-nil (joined k.after));
+      answered = k.answered;
+      is = k.is;
+      appends = appends_then w0 w sent h.written out h.appends a;
+    }
 
-pub starts : (r w : Option (List ℕ)) (host user out : List ℕ) (closed : Bool) (m : Machine) (t : Talking) → Answered [] [] new_machine (opened host user) closed out m t → IsSoFar user r r w w out closed m t
-starts None w host user out closed m t a = tt
-starts (Some input) w host user out closed m t a = record {
-  sent = [];
-  refused = a.owes.refused;
-  appends = appends_none w;
-  same = λ later. sym (a.owes.same later input) ∙ at_first (a.owes.refused ++ later) host user input;
-}
+-- the session was closed
+pub has_closed : (user : List ℕ) (r0 r new w0 w sent : Option (List ℕ)) (piece out : List ℕ) (m new_m : Machine) (t new_t : Talking) → Consumes r new piece → IsFed [] piece (scene m t []) (scene new_m new_t out) → is_closed new_t.stage ≡ true → Appends w sent out → IsSoFar user r0 r w0 w m t → HasEnded user r0 w0 sent
+has_closed user None r new w0 w sent piece out m new_m t new_t c f o a h = tt
+has_closed user (Some input) None new w0 w sent piece out m new_m t new_t c f o a h = absurd h
+has_closed user (Some input) (Some rest) None w0 w sent piece out m new_m t new_t c f o a h = absurd c
+has_closed user (Some input) (Some rest) (Some left) w0 w sent piece out m new_m t new_t c f o a h =
+    let k = heard_more user input rest piece w0 w m new_m t new_t out h f in
+    let made : IsWritten user (joined k.after) (h.written ++ out) = record { pieces = k.after; joined_is = refl; answered = k.answered; is = sym (ap (λ (s : Scene). s.out) k.is) } in (
+      h.written ++ out,
+      record {
+        read = joined k.after;
+        unread = k.unread ++ left;
+        input_is = h.input_is ∙ ap (λ ys. joined h.pieces ++ ys) c ∙ sym (append_assoc (joined h.pieces) piece left) ∙ ap (λ ys. ys ++ left) k.joined_is ∙ append_assoc (joined k.after) k.unread left;
+        made = made;
+        whole = inr (ap (λ (s : Scene). is_closed s.talk.stage) k.is ∙ o);
+      },
+      appends_then w0 w sent h.written out h.appends a,
+    )
 
-pub written : (user : List ℕ) (r0 r w0 w new : Option (List ℕ)) (out : List ℕ) (closed : Bool) (m : Machine) (t : Talking) → Appends w new out → IsSoFar user r0 r w0 w out closed m t → IsSoFar user r0 r w0 new [] closed m t
-written user None r w0 w new out closed m t a h = tt
-written user (Some input) None w0 w new out closed m t a h = absurd h
-written user (Some input) (Some rest) w0 w new out closed m t a h = record {
-  sent = h.sent ++ out;
-  refused = h.refused;
-  appends = appends_then w0 w new h.sent out h.appends a;
-  same = λ later. append_assoc h.sent out (owed_unless closed later m t rest) ∙ h.same later;
-}
+so_far_written : (user input rest : List ℕ) (w0 w : Option (List ℕ)) (m : Machine) (t : Talking) → (h : SoFar user input rest w0 w m t) → IsWritten user (joined h.pieces) h.written
+so_far_written user input rest w0 w m t h = record { pieces = h.pieces; joined_is = refl; answered = h.answered; is = sym (ap (λ (s : Scene). s.out) h.is) }
 
-pub has_read : (user : List ℕ) (r0 r new w0 w : Option (List ℕ)) (piece new_out : List ℕ) (closed : Bool) (m new_m : Machine) (t new_t : Talking) → Consumes r new piece → Answered piece [] m t closed new_out new_m new_t → IsSoFar user r0 r w0 w [] false m t
-    → IsSoFar user r0 new w0 w new_out closed new_m new_t
-has_read user None r new w0 w piece new_out closed m new_m t new_t c a h = tt
-has_read user (Some input) None new w0 w piece new_out closed m new_m t new_t c a h = absurd h
-has_read user (Some input) (Some rest) None w0 w piece new_out closed m new_m t new_t c a h = absurd c
-has_read user (Some input) (Some rest) (Some left) w0 w piece new_out closed m new_m t new_t c a h = record {
-  sent = h.sent;
-  refused = h.refused ++ a.owes.refused;
-  appends = h.appends;
-  same = λ later.
-      ap (λ xs. h.sent ++ xs) (sym (a.owes.same later left) ∙ ap (λ (xs : List ℕ). owed (a.owes.refused ++ later) m t xs) (sym c))
-      ∙ h.same (a.owes.refused ++ later) ∙ ap (λ (r : Refused). octets_with r user input) (sym (append_assoc h.refused a.owes.refused later));
-}
+-- all was read
+pub at_end : (user : List ℕ) (r0 r new w0 w : Option (List ℕ)) (m : Machine) (t : Talking) → Consumes r new [] → IsAtEnd new → IsSoFar user r0 r w0 w m t → HasEnded user r0 w0 w
+at_end user None r new w0 w m t c a h = tt
+at_end user (Some input) None new w0 w m t c a h = absurd h
+at_end user (Some input) (Some rest) None w0 w m t c a h = absurd c
+at_end user (Some input) (Some rest) (Some left) w0 w m t c a h =
+    (h.written, record { read = joined h.pieces; unread = rest; input_is = h.input_is; made = so_far_written user input rest w0 w m t h; whole = inl (c ∙ a) }, h.appends)
 
-none_owed : (later : Refused) (m : Machine) (t : Talking) → IsDone t → owed later m t [] ≡ []
-none_owed later m t d =
-    ap (λ s. owed_at s (user_of t) later m (answers_in (with_more t.held []))) d.ready ∙ ap (λ items. said_to (user_of t) later m items) (ap answers_in (with_none t.held) ∙ d.none)
+-- the reader failed
+pub at_fault : (user : List ℕ) (r0 r new w0 w : Option (List ℕ)) (m : Machine) (t : Talking) → Keeps r new → IsSoFar user r0 r w0 w m t → HasRead user r0 new w0 w
+at_fault user None r new w0 w m t k h = tt
+at_fault user (Some input) None new w0 w m t k h = absurd h
+at_fault user (Some input) (Some rest) None w0 w m t k h = absurd k
+at_fault user (Some input) (Some rest) (Some left) w0 w m t k h =
+    (joined h.pieces, h.written, h.input_is ∙ ap (λ ys. joined h.pieces ++ ys) (sym k), so_far_written user input rest w0 w m t h, h.appends)
 
-pub at_end : (user : List ℕ) (r0 r new w0 w : Option (List ℕ)) (m : Machine) (t : Talking) → Consumes r new [] → IsAtEnd new → IsDone t → IsSoFar user r0 r w0 w [] false m t → IfSome r0 (λ input. IsWritten user input w0 w)
-at_end user None r new w0 w m t c a d h = tt
-at_end user (Some input) None new w0 w m t c a d h = absurd h
-at_end user (Some input) (Some rest) None w0 w m t c a d h = absurd c
-at_end user (Some input) (Some rest) (Some left) w0 w m t c a d h =
-    let none : rest ≡ [] = c ∙ a in
-    let nothing : owed [] m t rest ≡ [] = ap (λ (xs : List ℕ). owed [] m t xs) none ∙ none_owed [] m t d in
-    let all : h.sent ≡ octets_with (h.refused ++ []) user input = sym (ap (λ xs. h.sent ++ xs) nothing ∙ append-nil h.sent) ∙ h.same [] in
-    record { refused = h.refused ++ []; appends = subst (λ xs. Appends w0 w xs) all h.appends }
+pub at_bound : (user : List ℕ) (r0 r w0 w : Option (List ℕ)) (m : Machine) (t : Talking) → IsSoFar user r0 r w0 w m t → HasRead user r0 r w0 w
+at_bound user None r w0 w m t h = tt
+at_bound user (Some input) None w0 w m t h = absurd h
+at_bound user (Some input) (Some rest) w0 w m t h = (joined h.pieces, h.written, h.input_is, so_far_written user input rest w0 w m t h, h.appends)
 
-pub at_close : (user : List ℕ) (r0 r w0 w : Option (List ℕ)) (m : Machine) (t : Talking) → IsSoFar user r0 r w0 w [] true m t → IfSome r0 (λ input. IsWritten user input w0 w)
-at_close user None r w0 w m t h = tt
-at_close user (Some input) None w0 w m t h = absurd h
-at_close user (Some input) (Some rest) w0 w m t h =
-    let all : h.sent ≡ octets_with (h.refused ++ []) user input = sym (append-nil h.sent) ∙ h.same [] in
-    record { refused = h.refused ++ []; appends = subst (λ xs. Appends w0 w xs) all h.appends }
+-- ---- the user has entered
 
--- the same by what is known of the close
-pub fed_from : (user : List ℕ) (r0 r w0 w : Option (List ℕ)) (closed : Bool) (m : Machine) (t : Talking) → closed ≡ false → IsSoFar user r0 r w0 w [] closed m t → IsSoFar user r0 r w0 w [] false m t
-fed_from user r0 r w0 w closed m t e h = subst (λ k. IsSoFar user r0 r w0 w [] k m t) e h
+refused_closes : (user : List ℕ) → is_closed (turn_of [] always true (begins user)).1.talk.stage ≡ true
+unfolding turn_of session_next opening answered
+refused_closes user = refl
 
-pub closed_from : (user : List ℕ) (r0 r w0 w : Option (List ℕ)) (closed : Bool) (m : Machine) (t : Talking) → closed ≡ true → IsSoFar user r0 r w0 w [] closed m t → IsSoFar user r0 r w0 w [] true m t
-closed_from user r0 r w0 w closed m t e h = subst (λ k. IsSoFar user r0 r w0 w [] k m t) e h
+entered_by : (user : List ℕ) (came : Turn) (new : Scene) (refused : Bool) → (came, new) ≡ turn_of [] always refused (begins user) → is_closed new.talk.stage ≡ false → new ≡ entered user
+unfolding entered
+entered_by user came new true e o = absurd (let both : true ≡ false = sym (refused_closes user) ∙ ap (λ k. is_closed k.1.talk.stage) (sym e) ∙ o in cc)
+entered_by user came new false e o = ap (λ k. k.1) e
+
+pub starts : (user : List ℕ) (r w0 w : Option (List ℕ)) (came : Turn) (m : Machine) (t : Talking) (out : List ℕ) → IsTurn [] always (begins user) came (scene m t out) → is_closed t.stage ≡ false → Appends w0 w out → IsSoFar user r r w0 w m t
+starts user None w0 w came m t out k o a = tt
+starts user (Some input) w0 w came m t out k o a = record { pieces = []; written = out; input_is = refl; answered = tt; is = sym (entered_by user came (scene m t out) k.refused k.is o); appends = a }
+
+begun_asks : (user : List ℕ) → (session_next [] 0 (pos 0) (begins user).talk).0 ≡ next.More → ⊥
+unfolding session_next opening
+begun_asks user e = cc
+
+begun_held : (user : List ℕ) → length (session_next [] 0 (pos 0) (begins user).talk).1.held.text ≡ 0
+unfolding session_next opening
+begun_held user = refl
+
+-- and there is room for what comes
+pub starts_with_room : (user : List ℕ) (came : Turn) (new : Scene) → IsTurn [] always (begins user) came new → HasRoom new.talk
+starts_with_room user turn.More new k = absurd (begun_asks user (still [] always (begins user) new k).quiet)
+starts_with_room user turn.Said new k = λ o. (goes_on [] always (begins user) new k, (let e = ap (λ (h : Held). length h.text) (held_kept [] always (begins user) new k) in omega (arith, e, begun_held user)))
+starts_with_room user turn.Closed new k = λ o. absurd (let both : true ≡ false = sym (over [] always (begins user) new k) ∙ o in cc)
+
+-- the first turn is that of a user's session
+pub first_turn : (user host : List ℕ) (users : List User) (m : Machine) (t : Talking) (out : List ℕ) (new : Scene) → users ≡ [] → host ≡ codes "localhost" → m ≡ new_machine → t ≡ record { host = host; user = Some user; held = record { text = []; told = 0; fatal = None }; stage = stage.Opening } → out ≡ [] → HasTurned users (scene m t out) new → HasTurned [] (begins user) new
+first_turn user host users m t out new u h e f g k =
+    let talk : t ≡ (begins user).talk = f ∙ ap (λ (xs : List ℕ). let q : Talking = record { host = xs; user = Some user; held = record { text = []; told = 0; fatal = None }; stage = stage.Opening } in q) h in
+    let s : scene m t out ≡ begins user = λ i. scene (e i) (talk i) (g i) in
+    subst (λ q. HasTurned [] q new) s (subst (λ us. HasTurned us (scene m t out) new) u k)

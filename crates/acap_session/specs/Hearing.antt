@@ -1,9 +1,14 @@
 -- What a session says to an answer of its lexer, without the machine, or what it asks the machine then
--- [RFC 2244 sections 2.2, 2.6.3, 6.2 and 6.3.1].
-use Rattle.std.specs.Prelude.{ℕ, List, ◌++◌, Option, Some, None, Result, Ok, Err, option_map, slice_get, codes}
+-- [RFC 2244 sections 2.2, 2.6.3, 6.2 and 6.3.1; RFC 2195 section 2].
+use Rattle.std.specs.Prelude.{ℕ, ℤ, pos, negsuc, ◌/◌, List, [], ◌∷◌, ◌++◌, Option, Some, None, Result, Ok, Err, option_map, slice_get, codes, if◌then◌else◌}
+use Rattle.std.specs.Option.{option_and_then}
+use Rattle.std.specs.Str.{bytes_eq, str_eq_ignore_ascii_case}
+use Rattle.acap_lexer.specs.declared.kind.Kind.{Kind}
+use Rattle.acap_lexer.specs.declared.kind.Kind.TheVariants as kind
 use Rattle.acap_lexer.specs.declared.lexed.Lexed.{Lexed}
 use Rattle.acap_lexer.specs.declared.lexed.Lexed.TheVariants as lexed
 use Rattle.acap_lexer.specs.Token.{Token}
+use Rattle.acap_login.specs.Login.{User, challenge_of, accepted, name_at}
 use Rattle.acap_grammar.specs.Grammar.{command_of}
 use Rattle.acap_grammar.specs.Refusals.{of_lexical, of_grammar}
 use Rattle.acap_grammar.specs.Replies.{octets_of, crlf}
@@ -28,25 +33,43 @@ says tag words = (next.Say (octets_of (record { tag = tag; said = words })), sta
 abbrev pub closes : Option (List ℕ) → Said → Next × Stage
 closes tag words = (next.Close (octets_of (record { tag = tag; said = words })), stage.Closed)
 
+abbrev pub refuses : Option (List ℕ) → Refusal → Next × Stage
+refuses tag refusal = says tag (said.Refused refusal)
+
 -- a command that concerns the store is the machine's, if there is a user
 abbrev pub asks : Option (List ℕ) → Option (List ℕ) → Command → Next × Stage
-asks None tag command = says tag (said.Refused refusals.NotLoggedIn)
+asks None tag command = refuses tag refusals.NotLoggedIn
 asks (Some user) tag command = (next.Ask (event.Command command), stage.Asked tag)
 
--- no mechanism is offered yet, and a user who is logged in needs none
-abbrev pub authenticated : Option (List ℕ) → Refusal
-authenticated None = refusals.NoMechanism
-authenticated (Some user) = refusals.LoggedIn
+-- how many whole seconds a moment is behind the start of 1970, and none where it lies before
+abbrev pub seconds_of : ℤ → ℕ
+seconds_of (pos micros) = micros / 1000000
+seconds_of (negsuc n) = 0
 
-unfoldable pub heard_command : Option (List ℕ) → Option (List ℕ) → Command → Next × Stage
-heard_command user tag command.Noop = says tag (said.Done verb.Noop)
-heard_command user tag command.Logout = closes tag said.GoodBye
-heard_command user tag (command.Authenticate mechanism) = says tag (said.Refused (authenticated user))
-heard_command user tag wanted = asks user tag wanted
+-- the client is to answer this challenge
+abbrev pub challenges : Option (List ℕ) → List ℕ → Next × Stage
+challenges tag challenge = (next.Say (octets_of (record { tag = None; said = said.Challenge challenge })), stage.Challenged tag challenge)
 
-abbrev pub heard_line : Option (List ℕ) → Option (List ℕ) → Result Command GrammarFault → Next × Stage
-heard_line user tag (Ok command) = heard_command user tag command
-heard_line user tag (Err fault) = says tag (said.Refused (of_grammar fault))
+-- the one mechanism, in any case
+abbrev pub mechanism_name : List ℕ
+mechanism_name = codes "CRAM-MD5"
+
+-- a user who is logged in needs no mechanism, whatever it is
+abbrev pub authenticated : List ℕ → Option (List ℕ) → ℕ → ℤ → Option (List ℕ) → List ℕ → Next × Stage
+authenticated host (Some user) nonce clock tag mechanism = refuses tag refusals.LoggedIn
+authenticated host None nonce clock tag mechanism =
+    if str_eq_ignore_ascii_case mechanism mechanism_name then challenges tag (challenge_of nonce (seconds_of clock) host)
+    else refuses tag refusals.NoMechanism
+
+unfoldable pub heard_command : List ℕ → Option (List ℕ) → ℕ → ℤ → Option (List ℕ) → Command → Next × Stage
+heard_command host user nonce clock tag command.Noop = says tag (said.Done verb.Noop)
+heard_command host user nonce clock tag command.Logout = closes tag said.GoodBye
+heard_command host user nonce clock tag (command.Authenticate mechanism) = authenticated host user nonce clock tag mechanism
+heard_command host user nonce clock tag wanted = asks user tag wanted
+
+abbrev pub heard_line : List ℕ → Option (List ℕ) → ℕ → ℤ → Option (List ℕ) → Result Command GrammarFault → Next × Stage
+heard_line host user nonce clock tag (Ok command) = heard_command host user nonce clock tag command
+heard_line host user nonce clock tag (Err fault) = refuses tag (of_grammar fault)
 
 -- the tag of a line is its first token
 abbrev pub tag_of : List Token → Option (List ℕ)
@@ -56,12 +79,49 @@ tag_of tokens = option_map (λ t. t.value) (slice_get tokens 0)
 abbrev pub ready_line : List ℕ
 ready_line = codes "+ \"Ready\"" ++ crlf
 
-unfoldable pub heard : Option (List ℕ) → Lexed → Next × Stage
-heard user lexed.More = (next.More, stage.Ready)
-heard user lexed.Plus = (next.Say ready_line, stage.Ready)
-heard user (lexed.Line tokens) = heard_line user (tag_of tokens) (command_of tokens)
-heard user (lexed.Bad fault tag) = says tag (said.Refused (of_lexical fault))
-heard user (lexed.Fatal fault) = closes None (said.Refused (of_lexical fault))
+-- what a session at that host, of that user if there is one, says to what it hears while no answer is awaited
+unfoldable pub heard : List ℕ → Option (List ℕ) → ℕ → ℤ → Lexed → Next × Stage
+heard host user nonce clock lexed.More = (next.More, stage.Ready)
+heard host user nonce clock lexed.Plus = (next.Say ready_line, stage.Ready)
+heard host user nonce clock (lexed.Line tokens) = heard_line host user nonce clock (tag_of tokens) (command_of tokens)
+heard host user nonce clock (lexed.Bad fault tag) = refuses tag (of_lexical fault)
+heard host user nonce clock (lexed.Fatal fault) = closes None (said.Refused (of_lexical fault))
+
+-- ---- the client's answer to a challenge
+
+-- whom an answer logs in
+abbrev pub who : List User → List ℕ → List ℕ → Option (List ℕ)
+who users challenge answer = option_and_then (λ place. name_at users place) (accepted users challenge answer)
+
+-- who is logged in asks to enter
+abbrev pub logs_in : Option (List ℕ) → Option (List ℕ) → Next × Stage
+logs_in tag None = refuses tag refusals.LoginFailed
+logs_in tag (Some user) = (next.Ask (event.Enter user), stage.LoggingIn tag user)
+
+-- why a token that is no string is refused: the word `*` gives the login up
+abbrev pub refusal_of : Kind → List ℕ → Refusal
+refusal_of kind.Word text = if bytes_eq text (codes "*") then refusals.Cancelled else refusals.Arguments
+refusal_of other text = refusals.Arguments
+
+-- an answer is a string
+abbrev pub answer_token : List User → Option (List ℕ) → List ℕ → Kind → List ℕ → Next × Stage
+answer_token users tag challenge kind.Quoted answer = logs_in tag (who users challenge answer)
+answer_token users tag challenge kind.Literal answer = logs_in tag (who users challenge answer)
+answer_token users tag challenge other text = refuses tag (refusal_of other text)
+
+-- it stands alone in its line
+abbrev pub answer_line : List User → Option (List ℕ) → List ℕ → List Token → Next × Stage
+answer_line users tag challenge (token ∷ []) = answer_token users tag challenge token.kind token.value
+answer_line users tag challenge [] = refuses tag refusals.Arguments
+answer_line users tag challenge (token ∷ other ∷ tokens) = refuses tag refusals.Arguments
+
+-- what a session says to what it hears while the answer to a challenge is awaited
+unfoldable pub heard_answer : List User → Option (List ℕ) → List ℕ → Lexed → Next × Stage
+heard_answer users tag challenge lexed.More = (next.More, stage.Challenged tag challenge)
+heard_answer users tag challenge lexed.Plus = (next.Say ready_line, stage.Challenged tag challenge)
+heard_answer users tag challenge (lexed.Line tokens) = answer_line users tag challenge tokens
+heard_answer users tag challenge (lexed.Bad fault other) = refuses tag refusals.Arguments
+heard_answer users tag challenge (lexed.Fatal fault) = closes None (said.Refused (of_lexical fault))
 
 -- how a session begins: without a user it says the greeting, and a user's session first asks to enter
 unfoldable pub opening : Option (List ℕ) → Next × Stage

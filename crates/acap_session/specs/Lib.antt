@@ -1,7 +1,9 @@
-pub mod Asking
 pub mod Examples
 pub mod Hearing
-pub mod Laws
-pub mod Run
+pub mod Piping
+pub mod Places
+pub mod Saying
 pub mod Session
 pub mod Talking
+pub mod Turning
+pub mod World

@@ -1,92 +1,141 @@
 //! What is said to what a session hears.
 
-ghost use Rattle.std.specs.Prelude.{◌≡◌, [], IfOk};
+ghost use Rattle.std.specs.Prelude.{◌≡◌, ◌++◌, [], None, IfOk, OnOk, OnErr};
 ghost use Rattle.acap_grammar.specs.Grammar.{command_of};
 ghost use Rattle.acap_grammar.specs.Replies.{octets_of};
+ghost use Rattle.acap_login.specs.Login.{challenge_of};
 ghost use Rattle.acap_session.specs.Hearing as hearing;
-ghost use Rattle.acap_session.specs.Session as talk;
-ghost use Rattle.acap_session.specs.declared.next.Next.TheVariants as nexts;
+ghost use Rattle.acap_session.specs.Saying.{added, heard_of};
+ghost use Rattle.acap_session.specs.declared.heard.Heard.TheVariants as hears;
 ghost use Rattle.acap_session.specs.declared.stage.Stage.TheVariants as stages;
 
-use crate::next::Next;
+use crate::heard::Heard;
 use crate::stage::Stage;
-use acap_entries::{Copying, Memory, Octets, UserName};
+use acap_entries::{Copying, Memory, Moment, Octets, UserName, Value};
 use acap_grammar::{Command, GrammarFault, Refusal, Reply, Said, Verb, parse, render};
 use acap_lexer::{Lexed, Tag, Tokens};
-use acap_machine::{Event, Fault};
+use acap_login::challenge;
+use acap_machine::Event;
 use std::alloc::Global;
 
-/// Most replies have no more octets than these.
-const REPLY_ROOM: usize = 64;
-
-// A reply as it is printed.
-fn printed(alloc: Global, reply: &Reply) -> Result<Octets, Memory>
-    ensures { IfOk result (λ made. made ≡ octets_of reply.now) }
-{
-    let mut octets = Vec::with_capacity(alloc, REPLY_ROOM)?;
-    render(reply, &mut octets)?;
-    Ok(Octets::from_vec(octets))
-}
-
 /// Words are said under a tag, and the session is ready again.
-pub(crate) fn says(alloc: Global, tag: Option<Octets>, said: Said) -> Result<(Next, Stage), Memory>
-    ensures { IfOk result (λ turn. turn ≡ hearing.says tag said) }
+pub(crate) fn says(
+    tag: Option<Octets>,
+    said: Said,
+    out: &mut Vec<u8>,
+) -> Result<(Heard, Stage), Memory>
+    ensures ok { IfOk result (λ turn. turn ≡ (heard_of (hearing.says tag said).0, stages.Ready)) }
+    ensures out { OnOk result (out.new.items ≡ added out.old.items (hearing.says tag said).0) }
+    ensures err { OnErr result (out.new.items ≡ out.old.items) }
 {
-    let octets = printed(alloc, &Reply { tag, said })?;
-    Ok((Next::Say(octets), Stage::Ready))
+    render(&Reply { tag, said }, out)?;
+    Ok((Heard::Said, Stage::Ready))
 }
 
 /// Words are said under a tag, and the session is closed.
 pub(crate) fn closes(
-    alloc: Global,
     tag: Option<Octets>,
     said: Said,
-) -> Result<(Next, Stage), Memory>
-    ensures { IfOk result (λ turn. turn ≡ hearing.closes tag said) }
+    out: &mut Vec<u8>,
+) -> Result<(Heard, Stage), Memory>
+    ensures ok { IfOk result (λ turn. turn ≡ (heard_of (hearing.closes tag said).0, stages.Closed)) }
+    ensures out { OnOk result (out.new.items ≡ added out.old.items (hearing.closes tag said).0) }
+    ensures err { OnErr result (out.new.items ≡ out.old.items) }
 {
-    let octets = printed(alloc, &Reply { tag, said })?;
-    Ok((Next::Close(octets), Stage::Closed))
+    render(&Reply { tag, said }, out)?;
+    Ok((Heard::Closes, Stage::Closed))
 }
 
 // A command that concerns the store is the machine's, if there is a user.
 fn asks(
-    alloc: Global,
     user: &Option<UserName>,
     tag: Option<Octets>,
     command: Command,
-) -> Result<(Next, Stage), Memory>
-    ensures { IfOk result (λ turn. turn ≡ hearing.asks user.now tag command) }
+    out: &mut Vec<u8>,
+) -> Result<(Heard, Stage), Memory>
+    ensures ok { IfOk result (λ turn. turn ≡ (heard_of (hearing.asks user.now tag command).0, (hearing.asks user.now tag command).1)) }
+    ensures out { OnOk result (out.new.items ≡ added out.old.items (hearing.asks user.now tag command).0) }
+    ensures err { OnErr result (out.new.items ≡ out.old.items) }
 {
     match user {
-        Some(_) => Ok((Next::Ask(Event::Command(command)), Stage::Asked(tag))),
-        None => says(alloc, tag, Said::Refused(Refusal::NotLoggedIn)),
+        Some(_) => Ok((Heard::Asks(Event::Command(command)), Stage::Asked(tag))),
+        None => says(tag, Said::Refused(Refusal::NotLoggedIn), out),
     }
 }
 
-// No mechanism is offered yet, and a user who is logged in needs none.
-fn authenticated(user: &Option<UserName>) -> Refusal
-    ensures { result ≡ hearing.authenticated user.now }
+// How many whole seconds a moment is behind the start of 1970, and none where it lies before.
+fn seconds(clock: Moment) -> u64
+    ensures { result ≡ hearing.seconds_of clock }
 {
-    match user {
-        Some(_) => Refusal::LoggedIn,
-        None => Refusal::NoMechanism,
+    let micros = clock.micros();
+    if micros < 0 {
+        return 0;
     }
+    micros as u64 / 1_000_000
+}
+
+// The client is to answer this challenge.
+fn challenges(
+    tag: Option<Octets>,
+    told: Octets,
+    out: &mut Vec<u8>,
+) -> Result<(Heard, Stage), Memory>
+    ensures ok { IfOk result (λ turn. turn ≡ (heard_of (hearing.challenges tag told).0, (hearing.challenges tag told).1)) }
+    ensures out { OnOk result (out.new.items ≡ added out.old.items (hearing.challenges tag told).0) }
+    ensures err { OnErr result (out.new.items ≡ out.old.items) }
+{
+    let reply = Reply::new(Said::Challenge(told.copy()?));
+    render(&reply, out)?;
+    Ok((Heard::Said, Stage::Challenged(tag, told)))
+}
+
+// A user who is logged in needs no mechanism; another is challenged, if the mechanism is CRAM-MD5.
+fn authenticates(
+    alloc: Global,
+    host: &Octets,
+    user: &Option<UserName>,
+    nonce: u64,
+    clock: Moment,
+    tag: Option<Octets>,
+    mechanism: &Value,
+    out: &mut Vec<u8>,
+) -> Result<(Heard, Stage), Memory>
+    ensures ok { IfOk result (λ turn. let x = hearing.authenticated host.now user.now nonce clock tag mechanism.now in turn ≡ (heard_of x.0, x.1)) }
+    ensures out { OnOk result (out.new.items ≡ added out.old.items (hearing.authenticated host.now user.now nonce clock tag mechanism.now).0) }
+    ensures err { OnErr result (out.new.items ≡ out.old.items) }
+{
+    if user.is_some() {
+        return says(tag, Said::Refused(Refusal::LoggedIn), out);
+    }
+    if !mechanism.as_slice().eq_ignore_ascii_case(b"CRAM-MD5") {
+        return says(tag, Said::Refused(Refusal::NoMechanism), out);
+    }
+    let told = challenge(alloc, nonce, seconds(clock), host.as_slice())?;
+    challenges(tag, Octets::from_vec(told), out)
 }
 
 #[tactic(auto, unfolding(crate::specs::Hearing::heard_command))]
 fn heard_command(
     alloc: Global,
+    host: &Octets,
     user: &Option<UserName>,
+    nonce: u64,
+    clock: Moment,
     tag: Option<Octets>,
     command: Command,
-) -> Result<(Next, Stage), Memory>
-    ensures { IfOk result (λ turn. turn ≡ hearing.heard_command user.now tag command) }
+    out: &mut Vec<u8>,
+) -> Result<(Heard, Stage), Memory>
+    ensures ok { IfOk result (λ turn. let x = hearing.heard_command host.now user.now nonce clock tag command in turn ≡ (heard_of x.0, x.1)) }
+    ensures out { OnOk result (out.new.items ≡ added out.old.items (hearing.heard_command host.now user.now nonce clock tag command).0) }
+    ensures err { OnErr result (out.new.items ≡ out.old.items) }
 {
     match command {
-        Command::Noop => says(alloc, tag, Said::Done(Verb::Noop)),
-        Command::Logout => closes(alloc, tag, Said::GoodBye),
-        Command::Authenticate(_) => says(alloc, tag, Said::Refused(authenticated(user))),
-        command => asks(alloc, user, tag, command),
+        Command::Noop => says(tag, Said::Done(Verb::Noop), out),
+        Command::Logout => closes(tag, Said::GoodBye, out),
+        Command::Authenticate(mechanism) => {
+            authenticates(alloc, host, user, nonce, clock, tag, &mechanism, out)
+        },
+        command => asks(user, tag, command, out),
     }
 }
 
@@ -102,24 +151,34 @@ fn tag_of(alloc: Global, tokens: &Tokens) -> Result<Option<Octets>, Memory>
 
 fn heard_line(
     alloc: Global,
+    host: &Octets,
     user: &Option<UserName>,
+    nonce: u64,
+    clock: Moment,
     tokens: &Tokens,
-) -> Result<(Next, Stage), Memory>
-    ensures { IfOk result (λ turn. turn ≡ hearing.heard_line user.now (hearing.tag_of tokens.now) (command_of tokens.now)) }
+    out: &mut Vec<u8>,
+) -> Result<(Heard, Stage), Memory>
+    ensures ok { IfOk result (λ turn. let x = hearing.heard_line host.now user.now nonce clock (hearing.tag_of tokens.now) (command_of tokens.now) in turn ≡ (heard_of x.0, x.1)) }
+    ensures out { OnOk result (out.new.items ≡ added out.old.items (hearing.heard_line host.now user.now nonce clock (hearing.tag_of tokens.now) (command_of tokens.now)).0) }
+    ensures err { OnErr result (out.new.items ≡ out.old.items) }
 {
     let tag = tag_of(alloc, tokens)?;
     match parse(alloc, tokens) {
-        Ok(command) => heard_command(alloc, user, tag, command),
+        Ok(command) => heard_command(alloc, host, user, nonce, clock, tag, command, out),
         Err(GrammarFault::Memory) => Err(Memory),
-        Err(fault) => says(alloc, tag, Said::Refused(Refusal::from(fault))),
+        Err(fault) => says(tag, Said::Refused(Refusal::from(fault)), out),
     }
 }
 
-// The continuation that a waiting literal is due.
-fn ready_line(alloc: Global) -> Result<Octets, Memory>
-    ensures { IfOk result (λ made. made ≡ hearing.ready_line) }
+/// The continuation that a waiting literal is due is said.
+pub(crate) fn continues(out: &mut Vec<u8>) -> Result<(), Memory>
+    ensures ok { OnOk result (out.new.items ≡ out.old.items ++ hearing.ready_line) }
+    ensures err { OnErr result (out.new.items ≡ out.old.items) }
 {
-    Octets::from_slice(alloc, b"+ \"Ready\"\r\n")
+    match out.extend_from_slice(b"+ \"Ready\"\r\n") {
+        Ok(()) => Ok(()),
+        Err(_) => Err(Memory),
+    }
 }
 
 fn copied(alloc: Global, tag: &Option<Tag>) -> Result<Option<Octets>, Memory>
@@ -131,88 +190,45 @@ fn copied(alloc: Global, tag: &Option<Tag>) -> Result<Option<Octets>, Memory>
     }
 }
 
-/// What a session says to an answer of its lexer, or what it asks the machine then.
+/// What a session that awaits no answer says to an answer of its lexer, or what it asks the machine then.
 #[tactic(auto, unfolding(crate::specs::Hearing::heard))]
 pub(crate) fn heard(
     alloc: Global,
+    host: &Octets,
     user: &Option<UserName>,
+    nonce: u64,
+    clock: Moment,
     lexed: &Lexed,
-) -> Result<(Next, Stage), Memory>
-    ensures { IfOk result (λ turn. turn ≡ hearing.heard user.now lexed.now) }
+    out: &mut Vec<u8>,
+) -> Result<(Heard, Stage), Memory>
+    ensures ok { IfOk result (λ turn. let x = hearing.heard host.now user.now nonce clock lexed.now in turn ≡ (heard_of x.0, x.1)) }
+    ensures out { OnOk result (out.new.items ≡ added out.old.items (hearing.heard host.now user.now nonce clock lexed.now).0) }
+    ensures err { OnErr result (out.new.items ≡ out.old.items) }
 {
     match lexed {
-        Lexed::More => Ok((Next::More, Stage::Ready)),
-        Lexed::Plus => Ok((Next::Say(ready_line(alloc)?), Stage::Ready)),
-        Lexed::Line(tokens) => heard_line(alloc, user, tokens),
+        Lexed::More => Ok((Heard::More, Stage::Ready)),
+        Lexed::Plus => {
+            continues(out)?;
+            Ok((Heard::Said, Stage::Ready))
+        }
+        Lexed::Line(tokens) => heard_line(alloc, host, user, nonce, clock, tokens, out),
         Lexed::Bad(fault, tag) => {
             let tag = copied(alloc, tag)?;
-            says(alloc, tag, Said::Refused(Refusal::from(*fault)))
+            says(tag, Said::Refused(Refusal::from(*fault)), out)
         }
-        Lexed::Fatal(fault) => closes(alloc, None, Said::Refused(Refusal::from(*fault))),
+        Lexed::Fatal(fault) => closes(None, Said::Refused(Refusal::from(*fault)), out),
     }
 }
 
 /// How a session begins: without a user it says the greeting, and a user's session first asks to enter.
 #[tactic(auto, unfolding(crate::specs::Hearing::opening))]
-pub(crate) fn opening(alloc: Global, user: &Option<UserName>) -> Result<(Next, Stage), Memory>
-    ensures { IfOk result (λ turn. turn ≡ hearing.opening user.now) }
+pub(crate) fn opening(user: &Option<UserName>, out: &mut Vec<u8>) -> Result<(Heard, Stage), Memory>
+    ensures ok { IfOk result (λ turn. turn ≡ (heard_of (hearing.opening user.now).0, (hearing.opening user.now).1)) }
+    ensures out { OnOk result (out.new.items ≡ added out.old.items (hearing.opening user.now).0) }
+    ensures err { OnErr result (out.new.items ≡ out.old.items) }
 {
     match user {
-        Some(user) => Ok((Next::Ask(Event::Enter(user.copy()?)), Stage::Entering)),
-        None => says(alloc, None, Said::Greeting),
-    }
-}
-
-// The machine's answer to a command is said under its tag.
-fn replied(
-    alloc: Global,
-    tag: Option<Octets>,
-    outcome: Result<Reply, Fault>,
-) -> Result<(Next, Stage), Memory>
-    ensures { IfOk result (λ turn. turn ≡ talk.replied tag outcome) }
-{
-    match outcome {
-        Ok(reply) => says(alloc, tag, reply.said),
-        Err(Fault::Memory) => says(alloc, tag, Said::Refused(Refusal::Memory)),
-        Err(Fault::HistoryFull) => says(alloc, tag, Said::Refused(Refusal::HistoryFull)),
-        Err(Fault::NotEntered) | Err(Fault::AlreadyEntered) => Ok(silent(alloc)),
-    }
-}
-
-// The session is closed without a word.
-fn silent(alloc: Global) -> (Next, Stage)
-    ensures { result ≡ (nexts.Close [], stages.Closed) }
-{
-    (
-        Next::Close(Octets::from_vec(Vec::new(alloc))),
-        Stage::Closed,
-    )
-}
-
-// The answer to a user's entering begins the session, or ends it without a word.
-fn welcomed(alloc: Global, outcome: Result<Reply, Fault>) -> Result<(Next, Stage), Memory>
-    ensures { IfOk result (λ turn. turn ≡ talk.welcomed outcome) }
-{
-    match outcome {
-        Ok(reply) => says(alloc, None, reply.said),
-        Err(_) => Ok(silent(alloc)),
-    }
-}
-
-/// What a session at that stage says to the machine's answer.
-#[tactic(auto, unfolding(crate::specs::Session::answered))]
-pub(crate) fn answered(
-    alloc: Global,
-    stage: Stage,
-    outcome: Result<Reply, Fault>,
-) -> Result<(Next, Stage), Memory>
-    ensures { IfOk result (λ turn. turn ≡ talk.answered stage outcome) }
-{
-    match stage {
-        Stage::Entering => welcomed(alloc, outcome),
-        Stage::Asked(tag) => replied(alloc, tag, outcome),
-        Stage::Opening => Ok((Next::More, Stage::Opening)),
-        Stage::Ready => Ok((Next::More, Stage::Ready)),
-        Stage::Closed => Ok((Next::More, Stage::Closed)),
+        Some(user) => Ok((Heard::Asks(Event::Enter(user.copy()?)), Stage::Entering)),
+        None => says(None, Said::Greeting, out),
     }
 }

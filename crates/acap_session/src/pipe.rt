@@ -1,11 +1,20 @@
-ghost use Rattle.std.specs.Prelude.{◌≡◌, [], IfSome, OnOk};
-ghost use Rattle.std.specs.Io.KnownBytes.{Appends};
-ghost use Rattle.acap_session.specs.Run.{IsWritten};
+//! One session of a user between a reader and a writer.
 
+ghost use Rattle.std.specs.Prelude.{◌≡◌, [], false, IfErr, OnOk};
+ghost use Rattle.std.specs.Io.KnownBytes.{Appends};
+ghost use Rattle.acap_session.specs.Piping as piping;
+ghost use Rattle.acap_session.specs.Piping.{Goes, HasAnswered, HasRoom, HasTurned, IsFed, IsLater, IsSettled, Pipes, Serves};
+ghost use Rattle.acap_session.specs.Session.{is_closed};
+ghost use Rattle.acap_session.specs.declared.pipe_fault.PipeFault.TheVariants as faults;
+ghost use Rattle.acap_session.specs.Turning.{scene};
+
+use crate::occasion::Occasion;
 use crate::pipe_fault::PipeFault;
 use crate::session::Session;
-use crate::turns::{answer_all, feed};
-use acap_entries::{Memory, Octets, UserName};
+use crate::turn::Turn;
+use crate::turns::turn;
+use acap_entries::{Memory, Moment, Octets, Seat, UserName};
+use acap_login::Users;
 use acap_machine::State;
 use std::alloc::Global;
 use std::io::{Read, Write};
@@ -13,10 +22,64 @@ use std::io::{Read, Write};
 /// After so many reads a session ends as if the reader had failed.
 const READS: u32 = 1_000_000_000;
 
+// The one seat of a session that has a machine of its own, whose clock always shows the start of 1970.
+fn always() -> Occasion
+    ensures { result ≡ piping.always }
+{
+    Occasion {
+        seat: Seat::new(0).unwrap(),
+        clock: Moment::new(0).unwrap(),
+        nonce: 0,
+    }
+}
+
+// Makes all turns that can be made, and adds what they say.
+fn settle(
+    alloc: Global,
+    session: &mut Session,
+    state: &mut State,
+    users: &Users,
+    out: &mut Vec<u8>,
+) -> Result<(), Memory>
+    requires { Goes session.old }
+    ensures { OnOk result (IsSettled users.now (scene state.old.machine session.old out.old.items) (scene state.new.machine session.new out.new.items)) }
+{
+    loop {
+        match turn(alloc, session, state, users, always(), out)? {
+            Turn::Said => {}
+            Turn::More => return Ok(()),
+            Turn::Closed => return Ok(()),
+        }
+    }
+}
+
+// Gives a session a piece, and makes all turns that can be made. What comes behind a close isn't heard.
+fn feed(
+    alloc: Global,
+    session: &mut Session,
+    state: &mut State,
+    users: &Users,
+    piece: &[u8],
+    out: &mut Vec<u8>,
+) -> Result<(), Memory>
+    requires { HasRoom session.old }
+    ensures { OnOk result (IsFed users.now piece.now (scene state.old.machine session.old out.old.items) (scene state.new.machine session.new out.new.items)) }
+{
+    let mut rest = piece;
+    'parts: while !rest.is_empty() && !session.is_closed() {
+        let taken = session.push(rest)?;
+        let (_, behind) = rest.split_at(taken);
+        rest = behind;
+        settle(alloc, session, state, users, out)?;
+    }
+    Ok(())
+}
+
 // Writes all that is to be written, so that whoever waits for it has it.
 fn send<W: Write>(writer: &mut W, out: &mut Vec<u8>) -> Result<(), PipeFault>
     ensures sent { OnOk result (Appends (W.contents writer.old) (W.contents writer.new) out.old.items) }
     ensures empty { OnOk result (out.new.items ≡ []) }
+    ensures fault { IfErr result (λ fault. fault ≡ faults.Write) }
 {
     let Ok(()) = writer.write_all(out) else {
         return Err(PipeFault::Write);
@@ -28,41 +91,104 @@ fn send<W: Write>(writer: &mut W, out: &mut Vec<u8>) -> Result<(), PipeFault>
     Ok(())
 }
 
-/// One session of a user between a reader and a writer, with a machine of its own whose clock always shows 0
-/// (RFC 2244 section 2). It writes what it says as soon as the octets for it have come, and ends at a close or at the
-/// end of what is read; a command that isn't whole then is dropped.
-pub fn run_pipe<R: Read, W: Write>(
+// The first turn: the user enters, and is greeted.
+fn enter(
     alloc: Global,
+    session: &mut Session,
+    state: &mut State,
+    users: &Users,
+    out: &mut Vec<u8>,
+) -> Result<(), Memory>
+    ensures { OnOk result (HasTurned users.now (scene state.old.machine session.old out.old.items) (scene state.new.machine session.new out.new.items)) }
+{
+    let _ = turn(alloc, session, state, users, always(), out)?;
+    if session.is_closed() {
+        return Err(Memory);
+    }
+    Ok(())
+}
+
+// Hears a piece, and writes what is said to it, also where memory is refused then.
+fn answer<W: Write>(
+    alloc: Global,
+    session: &mut Session,
+    state: &mut State,
+    users: &Users,
+    piece: &[u8],
+    writer: &mut W,
+    out: &mut Vec<u8>,
+) -> Result<(), PipeFault>
+    requires room { HasRoom session.old }
+    requires sent { out.old.items ≡ [] }
+    ensures ok { OnOk result (HasAnswered users.now piece.now (W.contents writer.old) (W.contents writer.new) state.old.machine session.old state.new.machine session.new) }
+    ensures empty { OnOk result (out.new.items ≡ []) }
+    ensures fault { IfErr result IsLater }
+{
+    let fed = feed(alloc, session, state, users, piece, out);
+    send(writer, out)?;
+    fed?;
+    Ok(())
+}
+
+// Reads piece by piece, and writes what is said to each before the next is read.
+fn serve<R: Read, W: Write>(
+    alloc: Global,
+    session: &mut Session,
+    state: &mut State,
+    users: &Users,
     reader: &mut R,
     writer: &mut W,
-    user: UserName,
+    out: &mut Vec<u8>,
 ) -> Result<(), PipeFault>
-    ensures { OnOk result (IfSome (R.remaining reader.old) (λ input. IsWritten user input (W.contents writer.old) (W.contents writer.new))) }
+    requires room { HasRoom session.old }
+    requires going { is_closed session.old.stage ≡ false }
+    requires sent { out.old.items ≡ [] }
+    requires nobody { users.now ≡ [] }
+    ensures { Serves (R.remaining reader.old) (R.remaining reader.new) (W.contents writer.old) (W.contents writer.new) state.old.machine session.old result }
 {
-    let host = Octets::from_slice(alloc, b"localhost")?;
-    let mut session = Session::new(alloc, host, Some(user));
-    let mut state = State::new(alloc);
-    let mut out = Vec::new(alloc);
-    let mut closed = answer_all(alloc, &mut session, &mut state, &mut out)?;
     let mut buffer = [0u8; 4096];
-    for _ in 0..READS {
-        send(writer, &mut out)?;
-        if closed {
-            return Ok(());
-        }
+    'reads: for _ in 0..READS {
         let Ok(count) = reader.read(&mut buffer) else {
             return Err(PipeFault::Read);
         };
         if count == 0 {
             return Ok(());
         }
-        match feed(alloc, &mut session, &mut state, &buffer[..count], &mut out) {
-            Ok(over) => closed = over,
-            Err(Memory) => {
-                let _ = send(writer, &mut out);
-                return Err(PipeFault::Memory);
-            }
+        let piece = &buffer[..count];
+        answer(alloc, session, state, users, piece, writer, out)?;
+        if session.is_closed() {
+            return Ok(());
         }
     }
     Err(PipeFault::Read)
+}
+
+/// One session of a user between a reader and a writer, with a machine of its own whose clock always shows 0
+/// (RFC 2244 section 2). It writes what it says as soon as the octets for it have come, and ends at a close or at the
+/// end of what is read; a command that isn't whole then is dropped. Where the reader fails, what it gave before is
+/// answered. After a fault of the writer or of memory nothing is said of how much was written.
+pub fn run_pipe<R: Read, W: Write>(
+    alloc: Global,
+    reader: &mut R,
+    writer: &mut W,
+    user: UserName,
+) -> Result<(), PipeFault>
+    ensures { Pipes user (R.remaining reader.old) (R.remaining reader.new) (W.contents writer.old) (W.contents writer.new) result }
+{
+    let host = Octets::from_slice(alloc, b"localhost")?;
+    let users = Users::new(Vec::new(alloc));
+    let mut session = Session::new(alloc, host, Some(user));
+    let mut state = State::new(alloc);
+    let mut out = Vec::new(alloc);
+    enter(alloc, &mut session, &mut state, &users, &mut out)?;
+    send(writer, &mut out)?;
+    serve(
+        alloc,
+        &mut session,
+        &mut state,
+        &users,
+        reader,
+        writer,
+        &mut out,
+    )
 }

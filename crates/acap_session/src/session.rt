@@ -1,22 +1,27 @@
 //! One session between a client and the machine.
 
-ghost use Rattle.std.specs.Prelude.{◌≡◌, ◌-◌, ◌++◌, [], true, None, min, length, take, IfOk, OnErr, Ok};
+ghost use Rattle.std.specs.Prelude.{◌≡◌, ◌-◌, ◌++◌, [], true, None, min, length, take, IfOk, OnOk, OnErr, Ok, IsErr};
 ghost use Rattle.acap_lexer.specs.Holding.{held_limit};
-ghost use Rattle.acap_lexer.specs.Held.{next_of};
-ghost use Rattle.acap_lexer.specs.declared.mode.Mode.TheVariants as mode;
-ghost use Rattle.acap_session.specs.Hearing.{heard};
-ghost use Rattle.acap_session.specs.Session.{session_next, next_at, answered, is_asked};
+ghost use Rattle.acap_session.specs.Saying as saying;
+ghost use Rattle.acap_session.specs.Saying.{added, heard_of};
+ghost use Rattle.acap_session.specs.Session as session;
+ghost use Rattle.acap_session.specs.Session.{Awaits, answered, drain_in, has_seat, is_asked, is_closed, session_drain, session_next};
 ghost use Rattle.acap_session.specs.declared.stage.Stage.TheVariants as stages;
 
-use crate::hearing::{answered, heard, opening};
+use crate::answering::answered;
+use crate::heard::Heard;
+use crate::hearing::{heard, opening};
+use crate::logging::heard_answer;
 use crate::next::Next;
 use crate::stage::Stage;
-use acap_entries::{Memory, Octets, UserName};
+use acap_entries::{Memory, Moment, Octets, UserName};
 use acap_grammar::Reply;
 use acap_lexer::{Lexed, Lexer, Mode};
-use acap_machine::Fault;
+use acap_login::Users;
+use acap_machine::{Event, Fault};
 use std::alloc::Global;
 use std::marker::Model;
+use std::mem;
 
 // Hands the memory of a line's tokens back to its lexer.
 fn hand_back(lexer: &mut Lexer, lexed: Lexed)
@@ -25,6 +30,18 @@ fn hand_back(lexer: &mut Lexer, lexed: Lexed)
     match lexed {
         Lexed::Line(tokens) => lexer.take_back(tokens),
         _ => {}
+    }
+}
+
+// What was said, as octets of its own.
+fn next_of(heard: Heard, octets: Vec<u8>) -> Next
+    ensures { result ≡ saying.next_of heard octets.items }
+{
+    match heard {
+        Heard::More => Next::More,
+        Heard::Said => Next::Say(Octets::from_vec(octets)),
+        Heard::Asks(event) => Next::Ask(event),
+        Heard::Closes => Next::Close(Octets::from_vec(octets)),
     }
 }
 
@@ -74,57 +91,106 @@ impl Session {
         }
     }
 
-    /// What is next. Where memory is refused the session is closed.
-    #[tactic(auto, unfolding(crate::specs::Session::session_next))]
-    pub fn next(&mut self) -> Result<Next, Memory>
-        ensures ok { IfOk result (λ next. (next, self.new) ≡ session_next self.old) }
+    /// What is next, where the clock shows that moment; a login that begins is told that nonce (RFC 2195 section 2),
+    /// and one that ends is judged by those users. Where memory is refused the session is closed.
+    pub fn next(&mut self, users: &Users, nonce: u64, clock: Moment) -> Result<Next, Memory>
+        ensures ok { IfOk result (λ next. (next, self.new) ≡ session_next users.now nonce clock self.old) }
+        ensures asked { IfOk result (λ next. Awaits next self.new) }
         ensures err { OnErr result (self.new.stage ≡ stages.Closed) }
     {
-        match &self.stage {
+        let mut octets = Vec::new(self.alloc);
+        let heard = self.hear(users, nonce, clock, &mut octets)?;
+        Ok(next_of(heard, octets))
+    }
+
+    /// The same, where the octets that are said are added to those that are lent.
+    #[tactic(auto, unfolding(crate::specs::Session::session_next))]
+    pub(crate) fn hear(
+        &mut self,
+        users: &Users,
+        nonce: u64,
+        clock: Moment,
+        out: &mut Vec<u8>,
+    ) -> Result<Heard, Memory>
+        ensures ok { IfOk result (λ heard. heard ≡ heard_of (session_next users.now nonce clock self.old).0) }
+        ensures session { IfOk result (λ heard. self.new ≡ (session_next users.now nonce clock self.old).1) }
+        ensures out { OnOk result (out.new.items ≡ added out.old.items (session_next users.now nonce clock self.old).0) }
+        ensures cut { OnErr result (out.new.items ≡ out.old.items) }
+        ensures err { OnErr result (self.new.stage ≡ stages.Closed) }
+    {
+        match mem::replace(&mut self.stage, Stage::Closed) {
             Stage::Opening => {
-                let turn = opening(self.alloc, &self.user);
+                let turn = opening(&self.user, out);
                 self.settle(turn)
             }
-            Stage::Ready => self.hear(),
-            _ => Ok(Next::More),
+            Stage::Ready => self.hear_command(nonce, clock, out),
+            Stage::Challenged(tag, challenge) => self.hear_answer(users, tag, challenge, out),
+            stage => {
+                self.stage = stage;
+                Ok(Heard::More)
+            }
         }
     }
 
-    // Hears what comes next of the octets taken.
-    fn hear(&mut self) -> Result<Next, Memory>
-        requires { self.old.stage ≡ stages.Ready }
-        ensures ok { IfOk result (λ next. (next, self.new) ≡ next_at stages.Ready self.old) }
+    // Hears the lexer's next answer where no answer to a challenge is awaited. The memory of a line's tokens is the
+    // next line's.
+    fn hear_command(
+        &mut self,
+        nonce: u64,
+        clock: Moment,
+        out: &mut Vec<u8>,
+    ) -> Result<Heard, Memory>
+        requires { self.old.stage ≡ stages.Closed }
+        ensures ok { IfOk result (λ heard. heard ≡ heard_of (session.heard_at self.old nonce clock).0) }
+        ensures session { IfOk result (λ heard. self.new ≡ (session.heard_at self.old nonce clock).1) }
+        ensures out { OnOk result (out.new.items ≡ added out.old.items (session.heard_at self.old nonce clock).0) }
+        ensures cut { OnErr result (out.new.items ≡ out.old.items) }
         ensures err { OnErr result (self.new.stage ≡ stages.Closed) }
     {
-        let turn = self.heard_next();
+        let Ok(lexed) = self.lexer.next(Mode::Command) else {
+            return Err(Memory);
+        };
+        let turn = heard(
+            self.alloc, &self.host, &self.user, nonce, clock, &lexed, out,
+        );
+        hand_back(&mut self.lexer, lexed);
         self.settle(turn)
     }
 
-    // What is said to the lexer's next answer. The memory of a line's tokens is the next line's.
-    fn heard_next(&mut self) -> Result<(Next, Stage), Memory>
-        ensures turn { IfOk result (λ turn. turn ≡ heard self.old.user (next_of mode.Command self.old.held).0) }
-        ensures session { IfOk result (λ turn. self.new ≡ record self.old { held = (next_of mode.Command self.old.held).1 }) }
+    // Hears the lexer's next answer where the answer to a challenge is awaited.
+    fn hear_answer(
+        &mut self,
+        users: &Users,
+        tag: Option<Octets>,
+        challenge: Octets,
+        out: &mut Vec<u8>,
+    ) -> Result<Heard, Memory>
+        requires { self.old.stage ≡ stages.Closed }
+        ensures ok { IfOk result (λ heard. heard ≡ heard_of (session.answer_at users.now tag challenge self.old).0) }
+        ensures session { IfOk result (λ heard. self.new ≡ (session.answer_at users.now tag challenge self.old).1) }
+        ensures out { OnOk result (out.new.items ≡ added out.old.items (session.answer_at users.now tag challenge self.old).0) }
+        ensures cut { OnErr result (out.new.items ≡ out.old.items) }
+        ensures err { OnErr result (self.new.stage ≡ stages.Closed) }
     {
-        match self.lexer.next(Mode::Command) {
-            Ok(lexed) => {
-                let turn = heard(self.alloc, &self.user, &lexed);
-                hand_back(&mut self.lexer, lexed);
-                turn
-            }
-            Err(_) => Err(Memory),
-        }
+        let Ok(lexed) = self.lexer.next(Mode::Answer) else {
+            return Err(Memory);
+        };
+        let turn = heard_answer(users, tag, challenge, &lexed, out);
+        hand_back(&mut self.lexer, lexed);
+        self.settle(turn)
     }
 
     // Comes to the stage that a turn leads to: where memory was refused the session is closed.
-    fn settle(&mut self, turn: Result<(Next, Stage), Memory>) -> Result<Next, Memory>
-        ensures ok { IfOk result (λ next. turn ≡ Ok (next, self.new.stage)) }
+    fn settle(&mut self, turn: Result<(Heard, Stage), Memory>) -> Result<Heard, Memory>
+        ensures ok { IfOk result (λ heard. turn ≡ Ok (heard, self.new.stage)) }
         ensures same { self.new ≡ record self.old { stage = self.new.stage } }
         ensures err { OnErr result (self.new.stage ≡ stages.Closed) }
+        ensures refused { OnErr result (IsErr turn) }
     {
         match turn {
-            Ok((next, stage)) => {
+            Ok((heard, stage)) => {
                 self.stage = stage;
-                Ok(next)
+                Ok(heard)
             }
             Err(Memory) => {
                 self.stage = Stage::Closed;
@@ -137,12 +203,80 @@ impl Session {
     /// memory is refused the session is closed, and the event stands.
     pub fn answer(&mut self, outcome: Result<Reply, Fault>) -> Result<Next, Memory>
         requires { is_asked self.old.stage ≡ true }
-        ensures ok { IfOk result (λ next. next ≡ (answered self.old.stage outcome).0) }
-        ensures session { IfOk result (λ next. self.new ≡ record self.old { stage = (answered self.old.stage outcome).1 }) }
+        ensures ok { IfOk result (λ next. (next, self.new) ≡ answered self.old outcome) }
         ensures err { OnErr result (self.new.stage ≡ stages.Closed) }
     {
-        let stage = std::mem::replace(&mut self.stage, Stage::Closed);
-        let turn = answered(self.alloc, stage, outcome);
+        let mut octets = Vec::new(self.alloc);
+        let heard = self.reply(outcome, &mut octets)?;
+        Ok(next_of(heard, octets))
+    }
+
+    /// The same, where the octets that are said are added to those that are lent.
+    #[tactic(auto, unfolding(crate::specs::Session::answered))]
+    pub(crate) fn reply(
+        &mut self,
+        outcome: Result<Reply, Fault>,
+        out: &mut Vec<u8>,
+    ) -> Result<Heard, Memory>
+        requires { is_asked self.old.stage ≡ true }
+        ensures ok { IfOk result (λ heard. heard ≡ heard_of (answered self.old outcome).0) }
+        ensures session { IfOk result (λ heard. self.new ≡ (answered self.old outcome).1) }
+        ensures out { OnOk result (out.new.items ≡ added out.old.items (answered self.old outcome).0) }
+        ensures cut { OnErr result (out.new.items ≡ out.old.items) }
+        ensures err { OnErr result (self.new.stage ≡ stages.Closed) }
+    {
+        let stage = mem::replace(&mut self.stage, Stage::Closed);
+        let turn = answered(stage, &mut self.user, outcome, out);
         self.settle(turn)
+    }
+
+    /// Asks for what is pending, if the session's user may: else nothing is next. Takes no memory.
+    #[tactic(auto, unfolding(crate::specs::Session::session_drain))]
+    pub fn drain(&mut self) -> Next
+        ensures value { (result, self.new) ≡ session_drain self.old }
+        ensures asked { Awaits result self.new }
+    {
+        if self.begin_drain() {
+            return Next::Ask(Event::Drain);
+        }
+        Next::More
+    }
+
+    /// Whether what is pending may be asked for, which is then awaited. Takes no memory.
+    #[tactic(auto, unfolding(crate::specs::Session::session_drain))]
+    pub(crate) fn begin_drain(&mut self) -> bool
+        ensures { (drain_in result, self.new) ≡ session_drain self.old }
+    {
+        match (&self.stage, &self.user) {
+            (Stage::Ready, Some(_)) => {
+                self.stage = Stage::Draining;
+                true
+            }
+            _ => false,
+        }
+    }
+
+    /// Whether its user has its seat in the machine.
+    pub(crate) fn has_seat(&self) -> bool
+        ensures { result ≡ has_seat self.now }
+    {
+        match self.stage {
+            Stage::Opening | Stage::Entering | Stage::Closed => false,
+            _ => self.user.is_some(),
+        }
+    }
+
+    /// Whether it is over.
+    pub fn is_closed(&self) -> bool
+        ensures { result ≡ is_closed self.now.stage }
+    {
+        matches!(self.stage, Stage::Closed)
+    }
+
+    /// Ends it without a word.
+    pub(crate) fn close(&mut self)
+        ensures { self.new ≡ record self.old { stage = stages.Closed } }
+    {
+        self.stage = Stage::Closed;
     }
 }

@@ -1,6 +1,6 @@
 //! What a session is about to do.
 
-use acap_entries::Octets;
+use acap_entries::{Octets, UserName};
 
 /// What a session is about to do.
 #[derive(Debug, Drop)]
@@ -13,6 +13,12 @@ pub enum Stage {
     Ready,
     /// A command with this tag awaits the machine's answer.
     Asked(Option<Octets>),
+    /// An AUTHENTICATE with this tag was told this challenge, and the next line answers it (RFC 2244 section 6.3.1).
+    Challenged(Option<Octets>, Octets),
+    /// An AUTHENTICATE with this tag was answered by this user, who has asked to enter.
+    LoggingIn(Option<Octets>, UserName),
+    /// What is pending for its user has been asked for.
+    Draining,
     /// It is over.
     Closed,
 }

@@ -1,135 +1,131 @@
-ghost use Rattle.std.specs.Prelude.{◌≡◌, ◌++◌, [], true, pos, IfOk, OnOk};
-ghost use Rattle.acap_session.specs.Asking.{Did, Asked, Shows, Answered, IsGoing, IsDone};
-ghost use Rattle.acap_session.specs.Session.{is_asked};
+//! Turns: one session, the machine, and what is said.
 
-use crate::next::Next;
+ghost use Rattle.std.specs.Prelude.{◌≡◌, ◌||◌, true, IfOk, OnErr};
+ghost use Rattle.acap_session.specs.Session.{is_asked, session_next, session_drain};
+ghost use Rattle.acap_session.specs.Turning.{scene, IsAsked, IsDrain, IsTurn, WasCut, CutInAsking, left_at, left_by, turn_from};
+
+use crate::heard::Heard;
+use crate::occasion::Occasion;
 use crate::session::Session;
 use crate::turn::Turn;
-use acap_entries::{Memory, Moment, Octets, Seat};
+use acap_entries::Memory;
+use acap_login::Users;
 use acap_machine::{Event, State};
 use std::alloc::Global;
 
-// The one seat of a session that has a machine of its own.
-fn first_seat() -> Seat
-    ensures { result ≡ 0 }
+/// A session that has its seat leaves it. Takes no memory.
+pub(crate) fn leave(alloc: Global, state: &mut State, occasion: Occasion, has_seat: bool)
+    ensures { state.new.machine ≡ left_by has_seat occasion state.old.machine }
 {
-    Seat::new(0).unwrap()
-}
-
-// What its clock always shows.
-fn no_time() -> Moment
-    ensures { result ≡ pos 0 }
-{
-    Moment::new(0).unwrap()
-}
-
-// Adds octets to those that are to be written.
-fn add(octets: &Octets, out: &mut Vec<u8>) -> Result<(), Memory>
-    ensures { OnOk result (out.new.items ≡ out.old.items ++ octets.now) }
-{
-    out.extend_from_slice(octets.as_slice())?;
-    Ok(())
-}
-
-// Adds what is said.
-fn show(words: Next, out: &mut Vec<u8>) -> Result<Turn, Memory>
-    ensures { IfOk result (λ turn. Shows turn words out.old.items out.new.items) }
-{
-    match words {
-        Next::Say(octets) => {
-            add(&octets, out)?;
-            Ok(Turn::Said)
-        }
-        Next::Close(octets) => {
-            add(&octets, out)?;
-            Ok(Turn::Closed)
-        }
-        Next::More => Ok(Turn::More),
-        Next::Ask(_) => Ok(Turn::More),
+    if has_seat {
+        let _ = state.step(alloc, occasion.seat, Event::Leave, occasion.clock);
     }
 }
 
-// Performs an event, and adds what is said to its answer.
-fn ask(
+// What a turn came to.
+fn came(heard: &Heard) -> Turn
+    ensures { result ≡ turn_from heard.now }
+{
+    match heard {
+        Heard::More => Turn::More,
+        Heard::Said => Turn::Said,
+        Heard::Asks(_) => Turn::More,
+        Heard::Closes => Turn::Closed,
+    }
+}
+
+// A session that is over leaves its seat.
+fn finish(
+    alloc: Global,
+    state: &mut State,
+    occasion: Occasion,
+    has_seat: bool,
+    heard: &Heard,
+) -> Turn
+    ensures turn { result ≡ turn_from heard.now }
+    ensures machine { state.new.machine ≡ left_at heard.now has_seat occasion state.old.machine }
+{
+    let turn = came(heard);
+    if turn == Turn::Closed {
+        leave(alloc, state, occasion, has_seat);
+    }
+    turn
+}
+
+// The event that a session asked is performed, and what it says to the answer is added.
+fn perform(
     alloc: Global,
     session: &mut Session,
     state: &mut State,
+    occasion: Occasion,
     event: Event,
     out: &mut Vec<u8>,
 ) -> Result<Turn, Memory>
     requires { is_asked session.old.stage ≡ true }
-    ensures { IfOk result (λ turn. Asked event turn out.old.items state.old.machine session.old out.new.items state.new.machine session.new) }
+    ensures ok { IfOk result (λ turn. IsAsked occasion event (scene state.old.machine session.old out.old.items) turn (scene state.new.machine session.new out.new.items)) }
+    ensures err { OnErr result (CutInAsking occasion event (scene state.old.machine session.old out.old.items) (scene state.new.machine session.new out.new.items)) }
 {
-    let outcome = state.step(alloc, first_seat(), event, no_time());
-    let words = session.answer(outcome)?;
-    let turn = show(words, out)?;
-    Ok(turn)
+    let had_seat = session.has_seat();
+    let outcome = state.step(alloc, occasion.seat, event, occasion.clock);
+    let has_seat = either(had_seat, outcome.is_ok());
+    match session.reply(outcome, out) {
+        Ok(heard) => Ok(finish(alloc, state, occasion, has_seat, &heard)),
+        Err(Memory) => {
+            leave(alloc, state, occasion, has_seat);
+            Err(Memory)
+        }
+    }
 }
 
-// Makes one turn of a session, and adds what it says.
-fn turn(
+// Whether one of them holds.
+fn either(first: bool, second: bool) -> bool
+    ensures { result ≡ (first || second) }
+{
+    first || second
+}
+
+/// Makes one turn of a session, and adds what it says. Where memory is refused the session is closed, and an event that
+/// it asked stands.
+pub(crate) fn turn(
     alloc: Global,
     session: &mut Session,
     state: &mut State,
+    users: &Users,
+    occasion: Occasion,
     out: &mut Vec<u8>,
 ) -> Result<Turn, Memory>
-    ensures { IfOk result (λ turn. Did turn out.old.items state.old.machine session.old out.new.items state.new.machine session.new) }
+    ensures ok { IfOk result (λ turn. IsTurn users.now occasion (scene state.old.machine session.old out.old.items) turn (scene state.new.machine session.new out.new.items)) }
+    ensures err { OnErr result (WasCut occasion (scene state.old.machine session.old out.old.items) (session_next users.now occasion.nonce occasion.clock session.old) (scene state.new.machine session.new out.new.items)) }
 {
-    match session.next()? {
-        Next::More => Ok(Turn::More),
-        Next::Say(octets) => {
-            add(&octets, out)?;
-            Ok(Turn::Said)
-        }
-        Next::Close(octets) => {
-            add(&octets, out)?;
+    let has_seat = session.has_seat();
+    let Ok(heard) = session.hear(users, occasion.nonce, occasion.clock, out) else {
+        leave(alloc, state, occasion, has_seat);
+        return Err(Memory);
+    };
+    match heard {
+        Heard::More => Ok(Turn::More),
+        Heard::Said => Ok(Turn::Said),
+        Heard::Asks(event) => perform(alloc, session, state, occasion, event, out),
+        Heard::Closes => {
+            leave(alloc, state, occasion, has_seat);
             Ok(Turn::Closed)
         }
-        Next::Ask(event) => {
-            let turn = ask(alloc, session, state, event, out)?;
-            Ok(turn)
-        }
     }
 }
 
-/// Makes all turns that can be made, and adds what they say. Tells whether the session is over.
-pub(crate) fn answer_all(
+/// Asks for what is pending for a session's user, if it may be asked, and adds it.
+pub(crate) fn drain(
     alloc: Global,
     session: &mut Session,
     state: &mut State,
+    occasion: Occasion,
     out: &mut Vec<u8>,
-) -> Result<bool, Memory>
-    requires { IsGoing session.old }
-    ensures { IfOk result (λ closed. Answered [] out.old.items state.old.machine session.old closed out.new.items state.new.machine session.new) }
+) -> Result<Turn, Memory>
+    ensures ok { IfOk result (λ turn. IsDrain occasion (scene state.old.machine session.old out.old.items) turn (scene state.new.machine session.new out.new.items)) }
+    ensures err { OnErr result (WasCut occasion (scene state.old.machine session.old out.old.items) (session_drain session.old) (scene state.new.machine session.new out.new.items)) }
 {
-    loop {
-        match turn(alloc, session, state, out)? {
-            Turn::More => return Ok(false),
-            Turn::Said => {}
-            Turn::Closed => return Ok(true),
-        }
+    if !session.begin_drain() {
+        return Ok(Turn::More);
     }
-}
-
-/// Gives a session a piece, and makes all turns that can be made. Tells whether the session is over.
-pub(crate) fn feed(
-    alloc: Global,
-    session: &mut Session,
-    state: &mut State,
-    piece: &[u8],
-    out: &mut Vec<u8>,
-) -> Result<bool, Memory>
-    requires { IsDone session.old }
-    ensures { IfOk result (λ closed. Answered piece.now out.old.items state.old.machine session.old closed out.new.items state.new.machine session.new) }
-{
-    let mut rest = piece;
-    while !rest.is_empty() {
-        let taken = session.push(rest)?;
-        let (_, behind) = rest.split_at(taken);
-        rest = behind;
-        if answer_all(alloc, session, state, out)? {
-            return Ok(true);
-        }
-    }
-    Ok(false)
+    perform(alloc, session, state, occasion, Event::Drain, out)
 }

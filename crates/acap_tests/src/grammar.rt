@@ -3,15 +3,8 @@ use acap_grammar::{Command, GrammarFault, parse};
 use acap_lexer::{Lexed, Lexer, Mode};
 use std::alloc::Global;
 
-mod arguments;
-mod commands;
-mod faults;
-mod limits;
 mod memory;
-mod name_faults;
 mod replies;
-mod search_faults;
-mod showing;
 
 /// What the tokens of a line come to; where a line has none, or memory is refused for them, `Memory`.
 pub(crate) fn command_of(alloc: Global, line: &[u8]) -> Result<Command, GrammarFault> {
@@ -37,9 +30,4 @@ pub(crate) fn fault_of(alloc: Global, line: &[u8]) -> Option<GrammarFault> {
         Ok(_) => None,
         Err(fault) => Some(fault),
     }
-}
-
-/// Octets for a message.
-pub(crate) fn printable(text: &[u8]) -> &str {
-    std::str::from_utf8(text).unwrap_or("octets")
 }

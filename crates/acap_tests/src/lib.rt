@@ -16,4 +16,6 @@ mod pipe;
 #[cfg(test)]
 mod printing;
 #[cfg(test)]
+mod sessions;
+#[cfg(test)]
 mod tree;

@@ -16,19 +16,13 @@ use std::alloc::Global;
 mod changes;
 mod events;
 mod memory;
-mod refusals;
-mod unserved;
 
 pub(crate) const HELLO: &[u8] =
     b"* ACAP (IMPLEMENTATION \"acapd\") (SASL \"CRAM-MD5\") (CONTEXTLIMIT \"200\")\r\n";
 
 pub(crate) const STORED: &[u8] = b"A1 OK \"STORE done\"\r\n";
 
-pub(crate) const SEARCHED: &[u8] = b"A1 OK \"SEARCH done\"\r\n";
-
 pub(crate) const UNSERVED: &[u8] = b"A1 BAD \"Not served yet\"\r\n";
-
-pub(crate) const TWICE: &[u8] = b"A1 BAD \"Not permitted twice\"\r\n";
 
 pub(crate) const LIMIT: &[u8] = b"A1 NO \"Limit reached\"\r\n";
 
@@ -36,9 +30,6 @@ pub(crate) const CLOCK_END: &[u8] = b"A1 NO \"Clock at its end\"\r\n";
 
 pub(crate) const NO_DATASET: &[u8] =
     b"A1 NO (NOEXIST \"/option/user/joe/\") \"No such dataset\"\r\n";
-
-pub(crate) const INVALID: &[u8] =
-    b"A1 NO (INVALID (\"/option/user/joe/n\" \"modtime\")) \"Invalid value\"\r\n";
 
 // The user's own dataset as it is sent and as it is meant, three entries of it, and an entry that isn't the user's.
 pub(crate) const HOME: &[u8] = b"/option/~/";
@@ -126,18 +117,6 @@ pub(crate) fn give(alloc: Global, path: &[u8], items: &[(&[u8], &[u8])]) -> Resu
     for (attribute, text) in items {
         made.push(item_of(alloc, attribute, text)?)?;
     }
-    put_items(alloc, path, made)
-}
-
-// A STORE of one entry with one attribute that is given a cell.
-pub(crate) fn give_cell(
-    alloc: Global,
-    path: &[u8],
-    attribute: &[u8],
-    cell: Cell,
-) -> Result<Event, Memory> {
-    let mut made = StoreItems::new(alloc);
-    made.push(item(alloc, attribute, cell)?)?;
     put_items(alloc, path, made)
 }
 
@@ -301,21 +280,4 @@ pub(crate) fn holds(tree: &Tree, dataset: &[u8], name: &[u8], text: &[u8], micro
         _ => false,
     };
     kept && record.present && record.modtime == moment(micros)
-}
-
-// What is stored is found, each STORE at a moment of its own (RFC 2244 sections 6.4.1 and 6.6.1).
-#[test]
-fn stores_and_finds(rt: HostRuntime) -> Result<(), Fault> {
-    let alloc = rt.alloc();
-    let mut state = joined(alloc)?;
-    let (option, modtime): (&[u8], &[u8]) = (b"option.value", b"modtime");
-    assert!(rt; stores(alloc, &mut state, 0, &[(FONT, option, b"mono")], STORED)?);
-    let text =
-        b"A1 ENTRY \"font\" \"mono\" \"19700101000000000000\"\r\nA1 MODTIME \"19700101000000000000\"\r\nA1 OK \"SEARCH done\"\r\n";
-    assert!(rt; finds(alloc, &mut state, HOME, Some(&[option, modtime]), text)?);
-    assert!(rt; stores(alloc, &mut state, 0, &[(SIZE, option, b"10")], STORED)?);
-    let text =
-        b"A1 ENTRY \"font\" \"19700101000000000000\"\r\nA1 ENTRY \"size\" \"19700101000000000001\"\r\nA1 MODTIME \"19700101000000000001\"\r\nA1 OK \"SEARCH done\"\r\n";
-    assert!(rt; finds(alloc, &mut state, HOME, Some(&[modtime]), text)?);
-    Ok(())
 }

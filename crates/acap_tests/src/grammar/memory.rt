@@ -1,7 +1,5 @@
 //! Tests of commands and replies where an allocation may be refused, and of copies.
-use crate::grammar::commands::check_shown;
 use crate::grammar::replies::{found, values};
-use crate::grammar::showing::shown;
 use crate::grammar::{command_of, fault_of};
 use acap_entries::{Octets, Row, Sequence};
 use acap_grammar::{
@@ -14,106 +12,101 @@ use std::alloc::Global;
 const LONG: &[u8] =
     b"A1 SEARCH \"/option/~\" DEPTH 2 HARDLIMIT 5 LIMIT 3 4 MAKECONTEXT ENUMERATE NOTIFY \"c1\" NOINHERIT RETURN (\"b\" \"a*\" (\"size\" \"acl\") \"*\") SORT (\"b\" \"-i;octet\" \"c\" \"i;ascii-numeric\") AND OR NOT ALL EQUAL \"b\" \"i;octet\" \"x\" AND NOT RANGE 1 2 \"20000101000000\" OR PREFIX \"b\" \"i;ascii-casemap\" {3+}\r\nx\0y EQUAL \"d\" \"i;octet\" NIL";
 
-// What it shows.
-const LONG_SHOWN: &[u8] =
-    b"SEARCH dataset /option/~/ depth 2 hard 5 limit 3 4 make enumerate notify c1 noinherit return b(value) a*(size acl) *(attribute value) sort b -octet c +numeric key AND(OR(NOT(ALL) EQUAL(b +octet \"x\")) AND(NOT(RANGE(1 2 20000101000000000000)) OR(PREFIX(b +casemap \"x\0y\") EQUAL(d +octet NIL))))";
-
 // A STORE with all modifiers, and values of each kind.
 const WIDE: &[u8] =
     b"A1 STORE (\"/option/~/font\" NOCREATE UNCHANGEDSINCE \"20000229235960\" \"option.value\" \"mono\" \"b\" (\"acl\" DEFAULT \"value\" (\"x\" \"y\" {1+}\r\nz)) \"d\" NIL) (\"/a/\" \"e\" (\"acl\" (\"joe\tr\")) \"f\" DEFAULT)";
 
-// What it shows.
-const WIDE_SHOWN: &[u8] =
-    b"STORE [/option/~/ font nocreate since 20000229235959999999 | option.value value \"mono\" | b acl DEFAULT | b value (\"x\" \"y\" \"z\") | d value NIL] [/a/  | e acl (\"joe\tr\") | f value DEFAULT]";
-
 // A SETACL of an object with three parts.
 const ABOUT: &[u8] = b"A1 SETACL (\"/option/~\" \"b\" \"font\") \"joe\" \"rw\"";
-
-// What it shows.
-const ABOUT_SHOWN: &[u8] = b"SETACL [/option/~/ attribute b entry \"font\"] \"joe\" \"rw\"";
 
 // Contexts.
 const CONTEXTS: &[u8] = b"A1 UPDATECONTEXT \"a\" \"b\" {1+}\r\nc \"a\" \"d\" \"e\"";
 
-// What they show.
-const CONTEXTS_SHOWN: &[u8] = b"UPDATECONTEXT a b c a d e";
+// Whether a line is a command.
+fn is_read(alloc: Global, line: &[u8]) -> bool {
+    let read = command_of(alloc, line);
+    read.is_ok()
+}
 
-// Whether a line is refused memory, or is the command that is shown so where memory isn't refused.
-fn is_whole_or_refused(alloc: Global, line: &[u8], text: &[u8]) -> bool {
+// With ample memory each of them is read.
+#[test]
+fn reads_long_commands(rt: HostRuntime) {
+    assert!(rt; is_read(rt.alloc(), LONG));
+    assert!(rt; is_read(rt.alloc(), WIDE));
+    assert!(rt; is_read(rt.alloc(), ABOUT));
+    assert!(rt; is_read(rt.alloc(), CONTEXTS));
+}
+
+// Whether two commands are the same in all their parts, as far as memory isn't refused for telling.
+fn are_alike(alloc: Global, one: &Command, other: &Command) -> bool {
+    let shown = format!(in alloc; "{one:?}");
+    let wanted = format!(in alloc; "{other:?}");
+    match (&shown, &wanted) {
+        (Ok(shown), Ok(wanted)) => shown.as_str() == wanted.as_str(),
+        _ => true,
+    }
+}
+
+// Whether a line is that command again, or is refused memory.
+fn is_again(alloc: Global, line: &[u8], command: &Command) -> bool {
     let read = command_of(alloc, line);
     match &read {
-        Ok(command) => shows(alloc, command, text),
+        Ok(again) => are_alike(alloc, again, command),
         Err(fault) => *fault == GrammarFault::Memory,
     }
 }
 
-// With ample memory the long commands are what they show.
-#[test]
-fn reads_long_commands(rt: HostRuntime) {
-    let rows: [(&[u8], &[u8]); 4] = [
-        (LONG, LONG_SHOWN),
-        (WIDE, WIDE_SHOWN),
-        (ABOUT, ABOUT_SHOWN),
-        (CONTEXTS, CONTEXTS_SHOWN),
-    ];
-    check_shown(&rt, &rows);
+// Whether a line is the same command twice, or is refused memory.
+fn is_read_or_refused(alloc: Global, line: &[u8]) -> bool {
+    let read = command_of(alloc, line);
+    match &read {
+        Ok(command) => is_again(alloc, line, command),
+        Err(fault) => *fault == GrammarFault::Memory,
+    }
 }
 
 // Whichever allocation is refused: a SEARCH is refused memory, or is what it is.
 #[test]
 fn keeps_memory_of_a_search(rt: HostRuntime) {
-    assert!(rt; is_whole_or_refused(rt.alloc(), LONG, LONG_SHOWN));
+    assert!(rt; is_read_or_refused(rt.alloc(), LONG));
 }
 
 // The same of a STORE, of an object and of contexts.
 #[test]
 fn keeps_memory_of_the_others(rt: HostRuntime) {
-    assert!(rt; is_whole_or_refused(rt.alloc(), WIDE, WIDE_SHOWN));
-    assert!(rt; is_whole_or_refused(rt.alloc(), ABOUT, ABOUT_SHOWN));
-    assert!(rt; is_whole_or_refused(rt.alloc(), CONTEXTS, CONTEXTS_SHOWN));
+    assert!(rt; is_read_or_refused(rt.alloc(), WIDE));
+    assert!(rt; is_read_or_refused(rt.alloc(), ABOUT));
+    assert!(rt; is_read_or_refused(rt.alloc(), CONTEXTS));
 }
 
-// Whether a command shows that, unless memory is refused.
-fn shows(alloc: Global, command: &Command, text: &[u8]) -> bool {
-    match shown(alloc, command) {
-        Ok(all) => all.as_slice() == text,
-        Err(_) => true,
-    }
-}
-
-// Whether a copy of a command shows that, unless memory is refused.
-fn copy_shows(alloc: Global, command: &Command, text: &[u8]) -> bool {
+// Whether a copy of a command is the same command, unless memory is refused.
+fn is_copied(alloc: Global, command: &Command) -> bool {
     let copied = command.copy();
     match &copied {
-        Ok(copy) => shows(alloc, copy, text),
+        Ok(copy) => are_alike(alloc, copy, command),
         Err(_) => true,
     }
 }
 
-// Whether the copy of a line's command shows that, unless memory is refused.
-fn is_copied_or_refused(alloc: Global, line: &[u8], text: &[u8]) -> bool {
+// Whether a copy of a line's command is the same command, unless memory is refused.
+fn is_copied_or_refused(alloc: Global, line: &[u8]) -> bool {
     let read = command_of(alloc, line);
     match &read {
-        Ok(command) => copy_shows(alloc, command, text),
+        Ok(command) => is_copied(alloc, command),
         Err(fault) => *fault == GrammarFault::Memory,
     }
 }
 
-// Whichever allocation is refused: a copy of a command is refused memory, or shows what the command shows.
+// Whichever allocation is refused: a copy of a command is refused memory, or is the same command.
 #[test]
 fn copies_long_commands(rt: HostRuntime) {
-    let rows: [(&[u8], &[u8]); 7] = [
-        (LONG, LONG_SHOWN),
-        (WIDE, WIDE_SHOWN),
-        (ABOUT, ABOUT_SHOWN),
-        (CONTEXTS, CONTEXTS_SHOWN),
-        (b"A1 DELETEACL (\"/\") \"joe\"", b"DELETEACL [/] \"joe\""),
-        (b"A1 FREECONTEXT \"c\"", b"FREECONTEXT c"),
-        (b"A1 AUTHENTICATE \"x\"", b"AUTHENTICATE \"x\""),
-    ];
-    for (line, text) in rows {
-        assert!(rt; is_copied_or_refused(rt.alloc(), line, text), "{line:?}");
-    }
+    assert!(rt; is_copied_or_refused(rt.alloc(), LONG));
+    assert!(rt; is_copied_or_refused(rt.alloc(), WIDE));
+    assert!(rt; is_copied_or_refused(rt.alloc(), ABOUT));
+    assert!(rt; is_copied_or_refused(rt.alloc(), CONTEXTS));
+    assert!(rt; is_copied_or_refused(rt.alloc(), b"A1 DELETEACL (\"/\") \"joe\""));
+    assert!(rt; is_copied_or_refused(rt.alloc(), b"A1 FREECONTEXT \"c\""));
+    assert!(rt; is_copied_or_refused(rt.alloc(), b"A1 AUTHENTICATE \"x\""));
 }
 
 // Whether a list of none is one of none as a vector and back.

@@ -1,10 +1,11 @@
-//! Tests of what accepted STOREs leave, of limits and the clock, and of SEARCHes.
+//! Tests of what a STORE leaves that no answer tells, of two users, of the clock and of copies.
 ghost use Rattle.std.specs.Prelude.{◌<◌};
 
+use crate::grammar::command_of;
 use crate::machine::events::{entering, fault_of, is_free, said_to};
 use crate::machine::{
-    CLOCK_END, FONT, HOME, INVALID, LAST, LIMIT, NEW, OWN, SEARCHED, SITE, SIZE, STORED, UNSERVED,
-    cell_count, enter, finds, give, give_many, holds, is_made, joined, letters, moment, prints,
+    CLOCK_END, FONT, HOME, LAST, LIMIT, NEW, OWN, SITE, SIZE, STORED, UNSERVED, cell_count,
+    cells_after, enter, finds, give, give_many, holds, is_made, joined, letters, moment, prints,
     put, refuses, says, search, seat, stores,
 };
 use acap_grammar::Copying;
@@ -38,31 +39,6 @@ fn makes_missing_datasets(rt: HostRuntime) -> Result<(), Fault> {
     }
     assert!(rt; state.tree().len() == 7 && state.tree().dataset_exists(within));
     assert!(rt; !state.tree().dataset_exists(b"/option/user/joe/a/b/c/"));
-    Ok(())
-}
-
-// An entry may become a dataset too: in the STORE that gives it items, before that or behind it, and later on.
-#[test]
-fn makes_datasets_of_entries(rt: HostRuntime) -> Result<(), Fault> {
-    let alloc = rt.alloc();
-    let outer: (&[u8], &[u8], &[u8]) = (b"/option/~/a", b"k", b"v");
-    let inner: (&[u8], &[u8], &[u8]) = (b"/option/~/a/x", b"k", b"w");
-    let returns: &[&[u8]] = &[b"k", b"subdataset", b"modtime"];
-    let text =
-        b"A1 ENTRY \"a\" \"v\" (\".\") \"19700101000000000005\"\r\nA1 MODTIME \"19700101000000000005\"\r\nA1 OK \"SEARCH done\"\r\n";
-    for entries in [[outer, inner], [inner, outer]] {
-        let mut state = joined(alloc)?;
-        assert!(rt; stores(alloc, &mut state, 5, &entries, STORED)?);
-        assert!(rt; finds(alloc, &mut state, HOME, Some(returns), text)?);
-        assert!(rt; holds(state.tree(), b"/option/user/joe/a/", b"x", b"w", 5));
-        assert!(rt; state.tree().len() == 5);
-    }
-    let mut state = joined(alloc)?;
-    assert!(rt; stores(alloc, &mut state, 0, &[outer], STORED)?);
-    assert!(rt; !state.tree().dataset_exists(b"/option/user/joe/a/"));
-    assert!(rt; stores(alloc, &mut state, 5, &[inner], STORED)?);
-    assert!(rt; finds(alloc, &mut state, HOME, Some(returns), text)?);
-    assert!(rt; is_made(state.tree(), b"/option/user/", b"joe", 0));
     Ok(())
 }
 
@@ -117,54 +93,33 @@ fn serves_two_users(rt: HostRuntime) -> Result<(), Fault> {
     Ok(())
 }
 
-// Strings have at most 65,536 octets, and a longer one anywhere is the whole STORE's limit.
-#[test]
-fn limits_strings(rt: HostRuntime) -> Result<(), Fault> {
-    let alloc = rt.alloc();
-    let most = letters(alloc, 65_536)?;
-    let long = letters(alloc, 65_537)?;
-    let event = put(alloc, &[(FONT, b"k", b"x"), (NEW, b"k", long.as_slice())])?;
-    assert!(rt; refuses(alloc, event, LIMIT)?);
-    let event = give(alloc, NEW, &[(b"k", long.as_slice()), (b"j", b"x")])?;
-    assert!(rt; refuses(alloc, event, LIMIT)?);
-    let event = give(alloc, NEW, &[(b"k", long.as_slice()), (b"modtime", b"x")])?;
-    assert!(rt; refuses(alloc, event, INVALID)?);
-    let mut state = joined(alloc)?;
-    assert!(rt;
-        stores(
-            alloc,
-            &mut state,
-            0,
-            &[(NEW, b"k", most.as_slice())],
-            STORED
-        )?
-    );
-    assert!(rt; holds(state.tree(), OWN, b"n", most.as_slice(), 0));
-    Ok(())
-}
-
-// Entries have at most 256 cells, those counted that they had and the `subdataset` that the server writes.
+// An entry that is given more than 256 attributes has too many cells, whoever sends them.
 #[test]
 fn limits_cells(rt: HostRuntime) -> Result<(), Fault> {
     let alloc = rt.alloc();
     assert!(rt; refuses(alloc, give_many(alloc, NEW, 257)?, LIMIT)?);
-    let mut state = joined(alloc)?;
-    assert!(rt; says(alloc, &mut state, give_many(alloc, NEW, 256)?, 0, STORED)?);
-    let rows: [(&[u8], &[u8], &[u8], i64); 4] = [
-        (NEW, b"256", LIMIT, 0),
-        (b"/option/~/n/x", b"k", LIMIT, 0),
-        (NEW, b"entry", STORED, 1),
-        (NEW, b"255", STORED, 2),
-    ];
-    for (path, attribute, text, last) in rows {
-        let entries = [(path, attribute, b"n".as_slice())];
-        assert!(rt;
-            stores(alloc, &mut state, 0, &entries, text)?,
-            "{attribute:?}"
-        );
-        assert!(rt; cell_count(state.tree(), OWN, b"n") == Some(256));
-        assert!(rt; state.tree().len() == 4 && state.tree().last() == moment(last));
+    Ok(())
+}
+
+// A path that stands twice and isn't served is not served.
+#[test]
+fn serves_no_path_that_stands_twice(rt: HostRuntime) -> Result<(), Fault> {
+    let alloc = rt.alloc();
+    for attribute in [b"k".as_slice(), b"modtime"] {
+        let event = put(alloc, &[(SITE, attribute, b"x"), (SITE, attribute, b"x")])?;
+        assert!(rt; refuses(alloc, event, UNSERVED)?, "{attribute:?}");
     }
+    Ok(())
+}
+
+// An entry's name that is given as `entry` is no cell of it (RFC 2244 section 3.1.1).
+#[test]
+fn keeps_no_name(rt: HostRuntime) -> Result<(), Fault> {
+    let alloc = rt.alloc();
+    let event = give(alloc, NEW, &[(b"k", b"x"), (b"entry", b"n")])?;
+    assert!(rt; cells_after(alloc, event, b"n")? == Some(1));
+    let event = give(alloc, HOME, &[(b"entry", b"")])?;
+    assert!(rt; cells_after(alloc, event, b"")? == Some(0));
     Ok(())
 }
 
@@ -192,6 +147,33 @@ fn ends_with_the_clock(rt: HostRuntime) -> Result<(), Fault> {
         assert!(rt; finds(alloc, &mut state, HOME, Some(&[b"k", b"modtime"]), found)?);
     }
     assert!(rt; says(alloc, &mut state, give_many(alloc, NEW, 256)?, LAST, LIMIT)?);
+    Ok(())
+}
+
+// The command of a line as an event.
+fn sent(alloc: Global, line: &[u8]) -> Result<Event, Fault> {
+    match command_of(alloc, line) {
+        Ok(command) => Ok(Event::Command(command)),
+        Err(_) => Err(Fault::Memory),
+    }
+}
+
+// That a STORE isn't served yet is said before the end of the clock, too.
+#[test]
+fn tells_it_before_the_end_of_the_clock(rt: HostRuntime) -> Result<(), Fault> {
+    let alloc = rt.alloc();
+    let mut state = joined(alloc)?;
+    assert!(rt; stores(alloc, &mut state, LAST, &[(NEW, b"k", b"x")], STORED)?);
+    let rows: [&[u8]; 3] = [
+        b"A1 STORE (\"/option/~/n\" NOCREATE \"k\" \"x\")",
+        b"A1 STORE (\"/option/~/n\" \"k\" NIL)",
+        b"A1 STORE (\"/option/~/n\" \"k\" (\"acl\" DEFAULT))",
+    ];
+    for line in rows {
+        let event = sent(alloc, line)?;
+        assert!(rt; says(alloc, &mut state, event, LAST, UNSERVED)?, "{line:?}");
+    }
+    assert!(rt; holds(state.tree(), OWN, b"n", b"x", LAST));
     Ok(())
 }
 
@@ -265,62 +247,4 @@ pub(crate) fn planted(alloc: Global) -> Result<State, Fault> {
     ];
     let _stored = stores(alloc, &mut state, 0, entries, STORED)?;
     Ok(state)
-}
-
-// A SEARCH tells of the entries of one dataset, in the order of their names' octets (RFC 2244 section 6.4.1).
-#[test]
-fn finds_in_order(rt: HostRuntime) -> Result<(), Fault> {
-    let alloc = rt.alloc();
-    let mut state = planted(alloc)?;
-    let beneath: &[u8] = b"/option/~/a/";
-    let text =
-        b"A1 ENTRY \"B\" \"3\"\r\nA1 ENTRY \"a\" \"2\"\r\nA1 ENTRY \"ab\" \"1\"\r\nA1 MODTIME \"19700101000000000000\"\r\nA1 OK \"SEARCH done\"\r\n";
-    assert!(rt; finds(alloc, &mut state, HOME, Some(&[b"k"]), text)?);
-    let text =
-        b"A1 ENTRY \"x\" \"4\"\r\nA1 MODTIME \"19700101000000000000\"\r\nA1 OK \"SEARCH done\"\r\n";
-    assert!(rt; finds(alloc, &mut state, beneath, Some(&[b"k"]), text)?);
-    assert!(rt; stores(alloc, &mut state, 6, &[(beneath, b"k", b"5")], STORED)?);
-    let text =
-        b"A1 ENTRY \"\" \"5\" \"\" \"19700101000000000006\"\r\nA1 ENTRY \"x\" \"4\" \"x\" \"19700101000000000000\"\r\nA1 MODTIME \"19700101000000000006\"\r\nA1 OK \"SEARCH done\"\r\n";
-    assert!(rt;
-        finds(
-            alloc,
-            &mut state,
-            beneath,
-            Some(&[b"k", b"entry", b"modtime"]),
-            text
-        )?
-    );
-    let text = b"A1 NO (NOEXIST \"/option/user/joe/ab/\") \"No such dataset\"\r\n";
-    assert!(rt; finds(alloc, &mut state, b"/option/~/ab/", Some(&[b"k"]), text)?);
-    Ok(())
-}
-
-// What is told of an entry is what the RETURN asks, as often as it asks (RFC 2244 section 6.4.1).
-#[test]
-fn returns_what_is_asked(rt: HostRuntime) -> Result<(), Fault> {
-    let alloc = rt.alloc();
-    let mut state = planted(alloc)?;
-    let beneath: &[u8] = b"/option/~/a/";
-    assert!(rt; finds(alloc, &mut state, HOME, None, SEARCHED)?);
-    let text =
-        b"A1 ENTRY \"x\"\r\nA1 MODTIME \"19700101000000000000\"\r\nA1 OK \"SEARCH done\"\r\n";
-    assert!(rt; finds(alloc, &mut state, beneath, Some(&[]), text)?);
-    let returns: &[&[u8]] = &[
-        b"none",
-        b"k",
-        b"K",
-        b"entry",
-        b"k",
-        b"subdataset",
-        b"modtime",
-    ];
-    let text =
-        b"A1 ENTRY \"x\" NIL \"4\" NIL \"x\" \"4\" NIL \"19700101000000000000\"\r\nA1 MODTIME \"19700101000000000000\"\r\nA1 OK \"SEARCH done\"\r\n";
-    assert!(rt; finds(alloc, &mut state, beneath, Some(returns), text)?);
-    let returns: &[&[u8]] = &[b"subdataset", b"Entry", b"entry"];
-    let text =
-        b"A1 ENTRY \"B\" NIL NIL \"B\"\r\nA1 ENTRY \"a\" (\".\") NIL \"a\"\r\nA1 ENTRY \"ab\" NIL NIL \"ab\"\r\nA1 MODTIME \"19700101000000000000\"\r\nA1 OK \"SEARCH done\"\r\n";
-    assert!(rt; finds(alloc, &mut state, HOME, Some(returns), text)?);
-    Ok(())
 }

@@ -1,27 +1,15 @@
-use Rattle.std.proofs.Common.{◌<◌, length, refl, arith}
-use Rattle.acap_session.proofs.Piping.{starts, written, has_read, at_end, at_close, fed_from, closed_from}
+use Rattle.acap_session.specs.Turning.{scene}
+use Rattle.acap_session.proofs.Piping.{starts, starts_with_room, first_turn}
 use Rattle.acap_session.proofs.pipe.run_pipe.Goals as goal
 
-pub loop-init : goal.loop-init
-loop-init g c =
-    let a = rw (c.new-out.ensures.items, c.new-state.ensures, c.new-session.ensures) at c.in_ok-closed.ensures in
-    record { so_far = starts (g.R.Read.remaining c.args.reader.now) (g.W.Write.contents c.args.writer.now) c.in_ok-host.host c.args.user _ _ _ _ a; done = a.done }
+pub serve-requires-clause-room : goal.serve-requires-clause-room
+serve-requires-clause-room g c =
+    let new = scene c.enter.new.state.machine c.enter.new.session c.enter.new.out.items in
+    let k = first_turn c.args.user c.in_ok-host.host c.new-users.result c.new-state.result.machine c.new-session.result c.new-out.result.items new (rw c.new.ensures.items at c.new-users.ensures) c.in_ok-host.ensures c.new-state.ensures c.new-session.ensures c.new-out.ensures.items c.in_ok-enter.ensures in
+    starts_with_room c.args.user k.came new k.made
 
-pub returns-then-closed : goal.returns-then-closed
-returns-then-closed g c =
-    let all = written _ _ _ _ _ _ _ _ _ _ c.in_ok-send.ensures.sent c.loop.invariant.so_far in
-    at_close _ _ _ _ _ _ _ (closed_from _ _ _ _ _ _ _ _ c.if-closed.true all)
-
-pub returns-then-count-eq0 : goal.returns-then-count-eq0
-returns-then-count-eq0 g c =
-    let all = written _ _ _ _ _ _ _ _ _ _ c.in_ok-send.ensures.sent c.loop.invariant.so_far in
-    let read = rw c.if-count-eq0.true at c.in-Ok.ensures.bytes in
-    let some : 0 < length c.read.new.buf = omega arith in
-    at_end _ _ _ _ _ _ _ _ read.0 (read.1 refl some) (c.loop.invariant.done c.if-closed.false) (fed_from _ _ _ _ _ _ _ _ c.if-closed.false all)
-
-pub loop-preserved : goal.loop-preserved
-loop-preserved g c =
-    let all = written _ _ _ _ _ _ _ _ _ _ c.in_ok-send.ensures.sent c.loop.invariant.so_far in
-    let open_ = fed_from _ _ _ _ _ _ _ _ c.if-closed.false all in
-    let fed = rw c.in_ok-send.ensures.empty at c.in-Ok-feed.ensures in
-    record { so_far = has_read _ _ _ _ _ _ _ _ _ _ _ _ _ c.in-Ok.ensures.bytes.0 fed open_; done = fed.done }
+pub returns : goal.returns
+returns g c =
+    let new = scene c.enter.new.state.machine c.enter.new.session c.enter.new.out.items in
+    let k = first_turn c.args.user c.in_ok-host.host c.new-users.result c.new-state.result.machine c.new-session.result c.new-out.result.items new (rw c.new.ensures.items at c.new-users.ensures) c.in_ok-host.ensures c.new-state.ensures c.new-session.ensures c.new-out.ensures.items c.in_ok-enter.ensures in
+    c.serve.ensures c.args.user (g.R.Read.remaining c.args.reader.now) (g.W.Write.contents c.args.writer.now) (starts c.args.user (g.R.Read.remaining c.args.reader.now) (g.W.Write.contents c.args.writer.now) (g.W.Write.contents c.send.new.writer) k.came c.enter.new.state.machine c.enter.new.session c.enter.new.out.items k.made k.going c.in_ok-send.ensures.sent)

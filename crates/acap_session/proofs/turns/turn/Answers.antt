@@ -1,12 +1,25 @@
-use Rattle.acap_session.proofs.Fitting.{call_asks}
-use Rattle.acap_session.proofs.Turning.{said_by, asked_did}
+use Rattle.std.proofs.Common.{sym, ap, ◌∙◌}
+use Rattle.acap_session.specs.Turning.{scene, left_by, turn_from}
+use Rattle.acap_session.specs.declared.turn.Turn.TheVariants as turn
+use Rattle.acap_session.proofs.Performing.{awaits_after, said_turn, asked_turn, if_ok_then, not_more, not_said, not_closes, left_here}
 use Rattle.acap_session.proofs.turns.turn.Goals as goal
 
-pub ask-requires : goal.ask-requires
-ask-requires c = call_asks c.in_ok-next.field-0 c.args.session.now c.next.new.self c.in-Ask.event c.in_ok-next.ensures.ok c.in-Ask.is
+pub perform-requires : goal.perform-requires
+perform-requires c = awaits_after c.args.users.now c.args.occasion.nonce c.args.occasion.clock c.args.session.now c.hear.new.self c.in-Ok.heard c.in-Asks.event c.in-Ok.ensures.ok c.in-Asks.is c.in-Ok.ensures.session
 
-pub returns-in_ok-add-in-Say : goal.returns-in_ok-add-in-Say
-returns-in_ok-add-in-Say c = said_by c.in_ok-next.field-0 c.args.session.now c.next.new.self c.in-Say.octets c.args.out.now.items c.add.new.out.items c.args.state.now.machine c.in_ok-next.ensures.ok c.in-Say.is c.in_ok-add-in-Say.ensures
+pub returns-in-More-clause-ok : goal.returns-in-More-clause-ok
+returns-in-More-clause-ok c =
+    said_turn c.args.users.now c.args.occasion (scene c.args.state.now.machine c.args.session.now c.args.out.now.items) c.hear.new.self c.args.state.now.machine c.hear.new.out.items c.in-Ok.heard turn.More (not_more c.in-Ok.heard c.in-More.is) c.in-Ok.ensures.ok c.in-Ok.ensures.session c.in-Ok.ensures.out (sym (ap turn_from c.in-More.is)) (sym (ap (left_here c.args.session.now c.args.occasion c.args.state.now.machine) c.in-More.is))
 
-pub returns-in_ok-turn-in-Ask : goal.returns-in_ok-turn-in-Ask
-returns-in_ok-turn-in-Ask c = asked_did c.in_ok-turn-in-Ask.turn c.in_ok-next.field-0 c.args.session.now c.next.new.self c.ask.new.session c.in-Ask.event c.args.out.now.items c.ask.new.out.items c.args.state.now.machine c.ask.new.state.machine c.in_ok-next.ensures.ok c.in-Ask.is c.in_ok-turn-in-Ask.ensures
+pub returns-in-Said-clause-ok : goal.returns-in-Said-clause-ok
+returns-in-Said-clause-ok c =
+    said_turn c.args.users.now c.args.occasion (scene c.args.state.now.machine c.args.session.now c.args.out.now.items) c.hear.new.self c.args.state.now.machine c.hear.new.out.items c.in-Ok.heard turn.Said (not_said c.in-Ok.heard c.in-Said.is) c.in-Ok.ensures.ok c.in-Ok.ensures.session c.in-Ok.ensures.out (sym (ap turn_from c.in-Said.is)) (sym (ap (left_here c.args.session.now c.args.occasion c.args.state.now.machine) c.in-Said.is))
+
+pub returns-in-Closes-clause-ok : goal.returns-in-Closes-clause-ok
+returns-in-Closes-clause-ok c =
+    said_turn c.args.users.now c.args.occasion (scene c.args.state.now.machine c.args.session.now c.args.out.now.items) c.hear.new.self c.leave-in-Closes.new.state.machine c.hear.new.out.items c.in-Ok.heard turn.Closed (not_closes c.in-Ok.heard c.in-Closes.is) c.in-Ok.ensures.ok c.in-Ok.ensures.session c.in-Ok.ensures.out (sym (ap turn_from c.in-Closes.is))
+    (c.leave-in-Closes.ensures ∙ ap (λ b. left_by b c.args.occasion c.args.state.now.machine) c.has_seat-has_seat.ensures ∙ sym (ap (left_here c.args.session.now c.args.occasion c.args.state.now.machine) c.in-Closes.is))
+
+pub returns-in-Asks-clause-ok : goal.returns-in-Asks-clause-ok
+returns-in-Asks-clause-ok c =
+    if_ok_then c.perform.result _ _ (λ came k. asked_turn c.args.users.now c.args.occasion (scene c.args.state.now.machine c.args.session.now c.args.out.now.items) c.hear.new.self c.hear.new.out.items c.in-Ok.heard c.in-Asks.event came _ c.in-Asks.is c.in-Ok.ensures.ok c.in-Ok.ensures.session c.in-Ok.ensures.out k) c.perform.ensures.ok

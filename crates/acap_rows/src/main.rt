@@ -1,0 +1,87 @@
+//! Runs rows, each of which says what is sent to the server and what is answered, from the files that the arguments
+//! name, and tells which are wrong and how many hold.
+#![tactic(auto)]
+
+mod difference;
+mod escapes;
+mod pieces;
+mod row_file;
+mod running;
+#[cfg(test)]
+mod tests;
+
+use crate::row_file::{Row, read_rows};
+use crate::running::first_wrong;
+use std::process::ExitCode;
+use std::{env, fs, io};
+
+/// The status where a row doesn't hold, or there is none.
+const WRONG: u8 = 1;
+
+/// How many rows there were, and how many of them held.
+#[derive(Clone, Copy)]
+struct Tally {
+    rows: u64,
+    held: u64,
+}
+
+impl Tally {
+    // A row more. What can't be read counts as a row that doesn't hold.
+    fn count(&mut self, held: bool) {
+        self.rows = self.rows.saturating_add(1);
+        if held {
+            self.held = self.held.saturating_add(1);
+        }
+    }
+}
+
+// Runs a row, and tells where it is wrong: how it was cut, and the first line that differs.
+fn run_row(rt: &HostRuntime, file: &str, row: &Row, tally: &mut Tally) -> io::Result<()> {
+    let wrong = first_wrong(rt.alloc(), row)?;
+    tally.count(wrong.is_none());
+    if let Some(wrong) = wrong {
+        println!(rt; "{file}: {} ({})", row.name, wrong.cut)?;
+        println!(rt; "  wanted: {}", wrong.lines.wanted)?;
+        println!(rt; "  got:    {}", wrong.lines.got)?;
+    }
+    Ok(())
+}
+
+// Runs the rows of a file's text; where a line can't be read, that is told, and no row is run.
+fn run_text(rt: &HostRuntime, file: &str, text: &str, tally: &mut Tally) -> io::Result<()> {
+    match read_rows(rt.alloc(), text) {
+        Ok(rows) => {
+            for row in &rows {
+                run_row(rt, file, row, tally)?;
+            }
+            Ok(())
+        }
+        Err(number) => {
+            tally.count(false);
+            println!(rt; "{file}: can't read line {number}")
+        }
+    }
+}
+
+// Runs the rows of a file; where it can't be read, that is told.
+fn run_file(rt: &HostRuntime, file: &str, tally: &mut Tally) -> io::Result<()> {
+    match fs::read_to_string(rt, file) {
+        Ok(text) => run_text(rt, file, text.as_str(), tally),
+        Err(_) => {
+            tally.count(false);
+            println!(rt; "{file}: can't be read")
+        }
+    }
+}
+
+fn main(rt: HostRuntime) -> io::Result<ExitCode> {
+    let mut tally = Tally { rows: 0, held: 0 };
+    let mut words = env::args(&rt)?;
+    let _program = words.next();
+    for file in words {
+        run_file(&rt, file.as_str(), &mut tally)?;
+    }
+    let Tally { rows, held } = tally;
+    println!(rt; "{held} of {rows} rows hold")?;
+    Ok(ExitCode::from(if rows > 0 && held == rows { 0 } else { WRONG }))
+}

@@ -1,0 +1,93 @@
+//! Runs a row, however its octets are cut.
+
+use crate::difference::{Lines, first_lines};
+use crate::pieces::{Cut, Pieces};
+use crate::row_file::{Kind, Row};
+use acap_entries::UserName;
+use acap_session::run_pipe;
+use std::alloc::{AllocError, Global};
+
+/// What a session says first.
+const GREETING: &[u8] =
+    b"* ACAP (IMPLEMENTATION \"acapd\") (SASL \"CRAM-MD5\") (CONTEXTLIMIT \"200\")\r\n";
+
+/// What stands in an answer where the run ended by a fault.
+const FAULT: &[u8] = b"(ended by a fault)";
+
+/// What has more octets than these isn't cut at each of them.
+const MOST_CUT: usize = 256;
+
+/// How a row is wrong.
+#[derive(Debug, Drop)]
+pub(crate) struct Wrong {
+    /// How its octets were cut.
+    pub(crate) cut: Cut,
+    /// The first line that differs.
+    pub(crate) lines: Lines,
+}
+
+// What a session of that user writes that reads these octets.
+fn said(alloc: Global, user: &str, sent: &[u8], cut: Cut) -> Result<Vec<u8>, AllocError> {
+    let mut text = Vec::new(alloc);
+    let done = match UserName::read(alloc, user.as_bytes()) {
+        Ok(user) => run_pipe(alloc, &mut Pieces { left: sent, cut }, &mut text, user).is_ok(),
+        Err(_) => false,
+    };
+    if !done {
+        text.extend_from_slice(FAULT)?;
+    }
+    Ok(text)
+}
+
+// What is written for what a row sends, cut so.
+fn answered(alloc: Global, row: &Row, cut: Cut) -> Result<Vec<u8>, AllocError> {
+    match row.kind {
+        Kind::Session(user) => said(alloc, user, row.sent.as_slice(), cut),
+    }
+}
+
+// All that a row wants: a session's greeting goes before what its row says.
+fn wanted_of(alloc: Global, row: &Row) -> Result<Vec<u8>, AllocError> {
+    let mut wanted = match row.kind {
+        Kind::Session(_) => Vec::from_slice(alloc, GREETING)?,
+    };
+    wanted.extend_from_slice(row.wanted.as_slice())?;
+    Ok(wanted)
+}
+
+// How a row is wrong that is cut so, if it is.
+fn wrong_at(
+    alloc: Global,
+    row: &Row,
+    wanted: &[u8],
+    cut: Cut,
+) -> Result<Option<Wrong>, AllocError> {
+    let got = answered(alloc, row, cut)?;
+    if got.as_slice() == wanted {
+        return Ok(None);
+    }
+    let lines = first_lines(alloc, wanted, got.as_slice())?;
+    Ok(Some(Wrong { cut, lines }))
+}
+
+/// How a row is wrong, if it is: whole, octet by octet, or, where it isn't long, cut in two after any octet.
+pub(crate) fn first_wrong(alloc: Global, row: &Row) -> Result<Option<Wrong>, AllocError> {
+    let wanted = wanted_of(alloc, row)?;
+    for cut in [Cut::WHOLE, Cut::SINGLE] {
+        if let Some(wrong) = wrong_at(alloc, row, wanted.as_slice(), cut)? {
+            return Ok(Some(wrong));
+        }
+    }
+    let length = row.sent.len();
+    let end = if length > MOST_CUT { 0 } else { length };
+    for first in 1..end {
+        let cut = Cut {
+            first,
+            size: MOST_CUT,
+        };
+        if let Some(wrong) = wrong_at(alloc, row, wanted.as_slice(), cut)? {
+            return Ok(Some(wrong));
+        }
+    }
+    Ok(None)
+}

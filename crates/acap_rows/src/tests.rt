@@ -1,0 +1,88 @@
+//! Tests that a wrong row is told, and of how row files are read.
+
+use crate::row_file::read_rows;
+use crate::running::first_wrong;
+use std::alloc::Global;
+
+// How the one row of a text is wrong, as its two lines; none where it holds.
+fn told(alloc: Global, text: &str) -> Option<(String, String)> {
+    let rows = read_rows(alloc, text).ok()?;
+    let wrong = first_wrong(alloc, rows.first()?).ok()??;
+    Some((wrong.lines.wanted, wrong.lines.got))
+}
+
+// Whether the one row of a text is wrong in these two lines.
+fn is_told(alloc: Global, text: &str, wanted: &str, got: &str) -> bool {
+    match told(alloc, text) {
+        Some((one, other)) => one.as_str() == wanted && other.as_str() == got,
+        None => false,
+    }
+}
+
+// A row that wants another answer, less or more is wrong, and one that is answered as it wants holds.
+#[test]
+fn tells_wrong_rows(rt: HostRuntime) {
+    let alloc = rt.alloc();
+    let noop = "A1 OK \"NOOP done\"\\r\\n";
+    let text = "session joe\nrow x\n> A1 NOOP\n< A1 OK \"NOOP\tdone\"\n";
+    assert!(rt; is_told(alloc, text, "A1 OK \"NOOP\\tdone\"\\r\\n", noop));
+    assert!(rt; is_told(alloc, "session joe\nrow x\n> A1 NOOP\n", "", noop));
+    assert!(rt;
+        is_told(
+            alloc,
+            "session joe\nrow x\n> A1 NOOP\\\n< A1 OK \"NOOP done\"\n",
+            noop,
+            ""
+        )
+    );
+    let text = "session joe\nrow x\n> A1 NOOP\n< A1 OK \"NOOP done\"\n";
+    assert!(rt; told(alloc, text).is_none() && read_rows(alloc, text).is_ok());
+}
+
+// Whether a line sends these octets.
+fn sends(alloc: Global, text: &str, octets: &[u8]) -> bool {
+    match read_rows(alloc, text) {
+        Ok(rows) => rows.iter().all(|row| row.sent.as_slice() == octets) && rows.len() == 1,
+        Err(_) => false,
+    }
+}
+
+// Escapes, repetitions and line ends.
+#[test]
+fn reads_lines(rt: HostRuntime) {
+    let alloc = rt.alloc();
+    assert!(rt;
+        sends(
+            alloc,
+            "session joe\nrow x\n> \\\\\\{\\}\\*\\n\\r\\t\\x0a\\xff\n",
+            b"\\{}*\n\r\t\n\xff\r\n"
+        )
+    );
+    assert!(rt;
+        sends(
+            alloc,
+            "session joe\nrow x\n> a{3* b\\#}{0*c}d\\\n> {5+}\n>\n",
+            b"a b0 b1 b2d{5+}\r\n\r\n"
+        )
+    );
+    assert!(rt; sends(alloc, "# x\n\nsession joe\nrow x\n< y\n", b""));
+}
+
+// The number of the first line that can't be read: a row before any session, a line of no row, another mark or escape.
+#[test]
+fn refuses_other_lines(rt: HostRuntime) {
+    let alloc = rt.alloc();
+    let rows = [
+        ("row x\n", 1),
+        ("session joe\n> x\n", 2),
+        ("session joe\nrow x\n? y\n", 3),
+        ("session joe\nrow x\n\n> \\q\n", 4),
+        ("session joe\nrow x\n> \\x0g\n", 3),
+    ];
+    for (text, number) in rows {
+        assert!(rt;
+            matches!(read_rows(alloc, text), Err(line) if line == number),
+            "{text}"
+        );
+    }
+}

@@ -1,0 +1,176 @@
+-- What is found dataset by dataset is, in order, what is made of the paths in sight.
+use Rattle.std.proofs.Common.{drop, arith, ◌≡◌, ℕ, Bool, true, false, not, cond, nat_eq, Option, Some, None, List, [], ◌∷◌, ◌++◌, refl, sym, ◌∙◌, ap, append-nil, flat_map, length, map as each}
+use Rattle.std.proofs.lemmas.Bool.Decides.{nat_tests}
+use Rattle.std.specs.List.{filter, filter_map, cons_option, starts_with}
+use Rattle.std.specs.List.Sorted.{ties}
+use Rattle.std.specs.Option.{option_map_or}
+use Rattle.std.specs.FinMap as map
+use Rattle.std.proofs.lemmas.List.Elements.{filter_map-append}
+use Rattle.acap_entries.specs.Datasets.{dataset_exists}
+use Rattle.acap_entries.specs.Store.{Stored}
+use Rattle.acap_entries.specs.declared.path.Path.{Path}
+use Rattle.acap_entries.specs.declared.record.Record.{Record}
+use Rattle.acap_inherit.specs.Chains.{chain_of}
+use Rattle.acap_inherit.specs.EntryNames.{names_on}
+use Rattle.acap_rights.specs.declared.realm.Realm.{Realm}
+use Rattle.acap_search.specs.Fresh.{Sight, answers_on, paths_in, paths_of, full_path_lt, sight_of, tuple_at, fresh_of, has_range, is_over, refusal_of}
+use Rattle.acap_search.specs.Matches.{Match, match_lt, sorted_by}
+use Rattle.acap_search.specs.Scopes.{scope_of, datasets_of, beneath, is_reached, levels, made_by, reached_by}
+use Rattle.acap_search.specs.Sight.{is_seen}
+use Rattle.acap_search.specs.Walks.{hits_in, hits_by, hits_over}
+use Rattle.acap_search.specs.declared.query.Query.{Query}
+use Rattle.acap_search.specs.declared.refusal.SearchRefusal.TheVariants as refusal
+use Rattle.acap_search.proofs.OrderLemmas.{match_weak, path_weak, paths_tie}
+use Rattle.acap_search.proofs.SortLemmas.{sorted_alike, ties_kept, sorted_length}
+
+-- ---- lists
+
+-- a part that is kept, and what is made of it
+filtered : {X Y : Type 0} (f : X → Option Y) (p : X → Bool) (xs : List X) → filter_map f (filter p xs) ≡ filter_map (λ x. cond (p x) (f x) None) xs
+filtered f p [] = refl
+filtered f p (x ∷ xs) =
+    elim (p x) as (λ b. filter_map f (cond b (x ∷ filter p xs) (filter p xs)) ≡ cons_option (cond b (f x) None) (filter_map (λ x. cond (p x) (f x) None) xs))
+    [ true ↦ ap (cons_option (f x)) (filtered f p xs) | false ↦ filtered f p xs ]
+
+made_of_made : {X Y Z : Type 0} (f : Y → Option Z) (g : X → Y) (xs : List X) → filter_map f (each g xs) ≡ filter_map (λ x. f (g x)) xs
+made_of_made f g [] = refl
+made_of_made f g (x ∷ xs) = ap (cons_option (f (g x))) (made_of_made f g xs)
+
+made_of_all : {X Y Z : Type 0} (f : Y → Option Z) (g : X → List Y) (xs : List X) → filter_map f (flat_map g xs) ≡ flat_map (λ x. filter_map f (g x)) xs
+made_of_all f g [] = refl
+made_of_all f g (x ∷ xs) = filter_map-append f (g x) (flat_map g xs) ∙ ap (λ rest. filter_map f (g x) ++ rest) (made_of_all f g xs)
+
+all_of_made : {X Y Z : Type 0} (f : Y → List Z) (g : X → Option Y) (xs : List X) → flat_map (λ x. option_map_or f (g x) []) xs ≡ flat_map f (filter_map g xs)
+all_of_made f g [] = refl
+all_of_made f g (x ∷ xs) =
+    elim (g x) as (λ o. option_map_or f o [] ++ flat_map (λ x. option_map_or f (g x) []) xs ≡ flat_map f (cons_option o (filter_map g xs)))
+    [ Some y ↦ ap (λ rest. f y ++ rest) (all_of_made f g xs) | None ↦ all_of_made f g xs ]
+
+-- all has been walked through
+pub walked : {X Y : Type 0} (f : X → List Y) (found before : List Y) (left all : List X) → left ≡ [] → found ++ flat_map f left ≡ before ++ flat_map f all → found ≡ before ++ flat_map f all
+walked f found before left all e h = sym (append-nil found) ∙ (ap (λ xs. found ++ flat_map f xs) (sym e) ∙ h)
+
+-- ---- sorting before and after
+
+-- what is left of a match that passes a test
+abbrev if_passes : {Y : Type 0} → (Y → Bool) → Option Y → Option Y
+if_passes q None = None
+if_passes q (Some y) = cond (q y) (Some y) None
+
+passed_of_made : {X Y : Type 0} (t : X → Option Y) (q : Y → Bool) (xs : List X) → filter q (filter_map t xs) ≡ filter_map (λ x. if_passes q (t x)) xs
+passed_of_made t q [] = refl
+passed_of_made t q (x ∷ xs) =
+    elim (t x) as (λ o. filter q (cons_option o (filter_map t xs)) ≡ cons_option (if_passes q o) (filter_map (λ x. if_passes q (t x)) xs)) [
+      | None ↦ passed_of_made t q xs
+      | Some y ↦ elim (q y) as (λ b. cond b (y ∷ filter q (filter_map t xs)) (filter q (filter_map t xs)) ≡ cons_option (cond b (Some y) None) (filter_map (λ x. if_passes q (t x)) xs))
+          [ true ↦ ap (λ rest. y ∷ rest) (passed_of_made t q xs) | false ↦ passed_of_made t q xs ]
+    ]
+
+-- those of which nothing is made may be left out
+made_of_some : {X Y : Type 0} (u : X → Option Y) (r : X → Bool) (xs : List X) → ((x : X) → r x ≡ false → u x ≡ None) → filter_map u xs ≡ filter_map u (filter r xs)
+made_of_some u r [] h = refl
+made_of_some u r (x ∷ xs) h =
+    elim (r x) as (λ b. r x ≡ b → cons_option (u x) (filter_map u xs) ≡ filter_map u (cond b (x ∷ filter r xs) (filter r xs))) [
+      | true ↦ λ e. ap (cons_option (u x)) (made_of_some u r xs h)
+      | false ↦ λ e. ap (λ o. cons_option o (filter_map u xs)) (h x e) ∙ made_of_some u r xs h
+    ] refl
+
+-- a match of a path has that path
+abbrev OwnPath : Path → Option Match → Type 0
+OwnPath p None = Unit {0}
+OwnPath p (Some m) = m.path ≡ p
+
+abbrev OwnPaths : (Path → Option Match) → Type 0
+OwnPaths t = (p : Path) → OwnPath p (t p)
+
+none_apart : (z : Match) (p : Path) (o : Option Match) → OwnPath p o → ties full_path_lt z.path p ≡ false → if_passes (ties match_lt z) o ≡ None
+none_apart z p None own h = refl
+none_apart z p (Some m) own h =
+    elim (ties match_lt z m) as (λ b. ties match_lt z m ≡ b → cond b (Some m) None ≡ None) [
+      | true ↦ λ e. absurd (cc (h, ap (ties full_path_lt z.path) own, paths_tie z m e))
+      | false ↦ λ e. refl
+    ] refl
+
+ties_of_sorted : (t : Path → Option Match) → OwnPaths t → (z : Match) (ps : List Path) → filter (ties match_lt z) (filter_map t (sorted_by full_path_lt ps)) ≡ filter (ties match_lt z) (filter_map t ps)
+ties_of_sorted t own z ps =
+    let u : Path → Option Match = λ p. if_passes (ties match_lt z) (t p) in
+    let r : Path → Bool = ties full_path_lt z.path in
+    let apart : (p : Path) → r p ≡ false → u p ≡ None = λ p h. none_apart z p (t p) (own p) h in
+    passed_of_made t (ties match_lt z) (sorted_by full_path_lt ps)
+    ∙ (made_of_some u r (sorted_by full_path_lt ps) apart
+    ∙ (ap (filter_map u) (ties_kept full_path_lt path_weak z.path ps)
+    ∙ (sym (made_of_some u r ps apart)
+    ∙ sym (passed_of_made t (ties match_lt z) ps))))
+
+-- matches are sorted alike in whatever order their paths come
+pub sorted_first : (t : Path → Option Match) → OwnPaths t → (ps : List Path) → sorted_by match_lt (filter_map t (sorted_by full_path_lt ps)) ≡ sorted_by match_lt (filter_map t ps)
+sorted_first t own ps = sorted_alike match_lt match_weak _ _ (λ z. ties_of_sorted t own z ps)
+
+-- ---- the walk
+
+module _ (records : Stored) (realm : Realm) (user : List ℕ) (query : Query) where
+  abbrev sight : Sight
+  sight = sight_of records realm user (scope_of query)
+
+  -- what is made of the entry at a path, if it is seen
+  abbrev seen_at : Path → Option Match
+  seen_at path = cond (is_seen (answers_on records realm user query.no_inherit path)) (tuple_at sight query path) None
+
+  in_dataset : (dataset : List ℕ) → filter_map seen_at (paths_in records query.no_inherit dataset) ≡ hits_in records realm user query dataset
+  unfolding hits_in
+  in_dataset dataset = made_of_made seen_at (λ name. record { dataset = dataset; name = name }) (names_on records (chain_of records dataset query.no_inherit))
+
+  in_datasets : (datasets : List (List ℕ)) → flat_map (λ dataset. filter_map seen_at (paths_in records query.no_inherit dataset)) datasets ≡ flat_map (hits_in records realm user query) datasets
+  in_datasets [] = refl
+  in_datasets (dataset ∷ datasets) =
+      let first : filter_map seen_at (paths_in records query.no_inherit dataset) ≡ hits_in records realm user query dataset = in_dataset dataset in
+      let rest : flat_map (λ dataset. filter_map seen_at (paths_in records query.no_inherit dataset)) datasets ≡ flat_map (hits_in records realm user query) datasets = in_datasets datasets in
+      λ i. first i ++ rest i
+
+  over_scope : filter_map seen_at (paths_of records (scope_of query)) ≡ hits_over records realm user query
+  over_scope = made_of_all seen_at (paths_in records query.no_inherit) (datasets_of records (scope_of query)) ∙ in_datasets (datasets_of records (scope_of query))
+
+  own_if : (b : Bool) (path : Path) (m : Match) → m.path ≡ path → OwnPath path (cond b (Some m) None)
+  own_if true path m e = e
+  own_if false path m e = tt
+
+  own_paths : OwnPaths (tuple_at sight query)
+  own_paths path = own_if _ path _ refl
+
+  pub fresh_is : sorted_by match_lt (hits_over records realm user query) ≡ fresh_of sight query
+  fresh_is =
+      let seen : List Path = filter (λ path. is_seen (answers_on records realm user query.no_inherit path)) (paths_of records (scope_of query)) in
+      ap (sorted_by match_lt) (sym over_scope ∙ sym (filtered (tuple_at sight query) (λ path. is_seen (answers_on records realm user query.no_inherit path)) (paths_of records (scope_of query))))
+      ∙ sym (sorted_first (tuple_at sight query) own_paths seen)
+
+  pub fresh_length : length (fresh_of sight query) ≡ length (hits_over records realm user query)
+  fresh_length = ap length (sym fresh_is) ∙ sorted_length match_lt match_weak (hits_over records realm user query)
+
+  -- the datasets beneath, entry by entry
+  pub beneath_is : (depth : ℕ) (es : List (Path × Record)) → es ≡ filter (λ e. starts_with nat_eq e.0.dataset query.dataset) (map.entries records) → flat_map (hits_by records realm user query depth) es ≡ flat_map (hits_in records realm user query) (beneath records query.dataset depth)
+  unfolding hits_by beneath
+  beneath_is depth es e =
+      all_of_made (hits_in records realm user query) (reached_by query.dataset depth) es
+      ∙ ap (λ es. flat_map (hits_in records realm user query) (filter_map (reached_by query.dataset depth) es)) e
+
+  -- why a search is refused, by what is found
+  pub refusal_is : (over : Bool) → has_range query.key ≡ false → dataset_exists records query.dataset ≡ true → is_over query.hard_limit (length (hits_over records realm user query)) ≡ over → refusal_of records realm user query ≡ cond over (Some refusal.WayTooMany) None
+  refusal_is over r e o =
+      let count : is_over query.hard_limit (length (fresh_of sight query)) ≡ over = ap (is_over query.hard_limit) fresh_length ∙ o in
+      λ i. cond (r i) (Some refusal.RangeHere) (cond (not (e i)) (Some refusal.NoExist) (cond (count i) (Some refusal.WayTooMany) None))
+
+-- with one level nothing beneath is reached
+not_reached : (level : ℕ) → is_reached 1 level ≡ false
+not_reached level = grind (arith, nat_tests)
+
+none_reached : (dataset : List ℕ) (es : List (Path × Record)) → filter_map (reached_by dataset 1) es ≡ []
+none_reached dataset [] = refl
+none_reached dataset (e ∷ es) =
+    ap (λ b. cons_option (cond b (made_by e) None) (filter_map (reached_by dataset 1) es)) (not_reached (levels (drop (length dataset) e.0.dataset)))
+    ∙ none_reached dataset es
+
+pub none_beneath : (records : Stored) (dataset : List ℕ) (depth : ℕ) → depth ≡ 1 → beneath records dataset depth ≡ []
+unfolding beneath
+none_beneath records dataset depth e =
+    ap (λ d. filter_map (reached_by dataset d) (filter (λ e. starts_with nat_eq e.0.dataset dataset) (map.entries records))) e
+    ∙ none_reached dataset (filter (λ e. starts_with nat_eq e.0.dataset dataset) (map.entries records))

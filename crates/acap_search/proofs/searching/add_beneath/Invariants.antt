@@ -1,0 +1,8 @@
+use Rattle.std.proofs.Common.{◌≡◌, ◌++◌, flat_map}
+use Rattle.acap_search.specs.Walks.{hits_by}
+use Rattle.acap_search.proofs.searching.add_beneath.Given as goal
+
+abbrev pub invariant-loop-path : goal.invariant-loop-path
+invariant-loop-path l =
+    l.hits.items ++ flat_map (hits_by l.search.tree.now.store.records l.search.realm.now l.search.user.now l.search.query.now l.depth) l.path-iterator
+    ≡ l.initial.hits.items ++ flat_map (hits_by l.search.tree.now.store.records l.search.realm.now l.search.user.now l.search.query.now l.depth) l.initial.path-iterator

@@ -1,0 +1,44 @@
+-- What a search finds, and in which order [RFC 2244 section 6.4.1].
+use Rattle.std.specs.Prelude.{Bool, List, [], ◌∷◌, refl, if◌then◌else◌}
+use Rattle.std.specs.Coded.{Coded, code_by, coded×, coded_list}
+use Rattle.std.specs.Ordering.{is_lt, ordering_then}
+use Rattle.std.specs.declared.cmp.Ordering.{Ordering}
+use Rattle.acap_entries.specs.FullPaths.{full_path_cmp}
+use Rattle.acap_entries.specs.declared.path.Path.{Path}
+use Rattle.acap_entries.specs.declared.row.Row.{Row}
+use Rattle.acap_entries.specs.contracts.path.Path as path
+use Rattle.acap_entries.specs.contracts.row.Row as row
+use Rattle.acap_search.specs.Places.{places_cmp}
+use Rattle.acap_search.specs.declared.rank.Place.{Place}
+use Rattle.acap_search.specs.contracts.rank.Place as place
+
+-- an entry that is wanted: where it is, where it stands for each item of SORT, and what is told of it
+pub record Match : Type 0 where
+  pub path : Path
+  pub places : List Place
+  pub row : Row
+
+-- by the places for SORT, and then by the full path in octets
+abbrev pub match_cmp : Match → Match → Ordering
+match_cmp a b = ordering_then (places_cmp a.places b.places) (full_path_cmp a.path b.path)
+
+abbrev pub match_lt : Match → Match → Bool
+match_lt a b = is_lt (match_cmp a b)
+
+-- in order by a test, equal ones as they came
+abbrev pub put_by : {X : Type 0} → (X → X → Bool) → X → List X → List X
+put_by lt x [] = x ∷ []
+put_by lt x (y ∷ ys) = if lt y x then y ∷ put_by lt x ys else x ∷ y ∷ ys
+
+abbrev pub sorted_from : {X : Type 0} → (X → X → Bool) → List X → List X
+sorted_from lt [] = []
+sorted_from lt (x ∷ xs) = put_by lt x (sorted_from lt xs)
+
+unfoldable pub sorted_by : {X : Type 0} → (X → X → Bool) → List X → List X
+sorted_by lt xs = sorted_from lt xs
+
+-- how matches are told apart in proofs
+abbrev pub match_code : Coded Match
+match_code =
+    code_by (Path × (List Place × Row)) (coded× path.the_row.coded (coded× (coded_list place.the_row.coded) row.the_row.coded))
+    (λ m. (m.path, (m.places, m.row))) (λ p. record { path = p.0; places = p.1.0; row = p.1.1 }) (λ _. refl)

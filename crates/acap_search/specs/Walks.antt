@@ -1,0 +1,35 @@
+-- What a search finds, dataset by dataset: words of private contracts.
+use Rattle.std.specs.Prelude.{ℕ, List, [], flat_map, Option, None}
+use Rattle.std.specs.List.{filter_map}
+use Rattle.std.specs.Option.{option_map_or}
+use Rattle.acap_entries.specs.Store.{Stored}
+use Rattle.acap_entries.specs.declared.path.Path.{Path}
+use Rattle.acap_entries.specs.declared.record.Record.{Record}
+use Rattle.acap_inherit.specs.Chains.{chain_of}
+use Rattle.acap_inherit.specs.EntryNames.{names_on}
+use Rattle.acap_rights.specs.declared.realm.Realm.{Realm}
+use Rattle.acap_search.specs.Matches.{Match}
+use Rattle.acap_search.specs.Rows.{attributes_at, stars_of}
+use Rattle.acap_search.specs.Scopes.{scope_of, datasets_of, reached_by}
+use Rattle.acap_search.specs.Sight.{answers_at}
+use Rattle.acap_search.specs.Tuples.{seen_tuple}
+use Rattle.acap_search.specs.declared.query.Query.{Query}
+
+-- what is found at a name
+abbrev pub hit_at : Stored → Realm → List ℕ → Query → List ℕ → List (List ℕ) → List ℕ → Option Match
+hit_at records realm user query dataset chain name =
+    seen_tuple query None (record { dataset = dataset; name = name }) (answers_at records realm user dataset chain name)
+    (stars_of (answers_at records realm user dataset chain name).read (attributes_at records name chain))
+
+-- in a dataset
+unfoldable pub hits_in : Stored → Realm → List ℕ → Query → List ℕ → List Match
+hits_in records realm user query dataset =
+    filter_map (hit_at records realm user query dataset (chain_of records dataset query.no_inherit)) (names_on records (chain_of records dataset query.no_inherit))
+
+-- in the dataset that an entry makes, where it is reached
+unfoldable pub hits_by : Stored → Realm → List ℕ → Query → ℕ → Path × Record → List Match
+hits_by records realm user query depth e = option_map_or (hits_in records realm user query) (reached_by query.dataset depth e) []
+
+-- in all datasets of the scope
+abbrev pub hits_over : Stored → Realm → List ℕ → Query → List Match
+hits_over records realm user query = flat_map (hits_in records realm user query) (datasets_of records (scope_of query))

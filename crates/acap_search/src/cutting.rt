@@ -1,0 +1,31 @@
+//! How many of the matches are told.
+ghost use Rattle.std.specs.Prelude.{◌≡◌};
+ghost use Rattle.acap_search.specs.Cutting as rule;
+
+use acap_grammar::Limit;
+
+/// How many of the matches of a SEARCH are told (RFC 2244 section 6.4.1).
+#[derive(Clone, Copy, Debug, PartialEq, Eq)]
+pub struct Cut {
+    /// So many, from the first on.
+    pub told: usize,
+    /// How many there are in all, told as TOOMANY where LIMIT keeps some back.
+    pub total: Option<usize>,
+}
+
+/// How many of so many matches are told: over the first number of LIMIT so many as its second number says (RFC 2244 section
+/// 6.4.1).
+pub fn cut_by(limit: Option<Limit>, count: usize) -> Cut
+    ensures { result ≡ rule.cut_of limit count }
+{
+    match limit {
+        Some(Limit { over, most }) if count > over as usize => Cut {
+            told: count.min(most as usize),
+            total: Some(count),
+        },
+        _ => Cut {
+            told: count,
+            total: None,
+        },
+    }
+}

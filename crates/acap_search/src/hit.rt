@@ -1,0 +1,98 @@
+//! What a search found.
+ghost use Rattle.std.specs.Prelude.{◌≡◌, ◌↔◌, IsTrue, IfOk, take, map as each};
+
+use crate::rank::Places;
+use acap_entries::{Copying, Memory, Path, Row, Sequence};
+use acap_grammar::Rows;
+use std::alloc::Global;
+use std::marker::Model;
+
+/// An entry that a search found: where it is, where it stands for SORT, and what is told of it (RFC 2244 section 6.4.1). It is
+/// made by a search alone, or copied.
+#[derive(Debug, Drop)]
+pub struct Hit {
+    pub(crate) path: Path,
+    pub(crate) places: Places,
+    pub(crate) row: Row,
+}
+
+/// What a search found, in order.
+pub type Hits = Sequence<Hit>;
+
+impl Model for Hit {
+    ghost use Rattle.acap_search.specs.Matches.{Match, match_code};
+
+    ghost Value = { Match };
+
+    ghost coded = { match_code };
+
+    ghost view = { λ h. record { path = h.path; places = h.places; row = h.row } };
+}
+
+// Whether two paths are equal.
+fn is_same_path(path: &Path, other: &Path) -> bool
+    ensures { IsTrue result ↔ (path.now ≡ other.now) }
+{
+    *path == *other
+}
+
+// Whether the places for each item are equal.
+fn is_same_places(places: &Places, other: &Places) -> bool
+    ensures { IsTrue result ↔ (places.now ≡ other.now) }
+{
+    *places == *other
+}
+
+impl Hit {
+    /// Whether two of them are equal. Takes no memory.
+    pub fn equals(&self, other: &Hit) -> bool
+        ensures { IsTrue result ↔ (self.now ≡ other.now) }
+    {
+        is_same_path(&self.path, &other.path)
+            && is_same_places(&self.places, &other.places)
+            && self.row.equals(&other.row)
+    }
+
+    /// Where the entry is.
+    pub fn path(&self) -> &Path
+        ensures { result.now ≡ self.now.path }
+    {
+        &self.path
+    }
+
+    /// What is told of it.
+    pub fn row(&self) -> &Row
+        ensures { result.now ≡ self.now.row }
+    {
+        &self.row
+    }
+
+    /// What is told of it, in the memory that it has.
+    pub fn into_row(self) -> Row
+        ensures { result ≡ self.row }
+    {
+        self.row
+    }
+}
+
+impl Copying for Hit {
+    fn copy(&self) -> Result<Hit, Memory> {
+        let path = self.path.copy()?;
+        let places = self.places.copy()?;
+        let row = self.row.copy()?;
+        Ok(Hit { path, places, row })
+    }
+}
+
+/// What is told of the first hits, so many or all, each row in the memory that it has. Fails only for want of memory.
+pub fn first_rows(alloc: Global, hits: Hits, most: usize) -> Result<Rows, Memory>
+    ensures { IfOk result (λ rows. rows ≡ each (λ hit. hit.row) (take most hits)) }
+{
+    let mut hits = hits.into_vec();
+    hits.truncate(most);
+    let mut rows = Rows::new(alloc);
+    for hit in hits {
+        rows.push(hit.into_row())?;
+    }
+    Ok(rows)
+}

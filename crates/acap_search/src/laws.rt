@@ -1,0 +1,68 @@
+//! What follows from the definitions alone: the contract of each function is the law, and its body names
+//! at most a law of the crates below.
+ghost use Rattle.acap_search.specs.Examples.{KeyExamples, OrderExamples, ScopeExamples, LimitExamples, SightExamples, RowExamples};
+ghost use Rattle.acap_search.specs.Laws.{AclLaw, SeenLaw, SightLaw, StarLaw, PlaceLaw};
+
+use acap_inherit::{names_law, nothing_law};
+
+/// What a search finds depends on nothing but what the user sees (RFC 2244 section 3.5).
+pub fn sight_law()
+    ensures { SightLaw }
+{
+    nothing_law();
+}
+
+/// Which entries are in sight (RFC 2244 sections 3.5 and 6.4.1).
+pub fn seen_law()
+    ensures { SeenLaw }
+{
+    nothing_law();
+    names_law();
+}
+
+/// Which attributes a name with `*` lists (RFC 2244 section 6.4.1).
+pub fn star_law()
+    ensures { StarLaw }
+{
+    nothing_law();
+}
+
+/// Whose list is told of an attribute (RFC 2244 section 3.5).
+pub fn acl_law()
+    ensures { AclLaw }
+{}
+
+/// In which order SORT puts entries (RFC 2244 sections 3.4 and 6.4.1).
+pub fn place_law()
+    ensures { PlaceLaw }
+{}
+
+/// Which entries keys want, one for each case (RFC 2244 section 6.4.1).
+pub fn key_examples()
+    ensures { KeyExamples }
+{}
+
+/// Orders of values and of paths, one for each case.
+pub fn order_examples()
+    ensures { OrderExamples }
+{}
+
+/// How deep a search looks, and how entries are named.
+pub fn scope_examples()
+    ensures { ScopeExamples }
+{}
+
+/// How many matches are told, and when there are too many.
+pub fn limit_examples()
+    ensures { LimitExamples }
+{}
+
+/// What is seen of a value and of an entry, by the rights there, and where it then stands.
+pub fn sight_examples()
+    ensures { SightExamples }
+{}
+
+/// What a RETURN tells of an attribute (RFC 2244 section 6.4.1).
+pub fn row_examples()
+    ensures { RowExamples }
+{}

@@ -1,0 +1,84 @@
+//! The order in which matches are told.
+ghost use Rattle.std.specs.Prelude.{◌≡◌, OnOk};
+ghost use Rattle.acap_search.specs.Matches as found;
+ghost use Rattle.acap_search.specs.Places as rule;
+
+use crate::hit::Hit;
+use crate::rank::{Place, Rank};
+use acap_entries::Memory;
+use std::cmp::Ordering;
+
+// How what strings are compared by compares.
+fn rank_order(a: &Rank, b: &Rank) -> Ordering
+    ensures { result ≡ rule.rank_cmp a.now b.now }
+{
+    match (a, b) {
+        (Rank::Octets(x), Rank::Octets(y)) => x.cmp(y),
+        (Rank::Octets(_), _) => Ordering::Less,
+        (Rank::Number(_), Rank::Octets(_)) => Ordering::Greater,
+        (Rank::Number(x), Rank::Number(y)) => {
+            let by_length = x.as_slice().len().cmp(&y.as_slice().len());
+            by_length.then(x.cmp(y))
+        }
+        (Rank::Number(_), Rank::NoNumber) => Ordering::Less,
+        (Rank::NoNumber, Rank::NoNumber) => Ordering::Equal,
+        (Rank::NoNumber, _) => Ordering::Greater,
+    }
+}
+
+// How places for one item of SORT compare.
+fn place_order(a: &Place, b: &Place) -> Ordering
+    ensures { result ≡ rule.place_cmp a.now b.now }
+{
+    match (a, b) {
+        (Place::Rising(x), Place::Rising(y)) => rank_order(x, y),
+        (Place::Rising(_), _) => Ordering::Less,
+        (Place::Falling(_), Place::Rising(_)) => Ordering::Greater,
+        (Place::Falling(x), Place::Falling(y)) => rank_order(y, x),
+        (Place::Falling(_), Place::Behind) => Ordering::Less,
+        (Place::Behind, Place::Behind) => Ordering::Equal,
+        (Place::Behind, _) => Ordering::Greater,
+    }
+}
+
+/// How places for all items of SORT compare, the first that differ deciding.
+pub(crate) fn places_order(a: &[Place], b: &[Place]) -> Ordering
+    ensures { result ≡ rule.places_cmp a.now b.now }
+{
+    let mut left = a;
+    let mut right = b;
+    while let Some((x, xs)) = left.split_first() {
+        match right.split_first() {
+            Some((y, ys)) => {
+                match place_order(x, y) {
+                    Ordering::Equal => {}
+                    other => return other,
+                }
+                left = xs;
+                right = ys;
+            }
+            None => return Ordering::Greater,
+        }
+    }
+    if right.is_empty() {
+        Ordering::Equal
+    } else {
+        Ordering::Less
+    }
+}
+
+// How hits compare: by their places, and then by their full paths in octets.
+fn order(a: &Hit, b: &Hit) -> Ordering
+    ensures { result ≡ found.match_cmp a.now b.now }
+{
+    let by_places = places_order(a.places.as_slice(), b.places.as_slice());
+    by_places.then(a.path.cmp_full(&b.path))
+}
+
+/// Puts hits in order. Fails only for want of memory.
+pub(crate) fn sort_hits(hits: &mut Vec<Hit>) -> Result<(), Memory>
+    ensures { OnOk result (hits.new.items ≡ found.sorted_by found.match_lt hits.old.items) }
+{
+    hits.sort_by(|a, b| order(a, b))?;
+    Ok(())
+}

@@ -1,0 +1,92 @@
+//! What is searched for.
+ghost use Rattle.std.specs.Prelude.{◌≡◌, IfOk};
+ghost use Rattle.acap_search.specs.Asking.{asked_of};
+
+use acap_entries::{Copying, Dataset, Memory, UserName};
+use acap_grammar::{Key, Limit, MakeContext, Returns, SearchModifiers, SortItems};
+
+/// What a search over a dataset looks for, and what is told of each match (RFC 2244 section 6.4.1): all that a context keeps of
+/// the SEARCH that made it.
+#[derive(Debug, Drop)]
+pub struct Query {
+    /// The dataset, in which no component stands for the user.
+    pub dataset: Dataset,
+    /// DEPTH: how many levels of datasets are looked through, 0 standing for all; one where it isn't sent.
+    pub depth: Option<u32>,
+    /// NOINHERIT: nothing is inherited.
+    pub no_inherit: bool,
+    /// HARDLIMIT: with more matches than these the search fails.
+    pub hard_limit: Option<u32>,
+    /// Which entries are wanted.
+    pub key: Key,
+    /// SORT: in which order they are told.
+    pub sort: Option<SortItems>,
+    /// RETURN: what is told of each.
+    pub returns: Option<Returns>,
+}
+
+/// What a SEARCH over a dataset asks for (RFC 2244 section 6.4.1).
+#[derive(Debug, Drop)]
+pub struct Asked {
+    /// What is searched for.
+    pub query: Query,
+    /// LIMIT: how many matches are told.
+    pub limit: Option<Limit>,
+    /// MAKECONTEXT: the context that keeps the matches.
+    pub make_context: Option<MakeContext>,
+}
+
+impl Asked {
+    /// What a user asks for by a SEARCH over a dataset, as it was sent: its parts are moved, and only the name of the dataset is
+    /// copied, with the user's in place of a second component `~`. Fails only for want of memory.
+    pub fn new(
+        user: &UserName,
+        dataset: &Dataset,
+        modifiers: SearchModifiers,
+        key: Key,
+    ) -> Result<Asked, Memory>
+        ensures { IfOk result (λ asked. asked ≡ asked_of user.now dataset.now modifiers key) }
+    {
+        let dataset = dataset.for_user(user)?;
+        let SearchModifiers {
+            depth,
+            hard_limit,
+            limit,
+            make_context,
+            no_inherit,
+            returns,
+            sort,
+        } = modifiers;
+        Ok(Asked {
+            query: Query {
+                dataset,
+                depth,
+                no_inherit,
+                hard_limit,
+                key,
+                sort,
+                returns,
+            },
+            limit,
+            make_context,
+        })
+    }
+}
+
+impl Copying for Query {
+    fn copy(&self) -> Result<Query, Memory> {
+        let dataset = self.dataset.copy()?;
+        let key = self.key.copy()?;
+        let sort = self.sort.copy()?;
+        let returns = self.returns.copy()?;
+        Ok(Query {
+            dataset,
+            depth: self.depth,
+            no_inherit: self.no_inherit,
+            hard_limit: self.hard_limit,
+            key,
+            sort,
+            returns,
+        })
+    }
+}

@@ -1,0 +1,117 @@
+//! What strings are compared by, made once for an entry.
+ghost use Rattle.std.specs.Prelude.{◌≡◌, IfOk, OnOk, map};
+ghost use Rattle.std.specs.Char.{is_ascii_digit};
+ghost use Rattle.std.specs.List.{take_while};
+ghost use Rattle.acap_order.specs.Digits.{significant_digits};
+ghost use Rattle.acap_order.specs.Ranks.{upper_case};
+ghost use Rattle.acap_search.specs.Places as rule;
+ghost use Rattle.acap_search.specs.Shown as shown;
+ghost use Rattle.acap_search.specs.Sight as sight;
+
+use crate::looking::look;
+use crate::rank::{Place, Places, Rank};
+use crate::viewer::Viewer;
+use acap_entries::{Memory, Octets, Records, Value};
+use acap_grammar::SortItem;
+use acap_inherit::Lent;
+use acap_order::{Collation, Comparator, Direction};
+use std::alloc::Global;
+
+// A string in upper case.
+fn upper_case_of(alloc: Global, text: &[u8]) -> Result<Value, Memory>
+    ensures { IfOk result (λ made. made ≡ upper_case text.now) }
+{
+    let mut octets = Vec::with_capacity(alloc, text.len())?;
+    for octet in text {
+        octets.push(octet.to_ascii_uppercase())?;
+    }
+    Ok(Value::new(Octets::from_vec(octets)))
+}
+
+// The digits that a string begins with.
+fn leading_digits(text: &[u8]) -> &[u8]
+    ensures { result.now ≡ take_while is_ascii_digit text.now }
+{
+    for (count, octet) in text.iter().enumerate() {
+        if !octet.is_ascii_digit() {
+            return &text[..count];
+        }
+    }
+    text
+}
+
+// Digits without the zeros that they begin with.
+fn significant(digits: &[u8]) -> &[u8]
+    ensures { result.now ≡ significant_digits digits.now }
+{
+    let mut rest = digits;
+    while let Some((b'0', after)) = rest.split_first() {
+        rest = after;
+    }
+    rest
+}
+
+// What digits are compared by.
+fn number_rank(alloc: Global, digits: &[u8]) -> Result<Rank, Memory>
+    ensures { IfOk result (λ rank. rank ≡ rule.number_rank digits.now) }
+{
+    if digits.is_empty() {
+        return Ok(Rank::NoNumber);
+    }
+    Ok(Rank::Number(Value::from_slice(alloc, significant(digits))?))
+}
+
+// What a string is compared by.
+fn rank_of(alloc: Global, collation: Collation, text: &[u8]) -> Result<Rank, Memory>
+    ensures { IfOk result (λ rank. rank ≡ rule.rank_in collation text.now) }
+{
+    match collation {
+        Collation::Octet => Ok(Rank::Octets(Value::from_slice(alloc, text)?)),
+        Collation::AsciiCasemap => Ok(Rank::Octets(upper_case_of(alloc, text)?)),
+        Collation::AsciiNumeric => number_rank(alloc, leading_digits(text)),
+    }
+}
+
+// In a direction.
+fn placed(direction: Direction, rank: Rank) -> Place
+    ensures { result ≡ rule.placed direction rank }
+{
+    match direction {
+        Direction::Ascending => Place::Rising(rank),
+        Direction::Descending => Place::Falling(rank),
+    }
+}
+
+// Where a value stands.
+fn place_of(
+    alloc: Global,
+    comparator: &Comparator,
+    value: Option<Lent<'_>>,
+) -> Result<Place, Memory>
+    ensures { IfOk result (λ place. place ≡ rule.place_in comparator.now (shown.cell_of value.entry)) }
+{
+    let rank = match value {
+        Some(Lent::Single(text)) => rank_of(alloc, comparator.collation, text)?,
+        Some(Lent::Stamp(digits)) => rank_of(alloc, comparator.collation, &digits)?,
+        Some(Lent::Multi(_)) => return Ok(Place::Behind),
+        None => return Ok(Place::Behind),
+    };
+    Ok(placed(comparator.direction, rank))
+}
+
+/// Where an entry stands for each item of SORT. Fails only for want of memory.
+pub(crate) fn places_of<'a, R: Records>(
+    alloc: Global,
+    by: &Viewer<'a, R>,
+    name: &'a [u8],
+    sort: &[SortItem],
+) -> Result<Places, Memory>
+    ensures { IfOk result (λ places. places ≡ rule.places_in (sight.answers_at (R.store by.now.records.now).records by.now.realm.now by.now.user.now by.now.dataset.now by.now.chain name.now).read sort.now) }
+{
+    let mut places = Places::new(alloc);
+    for item in sort {
+        let seen = look(by, name, item.attribute.as_slice());
+        places.push(place_of(alloc, &item.comparator, seen.read)?)?;
+    }
+    Ok(places)
+}

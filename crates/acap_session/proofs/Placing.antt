@@ -1,0 +1,141 @@
+-- What stands at a seat, and what a place set there leaves.
+use Rattle.std.proofs.Common.{◌≡◌, ℕ, zero, suc, ◌<◌, ◌≤◌, Bool, true, false, not, List, [], ◌∷◌, length, Option, Some, None, Result, Ok, Err, IsSome, IsErr, IsErrAnd, get_or, set, refl, sym, ap, subst, ◌∙◌, arith}
+use Rattle.std.specs.Option.{is_some}
+use Rattle.acap_session.specs.Places.{Place, Places, place_at, placed, if_open}
+use Rattle.acap_session.specs.Session.{is_closed, session_drain, session_next}
+use Rattle.acap_machine.specs.Machine.{Machine}
+use Rattle.acap_session.specs.Turning.{Scene, scene, WasCut, IsTurn, IsDrain, turn_of, drain_of}
+use Rattle.acap_session.specs.World.{World, Deed, IsStep, IsCutAt, Makes, Feeds, Leaves, room_of, with_octets, at_open, did, open_at, scene_of, with_scene, takes, ends}
+use Rattle.acap_session.specs.World as world
+use Rattle.acap_session.specs.declared.occasion.Occasion.{Occasion}
+use Rattle.acap_session.specs.declared.turn.Turn as turned
+use Rattle.acap_session.specs.declared.world_fault.WorldFault.{WorldFault}
+use Rattle.acap_session.specs.declared.world_fault.WorldFault.TheVariants as faults
+
+place_or : (xs : Places) (k : ℕ) (d : Option Place) → k < length xs → place_at xs k ≡ get_or xs k d
+place_or [] k d e = absurd (omega (arith, e))
+place_or (x ∷ xs) zero d e = refl
+place_or (x ∷ xs) (suc k) d e = place_or xs k d (omega (arith, e))
+
+pub stands : (xs : Places) (k : ℕ) (x : Option Place) → k < length xs → ((d : Option Place) → x ≡ get_or xs k d) → place_at xs k ≡ x
+stands xs k x e g = place_or xs k x e ∙ sym (g x)
+
+pub nothing_behind : (xs : Places) (k : ℕ) → length xs ≤ k → place_at xs k ≡ None
+nothing_behind [] k e = refl
+nothing_behind (x ∷ xs) zero e = absurd (omega (arith, e))
+nothing_behind (x ∷ xs) (suc k) e = nothing_behind xs k (omega (arith, e))
+
+-- whether it is open
+open_by : (p : Place) (b : Bool) → is_closed p.talk.stage ≡ b → is_some (if_open (Some p)) ≡ not b
+open_by p true e = rw e refl
+open_by p false e = rw e refl
+
+pub open_some : (p : Place) → is_some (if_open (Some p)) ≡ not (is_closed p.talk.stage)
+open_some p = open_by p (is_closed p.talk.stage) refl
+
+-- a seat where something stands is within
+pub within : (xs : Places) (k : ℕ) → true ≡ is_some (if_open (place_at xs k)) → k < length xs
+within [] k e = cc
+within (x ∷ xs) zero e = omega arith
+within (x ∷ xs) (suc k) e = let r = within xs k e in omega (arith, r)
+
+-- what is set there stands there
+pub set_is : (xs : Places) (k : ℕ) (p : Place) → k < length xs → set xs k (Some p) ≡ placed xs k p
+set_is [] k p e = absurd (omega (arith, e))
+set_is (x ∷ xs) zero p e = refl
+set_is (x ∷ xs) (suc k) p e = ap (λ ys. x ∷ ys) (set_is xs k p (omega (arith, e)))
+
+-- ---- a session that is open at a seat stands there
+
+open_case : (p : Place) (b : Bool) → is_closed p.talk.stage ≡ b → true ≡ is_some (if_open (Some p)) → if_open (Some p) ≡ Some p
+open_case p true e f = absurd (let k = f ∙ open_by p true e in cc)
+open_case p false e f = rw e refl
+
+open_of : (x : Option Place) → true ≡ is_some (if_open x) → if_open x ≡ x
+open_of None e = refl
+open_of (Some p) e = open_case p (is_closed p.talk.stage) refl e
+
+pub open_there : (w : World) (i k : ℕ) (d item : Option Place) (place : Place) → i ≡ k → true ≡ is_some (open_at w k) → item ≡ get_or w.places i d → item ≡ Some place → open_at w k ≡ Some place
+open_there w i k d item place h e g s = open_of (place_at w.places k) e ∙ place_or w.places k d (within w.places k e) ∙ sym (g ∙ ap (λ n. get_or w.places n d) h) ∙ s
+
+none_case : (x : Option Place) → false ≡ is_some x → x ≡ None
+none_case None e = refl
+none_case (Some p) e = absurd cc
+
+pub not_open : (w : World) (k : ℕ) → false ≡ is_some (open_at w k) → open_at w k ≡ None
+not_open w k e = none_case (open_at w k) e
+
+-- ---- the steps
+
+pub turn_step : (w : World) (o : Occasion) (place : Place) (came : turned.Turn) (s : Scene) → open_at w o.seat ≡ Some place → IsTurn w.users o (scene_of w place) came s → IsStep o world.Turn w (with_scene w o.seat s)
+unfolding did
+turn_step w o place came s e t = record { refused = t.refused; is = ap (λ (p : turned.Turn × Scene). with_scene w o.seat p.1) t.is ∙ sym (ap (λ x. at_open w o.seat (λ s. (turn_of w.users o t.refused s).1) x) e) }
+
+pub drain_step : (w : World) (o : Occasion) (place : Place) (came : turned.Turn) (s : Scene) → open_at w o.seat ≡ Some place → IsDrain o (scene_of w place) came s → IsStep o world.Drain w (with_scene w o.seat s)
+unfolding did
+drain_step w o place came s e t = record { refused = t.refused; is = ap (λ (p : turned.Turn × Scene). with_scene w o.seat p.1) t.is ∙ sym (ap (λ x. at_open w o.seat (λ s. (drain_of o t.refused s).1) x) e) }
+
+pub piece_step : (w : World) (o : Occasion) (octets : List ℕ) (place : Place) → open_at w o.seat ≡ Some place → with_scene w o.seat (takes octets (scene_of w place)) ≡ did o false (world.Piece octets) w
+unfolding did
+piece_step w o octets place e = sym (ap (λ x. at_open w o.seat (takes octets) x) e)
+
+pub leave_step : (w : World) (o : Occasion) (place : Place) → open_at w o.seat ≡ Some place → with_scene w o.seat (ends o (scene_of w place)) ≡ did o false world.Leave w
+unfolding did
+leave_step w o place e = sym (ap (λ x. at_open w o.seat (ends o) x) e)
+
+-- ---- what the calls leave
+
+pub now_open : (w old : World) (k : ℕ) (b : Bool) → w ≡ old → b ≡ true → b ≡ is_some (open_at old k) → true ≡ is_some (open_at w k)
+now_open w old k b v e g = sym e ∙ g ∙ ap (λ (u : World). is_some (open_at u k)) (sym v)
+
+is_there : (w : World) (k : ℕ) (place : Place) → open_at w k ≡ Some place → IsSome (open_at w k)
+is_there w k place e = ap is_some e
+
+pub none_there : (w : World) (i k : ℕ) (d item : Option Place) → i ≡ k → true ≡ is_some (open_at w k) → item ≡ get_or w.places i d → item ≡ None → ⊥
+none_there w i k d item h e g s = let r = e ∙ ap (λ x. is_some (if_open x)) (place_or w.places k d (within w.places k e) ∙ sym (g ∙ ap (λ n. get_or w.places n d) h) ∙ s) in cc
+
+pub put_is : (w : World) (m : Machine) (i k : ℕ) (p : Place) → i ≡ k → true ≡ is_some (open_at w k) → record w { machine = m; places = set w.places i (Some p) } ≡ with_scene w k (scene m p.talk p.out)
+put_is w m i k p e g = ap (λ xs. record w { machine = m; places = xs }) (ap (λ n. set w.places n (Some p)) e ∙ set_is w.places k p (within w.places k g))
+
+pub is_within : (w : World) (i k : ℕ) → i ≡ k → true ≡ is_some (open_at w k) → i < length w.places
+is_within w i k e g = subst (λ n. n < length w.places) (sym e) (within w.places k g)
+
+pub turn_made : (old w v : World) (o : Occasion) (place : Place) (x : turned.Turn) (s : Scene) (out : Result (Unit {0}) WorldFault) (u : Unit {0}) → w ≡ old → open_at w o.seat ≡ Some place → v ≡ with_scene w o.seat s → out ≡ Ok u → IsTurn w.users o (scene_of w place) x s → Makes o world.Turn (λ p. session_next old.users o.nonce o.clock p.talk) old v out
+turn_made old w v o place x s out u same e f g t = subst (λ (y : World). Makes o world.Turn (λ p. session_next y.users o.nonce o.clock p.talk) y v out) same (subst (λ r. Makes o world.Turn (λ p. session_next w.users o.nonce o.clock p.talk) w v r) (sym g) (is_there w o.seat place e, subst (λ z. IsStep o world.Turn w z) (sym f) (turn_step w o place x s e t)))
+
+pub turn_cut : (old w v : World) (o : Occasion) (place : Place) (s : Scene) (out : Result (Unit {0}) WorldFault) → w ≡ old → open_at w o.seat ≡ Some place → v ≡ with_scene w o.seat s → out ≡ Err faults.Memory → WasCut o (scene_of w place) (session_next w.users o.nonce o.clock place.talk) s → Makes o world.Turn (λ p. session_next old.users o.nonce o.clock p.talk) old v out
+turn_cut old w v o place s out same e f g t = subst (λ (y : World). Makes o world.Turn (λ p. session_next y.users o.nonce o.clock p.talk) y v out) same (subst (λ r. Makes o world.Turn (λ p. session_next w.users o.nonce o.clock p.talk) w v r) (sym g) (place, e, record { after = s; cut = t; is = f }))
+
+pub drain_made : (old w v : World) (o : Occasion) (place : Place) (x : turned.Turn) (s : Scene) (out : Result (Unit {0}) WorldFault) (u : Unit {0}) → w ≡ old → open_at w o.seat ≡ Some place → v ≡ with_scene w o.seat s → out ≡ Ok u → IsDrain o (scene_of w place) x s → Makes o world.Drain (λ p. session_drain p.talk) old v out
+drain_made old w v o place x s out u same e f g t = subst (λ (y : World). Makes o world.Drain (λ p. session_drain p.talk) y v out) same (subst (λ r. Makes o world.Drain (λ p. session_drain p.talk) w v r) (sym g) (is_there w o.seat place e, subst (λ z. IsStep o world.Drain w z) (sym f) (drain_step w o place x s e t)))
+
+pub drain_cut : (old w v : World) (o : Occasion) (place : Place) (s : Scene) (out : Result (Unit {0}) WorldFault) → w ≡ old → open_at w o.seat ≡ Some place → v ≡ with_scene w o.seat s → out ≡ Err faults.Memory → WasCut o (scene_of w place) (session_drain place.talk) s → Makes o world.Drain (λ p. session_drain p.talk) old v out
+drain_cut old w v o place s out same e f g t = subst (λ (y : World). Makes o world.Drain (λ p. session_drain p.talk) y v out) same (subst (λ r. Makes o world.Drain (λ p. session_drain p.talk) w v r) (sym g) (place, e, record { after = s; cut = t; is = f }))
+
+pub leave_made : (old w v : World) (o : Occasion) (place : Place) (s : Scene) → w ≡ old → open_at w o.seat ≡ Some place → v ≡ with_scene w o.seat s → s ≡ ends o (scene_of w place) → IsSome (open_at old o.seat) × IsStep o world.Leave old v
+leave_made old w v o place s same e f t = subst (λ (y : World). IsSome (open_at y o.seat) × IsStep o world.Leave y v) same (is_there w o.seat place e, record { refused = false; is = f ∙ ap (λ y. with_scene w o.seat y) t ∙ leave_step w o place e })
+
+fed_step : (w v : World) (octets : List ℕ) (k n : ℕ) (place left : Place) → open_at w k ≡ Some place → v ≡ with_scene w k (scene w.machine left.talk left.out) → n ≡ room_of place.talk octets → left ≡ record place { talk = with_octets place.talk n octets } → (o : Occasion) → o.seat ≡ k → IsStep o (world.Piece octets) w v
+fed_step w v octets k n place left e f room t o h =
+    let there = ap (λ i. open_at w i) h ∙ e in
+    let put = f ∙ ap (λ (p : Place). with_scene w k (scene w.machine p.talk p.out)) (t ∙ ap (λ i. record place { talk = with_octets place.talk i octets }) room) ∙ ap (λ i. with_scene w i (takes octets (scene_of w place))) (sym h) in
+    record { refused = false; is = put ∙ piece_step w o octets place there }
+
+-- what stands at a seat, set there again
+same_set : (xs : Places) (k : ℕ) (d : Option Place) → k < length xs → set xs k (get_or xs k d) ≡ xs
+same_set [] k d e = absurd (omega (arith, e))
+same_set (x ∷ xs) zero d e = refl
+same_set (x ∷ xs) (suc k) d e = ap (λ ys. x ∷ ys) (same_set xs k d (omega (arith, e)))
+
+pub put_back : (w : World) (i k : ℕ) (d item : Option Place) (place left : Place) → i ≡ k → true ≡ is_some (open_at w k) → item ≡ get_or w.places i d → item ≡ Some place → left ≡ place → record w { places = set w.places i (Some left) } ≡ w
+put_back w i k d item place left h e g s t = ap (λ xs. record w { places = xs }) (ap (λ p. set w.places i (Some p)) t ∙ ap (λ x. set w.places i x) (sym s ∙ g) ∙ same_set w.places i d (is_within w i k h e))
+
+pub fed : (old w v : World) (octets : List ℕ) (k n : ℕ) (place left : Place) (out : Result ℕ WorldFault) → w ≡ old → open_at w k ≡ Some place → v ≡ with_scene w k (scene w.machine left.talk left.out) → out ≡ Ok n → n ≡ room_of place.talk octets → left ≡ record place { talk = with_octets place.talk n octets } → Feeds k octets old v out
+fed old w v octets k n place left out same e f g room t = subst (λ (y : World). Feeds k octets y v out) same (subst (λ r. Feeds k octets w v r) (sym g) (place, e, room, λ o h. fed_step w v octets k n place left e f room t o h))
+
+pub not_fed : (old w v : World) (octets : List ℕ) (k : ℕ) (place left : Place) (out : Result ℕ WorldFault) → w ≡ old → open_at w k ≡ Some place → v ≡ w → out ≡ Err faults.Memory → Feeds k octets old v out
+not_fed old w v octets k place left out same e f g = subst (λ (y : World). Feeds k octets y v out) same (subst (λ r. Feeds k octets w v r) (sym g) (is_there w k place e, f))
+
+pub memory_said : (r : Result ℕ WorldFault) → IsErr r → IsErrAnd r (λ e. e ≡ faults.Memory) → r ≡ Err faults.Memory
+memory_said (Ok n) e h = absurd cc
+memory_said (Err f) e h = ap (λ g. Err g) h

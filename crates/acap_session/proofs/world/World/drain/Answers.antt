@@ -1,0 +1,23 @@
+use Rattle.std.proofs.Common.{◌<◌, sym, subst, ◌∙◌}
+use Rattle.acap_session.specs.Turning.{scene}
+use Rattle.acap_session.specs.contracts.world.World.{the_view}
+use Rattle.acap_session.proofs.Placing.{is_within, none_there, now_open, open_there, put_is, drain_made, drain_cut}
+use Rattle.acap_session.proofs.world.World.drain.Goals.{in-Ok, in-Err}
+use Rattle.acap_session.proofs.world.World.drain.Goals as goal
+
+pub index_mut-requires : goal.index_mut-requires
+index_mut-requires c = subst (λ n. c.from-index.result < n) (sym c.self.inside.places.ok.0) (is_within (the_view c.self.inside) c.from-index.result c.args.seat (c.from-index.ensures ∙ c.number.ensures.value) (now_open (the_view c.self.inside) c.args.self.now c.args.seat c.is_open.result c.self.view_is c.if-not-is_open.false c.is_open.ensures))
+
+pub returns-after-drain : goal.returns-after-drain
+returns-after-drain c =
+    let open_ = now_open (the_view c.self.inside) c.args.self.now c.args.seat c.is_open.result c.self.view_is c.if-not-is_open.false c.is_open.ensures in
+    let there = open_there (the_view c.self.inside) c.from-index.result c.args.seat c.index_mut.result.now c.index_mut.result.now c.in-Some.place (c.from-index.ensures ∙ c.number.ensures.value) open_ c.index_mut.ensures.value c.in-Some.is in
+    let put = put_is (the_view c.self.inside) c.drain.new.state.machine c.from-index.result c.args.seat c.drain.new.self (c.from-index.ensures ∙ c.number.ensures.value) open_ in
+    elim c.match-drain.branch [
+      | in-Ok w ↦ drain_made c.args.self.now (the_view c.self.inside) _ (record { seat = c.args.seat; clock = c.args.clock; nonce = 0 }) c.in-Some.place _ (scene c.drain.new.state.machine c.drain.new.self.talk c.drain.new.self.out) c.match-drain.result _ c.self.view_is there put w.result-is w.in-Ok.ensures.ok
+      | in-Err w ↦ drain_cut c.args.self.now (the_view c.self.inside) _ (record { seat = c.args.seat; clock = c.args.clock; nonce = 0 }) c.in-Some.place (scene c.drain.new.state.machine c.drain.new.self.talk c.drain.new.self.out) c.match-drain.result c.self.view_is there put w.result-is w.in-Err.ensures.err
+    ]
+
+pub returns-in-None : goal.returns-in-None
+returns-in-None c =
+    absurd (none_there (the_view c.self.inside) c.from-index.result c.args.seat c.index_mut.result.now c.index_mut.result.now (c.from-index.ensures ∙ c.number.ensures.value) (now_open (the_view c.self.inside) c.args.self.now c.args.seat c.is_open.result c.self.view_is c.if-not-is_open.false c.is_open.ensures) c.index_mut.ensures.value c.in-None.is)

@@ -1,0 +1,165 @@
+-- What one session of a user writes for what it reads, with a machine of its own whose clock shows 0
+-- [RFC 2244 section 2].
+use Rattle.std.specs.Prelude.{◌≡◌, ◌⊎◌, ◌<◌, ℕ, pos, List, [], ◌∷◌, ◌++◌, length, flat_map, Bool, true, false, Option, Some, None, codes, Result, Ok, Err, ⊤}
+use Rattle.std.specs.FinMap as table
+use Rattle.std.specs.Io.KnownBytes.{Appends}
+use Rattle.acap_lexer.specs.Holding.{held_limit}
+use Rattle.acap_login.specs.Login.{User}
+use Rattle.acap_entries.specs.Store.{empty_store}
+use Rattle.acap_machine.specs.Machine.{Machine}
+use Rattle.acap_session.specs.Session.{session_next, is_closed, is_hearing}
+use Rattle.acap_session.specs.Talking.{Talking}
+use Rattle.acap_session.specs.Turning.{Scene, scene, turn_of, IsTurn}
+use Rattle.acap_session.specs.declared.next.Next.TheVariants as next
+use Rattle.acap_session.specs.declared.occasion.Occasion.{Occasion}
+use Rattle.acap_session.specs.declared.pipe_fault.PipeFault.{PipeFault}
+use Rattle.acap_session.specs.declared.pipe_fault.PipeFault.TheVariants as faults
+use Rattle.acap_session.specs.declared.stage.Stage.TheVariants as stage
+use Rattle.acap_session.specs.declared.turn.Turn.{Turn}
+
+-- the machine begins with the empty store, and nobody in any seat
+abbrev pub new_machine : Machine
+new_machine = record { store = empty_store; seats = table.empty }
+
+-- the one seat, at the start of 1970; nobody logs in, so that no nonce is told
+abbrev pub always : Occasion
+always = record { seat = 0; clock = pos 0; nonce = 0 }
+
+-- a user's session, before it has said anything
+abbrev pub begins : List ℕ → Scene
+begins user = scene new_machine (record { host = codes "localhost"; user = Some user; held = record { text = []; told = 0; fatal = None }; stage = stage.Opening }) []
+
+-- its first turn: the user enters, and is greeted
+unfoldable pub entered : List ℕ → Scene
+entered user = (turn_of [] always false (begins user)).1
+
+-- turns, one for each of a list that tells whether the step that it may ask is refused memory
+abbrev pub turns : List User → List Bool → Scene → Scene
+turns users [] s = s
+turns users (refused ∷ more) s = turns users more (turn_of users always refused s).1
+
+-- octets come behind those that are held
+abbrev pub hears : List ℕ → Scene → Scene
+hears octets s = record s { talk = record s.talk { held = record s.talk.held { text = s.talk.held.text ++ octets } } }
+
+-- a piece, and the turns that follow it
+abbrev pub Fed : Type 0
+Fed = List ℕ × List Bool
+
+abbrev pub fed : List User → Fed → Scene → Scene
+fed users x s = turns users x.1 (hears x.0 s)
+
+abbrev pub fed_all : List User → List Fed → Scene → Scene
+fed_all users [] s = s
+fed_all users (x ∷ xs) s = fed_all users xs (fed users x s)
+
+-- nothing is next: all turns were made that the octets allow
+abbrev pub IsQuiet : List User → Scene → Type 0
+IsQuiet users s = (session_next users 0 (pos 0) s.talk).0 ≡ next.More
+
+-- they are made before the next piece is heard, and behind the last
+abbrev pub AreAnswered : List User → List Fed → Scene → Type 0
+AreAnswered users [] s = Unit {0}
+AreAnswered users (x ∷ xs) s = IsQuiet users (fed users x s) × AreAnswered users xs (fed users x s)
+
+abbrev pub joined : List Fed → List ℕ
+joined pieces = flat_map (λ x. x.0) pieces
+
+-- What is written for octets that are read: the user has entered, the octets came in some pieces, and after each of
+-- them all turns were made. Which of the steps after the first are refused memory is told beside the pieces.
+pub record IsWritten (user read written : List ℕ) : Type 0 where
+  pub pieces : List Fed
+  pub joined_is : read ≡ joined pieces
+  pub answered : AreAnswered [] pieces (entered user)
+  pub is : written ≡ (fed_all [] pieces (entered user)).out
+
+-- and nothing of the input is left out but behind a close
+pub record IsWhole (user input written : List ℕ) : Type 0 where
+  pub read : List ℕ
+  pub unread : List ℕ
+  pub input_is : input ≡ read ++ unread
+  pub made : IsWritten user read written
+  pub whole : (unread ≡ []) ⊎ (is_closed (fed_all [] made.pieces (entered user)).talk.stage ≡ true)
+
+-- ---- the same of a reader and a writer whose octets are known
+
+-- what was written is what is to be written for all that was to be read, up to a close
+abbrev pub HasEnded : List ℕ → Option (List ℕ) → Option (List ℕ) → Option (List ℕ) → Type 0
+HasEnded user None old new = Unit {0}
+HasEnded user (Some input) old new = (written : List ℕ) × IsWhole user input written × Appends old new written
+
+-- it is what is to be written for the octets that the reader no longer has
+abbrev pub HasRead : List ℕ → Option (List ℕ) → Option (List ℕ) → Option (List ℕ) → Option (List ℕ) → Type 0
+HasRead user None left old new = Unit {0}
+HasRead user (Some input) None old new = ⊥
+HasRead user (Some input) (Some left) old new = (read : List ℕ) × (written : List ℕ) × (input ≡ read ++ left) × IsWritten user read written × Appends old new written
+
+-- by how it ended: nothing is said behind a fault of the writer or of memory
+abbrev pub Pipes : List ℕ → Option (List ℕ) → Option (List ℕ) → Option (List ℕ) → Option (List ℕ) → Result (Unit {0}) PipeFault → Type 0
+Pipes user input left old new (Ok done) = HasEnded user input old new
+Pipes user input left old new (Err faults.Read) = HasRead user input left old new
+Pipes user input left old new (Err faults.Write) = ⊤
+Pipes user input left old new (Err faults.Memory) = ⊤
+
+-- ---- words of the contracts of the loops
+
+-- a session that isn't closed hears what comes next
+abbrev pub Goes : Talking → Type 0
+Goes t = is_closed t.stage ≡ false → is_hearing t.stage ≡ true
+
+-- and has room for more octets
+abbrev pub HasRoom : Talking → Type 0
+HasRoom t = is_closed t.stage ≡ false → (is_hearing t.stage ≡ true) × (length t.held.text < held_limit)
+
+pub record IsSettled (users : List User) (old new : Scene) : Type 0 where
+  pub refused : List Bool
+  pub is : new ≡ turns users refused old
+  pub quiet : IsQuiet users new
+  pub room : HasRoom new.talk
+
+-- a piece was heard in parts, as there was room, up to a close
+pub record IsFed (users : List User) (piece : List ℕ) (old new : Scene) : Type 0 where
+  pub parts : List Fed
+  pub rest : List ℕ
+  pub joined_is : piece ≡ joined parts ++ rest
+  pub answered : AreAnswered users parts old
+  pub is : new ≡ fed_all users parts old
+  pub room : HasRoom new.talk
+  pub all : is_closed new.talk.stage ≡ false → rest ≡ []
+
+-- one turn was made, and the session goes on
+pub record HasTurned (users : List User) (old new : Scene) : Type 0 where
+  pub came : Turn
+  pub made : IsTurn users always old came new
+  pub going : is_closed new.talk.stage ≡ false
+
+-- a piece was heard, and what was said to it was written
+pub record HasAnswered (users : List User) (piece : List ℕ) (old new : Option (List ℕ)) (m : Machine) (t : Talking) (new_m : Machine) (new_t : Talking) : Type 0 where
+  pub said : List ℕ
+  pub heard : IsFed users piece (scene m t []) (scene new_m new_t said)
+  pub sent : Appends old new said
+
+-- a fault of the writer or of memory
+abbrev pub IsLater : PipeFault → Type 0
+IsLater faults.Read = ⊥
+IsLater faults.Write = ⊤
+IsLater faults.Memory = ⊤
+
+-- what was written so far is what is to be written for the pieces that came
+pub record SoFar (user input rest : List ℕ) (w0 w : Option (List ℕ)) (m : Machine) (t : Talking) : Type 0 where
+  pub pieces : List Fed
+  pub written : List ℕ
+  pub input_is : input ≡ joined pieces ++ rest
+  pub answered : AreAnswered [] pieces (entered user)
+  pub is : fed_all [] pieces (entered user) ≡ scene m t written
+  pub appends : Appends w0 w written
+
+abbrev pub IsSoFar : List ℕ → Option (List ℕ) → Option (List ℕ) → Option (List ℕ) → Option (List ℕ) → Machine → Talking → Type 0
+IsSoFar user None r w0 w m t = Unit {0}
+IsSoFar user (Some input) None w0 w m t = ⊥
+IsSoFar user (Some input) (Some rest) w0 w m t = SoFar user input rest w0 w m t
+
+-- where that holds, it holds of all that is written until the end
+abbrev pub Serves : Option (List ℕ) → Option (List ℕ) → Option (List ℕ) → Option (List ℕ) → Machine → Talking → Result (Unit {0}) PipeFault → Type 0
+Serves r left w new m t result =
+    (user : List ℕ) (input old : Option (List ℕ)) → IsSoFar user input r old w m t → Pipes user input left old new result

@@ -1,0 +1,30 @@
+-- What stands at each seat of a world.
+use Rattle.std.specs.Prelude.{ℕ, zero, suc, List, [], ◌∷◌, Option, Some, None, if◌then◌else◌}
+use Rattle.acap_session.specs.Session.{is_closed}
+use Rattle.acap_session.specs.Talking.{Talking}
+
+-- the session of a seat, and what was said to its client and isn't taken yet
+pub record Place : Type 0 where
+  pub talk : Talking
+  pub out : List ℕ
+
+-- what stands at each seat, from seat 0 on
+abbrev pub Places : Type 0
+Places = List (Option Place)
+
+abbrev pub place_at : Places → ℕ → Option Place
+place_at [] seat = None
+place_at (x ∷ xs) zero = x
+place_at (x ∷ xs) (suc seat) = place_at xs seat
+
+-- the same with that at a seat
+abbrev pub placed : Places → ℕ → Place → Places
+placed [] zero place = Some place ∷ []
+placed [] (suc seat) place = None ∷ placed [] seat place
+placed (x ∷ xs) zero place = Some place ∷ xs
+placed (x ∷ xs) (suc seat) place = x ∷ placed xs seat place
+
+-- a session that is open: one that isn't closed
+abbrev pub if_open : Option Place → Option Place
+if_open None = None
+if_open (Some place) = if is_closed place.talk.stage then None else Some place

@@ -1,0 +1,121 @@
+-- One session and the machine: what a turn, a drain and an end make of them [RFC 2244 section 2].
+use Rattle.std.specs.Prelude.{◌≡◌, ◌⊎◌, ℕ, List, Bool, true, false, ◌||◌, is_ok, Result, Err}
+use Rattle.acap_login.specs.Login.{User}
+use Rattle.acap_grammar.specs.declared.reply.Reply.{Reply}
+use Rattle.acap_machine.specs.Machine.{Machine}
+use Rattle.acap_machine.specs.Runs.{outcome_of, machine_after}
+use Rattle.acap_machine.specs.Stepping.{step_of}
+use Rattle.acap_machine.specs.declared.event.Event.{Event}
+use Rattle.acap_machine.specs.declared.event.Event.TheVariants as events
+use Rattle.acap_machine.specs.declared.fault.Fault.{Fault}
+use Rattle.acap_machine.specs.declared.fault.Fault.TheVariants as fault
+use Rattle.acap_session.specs.Saying.{added, heard_of}
+use Rattle.acap_session.specs.Session.{session_next, session_drain, answered, has_seat}
+use Rattle.acap_session.specs.Talking.{Talking}
+use Rattle.acap_session.specs.declared.heard.Heard.{Heard}
+use Rattle.acap_session.specs.declared.heard.Heard.TheVariants as heard
+use Rattle.acap_session.specs.declared.next.Next.{Next}
+use Rattle.acap_session.specs.declared.next.Next.TheVariants as next
+use Rattle.acap_session.specs.declared.occasion.Occasion.{Occasion}
+use Rattle.acap_session.specs.declared.stage.Stage.TheVariants as stage
+use Rattle.acap_session.specs.declared.turn.Turn.{Turn}
+use Rattle.acap_session.specs.declared.turn.Turn.TheVariants as turn
+
+-- the machine, one of its sessions, and what was said to its client and isn't taken yet
+pub record Scene : Type 0 where
+  pub machine : Machine
+  pub talk : Talking
+  pub out : List ℕ
+
+abbrev pub scene : Machine → Talking → List ℕ → Scene
+scene m t out = record { machine = m; talk = t; out = out }
+
+-- an event at the session's seat; where it is refused memory the machine is as before
+abbrev pub performed : Bool → Machine → Occasion → Event → Result (Reply × Machine) Fault
+performed true m o event = Err fault.Memory
+performed false m o event = step_of m o.seat event o.clock
+
+-- a session that has its seat leaves it
+abbrev pub left_by : Bool → Occasion → Machine → Machine
+left_by true o m = machine_after m (step_of m o.seat events.Leave o.clock)
+left_by false o m = m
+
+-- it does when it is closed
+abbrev pub left_at : Heard → Bool → Occasion → Machine → Machine
+left_at heard.More seated o m = m
+left_at heard.Said seated o m = m
+left_at (heard.Asks event) seated o m = m
+left_at heard.Closes seated o m = left_by seated o m
+
+abbrev pub left_after : Next → Bool → Occasion → Machine → Machine
+left_after n seated o m = left_at (heard_of n) seated o m
+
+-- what a turn came to
+abbrev pub turn_from : Heard → Turn
+turn_from heard.More = turn.More
+turn_from heard.Said = turn.Said
+turn_from (heard.Asks event) = turn.More
+turn_from heard.Closes = turn.Closed
+
+abbrev pub turn_in : Next → Turn
+turn_in n = turn_from (heard_of n)
+
+abbrev pub shown : Occasion → Bool → Machine → List ℕ → Next × Talking → Turn × Scene
+shown o seated m out x = (turn_in x.0, record { machine = left_after x.0 seated o m; talk = x.1; out = added out x.0 })
+
+-- the event that a session asked is performed, and what it says to the answer is said
+abbrev pub asked_of : Occasion → Bool → Machine → List ℕ → Talking → Event → Turn × Scene
+asked_of o refused m out t event =
+    let r = performed refused m o event in
+    shown o (has_seat t || is_ok r) (machine_after m r) out (answered t (outcome_of r))
+
+abbrev pub turn_by : Occasion → Bool → Scene → Next × Talking → Turn × Scene
+turn_by o refused s (next.More, t) = shown o (has_seat s.talk) s.machine s.out (next.More, t)
+turn_by o refused s (next.Say octets, t) = shown o (has_seat s.talk) s.machine s.out (next.Say octets, t)
+turn_by o refused s (next.Ask event, t) = asked_of o refused s.machine s.out t event
+turn_by o refused s (next.Close octets, t) = shown o (has_seat s.talk) s.machine s.out (next.Close octets, t)
+
+-- A turn of a session: what is next is said, or asked of the machine in one step and what it answers is said. Whether
+-- that step is refused memory is told beforehand.
+unfoldable pub turn_of : List User → Occasion → Bool → Scene → Turn × Scene
+turn_of users o refused s = turn_by o refused s (session_next users o.nonce o.clock s.talk)
+
+-- a drain: what is pending for the session's user is asked of the machine, if it may be, and said
+unfoldable pub drain_of : Occasion → Bool → Scene → Turn × Scene
+drain_of o refused s = turn_by o refused s (session_drain s.talk)
+
+-- ---- words of the contracts: some step is refused memory, or none is
+
+pub record IsTurn (users : List User) (o : Occasion) (old : Scene) (came : Turn) (new : Scene) : Type 0 where
+  pub refused : Bool
+  pub is : (came, new) ≡ turn_of users o refused old
+
+pub record IsDrain (o : Occasion) (old : Scene) (came : Turn) (new : Scene) : Type 0 where
+  pub refused : Bool
+  pub is : (came, new) ≡ drain_of o refused old
+
+pub record IsAsked (o : Occasion) (event : Event) (old : Scene) (came : Turn) (new : Scene) : Type 0 where
+  pub refused : Bool
+  pub is : (came, new) ≡ asked_of o refused old.machine old.out old.talk event
+
+-- Where a session itself is refused memory it is closed without a word, and leaves its seat. An event that it had
+-- asked stands.
+pub record StandsBefore (o : Occasion) (event : Event) (t : Talking) (old : Machine) (new : Machine) : Type 0 where
+  pub refused : Bool
+  pub is : let r = performed refused old o event in new ≡ left_by (has_seat t || is_ok r) o (machine_after old r)
+
+abbrev pub IsCutFrom : Occasion → Scene → Next × Talking → Machine → Type 0
+IsCutFrom o old (next.More, t) m = m ≡ left_by (has_seat old.talk) o old.machine
+IsCutFrom o old (next.Say octets, t) m = m ≡ left_by (has_seat old.talk) o old.machine
+IsCutFrom o old (next.Ask event, t) m = (m ≡ left_by (has_seat old.talk) o old.machine) ⊎ StandsBefore o event t old.machine m
+IsCutFrom o old (next.Close octets, t) m = m ≡ left_by (has_seat old.talk) o old.machine
+
+pub record WasCut (o : Occasion) (old : Scene) (x : Next × Talking) (new : Scene) : Type 0 where
+  pub closed : new.talk.stage ≡ stage.Closed
+  pub out_is : new.out ≡ old.out
+  pub machine_is : IsCutFrom o old x new.machine
+
+pub record CutInAsking (o : Occasion) (event : Event) (old : Scene) (new : Scene) : Type 0 where
+  pub closed : new.talk.stage ≡ stage.Closed
+  pub out_is : new.out ≡ old.out
+  pub stands : StandsBefore o event old.talk old.machine new.machine

@@ -1,0 +1,136 @@
+-- The world: one machine, and the sessions of its seats. Its steps, and what a list of them comes to
+-- [RFC 2244 section 2].
+use Rattle.std.specs.Prelude.{◌≡◌, ◌-◌, ℕ, List, [], ◌∷◌, ◌++◌, length, take, min, Bool, Option, Some, None, Result, Ok, Err, IsSome}
+use Rattle.std.specs.FinMap as table
+use Rattle.acap_lexer.specs.Holding.{held_limit}
+use Rattle.acap_login.specs.Login.{User}
+use Rattle.acap_entries.specs.Store.{empty_store}
+use Rattle.acap_machine.specs.Machine.{Machine}
+use Rattle.acap_session.specs.Places.{Place, Places, place_at, placed, if_open}
+use Rattle.acap_session.specs.Session.{has_seat}
+use Rattle.acap_session.specs.Talking.{Talking}
+use Rattle.acap_session.specs.Turning.{Scene, scene, turn_of, drain_of, left_by, WasCut}
+use Rattle.acap_session.specs.declared.next.Next.{Next}
+use Rattle.acap_session.specs.declared.occasion.Occasion.{Occasion}
+use Rattle.acap_session.specs.declared.stage.Stage.TheVariants as stage
+use Rattle.acap_session.specs.declared.world_fault.WorldFault.{WorldFault}
+use Rattle.acap_session.specs.declared.world_fault.WorldFault.TheVariants as faults
+
+-- the machine, what stands at each seat, from seat 0 on, who may log in, and the name of the host
+pub record World : Type 0 where
+  pub machine : Machine
+  pub places : Places
+  pub users : List User
+  pub host : List ℕ
+
+abbrev pub open_at : World → ℕ → Option Place
+open_at w seat = if_open (place_at w.places seat)
+
+abbrev pub scene_of : World → Place → Scene
+scene_of w place = scene w.machine place.talk place.out
+
+abbrev pub with_scene : World → ℕ → Scene → World
+with_scene w seat s = record w { machine = s.machine; places = placed w.places seat (record { talk = s.talk; out = s.out }) }
+
+-- what a seat's session does to the world, if one is open there
+abbrev pub at_open : World → ℕ → (Scene → Scene) → Option Place → World
+at_open w seat does None = w
+at_open w seat does (Some place) = with_scene w seat (does (scene_of w place))
+
+-- ---- steps
+
+-- a session opens, of that user if there is one; it is given octets; it makes a turn; it is asked for what is pending;
+-- it ends
+pub data Deed : Type 0 where
+  Open : Option (List ℕ) → Deed
+  Piece : List ℕ → Deed
+  Turn : Deed
+  Drain : Deed
+  Leave : Deed
+
+-- a session that hasn't said anything
+abbrev pub begun : List ℕ → Option (List ℕ) → Talking
+begun host user = record { host = host; user = user; held = record { text = []; told = 0; fatal = None }; stage = stage.Opening }
+
+-- what was said at a seat before and isn't taken yet
+abbrev pub said_before : Option Place → List ℕ
+said_before None = []
+said_before (Some place) = place.out
+
+-- so many octets of a piece are taken
+abbrev pub room_of : Talking → List ℕ → ℕ
+room_of t piece = min (length piece) (held_limit - length t.held.text)
+
+-- a session with so many octets of a piece behind those that it holds
+abbrev pub with_octets : Talking → ℕ → List ℕ → Talking
+with_octets t n piece = record t { held = record t.held { text = t.held.text ++ take n piece } }
+
+abbrev pub takes : List ℕ → Scene → Scene
+takes piece s = record s { talk = with_octets s.talk (room_of s.talk piece) piece }
+
+-- a session ends, and leaves its seat if it has it
+abbrev pub ends : Occasion → Scene → Scene
+ends o s = record s { machine = left_by (has_seat s.talk) o s.machine; talk = record s.talk { stage = stage.Closed } }
+
+-- a session opens where none is open, and makes its first turn
+abbrev pub opened_at : World → Occasion → Bool → Option (List ℕ) → Option Place → World
+opened_at w o refused user (Some place) = w
+opened_at w o refused user None = with_scene w o.seat (turn_of w.users o refused (scene w.machine (begun w.host user) (said_before (place_at w.places o.seat)))).1
+
+-- One step of the world on an occasion. Whether the event that it may ask is refused memory is told beforehand.
+unfoldable pub did : Occasion → Bool → Deed → World → World
+did o refused (Open user) w = opened_at w o refused user (open_at w o.seat)
+did o refused (Piece octets) w = at_open w o.seat (takes octets) (open_at w o.seat)
+did o refused Turn w = at_open w o.seat (λ s. (turn_of w.users o refused s).1) (open_at w o.seat)
+did o refused Drain w = at_open w o.seat (λ s. (drain_of o refused s).1) (open_at w o.seat)
+did o refused Leave w = at_open w o.seat (ends o) (open_at w o.seat)
+
+-- a list of steps, one after the other
+pub record Step : Type 0 where
+  pub occasion : Occasion
+  pub refused : Bool
+  pub deed : Deed
+
+abbrev pub run : List Step → World → World
+run [] w = w
+run (x ∷ xs) w = run xs (did x.occasion x.refused x.deed w)
+
+-- the world before its first step
+abbrev pub new_world : List User → List ℕ → World
+new_world users host = record { machine = record { store = empty_store; seats = table.empty }; places = []; users = users; host = host }
+
+-- ---- words of the contracts
+
+-- the step was made, its event being refused memory or not
+pub record IsStep (o : Occasion) (deed : Deed) (old new : World) : Type 0 where
+  pub refused : Bool
+  pub is : new ≡ did o refused deed old
+
+-- The session of a seat was refused memory: it is closed without a word, and all other seats are as they were.
+pub record IsCutAt (o : Occasion) (x : Next × Talking) (place : Place) (old new : World) : Type 0 where
+  pub after : Scene
+  pub cut : WasCut o (scene_of old place) x after
+  pub is : new ≡ with_scene old o.seat after
+
+-- What a call that makes a step answers and leaves, where that is next for a session. No such call says that a seat is
+-- taken.
+abbrev pub Makes : Occasion → Deed → (Place → Next × Talking) → World → World → Result (Unit {0}) WorldFault → Type 0
+Makes o deed next old new (Ok done) = IsSome (open_at old o.seat) × IsStep o deed old new
+Makes o deed next old new (Err faults.NoSeat) = (open_at old o.seat ≡ None) × (new ≡ old)
+Makes o deed next old new (Err faults.Taken) = ⊥
+Makes o deed next old new (Err faults.Memory) = (place : Place) × (open_at old o.seat ≡ Some place) × IsCutAt o (next place) place old new
+
+-- what giving octets to a seat's session answers and leaves, whatever the clock shows: it takes as many as it has
+-- room for, or none
+abbrev pub Feeds : ℕ → List ℕ → World → World → Result ℕ WorldFault → Type 0
+Feeds seat octets old new (Ok n) = (place : Place) × (open_at old seat ≡ Some place) × (n ≡ room_of place.talk octets) × ((o : Occasion) → o.seat ≡ seat → IsStep o (Piece octets) old new)
+Feeds seat octets old new (Err faults.NoSeat) = (open_at old seat ≡ None) × (new ≡ old)
+Feeds seat octets old new (Err faults.Taken) = ⊥
+Feeds seat octets old new (Err faults.Memory) = IsSome (open_at old seat) × (new ≡ old)
+
+-- what the end of a seat's session answers and leaves
+abbrev pub Leaves : Occasion → World → World → Result (Unit {0}) WorldFault → Type 0
+Leaves o old new (Ok done) = IsSome (open_at old o.seat) × IsStep o Leave old new
+Leaves o old new (Err faults.NoSeat) = (open_at old o.seat ≡ None) × (new ≡ old)
+Leaves o old new (Err faults.Taken) = ⊥
+Leaves o old new (Err faults.Memory) = ⊥

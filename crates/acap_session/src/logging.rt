@@ -1,0 +1,119 @@
+//! What is said to the answer to a challenge.
+
+ghost use Rattle.std.specs.Prelude.{◌≡◌, OnOk, OnErr, IfOk};
+ghost use Rattle.acap_session.specs.Hearing as hearing;
+ghost use Rattle.acap_session.specs.Saying.{added, heard_of};
+
+use crate::heard::Heard;
+use crate::hearing::{closes, continues, says};
+use crate::stage::Stage;
+use acap_entries::{Copying, Memory, Octets, UserName};
+use acap_grammar::{Refusal, Said};
+use acap_lexer::{Kind, Lexed, Tokens};
+use acap_login::{Users, check};
+use acap_machine::Event;
+
+// Whom an answer logs in.
+fn who(users: &Users, challenge: &Octets, answer: &[u8]) -> Result<Option<UserName>, Memory>
+    ensures { IfOk result (λ user. user ≡ hearing.who users.now challenge.now answer.now) }
+{
+    let Some(place) = check(users, challenge.as_slice(), answer) else {
+        return Ok(None);
+    };
+    match users.name(place) {
+        Some(name) => Ok(Some(name.copy()?)),
+        None => Ok(None),
+    }
+}
+
+// A string is an answer: who is logged in by it asks to enter.
+fn logs_in(
+    users: &Users,
+    tag: Option<Octets>,
+    challenge: &Octets,
+    answer: &[u8],
+    out: &mut Vec<u8>,
+) -> Result<(Heard, Stage), Memory>
+    ensures ok { IfOk result (λ turn. let x = hearing.logs_in tag (hearing.who users.now challenge.now answer.now) in turn ≡ (heard_of x.0, x.1)) }
+    ensures out { OnOk result (out.new.items ≡ added out.old.items (hearing.logs_in tag (hearing.who users.now challenge.now answer.now)).0) }
+    ensures err { OnErr result (out.new.items ≡ out.old.items) }
+{
+    match who(users, challenge, answer)? {
+        Some(user) => {
+            let enters = Event::Enter(user.copy()?);
+            Ok((Heard::Asks(enters), Stage::LoggingIn(tag, user)))
+        }
+        None => says(tag, Said::Refused(Refusal::LoginFailed), out),
+    }
+}
+
+// Why a token that is no string is refused: the word `*` gives the login up.
+fn refusal_of(kind: Kind, text: &[u8]) -> Refusal
+    ensures { result ≡ hearing.refusal_of kind text.now }
+{
+    if kind == Kind::Word && text == b"*".as_slice() {
+        return Refusal::Cancelled;
+    }
+    Refusal::Arguments
+}
+
+fn answer_token(
+    users: &Users,
+    tag: Option<Octets>,
+    challenge: &Octets,
+    kind: Kind,
+    text: &[u8],
+    out: &mut Vec<u8>,
+) -> Result<(Heard, Stage), Memory>
+    ensures ok { IfOk result (λ turn. let x = hearing.answer_token users.now tag challenge.now kind text.now in turn ≡ (heard_of x.0, x.1)) }
+    ensures out { OnOk result (out.new.items ≡ added out.old.items (hearing.answer_token users.now tag challenge.now kind text.now).0) }
+    ensures err { OnErr result (out.new.items ≡ out.old.items) }
+{
+    match kind {
+        Kind::Quoted | Kind::Literal => logs_in(users, tag, challenge, text, out),
+        kind => says(tag, Said::Refused(refusal_of(kind, text)), out),
+    }
+}
+
+// An answer stands alone in its line.
+fn answer_line(
+    users: &Users,
+    tag: Option<Octets>,
+    challenge: &Octets,
+    tokens: &Tokens,
+    out: &mut Vec<u8>,
+) -> Result<(Heard, Stage), Memory>
+    ensures ok { IfOk result (λ turn. let x = hearing.answer_line users.now tag challenge.now tokens.now in turn ≡ (heard_of x.0, x.1)) }
+    ensures out { OnOk result (out.new.items ≡ added out.old.items (hearing.answer_line users.now tag challenge.now tokens.now).0) }
+    ensures err { OnErr result (out.new.items ≡ out.old.items) }
+{
+    if tokens.len() != 1 {
+        return says(tag, Said::Refused(Refusal::Arguments), out);
+    }
+    answer_token(users, tag, challenge, tokens.kind(0), tokens.value(0), out)
+}
+
+/// What a session that awaits the answer to a challenge says to an answer of its lexer, or whom it lets enter.
+#[tactic(auto, unfolding(crate::specs::Hearing::heard_answer))]
+pub(crate) fn heard_answer(
+    users: &Users,
+    tag: Option<Octets>,
+    challenge: Octets,
+    lexed: &Lexed,
+    out: &mut Vec<u8>,
+) -> Result<(Heard, Stage), Memory>
+    ensures ok { IfOk result (λ turn. let x = hearing.heard_answer users.now tag challenge lexed.now in turn ≡ (heard_of x.0, x.1)) }
+    ensures out { OnOk result (out.new.items ≡ added out.old.items (hearing.heard_answer users.now tag challenge lexed.now).0) }
+    ensures err { OnErr result (out.new.items ≡ out.old.items) }
+{
+    match lexed {
+        Lexed::More => Ok((Heard::More, Stage::Challenged(tag, challenge))),
+        Lexed::Plus => {
+            continues(out)?;
+            Ok((Heard::Said, Stage::Challenged(tag, challenge)))
+        }
+        Lexed::Line(tokens) => answer_line(users, tag, &challenge, tokens, out),
+        Lexed::Bad(_, _) => says(tag, Said::Refused(Refusal::Arguments), out),
+        Lexed::Fatal(fault) => closes(None, Said::Refused(Refusal::from(*fault)), out),
+    }
+}

@@ -1,0 +1,107 @@
+//! The session of a seat, with what was said to its client and isn't taken yet.
+
+ghost use Rattle.std.specs.Prelude.{◌≡◌, ◌++◌, [], IfOk, OnErr};
+ghost use Rattle.acap_session.specs.Session.{is_closed, session_drain, session_next};
+ghost use Rattle.acap_session.specs.Turning.{IsDrain, IsTurn, WasCut, left_by, scene};
+ghost use Rattle.acap_session.specs.World as world;
+
+use crate::occasion::Occasion;
+use crate::session::Session;
+use crate::turn::Turn;
+use crate::turns::{drain, leave, turn};
+use acap_entries::Memory;
+use acap_login::Users;
+use acap_machine::State;
+use std::alloc::Global;
+use std::marker::Model;
+use std::mem;
+
+/// The session of a seat, with what was said to its client and isn't taken yet.
+#[derive(Drop)]
+pub(crate) struct Place {
+    session: Session,
+    out: Vec<u8>,
+}
+
+impl Model for Place {
+    ghost use Rattle.acap_session.specs.Places.{Place as Seen};
+
+    ghost Value = { Seen };
+
+    ghost view = { λ p. record { talk = p.session; out = p.out.items } };
+}
+
+impl Place {
+    /// A session, and what was said before at its seat.
+    pub(crate) fn new(session: Session, out: Vec<u8>) -> Place
+        ensures { result ≡ record { talk = session; out = out.items } }
+    {
+        Place { session, out }
+    }
+
+    /// Whether the session is over.
+    pub(crate) fn is_closed(&self) -> bool
+        ensures { result ≡ is_closed self.now.talk.stage }
+    {
+        self.session.is_closed()
+    }
+
+    /// Makes one turn.
+    pub(crate) fn turn(
+        &mut self,
+        alloc: Global,
+        state: &mut State,
+        users: &Users,
+        occasion: Occasion,
+    ) -> Result<Turn, Memory>
+        ensures ok { IfOk result (λ turn. IsTurn users.now occasion (scene state.old.machine self.old.talk self.old.out) turn (scene state.new.machine self.new.talk self.new.out)) }
+        ensures err { OnErr result (WasCut occasion (scene state.old.machine self.old.talk self.old.out) (session_next users.now occasion.nonce occasion.clock self.old.talk) (scene state.new.machine self.new.talk self.new.out)) }
+    {
+        turn(
+            alloc,
+            &mut self.session,
+            state,
+            users,
+            occasion,
+            &mut self.out,
+        )
+    }
+
+    /// Asks for what is pending.
+    pub(crate) fn drain(
+        &mut self,
+        alloc: Global,
+        state: &mut State,
+        occasion: Occasion,
+    ) -> Result<Turn, Memory>
+        ensures ok { IfOk result (λ turn. IsDrain occasion (scene state.old.machine self.old.talk self.old.out) turn (scene state.new.machine self.new.talk self.new.out)) }
+        ensures err { OnErr result (WasCut occasion (scene state.old.machine self.old.talk self.old.out) (session_drain self.old.talk) (scene state.new.machine self.new.talk self.new.out)) }
+    {
+        drain(alloc, &mut self.session, state, occasion, &mut self.out)
+    }
+
+    /// Takes a front of a piece, and says how many octets that is.
+    pub(crate) fn push(&mut self, piece: &[u8]) -> Result<usize, Memory>
+        ensures taken { IfOk result (λ n. n ≡ world.room_of self.old.talk piece.now) }
+        ensures held { IfOk result (λ n. self.new ≡ record self.old { talk = world.with_octets self.old.talk n piece.now }) }
+        ensures err { OnErr result (self.new ≡ self.old) }
+    {
+        self.session.push(piece)
+    }
+
+    /// Ends the session, which leaves its seat if it has it.
+    pub(crate) fn end(&mut self, alloc: Global, state: &mut State, occasion: Occasion)
+        ensures { scene state.new.machine self.new.talk self.new.out ≡ world.ends occasion (scene state.old.machine self.old.talk self.old.out) }
+    {
+        leave(alloc, state, occasion, self.session.has_seat());
+        self.session.close();
+    }
+
+    /// Gives what was said, and holds nothing then.
+    pub(crate) fn take(&mut self, alloc: Global) -> Vec<u8>
+        ensures given { result.items ≡ self.old.out }
+        ensures left { self.new ≡ record self.old { out = [] } }
+    {
+        mem::replace(&mut self.out, Vec::new(alloc))
+    }
+}

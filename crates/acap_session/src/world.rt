@@ -1,0 +1,155 @@
+//! One machine, and the sessions of its seats.
+
+ghost use Rattle.std.specs.Prelude.{◌≡◌, ◌↔◌, ◌<◌, [], length, true, is_some, pos, Some, None, Err, Ok, IfOk, IfErr, OnOk, OnErr, IsSome, IsNone};
+ghost use Rattle.acap_session.specs.Places.{place_at};
+ghost use Rattle.acap_session.specs.Session.{session_drain, session_next};
+ghost use Rattle.acap_session.specs.World as world;
+ghost use Rattle.acap_session.specs.World.{Feeds, Leaves, Makes, new_world, open_at};
+ghost use Rattle.acap_session.specs.declared.world_fault.WorldFault.TheVariants as faults;
+
+use crate::occasion::Occasion;
+use crate::place::Place;
+use crate::world_fault::WorldFault;
+use acap_entries::{Memory, Moment, Octets, Seat};
+use acap_login::Users;
+use acap_machine::State;
+use std::alloc::Global;
+use std::marker::Model;
+
+/// One machine, and the sessions of up to 64 seats over it: any step of one session may stand between any two of
+/// another (RFC 2244 section 2). What a session says is kept until it is taken.
+#[derive(Drop)]
+pub struct World {
+    alloc: Global,
+    host: Octets,
+    users: Users,
+    state: State,
+    places: Vec<Option<Place>>,
+}
+
+impl Model for World {
+    ghost use Rattle.acap_session.specs.World.{World as Seen};
+    ghost use Rattle.acap_machine.specs.Machine.{machine_code};
+    ghost use Rattle.std.specs.Coded.{codes};
+
+    ghost Value = { Seen };
+
+    ghost coded = { Prim.hlevel (codes, machine_code) };
+
+    ghost view = { λ w. record { machine = w.state.machine; places = w.places.items; users = w.users; host = w.host } };
+}
+
+impl World {
+    /// The machine with the empty store, and nobody in any seat; who may log in, and the name of the host that
+    /// challenges tell (RFC 2195 section 2). Takes no memory.
+    pub fn new(alloc: Global, users: Users, host: Octets) -> World
+        ensures { result ≡ new_world users host }
+    {
+        World {
+            alloc,
+            host,
+            users,
+            state: State::new(alloc),
+            places: Vec::new(alloc),
+        }
+    }
+
+    /// The machine.
+    pub fn state(&self) -> &State
+        ensures { result.now.machine ≡ self.now.machine }
+    {
+        &self.state
+    }
+
+    // Whether a session is open at a seat.
+    fn is_open(&self, seat: Seat) -> bool
+        ensures { result ≡ is_some (open_at self.now seat) }
+    {
+        match self.places.get(usize::from(seat.number())) {
+            Some(Some(place)) => !place.is_closed(),
+            Some(None) => false,
+            None => false,
+        }
+    }
+
+    /// Makes one turn of a seat's session, and keeps what it says. `NoSeat` where none is open there; where memory is
+    /// refused to the session it is closed, and an event that it had asked stands.
+    pub fn turn(&mut self, seat: Seat, clock: Moment, nonce: u64) -> Result<(), WorldFault>
+        ensures { Makes (record { seat = seat; clock = clock; nonce = nonce }) world.Turn (λ place. session_next self.old.users nonce clock place.talk) self.old self.new result }
+    {
+        if !self.is_open(seat) {
+            return Err(WorldFault::NoSeat);
+        }
+        let occasion = Occasion { seat, clock, nonce };
+        let index = usize::from(seat.number());
+        match &mut self.places[index] {
+            Some(place) => match place.turn(self.alloc, &mut self.state, &self.users, occasion) {
+                Ok(_turn) => Ok(()),
+                Err(_refusal) => Err(WorldFault::Memory),
+            },
+            None => Err(WorldFault::NoSeat),
+        }
+    }
+
+    /// Asks for what is pending for the user of a seat's session, if it may be asked, and keeps what is said. `NoSeat`
+    /// where none is open there; where memory is refused to the session it is closed, and the asking stands.
+    pub fn drain(&mut self, seat: Seat, clock: Moment) -> Result<(), WorldFault>
+        ensures { Makes (record { seat = seat; clock = clock; nonce = 0 }) world.Drain (λ place. session_drain place.talk) self.old self.new result }
+    {
+        if !self.is_open(seat) {
+            return Err(WorldFault::NoSeat);
+        }
+        let occasion = Occasion {
+            seat,
+            clock,
+            nonce: 0,
+        };
+        let index = usize::from(seat.number());
+        match &mut self.places[index] {
+            Some(place) => match place.drain(self.alloc, &mut self.state, occasion) {
+                Ok(_turn) => Ok(()),
+                Err(_refusal) => Err(WorldFault::Memory),
+            },
+            None => Err(WorldFault::NoSeat),
+        }
+    }
+
+    /// Gives a seat's session a front of a piece of its client's octets, and says how many octets that is: all of it,
+    /// or as much as a session holds. `NoSeat` where none is open there; where memory is refused nothing is taken.
+    pub fn piece(&mut self, seat: Seat, octets: &[u8]) -> Result<usize, WorldFault>
+        ensures { Feeds seat octets.now self.old self.new result }
+    {
+        if !self.is_open(seat) {
+            return Err(WorldFault::NoSeat);
+        }
+        let index = usize::from(seat.number());
+        let Some(place) = &mut self.places[index] else {
+            return Err(WorldFault::NoSeat);
+        };
+        let taken = place.push(octets)?;
+        Ok(taken)
+    }
+
+    /// Ends a seat's session, which leaves its seat. What it said may still be taken. `NoSeat` where none is open
+    /// there. Takes no memory.
+    pub fn leave(&mut self, seat: Seat, clock: Moment) -> Result<(), WorldFault>
+        ensures { Leaves (record { seat = seat; clock = clock; nonce = 0 }) self.old self.new result }
+    {
+        if !self.is_open(seat) {
+            return Err(WorldFault::NoSeat);
+        }
+        let occasion = Occasion {
+            seat,
+            clock,
+            nonce: 0,
+        };
+        let index = usize::from(seat.number());
+        match &mut self.places[index] {
+            Some(place) => {
+                place.end(self.alloc, &mut self.state, occasion);
+                Ok(())
+            }
+            None => Err(WorldFault::NoSeat),
+        }
+    }
+}

@@ -1,0 +1,25 @@
+//! Why a step of the world can't be made.
+
+use acap_entries::Memory;
+
+/// Why a step of the world can't be made.
+#[derive(Clone, Copy, Debug, PartialEq, Eq)]
+pub enum WorldFault {
+    /// No session is open at the seat.
+    NoSeat,
+    /// A session is open at the seat.
+    Taken,
+    /// Memory was refused.
+    Memory,
+}
+
+impl From<Memory> for WorldFault {
+    ghost use Rattle.std.specs.Prelude.{◌≡◌};
+    ghost use Rattle.acap_session.specs.declared.world_fault.WorldFault.TheVariants as faults;
+
+    ghost from_gives = { λ memory made. made ≡ faults.Memory };
+
+    fn from(_memory: Memory) -> WorldFault {
+        WorldFault::Memory
+    }
+}

@@ -1,0 +1,14 @@
+pub mod BeginLemmas
+pub mod Computing
+pub mod CountLemmas
+pub mod DatasetLaws
+pub mod DatasetLemmas
+pub mod HousedLaws
+pub mod LimitLaws
+pub mod RefusalLemmas
+pub mod RightLemmas
+pub mod RootLemmas
+pub mod Stages
+pub mod StoreLaws
+pub mod TwiceLemmas
+pub mod WriteLemmas

@@ -1,0 +1,18 @@
+-- Whose lists the attributes of a management entry are.
+use Rattle.std.proofs.Common.{◌≡◌, ℕ, Bool, true, false, cond, List, drop, Option, Some, None, ap, ◌∙◌}
+use Rattle.std.specs.Prelude.{IfSome, option_map, nat_eq, nat_lt, length, codes, ◌&&◌}
+use Rattle.std.specs.List.{starts_with}
+use Rattle.acap_entries.specs.Orders.{octets_eq}
+use Rattle.acap_rights.specs.Deciding.{Target, OfDataset, OfAttribute, target_of, dataset_in, dataset_list_name}
+use Rattle.acap_rights.specs.Keeping.{target_of_list}
+use Rattle.acap_rights.specs.declared.object.Object.{Object}
+
+one_of : (a b : Bool) (d rest : List ℕ) (target : Target) → Some target ≡ cond a (Some (OfDataset d)) (cond b (Some (OfAttribute d rest)) None) → dataset_in target ≡ d
+one_of true b d rest target e = let same : target ≡ OfDataset d = cc in ap dataset_in same
+one_of false true d rest target e = let same : target ≡ OfAttribute d rest = cc in ap dataset_in same
+one_of false false d rest target e = cc
+
+pub inside : (d known attribute : List ℕ) (object : Option Object) → option_map target_of object ≡ target_of_list d attribute → d ≡ known → IfSome object (λ o. dataset_in (target_of o) ≡ known)
+unfolding target_of_list
+inside d known attribute None e same = tt
+inside d known attribute (Some object) e same = one_of (octets_eq attribute dataset_list_name) (starts_with nat_eq attribute (codes "dataset.acl.") && nat_lt 12 (length attribute)) d (drop 12 attribute) (target_of object) e ∙ same

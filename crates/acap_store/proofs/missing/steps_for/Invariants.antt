@@ -1,0 +1,11 @@
+use Rattle.std.proofs.Common.{◌≡◌, length, map}
+use Rattle.acap_store.specs.Writing as writing
+use Rattle.acap_store.proofs.missing.steps_for.Given as goal
+
+abbrev pub invariant-loop-entry : goal.invariant-loop-entry
+invariant-loop-entry l =
+    writing.put_all (map (writing.step_at l.tree.store.records l.moment) (writing.missing_for l.tree.store.records l.left)) l.writes
+    ≡ writing.steps_for l.tree.store.records l.entries l.moment
+
+abbrev pub decreases-loop-entry : goal.decreases-loop-entry
+decreases-loop-entry l = length l.left

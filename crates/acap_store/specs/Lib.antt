@@ -1,0 +1,13 @@
+pub mod Counting
+pub mod DatasetLaws
+pub mod Deleting
+pub mod Examples
+pub mod Forms
+pub mod Invalid
+pub mod Laws
+pub mod Limits
+pub mod Meaning
+pub mod Permission
+pub mod Planning
+pub mod Refusing
+pub mod Writing

@@ -1,0 +1,138 @@
+//! What may not be stored.
+ghost use Rattle.std.specs.Prelude.{◌≡◌, ◌||◌, find, is_some, IfOk};
+ghost use Rattle.std.specs.List.{list_any};
+ghost use Rattle.std.specs.Option.{option_copied};
+ghost use Rattle.acap_store.specs.Invalid as rule;
+
+use crate::ending::may_end;
+use crate::forms::{is_management, is_nothing, is_value};
+use crate::meant::Meant;
+use crate::permission::is_list;
+use acap_entries::{Cell, Copying, Memory, Tree, is_dataset_argument};
+use acap_grammar::{Given, Refusal, StoreEntry, StoreItem};
+use acap_rights::is_acl;
+
+// Whether the list of the one string `.` is given.
+fn is_dot(given: &Given) -> bool
+    ensures { result ≡ rule.is_dot given.now }
+{
+    match given {
+        Given::Put(Cell::Multi(values)) => match values.as_slice() {
+            [value] => value.as_slice() == b".".as_slice(),
+            _ => false,
+        },
+        Given::Put(Cell::Nil) => false,
+        Given::Put(Cell::Single(_)) => false,
+        Given::Default => false,
+    }
+}
+
+// Whether that string is given.
+fn is_string(text: &[u8], given: &Given) -> bool
+    ensures { result ≡ rule.is_string text.now given.now }
+{
+    match given {
+        Given::Put(Cell::Single(value)) => value.as_slice() == text,
+        Given::Put(Cell::Nil) => false,
+        Given::Put(Cell::Multi(_)) => false,
+        Given::Default => false,
+    }
+}
+
+// Whether an access control list may have that.
+fn may_be_list(given: &Given) -> bool
+    ensures { result ≡ rule.may_be_list given.now }
+{
+    match given {
+        Given::Put(Cell::Nil) => true,
+        Given::Put(Cell::Single(_)) => false,
+        Given::Put(Cell::Multi(acl)) => is_acl(acl.as_slice()),
+        Given::Default => true,
+    }
+}
+
+// Whether `dataset.inherit` may have that.
+fn may_be_base(given: &Given) -> bool
+    ensures { result ≡ rule.may_be_base given.now }
+{
+    match given {
+        Given::Put(Cell::Nil) => true,
+        Given::Put(Cell::Single(value)) => is_dataset_argument(value.as_slice()),
+        Given::Put(Cell::Multi(_)) => false,
+        Given::Default => true,
+    }
+}
+
+// Whether `entry` may have that.
+fn may_be_entry(tree: &Tree, all: &[StoreEntry], entry: &StoreEntry, given: &Given) -> bool
+    ensures { result ≡ rule.may_be_entry tree.now.store.records all.now entry.now given.now }
+{
+    if is_nothing(given) {
+        may_end(tree, all, entry)
+    } else {
+        is_string(entry.path.name.as_slice(), given)
+    }
+}
+
+// Whether the attribute may have that value.
+fn may_be_value(tree: &Tree, all: &[StoreEntry], entry: &StoreEntry, item: &StoreItem) -> bool
+    ensures { result ≡ rule.may_be_value tree.now.store.records all.now entry.now item.now }
+{
+    let attribute = item.attribute.as_slice();
+    if attribute == b"subdataset".as_slice() {
+        is_dot(&item.given)
+    } else if attribute == b"entry".as_slice() {
+        may_be_entry(tree, all, entry, &item.given)
+    } else if is_management(&entry.path) && attribute == b"dataset.inherit".as_slice() {
+        may_be_base(&item.given)
+    } else {
+        true
+    }
+}
+
+// Whether an item may not be stored.
+#[tactic(auto, unfolding(crate::specs::Invalid::is_invalid))]
+fn is_invalid(tree: &Tree, all: &[StoreEntry], entry: &StoreEntry, item: &StoreItem) -> bool
+    ensures { result ≡ rule.is_invalid tree.now.store.records all.now entry.now item.now }
+{
+    item.attribute.as_slice() == b"modtime".as_slice()
+        || (is_list(&entry.path, item) && !may_be_list(&item.given))
+        || (is_value(item.metadata) && !may_be_value(tree, all, entry, item))
+}
+
+// The first item of an entry that may not be stored.
+fn first_in<'a>(tree: &Tree, meant: &Meant, entry: &'a StoreEntry) -> Option<&'a StoreItem>
+    ensures { option_copied result ≡ find (λ item. meant.now.drops_dataset_list || rule.is_invalid tree.now.store.records meant.now.entries entry.now item) entry.now.items }
+{
+    entry.items.as_slice().iter().find(|item| {
+        meant.drops_dataset_list || is_invalid(tree, meant.entries.as_slice(), entry, item)
+    })
+}
+
+// The refusal of an entry's first item that may not be stored.
+fn invalid_in(tree: &Tree, meant: &Meant, entry: &StoreEntry) -> Result<Option<Refusal>, Memory>
+    ensures { IfOk result (λ made. made ≡ rule.invalid_in tree.now.store.records meant.now entry.now) }
+{
+    match first_in(tree, meant, entry) {
+        Some(item) => {
+            let path = entry.path.copy()?;
+            let attribute = item.attribute.copy()?;
+            Ok(Some(Refusal::Invalid(path, attribute)))
+        }
+        None => Ok(None),
+    }
+}
+
+/// The refusal of the first item of all that may not be stored.
+#[tactic(auto, unfolding(crate::specs::Invalid::invalid))]
+pub(crate) fn invalid(tree: &Tree, meant: &Meant) -> Result<Option<Refusal>, Memory>
+    ensures { IfOk result (λ made. made ≡ rule.invalid tree.now.store.records meant.now) }
+{
+    for entry in meant.entries.as_slice() {
+        let refusal = invalid_in(tree, meant, entry)?;
+        if refusal.is_some() {
+            return Ok(refusal);
+        }
+    }
+    Ok(None)
+}

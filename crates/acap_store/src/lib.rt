@@ -1,0 +1,32 @@
+//! What a command that writes does to a store (RFC 2244 sections 6.6 and 6.7): the change that STORE, SETACL and DELETEACL
+//! make or why they are refused, and what DELETEDSINCE tells.
+#![tactic(auto)]
+
+mod conditions;
+mod deleting;
+mod ending;
+mod forms;
+mod invalid;
+mod laws;
+mod limits;
+mod meaning;
+mod meant;
+mod missing;
+mod overlay;
+mod permission;
+mod planning;
+mod records;
+mod refusing;
+#[cfg(test)]
+mod tests;
+mod write;
+mod writing;
+
+pub use deleting::deleted_since;
+pub use laws::{
+    change_examples, dataset_law, housed_law, item_examples, kept_law, later_law, limit_examples,
+    meaning_examples, order_law, path_law, permission_examples, room_law, root_law, stage_law,
+    steps_law, telling_law, writing_examples,
+};
+pub use planning::plan;
+pub use write::Write;

@@ -1,0 +1,227 @@
+//! What the commands mean: the entries that they store.
+ghost use Rattle.std.specs.Prelude.{◌≡◌, ◌∷◌, [], IfOk};
+ghost use Rattle.acap_grammar.specs.declared.store_metadata.StoreMetadata.TheVariants as metadata;
+ghost use Rattle.acap_rights.specs.Deciding as decided;
+ghost use Rattle.acap_rights.specs.Edits as edit;
+ghost use Rattle.acap_store.specs.Meaning as rule;
+
+use crate::meant::Meant;
+use crate::write::Write;
+use acap_entries::{
+    Attribute, Cell, Copying, Dataset, EntryName, Memory, Path, Tree, UserName, Value,
+};
+use acap_grammar::{
+    Entries, Given, Object, StoreEntry, StoreItem, StoreItems, StoreMetadata, StoreModifiers,
+};
+use acap_rights::{Acl, decided_list, list_attribute};
+use std::alloc::Global;
+
+// The entries as their user means them: `~` is replaced in each path.
+fn entries_for(alloc: Global, user: &UserName, entries: Entries) -> Result<Entries, Memory>
+    ensures { IfOk result (λ made. made ≡ rule.entries_for user.now entries) }
+{
+    let mut made = Entries::from_vec(Vec::with_capacity(alloc, entries.len())?);
+    for entry in entries.into_vec() {
+        let StoreEntry {
+            path,
+            modifiers,
+            items,
+        } = entry;
+        let path = path.for_user(user)?;
+        made.push(StoreEntry {
+            path,
+            modifiers,
+            items,
+        })?;
+    }
+    Ok(made)
+}
+
+// The entries of one entry, with NOCREATE, that gets one item.
+fn one_entry(alloc: Global, path: Path, item: StoreItem) -> Result<Entries, Memory>
+    ensures { IfOk result (λ made. made ≡ record { path = path; modifiers = rule.no_create; items = item ∷ [] } ∷ []) }
+{
+    let mut items = StoreItems::new(alloc);
+    items.push(item)?;
+    let modifiers = StoreModifiers {
+        no_create: true,
+        unchanged_since: None,
+    };
+    let mut entries = Entries::new(alloc);
+    entries.push(StoreEntry {
+        path,
+        modifiers,
+        items,
+    })?;
+    Ok(entries)
+}
+
+// The name of the management entry.
+fn no_name(alloc: Global) -> Result<EntryName, Memory>
+    ensures { IfOk result (λ name. name ≡ []) }
+{
+    EntryName::from_slice(alloc, b"")
+}
+
+// The STORE of a value in the management entry of a dataset.
+fn management_store(
+    alloc: Global,
+    dataset: Dataset,
+    attribute: Attribute,
+    given: Given,
+) -> Result<Entries, Memory>
+    ensures { IfOk result (λ made. made ≡ record { path = record { dataset = dataset; name = [] }; modifiers = rule.no_create; items = record { attribute = attribute; metadata = metadata.Value; given = given } ∷ [] } ∷ []) }
+{
+    let name = no_name(alloc)?;
+    let item = StoreItem {
+        attribute,
+        metadata: StoreMetadata::Value,
+        given,
+    };
+    one_entry(alloc, Path { dataset, name }, item)
+}
+
+// The STORE of the list of an object.
+fn list_store(alloc: Global, object: Object, given: Given) -> Result<Entries, Memory>
+    ensures { IfOk result (λ made. made ≡ rule.list_entry (rule.target_named object.dataset object.attribute object.name) given ∷ []) }
+{
+    let Object {
+        dataset,
+        attribute,
+        name,
+    } = object;
+    let Some(attribute) = attribute else {
+        let attribute = Attribute::from_slice(alloc, b"dataset.acl")?;
+        return management_store(alloc, dataset, attribute, given);
+    };
+    let Some(name) = name else {
+        let attribute = list_attribute(alloc, attribute.as_slice())?;
+        return management_store(alloc, dataset, attribute, given);
+    };
+    let item = StoreItem {
+        attribute,
+        metadata: StoreMetadata::Acl,
+        given,
+    };
+    one_entry(alloc, Path { dataset, name }, item)
+}
+
+// The object as it is lent.
+fn lent(object: &Object) -> acap_rights::Object<'_>
+    ensures { decided.target_of result ≡ rule.target_named object.now.dataset object.now.attribute object.now.name }
+{
+    let dataset = object.dataset.as_slice();
+    let Some(attribute) = &object.attribute else {
+        return acap_rights::Object::Dataset { dataset };
+    };
+    let attribute = attribute.as_slice();
+    let Some(name) = &object.name else {
+        return acap_rights::Object::Attribute { dataset, attribute };
+    };
+    let name = name.as_slice();
+    acap_rights::Object::Entry {
+        dataset,
+        attribute,
+        name,
+    }
+}
+
+// The object as its user means it: `~` is replaced.
+fn object_for(user: &UserName, object: Object) -> Result<Object, Memory>
+    ensures { IfOk result (λ made. rule.target_named made.dataset made.attribute made.name ≡ rule.target_for user.now object) }
+{
+    let Object {
+        dataset,
+        attribute,
+        name,
+    } = object;
+    let dataset = dataset.for_user(user)?;
+    Ok(Object {
+        dataset,
+        attribute,
+        name,
+    })
+}
+
+// The STORE of a list that was edited.
+fn edited(alloc: Global, object: Object, acl: Acl) -> Result<Meant, Memory>
+    ensures { IfOk result (λ meant. meant ≡ rule.edited (rule.target_named object.dataset object.attribute object.name) acl) }
+{
+    let given = Given::Put(Cell::Multi(acl.into_values()));
+    let entries = list_store(alloc, object, given)?;
+    Ok(Meant {
+        entries,
+        drops_dataset_list: false,
+    })
+}
+
+// The STORE that SETACL is.
+fn set(
+    alloc: Global,
+    tree: &Tree,
+    object: Object,
+    identifier: &[u8],
+    letters: &[u8],
+) -> Result<Meant, Memory>
+    ensures { IfOk result (λ meant. meant ≡ rule.edited (rule.target_named object.dataset object.attribute object.name) (edit.with_pair identifier.now letters.now (decided.deciding_list tree.now.store.records (rule.target_named object.dataset object.attribute object.name)))) }
+{
+    let acl = decided_list(alloc, tree, &lent(&object))?;
+    let acl = acl.with_pair(identifier, letters)?;
+    edited(alloc, object, acl)
+}
+
+// The STORE that DELETEACL of an identifier is.
+fn take_off(alloc: Global, tree: &Tree, object: Object, identifier: &[u8]) -> Result<Meant, Memory>
+    ensures { IfOk result (λ meant. meant ≡ rule.edited (rule.target_named object.dataset object.attribute object.name) (edit.without identifier.now (decided.deciding_list tree.now.store.records (rule.target_named object.dataset object.attribute object.name)))) }
+{
+    let acl = decided_list(alloc, tree, &lent(&object))?;
+    let acl = acl.without(identifier);
+    edited(alloc, object, acl)
+}
+
+// The STORE that DELETEACL of a whole list is.
+fn dropped(alloc: Global, object: Object) -> Result<Meant, Memory>
+    ensures { IfOk result (λ meant. meant ≡ rule.dropped (rule.target_named object.dataset object.attribute object.name)) }
+{
+    let drops_dataset_list = object.attribute.is_none();
+    let entries = list_store(alloc, object, Given::Default)?;
+    Ok(Meant {
+        entries,
+        drops_dataset_list,
+    })
+}
+
+/// What a command stores in that tree (RFC 2244 sections 6.6.1 and 6.7).
+#[tactic(auto, unfolding(crate::specs::Meaning::meaning))]
+pub(crate) fn meaning(
+    alloc: Global,
+    tree: &Tree,
+    user: &UserName,
+    write: Write,
+) -> Result<Meant, Memory>
+    ensures { IfOk result (λ meant. meant ≡ rule.meaning tree.now.store.records user.now write) }
+{
+    match write {
+        Write::Store(entries) => Ok(Meant {
+            entries: entries_for(alloc, user, entries)?,
+            drops_dataset_list: false,
+        }),
+        Write::SetAcl(object, identifier, letters) => {
+            let object = object_for(user, object)?;
+            set(
+                alloc,
+                tree,
+                object,
+                identifier.as_slice(),
+                letters.as_slice(),
+            )
+        }
+        Write::DeleteAcl(object, listed) => {
+            let object = object_for(user, object)?;
+            match listed {
+                Some(identifier) => take_off(alloc, tree, object, identifier.as_slice()),
+                None => dropped(alloc, object),
+            }
+        }
+    }
+}

@@ -1,0 +1,98 @@
+//! The own entries of datasets that are missing.
+ghost use Rattle.std.specs.Option.{option_map_or};
+ghost use Rattle.acap_entries.specs.Names.{own_entry};
+ghost use Rattle.std.specs.Prelude.{◌≡◌, [], ◌∷◌, map, codes, IfOk, OnOk};
+ghost use Rattle.acap_entries.specs.declared.cell.Cell.TheVariants as cell;
+ghost use Rattle.acap_store.specs.Writing as writing;
+
+use crate::records::{acls_of, cells_of, renewed};
+use acap_entries::{
+    Attribute, Boxed, Cell, Fate, Memory, Moment, Path, Tree, Value, Values, Writes, own_entry_of,
+};
+use acap_grammar::StoreEntry;
+use std::alloc::Global;
+
+// The list of the one string `.`.
+fn dot_list(alloc: Global) -> Result<Cell, Memory>
+    ensures { IfOk result (λ made. made ≡ cell.Multi (codes "." ∷ [])) }
+{
+    let mut values = Values::new(alloc);
+    values.push(Value::from_slice(alloc, b".")?)?;
+    Ok(Cell::Multi(values))
+}
+
+// What the own entry of a missing dataset gets.
+fn step_at(alloc: Global, tree: &Tree, path: Path, moment: Moment) -> Result<(Path, Fate), Memory>
+    ensures { IfOk result (λ made. made ≡ writing.step_at tree.now.store.records moment path) }
+{
+    let old = tree.get(&path);
+    let mut cells = cells_of(alloc, old)?;
+    let attribute = Attribute::from_slice(alloc, b"subdataset")?;
+    cells.set(attribute, dot_list(alloc)?)?;
+    let acls = acls_of(alloc, old)?;
+    let record = renewed(old, cells, acls, moment);
+    Ok((path, Fate::Put(Boxed::new(alloc, record)?)))
+}
+
+// Writes the own entry of a dataset, if that is missing.
+fn write_step(
+    alloc: Global,
+    tree: &Tree,
+    writes: &mut Writes,
+    dataset: &[u8],
+    moment: Moment,
+) -> Result<(), Memory>
+    ensures { OnOk result (writes.new ≡ writing.put_all (map (writing.step_at tree.now.store.records moment) (option_map_or (writing.own_if_missing tree.now.store.records dataset.now) (own_entry dataset.now) [])) writes.old) }
+{
+    if tree.dataset_exists(dataset) {
+        return Ok(());
+    }
+    let Some(path) = Path::own_entry(alloc, dataset)? else {
+        return Ok(());
+    };
+    let (path, fate) = step_at(alloc, tree, path, moment)?;
+    writes.set(path, fate)
+}
+
+// Writes the own entries of the datasets that are missing on the way to a dataset.
+fn write_steps(
+    alloc: Global,
+    tree: &Tree,
+    writes: &mut Writes,
+    dataset: &[u8],
+    moment: Moment,
+) -> Result<(), Memory>
+    ensures { OnOk result (writes.new ≡ writing.put_all (map (writing.step_at tree.now.store.records moment) (writing.missing_to tree.now.store.records dataset.now)) writes.old) }
+{
+    let mut way = dataset;
+    while let Some((parent, _)) = own_entry_of(way) {
+        write_step(alloc, tree, writes, way, moment)?;
+        way = parent;
+    }
+    Ok(())
+}
+
+/// The own entries of all datasets that are missing for entries.
+#[tactic(auto, unfolding(crate::specs::Writing::steps_for))]
+pub(crate) fn steps_for(
+    alloc: Global,
+    tree: &Tree,
+    entries: &[StoreEntry],
+    moment: Moment,
+) -> Result<Writes, Memory>
+    ensures { IfOk result (λ made. made ≡ writing.steps_for tree.now.store.records entries.now moment) }
+{
+    let mut writes = Writes::new(alloc);
+    let mut left = entries;
+    while let Some((entry, others)) = left.split_last() {
+        write_steps(
+            alloc,
+            tree,
+            &mut writes,
+            entry.path.dataset.as_slice(),
+            moment,
+        )?;
+        left = others;
+    }
+    Ok(writes)
+}

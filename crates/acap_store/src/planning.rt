@@ -1,0 +1,117 @@
+//! The change that a command makes, or why it is refused.
+ghost use Rattle.std.specs.Prelude.{◌≡◌, ◌||◌, IfOk, is_none};
+ghost use Rattle.acap_store.specs.Limits as limits;
+ghost use Rattle.acap_store.specs.Planning as rule;
+ghost use Rattle.acap_store.specs.Refusing.{first_of};
+
+use crate::deleting::{ending, gone};
+use crate::limits::{gives_large, is_too_much};
+use crate::meaning::meaning;
+use crate::meant::Meant;
+use crate::permission::Asker;
+use crate::refusing::refusal_of;
+use crate::write::Write;
+use crate::writing::written_for;
+use acap_entries::{Change, Memory, Moment, Tree, UserName};
+use acap_grammar::{Entries, Refusal};
+use acap_rights::Realm;
+use std::alloc::Global;
+
+// The moment of what is written: the change's, or where there is none, the last one.
+fn written_at(tree: &Tree, now: Moment) -> Moment
+    ensures { result ≡ rule.written_at tree.now.store now }
+{
+    match tree.last().after(now) {
+        Some(moment) => moment,
+        None => tree.last(),
+    }
+}
+
+// The change of entries at a moment.
+#[tactic(auto, unfolding(crate::specs::Planning::change_of, crate::specs::Deleting::deleted_by))]
+fn change_of(
+    alloc: Global,
+    tree: &Tree,
+    user: &UserName,
+    entries: Entries,
+    moment: Moment,
+) -> Result<Change, Memory>
+    ensures { IfOk result (λ change. change ≡ rule.change_of tree.now.store user.now entries moment) }
+{
+    let ending = ending(alloc, tree, entries.as_slice())?;
+    let writes = written_for(alloc, tree, user, entries, moment)?;
+    let deleted = gone(alloc, tree, &writes, ending)?;
+    Ok(Change {
+        writes,
+        moment,
+        deleted,
+    })
+}
+
+// Why the store has no room for a change, as the clock shows.
+fn no_room(tree: &Tree, gives_large: bool, change: &Change, now: Moment) -> Option<Refusal>
+    ensures { result ≡ first_of (rule.refusals_by_room tree.now.store gives_large change.now.writes now) }
+{
+    if is_too_much(tree, gives_large, &change.writes) {
+        return Some(Refusal::Limit);
+    }
+    match tree.last().after(now) {
+        Some(_) => None,
+        None => Some(Refusal::ClockEnd),
+    }
+}
+
+// The change of what a command stores, or its first refusal.
+#[tactic(auto, unfolding(crate::specs::Planning::planned_for, crate::specs::Planning::refusals_of, crate::specs::Planning::change_of))]
+fn planned_for(
+    alloc: Global,
+    by: &Asker<'_>,
+    meant: Meant,
+    now: Moment,
+) -> Result<Result<Change, Refusal>, Memory>
+    ensures { IfOk result (λ answer. answer ≡ rule.planned_for by.now.tree.now.store by.now.realm.now by.now.user.now meant now) }
+{
+    if let Some(refusal) = refusal_of(alloc, by, &meant)? {
+        return Ok(Err(refusal));
+    }
+    let gives_large = gives_large(meant.entries.as_slice());
+    let moment = written_at(by.tree, now);
+    let change = change_of(alloc, by.tree, by.user, meant.entries, moment)?;
+    match no_room(by.tree, gives_large, &change, now) {
+        Some(refusal) => Ok(Err(refusal)),
+        None => Ok(Ok(change)),
+    }
+}
+
+// The change of a command, or its first refusal.
+fn planned(
+    alloc: Global,
+    by: &Asker<'_>,
+    write: Write,
+    now: Moment,
+) -> Result<Result<Change, Refusal>, Memory>
+    ensures { IfOk result (λ answer. answer ≡ rule.planned by.now.tree.now.store by.now.realm.now by.now.user.now write now) }
+{
+    let meant = meaning(alloc, by.tree, by.user, write)?;
+    planned_for(alloc, by, meant, now)
+}
+
+/// The change that a user's command makes of the store in a tree when the clock shows `now`, or its first refusal (RFC 2244
+/// sections 3.6, 6.6.1 and 6.7). The refusals are, in this order and each over all entries before the next: `NotPermittedTwice`,
+/// `Permission`, `NoExist`, `Modified`, `Invalid`, `Limit`, `ClockEnd`; and `Memory`. Nothing is changed yet.
+pub fn plan(
+    alloc: Global,
+    tree: &Tree,
+    realm: &Realm,
+    user: &UserName,
+    write: Write,
+    now: Moment,
+) -> Result<Change, Refusal>
+    ensures { rule.IsAnswer result (rule.planned tree.now.store realm.now user.now write now) }
+{
+    let by = Asker { tree, realm, user };
+    match planned(alloc, &by, write, now) {
+        Ok(answer) => answer,
+        Err(Memory) => Err(Refusal::Memory),
+    }
+}

@@ -1,0 +1,74 @@
+//! What a STORE is refused for before anything is written.
+ghost use Rattle.std.specs.Prelude.{◌≡◌, ◌∷◌, [], IfOk};
+ghost use Rattle.acap_store.specs.Refusing as rule;
+ghost use Rattle.acap_store.specs.Invalid as invalid;
+ghost use Rattle.acap_store.specs.Planning as planning;
+
+use crate::conditions::{modified, no_exist};
+use crate::invalid::invalid;
+use crate::meant::Meant;
+use crate::permission::{Asker, permission};
+use acap_entries::{Copying, Fate, Memory, Tree, Writes};
+use acap_grammar::{Refusal, StoreEntry};
+use std::alloc::Global;
+
+// Whether two entries have one path: from the last on, each is sought by halving among those behind it.
+fn has_twice(alloc: Global, entries: &[StoreEntry]) -> Result<bool, Memory>
+    ensures { IfOk result (λ found. found ≡ rule.has_twice entries.now) }
+{
+    let mut seen = Writes::new(alloc);
+    let mut left = entries;
+    while let Some((entry, others)) = left.split_last() {
+        if seen.get(&entry.path).is_some() {
+            return Ok(true);
+        }
+        seen.set(entry.path.copy()?, Fate::Remove)?;
+        left = others;
+    }
+    Ok(false)
+}
+
+// The first refusal for a change that came between, and for what may not be stored.
+#[tactic(auto, using(crate::proofs::RefusalLemmas::last_one))]
+fn changed(tree: &Tree, meant: &Meant) -> Result<Option<Refusal>, Memory>
+    ensures { IfOk result (λ made. made ≡ rule.first_of (rule.modified tree.now.store.records meant.now.entries ∷ invalid.invalid tree.now.store.records meant.now ∷ [])) }
+{
+    match modified(tree, meant.entries.as_slice())? {
+        Some(refusal) => Ok(Some(refusal)),
+        None => invalid(tree, meant),
+    }
+}
+
+// The same, after that for a dataset that is missing.
+fn missing(tree: &Tree, meant: &Meant) -> Result<Option<Refusal>, Memory>
+    ensures { IfOk result (λ made. made ≡ rule.first_of (rule.no_exist tree.now.store.records meant.now.entries ∷ rule.modified tree.now.store.records meant.now.entries ∷ invalid.invalid tree.now.store.records meant.now ∷ [])) }
+{
+    match no_exist(tree, meant.entries.as_slice())? {
+        Some(refusal) => Ok(Some(refusal)),
+        None => changed(tree, meant),
+    }
+}
+
+// The same, after that for a right that is missing.
+fn asked(alloc: Global, by: &Asker<'_>, meant: &Meant) -> Result<Option<Refusal>, Memory>
+    ensures { IfOk result (λ made. made ≡ rule.first_of (planning.refusals_by_asking by.now.tree.now.store.records by.now.realm.now by.now.user.now meant.now)) }
+{
+    match permission(alloc, by, meant.entries.as_slice())? {
+        Some(refusal) => Ok(Some(refusal)),
+        None => missing(by.tree, meant),
+    }
+}
+
+/// The first refusal, each condition being asked of all entries before the next.
+pub(crate) fn refusal_of(
+    alloc: Global,
+    by: &Asker<'_>,
+    meant: &Meant,
+) -> Result<Option<Refusal>, Memory>
+    ensures { IfOk result (λ made. made ≡ rule.first_of (planning.refusals_by_terms by.now.tree.now.store.records by.now.realm.now by.now.user.now meant.now)) }
+{
+    if has_twice(alloc, meant.entries.as_slice())? {
+        return Ok(Some(Refusal::NotPermittedTwice));
+    }
+    asked(alloc, by, meant)
+}
