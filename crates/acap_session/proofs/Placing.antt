@@ -1,12 +1,13 @@
 -- What stands at a seat, and what a place set there leaves.
-use Rattle.std.proofs.Common.{◌≡◌, ℕ, zero, suc, ◌<◌, ◌≤◌, Bool, true, false, not, List, [], ◌∷◌, length, Option, Some, None, Result, Ok, Err, IsSome, IsErr, IsErrAnd, get_or, set, refl, sym, ap, subst, ◌∙◌, arith}
+use Rattle.std.proofs.Common.{◌≡◌, inr, ℕ, zero, suc, ◌<◌, ◌≤◌, Bool, true, false, not, List, [], ◌∷◌, ◌++◌, length, Option, Some, None, Result, Ok, Err, IsSome, IsErr, IsErrAnd, get_or, set, refl, sym, ap, subst, ◌∙◌, arith}
 use Rattle.std.specs.Option.{is_some}
-use Rattle.acap_session.specs.Places.{Place, Places, place_at, placed, if_open}
+use Rattle.acap_session.specs.Places.{Place, Places, place_at, placed, reached, if_open}
 use Rattle.acap_session.specs.Session.{is_closed, session_drain, session_next}
 use Rattle.acap_machine.specs.Machine.{Machine}
 use Rattle.acap_session.specs.Turning.{Scene, scene, WasCut, IsTurn, IsDrain, turn_of, drain_of}
-use Rattle.acap_session.specs.World.{World, Deed, IsStep, IsCutAt, Makes, Feeds, Leaves, room_of, with_octets, at_open, did, open_at, scene_of, with_scene, takes, ends}
+use Rattle.acap_session.specs.World.{World, Deed, said_before, taken_from, output_taken, begun, begun_at, opened_at, HasBegun, WasCutFirst, IsStep, IsCutAt, Makes, Feeds, Leaves, Opens, room_of, with_octets, at_open, did, open_at, scene_of, with_scene, takes, ends}
 use Rattle.acap_session.specs.World as world
+use Rattle.acap_session.specs.Talking.{Talking}
 use Rattle.acap_session.specs.declared.occasion.Occasion.{Occasion}
 use Rattle.acap_session.specs.declared.turn.Turn as turned
 use Rattle.acap_session.specs.declared.world_fault.WorldFault.{WorldFault}
@@ -139,3 +140,92 @@ not_fed old w v octets k place left out same e f g = subst (λ (y : World). Feed
 pub memory_said : (r : Result ℕ WorldFault) → IsErr r → IsErrAnd r (λ e. e ≡ faults.Memory) → r ≡ Err faults.Memory
 memory_said (Ok n) e h = absurd cc
 memory_said (Err f) e h = ap (λ g. Err g) h
+
+-- ---- places up to a seat
+
+pub reached_more : (xs : Places) (k : ℕ) → length xs ≤ k → reached (xs ++ None ∷ []) k ≡ reached xs k
+reached_more [] zero e = refl
+reached_more [] (suc k) e = refl
+reached_more (x ∷ xs) zero e = absurd (omega (arith, e))
+reached_more (x ∷ xs) (suc k) e = ap (λ ys. x ∷ ys) (reached_more xs k (omega (arith, e)))
+
+pub reached_all : (xs : Places) (k : ℕ) → k < length xs → reached xs k ≡ xs
+reached_all [] k e = absurd (omega (arith, e))
+reached_all (x ∷ xs) zero e = refl
+reached_all (x ∷ xs) (suc k) e = ap (λ ys. x ∷ ys) (reached_all xs k (omega (arith, e)))
+
+pub reached_within : (xs : Places) (k : ℕ) → k < length (reached xs k)
+reached_within [] zero = omega arith
+reached_within [] (suc k) = let r = reached_within [] k in omega (arith, r)
+reached_within (x ∷ xs) zero = omega arith
+reached_within (x ∷ xs) (suc k) = let r = reached_within xs k in omega (arith, r)
+
+pub reached_set : (xs : Places) (k : ℕ) (p : Place) → set (reached xs k) k (Some p) ≡ placed xs k p
+reached_set [] zero p = refl
+reached_set [] (suc k) p = ap (λ ys. None ∷ ys) (reached_set [] k p)
+reached_set (x ∷ xs) zero p = refl
+reached_set (x ∷ xs) (suc k) p = ap (λ ys. x ∷ ys) (reached_set xs k p)
+
+pub reached_there : (xs : Places) (k : ℕ) (d : Option Place) → get_or (reached xs k) k d ≡ place_at xs k
+reached_there [] zero d = refl
+reached_there [] (suc k) d = reached_there [] k d
+reached_there (x ∷ xs) zero d = refl
+reached_there (x ∷ xs) (suc k) d = reached_there xs k d
+
+-- ---- what was said at a seat is taken
+
+pub none_said : (old w : World) (i k n : ℕ) → w ≡ old → i ≡ k → n ≤ i → n ≡ length w.places → said_before (place_at old.places k) ≡ []
+none_said old w i k n same h e f = ap (λ (v : World). said_before (place_at v.places k)) (sym same) ∙ ap said_before (nothing_behind w.places k (let a = h in let b = f in omega (arith, a, b, e)))
+
+pub none_taken : (old w : World) (i k n : ℕ) → w ≡ old → i ≡ k → n ≤ i → n ≡ length w.places → old ≡ output_taken old k
+none_taken old w i k n same h e f = subst (λ (v : World). v ≡ output_taken v k) same (sym (ap (λ x. record w { places = taken_from w.places k x }) (nothing_behind w.places k (let a = h in let b = f in omega (arith, a, b, e)))))
+
+pub said_there : (old w : World) (i k n : ℕ) (item x : Option Place) → w ≡ old → i ≡ k → i < n → n ≡ length w.places → item ≡ get_or w.places i item → item ≡ x → said_before x ≡ said_before (place_at old.places k)
+said_there old w i k n item x same h e f g s =
+    let there = place_or w.places i item (omega (arith, e, f)) ∙ sym g ∙ s in
+    ap said_before (sym there ∙ ap (λ j. place_at w.places j) h) ∙ ap (λ (v : World). said_before (place_at v.places k)) same
+
+taken_case : (w : World) (i : ℕ) (place left : Place) (item : Option Place) → i < length w.places → item ≡ get_or w.places i item → item ≡ Some place → left ≡ record place { out = [] } → record w { places = set w.places i (Some left) } ≡ output_taken w i
+taken_case w i place left item e g s t =
+    let there = place_or w.places i item e ∙ sym g ∙ s in
+    ap (λ xs. record w { places = xs }) (set_is w.places i left e ∙ ap (λ p. placed w.places i p) t) ∙ sym (ap (λ x. record w { places = taken_from w.places i x }) there)
+
+pub some_taken : (old w : World) (i k n : ℕ) (place left : Place) (item : Option Place) → w ≡ old → i ≡ k → i < n → n ≡ length w.places → item ≡ get_or w.places i item → item ≡ Some place → left ≡ record place { out = [] } → record w { places = set w.places i (Some left) } ≡ output_taken old k
+some_taken old w i k n place left item same h e f g s t = taken_case w i place left item (omega (arith, e, f)) g s t ∙ ap (λ j. output_taken w j) h ∙ ap (λ (v : World). output_taken v k) same
+
+same_case : (w : World) (i : ℕ) (item left : Option Place) → i < length w.places → item ≡ get_or w.places i item → item ≡ None → left ≡ item → record w { places = set w.places i left } ≡ output_taken w i
+same_case w i item left e g s t =
+    let there = place_or w.places i item e ∙ sym g ∙ s in
+    ap (λ xs. record w { places = xs }) (ap (λ x. set w.places i x) (t ∙ g) ∙ same_set w.places i item e) ∙ sym (ap (λ x. record w { places = taken_from w.places i x }) there)
+
+pub nothing_taken : (old w : World) (i k n : ℕ) (item left : Option Place) → w ≡ old → i ≡ k → i < n → n ≡ length w.places → item ≡ get_or w.places i item → item ≡ None → left ≡ item → record w { places = set w.places i left } ≡ output_taken old k
+nothing_taken old w i k n item left same h e f g s t = same_case w i item left (omega (arith, e, f)) g s t ∙ ap (λ j. output_taken w j) h ∙ ap (λ (v : World). output_taken v k) same
+
+-- ---- a session opens
+
+pub now_none : (w old : World) (k : ℕ) (b : Bool) → w ≡ old → b ≡ false → b ≡ is_some (open_at old k) → open_at w k ≡ None
+now_none w old k b v e g = not_open w k (sym e ∙ g ∙ ap (λ (u : World). is_some (open_at u k)) (sym v))
+
+pub stood : (w : World) (xs : Places) (i k : ℕ) (item : Option Place) → xs ≡ reached w.places k → i ≡ k → item ≡ get_or xs i item → item ≡ place_at w.places k
+stood w xs i k item e h g = g ∙ ap (λ ys. get_or ys i item) e ∙ ap (λ n. get_or (reached w.places k) n item) h ∙ reached_there w.places k item
+
+pub open_put : (w : World) (m : Machine) (xs : Places) (i k : ℕ) (x : Option Place) (p : Place) → xs ≡ reached w.places k → i ≡ k → x ≡ Some p → record w { machine = m; places = set xs i x } ≡ with_scene w k (scene m p.talk p.out)
+open_put w m xs i k x p e h s = ap (λ ys. record w { machine = m; places = ys }) (ap (λ ys. set ys i x) e ∙ ap (λ n. set (reached w.places k) n x) h ∙ ap (λ y. set (reached w.places k) k y) s ∙ reached_set w.places k p)
+
+-- the session of a place that has begun, before its first turn
+pub starts : (w : World) (k : ℕ) (user : Option (List ℕ)) (host : List ℕ) (t : Talking) (x : Option Place) → t ≡ begun host user → host ≡ w.host → x ≡ place_at w.places k → scene w.machine t (said_before x) ≡ scene_of w (begun_at w k user)
+starts w k user host t x e h s = ap (λ y. scene w.machine y (said_before x)) (e ∙ ap (λ y. begun y user) h) ∙ ap (λ y. scene w.machine (begun w.host user) (said_before y)) s
+
+open_step : (w v : World) (o : Occasion) (user : Option (List ℕ)) (came : turned.Turn) (s : Scene) → open_at w o.seat ≡ None → v ≡ with_scene w o.seat s → IsTurn w.users o (scene_of w (begun_at w o.seat user)) came s → IsStep o (world.Open user) w v
+unfolding did
+open_step w v o user came s e f t = record { refused = t.refused; is = f ∙ ap (λ (p : turned.Turn × Scene). with_scene w o.seat p.1) t.is ∙ sym (ap (λ x. opened_at w o t.refused user x) e) }
+
+pub open_made : (old w v : World) (o : Occasion) (user : Option (List ℕ)) (first : Scene) (x : Option Place) (m : Machine) (out : Result (Unit {0}) WorldFault) (u : Unit {0}) → w ≡ old → open_at w o.seat ≡ None → first ≡ scene_of w (begun_at w o.seat user) → ((p : Place) → x ≡ Some p → v ≡ with_scene w o.seat (scene m p.talk p.out)) → out ≡ Ok u → HasBegun w.users o first x m → Opens o user old v out
+open_made old w v o user first x m out u same e f put g b =
+    let turn = subst (λ (s : Scene). IsTurn w.users o s b.came (scene m b.place.talk b.place.out)) f b.made in
+    subst (λ (y : World). Opens o user y v out) same (subst (λ r. Opens o user w v r) (sym g) (e, open_step w v o user b.came (scene m b.place.talk b.place.out) e (put b.place b.stands) turn))
+
+pub open_cut : (old w v : World) (o : Occasion) (user : Option (List ℕ)) (first : Scene) (x : Option Place) (m : Machine) (out : Result (Unit {0}) WorldFault) → w ≡ old → open_at w o.seat ≡ None → first ≡ scene_of w (begun_at w o.seat user) → ((p : Place) → x ≡ Some p → v ≡ with_scene w o.seat (scene m p.talk p.out)) → out ≡ Err faults.Memory → WasCutFirst w.users o first x m → Opens o user old v out
+open_cut old w v o user first x m out same e f put g b =
+    let cut = subst (λ (s : Scene). WasCut o s (session_next w.users o.nonce o.clock s.talk) (scene m b.place.talk b.place.out)) f b.cut in
+    subst (λ (y : World). Opens o user y v out) same (subst (λ r. Opens o user w v r) (sym g) (e, inr (record { after = scene m b.place.talk b.place.out; cut = cut; is = put b.place b.stands })))

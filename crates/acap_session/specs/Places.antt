@@ -24,6 +24,13 @@ placed [] (suc seat) place = None ∷ placed [] seat place
 placed (x ∷ xs) zero place = Some place ∷ xs
 placed (x ∷ xs) (suc seat) place = x ∷ placed xs seat place
 
+-- the same with places up to a seat
+abbrev pub reached : Places → ℕ → Places
+reached [] zero = None ∷ []
+reached [] (suc seat) = None ∷ reached [] seat
+reached (x ∷ xs) zero = x ∷ xs
+reached (x ∷ xs) (suc seat) = x ∷ reached xs seat
+
 -- a session that is open: one that isn't closed
 abbrev pub if_open : Option Place → Option Place
 if_open None = None

@@ -1,18 +1,19 @@
 -- The world: one machine, and the sessions of its seats. Its steps, and what a list of them comes to
 -- [RFC 2244 section 2].
-use Rattle.std.specs.Prelude.{◌≡◌, ◌-◌, ℕ, List, [], ◌∷◌, ◌++◌, length, take, min, Bool, Option, Some, None, Result, Ok, Err, IsSome}
+use Rattle.std.specs.Prelude.{◌≡◌, ◌⊎◌, ◌-◌, ℕ, List, [], ◌∷◌, ◌++◌, length, take, min, Bool, Option, Some, None, Result, Ok, Err, IsSome}
 use Rattle.std.specs.FinMap as table
 use Rattle.acap_lexer.specs.Holding.{held_limit}
 use Rattle.acap_login.specs.Login.{User}
 use Rattle.acap_entries.specs.Store.{empty_store}
 use Rattle.acap_machine.specs.Machine.{Machine}
 use Rattle.acap_session.specs.Places.{Place, Places, place_at, placed, if_open}
-use Rattle.acap_session.specs.Session.{has_seat}
+use Rattle.acap_session.specs.Session.{has_seat, session_next}
 use Rattle.acap_session.specs.Talking.{Talking}
-use Rattle.acap_session.specs.Turning.{Scene, scene, turn_of, drain_of, left_by, WasCut}
+use Rattle.acap_session.specs.Turning.{Scene, scene, turn_of, drain_of, left_by, IsTurn, WasCut}
 use Rattle.acap_session.specs.declared.next.Next.{Next}
 use Rattle.acap_session.specs.declared.occasion.Occasion.{Occasion}
 use Rattle.acap_session.specs.declared.stage.Stage.TheVariants as stage
+use Rattle.acap_session.specs.declared.turn.Turn.{Turn as Came}
 use Rattle.acap_session.specs.declared.world_fault.WorldFault.{WorldFault}
 use Rattle.acap_session.specs.declared.world_fault.WorldFault.TheVariants as faults
 
@@ -56,6 +57,14 @@ begun host user = record { host = host; user = user; held = record { text = []; 
 abbrev pub said_before : Option Place → List ℕ
 said_before None = []
 said_before (Some place) = place.out
+
+-- what was said at a seat is taken from there
+abbrev pub taken_from : Places → ℕ → Option Place → Places
+taken_from places seat None = places
+taken_from places seat (Some place) = placed places seat (record place { out = [] })
+
+abbrev pub output_taken : World → ℕ → World
+output_taken w seat = record w { places = taken_from w.places seat (place_at w.places seat) }
 
 -- so many octets of a piece are taken
 abbrev pub room_of : Talking → List ℕ → ℕ
@@ -119,6 +128,30 @@ Makes o deed next old new (Ok done) = IsSome (open_at old o.seat) × IsStep o de
 Makes o deed next old new (Err faults.NoSeat) = (open_at old o.seat ≡ None) × (new ≡ old)
 Makes o deed next old new (Err faults.Taken) = ⊥
 Makes o deed next old new (Err faults.Memory) = (place : Place) × (open_at old o.seat ≡ Some place) × IsCutAt o (next place) place old new
+
+-- what stands at a seat where a session opens, before its first turn
+abbrev pub begun_at : World → ℕ → Option (List ℕ) → Place
+begun_at w seat user = record { talk = begun w.host user; out = said_before (place_at w.places seat) }
+
+-- what the opening of a session answers and leaves: where memory is refused nothing was done, or the session is closed
+abbrev pub Opens : Occasion → Option (List ℕ) → World → World → Result (Unit {0}) WorldFault → Type 0
+Opens o user old new (Ok done) = (open_at old o.seat ≡ None) × IsStep o (Open user) old new
+Opens o user old new (Err faults.NoSeat) = ⊥
+Opens o user old new (Err faults.Taken) = IsSome (open_at old o.seat) × (new ≡ old)
+Opens o user old new (Err faults.Memory) = (open_at old o.seat ≡ None) × ((new ≡ old) ⊎ IsCutAt o (session_next old.users o.nonce o.clock (begun old.host user)) (begun_at old o.seat user) old new)
+
+-- a session stands at its seat, and has made its first turn
+pub record HasBegun (users : List User) (o : Occasion) (old : Scene) (standing : Option Place) (m : Machine) : Type 0 where
+  pub place : Place
+  pub stands : standing ≡ Some place
+  pub came : Came
+  pub made : IsTurn users o old came (scene m place.talk place.out)
+
+-- or it was refused memory in its first turn
+pub record WasCutFirst (users : List User) (o : Occasion) (old : Scene) (standing : Option Place) (m : Machine) : Type 0 where
+  pub place : Place
+  pub stands : standing ≡ Some place
+  pub cut : WasCut o old (session_next users o.nonce o.clock old.talk) (scene m place.talk place.out)
 
 -- what giving octets to a seat's session answers and leaves, whatever the clock shows: it takes as many as it has
 -- room for, or none

@@ -1,15 +1,17 @@
 //! The session of a seat, with what was said to its client and isn't taken yet.
 
-ghost use Rattle.std.specs.Prelude.{◌≡◌, ◌++◌, [], IfOk, OnErr};
+ghost use Rattle.std.specs.Prelude.{◌≡◌, ◌++◌, [], IfOk, OnErr, OnOk};
 ghost use Rattle.acap_session.specs.Session.{is_closed, session_drain, session_next};
 ghost use Rattle.acap_session.specs.Turning.{IsDrain, IsTurn, WasCut, left_by, scene};
+ghost use Rattle.acap_session.specs.Places.{reached};
 ghost use Rattle.acap_session.specs.World as world;
+ghost use Rattle.acap_session.specs.World.{HasBegun, WasCutFirst, said_before};
 
 use crate::occasion::Occasion;
 use crate::session::Session;
 use crate::turn::Turn;
 use crate::turns::{drain, leave, turn};
-use acap_entries::Memory;
+use acap_entries::{Memory, Seat};
 use acap_login::Users;
 use acap_machine::State;
 use std::alloc::Global;
@@ -103,5 +105,43 @@ impl Place {
         ensures left { self.new ≡ record self.old { out = [] } }
     {
         mem::replace(&mut self.out, Vec::new(alloc))
+    }
+}
+
+/// Makes places up to a seat, with nobody there. Where memory is refused there are none more.
+pub(crate) fn reach(places: &mut Vec<Option<Place>>, seat: Seat) -> Result<(), Memory>
+    ensures reached { OnOk result (places.new.items ≡ reached places.old.items seat) }
+    ensures kept { OnErr result (places.new.items ≡ places.old.items) }
+{
+    let index = usize::from(seat.number());
+    places.reserve((index + 1).saturating_sub(places.len()))?;
+    'nobody: while places.len() <= index {
+        places.push(None).unwrap();
+    }
+    Ok(())
+}
+
+/// Sets a session at its seat, with what was said there before, and makes its first turn.
+pub(crate) fn begin(
+    alloc: Global,
+    standing: &mut Option<Place>,
+    session: Session,
+    state: &mut State,
+    users: &Users,
+    occasion: Occasion,
+) -> Result<(), Memory>
+    ensures ok { OnOk result (HasBegun users.now occasion (scene state.old.machine session (said_before standing.old)) standing.new state.new.machine) }
+    ensures err { OnErr result (WasCutFirst users.now occasion (scene state.old.machine session (said_before standing.old)) standing.new state.new.machine) }
+{
+    let out = match standing {
+        Some(before) => before.take(alloc),
+        None => Vec::new(alloc),
+    };
+    let mut place = Place::new(session, out);
+    let turned = place.turn(alloc, state, users, occasion);
+    *standing = Some(place);
+    match turned {
+        Ok(_turn) => Ok(()),
+        Err(Memory) => Err(Memory),
     }
 }

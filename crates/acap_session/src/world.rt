@@ -4,13 +4,14 @@ ghost use Rattle.std.specs.Prelude.{◌≡◌, ◌↔◌, ◌<◌, [], length, t
 ghost use Rattle.acap_session.specs.Places.{place_at};
 ghost use Rattle.acap_session.specs.Session.{session_drain, session_next};
 ghost use Rattle.acap_session.specs.World as world;
-ghost use Rattle.acap_session.specs.World.{Feeds, Leaves, Makes, new_world, open_at};
+ghost use Rattle.acap_session.specs.World.{Feeds, Leaves, Makes, Opens, new_world, open_at, output_taken, said_before};
 ghost use Rattle.acap_session.specs.declared.world_fault.WorldFault.TheVariants as faults;
 
 use crate::occasion::Occasion;
-use crate::place::Place;
+use crate::place::{Place, begin, reach};
+use crate::session::Session;
 use crate::world_fault::WorldFault;
-use acap_entries::{Memory, Moment, Octets, Seat};
+use acap_entries::{Copying, Memory, Moment, Octets, Seat, UserName};
 use acap_login::Users;
 use acap_machine::State;
 use std::alloc::Global;
@@ -69,6 +70,56 @@ impl World {
             Some(Some(place)) => !place.is_closed(),
             Some(None) => false,
             None => false,
+        }
+    }
+
+    /// Opens a session at a seat, of that user if there is one, and makes its first turn: it greets, and its user enters.
+    /// `Taken` where one is open there. Where memory is refused nothing was done, or the session is closed, and an event
+    /// that it had asked stands.
+    pub fn open(
+        &mut self,
+        seat: Seat,
+        user: Option<UserName>,
+        clock: Moment,
+        nonce: u64,
+    ) -> Result<(), WorldFault>
+        ensures { Opens (record { seat = seat; clock = clock; nonce = nonce }) user self.old self.new result }
+    {
+        if self.is_open(seat) {
+            return Err(WorldFault::Taken);
+        }
+        let host = self.host.copy()?;
+        reach(&mut self.places, seat)?;
+        let occasion = Occasion { seat, clock, nonce };
+        let index = usize::from(seat.number());
+        let session = Session::new(self.alloc, host, user);
+        let standing = &mut self.places[index];
+        match begin(
+            self.alloc,
+            standing,
+            session,
+            &mut self.state,
+            &self.users,
+            occasion,
+        ) {
+            Ok(()) => Ok(()),
+            Err(Memory) => Err(WorldFault::Memory),
+        }
+    }
+
+    /// Gives what was said at a seat and wasn't taken yet, also of a session that is closed, and holds nothing of it
+    /// then. Takes no memory.
+    pub fn take_output(&mut self, seat: Seat) -> Vec<u8>
+        ensures given { result.items ≡ said_before (place_at self.old.places seat) }
+        ensures left { self.new ≡ output_taken self.old seat }
+    {
+        let index = usize::from(seat.number());
+        if self.places.len() <= index {
+            return Vec::new(self.alloc);
+        }
+        match &mut self.places[index] {
+            Some(place) => place.take(self.alloc),
+            None => Vec::new(self.alloc),
         }
     }
 

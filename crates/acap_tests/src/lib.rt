@@ -19,3 +19,5 @@ mod printing;
 mod sessions;
 #[cfg(test)]
 mod tree;
+#[cfg(test)]
+mod world;
