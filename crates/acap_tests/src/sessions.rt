@@ -1,4 +1,6 @@
 //! Tests of sessions without a user, and of what a session says to the machine's faults, call by call.
+ghost use Rattle.std.specs.Prelude.{IfOk};
+ghost use Rattle.acap_session.specs.Session.{Awaits};
 
 use acap_entries::{Memory, Moment, Octets, UserName};
 use acap_grammar::{Reply, Said};
@@ -40,7 +42,9 @@ fn tims(alloc: Global) -> Result<Users, Memory> {
 }
 
 /// What is next, where the clock shows the moment of the exchange in RFC 2195 and the nonce is that of it.
-fn next_of(session: &mut Session, users: &Users) -> Result<Next, Memory> {
+fn next_of(session: &mut Session, users: &Users) -> Result<Next, Memory>
+    ensures { IfOk result (λ next. Awaits next session.new) }
+{
     let clock = Moment::new(697_170_952_000_000).unwrap_or(Moment::first());
     session.next(users, 1896, clock)
 }
