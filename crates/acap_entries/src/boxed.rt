@@ -33,6 +33,13 @@ impl<T: Drop> Boxed<T> {
     {
         &self.held
     }
+
+    /// The value, out of its box. Takes no memory.
+    pub fn into_value(self) -> T
+        ensures { result ≡ self }
+    {
+        Box::into_inner(self.held)
+    }
 }
 
 impl<T: Copying + Drop> Copying for Boxed<T> {

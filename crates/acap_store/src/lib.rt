@@ -12,6 +12,7 @@ mod limits;
 mod meaning;
 mod meant;
 mod missing;
+mod objects;
 mod overlay;
 mod permission;
 mod planning;
@@ -28,5 +29,6 @@ pub use laws::{
     meaning_examples, order_law, path_law, permission_examples, room_law, root_law, stage_law,
     steps_law, telling_law, writing_examples,
 };
+pub use objects::{lent_object, object_for};
 pub use planning::plan;
 pub use write::Write;

@@ -6,6 +6,7 @@ ghost use Rattle.acap_rights.specs.Edits as edit;
 ghost use Rattle.acap_store.specs.Meaning as rule;
 
 use crate::meant::Meant;
+use crate::objects::{lent_object, object_for};
 use crate::write::Write;
 use acap_entries::{
     Attribute, Cell, Copying, Dataset, EntryName, Memory, Path, Tree, UserName, Value,
@@ -106,43 +107,6 @@ fn list_store(alloc: Global, object: Object, given: Given) -> Result<Entries, Me
     one_entry(alloc, Path { dataset, name }, item)
 }
 
-// The object as it is lent.
-fn lent(object: &Object) -> acap_rights::Object<'_>
-    ensures { decided.target_of result ≡ rule.target_named object.now.dataset object.now.attribute object.now.name }
-{
-    let dataset = object.dataset.as_slice();
-    let Some(attribute) = &object.attribute else {
-        return acap_rights::Object::Dataset { dataset };
-    };
-    let attribute = attribute.as_slice();
-    let Some(name) = &object.name else {
-        return acap_rights::Object::Attribute { dataset, attribute };
-    };
-    let name = name.as_slice();
-    acap_rights::Object::Entry {
-        dataset,
-        attribute,
-        name,
-    }
-}
-
-// The object as its user means it: `~` is replaced.
-fn object_for(user: &UserName, object: Object) -> Result<Object, Memory>
-    ensures { IfOk result (λ made. rule.target_named made.dataset made.attribute made.name ≡ rule.target_for user.now object) }
-{
-    let Object {
-        dataset,
-        attribute,
-        name,
-    } = object;
-    let dataset = dataset.for_user(user)?;
-    Ok(Object {
-        dataset,
-        attribute,
-        name,
-    })
-}
-
 // The STORE of a list that was edited.
 fn edited(alloc: Global, object: Object, acl: Acl) -> Result<Meant, Memory>
     ensures { IfOk result (λ meant. meant ≡ rule.edited (rule.target_named object.dataset object.attribute object.name) acl) }
@@ -165,7 +129,7 @@ fn set(
 ) -> Result<Meant, Memory>
     ensures { IfOk result (λ meant. meant ≡ rule.edited (rule.target_named object.dataset object.attribute object.name) (edit.with_pair identifier.now letters.now (decided.deciding_list tree.now.store.records (rule.target_named object.dataset object.attribute object.name)))) }
 {
-    let acl = decided_list(alloc, tree, &lent(&object))?;
+    let acl = decided_list(alloc, tree, &lent_object(&object))?;
     let acl = acl.with_pair(identifier, letters)?;
     edited(alloc, object, acl)
 }
@@ -174,7 +138,7 @@ fn set(
 fn take_off(alloc: Global, tree: &Tree, object: Object, identifier: &[u8]) -> Result<Meant, Memory>
     ensures { IfOk result (λ meant. meant ≡ rule.edited (rule.target_named object.dataset object.attribute object.name) (edit.without identifier.now (decided.deciding_list tree.now.store.records (rule.target_named object.dataset object.attribute object.name)))) }
 {
-    let acl = decided_list(alloc, tree, &lent(&object))?;
+    let acl = decided_list(alloc, tree, &lent_object(&object))?;
     let acl = acl.without(identifier);
     edited(alloc, object, acl)
 }
