@@ -1,5 +1,3 @@
-pub mod HomeLemmas
-pub mod WriteLemmas
-pub mod RunLemmas
-pub mod StoreLaws
 pub mod Computing
+pub mod RunLemmas
+pub mod StepLaws

@@ -1,12 +1,8 @@
 pub mod Examples
-pub mod Homes
 pub mod Laws
-pub mod Limits
 pub mod Machine
-pub mod Refusing
-pub mod Rows
 pub mod Runs
+pub mod Searching
 pub mod Seats
 pub mod Serving
 pub mod Stepping
-pub mod Writing

@@ -1,35 +1,30 @@
 //! What follows from the definitions alone: each function does nothing, and its contract is the law.
-ghost use Rattle.acap_machine.specs.Examples.{RefusalExamples, LimitLaw, WritingExamples, ServingLaw, SeatLaw};
-ghost use Rattle.acap_machine.specs.Laws.{WrittenLaw, LaterLaw};
+ghost use Rattle.acap_machine.specs.Examples.{FoundExamples, ServingExamples, SeatLaw};
+ghost use Rattle.acap_machine.specs.Laws.{RefusedLaw, OthersLaw, ChangeLaw};
 
-/// What a STORE writes, path by path (RFC 2244 section 6.6.1).
-pub fn written_law()
-    ensures { WrittenLaw }
+/// A refused event leaves the machine as it was, whichever event it is (RFC 2244 section 6.2).
+pub fn refused_law()
+    ensures { RefusedLaw }
 {}
 
-/// Each accepted STORE is later than the one before it, whatever the clock (RFC 2244 section 3.1.1).
-pub fn later_law()
-    ensures { LaterLaw }
+/// No event changes who is who, or who sits at another seat (RFC 2244 section 2).
+pub fn others_law()
+    ensures { OthersLaw }
 {}
 
-/// What a STORE is refused for by what it says, and for what first (RFC 2244 section 3.6).
-pub fn refusal_examples()
-    ensures { RefusalExamples }
+/// Each change is what a command which writes asks for, and later than the one before it (RFC 2244 section 3.1.1).
+pub fn change_law()
+    ensures { ChangeLaw }
 {}
 
-/// Each limit on both its sides, and the order of the refusals that the store decides (RFC 2244 section 3.6).
-pub fn limit_law()
-    ensures { LimitLaw }
+/// What a SEARCH tells of its matches (RFC 2244 section 6.4.1).
+pub fn found_examples()
+    ensures { FoundExamples }
 {}
 
-/// What an entry has once it is written (RFC 2244 section 6.6.1).
-pub fn writing_examples()
-    ensures { WritingExamples }
-{}
-
-/// What is served, what is refused, and that a refusal and a search change nothing (RFC 2244 sections 6.2 and 6.4.1).
-pub fn serving_law()
-    ensures { ServingLaw }
+/// What is served, and what LISTRIGHTS tells (RFC 2244 sections 6.2 and 6.7).
+pub fn serving_examples()
+    ensures { ServingExamples }
 {}
 
 /// Who may enter, ask and leave, and that a fault changes nothing (RFC 2244 section 2).

@@ -1,25 +1,22 @@
 //! The dataset machine: a store, and sessions that use it by commands (RFC 2244 sections 2, 3 and 6).
 #![tactic(auto)]
 
+mod answer;
 pub mod event;
 pub mod fault;
-mod homes;
 pub mod laws;
-mod limits;
 pub mod lists;
-mod missing;
-mod planning;
-mod refusing;
-mod rows;
+pub mod occupant;
 pub mod runs;
+mod searching;
 mod serving;
 pub mod state;
 pub mod step;
-mod writing;
 
 pub use event::Event;
 pub use fault::Fault;
 pub use lists::{Outcomes, Steps};
+pub use occupant::Occupant;
 pub use runs::run;
 pub use state::State;
 pub use step::Step;

@@ -11,13 +11,13 @@ use acap_grammar::Reply;
 use std::alloc::Global;
 
 // Performs one step and tells what it answered.
-fn outcome_at(alloc: Global, state: &mut State, step: Step) -> Result<Result<Reply, Fault>, Memory>
+fn outcome_at(state: &mut State, step: Step) -> Result<Result<Reply, Fault>, Memory>
     ensures answer { IfOk result (λ outcome. outcome ≡ outcome_of (stepped_at state.old.machine step)) }
     ensures ok { IfOk result (λ outcome. state.new.machine ≡ machine_after state.old.machine (stepped_at state.old.machine step)) }
     ensures err { OnErr result (state.new.machine ≡ state.old.machine) }
 {
     let Step { seat, event, clock } = step;
-    match state.step(alloc, seat, event, clock) {
+    match state.step(seat, event, clock) {
         Ok(reply) => Ok(Ok(reply)),
         Err(Fault::Memory) => Err(Memory),
         Err(fault) => Ok(Err(fault)),
@@ -31,7 +31,7 @@ pub fn run(alloc: Global, state: &mut State, steps: Steps) -> Result<Outcomes, M
 {
     let mut outcomes = Outcomes::new(alloc);
     for step in steps.into_vec() {
-        outcomes.push(outcome_at(alloc, state, step)?)?;
+        outcomes.push(outcome_at(state, step)?)?;
     }
     Ok(outcomes)
 }

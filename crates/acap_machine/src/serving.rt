@@ -1,146 +1,138 @@
-//! What is said to a command, and what it leaves.
-ghost use Rattle.std.specs.Prelude.{◌≡◌, IfOk, OnErr};
-ghost use Rattle.std.specs.List.{list_all};
-ghost use Rattle.acap_machine.specs.Serving as serving;
+//! What a command of a user comes to.
+ghost use Rattle.std.specs.Prelude.{◌≡◌, false, IfOk, OnOk};
+ghost use Rattle.acap_grammar.specs.declared.said.Said.TheVariants as saying;
+ghost use Rattle.acap_machine.specs.Serving as rule;
 
-use crate::homes::{entries_for, is_own};
-use crate::planning::plan;
-use crate::rows::found_in;
+use crate::answer::Answer;
+use crate::searching::searched;
 use acap_entries::{Dataset, Memory, Moment, Tree, UserName};
-use acap_grammar::{
-    Command, Entries, Key, Metadata, Node, Refusal, ReturnItem, ReturnName, Said, Search,
-    SearchModifiers, Target, Test, Verb,
-};
+use acap_grammar::{Command, Object, Refusal, Said, Verb};
+use acap_rights::{Realm, implicit_rights, rights_of};
+use acap_store::{Write, deleted_since, lent_object, object_for, plan};
 use std::alloc::Global;
 
-// Stores all of the entries, or nothing.
-fn store(
-    alloc: Global,
-    tree: &mut Tree,
-    user: &UserName,
-    entries: Entries,
-    clock: Moment,
-) -> Result<Said, Memory>
-    ensures ok { IfOk result (λ said. (said, tree.new.store) ≡ serving.stored_by tree.old.store (serving.planned user.now tree.old.store entries clock)) }
-    ensures err { OnErr result (tree.new.store ≡ tree.old.store) }
+// What is said of a refusal; that memory was refused is a fault.
+fn refused(refusal: Refusal) -> Result<Said, Memory>
+    ensures words { IfOk result (λ words. words ≡ saying.Refused refusal) }
+    ensures other { OnOk result (rule.is_memory refusal ≡ false) }
 {
-    match plan(alloc, tree, user, entries, clock)? {
-        Ok(change) => {
-            tree.reserve(&change)?;
-            tree.commit(change);
-            Ok(Said::Done(Verb::Store))
-        }
-        Err(refusal) => Ok(Said::Refused(refusal)),
+    match refusal {
+        Refusal::Memory => Err(Memory),
+        refusal => Ok(Said::Refused(refusal)),
     }
 }
 
-// Whether each entry is wanted.
-fn is_all(key: &Key) -> bool
-    ensures { result ≡ serving.is_all key.now }
-{
-    matches!(key.node(), Node::One(Test::All))
-}
-
-// Whether an item of RETURN asks for the value of one attribute by its name.
-fn is_served_return(item: &ReturnItem) -> bool
-    ensures { result ≡ serving.is_served_return item.now }
-{
-    is_named(&item.name) && is_one_value(item.metadata.as_slice())
-}
-
-fn is_named(name: &ReturnName) -> bool
-    ensures { result ≡ serving.is_named name.now }
-{
-    matches!(name, ReturnName::Named(_))
-}
-
-fn is_one_value(metadata: &[Metadata]) -> bool
-    ensures { result ≡ serving.is_one_value metadata.now }
-{
-    matches!(metadata, [Metadata::Value])
-}
-
-fn are_served_returns(items: &[ReturnItem]) -> bool
-    ensures { result ≡ list_all serving.is_served_return items.now }
-{
-    items.iter().all(|item| is_served_return(item))
-}
-
-// Whether no modifier stands but a RETURN that is served.
-fn has_served_modifiers(modifiers: &SearchModifiers) -> bool
-    ensures { result ≡ serving.has_served_modifiers modifiers.now }
-{
-    let returns = match &modifiers.returns {
-        Some(items) => are_served_returns(items.as_slice()),
-        None => true,
-    };
-    modifiers.depth.is_none()
-        && modifiers.hard_limit.is_none()
-        && modifiers.limit.is_none()
-        && modifiers.make_context.is_none()
-        && !modifiers.no_inherit
-        && modifiers.sort.is_none()
-        && returns
-}
-
-// What is said of a search of a dataset.
-#[tactic(auto, unfolding(crate::specs::Serving::searched))]
-fn search(
+// What a command that writes comes to.
+fn written_by(
     alloc: Global,
     tree: &Tree,
+    realm: &Realm,
     user: &UserName,
-    dataset: Dataset,
-    wanted: &Search,
-) -> Result<Said, Memory>
-    ensures { IfOk result (λ said. said ≡ serving.searched user.now tree.now.store dataset wanted.now) }
+    verb: Verb,
+    write: Write,
+    clock: Moment,
+) -> Result<Answer, Memory>
+    ensures { IfOk result (λ answer. answer ≡ rule.written_by tree.now.store realm.now user.now verb write clock) }
 {
-    let served = is_own(user, dataset.as_slice())
-        && has_served_modifiers(&wanted.modifiers)
-        && is_all(&wanted.key);
-    if !served {
-        return Ok(Said::Refused(Refusal::Unserved));
-    }
-    if !tree.dataset_exists(dataset.as_slice()) {
-        return Ok(Said::Refused(Refusal::NoExist(dataset)));
-    }
-    let returns = wanted.modifiers.returns.as_ref();
-    let found = found_in(alloc, tree, dataset.as_slice(), returns)?;
-    Ok(Said::Found(found))
-}
-
-// What is said of a search.
-fn search_in(alloc: Global, tree: &Tree, user: &UserName, wanted: &Search) -> Result<Said, Memory>
-    ensures { IfOk result (λ said. said ≡ serving.searched_in user.now tree.now.store wanted.now.target wanted.now) }
-{
-    match &wanted.target {
-        Target::Dataset(dataset) => {
-            let dataset = dataset.for_user(user)?;
-            search(alloc, tree, user, dataset, wanted)
-        }
-        Target::Context(_) => Ok(Said::Refused(Refusal::Unserved)),
+    match plan(alloc, tree, realm, user, write, clock) {
+        Ok(change) => Ok(Answer::Changes(verb, change)),
+        Err(refusal) => Ok(Answer::Says(refused(refusal)?)),
     }
 }
 
-/// What is said to a user's command when the clock shows that moment, and what store it leaves.
-#[tactic(auto, unfolding(crate::specs::Serving::served))]
-pub(crate) fn serve(
+// What is said to a MYRIGHTS.
+fn rights_told(
     alloc: Global,
-    tree: &mut Tree,
+    tree: &Tree,
+    realm: &Realm,
+    user: &UserName,
+    object: Object,
+) -> Result<Said, Memory>
+    ensures { IfOk result (λ words. words ≡ rule.rights_told tree.now.store realm.now user.now object) }
+{
+    let object = object_for(user, object)?;
+    let rights = rights_of(tree, realm, user, &lent_object(&object));
+    Ok(Said::Rights(rights.letters(alloc)?))
+}
+
+// What is said to a LISTRIGHTS.
+fn rights_listed(
+    alloc: Global,
+    realm: &Realm,
+    user: &UserName,
+    object: Object,
+    identifier: &[u8],
+) -> Result<Said, Memory>
+    ensures { IfOk result (λ words. words ≡ rule.rights_listed realm.now user.now object identifier.now) }
+{
+    let dataset = object.dataset.for_user(user)?;
+    let rights = implicit_rights(realm, identifier, dataset.as_slice());
+    Ok(Said::RightsList(rights.listed(alloc)?))
+}
+
+// What is said to a DELETEDSINCE.
+fn deleted_told(
+    alloc: Global,
+    tree: &Tree,
+    realm: &Realm,
+    user: &UserName,
+    dataset: &Dataset,
+    since: Moment,
+) -> Result<Said, Memory>
+    ensures { IfOk result (λ words. words ≡ rule.deleted_told tree.now.store realm.now user.now dataset.now since) }
+{
+    match deleted_since(alloc, tree, realm, user, dataset, since) {
+        Ok(names) => Ok(Said::Deleted(names)),
+        Err(refusal) => refused(refusal),
+    }
+}
+
+/// What a user's command comes to when the clock shows that moment; nothing is changed yet.
+#[tactic(auto, unfolding(crate::specs::Serving::served))]
+pub(crate) fn served(
+    alloc: Global,
+    tree: &Tree,
+    realm: &Realm,
     user: &UserName,
     command: Command,
     clock: Moment,
-) -> Result<Said, Memory>
-    ensures ok { IfOk result (λ said. (said, tree.new.store) ≡ serving.served user.now tree.old.store command clock) }
-    ensures err { OnErr result (tree.new.store ≡ tree.old.store) }
+) -> Result<Answer, Memory>
+    ensures { IfOk result (λ answer. answer ≡ rule.served tree.now.store realm.now user.now command clock) }
 {
     match command {
-        Command::Noop => Ok(Said::Done(Verb::Noop)),
-        Command::Logout => Ok(Said::GoodBye),
+        Command::Noop => Ok(Answer::Says(Said::Done(Verb::Noop))),
+        Command::Logout => Ok(Answer::Says(Said::GoodBye)),
+        Command::Authenticate(_) => Ok(Answer::Says(Said::Refused(Refusal::LoggedIn))),
         Command::Store(entries) => {
-            let entries = entries_for(alloc, user, entries)?;
-            store(alloc, tree, user, entries, clock)
+            let write = Write::Store(entries);
+            written_by(alloc, tree, realm, user, Verb::Store, write, clock)
         }
-        Command::Search(wanted) => search_in(alloc, tree, user, wanted.get()),
-        _ => Ok(Said::Refused(Refusal::Unserved)),
+        Command::SetAcl(object, identifier, letters) => {
+            let write = Write::SetAcl(object, identifier, letters);
+            written_by(alloc, tree, realm, user, Verb::SetAcl, write, clock)
+        }
+        Command::DeleteAcl(object, identifier) => {
+            let write = Write::DeleteAcl(object, identifier);
+            written_by(alloc, tree, realm, user, Verb::DeleteAcl, write, clock)
+        }
+        Command::Search(search) => {
+            let words = searched(alloc, tree, realm, user, search.into_value())?;
+            Ok(Answer::Says(words))
+        }
+        Command::MyRights(object) => {
+            let words = rights_told(alloc, tree, realm, user, object)?;
+            Ok(Answer::Says(words))
+        }
+        Command::ListRights(object, identifier) => {
+            let words = rights_listed(alloc, realm, user, object, identifier.as_slice())?;
+            Ok(Answer::Says(words))
+        }
+        Command::DeletedSince(dataset, since) => {
+            let words = deleted_told(alloc, tree, realm, user, &dataset, since)?;
+            Ok(Answer::Says(words))
+        }
+        Command::FreeContext(_) | Command::UpdateContext(_) => {
+            Ok(Answer::Says(Said::Refused(Refusal::Unserved)))
+        }
     }
 }

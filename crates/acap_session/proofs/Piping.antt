@@ -6,13 +6,13 @@ use Rattle.std.proofs.lemmas.Bool.{eqb-true}
 use Rattle.std.proofs.lemmas.List.{append-nil, take-append-drop}
 use Rattle.acap_lexer.specs.Holding.{Held}
 use Rattle.acap_login.specs.Login.{User}
-use Rattle.acap_machine.specs.Machine.{Machine}
-use Rattle.acap_session.specs.Piping.{Fed, fed, fed_all, turns, hears, joined, always, begins, entered, IsQuiet, AreAnswered, IsWritten, HasRead, HasEnded, IsSettled, IsFed, HasTurned, HasRoom, Goes, SoFar, IsSoFar, new_machine}
+use Rattle.acap_machine.specs.Machine.{Machine, new_machine}
+use Rattle.acap_session.specs.Piping.{Fed, fed, fed_all, turns, hears, joined, always, begins, entered, IsQuiet, AreAnswered, IsWritten, HasRead, HasEnded, IsSettled, IsFed, HasTurned, HasRoom, Goes, SoFar, IsSoFar, without_administrators}
 use Rattle.acap_machine.specs.Runs.{outcome_of, machine_after}
 use Rattle.acap_session.specs.Hearing.{opening}
 use Rattle.acap_session.specs.Saying.{added}
 use Rattle.acap_session.specs.Session.{session_next, is_closed, answered, has_seat}
-use Rattle.acap_session.specs.Talking.{Talking}
+use Rattle.acap_session.specs.Talking.{Talking, begun}
 use Rattle.acap_session.specs.Turning.{Scene, scene, turn_of, turn_by, shown, performed, turn_in, left_after, IsTurn}
 use Rattle.acap_session.specs.declared.next.Next.{Next}
 use Rattle.acap_session.specs.declared.occasion.Occasion.{Occasion}
@@ -296,8 +296,8 @@ starts_with_room user turn.Said new k = λ o. (goes_on [] always (begins user) n
 starts_with_room user turn.Closed new k = λ o. absurd (let both : true ≡ false = sym (over [] always (begins user) new k) ∙ o in cc)
 
 -- the first turn is that of a user's session
-pub first_turn : (user host : List ℕ) (users : List User) (m : Machine) (t : Talking) (out : List ℕ) (new : Scene) → users ≡ [] → host ≡ codes "localhost" → m ≡ new_machine → t ≡ record { host = host; user = Some user; held = record { text = []; told = 0; fatal = None }; stage = stage.Opening } → out ≡ [] → HasTurned users (scene m t out) new → HasTurned [] (begins user) new
+pub first_turn : (user host : List ℕ) (users : List User) (m : Machine) (t : Talking) (out : List ℕ) (new : Scene) → users ≡ [] → host ≡ codes "localhost" → m ≡ new_machine without_administrators → t ≡ begun host (Some user) → out ≡ [] → HasTurned users (scene m t out) new → HasTurned [] (begins user) new
 first_turn user host users m t out new u h e f g k =
-    let talk : t ≡ (begins user).talk = f ∙ ap (λ (xs : List ℕ). let q : Talking = record { host = xs; user = Some user; held = record { text = []; told = 0; fatal = None }; stage = stage.Opening } in q) h in
+    let talk : t ≡ (begins user).talk = f ∙ ap (λ (xs : List ℕ). begun xs (Some user)) h in
     let s : scene m t out ≡ begins user = λ i. scene (e i) (talk i) (g i) in
     subst (λ q. HasTurned [] q new) s (subst (λ us. HasTurned us (scene m t out) new) u k)

@@ -5,9 +5,9 @@ use Rattle.acap_session.specs.Places.{Place, Places, place_at, placed, reached, 
 use Rattle.acap_session.specs.Session.{is_closed, session_drain, session_next}
 use Rattle.acap_machine.specs.Machine.{Machine}
 use Rattle.acap_session.specs.Turning.{Scene, scene, WasCut, IsTurn, IsDrain, turn_of, drain_of}
-use Rattle.acap_session.specs.World.{World, Deed, said_before, taken_from, output_taken, begun, begun_at, opened_at, HasBegun, WasCutFirst, IsStep, IsCutAt, Makes, Feeds, Leaves, Opens, room_of, with_octets, at_open, did, open_at, scene_of, with_scene, takes, ends}
+use Rattle.acap_session.specs.World.{World, Deed, said_before, taken_from, output_taken, begun_at, opened_at, HasBegun, WasCutFirst, IsStep, IsCutAt, Makes, Feeds, Leaves, Opens, room_of, with_octets, at_open, did, open_at, scene_of, with_scene, takes, ends}
 use Rattle.acap_session.specs.World as world
-use Rattle.acap_session.specs.Talking.{Talking}
+use Rattle.acap_session.specs.Talking.{Talking, begun}
 use Rattle.acap_session.specs.declared.occasion.Occasion.{Occasion}
 use Rattle.acap_session.specs.declared.turn.Turn as turned
 use Rattle.acap_session.specs.declared.world_fault.WorldFault.{WorldFault}

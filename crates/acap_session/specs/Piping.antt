@@ -1,25 +1,23 @@
 -- What one session of a user writes for what it reads, with a machine of its own whose clock shows 0
 -- [RFC 2244 section 2].
 use Rattle.std.specs.Prelude.{◌≡◌, ◌⊎◌, ◌<◌, ℕ, pos, List, [], ◌∷◌, ◌++◌, length, flat_map, Bool, true, false, Option, Some, None, codes, Result, Ok, Err, ⊤}
-use Rattle.std.specs.FinMap as table
 use Rattle.std.specs.Io.KnownBytes.{Appends}
 use Rattle.acap_lexer.specs.Holding.{held_limit}
 use Rattle.acap_login.specs.Login.{User}
-use Rattle.acap_entries.specs.Store.{empty_store}
-use Rattle.acap_machine.specs.Machine.{Machine}
+use Rattle.acap_machine.specs.Machine.{Machine, new_machine}
+use Rattle.acap_rights.specs.declared.realm.Realm.{Realm}
 use Rattle.acap_session.specs.Session.{session_next, is_closed, is_hearing}
-use Rattle.acap_session.specs.Talking.{Talking}
+use Rattle.acap_session.specs.Talking.{Talking, begun}
 use Rattle.acap_session.specs.Turning.{Scene, scene, turn_of, IsTurn}
 use Rattle.acap_session.specs.declared.next.Next.TheVariants as next
 use Rattle.acap_session.specs.declared.occasion.Occasion.{Occasion}
 use Rattle.acap_session.specs.declared.pipe_fault.PipeFault.{PipeFault}
 use Rattle.acap_session.specs.declared.pipe_fault.PipeFault.TheVariants as faults
-use Rattle.acap_session.specs.declared.stage.Stage.TheVariants as stage
 use Rattle.acap_session.specs.declared.turn.Turn.{Turn}
 
--- the machine begins with the empty store, and nobody in any seat
-abbrev pub new_machine : Machine
-new_machine = record { store = empty_store; seats = table.empty }
+-- nobody is an administrator
+abbrev pub without_administrators : Realm
+without_administrators = record { administrators = [] }
 
 -- the one seat, at the start of 1970; nobody logs in, so that no nonce is told
 abbrev pub always : Occasion
@@ -27,7 +25,7 @@ always = record { seat = 0; clock = pos 0; nonce = 0 }
 
 -- a user's session, before it has said anything
 abbrev pub begins : List ℕ → Scene
-begins user = scene new_machine (record { host = codes "localhost"; user = Some user; held = record { text = []; told = 0; fatal = None }; stage = stage.Opening }) []
+begins user = scene (new_machine without_administrators) (begun (codes "localhost") (Some user)) []
 
 -- its first turn: the user enters, and is greeted
 unfoldable pub entered : List ℕ → Scene

@@ -1,7 +1,8 @@
 -- What a session stands for.
-use Rattle.std.specs.Prelude.{ℕ, List, Option}
+use Rattle.std.specs.Prelude.{ℕ, List, [], Option, None}
 use Rattle.acap_lexer.specs.Holding.{Held}
 use Rattle.acap_session.specs.declared.stage.Stage.{Stage}
+use Rattle.acap_session.specs.declared.stage.Stage.TheVariants as stage
 
 -- the name of its host, its user if it has one, the octets that it has taken, and what it is about to do
 pub record Talking : Type 0 where
@@ -9,3 +10,7 @@ pub record Talking : Type 0 where
   pub user : Option (List ℕ)
   pub held : Held
   pub stage : Stage
+
+-- a session on that host that hasn't said anything, of that user if there is one
+abbrev pub begun : List ℕ → Option (List ℕ) → Talking
+begun host user = record { host = host; user = user; held = record { text = []; told = 0; fatal = None }; stage = stage.Opening }

@@ -1,14 +1,13 @@
 -- The world: one machine, and the sessions of its seats. Its steps, and what a list of them comes to
 -- [RFC 2244 section 2].
 use Rattle.std.specs.Prelude.{◌≡◌, ◌⊎◌, ◌-◌, ℕ, List, [], ◌∷◌, ◌++◌, length, take, min, Bool, Option, Some, None, Result, Ok, Err, IsSome}
-use Rattle.std.specs.FinMap as table
 use Rattle.acap_lexer.specs.Holding.{held_limit}
 use Rattle.acap_login.specs.Login.{User}
-use Rattle.acap_entries.specs.Store.{empty_store}
-use Rattle.acap_machine.specs.Machine.{Machine}
+use Rattle.acap_machine.specs.Machine.{Machine, new_machine}
+use Rattle.acap_rights.specs.declared.realm.Realm.{Realm}
 use Rattle.acap_session.specs.Places.{Place, Places, place_at, placed, if_open}
 use Rattle.acap_session.specs.Session.{has_seat, session_next}
-use Rattle.acap_session.specs.Talking.{Talking}
+use Rattle.acap_session.specs.Talking.{Talking, begun}
 use Rattle.acap_session.specs.Turning.{Scene, scene, turn_of, drain_of, left_by, IsTurn, WasCut}
 use Rattle.acap_session.specs.declared.next.Next.{Next}
 use Rattle.acap_session.specs.declared.occasion.Occasion.{Occasion}
@@ -48,10 +47,6 @@ pub data Deed : Type 0 where
   Turn : Deed
   Drain : Deed
   Leave : Deed
-
--- a session that hasn't said anything
-abbrev pub begun : List ℕ → Option (List ℕ) → Talking
-begun host user = record { host = host; user = user; held = record { text = []; told = 0; fatal = None }; stage = stage.Opening }
 
 -- what was said at a seat before and isn't taken yet
 abbrev pub said_before : Option Place → List ℕ
@@ -105,8 +100,8 @@ run [] w = w
 run (x ∷ xs) w = run xs (did x.occasion x.refused x.deed w)
 
 -- the world before its first step
-abbrev pub new_world : List User → List ℕ → World
-new_world users host = record { machine = record { store = empty_store; seats = table.empty }; places = []; users = users; host = host }
+abbrev pub new_world : Realm → List User → List ℕ → World
+new_world realm users host = record { machine = new_machine realm; places = []; users = users; host = host }
 
 -- ---- words of the contracts
 

@@ -16,6 +16,7 @@ use crate::turns::turn;
 use acap_entries::{Memory, Moment, Octets, Seat, UserName};
 use acap_login::Users;
 use acap_machine::State;
+use acap_rights::Realm;
 use std::alloc::Global;
 use std::io::{Read, Write};
 
@@ -35,7 +36,6 @@ fn always() -> Occasion
 
 // Makes all turns that can be made, and adds what they say.
 fn settle(
-    alloc: Global,
     session: &mut Session,
     state: &mut State,
     users: &Users,
@@ -45,7 +45,7 @@ fn settle(
     ensures { OnOk result (IsSettled users.now (scene state.old.machine session.old out.old.items) (scene state.new.machine session.new out.new.items)) }
 {
     loop {
-        match turn(alloc, session, state, users, always(), out)? {
+        match turn(session, state, users, always(), out)? {
             Turn::Said => {}
             Turn::More => return Ok(()),
             Turn::Closed => return Ok(()),
@@ -55,7 +55,6 @@ fn settle(
 
 // Gives a session a piece, and makes all turns that can be made. What comes behind a close isn't heard.
 fn feed(
-    alloc: Global,
     session: &mut Session,
     state: &mut State,
     users: &Users,
@@ -70,7 +69,7 @@ fn feed(
         let taken = session.push(rest)?;
         let (_, behind) = rest.split_at(taken);
         rest = behind;
-        settle(alloc, session, state, users, out)?;
+        settle(session, state, users, out)?;
     }
     Ok(())
 }
@@ -93,7 +92,6 @@ fn send<W: Write>(writer: &mut W, out: &mut Vec<u8>) -> Result<(), PipeFault>
 
 // The first turn: the user enters, and is greeted.
 fn enter(
-    alloc: Global,
     session: &mut Session,
     state: &mut State,
     users: &Users,
@@ -101,7 +99,7 @@ fn enter(
 ) -> Result<(), Memory>
     ensures { OnOk result (HasTurned users.now (scene state.old.machine session.old out.old.items) (scene state.new.machine session.new out.new.items)) }
 {
-    let _ = turn(alloc, session, state, users, always(), out)?;
+    let _ = turn(session, state, users, always(), out)?;
     if session.is_closed() {
         return Err(Memory);
     }
@@ -110,7 +108,6 @@ fn enter(
 
 // Hears a piece, and writes what is said to it, also where memory is refused then.
 fn answer<W: Write>(
-    alloc: Global,
     session: &mut Session,
     state: &mut State,
     users: &Users,
@@ -124,7 +121,7 @@ fn answer<W: Write>(
     ensures empty { OnOk result (out.new.items ≡ []) }
     ensures fault { IfErr result IsLater }
 {
-    let fed = feed(alloc, session, state, users, piece, out);
+    let fed = feed(session, state, users, piece, out);
     send(writer, out)?;
     fed?;
     Ok(())
@@ -132,7 +129,6 @@ fn answer<W: Write>(
 
 // Reads piece by piece, and writes what is said to each before the next is read.
 fn serve<R: Read, W: Write>(
-    alloc: Global,
     session: &mut Session,
     state: &mut State,
     users: &Users,
@@ -155,7 +151,7 @@ fn serve<R: Read, W: Write>(
             return Ok(());
         }
         let piece = &buffer[..count];
-        answer(alloc, session, state, users, piece, writer, out)?;
+        answer(session, state, users, piece, writer, out)?;
         if session.is_closed() {
             return Ok(());
         }
@@ -178,12 +174,11 @@ pub fn run_pipe<R: Read, W: Write>(
     let host = Octets::from_slice(alloc, b"localhost")?;
     let users = Users::new(Vec::new(alloc));
     let mut session = Session::new(alloc, host, Some(user));
-    let mut state = State::new(alloc);
+    let mut state = State::new(alloc, Realm::new(Vec::new(alloc)));
     let mut out = Vec::new(alloc);
-    enter(alloc, &mut session, &mut state, &users, &mut out)?;
+    enter(&mut session, &mut state, &users, &mut out)?;
     send(writer, &mut out)?;
     serve(
-        alloc,
         &mut session,
         &mut state,
         &users,

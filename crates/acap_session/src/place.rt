@@ -51,7 +51,6 @@ impl Place {
     /// Makes one turn.
     pub(crate) fn turn(
         &mut self,
-        alloc: Global,
         state: &mut State,
         users: &Users,
         occasion: Occasion,
@@ -60,7 +59,6 @@ impl Place {
         ensures err { OnErr result (WasCut occasion (scene state.old.machine self.old.talk self.old.out) (session_next users.now occasion.nonce occasion.clock self.old.talk) (scene state.new.machine self.new.talk self.new.out)) }
     {
         turn(
-            alloc,
             &mut self.session,
             state,
             users,
@@ -72,14 +70,13 @@ impl Place {
     /// Asks for what is pending.
     pub(crate) fn drain(
         &mut self,
-        alloc: Global,
         state: &mut State,
         occasion: Occasion,
     ) -> Result<Turn, Memory>
         ensures ok { IfOk result (λ turn. IsDrain occasion (scene state.old.machine self.old.talk self.old.out) turn (scene state.new.machine self.new.talk self.new.out)) }
         ensures err { OnErr result (WasCut occasion (scene state.old.machine self.old.talk self.old.out) (session_drain self.old.talk) (scene state.new.machine self.new.talk self.new.out)) }
     {
-        drain(alloc, &mut self.session, state, occasion, &mut self.out)
+        drain(&mut self.session, state, occasion, &mut self.out)
     }
 
     /// Takes a front of a piece, and says how many octets that is.
@@ -92,10 +89,10 @@ impl Place {
     }
 
     /// Ends the session, which leaves its seat if it has it.
-    pub(crate) fn end(&mut self, alloc: Global, state: &mut State, occasion: Occasion)
+    pub(crate) fn end(&mut self, state: &mut State, occasion: Occasion)
         ensures { scene state.new.machine self.new.talk self.new.out ≡ world.ends occasion (scene state.old.machine self.old.talk self.old.out) }
     {
-        leave(alloc, state, occasion, self.session.has_seat());
+        leave(state, occasion, self.session.has_seat());
         self.session.close();
     }
 
@@ -138,7 +135,7 @@ pub(crate) fn begin(
         None => Vec::new(alloc),
     };
     let mut place = Place::new(session, out);
-    let turned = place.turn(alloc, state, users, occasion);
+    let turned = place.turn(state, users, occasion);
     *standing = Some(place);
     match turned {
         Ok(_turn) => Ok(()),

@@ -6,6 +6,7 @@ ghost use Rattle.acap_session.specs.Saying as saying;
 ghost use Rattle.acap_session.specs.Saying.{added, heard_of};
 ghost use Rattle.acap_session.specs.Session as session;
 ghost use Rattle.acap_session.specs.Session.{Awaits, answered, drain_in, has_seat, is_asked, is_closed, session_drain, session_next};
+ghost use Rattle.acap_session.specs.Talking.{begun};
 ghost use Rattle.acap_session.specs.declared.stage.Stage.TheVariants as stages;
 
 use crate::answering::answered;
@@ -67,7 +68,7 @@ impl Model for Session {
 impl Session {
     /// A session at that host, of that user if there is one. Takes no memory.
     pub fn new(alloc: Global, host: Octets, user: Option<UserName>) -> Session
-        ensures { result ≡ record { host = host; user = user; held = record { text = []; told = 0; fatal = None }; stage = stages.Opening } }
+        ensures { result ≡ begun host user }
     {
         Session {
             alloc,

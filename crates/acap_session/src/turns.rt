@@ -11,14 +11,13 @@ use crate::turn::Turn;
 use acap_entries::Memory;
 use acap_login::Users;
 use acap_machine::{Event, State};
-use std::alloc::Global;
 
 /// A session that has its seat leaves it. Takes no memory.
-pub(crate) fn leave(alloc: Global, state: &mut State, occasion: Occasion, has_seat: bool)
+pub(crate) fn leave(state: &mut State, occasion: Occasion, has_seat: bool)
     ensures { state.new.machine ≡ left_by has_seat occasion state.old.machine }
 {
     if has_seat {
-        let _ = state.step(alloc, occasion.seat, Event::Leave, occasion.clock);
+        let _ = state.step(occasion.seat, Event::Leave, occasion.clock);
     }
 }
 
@@ -36,7 +35,6 @@ fn came(heard: &Heard) -> Turn
 
 // A session that is over leaves its seat.
 fn finish(
-    alloc: Global,
     state: &mut State,
     occasion: Occasion,
     has_seat: bool,
@@ -47,14 +45,13 @@ fn finish(
 {
     let turn = came(heard);
     if turn == Turn::Closed {
-        leave(alloc, state, occasion, has_seat);
+        leave(state, occasion, has_seat);
     }
     turn
 }
 
 // The event that a session asked is performed, and what it says to the answer is added.
 fn perform(
-    alloc: Global,
     session: &mut Session,
     state: &mut State,
     occasion: Occasion,
@@ -66,12 +63,12 @@ fn perform(
     ensures err { OnErr result (CutInAsking occasion event (scene state.old.machine session.old out.old.items) (scene state.new.machine session.new out.new.items)) }
 {
     let had_seat = session.has_seat();
-    let outcome = state.step(alloc, occasion.seat, event, occasion.clock);
+    let outcome = state.step(occasion.seat, event, occasion.clock);
     let has_seat = either(had_seat, outcome.is_ok());
     match session.reply(outcome, out) {
-        Ok(heard) => Ok(finish(alloc, state, occasion, has_seat, &heard)),
+        Ok(heard) => Ok(finish(state, occasion, has_seat, &heard)),
         Err(Memory) => {
-            leave(alloc, state, occasion, has_seat);
+            leave(state, occasion, has_seat);
             Err(Memory)
         }
     }
@@ -87,7 +84,6 @@ fn either(first: bool, second: bool) -> bool
 /// Makes one turn of a session, and adds what it says. Where memory is refused the session is closed, and an event that
 /// it asked stands.
 pub(crate) fn turn(
-    alloc: Global,
     session: &mut Session,
     state: &mut State,
     users: &Users,
@@ -99,15 +95,15 @@ pub(crate) fn turn(
 {
     let has_seat = session.has_seat();
     let Ok(heard) = session.hear(users, occasion.nonce, occasion.clock, out) else {
-        leave(alloc, state, occasion, has_seat);
+        leave(state, occasion, has_seat);
         return Err(Memory);
     };
     match heard {
         Heard::More => Ok(Turn::More),
         Heard::Said => Ok(Turn::Said),
-        Heard::Asks(event) => perform(alloc, session, state, occasion, event, out),
+        Heard::Asks(event) => perform(session, state, occasion, event, out),
         Heard::Closes => {
-            leave(alloc, state, occasion, has_seat);
+            leave(state, occasion, has_seat);
             Ok(Turn::Closed)
         }
     }
@@ -115,7 +111,6 @@ pub(crate) fn turn(
 
 /// Asks for what is pending for a session's user, if it may be asked, and adds it.
 pub(crate) fn drain(
-    alloc: Global,
     session: &mut Session,
     state: &mut State,
     occasion: Occasion,
@@ -127,5 +122,5 @@ pub(crate) fn drain(
     if !session.begin_drain() {
         return Ok(Turn::More);
     }
-    perform(alloc, session, state, occasion, Event::Drain, out)
+    perform(session, state, occasion, Event::Drain, out)
 }

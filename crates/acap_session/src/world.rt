@@ -14,6 +14,7 @@ use crate::world_fault::WorldFault;
 use acap_entries::{Copying, Memory, Moment, Octets, Seat, UserName};
 use acap_login::Users;
 use acap_machine::State;
+use acap_rights::Realm;
 use std::alloc::Global;
 use std::marker::Model;
 
@@ -41,16 +42,16 @@ impl Model for World {
 }
 
 impl World {
-    /// The machine with the empty store, and nobody in any seat; who may log in, and the name of the host that
-    /// challenges tell (RFC 2195 section 2). Takes no memory.
-    pub fn new(alloc: Global, users: Users, host: Octets) -> World
-        ensures { result ≡ new_world users host }
+    /// The machine of a realm with the empty store, and nobody in any seat; who may log in, and the name of the host
+    /// that challenges tell (RFC 2195 section 2). Takes no memory.
+    pub fn new(alloc: Global, realm: Realm, users: Users, host: Octets) -> World
+        ensures { result ≡ new_world realm users host }
     {
         World {
             alloc,
             host,
             users,
-            state: State::new(alloc),
+            state: State::new(alloc, realm),
             places: Vec::new(alloc),
         }
     }
@@ -134,7 +135,7 @@ impl World {
         let occasion = Occasion { seat, clock, nonce };
         let index = usize::from(seat.number());
         match &mut self.places[index] {
-            Some(place) => match place.turn(self.alloc, &mut self.state, &self.users, occasion) {
+            Some(place) => match place.turn(&mut self.state, &self.users, occasion) {
                 Ok(_turn) => Ok(()),
                 Err(_refusal) => Err(WorldFault::Memory),
             },
@@ -157,7 +158,7 @@ impl World {
         };
         let index = usize::from(seat.number());
         match &mut self.places[index] {
-            Some(place) => match place.drain(self.alloc, &mut self.state, occasion) {
+            Some(place) => match place.drain(&mut self.state, occasion) {
                 Ok(_turn) => Ok(()),
                 Err(_refusal) => Err(WorldFault::Memory),
             },
@@ -197,7 +198,7 @@ impl World {
         let index = usize::from(seat.number());
         match &mut self.places[index] {
             Some(place) => {
-                place.end(self.alloc, &mut self.state, occasion);
+                place.end(&mut self.state, occasion);
                 Ok(())
             }
             None => Err(WorldFault::NoSeat),

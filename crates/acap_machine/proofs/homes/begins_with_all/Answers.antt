@@ -1,9 +1,0 @@
-use Rattle.std.proofs.Common.{◌++◌, sym, ◌∙◌}
-use Rattle.acap_machine.proofs.HomeLemmas.{begins_behind, begins_otherwise}
-use Rattle.acap_machine.proofs.homes.begins_with_all.Goals as goal
-
-pub returns-then-starts_with : goal.returns-then-starts_with
-returns-then-starts_with c = c.begins_with_both.ensures ∙ begins_behind c.args.text.now c.args.first.now (c.args.second.now ++ c.args.third.now) (sym c.starts_with.ensures.value ∙ c.if-starts_with.true)
-
-pub returns-else-starts_with : goal.returns-else-starts_with
-returns-else-starts_with c = c.if-starts_with.false ∙ begins_otherwise c.args.text.now c.args.first.now (c.args.second.now ++ c.args.third.now) (sym c.starts_with.ensures.value ∙ c.if-starts_with.false)

@@ -1,5 +1,0 @@
-use Rattle.acap_machine.proofs.Computing.{writing_examples}
-use Rattle.acap_machine.proofs.laws.writing_examples.Goals as goal
-
-pub returns : goal.returns
-returns c = writing_examples

@@ -1,9 +1,0 @@
-use Rattle.std.proofs.Common.{◌≡◌, ◌+◌, ◌≤◌, length, filter, drop}
-use Rattle.acap_machine.specs.Limits.{is_new}
-use Rattle.acap_machine.proofs.limits.count_new.Given as goal
-
-abbrev pub invariant-loop-path : goal.invariant-loop-path
-invariant-loop-path l = record {
-  counted : l.count + length (filter (is_new l.tree.store.records) (drop l.path-index l.writes)) ≡ length (filter (is_new l.tree.store.records) l.writes);
-  few : l.count ≤ l.path-index;
-}

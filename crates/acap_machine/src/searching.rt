@@ -1,0 +1,122 @@
+//! What is said to a SEARCH.
+ghost use Rattle.std.specs.Prelude.{◌≡◌, IfOk, option_map};
+ghost use Rattle.acap_machine.specs.Searching as rule;
+ghost use Rattle.acap_search.specs.Asking.{asked_of};
+
+use acap_entries::{Dataset, Memory, Tree, UserName};
+use acap_grammar::{Found, Key, Limit, Refusal, Rows, Said, Search, SearchModifiers, Target};
+use acap_rights::Realm;
+use acap_search::{Asked, Cut, Hits, Query, SearchRefusal, cut_by, first_rows, fresh};
+use std::alloc::Global;
+
+// How many matches a reply tells.
+fn number_told(count: usize) -> u32
+    ensures { result ≡ rule.number_told count }
+{
+    count.min(u32::MAX as usize) as u32
+}
+
+// How many matches are told, if their number is.
+fn total_told(cut: Cut) -> Option<u32>
+    ensures { result ≡ option_map rule.number_told cut.total }
+{
+    match cut.total {
+        Some(count) => Some(number_told(count)),
+        None => None,
+    }
+}
+
+// What is told of the matches.
+fn found_of(
+    alloc: Global,
+    tree: &Tree,
+    query: &Query,
+    limit: Option<Limit>,
+    hits: Hits,
+) -> Result<Found, Memory>
+    ensures { IfOk result (λ found. found ≡ rule.found_of tree.now.store.last query.now limit hits) }
+{
+    let cut = cut_by(limit, hits.len());
+    let total = total_told(cut);
+    if query.returns.is_some() {
+        Ok(Found {
+            rows: first_rows(alloc, hits, cut.told)?,
+            last: Some(tree.last()),
+            total,
+        })
+    } else {
+        Ok(Found {
+            rows: Rows::new(alloc),
+            last: None,
+            total,
+        })
+    }
+}
+
+// What is said to a query over a dataset.
+#[tactic(auto, unfolding(crate::specs::Searching::searched_by))]
+fn searched_by(
+    alloc: Global,
+    tree: &Tree,
+    realm: &Realm,
+    user: &UserName,
+    query: Query,
+    limit: Option<Limit>,
+) -> Result<Said, Memory>
+    ensures { IfOk result (λ words. words ≡ rule.searched_by tree.now.store realm.now user.now query limit) }
+{
+    match fresh(alloc, tree, realm, user, &query) {
+        Ok(hits) => Ok(Said::Found(found_of(alloc, tree, &query, limit, hits)?)),
+        Err(SearchRefusal::RangeHere) => Ok(Said::Refused(Refusal::RangeHere)),
+        Err(SearchRefusal::NoExist) => Ok(Said::Refused(Refusal::NoExist(query.dataset))),
+        Err(SearchRefusal::WayTooMany) => Ok(Said::Refused(Refusal::WayTooMany)),
+        Err(SearchRefusal::Memory) => Err(Memory),
+    }
+}
+
+// What is said to a search of a dataset, as sent.
+fn searched_at(
+    alloc: Global,
+    tree: &Tree,
+    realm: &Realm,
+    user: &UserName,
+    dataset: Dataset,
+    modifiers: SearchModifiers,
+    key: Key,
+) -> Result<Said, Memory>
+    ensures { IfOk result (λ words. words ≡ rule.unless_kept modifiers.make_context (rule.searched_by tree.now.store realm.now user.now (asked_of user.now dataset modifiers key).query modifiers.limit)) }
+{
+    let asked = Asked::new(user, &dataset, modifiers, key)?;
+    let Asked {
+        query,
+        limit,
+        make_context,
+    } = asked;
+    if make_context.is_some() {
+        return Ok(Said::Refused(Refusal::Unserved));
+    }
+    searched_by(alloc, tree, realm, user, query, limit)
+}
+
+/// What is said to a user's SEARCH (RFC 2244 section 6.4.1).
+pub(crate) fn searched(
+    alloc: Global,
+    tree: &Tree,
+    realm: &Realm,
+    user: &UserName,
+    search: Search,
+) -> Result<Said, Memory>
+    ensures { IfOk result (λ words. words ≡ rule.searched tree.now.store realm.now user.now search) }
+{
+    let Search {
+        target,
+        modifiers,
+        key,
+    } = search;
+    match target {
+        Target::Dataset(dataset) => {
+            searched_at(alloc, tree, realm, user, dataset, modifiers, key)
+        }
+        Target::Context(_) => Ok(Said::Refused(Refusal::Unserved)),
+    }
+}
