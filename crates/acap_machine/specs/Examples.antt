@@ -1,6 +1,6 @@
 -- Examples of what is told of matches, what is served and refused, and what a step of the machine does, by the definitions
 -- alone [RFC 2244 sections 2, 4.1, 6.4.1, 6.6.1 and 6.7].
-use Rattle.std.specs.Prelude.{◌≡◌, ⊥, ℕ, ℤ, List, [], ◌∷◌, map, true, false, Option, None, Some, Result, Ok, Err, codes}
+use Rattle.std.specs.Prelude.{◌≡◌, ℕ, ℤ, List, [], ◌∷◌, map, true, false, Option, None, Some, Result, Ok, Err, codes}
 use Rattle.std.specs.FinMap as table
 use Rattle.acap_entries.specs.Changes.{store_after}
 use Rattle.acap_entries.specs.Store.{Store}

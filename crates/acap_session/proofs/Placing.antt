@@ -5,7 +5,7 @@ use Rattle.acap_session.specs.Places.{Place, Places, place_at, placed, reached, 
 use Rattle.acap_session.specs.Session.{is_closed, session_drain, session_next}
 use Rattle.acap_machine.specs.Machine.{Machine}
 use Rattle.acap_session.specs.Turning.{Scene, scene, WasCut, IsTurn, IsDrain, turn_of, drain_of}
-use Rattle.acap_session.specs.World.{World, Deed, said_before, taken_from, output_taken, begun_at, opened_at, HasBegun, WasCutFirst, IsStep, IsCutAt, Makes, Feeds, Leaves, Opens, room_of, with_octets, at_open, did, open_at, scene_of, with_scene, takes, ends}
+use Rattle.acap_session.specs.World.{World, Deed, said_before, taken_from, output_taken, begun_at, opened_at, HasBegun, WasCutFirst, IsStep, IsCutAt, Makes, Turns, HasTurnedAt, went_on, Feeds, Leaves, Opens, room_of, with_octets, at_open, did, open_at, scene_of, with_scene, takes, ends}
 use Rattle.acap_session.specs.World as world
 use Rattle.acap_session.specs.Talking.{Talking, begun}
 use Rattle.acap_session.specs.declared.occasion.Occasion.{Occasion}
@@ -68,10 +68,6 @@ not_open w k e = none_case (open_at w k) e
 
 -- ---- the steps
 
-pub turn_step : (w : World) (o : Occasion) (place : Place) (came : turned.Turn) (s : Scene) → open_at w o.seat ≡ Some place → IsTurn w.users o (scene_of w place) came s → IsStep o world.Turn w (with_scene w o.seat s)
-unfolding did
-turn_step w o place came s e t = record { refused = t.refused; is = ap (λ (p : turned.Turn × Scene). with_scene w o.seat p.1) t.is ∙ sym (ap (λ x. at_open w o.seat (λ s. (turn_of w.users o t.refused s).1) x) e) }
-
 pub drain_step : (w : World) (o : Occasion) (place : Place) (came : turned.Turn) (s : Scene) → open_at w o.seat ≡ Some place → IsDrain o (scene_of w place) came s → IsStep o world.Drain w (with_scene w o.seat s)
 unfolding did
 drain_step w o place came s e t = record { refused = t.refused; is = ap (λ (p : turned.Turn × Scene). with_scene w o.seat p.1) t.is ∙ sym (ap (λ x. at_open w o.seat (λ s. (drain_of o t.refused s).1) x) e) }
@@ -101,11 +97,22 @@ put_is w m i k p e g = ap (λ xs. record w { machine = m; places = xs }) (ap (λ
 pub is_within : (w : World) (i k : ℕ) → i ≡ k → true ≡ is_some (open_at w k) → i < length w.places
 is_within w i k e g = subst (λ n. n < length w.places) (sym e) (within w.places k g)
 
-pub turn_made : (old w v : World) (o : Occasion) (place : Place) (x : turned.Turn) (s : Scene) (out : Result (Unit {0}) WorldFault) (u : Unit {0}) → w ≡ old → open_at w o.seat ≡ Some place → v ≡ with_scene w o.seat s → out ≡ Ok u → IsTurn w.users o (scene_of w place) x s → Makes o world.Turn (λ p. session_next old.users o.nonce o.clock p.talk) old v out
-turn_made old w v o place x s out u same e f g t = subst (λ (y : World). Makes o world.Turn (λ p. session_next y.users o.nonce o.clock p.talk) y v out) same (subst (λ r. Makes o world.Turn (λ p. session_next w.users o.nonce o.clock p.talk) w v r) (sym g) (is_there w o.seat place e, subst (λ z. IsStep o world.Turn w z) (sym f) (turn_step w o place x s e t)))
+turned_at : (w v : World) (o : Occasion) (place : Place) (x : turned.Turn) (s : Scene) (goes : Bool) → open_at w o.seat ≡ Some place → v ≡ with_scene w o.seat s → goes ≡ went_on x → IsTurn w.users o (scene_of w place) x s → HasTurnedAt o goes w v
+unfolding did
+turned_at w v o place x s goes e f g t =
+    record {
+      place = place;
+      there = e;
+      refused = t.refused;
+      is = f ∙ (ap (λ (p : turned.Turn × Scene). with_scene w o.seat p.1) t.is ∙ sym (ap (λ x. at_open w o.seat (λ s. (turn_of w.users o t.refused s).1) x) e));
+      came = g ∙ ap (λ (p : turned.Turn × Scene). went_on p.0) t.is;
+    }
 
-pub turn_cut : (old w v : World) (o : Occasion) (place : Place) (s : Scene) (out : Result (Unit {0}) WorldFault) → w ≡ old → open_at w o.seat ≡ Some place → v ≡ with_scene w o.seat s → out ≡ Err faults.Memory → WasCut o (scene_of w place) (session_next w.users o.nonce o.clock place.talk) s → Makes o world.Turn (λ p. session_next old.users o.nonce o.clock p.talk) old v out
-turn_cut old w v o place s out same e f g t = subst (λ (y : World). Makes o world.Turn (λ p. session_next y.users o.nonce o.clock p.talk) y v out) same (subst (λ r. Makes o world.Turn (λ p. session_next w.users o.nonce o.clock p.talk) w v r) (sym g) (place, e, record { after = s; cut = t; is = f }))
+pub turn_made : (old w v : World) (o : Occasion) (place : Place) (x : turned.Turn) (s : Scene) (goes : Bool) (out : Result Bool WorldFault) → w ≡ old → open_at w o.seat ≡ Some place → v ≡ with_scene w o.seat s → out ≡ Ok goes → goes ≡ went_on x → IsTurn w.users o (scene_of w place) x s → Turns o old v out
+turn_made old w v o place x s goes out same e f g h t = subst (λ (y : World). Turns o y v out) same (subst (λ r. Turns o w v r) (sym g) (turned_at w v o place x s goes e f h t))
+
+pub turn_cut : (old w v : World) (o : Occasion) (place : Place) (s : Scene) (out : Result Bool WorldFault) → w ≡ old → open_at w o.seat ≡ Some place → v ≡ with_scene w o.seat s → out ≡ Err faults.Memory → WasCut o (scene_of w place) (session_next w.users o.nonce o.clock place.talk) s → Turns o old v out
+turn_cut old w v o place s out same e f g t = subst (λ (y : World). Turns o y v out) same (subst (λ r. Turns o w v r) (sym g) (place, e, record { after = s; cut = t; is = f }))
 
 pub drain_made : (old w v : World) (o : Occasion) (place : Place) (x : turned.Turn) (s : Scene) (out : Result (Unit {0}) WorldFault) (u : Unit {0}) → w ≡ old → open_at w o.seat ≡ Some place → v ≡ with_scene w o.seat s → out ≡ Ok u → IsDrain o (scene_of w place) x s → Makes o world.Drain (λ p. session_drain p.talk) old v out
 drain_made old w v o place x s out u same e f g t = subst (λ (y : World). Makes o world.Drain (λ p. session_drain p.talk) y v out) same (subst (λ r. Makes o world.Drain (λ p. session_drain p.talk) w v r) (sym g) (is_there w o.seat place e, subst (λ z. IsStep o world.Drain w z) (sym f) (drain_step w o place x s e t)))

@@ -1,6 +1,6 @@
 -- The world: one machine, and the sessions of its seats. Its steps, and what a list of them comes to
 -- [RFC 2244 section 2].
-use Rattle.std.specs.Prelude.{◌≡◌, ◌⊎◌, ◌-◌, ℕ, List, [], ◌∷◌, ◌++◌, length, take, min, Bool, Option, Some, None, Result, Ok, Err, IsSome}
+use Rattle.std.specs.Prelude.{◌≡◌, ◌⊎◌, ◌-◌, ℕ, List, [], ◌∷◌, ◌++◌, length, take, min, Bool, true, false, Option, Some, None, Result, Ok, Err, IsSome}
 use Rattle.acap_lexer.specs.Holding.{held_limit}
 use Rattle.acap_login.specs.Login.{User}
 use Rattle.acap_machine.specs.Machine.{Machine, new_machine}
@@ -13,6 +13,7 @@ use Rattle.acap_session.specs.declared.next.Next.{Next}
 use Rattle.acap_session.specs.declared.occasion.Occasion.{Occasion}
 use Rattle.acap_session.specs.declared.stage.Stage.TheVariants as stage
 use Rattle.acap_session.specs.declared.turn.Turn.{Turn as Came}
+use Rattle.acap_session.specs.declared.turn.Turn.TheVariants as came
 use Rattle.acap_session.specs.declared.world_fault.WorldFault.{WorldFault}
 use Rattle.acap_session.specs.declared.world_fault.WorldFault.TheVariants as faults
 
@@ -127,6 +128,24 @@ Makes o deed next old new (Err faults.Memory) = (place : Place) × (open_at old 
 -- what stands at a seat where a session opens, before its first turn
 abbrev pub begun_at : World → ℕ → Option (List ℕ) → Place
 begun_at w seat user = record { talk = begun w.host user; out = said_before (place_at w.places seat) }
+
+-- whether a turn came to anything, so that another may
+abbrev pub went_on : Came → Bool
+went_on came.More = false
+went_on came.Said = true
+went_on came.Closed = true
+
+-- what a turn of a seat's session answers and leaves
+pub record HasTurnedAt (o : Occasion) (goes : Bool) (old new : World) : Type 0 where
+  pub place : Place
+  pub there : open_at old o.seat ≡ Some place
+  pub refused : Bool
+  pub is : new ≡ did o refused Turn old
+  pub came : goes ≡ went_on (turn_of old.users o refused (scene_of old place)).0
+
+abbrev pub Turns : Occasion → World → World → Result Bool WorldFault → Type 0
+Turns o old new (Ok goes) = HasTurnedAt o goes old new
+Turns o old new (Err fault) = Makes o Turn (λ place. session_next old.users o.nonce o.clock place.talk) old new (Err fault)
 
 -- what the opening of a session answers and leaves: where memory is refused nothing was done, or the session is closed
 abbrev pub Opens : Occasion → Option (List ℕ) → World → World → Result (Unit {0}) WorldFault → Type 0

@@ -34,6 +34,13 @@ fn always() -> Occasion
     }
 }
 
+// A realm in which nobody is an administrator.
+fn without_administrators(alloc: Global) -> Realm
+    ensures { result ≡ piping.without_administrators }
+{
+    Realm::new(Vec::new(alloc))
+}
+
 // Makes all turns that can be made, and adds what they say.
 fn settle(
     session: &mut Session,
@@ -174,7 +181,7 @@ pub fn run_pipe<R: Read, W: Write>(
     let host = Octets::from_slice(alloc, b"localhost")?;
     let users = Users::new(Vec::new(alloc));
     let mut session = Session::new(alloc, host, Some(user));
-    let mut state = State::new(alloc, Realm::new(Vec::new(alloc)));
+    let mut state = State::new(alloc, without_administrators(alloc));
     let mut out = Vec::new(alloc);
     enter(&mut session, &mut state, &users, &mut out)?;
     send(writer, &mut out)?;

@@ -1,5 +1,8 @@
 //! What a turn of a session came to.
 
+ghost use Rattle.std.specs.Prelude.{◌≡◌};
+ghost use Rattle.acap_session.specs.World.{went_on};
+
 /// What a turn of a session came to.
 #[derive(Clone, Copy, Debug, PartialEq, Eq)]
 pub(crate) enum Turn {
@@ -9,4 +12,17 @@ pub(crate) enum Turn {
     Said,
     /// Something was said, and the session is over.
     Closed,
+}
+
+impl Turn {
+    /// Whether it came to anything, so that another may.
+    pub(crate) fn went_on(self) -> bool
+        ensures { result ≡ went_on self }
+    {
+        match self {
+            Turn::More => false,
+            Turn::Said => true,
+            Turn::Closed => true,
+        }
+    }
 }

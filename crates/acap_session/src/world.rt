@@ -2,9 +2,9 @@
 
 ghost use Rattle.std.specs.Prelude.{◌≡◌, ◌↔◌, ◌<◌, [], length, true, is_some, pos, Some, None, Err, Ok, IfOk, IfErr, OnOk, OnErr, IsSome, IsNone};
 ghost use Rattle.acap_session.specs.Places.{place_at};
-ghost use Rattle.acap_session.specs.Session.{session_drain, session_next};
+ghost use Rattle.acap_session.specs.Session.{session_drain};
 ghost use Rattle.acap_session.specs.World as world;
-ghost use Rattle.acap_session.specs.World.{Feeds, Leaves, Makes, Opens, new_world, open_at, output_taken, said_before};
+ghost use Rattle.acap_session.specs.World.{Feeds, Leaves, Makes, Opens, Turns, new_world, open_at, output_taken, said_before};
 ghost use Rattle.acap_session.specs.declared.world_fault.WorldFault.TheVariants as faults;
 
 use crate::occasion::Occasion;
@@ -124,10 +124,11 @@ impl World {
         }
     }
 
-    /// Makes one turn of a seat's session, and keeps what it says. `NoSeat` where none is open there; where memory is
-    /// refused to the session it is closed, and an event that it had asked stands.
-    pub fn turn(&mut self, seat: Seat, clock: Moment, nonce: u64) -> Result<(), WorldFault>
-        ensures { Makes (record { seat = seat; clock = clock; nonce = nonce }) world.Turn (λ place. session_next self.old.users nonce clock place.talk) self.old self.new result }
+    /// Makes one turn of a seat's session, keeps what it says, and tells whether it came to anything: where it didn't, more
+    /// octets are needed. `NoSeat` where none is open there; where memory is refused to the session it is closed, and an
+    /// event that it had asked stands.
+    pub fn turn(&mut self, seat: Seat, clock: Moment, nonce: u64) -> Result<bool, WorldFault>
+        ensures { Turns (record { seat = seat; clock = clock; nonce = nonce }) self.old self.new result }
     {
         if !self.is_open(seat) {
             return Err(WorldFault::NoSeat);
@@ -136,7 +137,7 @@ impl World {
         let index = usize::from(seat.number());
         match &mut self.places[index] {
             Some(place) => match place.turn(&mut self.state, &self.users, occasion) {
-                Ok(_turn) => Ok(()),
+                Ok(turn) => Ok(turn.went_on()),
                 Err(_refusal) => Err(WorldFault::Memory),
             },
             None => Err(WorldFault::NoSeat),
