@@ -4,8 +4,6 @@
 #[cfg(test)]
 mod entries;
 #[cfg(test)]
-mod grammar;
-#[cfg(test)]
 mod lexer;
 #[cfg(test)]
 mod machine;

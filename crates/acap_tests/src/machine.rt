@@ -1,283 +1,378 @@
-//! Tests of acap_machine through its public calls.
+//! Tests of the machine: users at their seats, the clock, copies, runs, and events that are refused memory.
 ghost use Rattle.std.specs.Prelude.{◌<◌};
 
-use acap_entries::{
-    Attribute, Boxed, Cell, Dataset, Memory, Moment, Octets, Path, Seat, Tree, UserName, Value,
-    makes_dataset, split_path,
-};
-use acap_grammar::{
-    Command, Entries, Given, Key, Metadata, MetadataList, Reply, ReturnItem, ReturnName, Returns,
-    Search, SearchModifiers, StoreEntry, StoreItem, StoreItems, StoreMetadata, StoreModifiers,
-    Target, Test, render,
-};
-use acap_machine::{Event, Fault, State};
+use acap_entries::{Copying, Memory, Moment, Seat, UserName};
+use acap_grammar::{Command, GrammarFault, Reply, parse, render};
+use acap_lexer::{Lexed, Lexer, Mode};
+use acap_machine::{Event, Fault, Outcomes, State, Step, Steps, run};
+use acap_rights::Realm;
 use std::alloc::Global;
 
-mod changes;
-mod events;
-mod memory;
+/// An event as a test writes it, its seat, what the clock shows, and what is said to it.
+type Line = (u8, i64, &'static [u8], &'static [u8]);
 
-pub(crate) const HELLO: &[u8] =
+const HELLO: &[u8] =
     b"* ACAP (IMPLEMENTATION \"acapd\") (SASL \"CRAM-MD5\") (CONTEXTLIMIT \"200\")\r\n";
 
-pub(crate) const STORED: &[u8] = b"A1 OK \"STORE done\"\r\n";
+// What stands for the faults that refuse no memory.
+const NOBODY: &[u8] = b"not entered";
 
-pub(crate) const UNSERVED: &[u8] = b"A1 BAD \"Not served yet\"\r\n";
-
-pub(crate) const LIMIT: &[u8] = b"A1 NO \"Limit reached\"\r\n";
-
-pub(crate) const CLOCK_END: &[u8] = b"A1 NO \"Clock at its end\"\r\n";
-
-pub(crate) const NO_DATASET: &[u8] =
-    b"A1 NO (NOEXIST \"/option/user/joe/\") \"No such dataset\"\r\n";
-
-// The user's own dataset as it is sent and as it is meant, three entries of it, and an entry that isn't the user's.
-pub(crate) const HOME: &[u8] = b"/option/~/";
-
-pub(crate) const OWN: &[u8] = b"/option/user/joe/";
-
-pub(crate) const FONT: &[u8] = b"/option/~/font";
-
-pub(crate) const SIZE: &[u8] = b"/option/~/size";
-
-pub(crate) const NEW: &[u8] = b"/option/~/n";
-
-pub(crate) const SITE: &[u8] = b"/option/site/b";
+const TAKEN: &[u8] = b"already entered";
 
 // The last of all moments.
-pub(crate) const LAST: i64 = 253_402_300_799_999_999;
+const LAST: i64 = 253_402_300_799_999_999;
 
-// The seat with that number.
+/// The seat with that number.
 pub(crate) fn seat(number: u8) -> Seat
     requires { number < 64 }
 {
     Seat::new(number).unwrap()
 }
 
-// The moment so many microseconds after the start of 1970.
+/// The moment so many microseconds after the start of 1970.
 pub(crate) fn moment(micros: i64) -> Moment {
     Moment::new(micros).unwrap_or(Moment::first())
 }
 
-// A text of that many letters.
-pub(crate) fn letters(alloc: Global, count: usize) -> Result<Vec<u8>, Memory> {
-    let mut text = Vec::new(alloc);
-    for _ in 0..count {
-        text.push(b'a')?;
+// What the tokens of a line come to.
+fn command_of(alloc: Global, line: &[u8]) -> Result<Command, GrammarFault> {
+    let mut lexer = Lexer::new(alloc);
+    if lexer.push(line).is_err() || lexer.push(b"\r\n").is_err() {
+        return Err(GrammarFault::Memory);
     }
-    Ok(text)
-}
-
-// A user takes a seat.
-pub(crate) fn enter(alloc: Global, user: &[u8]) -> Result<Event, Memory> {
-    Ok(Event::Enter(UserName::from_slice(alloc, user)?))
-}
-
-// An attribute is given a cell.
-fn item(alloc: Global, attribute: &[u8], cell: Cell) -> Result<StoreItem, Memory> {
-    let attribute = Attribute::from_slice(alloc, attribute)?;
-    let given = Given::Put(cell);
-    Ok(StoreItem {
-        attribute,
-        metadata: StoreMetadata::Value,
-        given,
-    })
-}
-
-// An attribute is given a string.
-fn item_of(alloc: Global, attribute: &[u8], text: &[u8]) -> Result<StoreItem, Memory> {
-    item(
-        alloc,
-        attribute,
-        Cell::Single(Value::from_slice(alloc, text)?),
-    )
-}
-
-// An entry at a path, whose dataset is all through the last `/`.
-fn entry(alloc: Global, path: &[u8], items: StoreItems) -> Result<StoreEntry, Memory> {
-    let (dataset, name) = split_path(path);
-    let path = Path::from_slices(alloc, dataset, name).map_err(|_| Memory)?;
-    Ok(StoreEntry {
-        path,
-        modifiers: StoreModifiers::none(),
-        items,
-    })
-}
-
-// A STORE of one entry.
-fn put_items(alloc: Global, path: &[u8], items: StoreItems) -> Result<Event, Memory> {
-    let mut made = Entries::new(alloc);
-    made.push(entry(alloc, path, items)?)?;
-    Ok(Event::Command(Command::Store(made)))
-}
-
-// A STORE of one entry, whose attributes are given strings.
-pub(crate) fn give(alloc: Global, path: &[u8], items: &[(&[u8], &[u8])]) -> Result<Event, Memory> {
-    let mut made = StoreItems::new(alloc);
-    for (attribute, text) in items {
-        made.push(item_of(alloc, attribute, text)?)?;
+    match lexer.next(Mode::Command) {
+        Ok(Lexed::Line(tokens)) => parse(alloc, &tokens),
+        _ => Err(GrammarFault::Memory),
     }
-    put_items(alloc, path, made)
 }
 
-// A STORE of one entry with that many attributes, from `0` on.
-pub(crate) fn give_many(alloc: Global, path: &[u8], count: u32) -> Result<Event, Memory> {
-    let mut made = StoreItems::new(alloc);
-    for number in 0..count {
-        let name = number.to_string(alloc)?;
-        made.push(item_of(alloc, name.as_bytes(), b"x")?)?;
+// The event of a text: `enter` and a user's name, `drain`, `leave`, or a command's line.
+fn event_of(alloc: Global, text: &[u8]) -> Result<Event, Fault> {
+    if let Some(user) = text.strip_prefix(b"enter ") {
+        return Ok(Event::Enter(UserName::from_slice(alloc, user)?));
     }
-    put_items(alloc, path, made)
-}
-
-// A STORE of entries with one attribute each.
-pub(crate) fn put(alloc: Global, entries: &[(&[u8], &[u8], &[u8])]) -> Result<Event, Memory> {
-    let mut made = Entries::new(alloc);
-    for (path, attribute, text) in entries {
-        let mut items = StoreItems::new(alloc);
-        items.push(item_of(alloc, attribute, text)?)?;
-        made.push(entry(alloc, path, items)?)?;
+    if text == b"drain".as_slice() {
+        return Ok(Event::Drain);
     }
-    Ok(Event::Command(Command::Store(made)))
-}
-
-// An item of RETURN that asks for the value of an attribute.
-fn return_item(alloc: Global, text: &[u8]) -> Result<ReturnItem, Memory> {
-    let name = ReturnName::Named(Attribute::from_slice(alloc, text)?);
-    let mut metadata = MetadataList::new(alloc);
-    metadata.push(Metadata::Value)?;
-    Ok(ReturnItem { name, metadata })
-}
-
-// The items of a RETURN that asks for the values of attributes.
-fn attributes(alloc: Global, texts: &[&[u8]]) -> Result<Returns, Memory> {
-    let mut made = Returns::new(alloc);
-    for text in texts {
-        made.push(return_item(alloc, text)?)?;
+    if text == b"leave".as_slice() {
+        return Ok(Event::Leave);
     }
-    Ok(made)
-}
-
-// A SEARCH of a dataset with ALL, and with a RETURN where one is given.
-pub(crate) fn search(
-    alloc: Global,
-    dataset: &[u8],
-    returns: Option<&[&[u8]]>,
-) -> Result<Event, Memory> {
-    let returns = match returns {
-        Some(texts) => Some(attributes(alloc, texts)?),
-        None => None,
-    };
-    let target = Target::Dataset(Dataset::from_slice(alloc, dataset).map_err(|_| Memory)?);
-    let modifiers = SearchModifiers {
-        returns,
-        ..SearchModifiers::none()
-    };
-    let search = Search {
-        target,
-        modifiers,
-        key: Key::one(Test::All),
-    };
-    Ok(Event::Command(Command::Search(Boxed::new(alloc, search)?)))
-}
-
-// Whether a reply is printed so under A1.
-pub(crate) fn prints(alloc: Global, reply: Reply, text: &[u8]) -> Result<bool, Memory> {
-    let reply = reply.under(Octets::from_slice(alloc, b"A1")?);
-    let mut out = Vec::new(alloc);
-    render(&reply, &mut out)?;
-    Ok(out.as_slice() == text)
-}
-
-// Whether an event of seat 0 is answered so.
-pub(crate) fn says(
-    alloc: Global,
-    state: &mut State,
-    event: Event,
-    clock: i64,
-    text: &[u8],
-) -> Result<bool, Fault> {
-    let reply = state.step(alloc, seat(0), event, moment(clock))?;
-    Ok(prints(alloc, reply, text)?)
-}
-
-// Whether a STORE of entries with one attribute each is answered so.
-pub(crate) fn stores(
-    alloc: Global,
-    state: &mut State,
-    clock: i64,
-    entries: &[(&[u8], &[u8], &[u8])],
-    text: &[u8],
-) -> Result<bool, Fault> {
-    let event = put(alloc, entries)?;
-    says(alloc, state, event, clock, text)
-}
-
-// Whether a SEARCH is answered so.
-pub(crate) fn finds(
-    alloc: Global,
-    state: &mut State,
-    dataset: &[u8],
-    returns: Option<&[&[u8]]>,
-    text: &[u8],
-) -> Result<bool, Fault> {
-    let event = search(alloc, dataset, returns)?;
-    says(alloc, state, event, 0, text)
-}
-
-// An empty store, and joe at seat 0.
-pub(crate) fn joined(alloc: Global) -> Result<State, Fault> {
-    let mut state = State::new(alloc);
-    let event = enter(alloc, b"joe")?;
-    let _greeting = state.step(alloc, seat(0), event, moment(0))?;
-    Ok(state)
-}
-
-// Whether an empty store refuses a STORE so, and stays empty.
-pub(crate) fn refuses(alloc: Global, event: Event, text: &[u8]) -> Result<bool, Fault> {
-    let mut state = joined(alloc)?;
-    let refused = says(alloc, &mut state, event, 0, text)?;
-    let empty = finds(alloc, &mut state, HOME, Some(&[]), NO_DATASET)?;
-    Ok(refused && empty && state.tree().len() == 0 && state.tree().last() == Moment::first())
-}
-
-// Whether an empty store makes a STORE, and how many cells the entry at a path has then.
-pub(crate) fn cells_after(
-    alloc: Global,
-    event: Event,
-    name: &[u8],
-) -> Result<Option<usize>, Fault> {
-    let mut state = joined(alloc)?;
-    if !says(alloc, &mut state, event, 0, STORED)? {
-        return Ok(None);
+    match command_of(alloc, text) {
+        Ok(command) => Ok(Event::Command(command)),
+        Err(_) => Err(Fault::Memory),
     }
-    Ok(cell_count(state.tree(), OWN, name))
 }
 
-// How many cells the entry at a path has, if there is one.
-pub(crate) fn cell_count(tree: &Tree, dataset: &[u8], name: &[u8]) -> Option<usize> {
-    let record = tree.find(dataset, name)?;
-    Some(record.cells.len())
-}
-
-// Whether the entry makes the dataset of its name, has nothing else, and was last written at that moment.
-pub(crate) fn is_made(tree: &Tree, dataset: &[u8], name: &[u8], micros: i64) -> bool {
-    match tree.find(dataset, name) {
-        Some(record) => {
-            makes_dataset(record) && record.cells.len() == 1 && record.modtime == moment(micros)
+// A reply as it is printed, once more where memory is refused.
+fn printed(alloc: Global, reply: &Reply) -> Result<Vec<u8>, Memory> {
+    for _ in 0..2u32 {
+        let mut out = Vec::new(alloc);
+        if render(reply, &mut out).is_ok() {
+            return Ok(out);
         }
-        None => false,
+    }
+    Err(Memory)
+}
+
+// What is said to an event of a seat. A seat over 63 is 63.
+fn said_to(alloc: Global, state: &mut State, line: &Line) -> Result<Vec<u8>, Fault> {
+    let (number, clock, text, _) = *line;
+    let event = event_of(alloc, text)?;
+    let reply = state.step(seat(number.min(63)), event, moment(clock))?;
+    Ok(printed(alloc, &reply)?)
+}
+
+// Whether an answer is that text, or the fault that the text stands for.
+fn is_said(answer: Result<Vec<u8>, Fault>, text: &[u8]) -> bool {
+    match answer {
+        Ok(said) => said.as_slice() == text,
+        Err(Fault::NotEntered) => text == NOBODY,
+        Err(Fault::AlreadyEntered) => text == TAKEN,
+        Err(_) => false,
     }
 }
 
-// Whether the entry has that string as its `k`, and was last written at that moment.
-pub(crate) fn holds(tree: &Tree, dataset: &[u8], name: &[u8], text: &[u8], micros: i64) -> bool {
-    let Some(record) = tree.find(dataset, name) else {
-        return false;
-    };
-    let kept = match record.cells.find(b"k") {
-        Some(Cell::Single(value)) => value.as_slice() == text,
-        _ => false,
-    };
-    kept && record.present && record.modtime == moment(micros)
+// Whether an event is answered so, at once or, where memory is refused, when it comes once more; the refusal leaves
+// the store as it was.
+fn answers(alloc: Global, state: &mut State, line: &Line) -> bool {
+    let (count, last) = (state.tree().len(), state.tree().last());
+    match said_to(alloc, state, line) {
+        Err(Fault::Memory) => {
+            let kept = state.tree().len() == count && state.tree().last() == last;
+            kept && is_said(said_to(alloc, state, line), line.3)
+        }
+        answer => is_said(answer, line.3),
+    }
+}
+
+// The first of the events that is answered in another way, if one is.
+fn first_wrong(alloc: Global, state: &mut State, lines: &[Line]) -> Option<&'static [u8]> {
+    for line in lines {
+        if !answers(alloc, state, line) {
+            return Some(line.2);
+        }
+    }
+    None
+}
+
+// An empty machine without administrators.
+fn empty(alloc: Global) -> State {
+    State::new(alloc, Realm::new(Vec::new(alloc)))
+}
+
+// A seat that nobody has answers to nothing but a user who enters, and one that somebody has may not be entered.
+#[test]
+fn seats_one_user_at_a_time(rt: HostRuntime) {
+    let lines: [Line; 13] = [
+        (0, 0, b"A1 NOOP", NOBODY),
+        (0, 0, b"drain", NOBODY),
+        (0, 0, b"leave", NOBODY),
+        (0, 0, b"enter joe", HELLO),
+        (0, 0, b"enter ann", TAKEN),
+        (63, 0, b"enter ann", HELLO),
+        (0, 0, b"drain", b""),
+        (0, 0, b"A1 NOOP", b"* OK \"NOOP done\"\r\n"),
+        (
+            0,
+            0,
+            b"A1 LOGOUT",
+            b"* BYE \"Good bye\"\r\n* OK \"LOGOUT done\"\r\n",
+        ),
+        (0, 0, b"leave", b""),
+        (0, 0, b"leave", NOBODY),
+        (0, 0, b"enter ann", HELLO),
+        (63, 0, b"drain", b""),
+    ];
+    assert_eq!(rt;
+        first_wrong(rt.alloc(), &mut empty(rt.alloc()), &lines),
+        None
+    );
+}
+
+// Two users, each with a `~` of their own, at clocks that differ.
+const USERS: [Line; 4] = [
+    (1, 0, b"enter joe", HELLO),
+    (2, 0, b"enter ann", HELLO),
+    (
+        1,
+        3,
+        b"A1 STORE (\"/option/~/font\" \"k\" \"mono\")",
+        b"* OK \"STORE done\"\r\n",
+    ),
+    (
+        2,
+        9,
+        b"A2 STORE (\"/option/~/font\" \"k\" \"serif\")",
+        b"* OK \"STORE done\"\r\n",
+    ),
+];
+
+// What the two of them find and store then, one of whom lets the other see what is there.
+const SHARING: [Line; 6] = [
+    (
+        1,
+        0,
+        b"A1 SEARCH \"/option/~/\" RETURN (\"k\" \"modtime\") ALL",
+        b"* ENTRY \"font\" \"mono\" \"19700101000000000003\"\r\n* MODTIME \"19700101000000000009\"\r\n* OK \"SEARCH done\"\r\n",
+    ),
+    (
+        2,
+        0,
+        b"A2 SEARCH \"/option/~/\" RETURN (\"k\" \"modtime\") ALL",
+        b"* ENTRY \"font\" \"serif\" \"19700101000000000009\"\r\n* MODTIME \"19700101000000000009\"\r\n* OK \"SEARCH done\"\r\n",
+    ),
+    (
+        2,
+        0,
+        b"A2 SEARCH \"/option/user/joe/\" RETURN (\"k\") ALL",
+        b"* MODTIME \"19700101000000000009\"\r\n* OK \"SEARCH done\"\r\n",
+    ),
+    (
+        1,
+        0,
+        b"A1 SETACL (\"/option/~/\") \"ann\" \"r\"",
+        b"* OK \"SETACL done\"\r\n",
+    ),
+    (
+        2,
+        0,
+        b"A2 SEARCH \"/option/user/joe/\" RETURN (\"k\") ALL",
+        b"* ENTRY \"\" NIL\r\n* ENTRY \"font\" \"mono\"\r\n* MODTIME \"19700101000000000010\"\r\n* OK \"SEARCH done\"\r\n",
+    ),
+    (
+        2,
+        0,
+        b"A2 STORE (\"/option/user/joe/font\" \"k\" \"x\")",
+        b"* NO (PERMISSION (\"/option/user/joe/\" \"k\" \"font\")) \"Permission denied\"\r\n",
+    ),
+];
+
+#[test]
+fn serves_two_users(rt: HostRuntime) {
+    let mut state = empty(rt.alloc());
+    assert_eq!(rt; first_wrong(rt.alloc(), &mut state, &USERS), None);
+    assert_eq!(rt; first_wrong(rt.alloc(), &mut state, &SHARING), None);
+}
+
+// A copy goes its own way: what is done to the one isn't done to the other.
+#[test]
+fn copies_the_machine(rt: HostRuntime) {
+    let mut state = empty(rt.alloc());
+    assert_eq!(rt; first_wrong(rt.alloc(), &mut state, &USERS), None);
+    if let Ok(mut copied) = state.copy() {
+        assert_eq!(rt; first_wrong(rt.alloc(), &mut copied, &SHARING), None);
+        assert!(rt; copied.tree().last() == moment(10) && state.tree().last() == moment(9));
+        assert_eq!(rt; first_wrong(rt.alloc(), &mut state, &SHARING), None);
+    }
+}
+
+// A machine whose administrator is root.
+fn administered(alloc: Global) -> Result<State, Memory> {
+    let mut names = Vec::new(alloc);
+    names.push(UserName::from_slice(alloc, b"root")?)?;
+    Ok(State::new(alloc, Realm::new(names)))
+}
+
+// An administrator stores where others may not.
+#[test]
+fn knows_administrators(rt: HostRuntime) {
+    let lines: [Line; 4] = [
+        (0, 0, b"enter root", HELLO),
+        (1, 0, b"enter joe", HELLO),
+        (
+            0,
+            0,
+            b"A1 STORE (\"/option/site/b\" \"k\" \"x\")",
+            b"* OK \"STORE done\"\r\n",
+        ),
+        (
+            1,
+            0,
+            b"A2 STORE (\"/option/site/b\" \"k\" \"x\")",
+            b"* NO (PERMISSION (\"/option/site/\" \"k\" \"b\")) \"Permission denied\"\r\n",
+        ),
+    ];
+    if let Ok(mut state) = administered(rt.alloc()) {
+        assert_eq!(rt; first_wrong(rt.alloc(), &mut state, &lines), None);
+        assert_eq!(rt; state.realm().administrators.len(), 1);
+    }
+}
+
+// Each change is later than the one before it, also where the clock goes back; behind the last moment there is none.
+#[test]
+fn goes_forward(rt: HostRuntime) {
+    let store: &[u8] = b"A1 STORE (\"/option/~/n\" \"k\" \"x\")";
+    let search: &[u8] = b"A1 SEARCH \"/option/~/\" RETURN () ALL";
+    let stored: &[u8] = b"* OK \"STORE done\"\r\n";
+    let lines: [Line; 9] = [
+        (0, 0, b"enter joe", HELLO),
+        (0, 1_000, store, stored),
+        (0, 500, store, stored),
+        (0, -62_167_219_200_000_000, store, stored),
+        (
+            0,
+            5_000,
+            search,
+            b"* ENTRY \"n\"\r\n* MODTIME \"19700101000000001002\"\r\n* OK \"SEARCH done\"\r\n",
+        ),
+        (0, LAST, store, stored),
+        (0, LAST, store, b"* NO \"Clock at its end\"\r\n"),
+        (0, 0, store, b"* NO \"Clock at its end\"\r\n"),
+        (
+            0,
+            0,
+            search,
+            b"* ENTRY \"n\"\r\n* MODTIME \"99991231235959999999\"\r\n* OK \"SEARCH done\"\r\n",
+        ),
+    ];
+    assert_eq!(rt;
+        first_wrong(rt.alloc(), &mut empty(rt.alloc()), &lines),
+        None
+    );
+}
+
+// Commands with all that they can have, whose texts are sought where memory may be refused.
+const LONG: [Line; 5] = [
+    (0, 0, b"enter joe", HELLO),
+    (
+        0,
+        0,
+        b"A1 STORE (\"/option/~/font\" UNCHANGEDSINCE \"20000229235960\" \"b\" (\"acl\" (\"joe\trw\") \"value\" (\"x\" \"y\" {1+}\r\nz)) \"d\" NIL) (\"/option/~/a/\" \"e\" (\"acl\" (\"joe\tr\")) \"f\" DEFAULT)",
+        b"* OK \"STORE done\"\r\n",
+    ),
+    (
+        0,
+        0,
+        b"A1 SEARCH \"/option/~\" DEPTH 2 HARDLIMIT 5 LIMIT 3 4 NOINHERIT RETURN (\"b\" \"a*\" (\"size\" \"acl\") \"*\") SORT (\"b\" \"-i;octet\" \"c\" \"i;ascii-numeric\") AND OR NOT ALL EQUAL \"b\" \"i;octet\" \"x\" AND NOT EQUAL \"d\" \"i;octet\" {3+}\r\nx\0y OR PREFIX \"b\" \"i;ascii-casemap\" \"Y\" EQUAL \"d\" \"i;octet\" NIL",
+        b"* ENTRY \"/option/user/joe/font\" (\"x\" \"y\" \"z\") () ((\"b\" (\"x\" \"y\" \"z\")) (\"entry\" \"font\") (\"modtime\" \"19700101000000000000\"))\r\n* MODTIME \"19700101000000000000\"\r\n* OK \"SEARCH done\"\r\n",
+    ),
+    (
+        0,
+        0,
+        b"A1 SETACL (\"/option/~\" \"b\" \"font\") \"ann\" \"rw\"",
+        b"* OK \"SETACL done\"\r\n",
+    ),
+    (
+        0,
+        0,
+        b"A1 LISTRIGHTS (\"/option/~\" \"b\" \"font\") \"joe\"",
+        b"* LISTRIGHTS \"ra\" \"x\" \"w\" \"i\"\r\n* OK \"LISTRIGHTS done\"\r\n",
+    ),
+];
+
+// Whichever allocation is refused: a command that is refused memory changes nothing, and goes on when it comes again.
+#[test]
+fn goes_on_after_a_refusal(rt: HostRuntime) {
+    assert_eq!(rt;
+        first_wrong(rt.alloc(), &mut empty(rt.alloc()), &LONG),
+        None
+    );
+}
+
+// The steps of these events.
+fn steps_of(alloc: Global, lines: &[Line]) -> Result<Steps, Fault> {
+    let mut steps = Steps::new(alloc);
+    for (number, clock, text, _) in lines {
+        steps.push(Step {
+            seat: seat((*number).min(63)),
+            event: event_of(alloc, text)?,
+            clock: moment(*clock),
+        })?;
+    }
+    Ok(steps)
+}
+
+// Whether outcomes are what is said to these events, in their order.
+fn are_said(alloc: Global, outcomes: &Outcomes, lines: &[Line]) -> bool {
+    for (outcome, line) in outcomes.as_slice().iter().zip(lines) {
+        let said = match outcome {
+            Ok(reply) => printed(alloc, reply).map_err(|_| Fault::Memory),
+            Err(fault) => Err(*fault),
+        };
+        if !is_said(said, line.3) {
+            return false;
+        }
+    }
+    outcomes.len() == lines.len()
+}
+
+// A run performs all its steps, or those up to one that is refused memory.
+fn runs(alloc: Global, steps: Steps, lines: &[Line], count: usize) -> bool {
+    let mut state = empty(alloc);
+    match run(alloc, &mut state, steps) {
+        Ok(outcomes) => are_said(alloc, &outcomes, lines) && state.tree().len() == count,
+        Err(Memory) => state.tree().len() <= count,
+    }
+}
+
+// A run answers each step in its order, and goes on behind a fault; a copy of its steps is answered alike.
+#[test]
+fn runs_steps(rt: HostRuntime) {
+    let lines: [Line; 4] = [USERS[0], (2, 0, b"drain", NOBODY), USERS[2], SHARING[3]];
+    if let Ok(steps) = steps_of(rt.alloc(), &lines) {
+        if let Ok(copied) = steps.copy() {
+            assert!(rt; runs(rt.alloc(), copied, &lines, 5));
+        }
+        assert!(rt; runs(rt.alloc(), steps, &lines, 5));
+    }
 }

@@ -4,6 +4,7 @@ ghost use Rattle.std.specs.Prelude.{◌<◌};
 use crate::machine::{moment, seat};
 use acap_entries::{Memory, Octets, UserName};
 use acap_login::Users;
+use acap_rights::Realm;
 use acap_session::{World, WorldFault};
 use std::alloc::Global;
 
@@ -14,7 +15,8 @@ const GREETING: &[u8] =
 /// A world in which nobody may log in.
 fn world(alloc: Global) -> Result<World, Memory> {
     let host = Octets::from_slice(alloc, b"localhost")?;
-    Ok(World::new(alloc, Users::new(Vec::new(alloc)), host))
+    let realm = Realm::new(Vec::new(alloc));
+    Ok(World::new(alloc, realm, Users::new(Vec::new(alloc)), host))
 }
 
 /// Opens a session of joe at a seat.
