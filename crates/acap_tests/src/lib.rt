@@ -16,6 +16,4 @@ mod printing;
 #[cfg(test)]
 mod sessions;
 #[cfg(test)]
-mod tree;
-#[cfg(test)]
 mod world;

@@ -1,7 +1,7 @@
 //! Tests of the machine: users at their seats, the clock, copies, runs, and events that are refused memory.
 ghost use Rattle.std.specs.Prelude.{◌<◌};
 
-use acap_entries::{Copying, Memory, Moment, Seat, UserName};
+use acap_entries::{Copying, Memory, Moment, Seat, UserName, makes_dataset};
 use acap_grammar::{Command, GrammarFault, Reply, parse, render};
 use acap_lexer::{Lexed, Lexer, Mode};
 use acap_machine::{Event, Fault, Outcomes, State, Step, Steps, run};
@@ -74,18 +74,23 @@ fn printed(alloc: Global, reply: &Reply) -> Result<Vec<u8>, Memory> {
     Err(Memory)
 }
 
-// What is said to an event of a seat. A seat over 63 is 63.
-fn said_to(alloc: Global, state: &mut State, line: &Line) -> Result<Vec<u8>, Fault> {
-    let (number, clock, text, _) = *line;
-    let event = event_of(alloc, text)?;
-    let reply = state.step(seat(number.min(63)), event, moment(clock))?;
-    Ok(printed(alloc, &reply)?)
+// Whether a reply is printed so.
+fn prints(alloc: Global, reply: &Reply, text: &[u8]) -> Result<bool, Memory> {
+    Ok(printed(alloc, reply)?.as_slice() == text)
 }
 
-// Whether an answer is that text, or the fault that the text stands for.
-fn is_said(answer: Result<Vec<u8>, Fault>, text: &[u8]) -> bool {
+// Whether an event of a seat is answered so. A seat over 63 is 63.
+fn says(alloc: Global, state: &mut State, line: &Line) -> Result<bool, Fault> {
+    let (number, clock, text, wanted) = *line;
+    let event = event_of(alloc, text)?;
+    let reply = state.step(seat(number.min(63)), event, moment(clock))?;
+    Ok(prints(alloc, &reply, wanted)?)
+}
+
+// Whether that is so, or the fault is the one that the text stands for.
+fn is_right(answer: Result<bool, Fault>, text: &[u8]) -> bool {
     match answer {
-        Ok(said) => said.as_slice() == text,
+        Ok(right) => right,
         Err(Fault::NotEntered) => text == NOBODY,
         Err(Fault::AlreadyEntered) => text == TAKEN,
         Err(_) => false,
@@ -96,13 +101,12 @@ fn is_said(answer: Result<Vec<u8>, Fault>, text: &[u8]) -> bool {
 // the store as it was.
 fn answers(alloc: Global, state: &mut State, line: &Line) -> bool {
     let (count, last) = (state.tree().len(), state.tree().last());
-    match said_to(alloc, state, line) {
-        Err(Fault::Memory) => {
-            let kept = state.tree().len() == count && state.tree().last() == last;
-            kept && is_said(said_to(alloc, state, line), line.3)
-        }
-        answer => is_said(answer, line.3),
+    let answer = says(alloc, state, line);
+    if answer != Err(Fault::Memory) {
+        return is_right(answer, line.3);
     }
+    let kept = state.tree().len() == count && state.tree().last() == last;
+    kept && is_right(says(alloc, state, line), line.3)
 }
 
 // The first of the events that is answered in another way, if one is.
@@ -214,16 +218,38 @@ fn serves_two_users(rt: HostRuntime) {
     assert_eq!(rt; first_wrong(rt.alloc(), &mut state, &SHARING), None);
 }
 
+// The first of the events that a copy answers in another way, if one is.
+fn copied_wrong(alloc: Global, state: &State, lines: &[Line]) -> Option<&'static [u8]> {
+    let mut copied = state.copy().ok()?;
+    first_wrong(alloc, &mut copied, lines)
+}
+
 // A copy goes its own way: what is done to the one isn't done to the other.
 #[test]
 fn copies_the_machine(rt: HostRuntime) {
     let mut state = empty(rt.alloc());
     assert_eq!(rt; first_wrong(rt.alloc(), &mut state, &USERS), None);
-    if let Ok(mut copied) = state.copy() {
-        assert_eq!(rt; first_wrong(rt.alloc(), &mut copied, &SHARING), None);
-        assert!(rt; copied.tree().last() == moment(10) && state.tree().last() == moment(9));
-        assert_eq!(rt; first_wrong(rt.alloc(), &mut state, &SHARING), None);
-    }
+    assert_eq!(rt; copied_wrong(rt.alloc(), &state, &SHARING), None);
+    assert!(rt; state.tree().last() == moment(9));
+    assert_eq!(rt; copied_wrong(rt.alloc(), &state, &SHARING), None);
+}
+
+// What the store of a machine has that was told so much.
+#[test]
+fn lends_its_store(rt: HostRuntime) {
+    let mut state = empty(rt.alloc());
+    assert_eq!(rt; first_wrong(rt.alloc(), &mut state, &USERS), None);
+    let tree = state.tree();
+    let own: &[u8] = b"/option/user/joe/";
+    assert!(rt; tree.entries().len() == 6 && !tree.entries().is_empty());
+    assert!(rt; tree.entries_of(own).len() == 1 && tree.entries_of(b"/option/user/").len() == 2);
+    assert!(rt; tree.dataset_exists(own) && !tree.dataset_exists(b"/option/site/"));
+    assert!(rt; tree.deletions().is_empty() && tree.forgotten().is_none());
+    assert!(rt; tree.find(own, b"font").is_some() && tree.find(own, b"size").is_none());
+    assert!(rt;
+        tree.find(b"/option/user/", b"joe")
+            .map_or(false, |entry| makes_dataset(entry))
+    );
 }
 
 // A machine whose administrator is root.
@@ -342,14 +368,18 @@ fn steps_of(alloc: Global, lines: &[Line]) -> Result<Steps, Fault> {
     Ok(steps)
 }
 
+// Whether an outcome is what is said to an event.
+fn is_said(alloc: Global, outcome: &Result<Reply, Fault>, line: &Line) -> bool {
+    match outcome {
+        Ok(reply) => prints(alloc, reply, line.3) == Ok(true),
+        Err(fault) => is_right(Err(*fault), line.3),
+    }
+}
+
 // Whether outcomes are what is said to these events, in their order.
 fn are_said(alloc: Global, outcomes: &Outcomes, lines: &[Line]) -> bool {
     for (outcome, line) in outcomes.as_slice().iter().zip(lines) {
-        let said = match outcome {
-            Ok(reply) => printed(alloc, reply).map_err(|_| Fault::Memory),
-            Err(fault) => Err(*fault),
-        };
-        if !is_said(said, line.3) {
+        if !is_said(alloc, outcome, line) {
             return false;
         }
     }

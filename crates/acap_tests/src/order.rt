@@ -1,178 +1,160 @@
-//! Tests of acap_order through its public calls.
+//! Tests of acap_order through its public calls: tables of texts.
 use acap_order::Comparator;
 use std::cmp::Ordering::{self, Equal, Greater, Less};
-use std::process::Abort;
 
-/// How the comparator of this name orders two texts.
-fn order(rt: &impl Abort, name: &[u8], a: &[u8], b: &[u8]) -> Ordering {
-    let comparator = Comparator::read(name).expect(rt, "a comparator's name");
-    comparator.cmp(a, b)
+/// How the comparator of this name orders two texts, and whether they are equal to it.
+fn compared(name: &[u8], a: &[u8], b: &[u8]) -> Option<(Ordering, bool)> {
+    let comparator = Comparator::read(name)?;
+    Some((comparator.cmp(a, b), comparator.equal(a, b)))
 }
 
-/// Whether two texts are equal to the comparator of this name.
-fn are_equal(rt: &impl Abort, name: &[u8], a: &[u8], b: &[u8]) -> bool {
-    let comparator = Comparator::read(name).expect(rt, "a comparator's name");
-    comparator.equal(a, b)
+/// Whether the comparator of this name finds a pattern in front of a text, and whether anywhere in it: `None` where it
+/// compares numbers.
+fn found(name: &[u8], text: &[u8], pattern: &[u8]) -> Option<(bool, bool)> {
+    let comparator = Comparator::read(name)?;
+    if comparator.is_numeric() {
+        return None;
+    }
+    Some((
+        comparator.prefix(text, pattern),
+        comparator.substring(text, pattern),
+    ))
 }
 
-/// PREFIX by the comparator of this name, which is no comparator of numbers.
-fn begins(rt: &impl Abort, name: &[u8], text: &[u8], pattern: &[u8]) -> bool {
-    let comparator = Comparator::read(name).expect(rt, "a comparator's name");
-    assert!(rt; !comparator.is_numeric());
-    comparator.prefix(text, pattern)
-}
-
-/// SUBSTRING by the comparator of this name, which is no comparator of numbers.
-fn has(rt: &impl Abort, name: &[u8], text: &[u8], pattern: &[u8]) -> bool {
-    let comparator = Comparator::read(name).expect(rt, "a comparator's name");
-    assert!(rt; !comparator.is_numeric());
-    comparator.substring(text, pattern)
-}
-
+// Numbers by their size, and what is no number behind them all (RFC 2244 section 3.4).
 #[test]
-fn numbers_by_their_size(rt: HostRuntime) {
-    assert_eq!(rt; order(&rt, b"i;ascii-numeric", b"9", b"009"), Equal);
-    assert_eq!(rt; order(&rt, b"i;ascii-numeric", b"9", b"10"), Less);
-    assert_eq!(rt; order(&rt, b"i;ascii-numeric", b"10", b"009"), Greater);
-    assert_eq!(rt; order(&rt, b"i;ascii-numeric", b"12abc", b"12"), Equal);
-    assert_eq!(rt; order(&rt, b"i;ascii-numeric", b"12abc", b"13"), Less);
-    assert_eq!(rt; order(&rt, b"i;ascii-numeric", b"0", b"000"), Equal);
-    assert_eq!(rt; order(&rt, b"i;ascii-numeric", b"000", b"1"), Less);
+fn orders_numbers(rt: HostRuntime) {
+    let rows: [(&[u8], &[u8], &[u8], Ordering); 23] = [
+        (b"i;ascii-numeric", b"9", b"009", Equal),
+        (b"i;ascii-numeric", b"9", b"10", Less),
+        (b"i;ascii-numeric", b"10", b"009", Greater),
+        (b"i;ascii-numeric", b"12abc", b"12", Equal),
+        (b"i;ascii-numeric", b"12abc", b"13", Less),
+        (b"i;ascii-numeric", b"0", b"000", Equal),
+        (b"i;ascii-numeric", b"000", b"1", Less),
+        (b"i;ascii-numeric", b"10", b"x", Less),
+        (b"i;ascii-numeric", b"", b"10", Greater),
+        (b"i;ascii-numeric", b"x", b"", Equal),
+        (b"i;ascii-numeric", b"-1", b"99999999999999999999", Greater),
+        (b"i;ascii-numeric", b" 1", b"x", Equal),
+        (b"i;ascii-numeric", b"x", b"0", Greater),
+        (b"-i;ascii-numeric", b"9", b"009", Equal),
+        (b"-i;ascii-numeric", b"9", b"10", Greater),
+        (b"-i;ascii-numeric", b"x", b"10", Less),
+        (b"-i;ascii-numeric", b"10", b"", Greater),
+        (b"-i;ascii-numeric", b"x", b"", Equal),
+        (b"+i;ascii-numeric", b"9", b"009", Equal),
+        (b"i;ascii-numeric", &[b'7'; 1000], &[b'7'; 1000], Equal),
+        (b"i;ascii-numeric", &[b'7'; 999], &[b'6'; 1000], Less),
+        (b"i;ascii-numeric", &[b'7'; 1000], &[b'8'; 1000], Less),
+        (b"i;ascii-numeric", &[b'0'; 1000], b"0", Equal),
+    ];
+    for (name, a, b, order) in rows {
+        assert!(rt;
+            compared(name, a, b) == Some((order, order == Equal)),
+            "{name:?} {a:?} {b:?}"
+        );
+    }
 }
 
+// Letters in two cases, and octets one by one; `[` is after the capitals and before the small letters in ASCII.
 #[test]
-fn no_number_after_every_number(rt: HostRuntime) {
-    assert_eq!(rt; order(&rt, b"i;ascii-numeric", b"10", b"x"), Less);
-    assert_eq!(rt; order(&rt, b"i;ascii-numeric", b"", b"10"), Greater);
-    assert_eq!(rt; order(&rt, b"i;ascii-numeric", b"x", b""), Equal);
-    assert_eq!(rt;
-        order(&rt, b"i;ascii-numeric", b"-1", b"99999999999999999999"),
-        Greater
-    );
-    assert_eq!(rt; order(&rt, b"i;ascii-numeric", b" 1", b"x"), Equal);
-    assert!(rt; are_equal(&rt, b"i;ascii-numeric", b"x", b""));
-    assert!(rt; !are_equal(&rt, b"i;ascii-numeric", b"x", b"0"));
+fn orders_texts(rt: HostRuntime) {
+    let rows: [(&[u8], &[u8], &[u8], Ordering); 19] = [
+        (b"i;ascii-casemap", b"a", b"B", Less),
+        (b"i;ascii-casemap", b"b", b"B", Equal),
+        (b"i;ascii-casemap", b"zebra", b"ZEBRAS", Less),
+        (b"-i;ascii-casemap", b"a", b"B", Greater),
+        (b"i;ascii-casemap", b"z", b"[", Less),
+        (b"i;octet", b"z", b"[", Greater),
+        (b"i;ascii-casemap", b"[", b"{", Less),
+        (b"i;ascii-casemap", b"@", b"`", Less),
+        (b"i;ascii-casemap", b"aZ", b"Az", Equal),
+        (b"i;ascii-casemap", b"\xC3\xA9", b"\xC3\x89", Greater),
+        (b"i;octet", b"ab", b"abc", Less),
+        (b"i;octet", b"", b"a", Less),
+        (b"i;octet", b"b", b"abc", Greater),
+        (b"i;octet", b"B", b"a", Less),
+        (b"i;octet", b"\x00\xFF", b"\x01", Less),
+        (b"-i;octet", b"ab", b"abc", Greater),
+        (b"i;octet", b"abc", b"abc", Equal),
+        (b"-i;octet", b"abc", b"abc", Equal),
+        (b"i;octet", b"abc", b"abC", Greater),
+    ];
+    for (name, a, b, order) in rows {
+        assert!(rt;
+            compared(name, a, b) == Some((order, order == Equal)),
+            "{name:?} {a:?} {b:?}"
+        );
+    }
 }
 
+// A pattern in front of a text and anywhere in it.
 #[test]
-fn numbers_reversed(rt: HostRuntime) {
-    assert_eq!(rt; order(&rt, b"-i;ascii-numeric", b"9", b"009"), Equal);
-    assert_eq!(rt; order(&rt, b"-i;ascii-numeric", b"9", b"10"), Greater);
-    assert_eq!(rt; order(&rt, b"-i;ascii-numeric", b"x", b"10"), Less);
-    assert_eq!(rt; order(&rt, b"-i;ascii-numeric", b"10", b""), Greater);
-    assert_eq!(rt; order(&rt, b"-i;ascii-numeric", b"x", b""), Equal);
-    assert!(rt; are_equal(&rt, b"-i;ascii-numeric", b"9", b"009"));
-    assert!(rt; are_equal(&rt, b"+i;ascii-numeric", b"9", b"009"));
+fn finds_patterns(rt: HostRuntime) {
+    let rows: [(&[u8], &[u8], &[u8], bool, bool); 25] = [
+        (b"i;octet", b"option", b"opt", true, true),
+        (b"-i;octet", b"option", b"option", true, true),
+        (b"i;octet", b"", b"", true, true),
+        (b"i;octet", b"option", b"", true, true),
+        (b"i;octet", b"option", b"Opt", false, false),
+        (b"i;octet", b"opt", b"option", false, false),
+        (b"i;octet", b"option", b"pt", false, true),
+        (b"i;ascii-casemap", b"option", b"OPT", true, true),
+        (b"i;ascii-casemap", b"OPTION", b"opt", true, true),
+        (b"i;ascii-casemap", b"", b"", true, true),
+        (b"i;ascii-casemap", b"OPT", b"option", false, false),
+        (b"i;ascii-casemap", b"{x", b"[", false, false),
+        (b"i;octet", b"option", b"tio", false, true),
+        (b"i;octet", b"option", b"n", false, true),
+        (b"i;octet", b"aaab", b"aab", false, true),
+        (b"i;octet", b"option", b"TIO", false, false),
+        (b"i;octet", b"", b"a", false, false),
+        (b"i;ascii-casemap", b"option", b"TIO", false, true),
+        (b"-i;ascii-casemap", b"OPTION", b"on", false, true),
+        (b"i;ascii-casemap", b"aAaB", b"aab", false, true),
+        (b"i;ascii-casemap", b"option", b"", true, true),
+        (b"i;ascii-casemap", b"option", b"options", false, false),
+        (b"i;ascii-casemap", b"a{b", b"[", false, false),
+        (b"-i;octet", b"ab", b"b", false, true),
+        (b"-i;octet", b"ab", b"a", true, true),
+    ];
+    for (name, text, pattern, begins, has) in rows {
+        assert!(rt;
+            found(name, text, pattern) == Some((begins, has)),
+            "{name:?} {text:?} {pattern:?}"
+        );
+    }
+    assert!(rt; found(b"-I;ascii-NUMERIC", b"1", b"1") == None);
 }
 
+// Names of comparators in any case, each with the plain name of the same, and texts that are none.
 #[test]
-fn numbers_of_a_thousand_digits(rt: HostRuntime) {
-    let low = [b'7'; 1000];
-    let mut high = [b'7'; 1000];
-    high[999] = b'8';
-    assert_eq!(rt; order(&rt, b"i;ascii-numeric", &low, &high), Less);
-    assert_eq!(rt; order(&rt, b"i;ascii-numeric", &high, &low), Greater);
-    assert_eq!(rt; order(&rt, b"i;ascii-numeric", &low, &low), Equal);
-    assert_eq!(rt; order(&rt, b"i;ascii-numeric", &low[1..], &high), Less);
-    let mut zeros = [b'0'; 1000];
-    zeros[999] = b'9';
-    assert_eq!(rt; order(&rt, b"i;ascii-numeric", &zeros, b"9"), Equal);
-    assert_eq!(rt; order(&rt, b"i;ascii-numeric", &zeros, b"10"), Less);
-}
-
-#[test]
-fn letters_in_two_cases(rt: HostRuntime) {
-    assert_eq!(rt; order(&rt, b"i;ascii-casemap", b"a", b"B"), Less);
-    assert_eq!(rt; order(&rt, b"i;ascii-casemap", b"b", b"B"), Equal);
-    assert_eq!(rt; order(&rt, b"i;ascii-casemap", b"zebra", b"ZEBRAS"), Less);
-    assert_eq!(rt; order(&rt, b"-i;ascii-casemap", b"a", b"B"), Greater);
-    // `[` is after the capitals and before the small letters in ASCII.
-    assert_eq!(rt; order(&rt, b"i;ascii-casemap", b"z", b"["), Less);
-    assert_eq!(rt; order(&rt, b"i;octet", b"z", b"["), Greater);
-    assert!(rt; !are_equal(&rt, b"i;ascii-casemap", b"[", b"{"));
-    assert!(rt; !are_equal(&rt, b"i;ascii-casemap", b"@", b"`"));
-    assert!(rt; are_equal(&rt, b"i;ascii-casemap", b"aZ", b"Az"));
-    assert!(rt; !are_equal(&rt, b"i;ascii-casemap", b"\xC3\xA9", b"\xC3\x89"));
-}
-
-#[test]
-fn octets_one_by_one(rt: HostRuntime) {
-    assert_eq!(rt; order(&rt, b"i;octet", b"ab", b"abc"), Less);
-    assert_eq!(rt; order(&rt, b"i;octet", b"", b"a"), Less);
-    assert_eq!(rt; order(&rt, b"i;octet", b"b", b"abc"), Greater);
-    assert_eq!(rt; order(&rt, b"i;octet", b"B", b"a"), Less);
-    assert_eq!(rt; order(&rt, b"i;octet", b"\x00\xFF", b"\x01"), Less);
-    assert_eq!(rt; order(&rt, b"-i;octet", b"ab", b"abc"), Greater);
-    assert!(rt; are_equal(&rt, b"i;octet", b"abc", b"abc"));
-    assert!(rt; are_equal(&rt, b"-i;octet", b"abc", b"abc"));
-    assert!(rt; !are_equal(&rt, b"i;octet", b"abc", b"abC"));
-}
-
-#[test]
-fn prefixes(rt: HostRuntime) {
-    assert!(rt; begins(&rt, b"i;octet", b"option", b"opt"));
-    assert!(rt; begins(&rt, b"-i;octet", b"option", b"option"));
-    assert!(rt; begins(&rt, b"i;octet", b"", b""));
-    assert!(rt; begins(&rt, b"i;octet", b"option", b""));
-    assert!(rt; !begins(&rt, b"i;octet", b"option", b"Opt"));
-    assert!(rt; !begins(&rt, b"i;octet", b"opt", b"option"));
-    assert!(rt; !begins(&rt, b"i;octet", b"option", b"pt"));
-    assert!(rt; begins(&rt, b"i;ascii-casemap", b"option", b"OPT"));
-    assert!(rt; begins(&rt, b"i;ascii-casemap", b"OPTION", b"opt"));
-    assert!(rt; begins(&rt, b"i;ascii-casemap", b"", b""));
-    assert!(rt; !begins(&rt, b"i;ascii-casemap", b"OPT", b"option"));
-    assert!(rt; !begins(&rt, b"i;ascii-casemap", b"{x", b"["));
-}
-
-#[test]
-fn substrings(rt: HostRuntime) {
-    assert!(rt; has(&rt, b"i;octet", b"option", b"tio"));
-    assert!(rt; has(&rt, b"i;octet", b"option", b"n"));
-    assert!(rt; has(&rt, b"i;octet", b"option", b""));
-    assert!(rt; has(&rt, b"i;octet", b"", b""));
-    assert!(rt; has(&rt, b"i;octet", b"aaab", b"aab"));
-    assert!(rt; !has(&rt, b"i;octet", b"option", b"TIO"));
-    assert!(rt; !has(&rt, b"i;octet", b"", b"a"));
-    assert!(rt; has(&rt, b"i;ascii-casemap", b"option", b"TIO"));
-    assert!(rt; has(&rt, b"-i;ascii-casemap", b"OPTION", b"on"));
-    assert!(rt; has(&rt, b"i;ascii-casemap", b"aAaB", b"aab"));
-    assert!(rt; has(&rt, b"i;ascii-casemap", b"option", b""));
-    assert!(rt; has(&rt, b"i;ascii-casemap", b"", b""));
-    assert!(rt; !has(&rt, b"i;ascii-casemap", b"option", b"options"));
-    assert!(rt; !has(&rt, b"i;ascii-casemap", b"a{b", b"["));
-}
-
-#[test]
-fn names_of_comparators(rt: HostRuntime) {
-    assert!(rt; Comparator::read(b"I;OCTET").is_some());
-    assert_eq!(rt; Comparator::read(b"+i;octet"), Comparator::read(b"i;octet"));
-    assert_eq!(rt;
-        Comparator::read(b"-i;Ascii-Numeric"),
-        Comparator::read(b"-i;ascii-numeric")
-    );
-    assert_ne!(rt; Comparator::read(b"-i;octet"), Comparator::read(b"i;octet"));
-    assert_ne!(rt;
-        Comparator::read(b"i;ascii-casemap"),
-        Comparator::read(b"i;octet")
-    );
-    assert!(rt; Comparator::read(b"i;ascii-casemap").is_some());
-    assert!(rt; Comparator::read(b"").is_none());
-    assert!(rt; Comparator::read(b"+").is_none());
-    assert!(rt; Comparator::read(b"i;octet ").is_none());
-    assert!(rt; Comparator::read(b" i;octet").is_none());
-    assert!(rt; Comparator::read(b"--i;octet").is_none());
-    assert!(rt; Comparator::read(b"+-i;octet").is_none());
-    assert!(rt; Comparator::read(b"i;octe").is_none());
-    assert!(rt; Comparator::read(b"i:octet").is_none());
-    assert!(rt; Comparator::read(b"i;ascii-numerics").is_none());
-}
-
-#[test]
-fn comparators_of_numbers(rt: HostRuntime) {
-    let numeric = Comparator::read(b"-I;ascii-NUMERIC").expect(&rt, "a comparator's name");
-    assert!(rt; numeric.is_numeric());
-    let casemap = Comparator::read(b"i;ascii-casemap").expect(&rt, "a comparator's name");
-    assert!(rt; !casemap.is_numeric());
-    let octet = Comparator::read(b"-i;octet").expect(&rt, "a comparator's name");
-    assert!(rt; !octet.is_numeric());
+fn reads_names(rt: HostRuntime) {
+    let rows: [(&[u8], Option<&[u8]>); 15] = [
+        (b"I;OCTET", Some(b"i;octet")),
+        (b"+i;octet", Some(b"i;octet")),
+        (b"-i;Ascii-Numeric", Some(b"-i;ascii-numeric")),
+        (b"-i;OCTET", Some(b"-i;octet")),
+        (b"i;ascii-CASEMAP", Some(b"i;ascii-casemap")),
+        (b"+I;ascii-casemap", Some(b"i;ascii-casemap")),
+        (b"", None),
+        (b"+", None),
+        (b"i;octet ", None),
+        (b" i;octet", None),
+        (b"--i;octet", None),
+        (b"+-i;octet", None),
+        (b"i;octe", None),
+        (b"i:octet", None),
+        (b"i;ascii-numerics", None),
+    ];
+    for (name, plain) in rows {
+        let wanted = plain.and_then(|text| Comparator::read(text));
+        assert!(rt;
+            Comparator::read(name) == wanted && wanted.is_some() == plain.is_some(),
+            "{name:?}"
+        );
+    }
+    assert!(rt; Comparator::read(b"-i;octet") != Comparator::read(b"i;octet"));
+    assert!(rt; Comparator::read(b"i;ascii-casemap") != Comparator::read(b"i;octet"));
 }

@@ -2,7 +2,6 @@
 
 use acap_lexer::{Memory, print_string};
 use std::alloc::Global;
-use std::test::Fail;
 
 /// The printed form, behind an octet that stays.
 fn printed(alloc: Global, text: &[u8]) -> Result<Vec<u8>, Memory> {
@@ -11,48 +10,58 @@ fn printed(alloc: Global, text: &[u8]) -> Result<Vec<u8>, Memory> {
     Ok(out)
 }
 
-/// So many letters, and then the octets.
-fn letters(alloc: Global, count: usize, last: &[u8]) -> Result<Vec<u8>, Memory> {
+/// Whether a text is printed so.
+fn is_printed(alloc: Global, text: &[u8], wanted: &[u8]) -> bool {
+    match printed(alloc, text) {
+        Ok(out) => out.as_slice() == wanted,
+        Err(_) => false,
+    }
+}
+
+// Short texts are quoted, and those that can't be are literals (RFC 2244 section 2.6.3).
+#[test]
+fn prints_texts(rt: HostRuntime) {
+    let rows: [(&[u8], &[u8]); 7] = [
+        (b"", b">\"\""),
+        (b"a\"b\\c", b">\"a\\\"b\\\\c\""),
+        (b"\xc3\xa9\t", b">\"\xc3\xa9\t\""),
+        (b"a\rb", b">{3}\r\na\rb"),
+        (b"a\nb", b">{3}\r\na\nb"),
+        (b"\0", b">{1}\r\n\0"),
+        (b"\xff", b">{1}\r\n\xff"),
+    ];
+    for (text, wanted) in rows {
+        assert!(rt; is_printed(rt.alloc(), text, wanted), "{text:?}");
+    }
+}
+
+/// The printed form of so many letters and then the octets: how long it is, and whether it is quoted.
+fn form(alloc: Global, count: usize, last: &[u8]) -> Result<(usize, bool), Memory> {
     let mut text = Vec::new(alloc);
     for _ in 0..count {
         text.push(b'a')?;
     }
     text.extend_from_slice(last)?;
-    Ok(text)
+    let out = printed(alloc, &text)?;
+    Ok((out.len(), out.starts_with(b">\"")))
 }
 
+// The escaped form has at most 1,024 octets.
 #[test]
-fn short_texts_are_quoted(rt: HostRuntime) -> Result<(), Fail> {
-    let alloc = rt.alloc();
-    assert!(rt; printed(alloc, b"")?.as_slice() == b">\"\"".as_slice());
-    assert!(rt; printed(alloc, b"a\"b\\c")?.as_slice() == b">\"a\\\"b\\\\c\"".as_slice());
-    assert!(rt; printed(alloc, "\u{e9}\t".as_bytes())?.as_slice() == b">\"\xc3\xa9\t\"".as_slice());
-    Ok(())
-}
-
-#[test]
-fn other_texts_are_literals(rt: HostRuntime) -> Result<(), Fail> {
-    let alloc = rt.alloc();
-    assert!(rt; printed(alloc, b"a\rb")?.as_slice() == b">{3}\r\na\rb".as_slice());
-    assert!(rt; printed(alloc, b"a\nb")?.as_slice() == b">{3}\r\na\nb".as_slice());
-    assert!(rt; printed(alloc, b"\0")?.as_slice() == b">{1}\r\n\0".as_slice());
-    assert!(rt; printed(alloc, b"\xff")?.as_slice() == b">{1}\r\n\xff".as_slice());
-    Ok(())
-}
-
-#[test]
-fn the_escaped_form_has_1024_octets_at_the_most(rt: HostRuntime) -> Result<(), Fail> {
-    let alloc = rt.alloc();
-    for count in [1023, 1024] {
-        let text = letters(alloc, count, b"")?;
-        let out = printed(alloc, &text)?;
-        assert_eq!(rt; out.len(), count + 3);
-        assert!(rt; out.starts_with(b">\"a"));
+fn quotes_1024_octets_at_the_most(rt: HostRuntime) {
+    let rows: [(usize, &[u8], usize, bool); 5] = [
+        (1_023, b"", 1_026, true),
+        (1_024, b"", 1_027, true),
+        (1_025, b"", 1_034, false),
+        (1_022, b"\"", 1_027, true),
+        (1_023, b"\"", 1_033, false),
+    ];
+    for (count, last, length, quoted) in rows {
+        assert!(rt;
+            form(rt.alloc(), count, last) == Ok((length, quoted)),
+            "{count} {last:?}"
+        );
     }
-    assert!(rt; printed(alloc, &letters(alloc, 1025, b"")?)?.starts_with(b">{1025}\r\naaa"));
-    assert!(rt; printed(alloc, &letters(alloc, 1022, b"\"")?)?.starts_with(b">\"aaa"));
-    assert!(rt; printed(alloc, &letters(alloc, 1023, b"\"")?)?.starts_with(b">{1024}\r\naaa"));
-    Ok(())
 }
 
 // Whichever allocation is refused: the whole form is there, or nothing of it.
