@@ -1,5 +1,9 @@
 pub mod Places
 pub mod SeveralSteps
+pub mod NumberReads
+pub mod ListReads
+pub mod StoreReads
+pub mod SearchReads
 pub mod SpellingReads
 pub mod Growing
 pub mod NeverMemory

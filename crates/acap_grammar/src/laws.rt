@@ -1,7 +1,7 @@
 //! What follows from the definitions alone: each function does nothing, and its contract is the law.
 ghost use Rattle.acap_grammar.specs.Examples.{LineExamples, LineFaults, LimitExamples, TextExamples};
 ghost use Rattle.acap_grammar.specs.Laws.{OneCommand, CommandOrFault, FirstFault, NeverMemory, CommandExamples, FaultExamples, ReplyExamples};
-ghost use Rattle.acap_grammar.specs.Spelling.{SpellsCommands};
+ghost use Rattle.acap_grammar.specs.Sendable.{SpellsCommands};
 
 /// Two different commands never have the same tokens.
 pub fn one_command()
@@ -58,7 +58,7 @@ pub fn text_examples()
     ensures { TextExamples }
 {}
 
-/// Each command but STORE, SEARCH and UPDATECONTEXT is read back from its plainest spelling (RFC 2244 sections 6 and 8).
+/// Each command within the limits is read back from its plainest spelling (RFC 2244 sections 6 and 8).
 pub fn spelled_commands()
     ensures { SpellsCommands }
 {}
