@@ -6,7 +6,7 @@ pub mod StoreReads
 pub mod SearchReads
 pub mod SpellingReads
 pub mod Growing
-pub mod NeverMemory
 pub mod KeySteps
-pub mod FirstFaults
+pub mod Looking
+pub mod FaultPlaces
 pub mod Computing

@@ -37,7 +37,7 @@ use Rattle.acap_grammar.specs.Sendable.{Each, Some_of, IsNumber, IsAttribute, Is
 use Rattle.acap_grammar.specs.Spelling.{string, opened, shut, each, if_there, flag, word, number, time, comparator_name, comparator, told, is_left_out, return_item, sort_item, depth, hard_limit, limit, make_context, returns, sort, modifiers, test_tokens, key, search_tokens}
 use Rattle.acap_grammar.specs.Wanted.{Wanted, One, And, Or, Not}
 use Rattle.acap_grammar.proofs.NumberReads.{number_reads}
-use Rattle.acap_grammar.proofs.ListReads.{Reads, one_more, no_more, list_reads, enclosed_read}
+use Rattle.acap_grammar.proofs.ListReads.{ReadsEach, one_more, no_more, list_reads, enclosed_read}
 
 -- ---- comparators
 
@@ -108,7 +108,7 @@ key_leads (Not a) rest = refl
 
 -- ---- RETURN and SORT
 
-are_told : Reads {X = Metadata} (starts is_close) (λ ts. true) metadata_at told (λ before m. Unit {0})
+are_told : ReadsEach {X = Metadata} (starts is_close) (λ ts. true) metadata_at told (λ before m. Unit {0})
 unfolding starts metadata_at named_at string_at
 are_told = record { leads = λ x rest. refl; follows = λ x rest. refl; reads = read } where
   read : (seen : List Metadata) (m : Metadata) (rest : List Token) → Unit {0} → true ≡ true → metadata_at seen (told m rest) ≡ Ok (seen ++ m ∷ [], rest)
@@ -142,7 +142,7 @@ metadata_reads n all rest h o = by_form (is_left_out n all) refl where
   by_form true e = rw (not-true (starts is_open rest) o) (ap (λ (m : List Metadata). Ok (m, rest)) (left_out n all e))
   by_form false e = enclosed_metadata n all rest h
 
-are_returns : Reads {X = ReturnItem} (starts is_close) not_opened return_at return_item (λ before r. IsReturn r)
+are_returns : ReadsEach {X = ReturnItem} (starts is_close) not_opened return_at return_item (λ before r. IsReturn r)
 unfolding starts return_at named_at string_at
 are_returns = record { leads = λ x rest. refl; follows = λ x rest. refl; reads = λ seen r rest s n. rw (s.0, metadata_reads r.name r.metadata rest s.1 n) refl }
 
@@ -150,7 +150,7 @@ returns_read : (all : List ReturnItem) (rest : List Token) → AreReturns all �
 unfolding returns_at behind starts
 returns_read all rest h = rw (list_reads are_returns (starts is_string) all 256 [] (shut rest) refl refl h.0 h.1) refl
 
-are_sorts : Reads {X = SortItem} (starts is_close) (λ ts. true) sort_at sort_item (λ before s. IsAttribute s.attribute)
+are_sorts : ReadsEach {X = SortItem} (starts is_close) (λ ts. true) sort_at sort_item (λ before s. IsAttribute s.attribute)
 unfolding starts sort_at named_at string_at
 are_sorts = record { leads = λ x rest. refl; follows = λ x rest. refl; reads = λ seen s rest a n. rw (a, comparator_is s.comparator) refl }
 

@@ -11,7 +11,7 @@ use Rattle.acap_grammar.specs.Sendable.{Names, Within, IsObject, IsSendable, Spe
 use Rattle.acap_grammar.specs.Spelling.{object, string, tokens_of}
 use Rattle.acap_grammar.proofs.StoreReads.{entries_read}
 use Rattle.acap_grammar.proofs.SearchReads.{search_reads}
-use Rattle.acap_grammar.proofs.ListReads.{Reads, some_read}
+use Rattle.acap_grammar.proofs.ListReads.{ReadsEach, some_read}
 
 parts : (dataset : List ℕ) (attribute name : Option (List ℕ)) (rest : List Token) → Names dataset_named dataset dataset → Within dataset attribute name
     → object_at (object (record { dataset = dataset; attribute = attribute; name = name }) rest) ≡ Ok (record { dataset = dataset; attribute = attribute; name = name }, rest)
@@ -24,7 +24,7 @@ parts d (Some a) (Some n) rest p q = rw (p, q.0, q.1) refl
 object_reads : (o : Object) (rest : List Token) → IsObject o → object_at (object o rest) ≡ Ok (o, rest)
 object_reads o rest p = parts o.dataset o.attribute o.name rest p.0 p.1
 
-contexts_read : Reads {X = List ℕ} ends (λ ts. true) context_at string (λ before name. Names context_named name name)
+contexts_read : ReadsEach {X = List ℕ} ends (λ ts. true) context_at string (λ before name. Names context_named name name)
 unfolding ends context_at named_at string_at
 contexts_read = record { leads = λ x rest. refl; follows = λ x rest. refl; reads = λ seen x rest s n. rw s refl }
 

@@ -23,7 +23,7 @@ use Rattle.acap_grammar.specs.Arguments.{named_at}
 use Rattle.acap_grammar.specs.Storing.{has_attribute, has_item, same_metadata, strings_at, plain_at, given_at, gift_at, gifts_at, item_at, items_at, conditioned, condition_at, no_condition, conditions_at, path_at, entry_at, entries_at}
 use Rattle.acap_grammar.specs.Sendable.{Either, IsNew, AreItems, IsEntry, IsStore}
 use Rattle.acap_grammar.specs.Spelling.{string, opened, shut, each, given_tokens, stored_name, gift, is_bare, one_gift, items, conditions, entry}
-use Rattle.acap_grammar.proofs.ListReads.{Reads, one_more, no_more, first_of_some, some_read}
+use Rattle.acap_grammar.proofs.ListReads.{ReadsEach, one_more, no_more, first_of_some, some_read}
 
 -- ---- what is given
 
@@ -167,7 +167,7 @@ entry_reads seen e rest h =
     let first = items_lead no_condition true string_first e.items (shut rest) h.some in
     rw (h.path, h.new, conditions_read e.modifiers (items e.items (shut rest)) h.since first, entry_items e.items rest h.some h.items) refl
 
-are_entries : Reads {X = StoreEntry} ends (λ ts. true) entry_at entry IsEntry
+are_entries : ReadsEach {X = StoreEntry} ends (λ ts. true) entry_at entry IsEntry
 unfolding ends
 are_entries = record { leads = λ e rest. refl; follows = λ e rest. refl; reads = λ seen e rest h n. entry_reads seen e rest h }
 

@@ -1,5 +1,5 @@
 //! Tests of acap_grammar through its public calls.
-use acap_grammar::{Command, GrammarFault, parse};
+use acap_grammar::{Command, GrammarError, parse};
 use acap_lexer::{Lexed, Lexer, Mode};
 use std::alloc::Global;
 
@@ -7,25 +7,25 @@ mod memory;
 mod replies;
 
 /// What the tokens of a line come to; where a line has none, or memory is refused for them, `Memory`.
-pub(crate) fn command_of(alloc: Global, line: &[u8]) -> Result<Command, GrammarFault> {
+pub(crate) fn command_of(alloc: Global, line: &[u8]) -> Result<Command, GrammarError> {
     let mut lexer = Lexer::new(alloc);
     match lexer.push(line) {
         Ok(_) => {}
-        Err(_) => return Err(GrammarFault::Memory),
+        Err(_) => return Err(GrammarError::Memory),
     }
     match lexer.push(b"\r\n") {
         Ok(_) => {}
-        Err(_) => return Err(GrammarFault::Memory),
+        Err(_) => return Err(GrammarError::Memory),
     }
     match lexer.next(Mode::Command) {
         Ok(Lexed::Line(tokens)) => parse(alloc, &tokens),
-        Ok(_) => Err(GrammarFault::Memory),
-        Err(_) => Err(GrammarFault::Memory),
+        Ok(_) => Err(GrammarError::Memory),
+        Err(_) => Err(GrammarError::Memory),
     }
 }
 
 /// What is wrong with a line, if anything is.
-pub(crate) fn fault_of(alloc: Global, line: &[u8]) -> Option<GrammarFault> {
+pub(crate) fn fault_of(alloc: Global, line: &[u8]) -> Option<GrammarError> {
     match command_of(alloc, line) {
         Ok(_) => None,
         Err(fault) => Some(fault),

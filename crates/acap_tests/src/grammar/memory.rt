@@ -3,7 +3,7 @@ use crate::grammar::replies::{found, values};
 use crate::grammar::{command_of, fault_of};
 use acap_entries::{Octets, Row, Sequence};
 use acap_grammar::{
-    Command, Copying, GrammarFault, Memory, Metadata, Reply, ReturnItem, Said, SortItem,
+    Command, Copying, GrammarError, Memory, Metadata, Reply, ReturnItem, Said, SortItem,
     StoreEntry, StoreItem, render,
 };
 use std::alloc::Global;
@@ -52,7 +52,7 @@ fn is_again(alloc: Global, line: &[u8], command: &Command) -> bool {
     let read = command_of(alloc, line);
     match &read {
         Ok(again) => are_alike(alloc, again, command),
-        Err(fault) => *fault == GrammarFault::Memory,
+        Err(fault) => *fault == GrammarError::Memory,
     }
 }
 
@@ -61,7 +61,7 @@ fn is_read_or_refused(alloc: Global, line: &[u8]) -> bool {
     let read = command_of(alloc, line);
     match &read {
         Ok(command) => is_again(alloc, line, command),
-        Err(fault) => *fault == GrammarFault::Memory,
+        Err(fault) => *fault == GrammarError::Memory,
     }
 }
 
@@ -93,7 +93,7 @@ fn is_copied_or_refused(alloc: Global, line: &[u8]) -> bool {
     let read = command_of(alloc, line);
     match &read {
         Ok(command) => is_copied(alloc, command),
-        Err(fault) => *fault == GrammarFault::Memory,
+        Err(fault) => *fault == GrammarError::Memory,
     }
 }
 
@@ -142,7 +142,7 @@ fn keeps_memory(rt: HostRuntime) {
     let alloc = rt.alloc();
     let line = b"A1 STORE (\"/a/b\" \"c\" \"x\" \"d\" \"y\") (\"/a/c\" \"c\" \"x\")";
     match fault_of(alloc, line) {
-        Some(fault) => assert_eq!(rt; fault, GrammarFault::Memory),
+        Some(fault) => assert_eq!(rt; fault, GrammarError::Memory),
         None => {}
     }
     match rendered(alloc) {
