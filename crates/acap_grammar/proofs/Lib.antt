@@ -1,8 +1,12 @@
 pub mod Places
 pub mod SeveralSteps
+pub mod NumberReads
+pub mod ListReads
+pub mod StoreReads
+pub mod SearchReads
 pub mod SpellingReads
 pub mod Growing
-pub mod NeverMemory
 pub mod KeySteps
-pub mod FirstFaults
+pub mod Looking
+pub mod FaultPlaces
 pub mod Computing

@@ -17,7 +17,7 @@ use Rattle.acap_grammar.specs.declared.relation.Relation.{Relation}
 use Rattle.acap_grammar.specs.declared.relation.Relation.TheVariants as relation
 use Rattle.acap_grammar.specs.declared.target.Target.{Target}
 use Rattle.acap_grammar.specs.declared.target.Target.TheVariants as target
-use Rattle.acap_grammar.specs.Outcome.{◌>>=◌, Read}
+use Rattle.acap_grammar.specs.Outcome.{◌>>=◌, Read, refused, judged}
 use Rattle.acap_grammar.specs.Marks.{is_word, is_open, is_close, starts, behind, string_at}
 
 -- what is there, or else a fault
@@ -52,11 +52,11 @@ target_named text =
     if begins_with slash text then (dataset_named text >>= λ dataset. Ok (target.Dataset dataset))
     else (context_named text >>= λ name. Ok (target.Context name))
 
--- a string that is such a name, and the tokens behind it
+-- a string that is such a name
 unfoldable pub named_at : {A : Type 0} → (List ℕ → Result A GrammarFault) → List Token → Read A
 named_at named tokens = do
   text ← string_at tokens
-  name ← named text.0
+  name ← judged tokens (named text.0)
   Ok (name, text.1)
 
 -- a number: a word of 1 to 10 digits up to 4294967295
@@ -64,8 +64,10 @@ abbrev pub number_in : List ℕ → Option ℕ
 number_in text = if list_all is_ascii_digit text then count_of text else None
 
 unfoldable pub number_at : List Token → Read ℕ
-number_at [] = Err fault.Arguments
-number_at (t ∷ rest) = if is_word t.kind then (or_fault fault.Arguments (number_in t.value) >>= λ x. Ok (x, rest)) else Err fault.Arguments
+number_at [] = refused [] fault.Arguments
+number_at (t ∷ rest) =
+    if is_word t.kind then (judged (t ∷ rest) (or_fault fault.Arguments (number_in t.value)) >>= λ x. Ok (x, rest))
+    else refused (t ∷ rest) fault.Arguments
 
 -- a time
 abbrev pub time_named : List ℕ → Result ℤ GrammarFault

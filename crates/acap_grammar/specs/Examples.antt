@@ -225,9 +225,9 @@ refusals_of all = flat_map (λ r. octets_of (refused (codes "A1") r)) all
 pub record TextExamples : Type 0 where
   pub lexical_faults : map of_lexical (lexical.BadTag ∷ lexical.BadToken ∷ lexical.BadLiteral ∷ lexical.CommandTooLong ∷ lexical.LineTooLong ∷ [])
       ≡ refusal.BadTag ∷ refusal.BadToken ∷ refusal.BadLiteral ∷ refusal.CommandTooLong ∷ refusal.LineTooLong ∷ []
-  pub of_lines : refusals_of (map of_grammar (fault.UnknownCommand ∷ fault.Arguments ∷ fault.NotPermittedTwice ∷ fault.BadName ∷ fault.BadTime ∷ fault.BadComparator ∷ fault.TooDeep ∷ fault.TooMany ∷ fault.Memory ∷ []))
+  pub of_lines : refusals_of (map of_grammar (fault.UnknownCommand ∷ fault.Arguments ∷ fault.NotPermittedTwice ∷ fault.BadName ∷ fault.BadTime ∷ fault.BadComparator ∷ fault.TooDeep ∷ fault.TooMany ∷ []))
       ≡ lines (codes "A1 BAD \"Unknown command\"" ∷ codes "A1 BAD \"Bad arguments\"" ∷ codes "A1 BAD \"Not permitted twice\"" ∷ codes "A1 BAD \"Bad name\"" ∷ codes "A1 BAD \"Bad time\""
-      ∷ codes "A1 BAD \"Bad comparator\"" ∷ codes "A1 BAD \"Too deep\"" ∷ codes "A1 BAD \"Too many\"" ∷ codes "A1 NO (TRYLATER) \"No memory\"" ∷ [])
+      ∷ codes "A1 BAD \"Bad comparator\"" ∷ codes "A1 BAD \"Too deep\"" ∷ codes "A1 BAD \"Too many\"" ∷ [])
   pub of_octets : refusals_of (refusal.BadToken ∷ refusal.BadLiteral ∷ refusal.LineTooLong ∷ refusal.TooManySessions ∷ [])
       ≡ lines (codes "A1 BAD \"Bad token\"" ∷ codes "A1 BAD \"Bad literal\"" ∷ codes "* BYE \"Line too long\"" ∷ codes "* BYE \"Too many sessions\"" ∷ [])
   pub of_users : refusals_of (refusal.NotLoggedIn ∷ refusal.LoggedIn ∷ refusal.Cancelled ∷ refusal.NoMechanism ∷ refusal.LoginFailed ∷ refusal.Unserved ∷ [])

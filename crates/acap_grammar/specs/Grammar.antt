@@ -8,7 +8,7 @@ use Rattle.acap_grammar.specs.declared.grammar_fault.GrammarFault.{GrammarFault}
 use Rattle.acap_grammar.specs.declared.grammar_fault.GrammarFault.TheVariants as fault
 use Rattle.acap_grammar.specs.declared.verb.Verb.{Verb}
 use Rattle.acap_grammar.specs.declared.verb.Verb.TheVariants as verb
-use Rattle.acap_grammar.specs.Outcome.{◌>>=◌, Read}
+use Rattle.acap_grammar.specs.Outcome.{◌>>=◌, Fault, Read, refused}
 use Rattle.acap_grammar.specs.Several.{some_of}
 use Rattle.acap_grammar.specs.Marks.{is_string, ends, starts, string_at, word_at}
 use Rattle.acap_grammar.specs.Arguments.{dataset_named, context_named, named_at, time_named, object_at}
@@ -65,7 +65,7 @@ context_at seen tokens = named_at context_named tokens >>= λ x. Ok (seen ++ x.0
 
 -- one context or more, at most 200, up to the end
 unfoldable pub contexts_at : List Token → Read (List (List ℕ))
-contexts_at tokens = some_of ends (starts is_string) context_at 199 [] tokens
+contexts_at tokens = some_of ends (starts is_string) context_at 200 [] tokens
 
 -- behind a verb
 unfoldable pub arguments_at : Verb → List Token → Read Command
@@ -83,13 +83,21 @@ arguments_at verb.FreeContext tokens = named_at context_named tokens >>= λ x. O
 arguments_at verb.UpdateContext tokens = contexts_at tokens >>= λ x. Ok (command.UpdateContext x.0, x.1)
 
 -- a command takes all tokens up to the end
-abbrev pub whole : Command × List Token → Result Command GrammarFault
-whole read = if ends read.1 then Ok read.0 else Err fault.Arguments
+abbrev pub whole : Command × List Token → Result Command Fault
+whole read = if ends read.1 then Ok read.0 else refused read.1 fault.Arguments
 
-abbrev pub command_by : Option (Verb × List Token) → Result Command GrammarFault
-command_by None = Err fault.UnknownCommand
-command_by (Some x) = arguments_at x.0 x.1 >>= whole
+abbrev pub command_by : List Token → Option (Verb × List Token) → Result Command Fault
+command_by tokens None = refused tokens fault.UnknownCommand
+command_by tokens (Some x) = arguments_at x.0 x.1 >>= whole
 
--- The command of a line, whose first token is its tag, or its first fault.
+-- The command of a line, whose first token is its tag, or its first fault and where that lies.
+abbrev pub command_at : List Token → Result Command Fault
+command_at tokens = command_by (drop 1 tokens) (word_at verbs (drop 1 tokens))
+
+-- the same without the place
+abbrev pub without_place : {A : Type 0} → Result A Fault → Result A GrammarFault
+without_place (Ok x) = Ok x
+without_place (Err e) = Err e.fault
+
 unfoldable pub command_of : List Token → Result Command GrammarFault
-command_of tokens = command_by (word_at verbs (drop 1 tokens))
+command_of tokens = without_place (command_at tokens)

@@ -1,5 +1,5 @@
 -- What follows from the definitions alone.
-use Rattle.std.specs.Prelude.{◌≡◌, ℕ, pos, List, [], ◌∷◌, ◌++◌, replicate, codes, Option, Some, None, Result, Ok, Err}
+use Rattle.std.specs.Prelude.{◌≡◌, ℕ, ◌+◌, ◌-◌, ◌<◌, ◌≤◌, pos, ◌⊎◌, List, [], ◌∷◌, ◌++◌, length, take, replicate, codes, Option, Some, None, Result, Ok, Err}
 use Rattle.acap_lexer.specs.declared.kind.Kind.{Kind}
 use Rattle.acap_lexer.specs.declared.kind.Kind.TheVariants as kind
 use Rattle.acap_lexer.specs.Token.{Token}
@@ -24,15 +24,12 @@ use Rattle.acap_grammar.specs.declared.store_metadata.StoreMetadata.TheVariants 
 use Rattle.acap_grammar.specs.declared.target.Target.TheVariants as target
 use Rattle.acap_grammar.specs.declared.test.Test.TheVariants as test
 use Rattle.acap_grammar.specs.declared.verb.Verb.TheVariants as verb
-use Rattle.acap_grammar.specs.Grammar.{command_of}
+use Rattle.acap_grammar.specs.Grammar.{command_at, command_of}
+use Rattle.acap_grammar.specs.Outcome.{Fault}
 use Rattle.acap_grammar.specs.Replies.{octets_of, crlf}
 use Rattle.acap_grammar.specs.Searching.{unmodified}
 use Rattle.acap_grammar.specs.Storing.{unconditional}
 use Rattle.acap_grammar.specs.Wanted.{One}
-
--- two different commands never have the same tokens
-abbrev pub OneCommand : Type 0
-OneCommand = (tokens : List Token) (a b : Command) → command_of tokens ≡ Ok a → command_of tokens ≡ Ok b → a ≡ b
 
 -- the first fault from the left of a line that is no command
 abbrev pub fault_in : Result Command GrammarFault → Option GrammarFault
@@ -42,19 +39,21 @@ fault_in (Err e) = Some e
 abbrev pub fault_of : List Token → Option GrammarFault
 fault_of tokens = fault_in (command_of tokens)
 
--- a line is a command, or it has a fault, and not both
-pub record CommandOrFault : Type 0 where
-  pub command : (tokens : List Token) (c : Command) → command_of tokens ≡ Ok c → fault_of tokens ≡ None
-  pub fault : (tokens : List Token) (e : GrammarFault) → fault_of tokens ≡ Some e → command_of tokens ≡ Err e
+-- the fault of a line and the index of the token at which it lies, or the number of tokens where it lies at the end
+abbrev pub place_in : List Token → Result Command Fault → Option (GrammarFault × ℕ)
+place_in tokens (Ok c) = None
+place_in tokens (Err e) = Some (e.fault, length tokens - length e.left)
 
--- the fault is the first from the left: what stands behind it changes nothing (a line that has too few arguments, or no
--- verb, has its fault at its end)
-abbrev pub FirstFault : Type 0
-FirstFault = (tokens more : List Token) (e : GrammarFault) → (e ≡ fault.Arguments → ⊥) → (e ≡ fault.UnknownCommand → ⊥) → fault_of tokens ≡ Some e → fault_of (tokens ++ more) ≡ Some e
+abbrev pub fault_at : List Token → Option (GrammarFault × ℕ)
+fault_at tokens = place_in tokens (command_at tokens)
 
--- what is wrong with the tokens of a line is never want of memory
-abbrev pub NeverMemory : Type 0
-NeverMemory = (tokens : List Token) → command_of tokens ≡ Err fault.Memory → ⊥
+-- the fault is the first from the left: what stands behind its token changes nothing, and it lies at the end only where
+-- an argument or the verb is missing
+pub record FirstFault : Type 0 where
+  pub told : (tokens : List Token) (e : GrammarFault) (i : ℕ) → fault_at tokens ≡ Some (e, i) → command_of tokens ≡ Err e
+  pub within : (tokens : List Token) (e : GrammarFault) (i : ℕ) → fault_at tokens ≡ Some (e, i) → i ≤ length tokens
+  pub first : (tokens others : List Token) (e : GrammarFault) (i : ℕ) → fault_at tokens ≡ Some (e, i) → i < length tokens → fault_at (take (i + 1) tokens ++ others) ≡ Some (e, i)
+  pub missing : (tokens : List Token) (e : GrammarFault) → fault_at tokens ≡ Some (e, length tokens) → (e ≡ fault.Arguments) ⊎ (e ≡ fault.UnknownCommand)
 
 -- a token that lies there
 abbrev pub at : Kind → List ℕ → ℕ → ℕ → Token

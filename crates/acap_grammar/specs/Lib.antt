@@ -9,6 +9,7 @@ pub mod Outcome
 pub mod Refusals
 pub mod Replies
 pub mod Searching
+pub mod Sendable
 pub mod Several
 pub mod Spelling
 pub mod Storing

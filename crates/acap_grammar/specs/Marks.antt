@@ -1,12 +1,11 @@
 -- What stands first among tokens [RFC 2244 sections 2.2 and 8].
-use Rattle.std.specs.Prelude.{ℕ, List, [], ◌∷◌, Bool, true, false, Option, Some, None, option_map, Result, Ok, Err, find, if◌then◌else◌}
+use Rattle.std.specs.Prelude.{ℕ, List, [], ◌∷◌, Bool, true, false, Option, Some, None, option_map, Result, Ok, find, if◌then◌else◌}
 use Rattle.std.specs.Str.{bytes_eq, str_eq_ignore_ascii_case}
 use Rattle.acap_lexer.specs.declared.kind.Kind.{Kind}
 use Rattle.acap_lexer.specs.declared.kind.Kind.TheVariants as kind
 use Rattle.acap_lexer.specs.Token.{Token}
-use Rattle.acap_grammar.specs.declared.grammar_fault.GrammarFault.{GrammarFault}
 use Rattle.acap_grammar.specs.declared.grammar_fault.GrammarFault.TheVariants as fault
-use Rattle.acap_grammar.specs.Outcome.{Read}
+use Rattle.acap_grammar.specs.Outcome.{Fault, Read, refused}
 
 -- a string is sent quoted or as a literal
 abbrev pub is_string : Kind → Bool
@@ -37,14 +36,14 @@ starts is [] = false
 starts is (t ∷ rest) = is t.kind
 
 -- the tokens behind one of that kind
-unfoldable pub behind : (Kind → Bool) → List Token → Result (List Token) GrammarFault
-behind is [] = Err fault.Arguments
-behind is (t ∷ rest) = if is t.kind then Ok rest else Err fault.Arguments
+unfoldable pub behind : (Kind → Bool) → List Token → Result (List Token) Fault
+behind is [] = refused [] fault.Arguments
+behind is (t ∷ rest) = if is t.kind then Ok rest else refused (t ∷ rest) fault.Arguments
 
 -- the string that stands first
 unfoldable pub string_at : List Token → Read (List ℕ)
-string_at [] = Err fault.Arguments
-string_at (t ∷ rest) = if is_string t.kind then Ok (t.value, rest) else Err fault.Arguments
+string_at [] = refused [] fault.Arguments
+string_at (t ∷ rest) = if is_string t.kind then Ok (t.value, rest) else refused (t ∷ rest) fault.Arguments
 
 -- what a table has beside a word, read in any case
 abbrev pub word_in : {A : Type 0} → List (List ℕ × A) → List ℕ → Option A

@@ -1,23 +1,52 @@
--- What reading tokens comes to: a value, or the first fault from the left.
-use Rattle.std.specs.Prelude.{◌≡◌, List, Result, Ok, Err}
+-- What reading tokens comes to: a value and the tokens behind it, or the first fault from the left and where it lies.
+use Rattle.std.specs.Prelude.{◌≡◌, List, [], Result, Ok, Err}
 use Rattle.acap_lexer.specs.Token.{Token}
 use Rattle.acap_grammar.specs.declared.grammar_fault.GrammarFault.{GrammarFault}
-use Rattle.acap_grammar.specs.declared.grammar_fault.GrammarFault.TheVariants as fault
+use Rattle.acap_grammar.specs.declared.grammar_error.GrammarError.{GrammarError}
+use Rattle.acap_grammar.specs.declared.grammar_error.GrammarError.TheVariants as error
 
-infixl 10 ◌>>=◌
-abbrev pub ◌>>=◌ : {A B : Type 0} → Result A GrammarFault → (A → Result B GrammarFault) → Result B GrammarFault
-(Ok x) >>= f = f x
-(Err e) >>= f = Err e
-
--- this fault is what reading comes to, unless it is want of memory
-abbrev pub Fails : {Y : Type 0} → GrammarFault → Result Y GrammarFault → Type 0
-Fails e read = (e ≡ fault.Memory → ⊥) → read ≡ Err e
-
--- what a function returned, seen by view, is what reading comes to, unless memory was refused
-abbrev pub Gives : {X Y : Type 0} → (X → Y) → Result X GrammarFault → Result Y GrammarFault → Type 0
-Gives view (Ok x) read = read ≡ Ok (view x)
-Gives view (Err e) read = Fails e read
+-- a fault, and the tokens from that on at which it lies: none where it lies at the end of the line
+pub record Fault : Type 0 where
+  pub fault : GrammarFault
+  pub left : List Token
 
 -- a value, and the tokens behind it
 abbrev pub Read : Type 0 → Type 0
-Read A = Result (A × List Token) GrammarFault
+Read A = Result (A × List Token) Fault
+
+infixl 10 ◌>>=◌
+abbrev pub ◌>>=◌ : {A B E : Type 0} → Result A E → (A → Result B E) → Result B E
+(Ok x) >>= f = f x
+(Err e) >>= f = Err e
+
+-- this fault lies at the first of these tokens
+abbrev pub refused : {A : Type 0} → List Token → GrammarFault → Result A Fault
+refused tokens fault = Err (record { fault = fault; left = tokens })
+
+-- what is judged of the first of these tokens
+abbrev pub judged : {A : Type 0} → List Token → Result A GrammarFault → Result A Fault
+judged tokens (Ok x) = Ok x
+judged tokens (Err fault) = refused tokens fault
+
+-- ---- the words of contracts
+
+-- this fault is what is judged, unless the error is want of memory
+abbrev pub Fails : {Y : Type 0} → GrammarError → Result Y GrammarFault → Type 0
+Fails e judgement = (fault : GrammarFault) → e ≡ error.Fault fault → judgement ≡ Err fault
+
+-- what a function returned, seen by view, is what is judged, unless memory was refused
+abbrev pub Gives : {X Y : Type 0} → (X → Y) → Result X GrammarError → Result Y GrammarFault → Type 0
+Gives view (Ok x) judgement = judgement ≡ Ok (view x)
+Gives view (Err e) judgement = Fails e judgement
+
+-- the same of what is read, wherever a fault lies
+abbrev pub left_by : {Y : Type 0} → Result Y Fault → List Token
+left_by (Ok x) = []
+left_by (Err e) = e.left
+
+abbrev pub Refuses : {Y : Type 0} → GrammarError → Result Y Fault → Type 0
+Refuses e read = (fault : GrammarFault) → e ≡ error.Fault fault → read ≡ refused (left_by read) fault
+
+abbrev pub Reads : {X Y : Type 0} → (X → Y) → Result X GrammarError → Result Y Fault → Type 0
+Reads view (Ok x) read = read ≡ Ok (view x)
+Reads view (Err e) read = Refuses e read

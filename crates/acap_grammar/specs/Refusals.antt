@@ -30,7 +30,6 @@ of_grammar fault.BadTime = refusal.BadTime
 of_grammar fault.BadComparator = refusal.BadComparator
 of_grammar fault.TooDeep = refusal.TooDeep
 of_grammar fault.TooMany = refusal.TooMany
-of_grammar fault.Memory = refusal.Memory
 
 -- NO where the command failed, BAD where it can't be one, BYE where the session is closed
 abbrev pub status_of : Refusal → Status

@@ -19,7 +19,7 @@ use Rattle.acap_grammar.specs.declared.target.Target.{Target}
 use Rattle.acap_grammar.specs.declared.target.Target.TheVariants as target
 use Rattle.acap_grammar.specs.declared.words.SearchWord.{SearchWord}
 use Rattle.acap_grammar.specs.declared.words.SearchWord.TheVariants as search_word
-use Rattle.acap_grammar.specs.Outcome.{◌>>=◌, Read}
+use Rattle.acap_grammar.specs.Outcome.{◌>>=◌, Read, refused, judged}
 use Rattle.acap_grammar.specs.Several.{several, enclosed}
 use Rattle.acap_grammar.specs.Marks.{is_string, is_open, is_close, starts, behind, text_in, word_at, behind_word}
 use Rattle.acap_grammar.specs.Arguments.{or_fault, if_named, attribute_named, context_named, target_named, named_at, number_at, comparator_named}
@@ -55,7 +55,7 @@ default_metadata (name.Beginning front) = metadata.Attribute ∷ metadata.Value 
 -- `(` metadata+ `)`, at most 32, or nothing
 unfoldable pub metadata_part : ReturnName → List Token → Read (List Metadata)
 metadata_part name tokens =
-    if starts is_open tokens then enclosed (starts is_close) (starts is_string) metadata_at 31 [] tokens
+    if starts is_open tokens then enclosed (starts is_close) (starts is_string) metadata_at 32 [] tokens
     else Ok (default_metadata name, tokens)
 
 -- an item, behind those before; they may be repeated
@@ -84,7 +84,7 @@ sort_at seen tokens = do
 
 -- behind SORT: `(` item+ `)`, at most 16
 unfoldable pub sorts_at : List Token → Read (List SortItem)
-sorts_at tokens = enclosed (starts is_close) (starts is_string) sort_at 15 [] tokens
+sorts_at tokens = enclosed (starts is_close) (starts is_string) sort_at 16 [] tokens
 
 -- ---- the other modifiers
 
@@ -122,20 +122,25 @@ abbrev pub unmodified : SearchModifiers
 unmodified =
     record { depth = None; hard_limit = None; limit = None; make_context = None; no_inherit = false; returns = None; sort = None }
 
--- DEPTH, MAKECONTEXT and NOINHERIT stand only over a dataset
-abbrev pub over_dataset : {A : Type 0} → Target → Result A GrammarFault → Result A GrammarFault
-over_dataset (target.Dataset dataset) read = read
-over_dataset (target.Context name) read = Err fault.Arguments
+-- whether that modifier stands among those before
+abbrev pub has_modifier : SearchModifiers → SearchWord → Bool
+has_modifier m search_word.Depth = is_some m.depth
+has_modifier m search_word.HardLimit = is_some m.hard_limit
+has_modifier m search_word.Limit = is_some m.limit
+has_modifier m search_word.MakeContext = is_some m.make_context
+has_modifier m search_word.NoInherit = m.no_inherit
+has_modifier m search_word.Return = is_some m.returns
+has_modifier m search_word.Sort = is_some m.sort
 
--- behind the word of a modifier, which didn't stand before
+-- behind the word of a modifier
 unfoldable pub modified : SearchModifiers → SearchWord → List Token → Read SearchModifiers
-modified m search_word.Depth tokens = once (is_some m.depth) (number_at tokens >>= λ x. Ok (record m { depth = Some x.0 }, x.1))
-modified m search_word.HardLimit tokens = once (is_some m.hard_limit) (number_at tokens >>= λ x. Ok (record m { hard_limit = Some x.0 }, x.1))
-modified m search_word.Limit tokens = once (is_some m.limit) (limit_at tokens >>= λ x. Ok (record m { limit = Some x.0 }, x.1))
-modified m search_word.MakeContext tokens = once (is_some m.make_context) (make_context_at tokens >>= λ x. Ok (record m { make_context = Some x.0 }, x.1))
-modified m search_word.NoInherit tokens = once m.no_inherit (Ok (record m { no_inherit = true }, tokens))
-modified m search_word.Return tokens = once (is_some m.returns) (returns_at tokens >>= λ x. Ok (record m { returns = Some x.0 }, x.1))
-modified m search_word.Sort tokens = once (is_some m.sort) (sorts_at tokens >>= λ x. Ok (record m { sort = Some x.0 }, x.1))
+modified m search_word.Depth tokens = number_at tokens >>= λ x. Ok (record m { depth = Some x.0 }, x.1)
+modified m search_word.HardLimit tokens = number_at tokens >>= λ x. Ok (record m { hard_limit = Some x.0 }, x.1)
+modified m search_word.Limit tokens = limit_at tokens >>= λ x. Ok (record m { limit = Some x.0 }, x.1)
+modified m search_word.MakeContext tokens = make_context_at tokens >>= λ x. Ok (record m { make_context = Some x.0 }, x.1)
+modified m search_word.NoInherit tokens = Ok (record m { no_inherit = true }, tokens)
+modified m search_word.Return tokens = returns_at tokens >>= λ x. Ok (record m { returns = Some x.0 }, x.1)
+modified m search_word.Sort tokens = sorts_at tokens >>= λ x. Ok (record m { sort = Some x.0 }, x.1)
 
 -- DEPTH, MAKECONTEXT and NOINHERIT stand only over a dataset
 abbrev pub is_of_datasets : SearchWord → Bool
@@ -148,14 +153,19 @@ abbrev pub is_context : Target → Bool
 is_context (target.Dataset dataset) = false
 is_context (target.Context name) = true
 
-abbrev pub modifier_by : Scope → Option (SearchWord × List Token) → Read Scope
-modifier_by s None = Err fault.Arguments
-modifier_by s (Some x) =
-    if is_context s.target && is_of_datasets x.0 then Err fault.Arguments
-    else (modified s.modifiers x.0 x.1 >>= λ y. Ok (record s { modifiers = y.0 }, y.1))
+-- a modifier that may stand over what is looked through, and didn't stand before
+abbrev pub may_modify : Scope → SearchWord → Result (Unit {0}) GrammarFault
+may_modify s word = if is_context s.target && is_of_datasets word then Err fault.Arguments else once (has_modifier s.modifiers word)
+
+abbrev pub modifier_by : Scope → List Token → Option (SearchWord × List Token) → Read Scope
+modifier_by s tokens None = refused tokens fault.Arguments
+modifier_by s tokens (Some x) = do
+  new ← judged tokens (may_modify s x.0)
+  all ← modified s.modifiers x.0 x.1
+  Ok (record s { modifiers = all.0 }, all.1)
 
 unfoldable pub modifier_at : Scope → List Token → Read Scope
-modifier_at s tokens = modifier_by s (word_at search_words tokens)
+modifier_at s tokens = modifier_by s tokens (word_at search_words tokens)
 
 -- whether no modifier stands first
 unfoldable pub no_modifier : List Token → Bool

@@ -1,26 +1,26 @@
 -- Items that are read one after the other [RFC 2244 section 8].
-use Rattle.std.specs.Prelude.{ℕ, zero, suc, List, Bool, Ok, Err, if◌then◌else◌}
+use Rattle.std.specs.Prelude.{ℕ, zero, suc, ◌-◌, List, Bool, Ok, if◌then◌else◌}
 use Rattle.acap_lexer.specs.Token.{Token}
 use Rattle.acap_grammar.specs.declared.grammar_fault.GrammarFault.TheVariants as fault
-use Rattle.acap_grammar.specs.Outcome.{◌>>=◌, Read}
+use Rattle.acap_grammar.specs.Outcome.{◌>>=◌, Read, refused}
 use Rattle.acap_grammar.specs.Marks.{is_open, is_close, behind}
 
 -- Items put one after the other behind those seen, until none comes: so many more may come, and one too many is refused
 -- at its first token, if that has the kind with which an item starts.
 unfoldable pub several : {A : Type 0} → (List Token → Bool) → (List Token → Bool) → (A → List Token → Read A) → ℕ → A → List Token → Read A
 several over fits item zero seen tokens =
-    if over tokens then Ok (seen, tokens) else (if fits tokens then Err fault.TooMany else Err fault.Arguments)
+    if over tokens then Ok (seen, tokens) else refused tokens (if fits tokens then fault.TooMany else fault.Arguments)
 several over fits item (suc room) seen tokens =
     if over tokens then Ok (seen, tokens) else (item seen tokens >>= λ x. several over fits item room x.0 x.1)
 
--- one item, and so many more at most
+-- one item or more, and so many at most
 unfoldable pub some_of : {A : Type 0} → (List Token → Bool) → (List Token → Bool) → (A → List Token → Read A) → ℕ → A → List Token → Read A
-some_of over fits item room none tokens = item none tokens >>= λ x. several over fits item room x.0 x.1
+some_of over fits item most none tokens = item none tokens >>= λ x. several over fits item (most - 1) x.0 x.1
 
 -- the same in a parenthesis
 unfoldable pub enclosed : {A : Type 0} → (List Token → Bool) → (List Token → Bool) → (A → List Token → Read A) → ℕ → A → List Token → Read A
-enclosed over fits item room none tokens = do
+enclosed over fits item most none tokens = do
   inside ← behind is_open tokens
-  items ← some_of over fits item room none inside
+  items ← some_of over fits item most none inside
   left ← behind is_close items.1
   Ok (items.0, left)

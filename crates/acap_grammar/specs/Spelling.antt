@@ -1,14 +1,45 @@
--- The tokens with which a command is spelled most plainly: words in capitals, strings quoted [RFC 2244 sections 2.2, 6
--- and 8]. Each step puts its tokens before those behind it. Where a token lies doesn't matter.
-use Rattle.std.specs.Prelude.{◌≡◌, ℕ, ℤ, List, [], ◌∷◌, codes, Option, Some, None, Result, Ok}
+-- The tokens with which a command is spelled most plainly: words in capitals, strings quoted, modifiers in the order of
+-- the table [RFC 2244 sections 2.2, 6 and 8]. Each step puts its tokens before those behind it. Where a token lies
+-- doesn't matter.
+use Rattle.std.specs.Prelude.{ℕ, ℤ, List, [], ◌∷◌, ◌++◌, codes, decimal, Bool, true, false, Option, Some, None, if◌then◌else◌}
+use Rattle.std.specs.Str.{bytes_eq}
 use Rattle.acap_lexer.specs.declared.kind.Kind.{Kind}
 use Rattle.acap_lexer.specs.declared.kind.Kind.TheVariants as kind
 use Rattle.acap_lexer.specs.Token.{Token}
+use Rattle.acap_order.specs.declared.comparator.Collation.{Collation}
+use Rattle.acap_order.specs.declared.comparator.Collation.TheVariants as collation
+use Rattle.acap_order.specs.declared.comparator.Comparator.{Comparator}
+use Rattle.acap_order.specs.declared.comparator.Direction.{Direction}
+use Rattle.acap_order.specs.declared.comparator.Direction.TheVariants as direction
+use Rattle.acap_entries.specs.Stamp.{stamp_of}
+use Rattle.acap_entries.specs.declared.cell.Cell.TheVariants as cell
+use Rattle.acap_grammar.specs.declared.command.Command.{Command}
 use Rattle.acap_grammar.specs.declared.command.Command.TheVariants as command
-use Rattle.acap_grammar.specs.declared.grammar_fault.GrammarFault.{GrammarFault}
+use Rattle.acap_grammar.specs.declared.given.Given.{Given}
+use Rattle.acap_grammar.specs.declared.given.Given.TheVariants as given
+use Rattle.acap_grammar.specs.declared.limit.Limit.{Limit}
+use Rattle.acap_grammar.specs.declared.make_context.MakeContext.{MakeContext}
+use Rattle.acap_grammar.specs.declared.metadata.Metadata.{Metadata}
+use Rattle.acap_grammar.specs.declared.metadata.Metadata.TheVariants as metadata
 use Rattle.acap_grammar.specs.declared.object.Object.{Object}
-use Rattle.acap_grammar.specs.Arguments.{attribute_named, context_named, dataset_named, entry_named, time_named}
-use Rattle.acap_grammar.specs.Grammar.{command_of}
+use Rattle.acap_grammar.specs.declared.relation.Relation.{Relation}
+use Rattle.acap_grammar.specs.declared.relation.Relation.TheVariants as relation
+use Rattle.acap_grammar.specs.declared.return_item.ReturnItem.{ReturnItem}
+use Rattle.acap_grammar.specs.declared.return_name.ReturnName.{ReturnName}
+use Rattle.acap_grammar.specs.declared.return_name.ReturnName.TheVariants as name
+use Rattle.acap_grammar.specs.declared.search.Search.{Search}
+use Rattle.acap_grammar.specs.declared.search_modifiers.SearchModifiers.{SearchModifiers}
+use Rattle.acap_grammar.specs.declared.sort_item.SortItem.{SortItem}
+use Rattle.acap_grammar.specs.declared.store_entry.StoreEntry.{StoreEntry}
+use Rattle.acap_grammar.specs.declared.store_item.StoreItem.{StoreItem}
+use Rattle.acap_grammar.specs.declared.store_metadata.StoreMetadata.{StoreMetadata}
+use Rattle.acap_grammar.specs.declared.store_metadata.StoreMetadata.TheVariants as stored
+use Rattle.acap_grammar.specs.declared.store_modifiers.StoreModifiers.{StoreModifiers}
+use Rattle.acap_grammar.specs.declared.target.Target.{Target}
+use Rattle.acap_grammar.specs.declared.target.Target.TheVariants as target
+use Rattle.acap_grammar.specs.declared.test.Test.{Test}
+use Rattle.acap_grammar.specs.declared.test.Test.TheVariants as test
+use Rattle.acap_grammar.specs.Wanted.{Wanted, One, And, Or, Not}
 
 -- ---- tokens
 
@@ -21,86 +52,201 @@ word text behind = token kind.Word text ∷ behind
 abbrev pub string : List ℕ → List Token → List Token
 string text behind = token kind.Quoted text ∷ behind
 
-abbrev pub string_or_none : Option (List ℕ) → List Token → List Token
-string_or_none None behind = behind
-string_or_none (Some text) behind = string text behind
-
 abbrev pub opened : List Token → List Token
 opened behind = token kind.Open [] ∷ behind
 
 abbrev pub shut : List Token → List Token
 shut behind = token kind.Close [] ∷ behind
 
--- ---- the table of commands
+-- one after the other
+abbrev pub each : {A : Type 0} → (A → List Token → List Token) → List A → List Token → List Token
+each spell [] behind = behind
+each spell (x ∷ rest) behind = spell x (each spell rest behind)
 
--- a tag, a verb, its arguments
-abbrev pub line : List ℕ → List ℕ → List Token → List Token
-line tag verb arguments = token kind.Tag tag ∷ word verb arguments
+-- what may be left out, and a word that may be
+abbrev pub if_there : {A : Type 0} → (A → List Token → List Token) → Option A → List Token → List Token
+if_there spell None behind = behind
+if_there spell (Some x) behind = spell x behind
 
--- NOOP, LOGOUT: nothing
-abbrev pub noop : List ℕ → List Token
-noop tag = line tag (codes "NOOP") []
+abbrev pub flag : List ℕ → Bool → List Token → List Token
+flag text false behind = behind
+flag text true behind = word text behind
 
-abbrev pub logout : List ℕ → List Token
-logout tag = line tag (codes "LOGOUT") []
+-- a number in decimal digits, a time as the twenty digits of its stamp
+abbrev pub number : ℕ → List Token → List Token
+number n behind = word (decimal n) behind
 
--- AUTHENTICATE: mechanism
-abbrev pub authenticate : List ℕ → List ℕ → List Token
-authenticate tag mechanism = line tag (codes "AUTHENTICATE") (string mechanism [])
+abbrev pub time : ℤ → List Token → List Token
+time moment behind = string (stamp_of moment) behind
+
+-- a comparator: a collation's name, behind `-` where it is reversed
+abbrev pub collation_name : Collation → List ℕ
+collation_name collation.Octet = codes "i;octet"
+collation_name collation.AsciiCasemap = codes "i;ascii-casemap"
+collation_name collation.AsciiNumeric = codes "i;ascii-numeric"
+
+abbrev pub sign : Direction → List ℕ
+sign direction.Ascending = []
+sign direction.Descending = codes "-"
+
+abbrev pub comparator_name : Comparator → List ℕ
+comparator_name c = sign c.direction ++ collation_name c.collation
+
+abbrev pub comparator : Comparator → List Token → List Token
+comparator c behind = string (comparator_name c) behind
 
 -- object: `(` dataset [attribute [entry name]] `)`
 abbrev pub object : Object → List Token → List Token
-object o behind = opened (string o.dataset (string_or_none o.attribute (string_or_none o.name (shut behind))))
+object o behind = opened (string o.dataset (if_there string o.attribute (if_there string o.name (shut behind))))
 
--- SETACL: object identifier rights
-abbrev pub set_acl : List ℕ → Object → List ℕ → List ℕ → List Token
-set_acl tag o identifier rights = line tag (codes "SETACL") (object o (string identifier (string rights [])))
+-- ---- STORE
 
--- DELETEACL: object [identifier]
-abbrev pub delete_acl : List ℕ → Object → Option (List ℕ) → List Token
-delete_acl tag o identifier = line tag (codes "DELETEACL") (object o (string_or_none identifier []))
+-- given: string, list, `NIL`, `DEFAULT`; a list is `(` string* `)`
+abbrev pub given_tokens : Given → List Token → List Token
+given_tokens (given.Put cell.Nil) behind = word (codes "NIL") behind
+given_tokens (given.Put (cell.Single text)) behind = string text behind
+given_tokens (given.Put (cell.Multi texts)) behind = opened (each string texts (shut behind))
+given_tokens given.Default behind = word (codes "DEFAULT") behind
 
--- MYRIGHTS: object
-abbrev pub my_rights : List ℕ → Object → List Token
-my_rights tag o = line tag (codes "MYRIGHTS") (object o [])
+abbrev pub stored_name : StoreMetadata → List ℕ
+stored_name stored.Value = codes "value"
+stored_name stored.Acl = codes "acl"
 
--- LISTRIGHTS: object identifier
-abbrev pub list_rights : List ℕ → Object → List ℕ → List Token
-list_rights tag o identifier = line tag (codes "LISTRIGHTS") (object o (string identifier []))
+-- metadata given
+abbrev pub gift : StoreItem → List Token → List Token
+gift i behind = string (stored_name i.metadata) (given_tokens i.given behind)
 
--- DELETEDSINCE: dataset time, the time as a text that stands for it
-abbrev pub deleted_since : List ℕ → List ℕ → List ℕ → List Token
-deleted_since tag dataset time = line tag (codes "DELETEDSINCE") (string dataset (string time []))
+-- a value that is no list stands without its metadata
+abbrev pub is_bare : StoreMetadata → Given → Bool
+is_bare stored.Acl given = false
+is_bare stored.Value (given.Put (cell.Multi texts)) = false
+is_bare stored.Value given = true
 
--- FREECONTEXT: context
-abbrev pub free_context : List ℕ → List ℕ → List Token
-free_context tag name = line tag (codes "FREECONTEXT") (string name [])
+abbrev pub one_gift : StoreItem → List Token → List Token
+one_gift i behind = if is_bare i.metadata i.given then given_tokens i.given behind else opened (gift i (shut behind))
 
--- ---- what can be spelled
+-- (attribute item)+: an attribute and its item, or in one parenthesis both its items, the value and the list of rights
+abbrev pub items : List StoreItem → List Token → List Token
+items [] behind = behind
+items (i ∷ []) behind = string i.attribute (one_gift i behind)
+items (i ∷ j ∷ rest) behind =
+    if bytes_eq i.attribute j.attribute then string i.attribute (opened (gift i (gift j (shut (items rest behind)))))
+    else string i.attribute (one_gift i (items (j ∷ rest) behind))
 
--- a name that stands for itself
-abbrev pub Names : (List ℕ → Result (List ℕ) GrammarFault) → List ℕ → Type 0
-Names named text = named text ≡ Ok text
+-- modifier of STORE: `NOCREATE`, `UNCHANGEDSINCE` time
+abbrev pub unchanged_since : ℤ → List Token → List Token
+unchanged_since moment behind = word (codes "UNCHANGEDSINCE") (time moment behind)
 
--- an attribute, and an entry's name, which stands only behind an attribute
-abbrev pub Within : List ℕ → Option (List ℕ) → Option (List ℕ) → Type 0
-Within dataset None name = name ≡ None
-Within dataset (Some attribute) None = Names attribute_named attribute
-Within dataset (Some attribute) (Some name) = Names attribute_named attribute × Names (entry_named dataset) name
+abbrev pub conditions : StoreModifiers → List Token → List Token
+conditions m behind = flag (codes "NOCREATE") m.no_create (if_there unchanged_since m.unchanged_since behind)
 
-abbrev pub IsObject : Object → Type 0
-IsObject o = Names dataset_named o.dataset × Within o.dataset o.attribute o.name
+-- entry: `(` path modifier* (attribute item)+ `)`
+abbrev pub entry : StoreEntry → List Token → List Token
+entry e behind = opened (string (e.path.dataset ++ e.path.name) (conditions e.modifiers (items e.items (shut behind))))
 
--- ---- the command of the spelling is the one that was spelled
+-- ---- SEARCH
 
-pub record SpellsCommands : Type 0 where
-  pub noop_is : (tag : List ℕ) → command_of (noop tag) ≡ Ok command.Noop
-  pub logout_is : (tag : List ℕ) → command_of (logout tag) ≡ Ok command.Logout
-  pub authenticate_is : (tag mechanism : List ℕ) → command_of (authenticate tag mechanism) ≡ Ok (command.Authenticate mechanism)
-  pub set_acl_is : (tag : List ℕ) (o : Object) (identifier rights : List ℕ) → IsObject o → command_of (set_acl tag o identifier rights) ≡ Ok (command.SetAcl o identifier rights)
-  pub delete_acl_is : (tag : List ℕ) (o : Object) (identifier : Option (List ℕ)) → IsObject o → command_of (delete_acl tag o identifier) ≡ Ok (command.DeleteAcl o identifier)
-  pub my_rights_is : (tag : List ℕ) (o : Object) → IsObject o → command_of (my_rights tag o) ≡ Ok (command.MyRights o)
-  pub list_rights_is : (tag : List ℕ) (o : Object) (identifier : List ℕ) → IsObject o → command_of (list_rights tag o identifier) ≡ Ok (command.ListRights o identifier)
-  pub deleted_since_is : (tag dataset time : List ℕ) (since : ℤ) → Names dataset_named dataset → time_named time ≡ Ok since
-      → command_of (deleted_since tag dataset time) ≡ Ok (command.DeletedSince dataset since)
-  pub free_context_is : (tag name : List ℕ) → Names context_named name → command_of (free_context tag name) ≡ Ok (command.FreeContext name)
+-- return: attribute, or a name with one `*` at its end, then optionally `(` metadata+ `)`
+abbrev pub return_text : ReturnName → List ℕ
+return_text (name.Named attribute) = attribute
+return_text (name.Beginning front) = front ++ codes "*"
+
+abbrev pub metadata_name : Metadata → List ℕ
+metadata_name metadata.Acl = codes "acl"
+metadata_name metadata.Attribute = codes "attribute"
+metadata_name metadata.MyRights = codes "myrights"
+metadata_name metadata.Size = codes "size"
+metadata_name metadata.Value = codes "value"
+
+abbrev pub told : Metadata → List Token → List Token
+told m behind = string (metadata_name m) behind
+
+-- what is told where nothing is asked for is left out
+abbrev pub is_left_out : ReturnName → List Metadata → Bool
+is_left_out (name.Named attribute) (metadata.Value ∷ []) = true
+is_left_out (name.Beginning front) (metadata.Attribute ∷ metadata.Value ∷ []) = true
+is_left_out name metadata = false
+
+abbrev pub return_item : ReturnItem → List Token → List Token
+return_item r behind = string (return_text r.name) (if is_left_out r.name r.metadata then behind else opened (each told r.metadata (shut behind)))
+
+abbrev pub sort_item : SortItem → List Token → List Token
+sort_item s behind = string s.attribute (comparator s.comparator behind)
+
+-- modifier of SEARCH: `DEPTH` number; `HARDLIMIT` number; `LIMIT` number number; `MAKECONTEXT` [`ENUMERATE`] [`NOTIFY`]
+-- context; `NOINHERIT`; `RETURN` `(` return* `)`; `SORT` `(` (attribute comparator)+ `)`
+abbrev pub depth : ℕ → List Token → List Token
+depth n behind = word (codes "DEPTH") (number n behind)
+
+abbrev pub hard_limit : ℕ → List Token → List Token
+hard_limit n behind = word (codes "HARDLIMIT") (number n behind)
+
+abbrev pub limit : Limit → List Token → List Token
+limit l behind = word (codes "LIMIT") (number l.over (number l.most behind))
+
+abbrev pub make_context : MakeContext → List Token → List Token
+make_context m behind =
+    word (codes "MAKECONTEXT") (flag (codes "ENUMERATE") m.enumerate (flag (codes "NOTIFY") m.notify (string m.name behind)))
+
+abbrev pub no_inherit : Bool → List Token → List Token
+no_inherit stands behind = flag (codes "NOINHERIT") stands behind
+
+abbrev pub returns : List ReturnItem → List Token → List Token
+returns all behind = word (codes "RETURN") (opened (each return_item all (shut behind)))
+
+abbrev pub sort : List SortItem → List Token → List Token
+sort all behind = word (codes "SORT") (opened (each sort_item all (shut behind)))
+
+abbrev pub modifiers : SearchModifiers → List Token → List Token
+modifiers m behind =
+    if_there depth m.depth (if_there hard_limit m.hard_limit (if_there limit m.limit (if_there make_context m.make_context
+    (no_inherit m.no_inherit (if_there returns m.returns (if_there sort m.sort behind))))))
+
+-- key: `ALL`; `AND` key key; `OR` key key; `NOT` key; `EQUAL` attribute comparator (string or `NIL`); `COMPARE`,
+-- `COMPARESTRICT`, `PREFIX`, `SUBSTRING` attribute comparator string; `RANGE` number number time
+abbrev pub relation_word : Relation → List ℕ
+relation_word relation.Equal = codes "EQUAL"
+relation_word relation.AtLeast = codes "COMPARE"
+relation_word relation.Greater = codes "COMPARESTRICT"
+relation_word relation.Begins = codes "PREFIX"
+relation_word relation.Contains = codes "SUBSTRING"
+
+abbrev pub test_tokens : Test → List Token → List Token
+test_tokens test.All behind = word (codes "ALL") behind
+test_tokens (test.IsNil attribute c) behind = word (codes "EQUAL") (string attribute (comparator c (word (codes "NIL") behind)))
+test_tokens (test.Meets r attribute c value) behind = word (relation_word r) (string attribute (comparator c (string value behind)))
+test_tokens (test.Range first last since) behind = word (codes "RANGE") (number first (number last (time since behind)))
+
+abbrev pub key : Wanted → List Token → List Token
+key (One t) behind = test_tokens t behind
+key (And a b) behind = word (codes "AND") (key a (key b behind))
+key (Or a b) behind = word (codes "OR") (key a (key b behind))
+key (Not a) behind = word (codes "NOT") (key a behind)
+
+-- what is looked through: a dataset or a context
+abbrev pub target_text : Target → List ℕ
+target_text (target.Dataset dataset) = dataset
+target_text (target.Context name) = name
+
+-- (dataset or context) modifier* key
+abbrev pub search_tokens : Search → List Token → List Token
+search_tokens s behind = string (target_text s.target) (modifiers s.modifiers (key s.key behind))
+
+-- ---- the table of commands: a tag, a verb and its arguments
+
+abbrev pub line : List ℕ → List ℕ → List Token → List Token
+line tag verb arguments = token kind.Tag tag ∷ word verb arguments
+
+abbrev pub tokens_of : List ℕ → Command → List Token
+tokens_of tag command.Noop = line tag (codes "NOOP") []
+tokens_of tag command.Logout = line tag (codes "LOGOUT") []
+tokens_of tag (command.Authenticate mechanism) = line tag (codes "AUTHENTICATE") (string mechanism [])
+tokens_of tag (command.Store entries) = line tag (codes "STORE") (each entry entries [])
+tokens_of tag (command.Search s) = line tag (codes "SEARCH") (search_tokens s [])
+tokens_of tag (command.SetAcl o identifier rights) = line tag (codes "SETACL") (object o (string identifier (string rights [])))
+tokens_of tag (command.DeleteAcl o identifier) = line tag (codes "DELETEACL") (object o (if_there string identifier []))
+tokens_of tag (command.MyRights o) = line tag (codes "MYRIGHTS") (object o [])
+tokens_of tag (command.ListRights o identifier) = line tag (codes "LISTRIGHTS") (object o (string identifier []))
+tokens_of tag (command.DeletedSince dataset since) = line tag (codes "DELETEDSINCE") (string dataset (time since []))
+tokens_of tag (command.FreeContext context) = line tag (codes "FREECONTEXT") (string context [])
+tokens_of tag (command.UpdateContext contexts) = line tag (codes "UPDATECONTEXT") (each string contexts [])

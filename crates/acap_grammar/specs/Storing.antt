@@ -17,16 +17,16 @@ use Rattle.acap_grammar.specs.declared.store_modifiers.StoreModifiers.{StoreModi
 use Rattle.acap_grammar.specs.declared.storing.Gifts.{Gifts}
 use Rattle.acap_grammar.specs.declared.words.StoreWord.{StoreWord}
 use Rattle.acap_grammar.specs.declared.words.StoreWord.TheVariants as store_word
-use Rattle.acap_grammar.specs.Outcome.{◌>>=◌, Read}
+use Rattle.acap_grammar.specs.Outcome.{◌>>=◌, Read, refused, judged}
 use Rattle.acap_grammar.specs.Several.{several, some_of, enclosed}
 use Rattle.acap_grammar.specs.Marks.{is_string, is_open, is_close, ends, starts, behind, string_at, text_in, word_at}
 use Rattle.acap_grammar.specs.Arguments.{or_fault, path_named, attribute_named, named_at, time_named}
 
 -- ---- what may stand once
 
--- a fault where it stood before, and else what is read now
-abbrev pub once : {A : Type 0} → Bool → Result A GrammarFault → Result A GrammarFault
-once stood read = if stood then Err fault.NotPermittedTwice else read
+-- a fault where it stood before
+abbrev pub once : Bool → Result (Unit {0}) GrammarFault
+once stood = if stood then Err fault.NotPermittedTwice else Ok tt
 
 -- whether an entry with this path, an item with this attribute, or one with the same metadata, stands among those before
 unfoldable pub has_path : Path → List StoreEntry → Bool
@@ -47,10 +47,10 @@ has_item attribute metadata seen = list_any (λ i. bytes_eq i.attribute attribut
 
 -- the strings up to the parenthesis that closes them, behind those before
 unfoldable pub strings_at : List (List ℕ) → List Token → Read (List (List ℕ))
-strings_at seen [] = Err fault.Arguments
+strings_at seen [] = refused [] fault.Arguments
 strings_at seen (t ∷ rest) =
     if is_close t.kind then Ok (seen, rest)
-    else (if is_string t.kind then strings_at (seen ++ t.value ∷ []) rest else Err fault.Arguments)
+    else (if is_string t.kind then strings_at (seen ++ t.value ∷ []) rest else refused (t ∷ rest) fault.Arguments)
 
 -- the words that are given in place of a string
 abbrev pub given_words : List (List ℕ × Given)
@@ -60,7 +60,7 @@ given_words = (codes "NIL", given.Put cell.Nil) ∷ (codes "DEFAULT", given.Defa
 unfoldable pub plain_at : List Token → Read Given
 plain_at tokens =
     if starts is_string tokens then (string_at tokens >>= λ x. Ok (given.Put (cell.Single x.0), x.1))
-    else or_fault fault.Arguments (word_at given_words tokens)
+    else judged tokens (or_fault fault.Arguments (word_at given_words tokens))
 
 -- one of these, or a list: `(` string* `)`
 unfoldable pub given_at : List Token → Read Given
@@ -80,25 +80,27 @@ metadata_named text = or_fault fault.Arguments (text_in store_metadata text)
 unfoldable pub gift_at : Gifts → List Token → Read Gifts
 gift_at seen tokens = do
   metadata ← named_at metadata_named tokens
-  given ← once (has_item seen.attribute metadata.0 seen.items) (given_at metadata.1)
+  new ← judged tokens (once (has_item seen.attribute metadata.0 seen.items))
+  given ← given_at metadata.1
   Ok (record seen { items = seen.items ++ record { attribute = seen.attribute; metadata = metadata.0; given = given.0 } ∷ [] }, given.1)
 
 -- behind an attribute: what its value is given, or `(` (metadata given)+ `)`. There are two metadata and each may stand
 -- once, so that a third is refused for itself.
 unfoldable pub gifts_at : Gifts → List Token → Read (List StoreItem)
 gifts_at seen tokens =
-    if starts is_open tokens then (enclosed (starts is_close) (starts is_string) gift_at 2 seen tokens >>= λ x. Ok (x.0.items, x.1))
+    if starts is_open tokens then (enclosed (starts is_close) (starts is_string) gift_at 3 seen tokens >>= λ x. Ok (x.0.items, x.1))
     else (plain_at tokens >>= λ x. Ok (seen.items ++ record { attribute = seen.attribute; metadata = metadata.Value; given = x.0 } ∷ [], x.1))
 
 -- an attribute that isn't among those before, and what it is given
 unfoldable pub item_at : List StoreItem → List Token → Read (List StoreItem)
 item_at seen tokens = do
   attribute ← named_at attribute_named tokens
-  once (has_attribute attribute.0 seen) (gifts_at (record { attribute = attribute.0; items = seen }) attribute.1)
+  new ← judged tokens (once (has_attribute attribute.0 seen))
+  gifts_at (record { attribute = attribute.0; items = seen }) attribute.1
 
 -- one attribute or more, at most 256, up to the parenthesis that closes the entry
 unfoldable pub items_at : List Token → Read (List StoreItem)
-items_at tokens = some_of (starts is_close) (starts is_string) item_at 255 [] tokens
+items_at tokens = some_of (starts is_close) (starts is_string) item_at 256 [] tokens
 
 -- ---- modifiers
 
@@ -108,18 +110,22 @@ unconditional = record { no_create = false; unchanged_since = None }
 abbrev pub store_words : List (List ℕ × StoreWord)
 store_words = (codes "NOCREATE", store_word.NoCreate) ∷ (codes "UNCHANGEDSINCE", store_word.UnchangedSince) ∷ []
 
--- behind the word of a modifier, which didn't stand before
-unfoldable pub conditioned : StoreModifiers → StoreWord → List Token → Read StoreModifiers
-conditioned seen store_word.NoCreate tokens = once seen.no_create (Ok (record seen { no_create = true }, tokens))
-conditioned seen store_word.UnchangedSince tokens =
-    once (is_some seen.unchanged_since) (named_at time_named tokens >>= λ x. Ok (record seen { unchanged_since = Some x.0 }, x.1))
+-- whether that modifier stands among those before
+abbrev pub has_condition : StoreModifiers → StoreWord → Bool
+has_condition seen store_word.NoCreate = seen.no_create
+has_condition seen store_word.UnchangedSince = is_some seen.unchanged_since
 
-abbrev pub condition_by : StoreModifiers → Option (StoreWord × List Token) → Read StoreModifiers
-condition_by seen None = Err fault.Arguments
-condition_by seen (Some x) = conditioned seen x.0 x.1
+-- behind the word of a modifier
+unfoldable pub conditioned : StoreModifiers → StoreWord → List Token → Read StoreModifiers
+conditioned seen store_word.NoCreate tokens = Ok (record seen { no_create = true }, tokens)
+conditioned seen store_word.UnchangedSince tokens = named_at time_named tokens >>= λ x. Ok (record seen { unchanged_since = Some x.0 }, x.1)
+
+abbrev pub condition_by : StoreModifiers → List Token → Option (StoreWord × List Token) → Read StoreModifiers
+condition_by seen tokens None = refused tokens fault.Arguments
+condition_by seen tokens (Some x) = judged tokens (once (has_condition seen x.0)) >>= λ new. conditioned seen x.0 x.1
 
 unfoldable pub condition_at : StoreModifiers → List Token → Read StoreModifiers
-condition_at seen tokens = condition_by seen (word_at store_words tokens)
+condition_at seen tokens = condition_by seen tokens (word_at store_words tokens)
 
 -- whether no modifier stands first
 unfoldable pub no_condition : List Token → Bool
@@ -135,7 +141,8 @@ conditions_at tokens = several no_condition no_condition condition_at 3 uncondit
 unfoldable pub path_at : List StoreEntry → List Token → Read Path
 path_at seen tokens = do
   path ← named_at path_named tokens
-  once (has_path path.0 seen) (Ok path)
+  new ← judged tokens (once (has_path path.0 seen))
+  Ok path
 
 -- an entry: `(` path modifier* item+ `)`
 unfoldable pub entry_at : List StoreEntry → List Token → Read (List StoreEntry)
@@ -149,4 +156,4 @@ entry_at seen tokens = do
 
 -- one entry or more, at most 256, up to the end
 unfoldable pub entries_at : List Token → Read (List StoreEntry)
-entries_at tokens = some_of ends (starts is_open) entry_at 255 [] tokens
+entries_at tokens = some_of ends (starts is_open) entry_at 256 [] tokens

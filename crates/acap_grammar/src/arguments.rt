@@ -1,7 +1,7 @@
 //! The arguments of commands: names, numbers, times, comparators and objects (RFC 2244 sections 2.2, 3, 6 and 8).
 
 ghost use Rattle.std.specs.Prelude.{◌≡◌, ◌++◌, drop, IfOk};
-ghost use Rattle.acap_grammar.specs.Outcome.{Gives};
+ghost use Rattle.acap_grammar.specs.Outcome.{Gives, Reads};
 ghost use Rattle.std.specs.List.{list_all};
 ghost use Rattle.std.specs.Char.{is_ascii_digit};
 ghost use Rattle.acap_entries.specs.Names.{is_path as is_path_text};
@@ -9,6 +9,7 @@ ghost use Rattle.acap_grammar.specs.Marks.{string_at as string};
 ghost use Rattle.acap_grammar.specs.Arguments as argument;
 
 use crate::descent::{Piece, behind_close, behind_open, closes, peek, string_at};
+use crate::grammar_error::GrammarError;
 use crate::grammar_fault::GrammarFault;
 use crate::object::Object;
 use crate::relation::Relation;
@@ -22,46 +23,46 @@ use acap_order::Comparator;
 use std::alloc::Global;
 
 #[tactic(auto, unfolding(crate::specs::Arguments::path_named))]
-fn path_named(alloc: Global, text: &[u8]) -> Result<Path, GrammarFault>
+fn path_named(alloc: Global, text: &[u8]) -> Result<Path, GrammarError>
     ensures { Gives (λ x. x) result (argument.path_named text.now) }
 {
     match Path::read(alloc, text) {
         Ok(name) => Ok(name),
-        Err(NameFault::BadName) => Err(GrammarFault::BadName),
-        Err(NameFault::Memory) => Err(GrammarFault::Memory),
+        Err(NameFault::BadName) => Err(GrammarError::Fault(GrammarFault::BadName)),
+        Err(NameFault::Memory) => Err(GrammarError::Memory),
     }
 }
 
 #[tactic(auto, unfolding(crate::specs::Arguments::attribute_named))]
-pub(crate) fn attribute_named(alloc: Global, text: &[u8]) -> Result<Attribute, GrammarFault>
+pub(crate) fn attribute_named(alloc: Global, text: &[u8]) -> Result<Attribute, GrammarError>
     ensures { Gives (λ x. x) result (argument.attribute_named text.now) }
 {
     match Attribute::read(alloc, text) {
         Ok(name) => Ok(name),
-        Err(NameFault::BadName) => Err(GrammarFault::BadName),
-        Err(NameFault::Memory) => Err(GrammarFault::Memory),
+        Err(NameFault::BadName) => Err(GrammarError::Fault(GrammarFault::BadName)),
+        Err(NameFault::Memory) => Err(GrammarError::Memory),
     }
 }
 
 #[tactic(auto, unfolding(crate::specs::Arguments::dataset_named))]
-fn dataset_named(alloc: Global, text: &[u8]) -> Result<Dataset, GrammarFault>
+fn dataset_named(alloc: Global, text: &[u8]) -> Result<Dataset, GrammarError>
     ensures { Gives (λ x. x) result (argument.dataset_named text.now) }
 {
     match Dataset::read(alloc, text) {
         Ok(name) => Ok(name),
-        Err(NameFault::BadName) => Err(GrammarFault::BadName),
-        Err(NameFault::Memory) => Err(GrammarFault::Memory),
+        Err(NameFault::BadName) => Err(GrammarError::Fault(GrammarFault::BadName)),
+        Err(NameFault::Memory) => Err(GrammarError::Memory),
     }
 }
 
 #[tactic(auto, unfolding(crate::specs::Arguments::context_named))]
-fn context_named(alloc: Global, text: &[u8]) -> Result<ContextName, GrammarFault>
+fn context_named(alloc: Global, text: &[u8]) -> Result<ContextName, GrammarError>
     ensures { Gives (λ x. x) result (argument.context_named text.now) }
 {
     match ContextName::read(alloc, text) {
         Ok(name) => Ok(name),
-        Err(NameFault::BadName) => Err(GrammarFault::BadName),
-        Err(NameFault::Memory) => Err(GrammarFault::Memory),
+        Err(NameFault::BadName) => Err(GrammarError::Fault(GrammarFault::BadName)),
+        Err(NameFault::Memory) => Err(GrammarError::Memory),
     }
 }
 
@@ -71,8 +72,8 @@ pub(crate) fn path_at(
     alloc: Global,
     tokens: &Tokens,
     at: usize,
-) -> Result<(Path, usize), GrammarFault>
-    ensures { Gives (λ x. (x.0, drop x.1 tokens.now)) result (argument.named_at argument.path_named (drop at tokens.now)) }
+) -> Result<(Path, usize), GrammarError>
+    ensures { Reads (λ x. (x.0, drop x.1 tokens.now)) result (argument.named_at argument.path_named (drop at tokens.now)) }
 {
     let (text, next) = string_at(tokens, at)?;
     Ok((path_named(alloc, text)?, next))
@@ -84,8 +85,8 @@ pub(crate) fn attribute_at(
     alloc: Global,
     tokens: &Tokens,
     at: usize,
-) -> Result<(Attribute, usize), GrammarFault>
-    ensures { Gives (λ x. (x.0, drop x.1 tokens.now)) result (argument.named_at argument.attribute_named (drop at tokens.now)) }
+) -> Result<(Attribute, usize), GrammarError>
+    ensures { Reads (λ x. (x.0, drop x.1 tokens.now)) result (argument.named_at argument.attribute_named (drop at tokens.now)) }
 {
     let (text, next) = string_at(tokens, at)?;
     Ok((attribute_named(alloc, text)?, next))
@@ -97,8 +98,8 @@ pub(crate) fn dataset_at(
     alloc: Global,
     tokens: &Tokens,
     at: usize,
-) -> Result<(Dataset, usize), GrammarFault>
-    ensures { Gives (λ x. (x.0, drop x.1 tokens.now)) result (argument.named_at argument.dataset_named (drop at tokens.now)) }
+) -> Result<(Dataset, usize), GrammarError>
+    ensures { Reads (λ x. (x.0, drop x.1 tokens.now)) result (argument.named_at argument.dataset_named (drop at tokens.now)) }
 {
     let (text, next) = string_at(tokens, at)?;
     Ok((dataset_named(alloc, text)?, next))
@@ -110,8 +111,8 @@ pub(crate) fn context_at(
     alloc: Global,
     tokens: &Tokens,
     at: usize,
-) -> Result<(ContextName, usize), GrammarFault>
-    ensures { Gives (λ x. (x.0, drop x.1 tokens.now)) result (argument.named_at argument.context_named (drop at tokens.now)) }
+) -> Result<(ContextName, usize), GrammarError>
+    ensures { Reads (λ x. (x.0, drop x.1 tokens.now)) result (argument.named_at argument.context_named (drop at tokens.now)) }
 {
     let (text, next) = string_at(tokens, at)?;
     Ok((context_named(alloc, text)?, next))
@@ -123,15 +124,15 @@ pub(crate) fn value_at(
     alloc: Global,
     tokens: &Tokens,
     at: usize,
-) -> Result<(Value, usize), GrammarFault>
-    ensures { Gives (λ x. (x.0, drop x.1 tokens.now)) result (string (drop at tokens.now)) }
+) -> Result<(Value, usize), GrammarError>
+    ensures { Reads (λ x. (x.0, drop x.1 tokens.now)) result (string (drop at tokens.now)) }
 {
     let (text, next) = string_at(tokens, at)?;
     Ok((Value::from_slice(alloc, text)?, next))
 }
 
 #[tactic(auto, unfolding(crate::specs::Arguments::target_named))]
-fn target_named(alloc: Global, text: &[u8]) -> Result<Target, GrammarFault>
+fn target_named(alloc: Global, text: &[u8]) -> Result<Target, GrammarError>
     ensures { Gives (λ x. x) result (argument.target_named text.now) }
 {
     if begins_with(text, b'/') {
@@ -147,8 +148,8 @@ pub(crate) fn target_at(
     alloc: Global,
     tokens: &Tokens,
     at: usize,
-) -> Result<(Target, usize), GrammarFault>
-    ensures { Gives (λ x. (x.0, drop x.1 tokens.now)) result (argument.named_at argument.target_named (drop at tokens.now)) }
+) -> Result<(Target, usize), GrammarError>
+    ensures { Reads (λ x. (x.0, drop x.1 tokens.now)) result (argument.named_at argument.target_named (drop at tokens.now)) }
 {
     let (text, next) = string_at(tokens, at)?;
     Ok((target_named(alloc, text)?, next))
@@ -173,8 +174,8 @@ fn number_in(text: &[u8]) -> Option<u32>
 
 /// A number, and the index behind it.
 #[tactic(auto, unfolding(crate::specs::Arguments::number_at))]
-pub(crate) fn number_at(tokens: &Tokens, at: usize) -> Result<(u32, usize), GrammarFault>
-    ensures { Gives (λ x. (x.0, drop x.1 tokens.now)) result (argument.number_at (drop at tokens.now)) }
+pub(crate) fn number_at(tokens: &Tokens, at: usize) -> Result<(u32, usize), GrammarError>
+    ensures { Reads (λ x. (x.0, drop x.1 tokens.now)) result (argument.number_at (drop at tokens.now)) }
 {
     let Some(
         Piece {
@@ -185,39 +186,39 @@ pub(crate) fn number_at(tokens: &Tokens, at: usize) -> Result<(u32, usize), Gram
         },
     ) = peek(tokens, at)
     else {
-        return Err(GrammarFault::Arguments);
+        return Err(GrammarError::Fault(GrammarFault::Arguments));
     };
     match number_in(value) {
         Some(number) => Ok((number, next)),
-        None => Err(GrammarFault::Arguments),
+        None => Err(GrammarError::Fault(GrammarFault::Arguments)),
     }
 }
 
 /// A time, and the index behind it.
 #[tactic(auto, unfolding(crate::specs::Arguments::named_at))]
-pub(crate) fn time_at(tokens: &Tokens, at: usize) -> Result<(Moment, usize), GrammarFault>
-    ensures { Gives (λ x. (x.0, drop x.1 tokens.now)) result (argument.named_at argument.time_named (drop at tokens.now)) }
+pub(crate) fn time_at(tokens: &Tokens, at: usize) -> Result<(Moment, usize), GrammarError>
+    ensures { Reads (λ x. (x.0, drop x.1 tokens.now)) result (argument.named_at argument.time_named (drop at tokens.now)) }
 {
     let (text, next) = string_at(tokens, at)?;
     match read_time(text) {
         Some(moment) => Ok((moment, next)),
-        None => Err(GrammarFault::BadTime),
+        None => Err(GrammarError::Fault(GrammarFault::BadTime)),
     }
 }
 
-fn comparator_named(text: &[u8]) -> Result<Comparator, GrammarFault>
+fn comparator_named(text: &[u8]) -> Result<Comparator, GrammarError>
     ensures { Gives (λ x. x) result (argument.comparator_named text.now) }
 {
     match Comparator::read(text) {
         Some(comparator) => Ok(comparator),
-        None => Err(GrammarFault::BadComparator),
+        None => Err(GrammarError::Fault(GrammarFault::BadComparator)),
     }
 }
 
 /// A comparator, and the index behind it.
 #[tactic(auto, unfolding(crate::specs::Arguments::named_at))]
-pub(crate) fn comparator_at(tokens: &Tokens, at: usize) -> Result<(Comparator, usize), GrammarFault>
-    ensures { Gives (λ x. (x.0, drop x.1 tokens.now)) result (argument.named_at argument.comparator_named (drop at tokens.now)) }
+pub(crate) fn comparator_at(tokens: &Tokens, at: usize) -> Result<(Comparator, usize), GrammarError>
+    ensures { Reads (λ x. (x.0, drop x.1 tokens.now)) result (argument.named_at argument.comparator_named (drop at tokens.now)) }
 {
     let (text, next) = string_at(tokens, at)?;
     Ok((comparator_named(text)?, next))
@@ -231,12 +232,12 @@ fn is_of_texts(relation: Relation) -> bool
 }
 
 #[tactic(auto, unfolding(crate::specs::Arguments::comparator_for))]
-fn comparator_for(relation: Relation, text: &[u8]) -> Result<Comparator, GrammarFault>
+fn comparator_for(relation: Relation, text: &[u8]) -> Result<Comparator, GrammarError>
     ensures { Gives (λ x. x) result (argument.comparator_for relation text.now) }
 {
     let comparator = comparator_named(text)?;
     if is_of_texts(relation) && comparator.is_numeric() {
-        return Err(GrammarFault::BadComparator);
+        return Err(GrammarError::Fault(GrammarFault::BadComparator));
     }
     Ok(comparator)
 }
@@ -247,8 +248,8 @@ pub(crate) fn comparator_for_at(
     relation: Relation,
     tokens: &Tokens,
     at: usize,
-) -> Result<(Comparator, usize), GrammarFault>
-    ensures { Gives (λ x. (x.0, drop x.1 tokens.now)) result (argument.named_at (argument.comparator_for relation) (drop at tokens.now)) }
+) -> Result<(Comparator, usize), GrammarError>
+    ensures { Reads (λ x. (x.0, drop x.1 tokens.now)) result (argument.named_at (argument.comparator_for relation) (drop at tokens.now)) }
 {
     let (text, next) = string_at(tokens, at)?;
     Ok((comparator_for(relation, text)?, next))
@@ -264,11 +265,11 @@ fn is_path_of(alloc: Global, dataset: &Dataset, name: &[u8]) -> Result<bool, Mem
 }
 
 #[tactic(auto, unfolding(crate::specs::Arguments::entry_named))]
-fn entry_named(alloc: Global, dataset: &Dataset, text: &[u8]) -> Result<EntryName, GrammarFault>
+fn entry_named(alloc: Global, dataset: &Dataset, text: &[u8]) -> Result<EntryName, GrammarError>
     ensures { Gives (λ x. x) result (argument.entry_named dataset.now text.now) }
 {
     if !is_entry_name(text) || !is_path_of(alloc, dataset, text)? {
-        return Err(GrammarFault::BadName);
+        return Err(GrammarError::Fault(GrammarFault::BadName));
     }
     Ok(EntryName::from_slice(alloc, text)?)
 }
@@ -279,8 +280,8 @@ fn entry_name_at(
     dataset: &Dataset,
     tokens: &Tokens,
     at: usize,
-) -> Result<(EntryName, usize), GrammarFault>
-    ensures { Gives (λ x. (x.0, drop x.1 tokens.now)) result (argument.named_at (argument.entry_named dataset.now) (drop at tokens.now)) }
+) -> Result<(EntryName, usize), GrammarError>
+    ensures { Reads (λ x. (x.0, drop x.1 tokens.now)) result (argument.named_at (argument.entry_named dataset.now) (drop at tokens.now)) }
 {
     let (text, next) = string_at(tokens, at)?;
     Ok((entry_named(alloc, dataset, text)?, next))
@@ -293,8 +294,8 @@ fn entry_part(
     dataset: &Dataset,
     tokens: &Tokens,
     at: usize,
-) -> Result<(Option<EntryName>, usize), GrammarFault>
-    ensures { Gives (λ x. (x.0, drop x.1 tokens.now)) result (argument.entry_part dataset.now (drop at tokens.now)) }
+) -> Result<(Option<EntryName>, usize), GrammarError>
+    ensures { Reads (λ x. (x.0, drop x.1 tokens.now)) result (argument.entry_part dataset.now (drop at tokens.now)) }
 {
     if closes(tokens, at) {
         return Ok((None, at));
@@ -310,8 +311,8 @@ fn attribute_part(
     dataset: &Dataset,
     tokens: &Tokens,
     at: usize,
-) -> Result<(Option<Attribute>, Option<EntryName>, usize), GrammarFault>
-    ensures { Gives (λ x. ((x.0, x.1), drop x.2 tokens.now)) result (argument.attribute_part dataset.now (drop at tokens.now)) }
+) -> Result<(Option<Attribute>, Option<EntryName>, usize), GrammarError>
+    ensures { Reads (λ x. ((x.0, x.1), drop x.2 tokens.now)) result (argument.attribute_part dataset.now (drop at tokens.now)) }
 {
     if closes(tokens, at) {
         return Ok((None, None, at));
@@ -327,8 +328,8 @@ pub(crate) fn object_at(
     alloc: Global,
     tokens: &Tokens,
     at: usize,
-) -> Result<(Object, usize), GrammarFault>
-    ensures { Gives (λ x. (x.0, drop x.1 tokens.now)) result (argument.object_at (drop at tokens.now)) }
+) -> Result<(Object, usize), GrammarError>
+    ensures { Reads (λ x. (x.0, drop x.1 tokens.now)) result (argument.object_at (drop at tokens.now)) }
 {
     let inside = behind_open(tokens, at)?;
     let (dataset, next) = dataset_at(alloc, tokens, inside)?;

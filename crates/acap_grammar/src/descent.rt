@@ -1,9 +1,10 @@
 //! What stands first among the tokens from an index on.
 
 ghost use Rattle.std.specs.Prelude.{◌≡◌, ◌∷◌, [], drop, None, Some, MatchOption};
-ghost use Rattle.acap_grammar.specs.Outcome.{Gives};
+ghost use Rattle.acap_grammar.specs.Outcome.{Reads};
 ghost use Rattle.acap_grammar.specs.Marks.{is_open as is_open_kind, is_close as is_close_kind, is_string as is_string_kind, ends, starts, behind, string_at, behind_word};
 
+use crate::grammar_error::GrammarError;
 use crate::grammar_fault::GrammarFault;
 use acap_lexer::{Kind, Tokens};
 
@@ -95,8 +96,8 @@ pub(crate) fn starts_string(tokens: &Tokens, at: usize) -> bool
 pub(crate) fn string_at<'a>(
     tokens: &'a Tokens,
     at: usize,
-) -> Result<(&'a [u8], usize), GrammarFault>
-    ensures { Gives (λ x. (x.0.now, drop x.1 tokens.now)) result (string_at (drop at tokens.now)) }
+) -> Result<(&'a [u8], usize), GrammarError>
+    ensures { Reads (λ x. (x.0.now, drop x.1 tokens.now)) result (string_at (drop at tokens.now)) }
 {
     match peek(tokens, at) {
         Some(
@@ -107,13 +108,13 @@ pub(crate) fn string_at<'a>(
                 ..
             },
         ) => Ok((value, next)),
-        _ => Err(GrammarFault::Arguments),
+        _ => Err(GrammarError::Fault(GrammarFault::Arguments)),
     }
 }
 
 #[tactic(auto, unfolding(crate::specs::Marks::behind))]
-pub(crate) fn behind_open(tokens: &Tokens, at: usize) -> Result<usize, GrammarFault>
-    ensures { Gives (λ x. drop x tokens.now) result (behind is_open_kind (drop at tokens.now)) }
+pub(crate) fn behind_open(tokens: &Tokens, at: usize) -> Result<usize, GrammarError>
+    ensures { Reads (λ x. drop x tokens.now) result (behind is_open_kind (drop at tokens.now)) }
 {
     match peek(tokens, at) {
         Some(
@@ -123,13 +124,13 @@ pub(crate) fn behind_open(tokens: &Tokens, at: usize) -> Result<usize, GrammarFa
                 ..
             },
         ) => Ok(next),
-        _ => Err(GrammarFault::Arguments),
+        _ => Err(GrammarError::Fault(GrammarFault::Arguments)),
     }
 }
 
 #[tactic(auto, unfolding(crate::specs::Marks::behind))]
-pub(crate) fn behind_close(tokens: &Tokens, at: usize) -> Result<usize, GrammarFault>
-    ensures { Gives (λ x. drop x tokens.now) result (behind is_close_kind (drop at tokens.now)) }
+pub(crate) fn behind_close(tokens: &Tokens, at: usize) -> Result<usize, GrammarError>
+    ensures { Reads (λ x. drop x tokens.now) result (behind is_close_kind (drop at tokens.now)) }
 {
     match peek(tokens, at) {
         Some(
@@ -139,7 +140,7 @@ pub(crate) fn behind_close(tokens: &Tokens, at: usize) -> Result<usize, GrammarF
                 ..
             },
         ) => Ok(next),
-        _ => Err(GrammarFault::Arguments),
+        _ => Err(GrammarError::Fault(GrammarFault::Arguments)),
     }
 }
 

@@ -1,7 +1,7 @@
 //! The key of a SEARCH (RFC 2244 section 6.4.1).
 
 ghost use Rattle.std.specs.Prelude.{◌≡◌, drop, codes, if◌then◌else◌};
-ghost use Rattle.acap_grammar.specs.Outcome.{Gives};
+ghost use Rattle.acap_grammar.specs.Outcome.{Reads};
 ghost use Rattle.acap_grammar.specs.Marks.{behind_word as behind_word_of, ends as ends_tokens};
 ghost use Rattle.acap_grammar.specs.Wanted.{One};
 ghost use Rattle.acap_grammar.specs.declared.grammar_fault.GrammarFault.TheVariants as fault;
@@ -9,6 +9,7 @@ ghost use Rattle.acap_grammar.specs.Keys as keys;
 
 use crate::arguments::{attribute_at, comparator_for_at, number_at, time_at, value_at};
 use crate::descent::{behind_word, ends};
+use crate::grammar_error::GrammarError;
 use crate::grammar_fault::GrammarFault;
 use crate::key::Key;
 use crate::relation::Relation;
@@ -27,8 +28,8 @@ fn string_part(
     comparator: Comparator,
     tokens: &Tokens,
     at: usize,
-) -> Result<(Test, usize), GrammarFault>
-    ensures { Gives (λ x. (x.0, drop x.1 tokens.now)) result (keys.string_part relation attribute comparator (drop at tokens.now)) }
+) -> Result<(Test, usize), GrammarError>
+    ensures { Reads (λ x. (x.0, drop x.1 tokens.now)) result (keys.string_part relation attribute comparator (drop at tokens.now)) }
 {
     let (value, next) = value_at(alloc, tokens, at)?;
     Ok((Test::Meets(relation, attribute, comparator, value), next))
@@ -41,8 +42,8 @@ fn equal_part(
     comparator: Comparator,
     tokens: &Tokens,
     at: usize,
-) -> Result<(Test, usize), GrammarFault>
-    ensures { Gives (λ x. (x.0, drop x.1 tokens.now)) result (keys.equal_part attribute comparator (drop at tokens.now) (behind_word_of (codes "NIL") (drop at tokens.now))) }
+) -> Result<(Test, usize), GrammarError>
+    ensures { Reads (λ x. (x.0, drop x.1 tokens.now)) result (keys.equal_part attribute comparator (drop at tokens.now) (behind_word_of (codes "NIL") (drop at tokens.now))) }
 {
     match behind_word(tokens, at, b"NIL") {
         Some(next) => Ok((Test::IsNil(attribute, comparator), next)),
@@ -58,8 +59,8 @@ fn value_part(
     comparator: Comparator,
     tokens: &Tokens,
     at: usize,
-) -> Result<(Test, usize), GrammarFault>
-    ensures { Gives (λ x. (x.0, drop x.1 tokens.now)) result (keys.value_part relation attribute comparator (drop at tokens.now)) }
+) -> Result<(Test, usize), GrammarError>
+    ensures { Reads (λ x. (x.0, drop x.1 tokens.now)) result (keys.value_part relation attribute comparator (drop at tokens.now)) }
 {
     match relation {
         Relation::Equal => equal_part(alloc, attribute, comparator, tokens, at),
@@ -74,8 +75,8 @@ fn meets_at(
     relation: Relation,
     tokens: &Tokens,
     at: usize,
-) -> Result<(Test, usize), GrammarFault>
-    ensures { Gives (λ x. (x.0, drop x.1 tokens.now)) result (keys.meets_at relation (drop at tokens.now)) }
+) -> Result<(Test, usize), GrammarError>
+    ensures { Reads (λ x. (x.0, drop x.1 tokens.now)) result (keys.meets_at relation (drop at tokens.now)) }
 {
     let (attribute, next) = attribute_at(alloc, tokens, at)?;
     let (comparator, next) = comparator_for_at(relation, tokens, next)?;
@@ -84,8 +85,8 @@ fn meets_at(
 
 // Behind RANGE: number number time.
 #[tactic(auto, unfolding(crate::specs::Keys::range_at))]
-fn range_at(tokens: &Tokens, at: usize) -> Result<(Test, usize), GrammarFault>
-    ensures { Gives (λ x. (x.0, drop x.1 tokens.now)) result (keys.range_at (drop at tokens.now)) }
+fn range_at(tokens: &Tokens, at: usize) -> Result<(Test, usize), GrammarError>
+    ensures { Reads (λ x. (x.0, drop x.1 tokens.now)) result (keys.range_at (drop at tokens.now)) }
 {
     let (first, next) = number_at(tokens, at)?;
     let (last, next) = number_at(tokens, next)?;
@@ -118,14 +119,14 @@ pub(crate) fn key_at(
     levels: u32,
     tokens: &Tokens,
     at: usize,
-) -> Result<(Key, usize), GrammarFault>
-    ensures { Gives (λ x. (x.0, drop x.1 tokens.now)) result (keys.key_at levels (drop at tokens.now)) }
+) -> Result<(Key, usize), GrammarError>
+    ensures { Reads (λ x. (x.0, drop x.1 tokens.now)) result (keys.key_at levels (drop at tokens.now)) }
 {
     if levels == 0 {
-        return Err(too_deep(tokens, at));
+        return Err(GrammarError::Fault(too_deep(tokens, at)));
     }
     let Some((word, at)) = word_at(tokens, at) else {
-        return Err(GrammarFault::Arguments);
+        return Err(GrammarError::Fault(GrammarFault::Arguments));
     };
     match word {
         KeyWord::All => Ok((Key::one(Test::All), at)),

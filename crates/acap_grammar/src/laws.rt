@@ -1,26 +1,12 @@
 //! What follows from the definitions alone: each function does nothing, and its contract is the law.
 ghost use Rattle.acap_grammar.specs.Examples.{LineExamples, LineFaults, LimitExamples, TextExamples};
-ghost use Rattle.acap_grammar.specs.Laws.{OneCommand, CommandOrFault, FirstFault, NeverMemory, CommandExamples, FaultExamples, ReplyExamples};
-ghost use Rattle.acap_grammar.specs.Spelling.{SpellsCommands};
+ghost use Rattle.acap_grammar.specs.Laws.{FirstFault, CommandExamples, FaultExamples, ReplyExamples};
+ghost use Rattle.acap_grammar.specs.Sendable.{SpellsCommands};
 
-/// Two different commands never have the same tokens.
-pub fn one_command()
-    ensures { OneCommand }
-{}
-
-/// A line is a command or has a fault, the first from the left, and not both.
-pub fn command_or_fault()
-    ensures { CommandOrFault }
-{}
-
-/// The fault is the first from the left: what stands behind it changes nothing.
+/// The fault is the first from the left: what stands behind the token at which it lies changes nothing, and it lies at
+/// the end of the line only where an argument or the verb is missing.
 pub fn first_fault()
     ensures { FirstFault }
-{}
-
-/// What is wrong with a command is never want of memory: `parse` answers that only where memory was refused.
-pub fn never_memory()
-    ensures { NeverMemory }
 {}
 
 /// The tokens of a STORE, a SEARCH and a DELETEACL (RFC 2244 sections 6.4.1, 6.6.1 and 6.7) and the commands that they are.
@@ -58,7 +44,7 @@ pub fn text_examples()
     ensures { TextExamples }
 {}
 
-/// Each command but STORE, SEARCH and UPDATECONTEXT is read back from its plainest spelling (RFC 2244 sections 6 and 8).
+/// Each command within the limits is read back from its plainest spelling (RFC 2244 sections 6 and 8).
 pub fn spelled_commands()
     ensures { SpellsCommands }
 {}

@@ -1,13 +1,14 @@
 //! Commands from the tokens of a line.
 
 ghost use Rattle.std.specs.Prelude.{◌≡◌, drop};
-ghost use Rattle.acap_grammar.specs.Outcome.{Gives};
+ghost use Rattle.acap_grammar.specs.Outcome.{Gives, Reads};
 ghost use Rattle.acap_grammar.specs.Marks.{is_string, ends as ends_tokens, starts};
 ghost use Rattle.acap_grammar.specs.Grammar as grammar;
 
 use crate::arguments::{context_at, dataset_at, object_at, time_at, value_at};
 use crate::command::Command;
 use crate::descent::{ends, starts_string};
+use crate::grammar_error::GrammarError;
 use crate::grammar_fault::GrammarFault;
 use crate::lists::ContextNames;
 use crate::searching::search_at;
@@ -24,8 +25,8 @@ fn authenticate_at(
     alloc: Global,
     tokens: &Tokens,
     at: usize,
-) -> Result<(Command, usize), GrammarFault>
-    ensures { Gives (λ x. (x.0, drop x.1 tokens.now)) result (grammar.authenticate_at (drop at tokens.now)) }
+) -> Result<(Command, usize), GrammarError>
+    ensures { Reads (λ x. (x.0, drop x.1 tokens.now)) result (grammar.authenticate_at (drop at tokens.now)) }
 {
     let (mechanism, next) = value_at(alloc, tokens, at)?;
     Ok((Command::Authenticate(mechanism), next))
@@ -33,8 +34,8 @@ fn authenticate_at(
 
 // Behind SETACL: object identifier rights.
 #[tactic(auto, unfolding(crate::specs::Grammar::set_acl_at))]
-fn set_acl_at(alloc: Global, tokens: &Tokens, at: usize) -> Result<(Command, usize), GrammarFault>
-    ensures { Gives (λ x. (x.0, drop x.1 tokens.now)) result (grammar.set_acl_at (drop at tokens.now)) }
+fn set_acl_at(alloc: Global, tokens: &Tokens, at: usize) -> Result<(Command, usize), GrammarError>
+    ensures { Reads (λ x. (x.0, drop x.1 tokens.now)) result (grammar.set_acl_at (drop at tokens.now)) }
 {
     let (object, next) = object_at(alloc, tokens, at)?;
     let (identifier, next) = value_at(alloc, tokens, next)?;
@@ -47,8 +48,8 @@ fn identifier_part(
     alloc: Global,
     tokens: &Tokens,
     at: usize,
-) -> Result<(Option<Value>, usize), GrammarFault>
-    ensures { Gives (λ x. (x.0, drop x.1 tokens.now)) result (grammar.identifier_part (drop at tokens.now)) }
+) -> Result<(Option<Value>, usize), GrammarError>
+    ensures { Reads (λ x. (x.0, drop x.1 tokens.now)) result (grammar.identifier_part (drop at tokens.now)) }
 {
     if ends(tokens, at) {
         return Ok((None, at));
@@ -63,8 +64,8 @@ fn delete_acl_at(
     alloc: Global,
     tokens: &Tokens,
     at: usize,
-) -> Result<(Command, usize), GrammarFault>
-    ensures { Gives (λ x. (x.0, drop x.1 tokens.now)) result (grammar.delete_acl_at (drop at tokens.now)) }
+) -> Result<(Command, usize), GrammarError>
+    ensures { Reads (λ x. (x.0, drop x.1 tokens.now)) result (grammar.delete_acl_at (drop at tokens.now)) }
 {
     let (object, next) = object_at(alloc, tokens, at)?;
     let (identifier, next) = identifier_part(alloc, tokens, next)?;
@@ -77,8 +78,8 @@ fn list_rights_at(
     alloc: Global,
     tokens: &Tokens,
     at: usize,
-) -> Result<(Command, usize), GrammarFault>
-    ensures { Gives (λ x. (x.0, drop x.1 tokens.now)) result (grammar.list_rights_at (drop at tokens.now)) }
+) -> Result<(Command, usize), GrammarError>
+    ensures { Reads (λ x. (x.0, drop x.1 tokens.now)) result (grammar.list_rights_at (drop at tokens.now)) }
 {
     let (object, next) = object_at(alloc, tokens, at)?;
     let (identifier, next) = value_at(alloc, tokens, next)?;
@@ -91,8 +92,8 @@ fn deleted_since_at(
     alloc: Global,
     tokens: &Tokens,
     at: usize,
-) -> Result<(Command, usize), GrammarFault>
-    ensures { Gives (λ x. (x.0, drop x.1 tokens.now)) result (grammar.deleted_since_at (drop at tokens.now)) }
+) -> Result<(Command, usize), GrammarError>
+    ensures { Reads (λ x. (x.0, drop x.1 tokens.now)) result (grammar.deleted_since_at (drop at tokens.now)) }
 {
     let (dataset, next) = dataset_at(alloc, tokens, at)?;
     let (since, next) = time_at(tokens, next)?;
@@ -120,7 +121,7 @@ impl Gather for ContextNames {
         alloc: Global,
         tokens: &Tokens,
         at: usize,
-    ) -> Result<(ContextNames, usize), GrammarFault> {
+    ) -> Result<(ContextNames, usize), GrammarError> {
         let (name, next) = context_at(alloc, tokens, at)?;
         let mut all = self;
         all.push(name)?;
@@ -133,10 +134,10 @@ fn contexts_at(
     alloc: Global,
     tokens: &Tokens,
     at: usize,
-) -> Result<(ContextNames, usize), GrammarFault>
-    ensures { Gives (λ x. (x.0, drop x.1 tokens.now)) result (grammar.contexts_at (drop at tokens.now)) }
+) -> Result<(ContextNames, usize), GrammarError>
+    ensures { Reads (λ x. (x.0, drop x.1 tokens.now)) result (grammar.contexts_at (drop at tokens.now)) }
 {
-    some_of(alloc, ContextNames::new(alloc), 199, tokens, at)
+    some_of(alloc, ContextNames::new(alloc), 200, tokens, at)
 }
 
 // What stands behind a verb.
@@ -146,8 +147,8 @@ fn arguments_at(
     verb: Verb,
     tokens: &Tokens,
     at: usize,
-) -> Result<(Command, usize), GrammarFault>
-    ensures { Gives (λ x. (x.0, drop x.1 tokens.now)) result (grammar.arguments_at verb (drop at tokens.now)) }
+) -> Result<(Command, usize), GrammarError>
+    ensures { Reads (λ x. (x.0, drop x.1 tokens.now)) result (grammar.arguments_at verb (drop at tokens.now)) }
 {
     match verb {
         Verb::Noop => Ok((Command::Noop, at)),
@@ -185,16 +186,16 @@ fn arguments_at(
 /// `NotPermittedTwice`, `BadName`, `BadTime`, `BadComparator`, `TooDeep` and `TooMany` for what stands behind it;
 /// `Memory` where memory was refused.
 #[tactic(auto, unfolding(crate::specs::Grammar::command_of))]
-pub fn parse(alloc: Global, tokens: &Tokens) -> Result<Command, GrammarFault>
+pub fn parse(alloc: Global, tokens: &Tokens) -> Result<Command, GrammarError>
     ensures { Gives (λ command. command) result (grammar.command_of tokens.now) }
 {
     let Some((verb, at)) = word_at(tokens, 1) else {
-        return Err(GrammarFault::UnknownCommand);
+        return Err(GrammarError::Fault(GrammarFault::UnknownCommand));
     };
     let (command, left) = arguments_at(alloc, verb, tokens, at)?;
     if ends(tokens, left) {
         Ok(command)
     } else {
-        Err(GrammarFault::Arguments)
+        Err(GrammarError::Fault(GrammarFault::Arguments))
     }
 }

@@ -35,7 +35,6 @@ impl From<GrammarFault> for Refusal {
             GrammarFault::BadComparator => Refusal::BadComparator,
             GrammarFault::TooDeep => Refusal::TooDeep,
             GrammarFault::TooMany => Refusal::TooMany,
-            GrammarFault::Memory => Refusal::Memory,
         }
     }
 }

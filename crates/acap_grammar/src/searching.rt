@@ -1,7 +1,7 @@
 //! What a SEARCH asks for (RFC 2244 section 6.4.1).
 
 ghost use Rattle.std.specs.Prelude.{◌≡◌, drop, IfOk};
-ghost use Rattle.acap_grammar.specs.Outcome.{Gives};
+ghost use Rattle.acap_grammar.specs.Outcome.{Gives, Reads};
 ghost use Rattle.acap_grammar.specs.Marks.{is_string, is_close, starts};
 ghost use Rattle.acap_grammar.specs.Searching as searching;
 ghost use Rattle.acap_grammar.specs.declared.words.SearchWord.TheVariants as search_word;
@@ -12,6 +12,7 @@ use crate::arguments::{
 use crate::descent::{
     behind_close, behind_open, behind_word, closes, opens, starts_string, string_at,
 };
+use crate::grammar_error::GrammarError;
 use crate::grammar_fault::GrammarFault;
 use crate::keys::key_at;
 use crate::limit::Limit;
@@ -34,7 +35,7 @@ use std::alloc::Global;
 // ---- RETURN
 
 #[tactic(auto, unfolding(crate::specs::Searching::return_named))]
-fn return_named(alloc: Global, text: &[u8]) -> Result<ReturnName, GrammarFault>
+fn return_named(alloc: Global, text: &[u8]) -> Result<ReturnName, GrammarError>
     ensures { Gives (λ x. x) result (searching.return_named text.now) }
 {
     if !ends_with(text, b'*') {
@@ -42,12 +43,12 @@ fn return_named(alloc: Global, text: &[u8]) -> Result<ReturnName, GrammarFault>
     }
     let front = &text[..text.len() - 1];
     if !front.is_empty() && !is_attribute(front) {
-        return Err(GrammarFault::BadName);
+        return Err(GrammarError::Fault(GrammarFault::BadName));
     }
     Ok(ReturnName::Beginning(Value::from_slice(alloc, front)?))
 }
 
-fn metadata_named(text: &[u8]) -> Result<Metadata, GrammarFault>
+fn metadata_named(text: &[u8]) -> Result<Metadata, GrammarError>
     ensures { Gives (λ x. x) result (searching.metadata_named text.now) }
 {
     if text == b"acl".as_slice() {
@@ -61,7 +62,7 @@ fn metadata_named(text: &[u8]) -> Result<Metadata, GrammarFault>
     } else if text == b"value".as_slice() {
         Ok(Metadata::Value)
     } else {
-        Err(GrammarFault::Arguments)
+        Err(GrammarError::Fault(GrammarFault::Arguments))
     }
 }
 
@@ -86,7 +87,7 @@ impl Gather for MetadataList {
         alloc: Global,
         tokens: &Tokens,
         at: usize,
-    ) -> Result<(MetadataList, usize), GrammarFault> {
+    ) -> Result<(MetadataList, usize), GrammarError> {
         let (text, next) = string_at(tokens, at)?;
         let metadata = metadata_named(text)?;
         let mut all = self;
@@ -113,11 +114,11 @@ fn metadata_part(
     name: &ReturnName,
     tokens: &Tokens,
     at: usize,
-) -> Result<(MetadataList, usize), GrammarFault>
-    ensures { Gives (λ x. (x.0, drop x.1 tokens.now)) result (searching.metadata_part name.now (drop at tokens.now)) }
+) -> Result<(MetadataList, usize), GrammarError>
+    ensures { Reads (λ x. (x.0, drop x.1 tokens.now)) result (searching.metadata_part name.now (drop at tokens.now)) }
 {
     if opens(tokens, at) {
-        return enclosed(alloc, MetadataList::new(alloc), 31, tokens, at);
+        return enclosed(alloc, MetadataList::new(alloc), 32, tokens, at);
     }
     Ok((default_metadata(alloc, name)?, at))
 }
@@ -143,7 +144,7 @@ impl Gather for Returns {
         alloc: Global,
         tokens: &Tokens,
         at: usize,
-    ) -> Result<(Returns, usize), GrammarFault> {
+    ) -> Result<(Returns, usize), GrammarError> {
         let (text, next) = string_at(tokens, at)?;
         let name = return_named(alloc, text)?;
         let (metadata, left) = metadata_part(alloc, &name, tokens, next)?;
@@ -154,8 +155,8 @@ impl Gather for Returns {
 }
 
 #[tactic(auto, unfolding(crate::specs::Searching::returns_at))]
-fn returns_at(alloc: Global, tokens: &Tokens, at: usize) -> Result<(Returns, usize), GrammarFault>
-    ensures { Gives (λ x. (x.0, drop x.1 tokens.now)) result (searching.returns_at (drop at tokens.now)) }
+fn returns_at(alloc: Global, tokens: &Tokens, at: usize) -> Result<(Returns, usize), GrammarError>
+    ensures { Reads (λ x. (x.0, drop x.1 tokens.now)) result (searching.returns_at (drop at tokens.now)) }
 {
     let inside = behind_open(tokens, at)?;
     let (items, next) = several(alloc, Returns::new(alloc), 256, tokens, inside)?;
@@ -186,7 +187,7 @@ impl Gather for SortItems {
         alloc: Global,
         tokens: &Tokens,
         at: usize,
-    ) -> Result<(SortItems, usize), GrammarFault> {
+    ) -> Result<(SortItems, usize), GrammarError> {
         let (attribute, next) = attribute_at(alloc, tokens, at)?;
         let (comparator, left) = comparator_at(tokens, next)?;
         let mut all = self;
@@ -199,17 +200,17 @@ impl Gather for SortItems {
 }
 
 #[tactic(auto, unfolding(crate::specs::Searching::sorts_at))]
-fn sorts_at(alloc: Global, tokens: &Tokens, at: usize) -> Result<(SortItems, usize), GrammarFault>
-    ensures { Gives (λ x. (x.0, drop x.1 tokens.now)) result (searching.sorts_at (drop at tokens.now)) }
+fn sorts_at(alloc: Global, tokens: &Tokens, at: usize) -> Result<(SortItems, usize), GrammarError>
+    ensures { Reads (λ x. (x.0, drop x.1 tokens.now)) result (searching.sorts_at (drop at tokens.now)) }
 {
-    enclosed(alloc, SortItems::new(alloc), 15, tokens, at)
+    enclosed(alloc, SortItems::new(alloc), 16, tokens, at)
 }
 
 // ---- the other modifiers
 
 #[tactic(auto, unfolding(crate::specs::Searching::limit_at))]
-fn limit_at(tokens: &Tokens, at: usize) -> Result<(Limit, usize), GrammarFault>
-    ensures { Gives (λ x. (x.0, drop x.1 tokens.now)) result (searching.limit_at (drop at tokens.now)) }
+fn limit_at(tokens: &Tokens, at: usize) -> Result<(Limit, usize), GrammarError>
+    ensures { Reads (λ x. (x.0, drop x.1 tokens.now)) result (searching.limit_at (drop at tokens.now)) }
 {
     let (over, next) = number_at(tokens, at)?;
     let (most, next) = number_at(tokens, next)?;
@@ -232,8 +233,8 @@ fn make_context_at(
     alloc: Global,
     tokens: &Tokens,
     at: usize,
-) -> Result<(MakeContext, usize), GrammarFault>
-    ensures { Gives (λ x. (x.0, drop x.1 tokens.now)) result (searching.make_context_at (drop at tokens.now)) }
+) -> Result<(MakeContext, usize), GrammarError>
+    ensures { Reads (λ x. (x.0, drop x.1 tokens.now)) result (searching.make_context_at (drop at tokens.now)) }
 {
     let (enumerate, next) = flag_at(tokens, at, b"ENUMERATE");
     let (notify, next) = flag_at(tokens, next, b"NOTIFY");
@@ -257,16 +258,15 @@ pub(crate) struct Scope {
     pub(crate) modifiers: SearchModifiers,
 }
 
-// Behind DEPTH: number. As each modifier it may stand once.
+// Behind DEPTH: number.
 #[tactic(auto, unfolding(crate::specs::Searching::modified))]
 fn depth_at(
     modifiers: SearchModifiers,
     tokens: &Tokens,
     at: usize,
-) -> Result<(SearchModifiers, usize), GrammarFault>
-    ensures { Gives (λ x. (x.0, drop x.1 tokens.now)) result (searching.modified modifiers search_word.Depth (drop at tokens.now)) }
+) -> Result<(SearchModifiers, usize), GrammarError>
+    ensures { Reads (λ x. (x.0, drop x.1 tokens.now)) result (searching.modified modifiers search_word.Depth (drop at tokens.now)) }
 {
-    once(modifiers.depth.is_some())?;
     let (depth, left) = number_at(tokens, at)?;
     Ok((
         SearchModifiers {
@@ -283,10 +283,9 @@ fn hard_limit_at(
     modifiers: SearchModifiers,
     tokens: &Tokens,
     at: usize,
-) -> Result<(SearchModifiers, usize), GrammarFault>
-    ensures { Gives (λ x. (x.0, drop x.1 tokens.now)) result (searching.modified modifiers search_word.HardLimit (drop at tokens.now)) }
+) -> Result<(SearchModifiers, usize), GrammarError>
+    ensures { Reads (λ x. (x.0, drop x.1 tokens.now)) result (searching.modified modifiers search_word.HardLimit (drop at tokens.now)) }
 {
-    once(modifiers.hard_limit.is_some())?;
     let (hard_limit, left) = number_at(tokens, at)?;
     Ok((
         SearchModifiers {
@@ -303,10 +302,9 @@ fn new_limit_at(
     modifiers: SearchModifiers,
     tokens: &Tokens,
     at: usize,
-) -> Result<(SearchModifiers, usize), GrammarFault>
-    ensures { Gives (λ x. (x.0, drop x.1 tokens.now)) result (searching.modified modifiers search_word.Limit (drop at tokens.now)) }
+) -> Result<(SearchModifiers, usize), GrammarError>
+    ensures { Reads (λ x. (x.0, drop x.1 tokens.now)) result (searching.modified modifiers search_word.Limit (drop at tokens.now)) }
 {
-    once(modifiers.limit.is_some())?;
     let (limit, left) = limit_at(tokens, at)?;
     Ok((
         SearchModifiers {
@@ -324,10 +322,9 @@ fn new_context_at(
     modifiers: SearchModifiers,
     tokens: &Tokens,
     at: usize,
-) -> Result<(SearchModifiers, usize), GrammarFault>
-    ensures { Gives (λ x. (x.0, drop x.1 tokens.now)) result (searching.modified modifiers search_word.MakeContext (drop at tokens.now)) }
+) -> Result<(SearchModifiers, usize), GrammarError>
+    ensures { Reads (λ x. (x.0, drop x.1 tokens.now)) result (searching.modified modifiers search_word.MakeContext (drop at tokens.now)) }
 {
-    once(modifiers.make_context.is_some())?;
     let (make_context, left) = make_context_at(alloc, tokens, at)?;
     Ok((
         SearchModifiers {
@@ -345,10 +342,9 @@ fn new_returns_at(
     modifiers: SearchModifiers,
     tokens: &Tokens,
     at: usize,
-) -> Result<(SearchModifiers, usize), GrammarFault>
-    ensures { Gives (λ x. (x.0, drop x.1 tokens.now)) result (searching.modified modifiers search_word.Return (drop at tokens.now)) }
+) -> Result<(SearchModifiers, usize), GrammarError>
+    ensures { Reads (λ x. (x.0, drop x.1 tokens.now)) result (searching.modified modifiers search_word.Return (drop at tokens.now)) }
 {
-    once(modifiers.returns.is_some())?;
     let (returns, left) = returns_at(alloc, tokens, at)?;
     Ok((
         SearchModifiers {
@@ -366,10 +362,9 @@ fn new_sort_at(
     modifiers: SearchModifiers,
     tokens: &Tokens,
     at: usize,
-) -> Result<(SearchModifiers, usize), GrammarFault>
-    ensures { Gives (λ x. (x.0, drop x.1 tokens.now)) result (searching.modified modifiers search_word.Sort (drop at tokens.now)) }
+) -> Result<(SearchModifiers, usize), GrammarError>
+    ensures { Reads (λ x. (x.0, drop x.1 tokens.now)) result (searching.modified modifiers search_word.Sort (drop at tokens.now)) }
 {
-    once(modifiers.sort.is_some())?;
     let (sort, left) = sorts_at(alloc, tokens, at)?;
     Ok((
         SearchModifiers {
@@ -386,10 +381,9 @@ fn no_inherit_at(
     modifiers: SearchModifiers,
     tokens: &Tokens,
     at: usize,
-) -> Result<(SearchModifiers, usize), GrammarFault>
-    ensures { Gives (λ x. (x.0, drop x.1 tokens.now)) result (searching.modified modifiers search_word.NoInherit (drop at tokens.now)) }
+) -> Result<(SearchModifiers, usize), GrammarError>
+    ensures { Reads (λ x. (x.0, drop x.1 tokens.now)) result (searching.modified modifiers search_word.NoInherit (drop at tokens.now)) }
 {
-    once(modifiers.no_inherit)?;
     Ok((
         SearchModifiers {
             no_inherit: true,
@@ -399,15 +393,15 @@ fn no_inherit_at(
     ))
 }
 
-// Behind the word of a modifier, which didn't stand before.
+// Behind the word of a modifier.
 fn modified(
     alloc: Global,
     modifiers: SearchModifiers,
     word: SearchWord,
     tokens: &Tokens,
     at: usize,
-) -> Result<(SearchModifiers, usize), GrammarFault>
-    ensures { Gives (λ x. (x.0, drop x.1 tokens.now)) result (searching.modified modifiers word (drop at tokens.now)) }
+) -> Result<(SearchModifiers, usize), GrammarError>
+    ensures { Reads (λ x. (x.0, drop x.1 tokens.now)) result (searching.modified modifiers word (drop at tokens.now)) }
 {
     match word {
         SearchWord::Depth => depth_at(modifiers, tokens, at),
@@ -433,6 +427,33 @@ fn is_context(target: &Target) -> bool
     ensures { result ≡ searching.is_context target.now }
 {
     matches!(target, Target::Context(_))
+}
+
+// Whether that modifier stands among those before.
+fn has_modifier(modifiers: &SearchModifiers, word: SearchWord) -> bool
+    ensures { result ≡ searching.has_modifier modifiers.now word }
+{
+    match word {
+        SearchWord::Depth => modifiers.depth.is_some(),
+        SearchWord::HardLimit => modifiers.hard_limit.is_some(),
+        SearchWord::Limit => modifiers.limit.is_some(),
+        SearchWord::MakeContext => modifiers.make_context.is_some(),
+        SearchWord::NoInherit => modifiers.no_inherit,
+        SearchWord::Return => modifiers.returns.is_some(),
+        SearchWord::Sort => modifiers.sort.is_some(),
+    }
+}
+
+impl Scope {
+    // A modifier that may stand over what is looked through, and didn't stand before.
+    fn may_modify(&self, word: SearchWord) -> Result<(), GrammarError>
+        ensures { Gives (λ x. x) result (searching.may_modify self.now word) }
+    {
+        if is_context(&self.target) && is_of_datasets(word) {
+            return Err(GrammarError::Fault(GrammarFault::Arguments));
+        }
+        once(has_modifier(&self.modifiers, word))
+    }
 }
 
 #[tactic(auto, unfolding(crate::specs::Searching::no_modifier))]
@@ -464,13 +485,11 @@ impl Gather for Scope {
         alloc: Global,
         tokens: &Tokens,
         at: usize,
-    ) -> Result<(Scope, usize), GrammarFault> {
+    ) -> Result<(Scope, usize), GrammarError> {
         let Some((word, next)) = word_at(tokens, at) else {
-            return Err(GrammarFault::Arguments);
+            return Err(GrammarError::Fault(GrammarFault::Arguments));
         };
-        if is_context(&self.target) && is_of_datasets(word) {
-            return Err(GrammarFault::Arguments);
-        }
+        self.may_modify(word)?;
         let (modifiers, left) = modified(alloc, self.modifiers, word, tokens, next)?;
         Ok((
             Scope {
@@ -488,8 +507,8 @@ fn modifiers_at(
     target: Target,
     tokens: &Tokens,
     at: usize,
-) -> Result<(Scope, usize), GrammarFault>
-    ensures { Gives (λ x. (x.0, drop x.1 tokens.now)) result (searching.modifiers_at target (drop at tokens.now)) }
+) -> Result<(Scope, usize), GrammarError>
+    ensures { Reads (λ x. (x.0, drop x.1 tokens.now)) result (searching.modifiers_at target (drop at tokens.now)) }
 {
     let scope = Scope {
         target,
@@ -504,8 +523,8 @@ pub(crate) fn search_at(
     alloc: Global,
     tokens: &Tokens,
     at: usize,
-) -> Result<(Search, usize), GrammarFault>
-    ensures { Gives (λ x. (x.0, drop x.1 tokens.now)) result (searching.search_at (drop at tokens.now)) }
+) -> Result<(Search, usize), GrammarError>
+    ensures { Reads (λ x. (x.0, drop x.1 tokens.now)) result (searching.search_at (drop at tokens.now)) }
 {
     let (target, next) = target_at(alloc, tokens, at)?;
     let (scope, next) = modifiers_at(alloc, target, tokens, next)?;

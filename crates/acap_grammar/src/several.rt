@@ -1,11 +1,12 @@
 //! Items that are read one after the other (RFC 2244 section 8).
 
-ghost use Rattle.std.specs.Prelude.{◌≡◌, List, Bool, drop};
+ghost use Rattle.std.specs.Prelude.{◌≡◌, ◌<◌, List, Bool, drop};
 ghost use Rattle.acap_lexer.specs.Token.{Token};
-ghost use Rattle.acap_grammar.specs.Outcome.{Gives, Read};
+ghost use Rattle.acap_grammar.specs.Outcome.{Read, Reads};
 ghost use Rattle.acap_grammar.specs.Several.{several, some_of, enclosed};
 
 use crate::descent::{behind_close, behind_open};
+use crate::grammar_error::GrammarError;
 use crate::grammar_fault::GrammarFault;
 use acap_lexer::Tokens;
 use std::alloc::Global;
@@ -32,8 +33,8 @@ pub(crate) trait Gather: Drop + Sized {
         alloc: Global,
         tokens: &Tokens,
         at: usize,
-    ) -> Result<(Self, usize), GrammarFault>
-        ensures { Gives (λ x. (x.0, drop x.1 tokens.now)) result (item self (drop at tokens.now)) };
+    ) -> Result<(Self, usize), GrammarError>
+        ensures { Reads (λ x. (x.0, drop x.1 tokens.now)) result (item self (drop at tokens.now)) };
 }
 
 /// Items behind those seen, so many at most.
@@ -43,8 +44,8 @@ pub(crate) fn several<S: Gather>(
     room: u32,
     tokens: &Tokens,
     at: usize,
-) -> Result<(S, usize), GrammarFault>
-    ensures { Gives (λ x. (x.0, drop x.1 tokens.now)) result (several S.over S.fits S.item room seen (drop at tokens.now)) }
+) -> Result<(S, usize), GrammarError>
+    ensures { Reads (λ x. (x.0, drop x.1 tokens.now)) result (several S.over S.fits S.item room seen (drop at tokens.now)) }
 {
     let mut all = seen;
     let mut next = at;
@@ -60,24 +61,25 @@ pub(crate) fn several<S: Gather>(
         return Ok((all, next));
     }
     if S::may_start(tokens, next) {
-        return Err(GrammarFault::TooMany);
+        return Err(GrammarError::Fault(GrammarFault::TooMany));
     }
-    Err(GrammarFault::Arguments)
+    Err(GrammarError::Fault(GrammarFault::Arguments))
 }
 
-/// One item, and so many more at most.
+/// One item or more, and so many at most.
 #[tactic(auto, unfolding(crate::specs::Several::some_of))]
 pub(crate) fn some_of<S: Gather>(
     alloc: Global,
     none: S,
-    room: u32,
+    most: u32,
     tokens: &Tokens,
     at: usize,
-) -> Result<(S, usize), GrammarFault>
-    ensures { Gives (λ x. (x.0, drop x.1 tokens.now)) result (some_of S.over S.fits S.item room none (drop at tokens.now)) }
+) -> Result<(S, usize), GrammarError>
+    requires { 0 < most }
+    ensures { Reads (λ x. (x.0, drop x.1 tokens.now)) result (some_of S.over S.fits S.item most none (drop at tokens.now)) }
 {
     let (first, next) = none.gather(alloc, tokens, at)?;
-    several(alloc, first, room, tokens, next)
+    several(alloc, first, most - 1, tokens, next)
 }
 
 /// The same in a parenthesis.
@@ -85,14 +87,15 @@ pub(crate) fn some_of<S: Gather>(
 pub(crate) fn enclosed<S: Gather>(
     alloc: Global,
     none: S,
-    room: u32,
+    most: u32,
     tokens: &Tokens,
     at: usize,
-) -> Result<(S, usize), GrammarFault>
-    ensures { Gives (λ x. (x.0, drop x.1 tokens.now)) result (enclosed S.over S.fits S.item room none (drop at tokens.now)) }
+) -> Result<(S, usize), GrammarError>
+    requires { 0 < most }
+    ensures { Reads (λ x. (x.0, drop x.1 tokens.now)) result (enclosed S.over S.fits S.item most none (drop at tokens.now)) }
 {
     let inside = behind_open(tokens, at)?;
-    let (items, next) = some_of(alloc, none, room, tokens, inside)?;
+    let (items, next) = some_of(alloc, none, most, tokens, inside)?;
     let left = behind_close(tokens, next)?;
     Ok((items, left))
 }

@@ -1,7 +1,7 @@
 //! The entries of a STORE (RFC 2244 section 6.6.1).
 
 ghost use Rattle.std.specs.Prelude.{◌≡◌, ◌++◌, ◌∷◌, [], drop, IfOk, Ok};
-ghost use Rattle.acap_grammar.specs.Outcome.{Gives};
+ghost use Rattle.acap_grammar.specs.Outcome.{Gives, Reads};
 ghost use Rattle.acap_grammar.specs.Marks.{is_string, is_open, is_close, ends as ends_tokens, starts};
 ghost use Rattle.acap_grammar.specs.Several.{several as items_behind};
 ghost use Rattle.acap_grammar.specs.Storing as storing;
@@ -11,6 +11,7 @@ use crate::descent::{
     Piece, behind_close, behind_open, closes, ends, opens, peek, starts_string, string_at,
 };
 use crate::given::Given;
+use crate::grammar_error::GrammarError;
 use crate::grammar_fault::GrammarFault;
 use crate::lists::{Entries, StoreItems};
 use crate::several::{Gather, enclosed, some_of};
@@ -26,11 +27,11 @@ use std::alloc::Global;
 // ---- what may stand once
 
 /// Goes on where what may stand once didn't stand before.
-pub(crate) fn once(stood: bool) -> Result<(), GrammarFault>
-    ensures { Gives (λ x. x) result (storing.once stood (Ok tt)) }
+pub(crate) fn once(stood: bool) -> Result<(), GrammarError>
+    ensures { Gives (λ x. x) result (storing.once stood) }
 {
     if stood {
-        Err(GrammarFault::NotPermittedTwice)
+        Err(GrammarError::Fault(GrammarFault::NotPermittedTwice))
     } else {
         Ok(())
     }
@@ -71,8 +72,8 @@ fn has_item(attribute: &Attribute, metadata: StoreMetadata, seen: &[StoreItem]) 
 
 // The strings up to the parenthesis that closes them.
 #[tactic(auto, unfolding(crate::specs::Storing::strings_at))]
-fn strings_at(alloc: Global, tokens: &Tokens, at: usize) -> Result<(Values, usize), GrammarFault>
-    ensures { Gives (λ x. (x.0, drop x.1 tokens.now)) result (storing.strings_at [] (drop at tokens.now)) }
+fn strings_at(alloc: Global, tokens: &Tokens, at: usize) -> Result<(Values, usize), GrammarError>
+    ensures { Reads (λ x. (x.0, drop x.1 tokens.now)) result (storing.strings_at [] (drop at tokens.now)) }
 {
     let mut strings = Values::new(alloc);
     let mut next = at;
@@ -82,17 +83,17 @@ fn strings_at(alloc: Global, tokens: &Tokens, at: usize) -> Result<(Values, usiz
             Kind::Quoted | Kind::Literal => {
                 strings.push(Value::from_slice(alloc, piece.value)?)?;
             }
-            _ => return Err(GrammarFault::Arguments),
+            _ => return Err(GrammarError::Fault(GrammarFault::Arguments)),
         }
         next = piece.next;
     }
-    Err(GrammarFault::Arguments)
+    Err(GrammarError::Fault(GrammarFault::Arguments))
 }
 
 // A string, NIL or DEFAULT.
 #[tactic(auto, unfolding(crate::specs::Storing::plain_at))]
-fn plain_at(alloc: Global, tokens: &Tokens, at: usize) -> Result<(Given, usize), GrammarFault>
-    ensures { Gives (λ x. (x.0, drop x.1 tokens.now)) result (storing.plain_at (drop at tokens.now)) }
+fn plain_at(alloc: Global, tokens: &Tokens, at: usize) -> Result<(Given, usize), GrammarError>
+    ensures { Reads (λ x. (x.0, drop x.1 tokens.now)) result (storing.plain_at (drop at tokens.now)) }
 {
     if starts_string(tokens, at) {
         let (text, next) = string_at(tokens, at)?;
@@ -101,14 +102,14 @@ fn plain_at(alloc: Global, tokens: &Tokens, at: usize) -> Result<(Given, usize),
     }
     match word_at(tokens, at) {
         Some((given, next)) => Ok((given, next)),
-        None => Err(GrammarFault::Arguments),
+        None => Err(GrammarError::Fault(GrammarFault::Arguments)),
     }
 }
 
 // One of these, or a list.
 #[tactic(auto, unfolding(crate::specs::Storing::given_at, crate::specs::Marks::starts))]
-fn given_at(alloc: Global, tokens: &Tokens, at: usize) -> Result<(Given, usize), GrammarFault>
-    ensures { Gives (λ x. (x.0, drop x.1 tokens.now)) result (storing.given_at (drop at tokens.now)) }
+fn given_at(alloc: Global, tokens: &Tokens, at: usize) -> Result<(Given, usize), GrammarError>
+    ensures { Reads (λ x. (x.0, drop x.1 tokens.now)) result (storing.given_at (drop at tokens.now)) }
 {
     match peek(tokens, at) {
         Some(
@@ -127,7 +128,7 @@ fn given_at(alloc: Global, tokens: &Tokens, at: usize) -> Result<(Given, usize),
 
 // ---- an item
 
-fn metadata_named(text: &[u8]) -> Result<StoreMetadata, GrammarFault>
+fn metadata_named(text: &[u8]) -> Result<StoreMetadata, GrammarError>
     ensures { Gives (λ x. x) result (storing.metadata_named text.now) }
 {
     if text == b"value".as_slice() {
@@ -135,7 +136,7 @@ fn metadata_named(text: &[u8]) -> Result<StoreMetadata, GrammarFault>
     } else if text == b"acl".as_slice() {
         Ok(StoreMetadata::Acl)
     } else {
-        Err(GrammarFault::Arguments)
+        Err(GrammarError::Fault(GrammarFault::Arguments))
     }
 }
 
@@ -202,7 +203,7 @@ impl Gather for Gifts {
         alloc: Global,
         tokens: &Tokens,
         at: usize,
-    ) -> Result<(Gifts, usize), GrammarFault> {
+    ) -> Result<(Gifts, usize), GrammarError> {
         let (text, next) = string_at(tokens, at)?;
         let metadata = metadata_named(text)?;
         once(has_item(&self.attribute, metadata, self.items.as_slice()))?;
@@ -218,11 +219,11 @@ fn gifts_at(
     seen: Gifts,
     tokens: &Tokens,
     at: usize,
-) -> Result<(StoreItems, usize), GrammarFault>
-    ensures { Gives (λ x. (x.0, drop x.1 tokens.now)) result (storing.gifts_at seen (drop at tokens.now)) }
+) -> Result<(StoreItems, usize), GrammarError>
+    ensures { Reads (λ x. (x.0, drop x.1 tokens.now)) result (storing.gifts_at seen (drop at tokens.now)) }
 {
     if opens(tokens, at) {
-        let (gifts, left) = enclosed(alloc, seen, 2, tokens, at)?;
+        let (gifts, left) = enclosed(alloc, seen, 3, tokens, at)?;
         return Ok((gifts.items, left));
     }
     let (given, left) = plain_at(alloc, tokens, at)?;
@@ -251,7 +252,7 @@ impl Gather for StoreItems {
         alloc: Global,
         tokens: &Tokens,
         at: usize,
-    ) -> Result<(StoreItems, usize), GrammarFault> {
+    ) -> Result<(StoreItems, usize), GrammarError> {
         let (attribute, next) = attribute_at(alloc, tokens, at)?;
         once(has_attribute(&attribute, self.as_slice()))?;
         let seen = Gifts {
@@ -263,37 +264,43 @@ impl Gather for StoreItems {
 }
 
 #[tactic(auto, unfolding(crate::specs::Storing::items_at))]
-fn items_at(alloc: Global, tokens: &Tokens, at: usize) -> Result<(StoreItems, usize), GrammarFault>
-    ensures { Gives (λ x. (x.0, drop x.1 tokens.now)) result (storing.items_at (drop at tokens.now)) }
+fn items_at(alloc: Global, tokens: &Tokens, at: usize) -> Result<(StoreItems, usize), GrammarError>
+    ensures { Reads (λ x. (x.0, drop x.1 tokens.now)) result (storing.items_at (drop at tokens.now)) }
 {
-    some_of(alloc, StoreItems::new(alloc), 255, tokens, at)
+    some_of(alloc, StoreItems::new(alloc), 256, tokens, at)
 }
 
 // ---- modifiers
 
-// Behind the word of a modifier, which didn't stand before.
+// Whether that modifier stands among those before.
+fn has_condition(seen: &StoreModifiers, word: StoreWord) -> bool
+    ensures { result ≡ storing.has_condition seen.now word }
+{
+    match word {
+        StoreWord::NoCreate => seen.no_create,
+        StoreWord::UnchangedSince => seen.unchanged_since.is_some(),
+    }
+}
+
+// Behind the word of a modifier.
 #[tactic(auto, unfolding(crate::specs::Storing::conditioned))]
 fn conditioned(
     seen: StoreModifiers,
     word: StoreWord,
     tokens: &Tokens,
     at: usize,
-) -> Result<(StoreModifiers, usize), GrammarFault>
-    ensures { Gives (λ x. (x.0, drop x.1 tokens.now)) result (storing.conditioned seen word (drop at tokens.now)) }
+) -> Result<(StoreModifiers, usize), GrammarError>
+    ensures { Reads (λ x. (x.0, drop x.1 tokens.now)) result (storing.conditioned seen word (drop at tokens.now)) }
 {
     match word {
-        StoreWord::NoCreate => {
-            once(seen.no_create)?;
-            Ok((
-                StoreModifiers {
-                    no_create: true,
-                    ..seen
-                },
-                at,
-            ))
-        }
+        StoreWord::NoCreate => Ok((
+            StoreModifiers {
+                no_create: true,
+                ..seen
+            },
+            at,
+        )),
         StoreWord::UnchangedSince => {
-            once(seen.unchanged_since.is_some())?;
             let (since, left) = time_at(tokens, at)?;
             Ok((
                 StoreModifiers {
@@ -319,12 +326,15 @@ fn condition_at(
     seen: StoreModifiers,
     tokens: &Tokens,
     at: usize,
-) -> Result<(StoreModifiers, usize), GrammarFault>
-    ensures { Gives (λ x. (x.0, drop x.1 tokens.now)) result (storing.condition_at seen (drop at tokens.now)) }
+) -> Result<(StoreModifiers, usize), GrammarError>
+    ensures { Reads (λ x. (x.0, drop x.1 tokens.now)) result (storing.condition_at seen (drop at tokens.now)) }
 {
     match word_at(tokens, at) {
-        Some((word, next)) => conditioned(seen, word, tokens, next),
-        None => Err(GrammarFault::Arguments),
+        Some((word, next)) => {
+            once(has_condition(&seen, word))?;
+            conditioned(seen, word, tokens, next)
+        }
+        None => Err(GrammarError::Fault(GrammarFault::Arguments)),
     }
 }
 
@@ -335,22 +345,22 @@ fn conditions_behind(
     room: u32,
     tokens: &Tokens,
     at: usize,
-) -> Result<(StoreModifiers, usize), GrammarFault>
-    ensures { Gives (λ x. (x.0, drop x.1 tokens.now)) result (items_behind storing.no_condition storing.no_condition storing.condition_at room seen (drop at tokens.now)) }
+) -> Result<(StoreModifiers, usize), GrammarError>
+    ensures { Reads (λ x. (x.0, drop x.1 tokens.now)) result (items_behind storing.no_condition storing.no_condition storing.condition_at room seen (drop at tokens.now)) }
 {
     if no_condition(tokens, at) {
         return Ok((seen, at));
     }
     if room == 0 {
-        return Err(GrammarFault::Arguments);
+        return Err(GrammarError::Fault(GrammarFault::Arguments));
     }
     let (more, left) = condition_at(seen, tokens, at)?;
     conditions_behind(more, room - 1, tokens, left)
 }
 
 #[tactic(auto, unfolding(crate::specs::Storing::conditions_at))]
-fn conditions_at(tokens: &Tokens, at: usize) -> Result<(StoreModifiers, usize), GrammarFault>
-    ensures { Gives (λ x. (x.0, drop x.1 tokens.now)) result (storing.conditions_at (drop at tokens.now)) }
+fn conditions_at(tokens: &Tokens, at: usize) -> Result<(StoreModifiers, usize), GrammarError>
+    ensures { Reads (λ x. (x.0, drop x.1 tokens.now)) result (storing.conditions_at (drop at tokens.now)) }
 {
     conditions_behind(StoreModifiers::none(), 3, tokens, at)
 }
@@ -363,8 +373,8 @@ fn new_path_at(
     seen: &[StoreEntry],
     tokens: &Tokens,
     at: usize,
-) -> Result<(Path, usize), GrammarFault>
-    ensures { Gives (λ x. (x.0, drop x.1 tokens.now)) result (storing.path_at seen.now (drop at tokens.now)) }
+) -> Result<(Path, usize), GrammarError>
+    ensures { Reads (λ x. (x.0, drop x.1 tokens.now)) result (storing.path_at seen.now (drop at tokens.now)) }
 {
     let (path, next) = path_at(alloc, tokens, at)?;
     once(has_path(&path, seen))?;
@@ -392,7 +402,7 @@ impl Gather for Entries {
         alloc: Global,
         tokens: &Tokens,
         at: usize,
-    ) -> Result<(Entries, usize), GrammarFault> {
+    ) -> Result<(Entries, usize), GrammarError> {
         let inside = behind_open(tokens, at)?;
         let (path, next) = new_path_at(alloc, self.as_slice(), tokens, inside)?;
         let (modifiers, next) = conditions_at(tokens, next)?;
@@ -414,8 +424,8 @@ pub(crate) fn entries_at(
     alloc: Global,
     tokens: &Tokens,
     at: usize,
-) -> Result<(Entries, usize), GrammarFault>
-    ensures { Gives (λ x. (x.0, drop x.1 tokens.now)) result (storing.entries_at (drop at tokens.now)) }
+) -> Result<(Entries, usize), GrammarError>
+    ensures { Reads (λ x. (x.0, drop x.1 tokens.now)) result (storing.entries_at (drop at tokens.now)) }
 {
-    some_of(alloc, Entries::new(alloc), 255, tokens, at)
+    some_of(alloc, Entries::new(alloc), 256, tokens, at)
 }

@@ -12,7 +12,7 @@ ghost use Rattle.acap_session.specs.declared.stage.Stage.TheVariants as stages;
 use crate::heard::Heard;
 use crate::stage::Stage;
 use acap_entries::{Copying, Memory, Moment, Octets, UserName, Value};
-use acap_grammar::{Command, GrammarFault, Refusal, Reply, Said, Verb, parse, render};
+use acap_grammar::{Command, GrammarError, Refusal, Reply, Said, Verb, parse, render};
 use acap_lexer::{Lexed, Tag, Tokens};
 use acap_login::challenge;
 use acap_machine::Event;
@@ -165,8 +165,8 @@ fn heard_line(
     let tag = tag_of(alloc, tokens)?;
     match parse(alloc, tokens) {
         Ok(command) => heard_command(alloc, host, user, nonce, clock, tag, command, out),
-        Err(GrammarFault::Memory) => Err(Memory),
-        Err(fault) => says(tag, Said::Refused(Refusal::from(fault)), out),
+        Err(GrammarError::Memory) => Err(Memory),
+        Err(GrammarError::Fault(fault)) => says(tag, Said::Refused(Refusal::from(fault)), out),
     }
 }
 

@@ -1,6 +1,6 @@
 use Rattle.std.proofs.Common.{◌-◌, drop, arith}
 use Rattle.std.proofs.lemmas.Result.{err_from_is_err_and}
-use Rattle.acap_grammar.proofs.SeveralSteps.{over_now, goes_on, fails, too_many, no_item}
+use Rattle.acap_grammar.proofs.SeveralSteps.{over_now, goes_on, refuses, fails, too_many, no_item}
 use Rattle.acap_grammar.proofs.several.several.Goals as goal
 
 pub returns-then-is_over : goal.returns-then-is_over
@@ -19,7 +19,7 @@ pub returns-then-is_over-2 : goal.returns-then-is_over-2
 returns-then-is_over-2 g c = over_now g.S.Gather.over g.S.Gather.fits g.S.Gather.item (c.args.room - c.loop.counter) c.loop.all _ _ c.if-is_over-2.ensures c.loop.invariant
 
 pub returns-then-may_start : goal.returns-then-may_start
-returns-then-may_start g c not_memory = too_many g.S.Gather.over g.S.Gather.fits g.S.Gather.item c.args.room c.loop.counter c.loop.all _ _ (omega arith) c.if-is_over-2.ensures c.if-may_start.ensures c.loop.invariant
+returns-then-may_start g c = refuses _ _ _ (too_many g.S.Gather.over g.S.Gather.fits g.S.Gather.item c.args.room c.loop.counter c.loop.all _ _ (omega arith) c.if-is_over-2.ensures c.if-may_start.ensures c.loop.invariant)
 
 pub returns : goal.returns
-returns g c not_memory = no_item g.S.Gather.over g.S.Gather.fits g.S.Gather.item c.args.room c.loop.counter c.loop.all _ _ (omega arith) c.if-is_over-2.ensures c.if-may_start.ensures c.loop.invariant
+returns g c = refuses _ _ _ (no_item g.S.Gather.over g.S.Gather.fits g.S.Gather.item c.args.room c.loop.counter c.loop.all _ _ (omega arith) c.if-is_over-2.ensures c.if-may_start.ensures c.loop.invariant)
