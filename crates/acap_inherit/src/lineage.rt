@@ -29,4 +29,15 @@ impl<'a> Lineage<'a> {
     {
         self.names.as_slice()
     }
+
+    /// The same chain, at the side of this one. Takes no memory.
+    pub fn again(&self) -> Lineage<'_>
+        ensures { result ≡ self.now }
+    {
+        let mut names = ArrayVec::new();
+        for name in self.names() {
+            names.push(*name);
+        }
+        Lineage { names }
+    }
 }

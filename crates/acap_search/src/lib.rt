@@ -7,6 +7,7 @@ mod hit;
 mod laws;
 mod looking;
 mod matching;
+mod near;
 mod ordering;
 mod query;
 mod rank;

@@ -10,6 +10,7 @@ ghost use Rattle.acap_search.specs.Walks as walks;
 ghost use Rattle.acap_search.specs.declared.refusal.SearchRefusal.TheVariants as refusal;
 
 use crate::hit::{Hit, Hits};
+use crate::near::Near;
 use crate::ordering::sort_hits;
 use crate::query::Query;
 use crate::refusal::SearchRefusal;
@@ -19,7 +20,7 @@ use acap_entries::{
     Dataset, Memory, NameFault, Path, Record, Records, Tree, UserName, makes_dataset,
 };
 use acap_grammar::{Key, Node, Test};
-use acap_inherit::{chain, names_on};
+use acap_inherit::{Lineage, chain, names_on};
 use acap_rights::Realm;
 use std::alloc::Global;
 
@@ -130,6 +131,27 @@ fn reached_by(
     }
 }
 
+// What the search makes of an entry, in a store that has it at hand.
+fn hit_at(
+    alloc: Global,
+    search: &Search<'_>,
+    near: &Near<'_>,
+    dataset: &Dataset,
+    chain: &Lineage<'_>,
+    name: &[u8],
+) -> Result<Option<Hit>, Memory>
+    ensures { IfOk result (λ hit. hit ≡ walks.hit_at near.now.records search.now.realm.now search.now.user.now search.now.query.now dataset.now chain.now name.now) }
+{
+    let by = Viewer {
+        records: near,
+        realm: search.realm,
+        user: search.user,
+        dataset,
+        chain: chain.again(),
+    };
+    row_of(alloc, &by, name, search.query, None)
+}
+
 // Adds what is found in one dataset, whose chain is made once.
 #[tactic(auto, unfolding(crate::specs::Walks::hits_in))]
 fn add_hits(
@@ -141,15 +163,11 @@ fn add_hits(
     ensures { OnOk result (hits.new.items ≡ hits.old.items ++ walks.hits_in search.now.tree.now.store.records search.now.realm.now search.now.user.now search.now.query.now dataset.now) }
 {
     let tree = search.tree;
-    let by = Viewer {
-        records: tree,
-        realm: search.realm,
-        user: search.user,
-        dataset,
-        chain: chain(tree, dataset, search.query.no_inherit),
-    };
-    for name in names_on(tree, &by.chain) {
-        if let Some(hit) = row_of(alloc, &by, name, search.query, None)? {
+    let chain = chain(tree, dataset, search.query.no_inherit);
+    let management = tree.find(dataset.as_slice(), b"");
+    for name in names_on(tree, &chain) {
+        let near = Near::new(tree, dataset.as_slice(), name, management);
+        if let Some(hit) = hit_at(alloc, search, &near, dataset, &chain, name)? {
             hits.push(hit)?;
         }
     }
