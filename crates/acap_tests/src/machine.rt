@@ -2,7 +2,7 @@
 ghost use Rattle.std.specs.Prelude.{◌<◌};
 
 use acap_entries::{Copying, Memory, Moment, Seat, UserName, makes_dataset};
-use acap_grammar::{Command, GrammarFault, Reply, parse, render};
+use acap_grammar::{Command, GrammarError, Reply, parse, render};
 use acap_lexer::{Lexed, Lexer, Mode};
 use acap_machine::{Event, Fault, Outcomes, State, Step, Steps, run};
 use acap_rights::Realm;
@@ -35,14 +35,14 @@ pub(crate) fn moment(micros: i64) -> Moment {
 }
 
 // What the tokens of a line come to.
-fn command_of(alloc: Global, line: &[u8]) -> Result<Command, GrammarFault> {
+fn command_of(alloc: Global, line: &[u8]) -> Result<Command, GrammarError> {
     let mut lexer = Lexer::new(alloc);
     if lexer.push(line).is_err() || lexer.push(b"\r\n").is_err() {
-        return Err(GrammarFault::Memory);
+        return Err(GrammarError::Memory);
     }
     match lexer.next(Mode::Command) {
         Ok(Lexed::Line(tokens)) => parse(alloc, &tokens),
-        _ => Err(GrammarFault::Memory),
+        _ => Err(GrammarError::Memory),
     }
 }
 
