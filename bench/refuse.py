@@ -1,0 +1,104 @@
+#!/usr/bin/env python3
+"""Refuses each allocation of a session through `acapd pipe` in turn, and checks what is answered then.
+
+    python3 bench/refuse.py PROGRAM FILE [--from N] [--seconds S]
+
+FILE has one command a line, tags A1, A2, .., and is sent with CR LF. The Nth allocation alone is refused, by a library that is
+loaded before the C library's. Allowed is: the honest answers (where the program did without); one command answered
+`NO (TRYLATER) "No memory"`, and every other one as in a session in which that command was never sent; or a front of the
+honest answers, with status 1 and `acapd: no memory`; or status 2 where the arguments couldn't be read. It ends when a run asks for
+fewer allocations than N, or after so many seconds, and then prints the number to go on from.
+"""
+import argparse
+import os
+import subprocess
+import sys
+import tempfile
+import time
+
+REFUSER = r"""
+#define _GNU_SOURCE
+#include <dlfcn.h>
+#include <errno.h>
+#include <stdio.h>
+#include <stdlib.h>
+static long asked, at = -1;
+static void *(*real_malloc)(size_t), *(*real_realloc)(void *, size_t), *(*real_calloc)(size_t, size_t);
+static int (*real_align)(void **, size_t, size_t);
+static void *(*real_aligned)(size_t, size_t);
+#define REAL(x, name) if (!x) x = dlsym(RTLD_NEXT, name)
+static int refused(void) { if (at < 0) { char *n = getenv("REFUSE_AT"); at = n ? atol(n) : 0; } return ++asked == at; }
+void *malloc(size_t n) { REAL(real_malloc, "malloc"); return refused() ? NULL : real_malloc(n); }
+void *realloc(void *p, size_t n) { REAL(real_realloc, "realloc"); return refused() ? NULL : real_realloc(p, n); }
+int posix_memalign(void **p, size_t a, size_t n) { REAL(real_align, "posix_memalign"); return refused() ? ENOMEM : real_align(p, a, n); }
+void *aligned_alloc(size_t a, size_t n) { REAL(real_aligned, "aligned_alloc"); return refused() ? NULL : real_aligned(a, n); }
+__attribute__((destructor)) static void tell(void) {
+    FILE *to = fopen(getenv("REFUSE_TOLD"), "w");
+    if (to) { fprintf(to, "%ld", asked); fclose(to); }
+}
+"""
+
+
+def run(program, lines, **env):
+    """What is printed, said of a fault, and the status."""
+    given = b"".join(line + b"\r\n" for line in lines)
+    done = subprocess.run([program, "pipe", "joe"], input=given, capture_output=True, env={**os.environ, **env})
+    return done.stdout, done.stderr, done.returncode
+
+
+def allowed(program, lines, honest, out, err, status, without):
+    """The index of the command that was refused, -1 where none was, or None where the outcome isn't allowed."""
+    if status == 2:
+        return -1
+    if status == 1:
+        return -1 if err == b"acapd: no memory\n" and honest.startswith(out) else None
+    if out == honest:
+        return -1
+    for at, line in enumerate(lines):
+        tag = line.split()[0]
+        refusal = tag + b' NO (TRYLATER) "No memory"\r\n'
+        if refusal in out:
+            if at not in without:
+                without[at] = run(program, lines[:at] + lines[at + 1:])[0]
+            return at if out.replace(refusal, b"", 1) == without[at] else None
+    return None
+
+
+def main():
+    words = argparse.ArgumentParser()
+    words.add_argument("program")
+    words.add_argument("file")
+    words.add_argument("--from", dest="first", type=int, default=1)
+    words.add_argument("--seconds", type=float, default=500)
+    asked = words.parse_args()
+    with open(asked.file, "rb") as it:
+        lines = [line.rstrip(b"\r\n") for line in it if line.strip()]
+    end = time.monotonic() + asked.seconds
+    with tempfile.TemporaryDirectory() as folder:
+        source, refuser, told = f"{folder}/refuser.c", f"{folder}/refuser.so", f"{folder}/told"
+        with open(source, "w", encoding="ascii") as it:
+            it.write(REFUSER)
+        subprocess.run(["cc", "-O1", "-shared", "-fPIC", "-o", refuser, source, "-ldl"], check=True)
+        honest, _, status = run(asked.program, lines)
+        if status:
+            sys.exit(f"without a refusal the status is {status}")
+        without, commands, n = {}, {}, asked.first
+        while time.monotonic() < end:
+            out, err, status = run(asked.program, lines, LD_PRELOAD=refuser, REFUSE_AT=str(n), REFUSE_TOLD=told)
+            at = allowed(asked.program, lines, honest, out, err, status, without)
+            if at is None:
+                sys.exit(f"allocation {n}: not allowed: status {status}, {err!r}\n{out.decode('latin-1')}")
+            commands[at] = commands.get(at, 0) + 1
+            with open(told, encoding="ascii") as it:
+                if int(it.read()) < n:
+                    break
+            n += 1
+        else:
+            print(f"not ended: go on with --from {n}")
+            return
+    told = ", ".join(f"{lines[at].split()[0].decode()} {count}" for at, count in sorted(commands.items()) if at >= 0)
+    print(f"{n - asked.first} allocations refused, each with an allowed outcome; commands answered TRYLATER: {told or 'none'}")
+
+
+if __name__ == "__main__":
+    main()
