@@ -31,7 +31,7 @@ fn kinds(alloc: Global, text: &[u8]) -> [bool; 5] {
 #[test]
 fn reads_names(rt: HostRuntime) {
     let (yes, no) = (true, false);
-    let rows: [(&[u8], [bool; 5]); 39] = [
+    let rows: [(&[u8], [bool; 5]); 33] = [
         (b"", [no, no, no, no, no]),
         (b"option/x", [no, no, yes, no, yes]),
         (b"/a//b", [no, no, yes, no, no]),
@@ -74,15 +74,37 @@ fn reads_names(rt: HostRuntime) {
         (b"%", [no, no, no, yes, yes]),
         (b"/c", [yes, yes, yes, no, no]),
         (b"a", [no, no, yes, yes, yes]),
-        (&[b'a'; 64], [no, no, yes, yes, yes]),
-        (&[b'a'; 65], [no, no, yes, no, yes]),
-        (&[b'a'; 200], [no, no, yes, no, yes]),
-        (&[b'a'; 201], [no, no, no, no, yes]),
-        (&[b'a'; 255], [no, no, no, no, yes]),
-        (&[b'a'; 256], [no, no, no, no, no]),
     ];
     for (text, wanted) in rows {
         assert!(rt; kinds(rt.alloc(), text) == wanted, "{text:?}");
+    }
+}
+
+/// Which names that many letters are.
+fn kinds_of_letters(alloc: Global, count: usize) -> Result<[bool; 5], Memory> {
+    let mut text = Vec::new(alloc);
+    for _ in 0..count {
+        text.push(b'a')?;
+    }
+    Ok(kinds(alloc, &text))
+}
+
+// How long names are at the most: attributes 200 octets, users 64, contexts 255.
+#[test]
+fn limits_names(rt: HostRuntime) {
+    let rows: [(usize, [bool; 5]); 6] = [
+        (64, [false, false, true, true, true]),
+        (65, [false, false, true, false, true]),
+        (200, [false, false, true, false, true]),
+        (201, [false, false, false, false, true]),
+        (255, [false, false, false, false, true]),
+        (256, [false, false, false, false, false]),
+    ];
+    for (count, wanted) in rows {
+        assert!(rt;
+            kinds_of_letters(rt.alloc(), count) == Ok(wanted),
+            "{count}"
+        );
     }
 }
 
