@@ -5,7 +5,7 @@ use Rattle.acap_lexer.specs.Token.{Token}
 use Rattle.acap_grammar.specs.Outcome.{Read}
 use Rattle.acap_grammar.specs.Several.{several, some_of, enclosed}
 use Rattle.acap_grammar.specs.Marks.{is_close, starts, behind}
-use Rattle.acap_grammar.specs.Sendable.{Each, Some_of}
+use Rattle.acap_grammar.specs.Sendable.{Each, OneTo}
 use Rattle.acap_grammar.specs.Spelling.{each, opened, shut}
 
 -- an item is read, and the next
@@ -50,7 +50,7 @@ list_reads {X} {over} {next} {item} {spell} {Suits} r fits (x ∷ xs) (suc room)
 -- one or more
 pub some_read : {X : Type 0} {over next : List Token → Bool} {item : List X → List Token → Read (List X)} {spell : X → List Token → List Token} {Suits : List X → X → Type 0}
     → ReadsEach over next item spell Suits → (fits : List Token → Bool) (xs : List X) (room : ℕ) (rest : List Token)
-    → over rest ≡ true → next rest ≡ true → Some_of (suc room) xs → Each Suits [] xs → some_of over fits item (suc room) [] (each spell xs rest) ≡ Ok (xs, rest)
+    → over rest ≡ true → next rest ≡ true → OneTo (suc room) xs → Each Suits [] xs → some_of over fits item (suc room) [] (each spell xs rest) ≡ Ok (xs, rest)
 some_read r fits [] room rest o n h s = absurd (omega arith)
 some_read {X} {over} {next} {item} {spell} {Suits} r fits (x ∷ xs) room rest o n h s =
     first_of_some over fits item room [] _ (r.leads x _) ∙ list_reads r fits (x ∷ xs) (suc room) [] rest o n h.1 s
@@ -58,6 +58,6 @@ some_read {X} {over} {next} {item} {spell} {Suits} r fits (x ∷ xs) room rest o
 -- in a parenthesis
 pub enclosed_read : {X : Type 0} {next : List Token → Bool} {item : List X → List Token → Read (List X)} {spell : X → List Token → List Token} {Suits : List X → X → Type 0}
     → ReadsEach (starts is_close) next item spell Suits → (fits : List Token → Bool) (xs : List X) (room : ℕ) (rest : List Token)
-    → next (shut rest) ≡ true → Some_of (suc room) xs → Each Suits [] xs → enclosed (starts is_close) fits item (suc room) [] (opened (each spell xs (shut rest))) ≡ Ok (xs, rest)
+    → next (shut rest) ≡ true → OneTo (suc room) xs → Each Suits [] xs → enclosed (starts is_close) fits item (suc room) [] (opened (each spell xs (shut rest))) ≡ Ok (xs, rest)
 unfolding enclosed behind starts
 enclosed_read r fits xs room rest n h s = rw (some_read r fits xs room (shut rest) refl n h s) refl

@@ -33,7 +33,7 @@ use Rattle.acap_grammar.specs.Marks.{is_string, is_open, is_close, starts, behin
 use Rattle.acap_grammar.specs.Arguments.{comparator_for, named_at, is_of_texts}
 use Rattle.acap_grammar.specs.Keys.{value_part, meets_at, range_at, key_at, key_behind}
 use Rattle.acap_grammar.specs.Searching.{is_context, metadata_at, default_metadata, metadata_part, return_at, returns_at, sort_at, sorts_at, limit_at, flag_at, make_context_at, unmodified, modified, modifier_at, no_modifier, modifiers_at, search_at}
-use Rattle.acap_grammar.specs.Sendable.{Each, Some_of, IsNumber, IsAttribute, IsLimit, IsContext, IsReturn, AreReturns, AreSorts, AreModifiers, Fits, IsTest, IsKey, levels, IsSearch}
+use Rattle.acap_grammar.specs.Sendable.{Each, OneTo, IsNumber, IsAttribute, IsLimit, IsContext, IsReturn, AreReturns, AreSorts, AreModifiers, Fits, IsTest, IsKey, levels, IsSearch}
 use Rattle.acap_grammar.specs.Spelling.{string, opened, shut, each, if_there, flag, word, number, time, comparator_name, comparator, told, is_left_out, return_item, sort_item, depth, hard_limit, limit, make_context, returns, sort, modifiers, test_tokens, key, search_tokens}
 use Rattle.acap_grammar.specs.Wanted.{Wanted, One, And, Or, Not}
 use Rattle.acap_grammar.proofs.NumberReads.{number_reads}
@@ -130,11 +130,11 @@ left_out n all e = absurd cc
 abbrev not_opened : List Token → Bool
 not_opened tokens = not (starts is_open tokens)
 
-enclosed_metadata : (n : ReturnName) (all : List Metadata) (rest : List Token) → Some_of 32 all → metadata_part n (opened (each told all (shut rest))) ≡ Ok (all, rest)
+enclosed_metadata : (n : ReturnName) (all : List Metadata) (rest : List Token) → OneTo 32 all → metadata_part n (opened (each told all (shut rest))) ≡ Ok (all, rest)
 unfolding metadata_part starts
 enclosed_metadata n all rest h = enclosed_read are_told (starts is_string) all 31 rest refl h (all_told [] all)
 
-metadata_reads : (n : ReturnName) (all : List Metadata) (rest : List Token) → Some_of 32 all → not_opened rest ≡ true
+metadata_reads : (n : ReturnName) (all : List Metadata) (rest : List Token) → OneTo 32 all → not_opened rest ≡ true
     → metadata_part n (if is_left_out n all then rest else opened (each told all (shut rest))) ≡ Ok (all, rest)
 unfolding metadata_part
 metadata_reads n all rest h o = by_form (is_left_out n all) refl where

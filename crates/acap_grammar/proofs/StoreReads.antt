@@ -21,7 +21,7 @@ use Rattle.acap_grammar.specs.Several.{several, some_of, enclosed}
 use Rattle.acap_grammar.specs.Marks.{is_string, is_open, is_close, ends, starts, behind, string_at, word_at}
 use Rattle.acap_grammar.specs.Arguments.{named_at}
 use Rattle.acap_grammar.specs.Storing.{has_attribute, has_item, same_metadata, strings_at, plain_at, given_at, gift_at, gifts_at, item_at, items_at, conditioned, condition_at, no_condition, conditions_at, path_at, entry_at, entries_at}
-use Rattle.acap_grammar.specs.Sendable.{Either, IsNew, AreItems, IsEntry, IsStore}
+use Rattle.acap_grammar.specs.Sendable.{InCase, IsNew, AreItems, IsEntry, IsStore}
 use Rattle.acap_grammar.specs.Spelling.{string, opened, shut, each, given_tokens, stored_name, gift, is_bare, one_gift, items, conditions, entry}
 use Rattle.acap_grammar.proofs.ListReads.{ReadsEach, one_more, no_more, first_of_some, some_read}
 
@@ -108,7 +108,7 @@ AreRead room seen xs rest = several (starts is_close) (starts is_string) item_at
 
 -- two items of one attribute, or one and the next
 next_items : (b : Bool) (i j : StoreItem) (xs : List StoreItem) (room : ℕ) (seen : List StoreItem) (rest : List Token) → bytes_eq i.attribute j.attribute ≡ b → IsNew seen i
-    → Either b ((same_metadata i.metadata j.metadata ≡ false) × AreRead room (seen ++ i ∷ j ∷ []) xs rest) (AreRead room (seen ++ i ∷ []) (j ∷ xs) rest)
+    → InCase b ((same_metadata i.metadata j.metadata ≡ false) × AreRead room (seen ++ i ∷ j ∷ []) xs rest) (AreRead room (seen ++ i ∷ []) (j ∷ xs) rest)
     → several (starts is_close) (starts is_string) item_at (suc room) seen
     (if b then string i.attribute (opened (gift i (gift j (shut (items xs (shut rest)))))) else string i.attribute (one_gift i (items (j ∷ xs) (shut rest)))) ≡ Ok (seen ++ i ∷ j ∷ xs, shut rest)
 unfolding starts
@@ -118,9 +118,9 @@ next_items true i j xs room seen rest e n h =
 next_items false i j xs room seen rest e n h =
     one_more _ _ item_at room seen _ _ refl (one_item i seen _ n) ∙ h ∙ ap (λ (all : List StoreItem). Ok (all, shut rest)) (append_assoc seen (i ∷ []) (j ∷ xs))
 
-either : (b : Bool) (A B C D : Type 0) → (A → C) → (B → D) → Either b A B → Either b C D
-either true A B C D f g x = f x
-either false A B C D f g x = g x
+in_case : (b : Bool) (A B C D : Type 0) → (A → C) → (B → D) → InCase b A B → InCase b C D
+in_case true A B C D f g x = f x
+in_case false A B C D f g x = g x
 
 items_read : (xs : List StoreItem) (room : ℕ) (seen : List StoreItem) (rest : List Token) → AreItems room seen xs → AreRead room seen xs rest
 unfolding starts
@@ -130,7 +130,7 @@ items_read (i ∷ []) (suc room) seen rest h =
     one_more _ _ item_at room seen _ _ refl (one_item i seen (shut rest) h) ∙ no_more _ _ item_at room (seen ++ i ∷ []) _ refl
 items_read (i ∷ j ∷ xs) (suc room) seen rest h =
     next_items (bytes_eq i.attribute j.attribute) i j xs room seen rest refl h.0
-    (either _ _ _ ((same_metadata i.metadata j.metadata ≡ false) × AreRead room (seen ++ i ∷ j ∷ []) xs rest) _ (λ x. (x.0, items_read xs room (seen ++ i ∷ j ∷ []) rest x.1)) (λ x. items_read (j ∷ xs) room (seen ++ i ∷ []) rest x) h.1)
+    (in_case _ _ _ ((same_metadata i.metadata j.metadata ≡ false) × AreRead room (seen ++ i ∷ j ∷ []) xs rest) _ (λ x. (x.0, items_read xs room (seen ++ i ∷ j ∷ []) rest x.1)) (λ x. items_read (j ∷ xs) room (seen ++ i ∷ []) rest x) h.1)
 
 -- an attribute stands first
 items_lead : (test : List Token → Bool) (b : Bool) → ((text : List ℕ) (rest : List Token) → test (string text rest) ≡ b) → (xs : List StoreItem) (rest : List Token) → 0 < length xs → test (items xs rest) ≡ b

@@ -28,6 +28,7 @@ use Rattle.acap_grammar.specs.Grammar.{command_at, command_of}
 use Rattle.acap_grammar.specs.Outcome.{Fault}
 use Rattle.acap_grammar.specs.Replies.{octets_of, crlf}
 use Rattle.acap_grammar.specs.Searching.{unmodified}
+use Rattle.acap_grammar.specs.Sendable.{IsSendable}
 use Rattle.acap_grammar.specs.Storing.{unconditional}
 use Rattle.acap_grammar.specs.Wanted.{One}
 
@@ -104,6 +105,10 @@ pub record CommandExamples : Type 0 where
   pub store : command_of store_tokens ≡ Ok store_command
   pub search : command_of search_tokens ≡ Ok search_command
   pub delete : command_of delete_tokens ≡ Ok delete_command
+  -- and they are among those that can be sent
+  pub store_sendable : IsSendable store_command
+  pub search_sendable : IsSendable search_command
+  pub delete_sendable : IsSendable delete_command
 
 -- a line `A1 SEARCH "/"` with words behind it
 abbrev pub word_token : List ℕ → Token

@@ -1,5 +1,5 @@
 -- How a refusal is told: NO, BAD or BYE, a code in some, and a text [RFC 2244 sections 3.6 and 6.2].
-use Rattle.std.specs.Prelude.{ℕ, List, [], ◌∷◌, ◌++◌, codes, Option, Some, None}
+use Rattle.std.specs.Prelude.{ℕ, List, [], ◌++◌, codes, Option, Some, None}
 use Rattle.acap_lexer.specs.declared.fault.LexFault.{LexFault}
 use Rattle.acap_lexer.specs.declared.fault.LexFault.TheVariants as lexical
 use Rattle.acap_lexer.specs.Printing.{printed}
@@ -98,8 +98,8 @@ path_form path = printed (path.dataset ++ path.name)
 -- an entry's name counts only behind an attribute
 abbrev pub object_end : Option (List ℕ) → Option (List ℕ) → List ℕ
 object_end None name = []
-object_end (Some attribute) None = 32 ∷ printed attribute
-object_end (Some attribute) (Some name) = 32 ∷ printed attribute ++ 32 ∷ printed name
+object_end (Some attribute) None = codes " " ++ printed attribute
+object_end (Some attribute) (Some name) = codes " " ++ printed attribute ++ codes " " ++ printed name
 
 -- an object: `(` dataset [attribute [entry name]] `)`
 unfoldable pub object_form : Object → List ℕ

@@ -18,13 +18,13 @@ use Rattle.acap_grammar.specs.declared.verb.Verb.{Verb}
 use Rattle.acap_grammar.specs.declared.verb.Verb.TheVariants as verb
 use Rattle.acap_grammar.specs.Refusals.{status_of, code_of, text_of}
 
--- where a line ends
+-- where a line ends: CR LF
 abbrev pub crlf : List ℕ
-crlf = 13 ∷ 10 ∷ []
+crlf = codes "\r\n"
 
 -- each of a list behind a space
 abbrev pub spaced : {A : Type 0} → (A → List ℕ) → List A → List ℕ
-spaced form xs = flat_map (λ x. 32 ∷ form x) xs
+spaced form xs = flat_map (λ x. codes " " ++ form x) xs
 
 -- a list in a parenthesis, with one space between two
 abbrev pub joined : {A : Type 0} → (A → List ℕ) → List A → List ℕ

@@ -42,15 +42,20 @@ Each Suits before [] = Unit {0}
 Each Suits before (x ∷ rest) = Suits before x × Each Suits (before ++ x ∷ []) rest
 
 -- one or more, and so many at most
-abbrev pub Some_of : {A : Type 0} → ℕ → List A → Type 0
-Some_of most list = (0 < length list) × (length list ≤ most)
+abbrev pub OneTo : {A : Type 0} → ℕ → List A → Type 0
+OneTo most list = (0 < length list) × (length list ≤ most)
 
-abbrev pub Either : Bool → Type 0 → Type 0 → Type 0
-Either true A B = A
-Either false A B = B
+-- one of two, by a test
+abbrev pub InCase : Bool → Type 0 → Type 0 → Type 0
+InCase true A B = A
+InCase false A B = B
 
 abbrev pub IsAttribute : List ℕ → Type 0
 IsAttribute text = Names attribute_named text text
+
+-- a dataset that is spelled with its closing slash, which counts among its octets
+abbrev pub IsDataset : List ℕ → Type 0
+IsDataset text = Names dataset_named text text
 
 -- ---- objects
 
@@ -61,7 +66,7 @@ Within dataset (Some attribute) None = IsAttribute attribute
 Within dataset (Some attribute) (Some name) = IsAttribute attribute × Names (entry_named dataset) name name
 
 abbrev pub IsObject : Object → Type 0
-IsObject o = Names dataset_named o.dataset o.dataset × Within o.dataset o.attribute o.name
+IsObject o = IsDataset o.dataset × Within o.dataset o.attribute o.name
 
 -- ---- STORE
 
@@ -75,7 +80,7 @@ AreItems room before [] = Unit {0}
 AreItems zero before (i ∷ rest) = ⊥
 AreItems (suc room) before (i ∷ []) = IsNew before i
 AreItems (suc room) before (i ∷ j ∷ rest) =
-    IsNew before i × Either (bytes_eq i.attribute j.attribute)
+    IsNew before i × InCase (bytes_eq i.attribute j.attribute)
     ((same_metadata i.metadata j.metadata ≡ false) × AreItems room (before ++ i ∷ j ∷ []) rest)
     (AreItems room (before ++ i ∷ []) (j ∷ rest))
 
@@ -88,24 +93,27 @@ pub record IsEntry (before : List StoreEntry) (e : StoreEntry) : Type 0 where
   pub items : AreItems 256 [] e.items
 
 abbrev pub IsStore : List StoreEntry → Type 0
-IsStore entries = Some_of 256 entries × Each IsEntry [] entries
+IsStore entries = OneTo 256 entries × Each IsEntry [] entries
 
 -- ---- SEARCH
 
 abbrev pub IsLimit : Limit → Type 0
 IsLimit l = IsNumber l.over × IsNumber l.most
 
+abbrev pub IsContextName : List ℕ → Type 0
+IsContextName text = Names context_named text text
+
 abbrev pub IsContext : MakeContext → Type 0
-IsContext m = Names context_named m.name m.name
+IsContext m = IsContextName m.name
 
 abbrev pub IsReturn : ReturnItem → Type 0
-IsReturn r = Names return_named (return_text r.name) r.name × Some_of 32 r.metadata
+IsReturn r = Names return_named (return_text r.name) r.name × OneTo 32 r.metadata
 
 abbrev pub AreReturns : List ReturnItem → Type 0
 AreReturns returns = (length returns ≤ 256) × Each (λ before r. IsReturn r) [] returns
 
 abbrev pub AreSorts : List SortItem → Type 0
-AreSorts sort = Some_of 16 sort × Each (λ before s. IsAttribute s.attribute) [] sort
+AreSorts sort = OneTo 16 sort × Each (λ before s. IsAttribute s.attribute) [] sort
 
 pub record AreModifiers (m : SearchModifiers) : Type 0 where
   pub depth : IfSome m.depth IsNumber
@@ -158,9 +166,9 @@ IsSendable (command.SetAcl o identifier rights) = IsObject o
 IsSendable (command.DeleteAcl o identifier) = IsObject o
 IsSendable (command.MyRights o) = IsObject o
 IsSendable (command.ListRights o identifier) = IsObject o
-IsSendable (command.DeletedSince dataset since) = Names dataset_named dataset dataset × IsMoment since
-IsSendable (command.FreeContext name) = Names context_named name name
-IsSendable (command.UpdateContext names) = Some_of 200 names × Each (λ before name. Names context_named name name) [] names
+IsSendable (command.DeletedSince dataset since) = IsDataset dataset × IsMoment since
+IsSendable (command.FreeContext name) = IsContextName name
+IsSendable (command.UpdateContext names) = OneTo 200 names × Each (λ before name. IsContextName name) [] names
 
 -- each of them is the command for which its plainest spelling stands
 abbrev pub SpellsCommands : Type 0
