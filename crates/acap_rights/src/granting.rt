@@ -128,5 +128,8 @@ pub fn rights_of<R: Records>(
         Some(acl) => rights_in(realm, user, acl),
         None => default_rights(realm, user, dataset),
     };
+    if listed == Rights::all() {
+        return listed;
+    }
     listed.union(implicit_rights(realm, user, dataset))
 }
