@@ -3,5 +3,7 @@ pub mod Counting
 pub mod Performing
 pub mod Piping
 pub mod Placing
+pub mod ScriptNumbers
+pub mod ScriptOutput
 pub mod Speaking
 pub mod Turning

@@ -3,6 +3,8 @@ pub mod Hearing
 pub mod Piping
 pub mod Places
 pub mod Saying
+pub mod ScriptLines
+pub mod ScriptOutput
 pub mod Session
 pub mod Talking
 pub mod Turning
