@@ -28,7 +28,7 @@ not_found said h = no_end said (λ k lt return feed. h k (omega arith) (omega (a
 
 -- ---- parts so far
 
-flat_snoc : (f : List ℕ → List ℕ) (xs : List (List ℕ)) (x : List ℕ) → flat_map f (xs ++ x ∷ []) ≡ flat_map f xs ++ f x
+pub flat_snoc : (f : List ℕ → List ℕ) (xs : List (List ℕ)) (x : List ℕ) → flat_map f (xs ++ x ∷ []) ≡ flat_map f xs ++ f x
 flat_snoc f [] x = append-nil (f x)
 flat_snoc f (y ∷ xs) x = ap (λ ys. f y ++ ys) (flat_snoc f xs x) ∙ sym (append_assoc (f y) (flat_map f xs) (f x))
 

@@ -1,5 +1,6 @@
 //! Why a line of a script can't be done.
 
+use crate::world_fault::WorldFault;
 use acap_entries::Memory;
 
 /// Why a line of a script can't be done.
@@ -19,5 +20,19 @@ impl From<Memory> for LineFault {
 
     fn from(_memory: Memory) -> LineFault {
         LineFault::Memory
+    }
+}
+
+impl From<WorldFault> for LineFault {
+    ghost use Rattle.std.specs.Prelude.{◌≡◌};
+    ghost use Rattle.acap_session.specs.Script.{fault_of};
+
+    ghost from_gives = { λ fault made. made ≡ fault_of fault };
+
+    fn from(fault: WorldFault) -> LineFault {
+        match fault {
+            WorldFault::NoSeat | WorldFault::Taken => LineFault::Wrong,
+            WorldFault::Memory => LineFault::Memory,
+        }
     }
 }
