@@ -3,5 +3,10 @@ pub mod Counting
 pub mod Performing
 pub mod Piping
 pub mod Placing
+pub mod ScriptActing
+pub mod ScriptHearing
+pub mod ScriptNumbers
+pub mod ScriptOutput
+pub mod ScriptRunning
 pub mod Speaking
 pub mod Turning

@@ -179,7 +179,7 @@ joined_append (x ∷ a) b = ap (λ ys. x.0 ++ ys) (joined_append a b) ∙ sym (a
 
 -- ---- what was written so far
 
-appends_then : (a b c : Option (List ℕ)) (x y : List ℕ) → Appends a b x → Appends b c y → Appends a c (x ++ y)
+pub appends_then : (a b c : Option (List ℕ)) (x y : List ℕ) → Appends a b x → Appends b c y → Appends a c (x ++ y)
 appends_then None b c x y p q = tt
 appends_then (Some u) None c x y p q = absurd p
 appends_then (Some u) (Some v) None x y p q = absurd q

@@ -3,7 +3,12 @@ pub mod Hearing
 pub mod Piping
 pub mod Places
 pub mod Saying
+pub mod Script
+pub mod ScriptLines
+pub mod ScriptOutput
+pub mod ScriptRun
 pub mod Session
+pub mod Setup
 pub mod Talking
 pub mod Turning
 pub mod World

@@ -63,8 +63,8 @@ impl World {
         &self.state
     }
 
-    // Whether a session is open at a seat.
-    fn is_open(&self, seat: Seat) -> bool
+    /// Whether a session is open at a seat.
+    pub(crate) fn is_open(&self, seat: Seat) -> bool
         ensures { result ≡ is_some (open_at self.now seat) }
     {
         match self.places.get(usize::from(seat.number())) {

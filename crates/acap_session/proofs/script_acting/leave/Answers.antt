@@ -1,0 +1,6 @@
+use Rattle.acap_session.specs.Script.{unasked}
+use Rattle.acap_session.proofs.ScriptActing.{leaves}
+use Rattle.acap_session.proofs.script_acting.leave.Goals as goal
+
+pub returns : goal.returns
+returns c = leaves c.args.world.now c.leave.new.self (unasked c.args.at.now) c.in_ok-leave.ensures

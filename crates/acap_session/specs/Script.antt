@@ -1,0 +1,209 @@
+-- What a script does and writes, line by line.
+use Rattle.std.specs.Prelude.{◌≡◌, ◌≢◌, ◌⊎◌, ℕ, pos, ◌+◌, List, [], ◌∷◌, ◌++◌, length, drop, Bool, true, false, not, Option, Some, None, Result, Ok, Err, IsSome, codes}
+use Rattle.std.specs.Option.{is_some}
+use Rattle.acap_login.specs.Login.{User}
+use Rattle.acap_grammar.specs.Replies.{crlf}
+use Rattle.acap_session.specs.Places.{Place, place_at}
+use Rattle.acap_session.specs.ScriptLines.{line_of}
+use Rattle.acap_session.specs.ScriptOutput.{Shows}
+use Rattle.acap_session.specs.Session.{session_next}
+use Rattle.acap_session.specs.World as world
+use Rattle.acap_session.specs.World.{World, HasTurnedAt, IsStep, did, new_world, open_at, output_taken, room_of, said_before}
+use Rattle.acap_session.specs.declared.line_fault.LineFault.{LineFault}
+use Rattle.acap_session.specs.declared.line_fault.LineFault.TheVariants as faults
+use Rattle.acap_session.specs.declared.next.Next.TheVariants as next
+use Rattle.acap_session.specs.declared.occasion.Occasion.{Occasion}
+use Rattle.acap_session.specs.declared.script_line.ScriptLine.{ScriptLine}
+use Rattle.acap_session.specs.declared.script_line.ScriptLine.TheVariants as line
+use Rattle.acap_session.specs.declared.seat_line.SeatLine.{SeatLine}
+use Rattle.acap_session.specs.declared.seat_line.SeatLine.TheVariants as act
+use Rattle.acap_session.specs.declared.standing.Standing.{Standing}
+use Rattle.acap_session.specs.declared.standing.Standing.TheVariants as standing
+use Rattle.acap_session.specs.declared.script.Script.{Script}
+use Rattle.acap_session.specs.declared.world_fault.WorldFault.{WorldFault}
+use Rattle.acap_session.specs.declared.world_fault.WorldFault.TheVariants as unmade
+use Rattle.acap_session.specs.Setup.{Setup}
+
+-- ---- what a client sends
+
+-- turns of a seat's session, one for each of a list that tells whether the event that it may ask is refused memory
+abbrev pub turns : Occasion → List Bool → World → World
+turns o [] w = w
+turns o (refused ∷ more) w = turns o more (did o refused world.Turn w)
+
+-- nothing is next for what stands at the seat
+abbrev pub IsQuietFor : Occasion → World → Option Place → Type 0
+IsQuietFor o w None = Unit {0}
+IsQuietFor o w (Some place) = (session_next w.users o.nonce o.clock place.talk).0 ≡ next.More
+
+abbrev pub IsQuiet : Occasion → World → Type 0
+IsQuiet o w = IsQuietFor o w (place_at w.places o.seat)
+
+-- what a session doesn't take of a piece
+abbrev pub left_by : Option Place → List ℕ → List ℕ
+left_by None piece = piece
+left_by (Some place) piece = drop (room_of place.talk piece) piece
+
+-- all was taken, or the session is closed
+abbrev pub IsOver : ℕ → List ℕ → World → Type 0
+IsOver seat rest w = (rest ≡ []) ⊎ (open_at w seat ≡ None)
+
+abbrev pub GoesOn : ℕ → List ℕ → World → Type 0
+GoesOn seat rest w = (rest ≢ []) × IsSome (open_at w seat)
+
+-- A piece is offered, and turns are made until nothing is next; what wasn't taken is offered again, with turns after it,
+-- until all is taken or the session is closed. For each time there is a list of turns.
+abbrev pub Hears : List (List Bool) → Occasion → List ℕ → World → World → Type 0
+Hears [] o piece old new = ⊥
+Hears (refused ∷ more) o piece old new =
+    let rest = left_by (open_at old o.seat) piece in
+    let w = turns o refused (did o false (world.Piece piece) old) in
+    IsQuiet o w × ((IsOver o.seat rest w × (more ≡ []) × (new ≡ w)) ⊎ (GoesOn o.seat rest w × Hears more o rest w new))
+
+pub record HasHeard (o : Occasion) (piece : List ℕ) (old new : World) : Type 0 where
+  pub refused : List (List Bool)
+  pub heard : Hears refused o piece old new
+
+-- ---- what is done at a seat
+
+-- a session opens where none is open, and all else is about one that is open
+abbrev pub may : SeatLine → Bool → Bool
+may act.Open is_open = not is_open
+may (act.Enter user) is_open = not is_open
+may (act.Send text) is_open = is_open
+may (act.Raw octets) is_open = is_open
+may (act.Piece octets) is_open = is_open
+may act.Turn is_open = is_open
+may act.Drain is_open = is_open
+may act.Leave is_open = is_open
+
+-- no challenge is told by a drain or an end
+abbrev pub unasked : Occasion → Occasion
+unasked o = record o { nonce = 0 }
+
+-- Each is a step of the world, or some. The entering of a user isn't refused memory.
+abbrev pub Acts : SeatLine → Occasion → World → World → Type 0
+Acts act.Open o old new = new ≡ did o false (world.Open None) old
+Acts (act.Enter user) o old new = new ≡ did o false (world.Open (Some user)) old
+Acts (act.Send text) o old new = HasHeard o (text ++ crlf) old new
+Acts (act.Raw octets) o old new = HasHeard o octets old new
+Acts (act.Piece octets) o old new = new ≡ did o false (world.Piece octets) old
+Acts act.Turn o old new = IsStep o world.Turn old new
+Acts act.Drain o old new = IsStep (unasked o) world.Drain old new
+Acts act.Leave o old new = new ≡ did (unasked o) false world.Leave old
+
+-- ---- lines
+
+-- before its first line: nobody may log in, the clock shows the start of 1970
+abbrev pub begins : Script
+begins = record { standing = standing.Before (record { users = []; administrators = []; host = codes "localhost" }); clock = pos 0; nonce = 0 }
+
+-- the world, which is made of what was set for it where something is first done at a seat
+abbrev pub world_of : Standing → World
+world_of (standing.Before s) = new_world (record { administrators = s.administrators }) s.users s.host
+world_of (standing.Since w) = w
+
+abbrev pub is_before : Standing → Bool
+is_before (standing.Before s) = true
+is_before (standing.Since w) = false
+
+abbrev pub set : (Setup → Setup) → Standing → Standing
+set f (standing.Before s) = standing.Before (f s)
+set f (standing.Since w) = standing.Since w
+
+abbrev pub with_user : List ℕ → List ℕ → Setup → Setup
+with_user name secret s = record s { users = s.users ++ (name, secret) ∷ [] }
+
+abbrev pub with_administrator : List ℕ → Setup → Setup
+with_administrator name s = record s { administrators = s.administrators ++ name ∷ [] }
+
+abbrev pub with_host : List ℕ → Setup → Setup
+with_host text s = record s { host = text }
+
+-- where a line may stand
+abbrev pub fits : ScriptLine → Standing → Bool
+fits line.Pass s = true
+fits (line.User name secret) s = is_before s
+fits (line.Admin name) s = is_before s
+fits (line.Host text) s = is_before s
+fits (line.Clock moment) s = true
+fits (line.Nonce nonce) s = true
+fits (line.At seat act) s = may act (is_some (open_at (world_of s) seat))
+
+-- a line that sets something says nothing
+abbrev pub Sets : (Setup → Setup) → Script → List ℕ → Script → Type 0
+Sets f old out new = (out ≡ []) × (new ≡ record old { standing = set f old.standing })
+
+-- something is done at a seat; what is said there then is written, and is said no more
+pub record Speaks (seat : ℕ) (does : SeatLine) (old : Script) (out : List ℕ) (new : Script) : Type 0 where
+  pub after : World
+  pub acts : Acts does (record { seat = seat; clock = old.clock; nonce = old.nonce }) (world_of old.standing) after
+  pub shown : Shows seat (said_before (place_at after.places seat)) out
+  pub left : new ≡ record old { standing = standing.Since (output_taken after seat) }
+
+-- what a line writes and leaves
+abbrev pub Does : ScriptLine → Script → List ℕ → Script → Type 0
+Does line.Pass old out new = (out ≡ []) × (new ≡ old)
+Does (line.User name secret) old out new = Sets (with_user name secret) old out new
+Does (line.Admin name) old out new = Sets (with_administrator name) old out new
+Does (line.Host text) old out new = Sets (with_host text) old out new
+Does (line.Clock moment) old out new = (out ≡ []) × (new ≡ record old { clock = moment })
+Does (line.Nonce nonce) old out new = (out ≡ []) × (new ≡ record old { nonce = nonce })
+Does (line.At seat act) old out new = Speaks seat act old out new
+
+-- the text of a line is a line's, which may stand there and is done
+pub record IsDone (text : List ℕ) (old : Script) (out : List ℕ) (new : Script) : Type 0 where
+  pub line : ScriptLine
+  pub is : line_of text ≡ Some line
+  pub may_stand : fits line old.standing ≡ true
+  pub does : Does line old out new
+
+-- or it is none, or may not stand there
+abbrev pub is_wrong_at : Standing → Option ScriptLine → Bool
+is_wrong_at s None = true
+is_wrong_at s (Some line) = not (fits line s)
+
+abbrev pub is_wrong : List ℕ → Script → Bool
+is_wrong text s = is_wrong_at s.standing (line_of text)
+
+-- lines are done one after the other
+pub record AndThen (rest : List ℕ → Script → Type 0) (text : List ℕ) (old : Script) (out : List ℕ) : Type 0 where
+  pub first : List ℕ
+  pub later : List ℕ
+  pub between : Script
+  pub out_is : out ≡ first ++ later
+  pub done : IsDone text old first between
+  pub then_done : rest later between
+
+abbrev pub AreDone : List (List ℕ) → Script → List ℕ → Script → Type 0
+AreDone [] old out new = (out ≡ []) × (new ≡ old)
+AreDone (text ∷ texts) old out new = AndThen (λ later between. AreDone texts between later new) text old out
+
+-- ---- words of the contracts
+
+-- a turn was made, or none where no session is open
+abbrev pub HasTurned : Occasion → Bool → World → World → Type 0
+HasTurned o goes old new = HasTurnedAt o goes old new ⊎ ((goes ≡ false) × (open_at old o.seat ≡ None) × (new ≡ old))
+
+-- all turns were made that can be made
+pub record HasSettled (o : Occasion) (old new : World) : Type 0 where
+  pub refused : List Bool
+  pub is : new ≡ turns o refused old
+  pub quiet : IsQuiet o new
+
+-- a piece was offered once
+pub record HasOffered (o : Occasion) (piece : List ℕ) (old new : World) (rest : List ℕ) : Type 0 where
+  pub rest_is : rest ≡ left_by (open_at old o.seat) piece
+  pub settled : HasSettled o (did o false (world.Piece piece) old) new
+
+-- what a fault of the world says of a line
+abbrev pub fault_of : WorldFault → LineFault
+fault_of unmade.NoSeat = faults.Wrong
+fault_of unmade.Taken = faults.Wrong
+fault_of unmade.Memory = faults.Memory
+
+-- what may be done is done, and what may not is wrong; nothing is said where memory is refused
+abbrev pub Done : {A : Type 0} → Bool → (A → Type 0) → Result A LineFault → Type 0
+Done may does (Ok a) = (may ≡ true) × does a
+Done may does (Err faults.Wrong) = may ≡ false
+Done may does (Err faults.Memory) = Unit {0}

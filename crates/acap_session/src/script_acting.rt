@@ -1,0 +1,84 @@
+//! What a line of a script does at a seat.
+
+ghost use Rattle.std.specs.Prelude.{◌≡◌, false, is_some, not};
+ghost use Rattle.acap_session.specs.Script.{Acts, Done, may};
+ghost use Rattle.acap_session.specs.World as deed;
+ghost use Rattle.acap_session.specs.World.{did, open_at};
+ghost use Rattle.acap_session.specs.declared.seat_line.SeatLine.TheVariants as act;
+
+use crate::line_fault::LineFault;
+use crate::occasion::Occasion;
+use crate::script_hearing::hear;
+use crate::seat_line::SeatLine;
+use crate::world::World;
+use acap_entries::{Octets, UserName};
+
+// A session opens, of that user if there is one. Where it doesn't stay open, memory was refused.
+fn open(world: &mut World, at: &Occasion, user: Option<UserName>) -> Result<(), LineFault>
+    ensures { Done (not (is_some (open_at world.old at.now.seat))) (λ done. world.new ≡ did at.now false (deed.Open user) world.old) result }
+{
+    world.open(at.seat, user, at.clock, at.nonce)?;
+    if !world.is_open(at.seat) {
+        return Err(LineFault::Memory);
+    }
+    Ok(())
+}
+
+// The client sends a line.
+fn send(world: &mut World, at: &Occasion, text: Octets) -> Result<(), LineFault>
+    ensures { Done (is_some (open_at world.old at.now.seat)) (λ done. Acts (act.Send text) at.now world.old world.new) result }
+{
+    let mut sent = text.into_vec();
+    let Ok(()) = sent.extend_from_slice(b"\r\n") else {
+        return Err(LineFault::Memory);
+    };
+    hear(world, at, &sent)
+}
+
+// Octets come from the client.
+fn push(world: &mut World, at: &Occasion, octets: &[u8]) -> Result<(), LineFault>
+    ensures { Done (is_some (open_at world.old at.now.seat)) (λ done. world.new ≡ did at.now false (deed.Piece octets.now) world.old) result }
+{
+    world.piece(at.seat, octets)?;
+    Ok(())
+}
+
+// The session makes a turn.
+fn turn(world: &mut World, at: &Occasion) -> Result<(), LineFault>
+    ensures { Done (is_some (open_at world.old at.now.seat)) (λ done. Acts act.Turn at.now world.old world.new) result }
+{
+    world.turn(at.seat, at.clock, at.nonce)?;
+    Ok(())
+}
+
+// The session is asked for what is pending.
+fn drain(world: &mut World, at: &Occasion) -> Result<(), LineFault>
+    ensures { Done (is_some (open_at world.old at.now.seat)) (λ done. Acts act.Drain at.now world.old world.new) result }
+{
+    world.drain(at.seat, at.clock)?;
+    Ok(())
+}
+
+// The session ends.
+fn leave(world: &mut World, at: &Occasion) -> Result<(), LineFault>
+    ensures { Done (is_some (open_at world.old at.now.seat)) (λ done. Acts act.Leave at.now world.old world.new) result }
+{
+    world.leave(at.seat, at.clock)?;
+    Ok(())
+}
+
+/// Does that at a seat. `Wrong` where a session opens and one is open there, or where none is open for all else.
+pub(crate) fn do_at(world: &mut World, at: &Occasion, line: SeatLine) -> Result<(), LineFault>
+    ensures { Done (may line (is_some (open_at world.old at.now.seat))) (λ done. Acts line at.now world.old world.new) result }
+{
+    match line {
+        SeatLine::Open => open(world, at, None),
+        SeatLine::Enter(user) => open(world, at, Some(user)),
+        SeatLine::Send(text) => send(world, at, text),
+        SeatLine::Raw(octets) => hear(world, at, octets.as_slice()),
+        SeatLine::Piece(octets) => push(world, at, octets.as_slice()),
+        SeatLine::Turn => turn(world, at),
+        SeatLine::Drain => drain(world, at),
+        SeatLine::Leave => leave(world, at),
+    }
+}

@@ -1,0 +1,146 @@
+//! What a line of a script does, and what it says.
+
+ghost use Rattle.std.specs.Prelude.{◌≡◌, true, Err, IfOk, is_some};
+ghost use Rattle.acap_session.specs.Script.{Does, Done, IsDone, Sets, Speaks, begins, fits, is_before, is_wrong, may, with_administrator, with_host, with_user, world_of};
+ghost use Rattle.acap_session.specs.World.{open_at};
+ghost use Rattle.acap_session.specs.declared.line_fault.LineFault.TheVariants as faults;
+
+use crate::line_fault::LineFault;
+use crate::occasion::Occasion;
+use crate::script::Script;
+use crate::script_acting::do_at;
+use crate::script_line::ScriptLine;
+use crate::script_output::shown;
+use crate::script_reading::read_line;
+use crate::seat_line::SeatLine;
+use crate::setup::Setup;
+use crate::standing::Standing;
+use crate::world::World;
+use acap_entries::{Memory, Moment, Octets, Seat, UserName};
+use std::alloc::Global;
+use std::mem;
+
+/// A script before its first line.
+pub(crate) fn begin(alloc: Global) -> Result<Script, Memory>
+    ensures { IfOk result (λ script. script ≡ begins) }
+{
+    let host = Octets::from_slice(alloc, b"localhost")?;
+    Ok(Script {
+        standing: Standing::Before(Setup::new(alloc, host)),
+        clock: Moment::new(0).unwrap(),
+        nonce: 0,
+    })
+}
+
+// The world, or that of what was set. It is to be put back.
+fn take_world(alloc: Global, standing: &mut Standing) -> World
+    ensures { result ≡ world_of standing.old }
+{
+    let nothing = Setup::new(alloc, Octets::from_vec(Vec::new(alloc)));
+    match mem::replace(standing, Standing::Before(nothing)) {
+        Standing::Before(setup) => setup.into_world(alloc),
+        Standing::Since(world) => world,
+    }
+}
+
+// One more may log in.
+fn add_user(
+    alloc: Global,
+    script: &mut Script,
+    name: UserName,
+    secret: Octets,
+) -> Result<Vec<u8>, LineFault>
+    ensures { Done (is_before script.old.standing) (λ out. Sets (with_user name secret) script.old out.items script.new) result }
+{
+    let Standing::Before(setup) = &mut script.standing else {
+        return Err(LineFault::Wrong);
+    };
+    setup.add_user(name, secret)?;
+    Ok(Vec::new(alloc))
+}
+
+// One more has all rights.
+fn add_administrator(
+    alloc: Global,
+    script: &mut Script,
+    name: UserName,
+) -> Result<Vec<u8>, LineFault>
+    ensures { Done (is_before script.old.standing) (λ out. Sets (with_administrator name) script.old out.items script.new) result }
+{
+    let Standing::Before(setup) = &mut script.standing else {
+        return Err(LineFault::Wrong);
+    };
+    setup.add_administrator(name)?;
+    Ok(Vec::new(alloc))
+}
+
+// That is the name of the host.
+fn set_host(alloc: Global, script: &mut Script, text: Octets) -> Result<Vec<u8>, LineFault>
+    ensures { Done (is_before script.old.standing) (λ out. Sets (with_host text) script.old out.items script.new) result }
+{
+    let Standing::Before(setup) = &mut script.standing else {
+        return Err(LineFault::Wrong);
+    };
+    setup.set_host(text);
+    Ok(Vec::new(alloc))
+}
+
+// Does something at a seat, and gives what is said there then.
+fn speak(
+    alloc: Global,
+    script: &mut Script,
+    seat: Seat,
+    line: SeatLine,
+) -> Result<Vec<u8>, LineFault>
+    ensures { Done (may line (is_some (open_at (world_of script.old.standing) seat))) (λ out. Speaks seat line script.old out.items script.new) result }
+{
+    let at = Occasion {
+        seat,
+        clock: script.clock,
+        nonce: script.nonce,
+    };
+    let mut world = take_world(alloc, &mut script.standing);
+    do_at(&mut world, &at, line)?;
+    let said = world.take_output(seat);
+    script.standing = Standing::Since(world);
+    let out = shown(alloc, seat, said.as_slice())?;
+    Ok(out)
+}
+
+// Does a line, and gives what it says.
+fn do_line(
+    alloc: Global,
+    script: &mut Script,
+    line: ScriptLine,
+) -> Result<Vec<u8>, LineFault>
+    ensures { Done (fits line script.old.standing) (λ out. Does line script.old out.items script.new) result }
+{
+    match line {
+        ScriptLine::Pass => Ok(Vec::new(alloc)),
+        ScriptLine::User(name, secret) => add_user(alloc, script, name, secret),
+        ScriptLine::Admin(name) => add_administrator(alloc, script, name),
+        ScriptLine::Host(text) => set_host(alloc, script, text),
+        ScriptLine::Clock(moment) => {
+            script.clock = moment;
+            Ok(Vec::new(alloc))
+        }
+        ScriptLine::Nonce(nonce) => {
+            script.nonce = nonce;
+            Ok(Vec::new(alloc))
+        }
+        ScriptLine::At(seat, line) => speak(alloc, script, seat, line),
+    }
+}
+
+/// Does the line that a text is, and gives what it says. `Wrong` where it is none, or may not stand there.
+pub(crate) fn do_text(
+    alloc: Global,
+    script: &mut Script,
+    text: &[u8],
+) -> Result<Vec<u8>, LineFault>
+    ensures ok { IfOk result (λ out. IsDone text.now script.old out.items script.new) }
+    ensures wrong { (result ≡ Err faults.Wrong) → is_wrong text.now script.old ≡ true }
+{
+    let line = read_line(alloc, text)?;
+    do_line(alloc, script, line)
+}

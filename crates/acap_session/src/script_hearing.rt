@@ -1,0 +1,71 @@
+//! What the client of a seat sends, and the turns that its session makes then.
+
+ghost use Rattle.std.specs.Prelude.{◌≡◌, ◌≤◌, length, drop, is_some, IfOk, OnOk};
+ghost use Rattle.acap_session.specs.Script.{Done, HasHeard, HasOffered, HasSettled, HasTurned};
+ghost use Rattle.acap_session.specs.World.{open_at};
+
+use crate::line_fault::LineFault;
+use crate::occasion::Occasion;
+use crate::world::World;
+use crate::world_fault::WorldFault;
+use acap_entries::Memory;
+
+// Makes a turn, and tells whether it came to anything. No turn is made where the session is closed.
+fn turn(world: &mut World, at: &Occasion) -> Result<bool, Memory>
+    ensures { IfOk result (λ goes. HasTurned at.now goes world.old world.new) }
+{
+    match world.turn(at.seat, at.clock, at.nonce) {
+        Ok(goes) => Ok(goes),
+        Err(WorldFault::NoSeat) => Ok(false),
+        Err(_) => Err(Memory),
+    }
+}
+
+// Makes all turns that can be made.
+fn settle(world: &mut World, at: &Occasion) -> Result<(), Memory>
+    ensures { OnOk result (HasSettled at.now world.old world.new) }
+{
+    loop {
+        if !turn(world, at)? {
+            return Ok(());
+        }
+    }
+}
+
+// Offers octets, of which as many are taken as there is room for, and makes all turns that can be made. Says how many
+// were taken.
+fn offer(world: &mut World, at: &Occasion, octets: &[u8]) -> Result<usize, LineFault>
+    ensures offered { Done (is_some (open_at world.old at.now.seat)) (λ taken. HasOffered at.now octets.now world.old world.new (drop taken octets.now)) result }
+    ensures within { IfOk result (λ taken. taken ≤ length octets.now) }
+{
+    let taken = world.piece(at.seat, octets)?;
+    settle(world, at)?;
+    Ok(taken)
+}
+
+fn is_open(world: &World, at: &Occasion) -> bool
+    ensures { result ≡ is_some (open_at world.now at.now.seat) }
+{
+    world.is_open(at.seat)
+}
+
+/// Gives a seat's session octets, and makes all turns that can be made, until all is taken or the session is closed.
+pub(crate) fn hear(world: &mut World, at: &Occasion, octets: &[u8]) -> Result<(), LineFault>
+    ensures { Done (is_some (open_at world.old at.now.seat)) (λ done. HasHeard at.now octets.now world.old world.new) result }
+{
+    let taken = offer(world, at, octets)?;
+    let (_, behind) = octets.split_at(taken);
+    let mut rest = behind;
+    'offers: while !rest.is_empty() {
+        if !is_open(world, at) {
+            return Ok(());
+        }
+        let taken = offer(world, at, rest)?;
+        if taken == 0 {
+            return Err(LineFault::Memory);
+        }
+        let (_, behind) = rest.split_at(taken);
+        rest = behind;
+    }
+    Ok(())
+}

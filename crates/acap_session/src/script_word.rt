@@ -1,0 +1,32 @@
+//! The words with which the lines of a script begin.
+
+/// The words with which the lines of a script begin.
+#[derive(Clone, Copy, Debug, PartialEq, Eq)]
+pub(crate) enum ScriptWord {
+    /// `user`.
+    User,
+    /// `admin`.
+    Admin,
+    /// `host`.
+    Host,
+    /// `clock`.
+    Clock,
+    /// `nonce`.
+    Nonce,
+    /// `open`.
+    Open,
+    /// `enter`.
+    Enter,
+    /// `send`.
+    Send,
+    /// `raw`.
+    Raw,
+    /// `piece`.
+    Piece,
+    /// `turn`.
+    Turn,
+    /// `drain`.
+    Drain,
+    /// `leave`.
+    Leave,
+}
