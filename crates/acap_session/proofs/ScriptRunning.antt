@@ -1,5 +1,5 @@
 -- Lines of a script, one after another, and what was written so far.
-use Rattle.std.proofs.Common.{◌≡◌, ◌≢◌, ◌⊎◌, inl, inr, ℕ, zero, suc, ◌+◌, ◌*◌, ◌<◌, ◌≤◌, Bool, true, false, ◌||◌, List, [], ◌∷◌, ◌++◌, length, take, drop, Option, Some, None, Result, Ok, Err, refl, sym, ap, subst, ◌∙◌, append_assoc, arith, slice_index, length-drop, length-append}
+use Rattle.std.proofs.Common.{◌≡◌, ◌≢◌, ◌⊎◌, inl, inr, ℕ, zero, suc, ◌+◌, ◌*◌, ◌<◌, ◌≤◌, Bool, true, false, ◌||◌, List, [], ◌∷◌, ◌++◌, length, take, drop, Option, Some, None, Result, Ok, Err, IsErr, IsErrAnd, refl, sym, ap, subst, ◌∙◌, append_assoc, arith, slice_index, length-drop, length-append}
 use Rattle.std.specs.Io.KnownBytes.{Appends, Consumes, IsAtEnd, Keeps}
 use Rattle.std.specs.List.{list_any}
 use Rattle.std.specs.Option.{is_some}
@@ -7,7 +7,7 @@ use Rattle.std.proofs.lemmas.List.{append-nil, take-append-drop, drop_more}
 use Rattle.acap_session.specs.Places.{place_at}
 use Rattle.acap_session.specs.Script.{Acts, AreDone, IsDone, Speaks, begins, is_wrong, may, world_of}
 use Rattle.acap_session.specs.ScriptOutput.{Shows}
-use Rattle.acap_session.specs.ScriptRun.{is_feed, IsLine, AreLines, ended, HasLines, with_last, HasEnded, HasStopped, HasFailed, Runs, HasRunLine, RunsLine, RunsLast, HasRunLines, HasFailedIn}
+use Rattle.acap_session.specs.ScriptRun.{is_feed, IsLine, AreLines, ended, HasLines, with_last, HasEnded, HasStopped, HasFailed, Runs, HasRunLine, RunsLine, RunsLast, HasRunLines, HasFailedIn, RunsLines}
 use Rattle.acap_session.specs.World.{World, open_at, output_taken, said_before}
 use Rattle.acap_session.specs.declared.script.Script.{Script}
 use Rattle.acap_session.specs.declared.script_fault.ScriptFault.{ScriptFault}
@@ -120,7 +120,7 @@ cut_there : (lines : List (List ℕ)) (text held rest front behind line : List �
 cut_there lines text held rest front behind line e f g =
     e ∙ ap (λ ys. ended lines ++ ys) (ap (λ ys. held ++ ys) f ∙ sym (append_assoc held front (10 ∷ behind)) ∙ ap (λ ys. ys ++ 10 ∷ behind) (sym g))
 
-pub line_run : (text piece held rest front behind line : List ℕ) (number later : ℕ) (s t u : Script) (old mid new : Option (List ℕ)) → IsRunning text piece held rest number later s t old mid → IsEnded rest front behind → line ≡ held ++ front → HasRunLine line t u mid new → IsRunning text piece [] behind number (later + 1) s u old new
+line_run : (text piece held rest front behind line : List ℕ) (number later : ℕ) (s t u : Script) (old mid new : Option (List ℕ)) → IsRunning text piece held rest number later s t old mid → IsEnded rest front behind → line ≡ held ++ front → HasRunLine line t u mid new → IsRunning text piece [] behind number (later + 1) s u old new
 line_run text piece held rest front behind line number later s t u old mid new a h e k = record {
   lines = a.lines ++ line ∷ [];
   is = cut_there a.lines text held rest front behind line a.is h.is e ∙ ap (λ ys. ended a.lines ++ ys) (sym (append_assoc line (10 ∷ []) behind)) ∙ sym (append_assoc (ended a.lines) (line ++ 10 ∷ []) behind) ∙ ap (λ ys. ys ++ behind) (sym (flat_snoc (λ l. l ++ 10 ∷ []) a.lines line));
@@ -133,7 +133,7 @@ line_run text piece held rest front behind line number later s t u old mid new a
   sent = appends_then old mid new a.said k.said a.sent k.sent;
 }
 
-pub line_failed : (text piece held rest front behind line : List ℕ) (number later n : ℕ) (s t : Script) (old mid new : Option (List ℕ)) → IsRunning text piece held rest number later s t old mid → IsEnded rest front behind → line ≡ held ++ front → (n ≡ later + 1) × (is_wrong line t ≡ true) × (new ≡ mid) → HasFailedIn text number n s old new
+line_failed : (text piece held rest front behind line : List ℕ) (number later n : ℕ) (s t : Script) (old mid new : Option (List ℕ)) → IsRunning text piece held rest number later s t old mid → IsEnded rest front behind → line ≡ held ++ front → (n ≡ later + 1) × (is_wrong line t ≡ true) × (new ≡ mid) → HasFailedIn text number n s old new
 line_failed text piece held rest front behind line number later n s t old mid new a h e k = record {
   before = a.lines;
   wrong = line;
@@ -148,6 +148,21 @@ line_failed text piece held rest front behind line number later n s t old mid ne
   is_wrong = k.1;
   sent = subst (λ (w : Option (List ℕ)). Appends old w a.said) (sym k.2) a.sent;
 }
+
+pub line_ran : (text piece held rest front behind line kept : List ℕ) (number later : ℕ) (s t u : Script) (old mid new : Option (List ℕ)) → IsRunning text piece held rest number later s t old mid → IsEnded rest front behind → line ≡ held ++ front → HasRunLine line t u mid new → kept ≡ [] → IsRunning text piece kept behind number (later + 1) s u old new
+line_ran text piece held rest front behind line kept number later s t u old mid new a h e k none =
+    subst (λ ks. IsRunning text piece ks behind number (later + 1) s u old new) (sym none) (line_run text piece held rest front behind line number later s t u old mid new a h e k)
+
+line_fails : (text piece held rest front behind line kept : List ℕ) (number later more : ℕ) (s t u : Script) (old mid new : Option (List ℕ)) (fault : ScriptFault) → IsRunning text piece held rest number later s t old mid → IsEnded rest front behind → line ≡ held ++ front → RunsLine line (later + 1) t u mid new (Err fault) → RunsLines text kept number more s u old new (Err fault)
+line_fails text piece held rest front behind line kept number later more s t u old mid new (faults.Line n) a h e k = line_failed text piece held rest front behind line number later n s t old mid new a h e k
+line_fails text piece held rest front behind line kept number later more s t u old mid new faults.Read a h e k = absurd k
+line_fails text piece held rest front behind line kept number later more s t u old mid new faults.Write a h e k = tt
+line_fails text piece held rest front behind line kept number later more s t u old mid new faults.Memory a h e k = tt
+
+pub lines_fail : (text piece held rest front behind line kept : List ℕ) (number later more : ℕ) (s t u : Script) (old mid new : Option (List ℕ)) (fault : ScriptFault) (result : Result (Unit {0}) ScriptFault) → IsErr result → IsErrAnd result (λ x. x ≡ fault) → IsRunning text piece held rest number later s t old mid → IsEnded rest front behind → line ≡ held ++ front → RunsLine line (later + 1) t u mid new (Err fault) → RunsLines text kept number more s u old new result
+lines_fail text piece held rest front behind line kept number later more s t u old mid new fault (Ok done) p q a h e k = absurd cc
+lines_fail text piece held rest front behind line kept number later more s t u old mid new fault (Err x) p q a h e k =
+    subst (λ y. RunsLines text kept number more s u old new (Err y)) (sym q) (line_fails text piece held rest front behind line kept number later more s t u old mid new fault a h e k)
 
 pub all_run : (text piece held rest kept : List ℕ) (number later : ℕ) (s t : Script) (old new : Option (List ℕ)) → IsRunning text piece held rest number later s t old new → IsLine rest → kept ≡ held ++ rest → HasRunLines text kept number later s t old new
 all_run text piece held rest kept number later s t old new a h e = record {
@@ -215,7 +230,7 @@ piece_read r0 r r1 w0 w w1 held piece kept number later s t a c h = record {
   sent = appends_then w0 w w1 a.said h.said a.sent h.sent;
 }
 
-pub piece_failed : (r0 r r1 w0 w w1 : Option (List ℕ)) (held piece : List ℕ) (number n : ℕ) (s : Script) → IsReading r0 r w0 w held number s → Consumes r r1 piece → HasFailedIn (held ++ piece) number n s w w1 → HasFailed n r0 r1 w0 w1
+piece_failed : (r0 r r1 w0 w w1 : Option (List ℕ)) (held piece : List ℕ) (number n : ℕ) (s : Script) → IsReading r0 r w0 w held number s → Consumes r r1 piece → HasFailedIn (held ++ piece) number n s w w1 → HasFailed n r0 r1 w0 w1
 piece_failed r0 r r1 w0 w w1 held piece number n s a c h = record {
   read = a.read ++ piece;
   consumed = consumes_then r0 r r1 a.read piece a.consumed c;
@@ -233,6 +248,17 @@ piece_failed r0 r r1 w0 w w1 held piece number n s a c h = record {
   is_wrong = h.is_wrong;
   sent = appends_then w0 w w1 a.said h.said a.sent h.sent;
 }
+
+run_fails : (r0 r r1 w0 w w1 : Option (List ℕ)) (held piece kept : List ℕ) (number later : ℕ) (s t : Script) (fault : ScriptFault) → IsReading r0 r w0 w held number s → Consumes r r1 piece → RunsLines (held ++ piece) kept number later s t w w1 (Err fault) → Runs r0 r1 w0 w1 (Err fault)
+run_fails r0 r r1 w0 w w1 held piece kept number later s t (faults.Line n) a c k = piece_failed r0 r r1 w0 w w1 held piece number n s a c k
+run_fails r0 r r1 w0 w w1 held piece kept number later s t faults.Read a c k = absurd k
+run_fails r0 r r1 w0 w w1 held piece kept number later s t faults.Write a c k = tt
+run_fails r0 r r1 w0 w w1 held piece kept number later s t faults.Memory a c k = tt
+
+pub pieces_fail : (r0 r r1 w0 w w1 : Option (List ℕ)) (held piece kept : List ℕ) (number later : ℕ) (s t : Script) (fault : ScriptFault) (result : Result (Unit {0}) ScriptFault) → IsErr result → IsErrAnd result (λ x. x ≡ fault) → IsReading r0 r w0 w held number s → Consumes r r1 piece → RunsLines (held ++ piece) kept number later s t w w1 (Err fault) → Runs r0 r1 w0 w1 result
+pieces_fail r0 r r1 w0 w w1 held piece kept number later s t fault (Ok done) p q a c k = absurd cc
+pieces_fail r0 r r1 w0 w w1 held piece kept number later s t fault (Err x) p q a c k =
+    subst (λ y. Runs r0 r1 w0 w1 (Err y)) (sym q) (run_fails r0 r r1 w0 w w1 held piece kept number later s t fault a c k)
 
 pub stopped : (r0 r r1 w0 w : Option (List ℕ)) (held : List ℕ) (number : ℕ) (s : Script) → IsReading r0 r w0 w held number s → Keeps r r1 → HasStopped r0 r1 w0 w
 stopped r0 r r1 w0 w held number s a k = record {

@@ -108,11 +108,7 @@ fn speak(
 }
 
 // Does a line, and gives what it says.
-fn do_line(
-    alloc: Global,
-    script: &mut Script,
-    line: ScriptLine,
-) -> Result<Vec<u8>, LineFault>
+fn do_line(alloc: Global, script: &mut Script, line: ScriptLine) -> Result<Vec<u8>, LineFault>
     ensures { Done (fits line script.old.standing) (λ out. Does line script.old out.items script.new) result }
 {
     match line {
@@ -133,11 +129,7 @@ fn do_line(
 }
 
 /// Does the line that a text is, and gives what it says. `Wrong` where it is none, or may not stand there.
-pub(crate) fn do_text(
-    alloc: Global,
-    script: &mut Script,
-    text: &[u8],
-) -> Result<Vec<u8>, LineFault>
+pub(crate) fn do_text(alloc: Global, script: &mut Script, text: &[u8]) -> Result<Vec<u8>, LineFault>
     ensures ok { IfOk result (λ out. IsDone text.now script.old out.items script.new) }
     ensures wrong { (result ≡ Err faults.Wrong) → is_wrong text.now script.old ≡ true }
 {

@@ -71,11 +71,6 @@ impl Setup {
             administrators,
             host,
         } = self;
-        World::new(
-            alloc,
-            Realm::new(administrators),
-            Users::new(users),
-            host,
-        )
+        World::new(alloc, Realm::new(administrators), Users::new(users), host)
     }
 }

@@ -1,0 +1,9 @@
+use Rattle.std.proofs.Common.{◌++◌, length}
+use Rattle.acap_session.proofs.ScriptRunning.{IsRunning}
+use Rattle.acap_session.proofs.script_run.run_lines.Given as goal
+
+abbrev pub invariant-lines : goal.invariant-lines
+invariant-lines g l = IsRunning (l.fn.held.items ++ l.piece) l.piece l.held.items l.rest l.fn.number l.number l.fn.script l.script (g.W.Write.contents l.fn.writer) (g.W.Write.contents l.writer)
+
+abbrev pub decreases-lines : goal.decreases-lines
+decreases-lines g l = length l.rest

@@ -1,0 +1,135 @@
+//! A script between a reader and a writer.
+
+ghost use Rattle.std.specs.Io.KnownBytes.{Appends};
+ghost use Rattle.std.specs.Prelude.{◌≡◌, ◌++◌, ◌+◌, ◌^◌, ◌<◌, ◌≤◌, length, slice_index, take, IfErr, IfNone, IfSome, OnOk};
+ghost use Rattle.acap_session.specs.ScriptRun.{IsLine, Runs, RunsLast, RunsLine, RunsLines};
+ghost use Rattle.acap_session.specs.declared.script_fault.ScriptFault.TheVariants as faults;
+
+use crate::line_fault::LineFault;
+use crate::script::Script;
+use crate::script_doing::{begin, do_text};
+use crate::script_fault::ScriptFault;
+use std::alloc::Global;
+use std::io::{Read, Write};
+
+/// After so many reads a script ends as if the reader had failed.
+const READS: u32 = 1_000_000_000;
+
+// Where the first LF stands.
+fn end_of(text: &[u8]) -> Option<usize>
+    ensures some { IfSome result (λ place. (place < length text.now) × (slice_index text.now place ≡ 10) × IsLine (take place text.now)) }
+    ensures none { IfNone result (IsLine text.now) }
+{
+    for place in 0..text.len() {
+        if text[place] == b'\n' {
+            return Some(place);
+        }
+    }
+    None
+}
+
+// Writes all that is to be written, so that whoever waits for it has it.
+fn send<W: Write>(writer: &mut W, out: &[u8]) -> Result<(), ScriptFault>
+    ensures sent { OnOk result (Appends (W.contents writer.old) (W.contents writer.new) out.now) }
+    ensures fault { IfErr result (λ fault. fault ≡ faults.Write) }
+{
+    let Ok(()) = writer.write_all(out) else {
+        return Err(ScriptFault::Write);
+    };
+    let Ok(()) = writer.flush() else {
+        return Err(ScriptFault::Write);
+    };
+    Ok(())
+}
+
+// Does the line with that number, and writes what it says.
+fn run_line<W: Write>(
+    alloc: Global,
+    script: &mut Script,
+    text: &[u8],
+    number: u64,
+    writer: &mut W,
+) -> Result<(), ScriptFault>
+    ensures { RunsLine text.now number script.old script.new (W.contents writer.old) (W.contents writer.new) result }
+{
+    match do_text(alloc, script, text) {
+        Ok(out) => send(writer, out.as_slice()),
+        Err(LineFault::Wrong) => Err(ScriptFault::Line(number)),
+        Err(LineFault::Memory) => Err(ScriptFault::Memory),
+    }
+}
+
+// Does the lines that a piece ends, the first of which begins with what is held, and holds what stands behind them.
+fn run_lines<W: Write>(
+    alloc: Global,
+    script: &mut Script,
+    held: &mut Vec<u8>,
+    number: &mut u64,
+    piece: &[u8],
+    writer: &mut W,
+) -> Result<(), ScriptFault>
+    requires line { IsLine held.old.items }
+    requires count { number.old + length piece.now < 2 ^ 64 }
+    ensures ran { RunsLines (held.old.items ++ piece.now) held.new.items number.old number.new script.old script.new (W.contents writer.old) (W.contents writer.new) result }
+    ensures count { OnOk result (number.new ≤ number.old + length piece.now) }
+{
+    let mut rest = piece;
+    'lines: while let Some(place) = end_of(rest) {
+        let (front, _) = rest.split_at(place);
+        let (_, behind) = rest.split_at(place + 1);
+        let Ok(()) = held.extend_from_slice(front) else {
+            return Err(ScriptFault::Memory);
+        };
+        *number += 1;
+        run_line(alloc, script, held.as_slice(), *number, writer)?;
+        held.clear();
+        rest = behind;
+    }
+    let Ok(()) = held.extend_from_slice(rest) else {
+        return Err(ScriptFault::Memory);
+    };
+    Ok(())
+}
+
+// Does the last line, which has no LF, if there is one.
+fn run_last<W: Write>(
+    alloc: Global,
+    script: &mut Script,
+    text: &[u8],
+    number: u64,
+    writer: &mut W,
+) -> Result<(), ScriptFault>
+    ensures { RunsLast text.now number script.old script.new (W.contents writer.old) (W.contents writer.new) result }
+{
+    if text.is_empty() {
+        return Ok(());
+    }
+    run_line(alloc, script, text, number, writer)
+}
+
+/// Runs the script that is read, over a world of its own, and writes what its sessions say: what a line says is written
+/// before the next line is read. Where the reader fails, the lines that had ended by then are done; where a line is wrong,
+/// those before it. After a fault of the writer or of memory nothing is said of how much was written.
+pub fn run_script<R: Read, W: Write>(
+    alloc: Global,
+    reader: &mut R,
+    writer: &mut W,
+) -> Result<(), ScriptFault>
+    ensures { Runs (R.remaining reader.old) (R.remaining reader.new) (W.contents writer.old) (W.contents writer.new) result }
+{
+    let mut script = begin(alloc)?;
+    let mut held = Vec::new(alloc);
+    let mut number: u64 = 0;
+    let mut buffer = [0u8; 4096];
+    'reads: for time in 0..READS {
+        let Ok(count) = reader.read(&mut buffer) else {
+            return Err(ScriptFault::Read);
+        };
+        if count == 0 {
+            return run_last(alloc, &mut script, held.as_slice(), number + 1, writer);
+        }
+        let piece = &buffer[..count];
+        run_lines(alloc, &mut script, &mut held, &mut number, piece, writer)?;
+    }
+    Err(ScriptFault::Read)
+}
