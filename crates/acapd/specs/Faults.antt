@@ -1,9 +1,25 @@
 -- The lines in which faults are told.
-use Rattle.std.specs.Prelude.{ℕ, List, codes}
+use Rattle.std.specs.Prelude.{ℕ, List, ◌++◌, codes, decimal}
 use Rattle.acap_session.specs.declared.pipe_fault.PipeFault.{PipeFault}
-use Rattle.acap_session.specs.declared.pipe_fault.PipeFault.TheVariants as fault
+use Rattle.acap_session.specs.declared.pipe_fault.PipeFault.TheVariants as pipe
+use Rattle.acap_session.specs.declared.script_fault.ScriptFault.{ScriptFault}
+use Rattle.acap_session.specs.declared.script_fault.ScriptFault.TheVariants as script
+use Rattle.acapd.specs.declared.fault.Fault.{Fault}
+use Rattle.acapd.specs.declared.fault.Fault.TheVariants as fault
 
-abbrev pub line_of : PipeFault → List ℕ
+abbrev pub of_pipe : PipeFault → Fault
+of_pipe pipe.Read = fault.Read
+of_pipe pipe.Write = fault.Write
+of_pipe pipe.Memory = fault.Memory
+
+abbrev pub of_script : ScriptFault → Fault
+of_script (script.Line n) = fault.Line n
+of_script script.Read = fault.Read
+of_script script.Write = fault.Write
+of_script script.Memory = fault.Memory
+
+abbrev pub line_of : Fault → List ℕ
 line_of fault.Read = codes "acapd: cannot read\n"
 line_of fault.Write = codes "acapd: cannot write\n"
 line_of fault.Memory = codes "acapd: no memory\n"
+line_of (fault.Line n) = codes "acapd: bad script line " ++ decimal n ++ codes "\n"

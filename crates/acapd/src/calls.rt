@@ -3,8 +3,8 @@
 ghost use Rattle.std.specs.Prelude.{[], ◌∷◌, map, codes, string_bytes};
 ghost use Rattle.acapd.specs.Calls.{IsCall};
 
+use crate::fault::Fault;
 use acap_entries::{Memory, NameFault, UserName};
-use acap_session::PipeFault;
 use std::alloc::Global;
 use std::env::Args;
 
@@ -15,8 +15,10 @@ pub(crate) enum Call {
     Nothing,
     /// One session of a user, between standard input and standard output.
     Pipe(UserName),
+    /// A script, from standard input, whose sessions are written to standard output.
+    Script,
     /// It could not be read.
-    Refused(PipeFault),
+    Refused(Fault),
 }
 
 // What the word behind `pipe` asks for: a session of the user that it names.
@@ -26,7 +28,7 @@ fn pipe_of(alloc: Global, user: &[u8]) -> Call
     match UserName::read(alloc, user) {
         Ok(user) => Call::Pipe(user),
         Err(NameFault::BadName) => Call::Nothing,
-        Err(NameFault::Memory) => Call::Refused(PipeFault::Memory),
+        Err(NameFault::Memory) => Call::Refused(Fault::Memory),
     }
 }
 
@@ -41,6 +43,17 @@ fn call_of(alloc: Global, verb: &[u8], user: &[u8]) -> Call
     }
 }
 
+// What a word alone asks for.
+fn call_alone(verb: &[u8]) -> Call
+    ensures { IsCall (verb.now ∷ []) result }
+{
+    if verb == b"script".as_slice() {
+        Call::Script
+    } else {
+        Call::Nothing
+    }
+}
+
 // What the words behind the program's name ask for.
 fn asked_by(alloc: Global, words: &[String]) -> Call
     ensures { IsCall (map (λ word. string_bytes word) words.now) result }
@@ -49,7 +62,7 @@ fn asked_by(alloc: Global, words: &[String]) -> Call
         return Call::Nothing;
     };
     let Some((user, more)) = behind.split_first() else {
-        return Call::Nothing;
+        return call_alone(verb.as_bytes());
     };
     match more.first() {
         Some(_) => Call::Nothing,
@@ -72,6 +85,6 @@ fn listed(alloc: Global, words: Args) -> Result<Vec<String>, Memory> {
 pub(crate) fn read_call(alloc: Global, words: Args) -> Call {
     match listed(alloc, words) {
         Ok(words) => asked_by(alloc, words.as_slice()),
-        Err(Memory) => Call::Refused(PipeFault::Memory),
+        Err(Memory) => Call::Refused(Fault::Memory),
     }
 }

@@ -5,7 +5,7 @@ ghost use Rattle.std.specs.Prelude.{◌≡◌, IfOk, OnOk, codes};
 ghost use Rattle.std.specs.Process.{exit_status};
 ghost use Rattle.acapd.specs.Faults.{line_of};
 
-use acap_session::PipeFault;
+use crate::fault::Fault;
 use std::io;
 use std::process::ExitCode;
 
@@ -28,22 +28,23 @@ pub(crate) fn refuse<W: io::Write>(out: &mut W) -> io::Result<ExitCode>
     Ok(ExitCode::from(USAGE_STATUS))
 }
 
-// The line of a fault.
-fn line_of(fault: PipeFault) -> &'static [u8]
-    ensures { result.now ≡ line_of fault }
+// Writes the line of a fault.
+fn write_line<W: io::Write>(fault: Fault, out: &mut W) -> io::Result<()>
+    ensures { OnOk result (Appends (W.contents out.old) (W.contents out.new) (line_of fault)) }
 {
     match fault {
-        PipeFault::Read => b"acapd: cannot read\n",
-        PipeFault::Write => b"acapd: cannot write\n",
-        PipeFault::Memory => b"acapd: no memory\n",
+        Fault::Read => out.write_all(b"acapd: cannot read\n"),
+        Fault::Write => out.write_all(b"acapd: cannot write\n"),
+        Fault::Memory => out.write_all(b"acapd: no memory\n"),
+        Fault::Line(number) => write!(out, "acapd: bad script line {number}\n"),
     }
 }
 
 /// Tells a fault: writes its line and nothing else, for status 1.
-pub(crate) fn tell<W: io::Write>(fault: PipeFault, out: &mut W) -> io::Result<ExitCode>
+pub(crate) fn tell<W: io::Write>(fault: Fault, out: &mut W) -> io::Result<ExitCode>
     ensures status { IfOk result (λ code. exit_status code ≡ 1) }
     ensures line { OnOk result (Appends (W.contents out.old) (W.contents out.new) (line_of fault)) }
 {
-    out.write_all(line_of(fault))?;
+    write_line(fault, out)?;
     Ok(ExitCode::from(FAULT_STATUS))
 }

@@ -1,0 +1,47 @@
+//! Why the program could not go on.
+
+use acap_session::{PipeFault, ScriptFault};
+
+/// Why the program could not go on.
+#[derive(Clone, Copy, Debug, PartialEq, Eq)]
+pub(crate) enum Fault {
+    /// Standard input failed.
+    Read,
+    /// Standard output failed.
+    Write,
+    /// Memory was refused.
+    Memory,
+    /// This line of a script, counted from 1, is none, or can't stand where it does.
+    Line(u64),
+}
+
+impl From<PipeFault> for Fault {
+    ghost use Rattle.std.specs.Prelude.{◌≡◌};
+    ghost use Rattle.acapd.specs.Faults.{of_pipe};
+
+    ghost from_gives = { λ fault made. made ≡ of_pipe fault };
+
+    fn from(fault: PipeFault) -> Fault {
+        match fault {
+            PipeFault::Read => Fault::Read,
+            PipeFault::Write => Fault::Write,
+            PipeFault::Memory => Fault::Memory,
+        }
+    }
+}
+
+impl From<ScriptFault> for Fault {
+    ghost use Rattle.std.specs.Prelude.{◌≡◌};
+    ghost use Rattle.acapd.specs.Faults.{of_script};
+
+    ghost from_gives = { λ fault made. made ≡ of_script fault };
+
+    fn from(fault: ScriptFault) -> Fault {
+        match fault {
+            ScriptFault::Line(number) => Fault::Line(number),
+            ScriptFault::Read => Fault::Read,
+            ScriptFault::Write => Fault::Write,
+            ScriptFault::Memory => Fault::Memory,
+        }
+    }
+}
