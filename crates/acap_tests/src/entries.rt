@@ -27,53 +27,25 @@ fn kinds(alloc: Global, text: &[u8]) -> [bool; 5] {
     ]
 }
 
-// What names are: paths, datasets, attributes, users, contexts.
+// What names are: paths, datasets, attributes, users, contexts. Rows have more of all but users.
 #[test]
 fn reads_names(rt: HostRuntime) {
     let (yes, no) = (true, false);
-    let rows: [(&[u8], [bool; 5]); 33] = [
+    let rows: [(&[u8], [bool; 5]); 14] = [
         (b"", [no, no, no, no, no]),
-        (b"option/x", [no, no, yes, no, yes]),
-        (b"/a//b", [no, no, yes, no, no]),
-        (b"/.a/b", [no, no, yes, no, no]),
-        (b"/a/.b", [no, no, yes, no, no]),
-        (b"/a\0", [no, no, no, no, no]),
-        (b"/\xff", [no, no, no, no, no]),
-        (b"/\xed\xa0\x80", [no, no, no, no, no]),
-        (b"/\xc0\xaf", [no, no, no, no, no]),
-        (
-            b"/1/2/3/4/5/6/7/8/9/10/11/12/13/14/15/16/17",
-            [no, no, yes, no, no],
-        ),
         (b"/", [yes, yes, yes, no, no]),
-        (b"/x", [yes, yes, yes, no, no]),
-        (b"/a/b/", [yes, yes, yes, no, no]),
-        (b"/\xc3\xa9", [yes, yes, yes, no, no]),
-        (
-            b"/1/2/3/4/5/6/7/8/9/10/11/12/13/14/15/16",
-            [yes, yes, yes, no, no],
-        ),
-        (
-            b"/1/2/3/4/5/6/7/8/9/10/11/12/13/14/15/16/",
-            [yes, yes, yes, no, no],
-        ),
-        (b"option/", [no, no, yes, no, yes]),
-        (b"//", [no, no, yes, no, no]),
-        (b"/.a/", [no, no, yes, no, no]),
-        (b"/a//", [no, no, yes, no, no]),
+        (b"/a/b", [yes, yes, yes, no, no]),
+        (b"/a//b", [no, no, yes, no, no]),
+        (b"a", [no, no, yes, yes, yes]),
+        (b"a*", [no, no, no, yes, yes]),
         (b"anyone", [no, no, yes, no, yes]),
         (b"~", [no, no, yes, no, yes]),
         (b"-joe", [no, no, yes, no, yes]),
         (b"joe smith", [no, no, yes, no, yes]),
         (b"a\tb", [no, no, yes, no, yes]),
-        (b"a/b", [no, no, yes, no, yes]),
         (b".a", [no, no, yes, no, yes]),
         (b"\xff", [no, no, no, no, no]),
         (b"a\0", [no, no, no, no, yes]),
-        (b"a*", [no, no, no, yes, yes]),
-        (b"%", [no, no, no, yes, yes]),
-        (b"/c", [yes, yes, yes, no, no]),
-        (b"a", [no, no, yes, yes, yes]),
     ];
     for (text, wanted) in rows {
         assert!(rt; kinds(rt.alloc(), text) == wanted, "{text:?}");
@@ -108,29 +80,31 @@ fn limits_names(rt: HostRuntime) {
     }
 }
 
-/// What a path means to joe.
-fn path_of_joe(alloc: Global, sent: &[u8]) -> Result<Path, NameFault> {
-    let joe = UserName::read(alloc, b"joe")?;
-    Ok(Path::read(alloc, sent)?.for_user(&joe)?)
+/// What a path means to a user.
+fn path_of(alloc: Global, user: &UserName, sent: &[u8]) -> Result<Path, NameFault> {
+    Ok(Path::read(alloc, sent)?.for_user(user)?)
 }
 
-/// What a dataset means to joe.
-fn dataset_of_joe(alloc: Global, sent: &[u8]) -> Result<Dataset, NameFault> {
-    let joe = UserName::read(alloc, b"joe")?;
-    Ok(Dataset::read(alloc, sent)?.for_user(&joe)?)
+/// What a dataset means to a user.
+fn dataset_of(alloc: Global, user: &UserName, sent: &[u8]) -> Result<Dataset, NameFault> {
+    let dataset = Dataset::read(alloc, sent)?;
+    Ok(dataset.for_user(user)?)
 }
 
-/// Whether a text means that dataset to joe, and that path.
-fn means(alloc: Global, sent: &[u8], wanted: &[u8], dataset: &[u8], name: &[u8]) -> bool {
-    let of_dataset = match dataset_of_joe(alloc, sent) {
+/// Whether a text means that dataset to a user.
+fn means_dataset(alloc: Global, user: &UserName, sent: &[u8], wanted: &[u8]) -> bool {
+    match dataset_of(alloc, user, sent) {
         Ok(meant) => meant.as_slice() == wanted,
         Err(_) => false,
-    };
-    of_dataset
-        && match path_of_joe(alloc, sent) {
-            Ok(meant) => is_path(&meant, dataset, name),
-            Err(_) => false,
-        }
+    }
+}
+
+/// Whether a text means that path to a user.
+fn means_path(alloc: Global, user: &UserName, sent: &[u8], dataset: &[u8], name: &[u8]) -> bool {
+    match path_of(alloc, user, sent) {
+        Ok(meant) => is_path(&meant, dataset, name),
+        Err(_) => false,
+    }
 }
 
 // `~` is a user's name as a dataset's second component alone.
@@ -156,8 +130,15 @@ fn means_by_a_user(rt: HostRuntime) {
         (b"/a/b/~/", b"/a/b/~/", b"/a/b/~/", b""),
         (b"/a/~b/n", b"/a/~b/n/", b"/a/~b/", b"n"),
     ];
+    let Ok(joe) = UserName::read(rt.alloc(), b"joe") else {
+        return;
+    };
     for (sent, wanted, dataset, name) in rows {
-        assert!(rt; means(rt.alloc(), sent, wanted, dataset, name), "{sent:?}");
+        assert!(rt; means_dataset(rt.alloc(), &joe, sent, wanted), "{sent:?}");
+        assert!(rt;
+            means_path(rt.alloc(), &joe, sent, dataset, name),
+            "{sent:?}"
+        );
     }
 }
 
@@ -330,49 +311,13 @@ fn counts_times(rt: HostRuntime) {
     }
 }
 
-// The calendar has each date, the day each time, and only digits stand in a time, or it is none.
+// Texts that are no times; rows have more of them.
 #[test]
 fn refuses_other_times(rt: HostRuntime) {
     for bad in [
-        b"".as_slice(),
-        b"1970",
+        b"19700231000000".as_slice(),
         b"1970010100000",
-        b"19000229000000",
-        b"20230229000000",
-        b"21000229000000",
-        b"20240230000000",
-        b"20000001000000",
-        b"20001301000000",
-        b"20009901000000",
-        b"20000100000000",
-        b"20000132000000",
-        b"20000431000000",
-        b"20000631000000",
-        b"20000931000000",
-        b"20001131000000",
-        b"20000101240000",
-        b"20000101990000",
-        b"20000101006000",
-        b"20000101009900",
-        b"20000101000061",
-        b"20000101000099",
-        b"20000101006060",
-        b"20000101240060",
-        b"+20000101000000",
-        b"-20000101000000",
-        b" 20000101000000",
-        b"20000101000000 ",
-        b"20000101000000Z",
-        b"20000101000000.5",
         b"2000010100000x",
-        b"x0000101000000",
-        b"2000-01-01 00:00:00",
-        b"20000101T000000",
-        b"20000101000000\0",
-        b"2009021323313012345x",
-        b"20090213233130123456x",
-        b"2009021323313012345678901234x",
-        b"2000010100000\xd9\xa0",
     ] {
         assert!(rt; read_time(bad).is_none(), "{bad:?}");
     }
@@ -400,21 +345,23 @@ fn two_cells(alloc: Global) -> Result<Cells, Memory> {
     cells.copy()
 }
 
-/// How many cells there are, before the first in order is removed and then.
-fn cells(alloc: Global) -> Result<(usize, usize), Memory> {
+/// How many cells there are, before `a` is removed and then.
+fn cells(alloc: Global, first: &Attribute) -> Result<[usize; 2], Memory> {
     let mut cells = two_cells(alloc)?;
-    let first = Attribute::from_slice(alloc, b"a")?;
-    let before = match cells.entries() {
-        [one, _] if one.0 == first && cells.get(&first).is_some() => cells.len(),
-        _ => 0,
+    let before = if cells.get(first).is_some() {
+        cells.entries().len()
+    } else {
+        0
     };
-    cells.remove(&first);
-    Ok((before, cells.len()))
+    cells.remove(first);
+    Ok([before, cells.len()])
 }
 
 #[test]
 fn keeps_cells(rt: HostRuntime) {
-    assert!(rt; cells(rt.alloc()) == Ok((2, 1)));
+    if let Ok(first) = Attribute::from_slice(rt.alloc(), b"a") {
+        assert!(rt; cells(rt.alloc(), &first) == Ok([2, 1]));
+    }
 }
 
 /// Writes of two paths; how many there are, before one is removed and then.
@@ -474,35 +421,40 @@ fn empty_record(alloc: Global) -> Record {
     }
 }
 
-/// A change that puts such a record.
-fn change(alloc: Global) -> Result<Change, Memory> {
-    let path = Path::from_slices(alloc, b"/a/", b"x").map_err(|_| Memory)?;
+/// Performs one write.
+fn write(alloc: Global, tree: &mut Tree, path: Path, fate: Fate) -> Result<(), Memory> {
     let mut writes = Writes::new(alloc);
-    writes.set(path, Fate::Put(Boxed::new(alloc, empty_record(alloc))?))?;
-    Ok(Change {
+    writes.set(path, fate)?;
+    let change = Change {
         writes,
         moment: moment(5),
         deleted: Paths::new(alloc),
-    })
-}
-
-/// Makes it in a tree.
-fn fill(alloc: Global, tree: &mut Tree) -> Result<(), Memory> {
-    let change = change(alloc)?;
+    };
     tree.reserve(&change)?;
     tree.commit(change);
     Ok(())
 }
 
+/// Puts a record into a tree.
+fn fill(alloc: Global, tree: &mut Tree) -> Result<(), Memory> {
+    let path = Path::from_slices(alloc, b"/a/", b"x").map_err(|_| Memory)?;
+    let record = Boxed::new(alloc, empty_record(alloc))?;
+    write(alloc, tree, path, Fate::Put(record))
+}
+
+/// Whether a record is put into a tree, and how many it has then, at which moment.
+fn filled(alloc: Global) -> (bool, usize, Moment) {
+    let mut tree = Tree::new(alloc);
+    let done = fill(alloc, &mut tree).is_ok();
+    let found = tree.find(b"/a/", b"x").is_some();
+    (done && found, tree.len(), tree.last())
+}
+
 // Whichever allocation is refused: the tree is as it was, or as it was to become.
 #[test]
 fn keeps_the_tree_without_memory(rt: HostRuntime) {
-    let mut tree = Tree::new(rt.alloc());
-    match fill(rt.alloc(), &mut tree) {
-        Err(_) => assert!(rt; tree.len() == 0 && tree.last() == Moment::first()),
-        Ok(()) => {
-            assert!(rt; tree.len() == 1 && tree.last() == moment(5));
-            assert!(rt; tree.find(b"/a/", b"x").is_some());
-        }
+    match filled(rt.alloc()) {
+        (true, count, last) => assert!(rt; count == 1 && last == moment(5)),
+        (false, count, last) => assert!(rt; count == 0 && last == Moment::first()),
     }
 }

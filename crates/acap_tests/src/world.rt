@@ -2,7 +2,7 @@
 ghost use Rattle.std.specs.Prelude.{◌<◌};
 
 use crate::machine::{moment, seat};
-use acap_entries::{Memory, Octets, UserName};
+use acap_entries::{Memory, Moment, Octets, UserName};
 use acap_login::Users;
 use acap_rights::Realm;
 use acap_session::{World, WorldFault};
@@ -41,15 +41,12 @@ fn world(alloc: Global) -> Result<World, Memory> {
     Ok(World::new(alloc, Realm::new(Vec::new(alloc)), users, host))
 }
 
-/// A session without a user begins at a seat, or that of the user whose name stands behind `enter `.
-fn begin(alloc: Global, world: &mut World, number: u8, text: &[u8]) -> Result<(), WorldFault>
+/// A session of a user begins at a seat.
+fn enter(alloc: Global, world: &mut World, number: u8, name: &[u8]) -> Result<(), WorldFault>
     requires { number < 64 }
 {
-    let user = match text.strip_prefix(b"enter ") {
-        Some(name) => Some(UserName::from_slice(alloc, name)?),
-        None => None,
-    };
-    world.open(seat(number), user, moment(CLOCK), NONCE)
+    let user = UserName::from_slice(alloc, name)?;
+    world.open(seat(number), Some(user), moment(CLOCK), NONCE)
 }
 
 /// A seat's session is given octets, and makes turns until it wants more or is closed.
@@ -71,8 +68,11 @@ fn send(world: &mut World, number: u8, text: &[u8]) -> Result<(), WorldFault>
 fn perform(alloc: Global, world: &mut World, number: u8, text: &[u8]) -> Result<(), WorldFault>
     requires { number < 64 }
 {
-    if text == b"open".as_slice() || text.starts_with(b"enter ") {
-        return begin(alloc, world, number, text);
+    if let Some(name) = text.strip_prefix(b"enter ") {
+        return enter(alloc, world, number, name);
+    }
+    if text == b"open".as_slice() {
+        return world.open(seat(number), None, moment(CLOCK), NONCE);
     }
     if text == b"drain".as_slice() {
         return world.drain(seat(number), moment(CLOCK));
@@ -95,15 +95,16 @@ fn writes(alloc: Global, world: &mut World, line: &Line) -> bool {
     }
 }
 
-/// The first line at which something else is written, if there is one.
-fn first_wrong(alloc: Global, lines: &[Line]) -> Option<&'static [u8]> {
-    let mut made = world(alloc).ok()?;
+/// The last moment of a machine after these lines, or the first line at which something else is written: none where
+/// memory is refused before that.
+fn performed(alloc: Global, lines: &[Line]) -> Result<Moment, Option<&'static [u8]>> {
+    let mut made = world(alloc).map_err(|_| None)?;
     for line in lines {
         if !writes(alloc, &mut made, line) {
-            return Some(line.1);
+            return Err(Some(line.1));
         }
     }
-    None
+    Ok(made.state().tree().last())
 }
 
 // A seat is taken while its session is open, and free again behind its end; each has its own output, which is given once.
@@ -127,7 +128,7 @@ fn keeps_seats_apart(rt: HostRuntime) {
         (2, b"A3 NOOP\r\n", NO_SEAT),
         (2, b"enter joe", GREETING),
     ];
-    assert_eq!(rt; first_wrong(rt.alloc(), &lines), None);
+    assert_eq!(rt; performed(rt.alloc(), &lines), Ok(Moment::first()));
 }
 
 /// The challenge of RFC 2195, which each AUTHENTICATE is answered here.
@@ -171,7 +172,7 @@ fn hears_answers_to_a_challenge(rt: HostRuntime) {
         ),
         (2, b"A2 NOOP\r\n", b"A2 OK \"NOOP done\"\r\n"),
     ];
-    assert_eq!(rt; first_wrong(rt.alloc(), &lines), None);
+    assert_eq!(rt; performed(rt.alloc(), &lines), Ok(Moment::first()));
 }
 
 // Without a user each command that concerns the store needs a login first, NOOP and LOGOUT don't, and other mechanisms
@@ -219,7 +220,7 @@ fn asks_for_a_login_first(rt: HostRuntime) {
         ),
         (1, b"A7 NOOP\r\n", NO_SEAT),
     ];
-    assert_eq!(rt; first_wrong(rt.alloc(), &lines), None);
+    assert_eq!(rt; performed(rt.alloc(), &lines), Ok(Moment::first()));
 }
 
 // Without a user, too, what is wrong with a line is told before that.
@@ -253,20 +254,19 @@ fn tells_faults_before_a_login(rt: HostRuntime) {
         (1, b"A1 FROB\r\n", b"A1 BAD \"Unknown command\"\r\n"),
         (1, b"A1 AUTHENTICATE x\r\n", arguments),
     ];
-    assert_eq!(rt; first_wrong(rt.alloc(), &lines), None);
+    assert_eq!(rt; performed(rt.alloc(), &lines), Ok(Moment::first()));
 }
 
 // A world has the machine that its sessions' commands change.
 #[test]
 fn has_a_machine(rt: HostRuntime) {
-    let line: Line = (
-        1,
-        b"A1 STORE (\"/option/~/e\" \"k\" \"x\")\r\n",
-        b"A1 OK \"STORE done\"\r\n",
-    );
-    if let Ok(mut made) = world(rt.alloc()) {
-        assert!(rt; writes(rt.alloc(), &mut made, &(1, b"enter joe", GREETING)));
-        assert!(rt; writes(rt.alloc(), &mut made, &line));
-        assert!(rt; made.state().tree().last() == moment(CLOCK));
-    }
+    let lines: [Line; 2] = [
+        (1, b"enter joe", GREETING),
+        (
+            1,
+            b"A1 STORE (\"/option/~/e\" \"k\" \"x\")\r\n",
+            b"A1 OK \"STORE done\"\r\n",
+        ),
+    ];
+    assert_eq!(rt; performed(rt.alloc(), &lines), Ok(moment(CLOCK)));
 }
