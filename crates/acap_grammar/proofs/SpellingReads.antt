@@ -5,15 +5,15 @@ use Rattle.acap_entries.proofs.TimeLaws.{time_law}
 use Rattle.acap_grammar.specs.declared.command.Command.TheVariants as command
 use Rattle.acap_grammar.specs.declared.object.Object.{Object}
 use Rattle.acap_grammar.specs.Marks.{is_string, ends, starts, behind, string_at, word_at}
-use Rattle.acap_grammar.specs.Arguments.{context_named, dataset_named, named_at, entry_part, attribute_part, object_at}
+use Rattle.acap_grammar.specs.Arguments.{context_named, named_at, entry_part, attribute_part, object_at}
 use Rattle.acap_grammar.specs.Grammar.{set_acl_at, delete_acl_at, list_rights_at, deleted_since_at, context_at, contexts_at, arguments_at, command_of}
-use Rattle.acap_grammar.specs.Sendable.{Names, Within, IsObject, IsSendable, SpellsCommands}
+use Rattle.acap_grammar.specs.Sendable.{Names, IsDataset, Within, IsObject, IsSendable, SpellsCommands}
 use Rattle.acap_grammar.specs.Spelling.{object, string, tokens_of}
 use Rattle.acap_grammar.proofs.StoreReads.{entries_read}
 use Rattle.acap_grammar.proofs.SearchReads.{search_reads}
 use Rattle.acap_grammar.proofs.ListReads.{ReadsEach, some_read}
 
-parts : (dataset : List ℕ) (attribute name : Option (List ℕ)) (rest : List Token) → Names dataset_named dataset dataset → Within dataset attribute name
+parts : (dataset : List ℕ) (attribute name : Option (List ℕ)) (rest : List Token) → IsDataset dataset → Within dataset attribute name
     → object_at (object (record { dataset = dataset; attribute = attribute; name = name }) rest) ≡ Ok (record { dataset = dataset; attribute = attribute; name = name }, rest)
 unfolding object_at named_at string_at behind starts attribute_part entry_part
 parts d None None rest p q = rw p refl

@@ -23,7 +23,7 @@ use Rattle.acap_grammar.specs.declared.test.Test.TheVariants as test
 use Rattle.acap_grammar.specs.Arguments.{attribute_named, context_named, dataset_named, entry_named, path_named, target_named, is_of_texts}
 use Rattle.acap_grammar.specs.Grammar.{command_of}
 use Rattle.acap_grammar.specs.Searching.{return_named}
-use Rattle.acap_grammar.specs.Spelling.{return_text, target_text, tokens_of}
+use Rattle.acap_grammar.specs.Spelling.{dataset_text, return_text, target_text, tokens_of}
 use Rattle.acap_grammar.specs.Storing.{has_path, has_attribute, same_metadata}
 use Rattle.acap_grammar.specs.Wanted.{Wanted, One, And, Or, Not}
 
@@ -53,9 +53,8 @@ InCase false A B = B
 abbrev pub IsAttribute : List ℕ → Type 0
 IsAttribute text = Names attribute_named text text
 
--- a dataset that is spelled with its closing slash, which counts among its octets
 abbrev pub IsDataset : List ℕ → Type 0
-IsDataset text = Names dataset_named text text
+IsDataset name = Names dataset_named (dataset_text name) name
 
 -- ---- objects
 

@@ -1,7 +1,7 @@
 -- The tokens with which a command is spelled most plainly: words in capitals, strings quoted, modifiers in the order of
 -- the table [RFC 2244 sections 2.2, 6 and 8]. Each step puts its tokens before those behind it. Where a token lies
 -- doesn't matter.
-use Rattle.std.specs.Prelude.{ℕ, ℤ, List, [], ◌∷◌, ◌++◌, codes, decimal, Bool, true, false, Option, Some, None, if◌then◌else◌}
+use Rattle.std.specs.Prelude.{ℕ, ◌-◌, nat_le, ℤ, List, [], ◌∷◌, ◌++◌, length, take, codes, decimal, Bool, true, false, Option, Some, None, if◌then◌else◌}
 use Rattle.std.specs.Str.{bytes_eq}
 use Rattle.acap_lexer.specs.declared.kind.Kind.{Kind}
 use Rattle.acap_lexer.specs.declared.kind.Kind.TheVariants as kind
@@ -95,9 +95,16 @@ comparator_name c = sign c.direction ++ collation_name c.collation
 abbrev pub comparator : Comparator → List Token → List Token
 comparator c behind = string (comparator_name c) behind
 
+-- a dataset, without its closing slash unless that is all of it
+abbrev pub dataset_text : List ℕ → List ℕ
+dataset_text name = if nat_le (length name) 1 then name else take (length name - 1) name
+
+abbrev pub dataset : List ℕ → List Token → List Token
+dataset name behind = string (dataset_text name) behind
+
 -- object: `(` dataset [attribute [entry name]] `)`
 abbrev pub object : Object → List Token → List Token
-object o behind = opened (string o.dataset (if_there string o.attribute (if_there string o.name (shut behind))))
+object o behind = opened (dataset o.dataset (if_there string o.attribute (if_there string o.name (shut behind))))
 
 -- ---- STORE
 
@@ -225,7 +232,7 @@ key (Not a) behind = word (codes "NOT") (key a behind)
 
 -- what is looked through: a dataset or a context
 abbrev pub target_text : Target → List ℕ
-target_text (target.Dataset dataset) = dataset
+target_text (target.Dataset name) = dataset_text name
 target_text (target.Context name) = name
 
 -- (dataset or context) modifier* key
@@ -247,6 +254,6 @@ tokens_of tag (command.SetAcl o identifier rights) = line tag (codes "SETACL") (
 tokens_of tag (command.DeleteAcl o identifier) = line tag (codes "DELETEACL") (object o (if_there string identifier []))
 tokens_of tag (command.MyRights o) = line tag (codes "MYRIGHTS") (object o [])
 tokens_of tag (command.ListRights o identifier) = line tag (codes "LISTRIGHTS") (object o (string identifier []))
-tokens_of tag (command.DeletedSince dataset since) = line tag (codes "DELETEDSINCE") (string dataset (time since []))
+tokens_of tag (command.DeletedSince name since) = line tag (codes "DELETEDSINCE") (dataset name (time since []))
 tokens_of tag (command.FreeContext context) = line tag (codes "FREECONTEXT") (string context [])
 tokens_of tag (command.UpdateContext contexts) = line tag (codes "UPDATECONTEXT") (each string contexts [])
