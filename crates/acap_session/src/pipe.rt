@@ -185,12 +185,5 @@ pub fn run_pipe<R: Read, W: Write>(
     let mut out = Vec::new(alloc);
     enter(&mut session, &mut state, &users, &mut out)?;
     send(writer, &mut out)?;
-    serve(
-        &mut session,
-        &mut state,
-        &users,
-        reader,
-        writer,
-        &mut out,
-    )
+    serve(&mut session, &mut state, &users, reader, writer, &mut out)
 }

@@ -58,21 +58,11 @@ impl Place {
         ensures ok { IfOk result (λ turn. IsTurn users.now occasion (scene state.old.machine self.old.talk self.old.out) turn (scene state.new.machine self.new.talk self.new.out)) }
         ensures err { OnErr result (WasCut occasion (scene state.old.machine self.old.talk self.old.out) (session_next users.now occasion.nonce occasion.clock self.old.talk) (scene state.new.machine self.new.talk self.new.out)) }
     {
-        turn(
-            &mut self.session,
-            state,
-            users,
-            occasion,
-            &mut self.out,
-        )
+        turn(&mut self.session, state, users, occasion, &mut self.out)
     }
 
     /// Asks for what is pending.
-    pub(crate) fn drain(
-        &mut self,
-        state: &mut State,
-        occasion: Occasion,
-    ) -> Result<Turn, Memory>
+    pub(crate) fn drain(&mut self, state: &mut State, occasion: Occasion) -> Result<Turn, Memory>
         ensures ok { IfOk result (λ turn. IsDrain occasion (scene state.old.machine self.old.talk self.old.out) turn (scene state.new.machine self.new.talk self.new.out)) }
         ensures err { OnErr result (WasCut occasion (scene state.old.machine self.old.talk self.old.out) (session_drain self.old.talk) (scene state.new.machine self.new.talk self.new.out)) }
     {

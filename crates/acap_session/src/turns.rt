@@ -34,12 +34,7 @@ fn came(heard: &Heard) -> Turn
 }
 
 // A session that is over leaves its seat.
-fn finish(
-    state: &mut State,
-    occasion: Occasion,
-    has_seat: bool,
-    heard: &Heard,
-) -> Turn
+fn finish(state: &mut State, occasion: Occasion, has_seat: bool, heard: &Heard) -> Turn
     ensures turn { result ≡ turn_from heard.now }
     ensures machine { state.new.machine ≡ left_at heard.now has_seat occasion state.old.machine }
 {
