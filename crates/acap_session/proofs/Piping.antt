@@ -17,7 +17,6 @@ use Rattle.acap_session.specs.Turning.{Scene, scene, turn_of, turn_by, shown, pe
 use Rattle.acap_session.specs.declared.next.Next.{Next}
 use Rattle.acap_session.specs.declared.occasion.Occasion.{Occasion}
 use Rattle.acap_session.specs.declared.next.Next.TheVariants as next
-use Rattle.acap_session.specs.declared.stage.Stage.TheVariants as stage
 use Rattle.acap_session.specs.declared.turn.Turn.{Turn}
 use Rattle.acap_session.specs.declared.turn.Turn.TheVariants as turn
 use Rattle.acap_session.proofs.Turning.{still, goes_on, held_kept, over, closed_is_quiet, room_left}

@@ -1,11 +1,11 @@
 -- What is done at a seat, from what the world's calls leave.
-use Rattle.std.proofs.Common.{◌≡◌, ℕ, ℤ, Bool, true, false, not, List, [], ◌∷◌, Option, Some, None, Result, Ok, Err, IsSome, refl, sym, ap, subst, ◌∙◌}
+use Rattle.std.proofs.Common.{◌≡◌, ℕ, Bool, true, false, not, List, Option, Some, None, Ok, IsSome, refl, sym, ap, ◌∙◌}
 use Rattle.std.specs.Option.{is_some}
 use Rattle.acap_login.specs.Login.{User}
 use Rattle.acap_session.specs.Hearing.{opening}
-use Rattle.acap_session.specs.Places.{Place, Places, place_at, if_open}
+use Rattle.acap_session.specs.Places.{Place, place_at, if_open}
 use Rattle.acap_session.specs.Session.{session_next, answered, is_closed}
-use Rattle.acap_session.specs.Talking.{Talking, begun}
+use Rattle.acap_session.specs.Talking.{begun}
 use Rattle.acap_session.specs.Turning.{Scene, scene, turn_of}
 use Rattle.acap_session.specs.World.{World, Feeds, IsStep, did, open_at, opened_at, said_before, with_scene}
 use Rattle.acap_session.specs.World as world

@@ -1,14 +1,13 @@
 -- Turns at a seat of a world, one after another, and what is offered there.
-use Rattle.std.proofs.Common.{◌≡◌, ◌≢◌, ◌⊎◌, inl, inr, ℕ, ℤ, zero, suc, ◌+◌, ◌*◌, ◌<◌, ◌≤◌, Bool, true, false, List, [], ◌∷◌, ◌++◌, length, drop, Option, Some, None, Ok, IsSome, refl, sym, ap, subst, ◌∙◌, arith}
+use Rattle.std.proofs.Common.{◌≡◌, inl, inr, ℕ, ℤ, zero, suc, ◌+◌, ◌*◌, ◌<◌, ◌≤◌, Bool, true, false, List, [], ◌∷◌, ◌++◌, drop, Option, Some, None, Ok, refl, sym, ap, subst, ◌∙◌, arith}
 use Rattle.std.specs.Option.{is_some}
 use Rattle.acap_lexer.specs.Holding.{Held}
 use Rattle.acap_login.specs.Login.{User}
-use Rattle.acap_session.specs.Hearing.{opening}
 use Rattle.acap_session.specs.Places.{Place, Places, place_at, placed, if_open}
 use Rattle.acap_session.specs.Script.{turns, IsQuiet, IsQuietFor, IsOver, GoesOn, Hears, HasHeard, HasSettled, HasTurned, HasOffered, left_by}
 use Rattle.acap_session.specs.Session.{session_next, next_at, is_closed, is_hearing}
 use Rattle.acap_session.specs.Talking.{Talking}
-use Rattle.acap_session.specs.Turning.{Scene, scene, turn_of, IsTurn}
+use Rattle.acap_session.specs.Turning.{Scene, turn_of, IsTurn}
 use Rattle.acap_session.specs.World.{World, Feeds, HasTurnedAt, at_open, did, open_at, scene_of, with_scene, went_on, takes}
 use Rattle.acap_session.specs.World as world
 use Rattle.acap_session.specs.declared.next.Next.TheVariants as next

@@ -1,5 +1,5 @@
 -- Lines of a script, one after another, and what was written so far.
-use Rattle.std.proofs.Common.{◌≡◌, ◌≢◌, ◌⊎◌, inl, inr, ℕ, zero, suc, ◌+◌, ◌*◌, ◌<◌, ◌≤◌, Bool, true, false, ◌||◌, List, [], ◌∷◌, ◌++◌, length, take, drop, Option, Some, None, Result, Ok, Err, IsErr, IsErrAnd, refl, sym, ap, subst, ◌∙◌, append_assoc, arith, slice_index, length-drop, length-append}
+use Rattle.std.proofs.Common.{◌≡◌, ℕ, ◌+◌, ◌<◌, ◌≤◌, Bool, true, false, ◌||◌, List, [], ◌∷◌, ◌++◌, length, take, drop, Option, Some, None, Result, Ok, Err, IsErr, IsErrAnd, refl, sym, ap, subst, ◌∙◌, append_assoc, arith, slice_index, length-drop, length-append}
 use Rattle.std.specs.Io.KnownBytes.{Appends, Consumes, IsAtEnd, Keeps}
 use Rattle.std.specs.List.{list_any}
 use Rattle.std.specs.Option.{is_some}
@@ -7,7 +7,7 @@ use Rattle.std.proofs.lemmas.List.{append-nil, take-append-drop, drop_more}
 use Rattle.acap_session.specs.Places.{place_at}
 use Rattle.acap_session.specs.Script.{Acts, AreDone, IsDone, Speaks, begins, is_wrong, may, world_of}
 use Rattle.acap_session.specs.ScriptOutput.{Shows}
-use Rattle.acap_session.specs.ScriptRun.{is_feed, IsLine, AreLines, ended, HasLines, with_last, HasEnded, HasStopped, HasFailed, Runs, HasRunLine, RunsLine, RunsLast, HasRunLines, HasFailedIn, RunsLines}
+use Rattle.acap_session.specs.ScriptRun.{is_feed, IsLine, AreLines, ended, HasLines, HasEnded, HasStopped, HasFailed, Runs, HasRunLine, RunsLine, RunsLast, HasRunLines, HasFailedIn, RunsLines}
 use Rattle.acap_session.specs.World.{World, open_at, output_taken, said_before}
 use Rattle.acap_session.specs.declared.script.Script.{Script}
 use Rattle.acap_session.specs.declared.script_fault.ScriptFault.{ScriptFault}

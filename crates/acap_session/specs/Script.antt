@@ -1,7 +1,6 @@
 -- What a script does and writes, line by line.
-use Rattle.std.specs.Prelude.{◌≡◌, ◌≢◌, ◌⊎◌, ℕ, pos, ◌+◌, List, [], ◌∷◌, ◌++◌, length, drop, Bool, true, false, not, Option, Some, None, Result, Ok, Err, IsSome, codes}
+use Rattle.std.specs.Prelude.{◌≡◌, ◌≢◌, ◌⊎◌, ℕ, pos, List, [], ◌∷◌, ◌++◌, drop, Bool, true, false, not, Option, Some, None, Result, Ok, Err, IsSome, codes}
 use Rattle.std.specs.Option.{is_some}
-use Rattle.acap_login.specs.Login.{User}
 use Rattle.acap_grammar.specs.Replies.{crlf}
 use Rattle.acap_session.specs.Places.{Place, place_at}
 use Rattle.acap_session.specs.ScriptLines.{line_of}

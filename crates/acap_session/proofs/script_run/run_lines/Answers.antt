@@ -1,4 +1,4 @@
-use Rattle.std.proofs.Common.{◌+◌, ◌<◌, ◌≤◌, length, ◌∙◌, arith}
+use Rattle.std.proofs.Common.{◌+◌, ◌∙◌, arith}
 use Rattle.acap_session.proofs.ScriptRunning.{none_run, ends_at, line_ran, lines_fail, all_run}
 use Rattle.acap_session.proofs.script_run.run_lines.Goals as goal
 
