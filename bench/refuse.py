@@ -1,13 +1,14 @@
 #!/usr/bin/env python3
-"""Refuses each allocation of a session through `acapd pipe` in turn, and checks what is answered then.
+"""Refuses each allocation of `acapd pipe` or `acapd script` in turn, and checks what is answered then.
 
-    python3 bench/refuse.py PROGRAM FILE [--from N] [--seconds S]
+    python3 bench/refuse.py PROGRAM FILE [--script] [--from N] [--seconds S]
 
-FILE has one command a line, tags A1, A2, .., and is sent with CR LF. The Nth allocation alone is refused, by a library that is
-loaded before the C library's. Allowed is: the honest answers (where the program did without); one command answered
-`NO (TRYLATER) "No memory"`, and every other one as in a session in which that command was never sent; or a front of the
-honest answers, with status 1 and `acapd: no memory`; or status 2 where the arguments couldn't be read. It ends when a run asks for
-fewer allocations than N, or after so many seconds, and then prints the number to go on from.
+FILE has one command a line, tags A1, A2, .., and is sent with CR LF; or it is a script, whose `send` lines are commands with
+tags that stand once each, and the answers to challenges. The Nth allocation alone is refused, by a library that is loaded before
+the C library's. Allowed is: the honest answers (where the program did without); one command answered `NO (TRYLATER) "No memory"`,
+and every other one as if that command were never sent (for the answer to a challenge: as if there had been no login); or a
+front of the honest answers, with status 1 and `acapd: no memory`; or status 2 where the arguments couldn't be read. It ends
+when a run asks for fewer allocations than N, or after so many seconds, and then prints the number to go on from.
 """
 import argparse
 import os
@@ -39,28 +40,79 @@ __attribute__((destructor)) static void tell(void) {
 """
 
 
-def run(program, lines, **env):
+class Pipe:
+    """A session between standard input and output."""
+
+    words = ["pipe", "joe"]
+    end = b"\r\n"
+
+    @staticmethod
+    def commands(lines):
+        """For each command: its name, the lines that it takes, and what its refusal prints."""
+        for at, line in enumerate(lines):
+            tag = line.split()[0]
+            yield tag, [at], tag + b' NO (TRYLATER) "No memory"\r\n'
+
+    @staticmethod
+    def rest(out, refusal):
+        """What is printed but for that refusal."""
+        return out.replace(refusal, b"", 1)
+
+
+class Script:
+    """A script of several sessions."""
+
+    words = ["script"]
+    end = b"\n"
+
+    @staticmethod
+    def commands(lines):
+        asked = {}
+        for at, line in enumerate(lines):
+            word, *parts = line.split(b" ", 2)
+            if word != b"send":
+                continue
+            seat, text = parts
+            tag, login = text.split()[0], None
+            if text.startswith(b'"'):
+                tag, login = asked[seat]
+            elif b" AUTHENTICATE " in text:
+                asked[seat] = tag, at
+            took = [at] if login is None else [login, at]
+            yield tag, took, seat + b": " + tag + b' NO (TRYLATER) "No memory"\n'
+
+    @staticmethod
+    def rest(out, refusal):
+        """What is printed but for that refusal, and for the challenge before it if it is that of a login."""
+        before, behind = out.split(refusal, 1)
+        shown = before.splitlines(keepends=True)
+        if shown and shown[-1].startswith(refusal[:refusal.index(b":")] + b": + "):
+            shown.pop()
+        return b"".join(shown) + behind
+
+
+def run(program, kind, lines, **env):
     """What is printed, said of a fault, and the status."""
-    given = b"".join(line + b"\r\n" for line in lines)
-    done = subprocess.run([program, "pipe", "joe"], input=given, capture_output=True, env={**os.environ, **env})
+    given = b"".join(line + kind.end for line in lines)
+    done = subprocess.run([program, *kind.words], input=given, capture_output=True, env={**os.environ, **env})
     return done.stdout, done.stderr, done.returncode
 
 
-def allowed(program, lines, honest, out, err, status, without):
-    """The index of the command that was refused, -1 where none was, or None where the outcome isn't allowed."""
+def allowed(program, kind, lines, honest, outcome, without):
+    """The name of the command that was refused, nothing where none was, or None where the outcome isn't allowed."""
+    out, err, status = outcome
     if status == 2:
-        return -1
+        return b""
     if status == 1:
-        return -1 if err == b"acapd: no memory\n" and honest.startswith(out) else None
+        return b"" if err == b"acapd: no memory\n" and honest.startswith(out) else None
     if out == honest:
-        return -1
-    for at, line in enumerate(lines):
-        tag = line.split()[0]
-        refusal = tag + b' NO (TRYLATER) "No memory"\r\n'
+        return b""
+    for name, took, refusal in kind.commands(lines):
         if refusal in out:
-            if at not in without:
-                without[at] = run(program, lines[:at] + lines[at + 1:])[0]
-            return at if out.replace(refusal, b"", 1) == without[at] else None
+            if refusal not in without:
+                left = [line for at, line in enumerate(lines) if at not in took]
+                without[refusal] = run(program, kind, left)[0]
+            return name if kind.rest(out, refusal) == without[refusal] else None
     return None
 
 
@@ -68,9 +120,11 @@ def main():
     words = argparse.ArgumentParser()
     words.add_argument("program")
     words.add_argument("file")
+    words.add_argument("--script", action="store_true")
     words.add_argument("--from", dest="first", type=int, default=1)
     words.add_argument("--seconds", type=float, default=500)
     asked = words.parse_args()
+    kind = Script if asked.script else Pipe
     with open(asked.file, "rb") as it:
         lines = [line.rstrip(b"\r\n") for line in it if line.strip()]
     end = time.monotonic() + asked.seconds
@@ -79,16 +133,17 @@ def main():
         with open(source, "w", encoding="ascii") as it:
             it.write(REFUSER)
         subprocess.run(["cc", "-O1", "-shared", "-fPIC", "-o", refuser, source, "-ldl"], check=True)
-        honest, _, status = run(asked.program, lines)
+        honest, _, status = run(asked.program, kind, lines)
         if status:
             sys.exit(f"without a refusal the status is {status}")
         without, commands, n = {}, {}, asked.first
         while time.monotonic() < end:
-            out, err, status = run(asked.program, lines, LD_PRELOAD=refuser, REFUSE_AT=str(n), REFUSE_TOLD=told)
-            at = allowed(asked.program, lines, honest, out, err, status, without)
-            if at is None:
+            outcome = run(asked.program, kind, lines, LD_PRELOAD=refuser, REFUSE_AT=str(n), REFUSE_TOLD=told)
+            name = allowed(asked.program, kind, lines, honest, outcome, without)
+            if name is None:
+                out, err, status = outcome
                 sys.exit(f"allocation {n}: not allowed: status {status}, {err!r}\n{out.decode('latin-1')}")
-            commands[at] = commands.get(at, 0) + 1
+            commands[name] = commands.get(name, 0) + 1
             with open(told, encoding="ascii") as it:
                 if int(it.read()) < n:
                     break
@@ -96,7 +151,7 @@ def main():
         else:
             print(f"not ended: go on with --from {n}")
             return
-    told = ", ".join(f"{lines[at].split()[0].decode()} {count}" for at, count in sorted(commands.items()) if at >= 0)
+    told = ", ".join(f"{name.decode()} {count}" for name, count in commands.items() if name)
     print(f"{n - asked.first} allocations refused, each with an allowed outcome; commands answered TRYLATER: {told or 'none'}")
 
 

@@ -8,6 +8,8 @@ use std::alloc::Global;
 pub(crate) enum Kind<'a> {
     /// It is what a session of that user reads.
     Session(&'a str),
+    /// It is a script.
+    Script,
 }
 
 impl<'a> Kind<'a> {
@@ -15,6 +17,7 @@ impl<'a> Kind<'a> {
     fn line_end(self) -> &'static [u8] {
         match self {
             Kind::Session(_) => b"\r\n",
+            Kind::Script => b"\n",
         }
     }
 }
@@ -73,6 +76,10 @@ impl<'a> Reading<'a> {
         }
         if let Some(user) = line.strip_prefix("session ") {
             self.kind = Some(Kind::Session(user));
+            return Some(());
+        }
+        if line == "script" {
+            self.kind = Some(Kind::Script);
             return Some(());
         }
         self.read_text(line)

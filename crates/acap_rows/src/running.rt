@@ -4,7 +4,7 @@ use crate::difference::{Lines, first_lines};
 use crate::pieces::{Cut, Pieces};
 use crate::row_file::{Kind, Row};
 use acap_entries::UserName;
-use acap_session::run_pipe;
+use acap_session::{ScriptFault, run_pipe, run_script};
 use std::alloc::{AllocError, Global};
 
 /// What a session says first.
@@ -39,10 +39,34 @@ fn said(alloc: Global, user: &str, sent: &[u8], cut: Cut) -> Result<Vec<u8>, All
     Ok(text)
 }
 
+// Adds what the program says of a script that ends by a fault.
+fn add_fault(fault: ScriptFault, text: &mut Vec<u8>) -> Result<(), AllocError> {
+    match fault {
+        ScriptFault::Line(number) => {
+            let line = format!(in *text.allocator(); "acapd: bad script line {number}\n")?;
+            text.extend_from_slice(line.as_bytes())
+        }
+        ScriptFault::Read | ScriptFault::Write | ScriptFault::Memory => {
+            text.extend_from_slice(FAULT)
+        }
+    }
+}
+
+// What a script writes, and, behind it, the fault that it ends by.
+fn played(alloc: Global, script: &[u8], cut: Cut) -> Result<Vec<u8>, AllocError> {
+    let mut text = Vec::new(alloc);
+    match run_script(alloc, &mut Pieces { left: script, cut }, &mut text) {
+        Ok(()) => {}
+        Err(fault) => add_fault(fault, &mut text)?,
+    }
+    Ok(text)
+}
+
 // What is written for what a row sends, cut so.
 fn answered(alloc: Global, row: &Row, cut: Cut) -> Result<Vec<u8>, AllocError> {
     match row.kind {
         Kind::Session(user) => said(alloc, user, row.sent.as_slice(), cut),
+        Kind::Script => played(alloc, row.sent.as_slice(), cut),
     }
 }
 
@@ -50,6 +74,7 @@ fn answered(alloc: Global, row: &Row, cut: Cut) -> Result<Vec<u8>, AllocError> {
 fn wanted_of(alloc: Global, row: &Row) -> Result<Vec<u8>, AllocError> {
     let mut wanted = match row.kind {
         Kind::Session(_) => Vec::from_slice(alloc, GREETING)?,
+        Kind::Script => Vec::new(alloc),
     };
     wanted.extend_from_slice(row.wanted.as_slice())?;
     Ok(wanted)

@@ -68,6 +68,24 @@ fn reads_lines(rt: HostRuntime) {
     assert!(rt; sends(alloc, "# x\n\nsession joe\nrow x\n< y\n", b""));
 }
 
+// A script's lines end in a line feed, and what it writes is wanted whole; behind it stands the fault that it ends by.
+#[test]
+fn plays_scripts(rt: HostRuntime) {
+    let alloc = rt.alloc();
+    let text = "script\nrow x\n> enter 0 joe\n> send 0 A1 NOOP\n";
+    assert!(rt; sends(alloc, text, b"enter 0 joe\nsend 0 A1 NOOP\n"));
+    let greeting = "0: * ACAP (IMPLEMENTATION \"acapd\") (SASL \"CRAM-MD5\")";
+    let wanted = "script\nrow x\n> enter 0 joe\n> send 1 A1 NOOP\n< 0: x\n";
+    assert!(rt;
+        match told(alloc, wanted) {
+            Some((one, other)) => one.as_str() == "0: x\\n" && other.starts_with(greeting),
+            None => false,
+        }
+    );
+    let wanted = "script\nrow x\n> open 64\n< acapd: bad script line 1\n";
+    assert!(rt; told(alloc, wanted).is_none() && read_rows(alloc, wanted).is_ok());
+}
+
 // The number of the first line that can't be read: a row before any session, a line of no row, another mark or escape.
 #[test]
 fn refuses_other_lines(rt: HostRuntime) {
