@@ -1,6 +1,7 @@
 pub mod Computing
 pub mod Counting
 pub mod Performing
+pub mod PipeSteps
 pub mod Piping
 pub mod Placing
 pub mod ScriptActing

@@ -1,13 +1,13 @@
 -- What was written so far, between a reader and a writer.
-use Rattle.std.proofs.Common.{◌≡◌, inl, inr, ℕ, pos, ◌<◌, ◌≤◌, min, Bool, true, false, ◌||◌, is_ok, List, [], ◌∷◌, ◌++◌, length, take, drop, Option, Some, None, refl, sym, ap, subst, ◌∙◌, append_assoc, arith, length-drop}
-use Rattle.std.specs.Prelude.{◌==◌, codes}
+use Rattle.std.proofs.Common.{◌≡◌, inl, inr, ℕ, pos, ◌<◌, ◌≤◌, min, Bool, true, false, ◌||◌, is_ok, List, [], ◌∷◌, ◌++◌, length, take, drop, Option, Some, None, refl, sym, ap, subst, ◌∙◌, append_assoc, arith, length-drop, length-take}
+use Rattle.std.specs.Prelude.{◌==◌, ◌-◌, codes}
 use Rattle.std.specs.Io.KnownBytes.{Appends, Consumes, IsAtEnd, Keeps}
 use Rattle.std.proofs.lemmas.Bool.{eqb-true}
 use Rattle.std.proofs.lemmas.List.{append-nil, take-append-drop}
-use Rattle.acap_lexer.specs.Holding.{Held}
+use Rattle.acap_lexer.specs.Holding.{Held, held_limit}
 use Rattle.acap_login.specs.Login.{User}
 use Rattle.acap_machine.specs.Machine.{Machine, new_machine}
-use Rattle.acap_session.specs.Piping.{Fed, fed, fed_all, turns, hears, joined, always, begins, entered, IsQuiet, AreAnswered, IsWritten, HasRead, HasEnded, IsSettled, IsFed, HasTurned, HasRoom, Goes, SoFar, IsSoFar, without_administrators}
+use Rattle.acap_session.specs.Piping.{Fed, fed, fed_all, turns, hears, joined, always, begins, entered, IsQuiet, AreAnswered, IsWritten, HasRead, HasEnded, IsSettled, IsFed, HasTurned, HasRoom, HasRoomFor, Goes, SoFar, IsSoFar, without_administrators}
 use Rattle.acap_machine.specs.Runs.{outcome_of, machine_after}
 use Rattle.acap_session.specs.Hearing.{opening}
 use Rattle.acap_session.specs.Saying.{added}
@@ -65,9 +65,9 @@ fed_snoc : (users : List User) (a : List Fed) (x : Fed) (s : Scene) → fed_all 
 fed_snoc users [] x s = refl
 fed_snoc users (y ∷ a) x s = fed_snoc users a x (fed users y s)
 
-pub answered_snoc : (users : List User) (a : List Fed) (x : Fed) (s : Scene) → AreAnswered users a s → IsQuiet users (fed users x (fed_all users a s)) → AreAnswered users (a ++ x ∷ []) s
-answered_snoc users [] x s h q = (q, tt)
-answered_snoc users (y ∷ a) x s h q = (h.0, answered_snoc users a x (fed users y s) h.1 q)
+pub answered_snoc : (users : List User) (a : List Fed) (x : Fed) (s : Scene) → AreAnswered users a s → HasRoomFor x.0 (fed_all users a s).talk → IsQuiet users (fed users x (fed_all users a s)) → AreAnswered users (a ++ x ∷ []) s
+answered_snoc users [] x s h f q = (f, q, tt)
+answered_snoc users (y ∷ a) x s h f q = (h.0, h.1, answered_snoc users a x (fed users y s) h.2 f q)
 
 joined_snoc : (a : List Fed) (x : Fed) → joined (a ++ x ∷ []) ≡ joined a ++ x.0
 joined_snoc [] x = append-nil x.0
@@ -88,14 +88,18 @@ partly_none users piece s r = record { parts = []; joined_is = refl; answered = 
 abbrev pub pushed : List ℕ → ℕ → Scene → Scene
 pushed rest n s = hears (take n rest) s
 
-pub partly_more : (users : List User) (piece rest back : List ℕ) (n : ℕ) (old mid new : Scene) → IsPartly users piece rest old mid → back ≡ drop n rest → IsSettled users (pushed rest n mid) new → IsPartly users piece back old new
-partly_more users piece rest back n old mid new a b s =
+-- as many are taken as there is room for
+pub fits_room : (rest : List ℕ) (n : ℕ) (t : Talking) → is_closed t.stage ≡ false → HasRoom t → n ≡ min (length rest) (held_limit - length t.held.text) → HasRoomFor (take n rest) t
+fits_room rest n t o r e = let room = r o in (o, omega (arith, e, room.1, length-take n rest))
+
+pub partly_more : (users : List User) (piece rest back : List ℕ) (n : ℕ) (old mid new : Scene) → IsPartly users piece rest old mid → HasRoomFor (take n rest) mid.talk → back ≡ drop n rest → IsSettled users (pushed rest n mid) new → IsPartly users piece back old new
+partly_more users piece rest back n old mid new a f b s =
     let x : Fed = (take n rest, s.refused) in
     let whole : new ≡ fed users x (fed_all users a.parts old) = s.is ∙ ap (λ q. fed users x q) a.is in
     record {
       parts = a.parts ++ x ∷ [];
       joined_is = a.joined_is ∙ ap (λ ys. joined a.parts ++ ys) (sym (take-append-drop n rest) ∙ ap (λ ys. take n rest ++ ys) (sym b)) ∙ sym (append_assoc (joined a.parts) (take n rest) back) ∙ ap (λ ys. ys ++ back) (sym (joined_snoc a.parts x));
-      answered = answered_snoc users a.parts x old a.answered (subst (IsQuiet users) whole s.quiet);
+      answered = answered_snoc users a.parts x old a.answered (subst (λ (q : Scene). HasRoomFor x.0 q.talk) a.is f) (subst (IsQuiet users) whole s.quiet);
       is = whole ∙ sym (fed_snoc users a.parts x old);
       room = s.room;
     }
@@ -160,7 +164,8 @@ all_pre users xs (x ∷ a) s = ap (fed_all users a) (fed_pre users xs x s) ∙ a
 answered_pre : (users : List User) (xs : List ℕ) (a : List Fed) (s : Scene) → AreAnswered users a s → AreAnswered users a (prefixed xs s)
 answered_pre users xs [] s h = tt
 answered_pre users xs (x ∷ a) s h =
-    subst (λ (q : Scene). IsQuiet users q × AreAnswered users a q) (sym (fed_pre users xs x s)) (h.0, answered_pre users xs a (fed users x s) h.1)
+    let same = sym (fed_pre users xs x s) in
+    (h.0, subst (IsQuiet users) same h.1, subst (AreAnswered users a) same (answered_pre users xs a (fed users x s) h.2))
 
 -- ---- pieces behind pieces
 
@@ -170,7 +175,7 @@ all_append users (x ∷ a) b s = all_append users a b (fed users x s)
 
 answered_append : (users : List User) (a b : List Fed) (s : Scene) → AreAnswered users a s → AreAnswered users b (fed_all users a s) → AreAnswered users (a ++ b) s
 answered_append users [] b s h k = k
-answered_append users (x ∷ a) b s h k = (h.0, answered_append users a b (fed users x s) h.1 k)
+answered_append users (x ∷ a) b s h k = (h.0, h.1, answered_append users a b (fed users x s) h.2 k)
 
 joined_append : (a b : List Fed) → joined (a ++ b) ≡ joined a ++ joined b
 joined_append [] b = refl

@@ -1,5 +1,6 @@
 pub mod Examples
 pub mod Hearing
+pub mod PipeSteps
 pub mod Piping
 pub mod Places
 pub mod Saying

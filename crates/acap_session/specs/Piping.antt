@@ -1,6 +1,6 @@
 -- What one session of a user writes for what it reads, with a machine of its own whose clock shows 0
 -- [RFC 2244 section 2].
-use Rattle.std.specs.Prelude.{◌≡◌, ◌⊎◌, ◌<◌, ℕ, pos, List, [], ◌∷◌, ◌++◌, length, flat_map, Bool, true, false, Option, Some, None, codes, Result, Ok, Err, ⊤}
+use Rattle.std.specs.Prelude.{◌≡◌, ◌⊎◌, ◌<◌, ◌≤◌, ◌+◌, ℕ, pos, List, [], ◌∷◌, ◌++◌, length, flat_map, Bool, true, false, Option, Some, None, codes, Result, Ok, Err, ⊤}
 use Rattle.std.specs.Io.KnownBytes.{Appends}
 use Rattle.acap_lexer.specs.Holding.{held_limit}
 use Rattle.acap_login.specs.Login.{User}
@@ -55,10 +55,14 @@ fed_all users (x ∷ xs) s = fed_all users xs (fed users x s)
 abbrev pub IsQuiet : List User → Scene → Type 0
 IsQuiet users s = (session_next users 0 (pos 0) s.talk).0 ≡ next.More
 
--- they are made before the next piece is heard, and behind the last
+-- a session that isn't closed, and has room for octets
+abbrev pub HasRoomFor : List ℕ → Talking → Type 0
+HasRoomFor octets t = (is_closed t.stage ≡ false) × (length t.held.text + length octets ≤ held_limit)
+
+-- each piece is given while there is room for it; all turns are made before the next one is heard, and behind the last
 abbrev pub AreAnswered : List User → List Fed → Scene → Type 0
 AreAnswered users [] s = Unit {0}
-AreAnswered users (x ∷ xs) s = IsQuiet users (fed users x s) × AreAnswered users xs (fed users x s)
+AreAnswered users (x ∷ xs) s = HasRoomFor x.0 s.talk × IsQuiet users (fed users x s) × AreAnswered users xs (fed users x s)
 
 abbrev pub joined : List Fed → List ℕ
 joined pieces = flat_map (λ x. x.0) pieces

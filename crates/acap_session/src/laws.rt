@@ -1,5 +1,6 @@
 //! What follows from the definitions alone: each function does nothing, and its contract is the law.
 ghost use Rattle.acap_session.specs.Examples.{AnswerExamples, HearingExamples, LoginExamples, NextExamples};
+ghost use Rattle.acap_session.specs.PipeSteps.{PipeRuns};
 
 /// What is said to the machine's answers and faults, also after a login (RFC 2244 sections 3.6, 6.2 and 6.3.1).
 pub fn answer_examples()
@@ -19,4 +20,10 @@ pub fn login_examples()
 /// What is next at each stage of a session.
 pub fn next_examples()
     ensures { NextExamples }
+{}
+
+/// What is written for what a pipe reads is what the only session of a world says, opened at seat 0 and given the same
+/// pieces, each with its turns behind it (RFC 2244 section 2).
+pub fn pipe_runs()
+    ensures { PipeRuns }
 {}

@@ -1,0 +1,25 @@
+-- The steps of a world that a session between a reader and a writer is.
+use Rattle.std.specs.Prelude.{◌≡◌, ℕ, List, [], ◌∷◌, map, flat_map, Bool, false, Some, codes}
+use Rattle.acap_session.specs.Piping.{Fed, AreAnswered, always, entered, fed_all, without_administrators}
+use Rattle.acap_session.specs.Turning.{Scene}
+use Rattle.acap_session.specs.World.{World, Deed, Step, Open, Piece, Turn, new_world, run}
+
+abbrev pub step_of : Deed → Bool → Step
+step_of deed refused = record { occasion = always; refused = refused; deed = deed }
+
+-- a piece is given, and turns follow
+abbrev pub steps_fed : Fed → List Step
+steps_fed x = step_of (Piece x.0) false ∷ map (step_of Turn) x.1
+
+-- a user's session opens, and each piece is given with its turns behind it
+abbrev pub steps_of : List ℕ → List Fed → List Step
+steps_of user pieces = step_of (Open (Some user)) false ∷ flat_map steps_fed pieces
+
+-- the world whose only session that is, at seat 0
+abbrev pub alone : Scene → World
+alone s = record { machine = s.machine; places = Some (record { talk = s.talk; out = s.out }) ∷ []; users = []; host = codes "localhost" }
+
+-- What is written for pieces is what a world's only session says.
+abbrev pub PipeRuns : Type 0
+PipeRuns = (user : List ℕ) (pieces : List Fed) → AreAnswered [] pieces (entered user) →
+    run (steps_of user pieces) (new_world without_administrators [] (codes "localhost")) ≡ alone (fed_all [] pieces (entered user))
