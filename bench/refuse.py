@@ -51,7 +51,7 @@ class Pipe:
         """For each command: its name, the lines that it takes, and what its refusal prints."""
         for at, line in enumerate(lines):
             tag = line.split()[0]
-            yield tag, [at], tag + b' NO (TRYLATER) "No memory"\r\n'
+            yield tag, (at,), tag + b' NO (TRYLATER) "No memory"\r\n'
 
     @staticmethod
     def rest(out, refusal):
@@ -78,7 +78,7 @@ class Script:
                 tag, login = asked[seat]
             elif b" AUTHENTICATE " in text:
                 asked[seat] = tag, at
-            took = [at] if login is None else [login, at]
+            took = (at,) if login is None else (login, at)
             yield tag, took, seat + b": " + tag + b' NO (TRYLATER) "No memory"\n'
 
     @staticmethod
@@ -109,10 +109,11 @@ def allowed(program, kind, lines, honest, outcome, without):
         return b""
     for name, took, refusal in kind.commands(lines):
         if refusal in out:
-            if refusal not in without:
+            if took not in without:
                 left = [line for at, line in enumerate(lines) if at not in took]
-                without[refusal] = run(program, kind, left)[0]
-            return name if kind.rest(out, refusal) == without[refusal] else None
+                without[took] = run(program, kind, left)[0]
+            if kind.rest(out, refusal) == without[took]:
+                return name
     return None
 
 

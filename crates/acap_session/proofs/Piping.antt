@@ -7,7 +7,7 @@ use Rattle.std.proofs.lemmas.List.{append-nil, take-append-drop}
 use Rattle.acap_lexer.specs.Holding.{Held, held_limit}
 use Rattle.acap_login.specs.Login.{User}
 use Rattle.acap_machine.specs.Machine.{Machine, new_machine}
-use Rattle.acap_session.specs.Piping.{Fed, fed, fed_all, turns, hears, joined, always, begins, entered, IsQuiet, AreAnswered, IsWritten, HasRead, HasEnded, IsSettled, IsFed, HasTurned, HasRoom, HasRoomFor, Goes, SoFar, IsSoFar, without_administrators}
+use Rattle.acap_session.specs.Piping.{Fed, fed, fed_all, turns, hears, joined, always, begins, entered, IsQuiet, AreAnswered, IsWritten, HasRead, HasEnded, IsSettled, IsFed, HasTurned, HasRoom, MayTake, Goes, SoFar, IsSoFar, without_administrators}
 use Rattle.acap_machine.specs.Runs.{outcome_of, machine_after}
 use Rattle.acap_session.specs.Hearing.{opening}
 use Rattle.acap_session.specs.Saying.{added}
@@ -65,7 +65,7 @@ fed_snoc : (users : List User) (a : List Fed) (x : Fed) (s : Scene) → fed_all 
 fed_snoc users [] x s = refl
 fed_snoc users (y ∷ a) x s = fed_snoc users a x (fed users y s)
 
-pub answered_snoc : (users : List User) (a : List Fed) (x : Fed) (s : Scene) → AreAnswered users a s → HasRoomFor x.0 (fed_all users a s).talk → IsQuiet users (fed users x (fed_all users a s)) → AreAnswered users (a ++ x ∷ []) s
+pub answered_snoc : (users : List User) (a : List Fed) (x : Fed) (s : Scene) → AreAnswered users a s → MayTake x.0 (fed_all users a s).talk → IsQuiet users (fed users x (fed_all users a s)) → AreAnswered users (a ++ x ∷ []) s
 answered_snoc users [] x s h f q = (f, q, tt)
 answered_snoc users (y ∷ a) x s h f q = (h.0, h.1, answered_snoc users a x (fed users y s) h.2 f q)
 
@@ -89,17 +89,17 @@ abbrev pub pushed : List ℕ → ℕ → Scene → Scene
 pushed rest n s = hears (take n rest) s
 
 -- as many are taken as there is room for
-pub fits_room : (rest : List ℕ) (n : ℕ) (t : Talking) → is_closed t.stage ≡ false → HasRoom t → n ≡ min (length rest) (held_limit - length t.held.text) → HasRoomFor (take n rest) t
+pub fits_room : (rest : List ℕ) (n : ℕ) (t : Talking) → is_closed t.stage ≡ false → HasRoom t → n ≡ min (length rest) (held_limit - length t.held.text) → MayTake (take n rest) t
 fits_room rest n t o r e = let room = r o in (o, omega (arith, e, room.1, length-take n rest))
 
-pub partly_more : (users : List User) (piece rest back : List ℕ) (n : ℕ) (old mid new : Scene) → IsPartly users piece rest old mid → HasRoomFor (take n rest) mid.talk → back ≡ drop n rest → IsSettled users (pushed rest n mid) new → IsPartly users piece back old new
+pub partly_more : (users : List User) (piece rest back : List ℕ) (n : ℕ) (old mid new : Scene) → IsPartly users piece rest old mid → MayTake (take n rest) mid.talk → back ≡ drop n rest → IsSettled users (pushed rest n mid) new → IsPartly users piece back old new
 partly_more users piece rest back n old mid new a f b s =
     let x : Fed = (take n rest, s.refused) in
     let whole : new ≡ fed users x (fed_all users a.parts old) = s.is ∙ ap (λ q. fed users x q) a.is in
     record {
       parts = a.parts ++ x ∷ [];
       joined_is = a.joined_is ∙ ap (λ ys. joined a.parts ++ ys) (sym (take-append-drop n rest) ∙ ap (λ ys. take n rest ++ ys) (sym b)) ∙ sym (append_assoc (joined a.parts) (take n rest) back) ∙ ap (λ ys. ys ++ back) (sym (joined_snoc a.parts x));
-      answered = answered_snoc users a.parts x old a.answered (subst (λ (q : Scene). HasRoomFor x.0 q.talk) a.is f) (subst (IsQuiet users) whole s.quiet);
+      answered = answered_snoc users a.parts x old a.answered (subst (λ (q : Scene). MayTake x.0 q.talk) a.is f) (subst (IsQuiet users) whole s.quiet);
       is = whole ∙ sym (fed_snoc users a.parts x old);
       room = s.room;
     }

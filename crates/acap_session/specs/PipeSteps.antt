@@ -16,10 +16,10 @@ abbrev pub steps_of : List ℕ → List Fed → List Step
 steps_of user pieces = step_of (Open (Some user)) false ∷ flat_map steps_fed pieces
 
 -- the world whose only session that is, at seat 0
-abbrev pub alone : Scene → World
-alone s = record { machine = s.machine; places = Some (record { talk = s.talk; out = s.out }) ∷ []; users = []; host = codes "localhost" }
+abbrev pub world_of_one : Scene → World
+world_of_one s = record { machine = s.machine; places = Some (record { talk = s.talk; out = s.out }) ∷ []; users = []; host = codes "localhost" }
 
 -- What is written for pieces is what a world's only session says.
 abbrev pub PipeRuns : Type 0
 PipeRuns = (user : List ℕ) (pieces : List Fed) → AreAnswered [] pieces (entered user) →
-    run (steps_of user pieces) (new_world without_administrators [] (codes "localhost")) ≡ alone (fed_all [] pieces (entered user))
+    run (steps_of user pieces) (new_world without_administrators [] (codes "localhost")) ≡ world_of_one (fed_all [] pieces (entered user))

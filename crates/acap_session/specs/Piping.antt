@@ -56,13 +56,13 @@ abbrev pub IsQuiet : List User → Scene → Type 0
 IsQuiet users s = (session_next users 0 (pos 0) s.talk).0 ≡ next.More
 
 -- a session that isn't closed, and has room for octets
-abbrev pub HasRoomFor : List ℕ → Talking → Type 0
-HasRoomFor octets t = (is_closed t.stage ≡ false) × (length t.held.text + length octets ≤ held_limit)
+abbrev pub MayTake : List ℕ → Talking → Type 0
+MayTake octets t = (is_closed t.stage ≡ false) × (length t.held.text + length octets ≤ held_limit)
 
 -- each piece is given while there is room for it; all turns are made before the next one is heard, and behind the last
 abbrev pub AreAnswered : List User → List Fed → Scene → Type 0
 AreAnswered users [] s = Unit {0}
-AreAnswered users (x ∷ xs) s = HasRoomFor x.0 s.talk × IsQuiet users (fed users x s) × AreAnswered users xs (fed users x s)
+AreAnswered users (x ∷ xs) s = MayTake x.0 s.talk × IsQuiet users (fed users x s) × AreAnswered users xs (fed users x s)
 
 abbrev pub joined : List Fed → List ℕ
 joined pieces = flat_map (λ x. x.0) pieces
