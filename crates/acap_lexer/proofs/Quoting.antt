@@ -1,15 +1,16 @@
 -- Reading a quoted string.
-use Rattle.std.proofs.Common.{◌≡◌, ℕ, suc, ◌+◌, Bool, true, false, List, [], ◌∷◌, ◌++◌, take, drop, length, Ok, Err, refl, sym, ap, ◌∙◌, append_assoc, eqb, leb, ◌≤◌, arith, length-append, length-drop}
+use Rattle.std.proofs.Common.{◌≡◌, ℕ, suc, ◌+◌, Bool, true, false, cond, List, [], ◌∷◌, ◌++◌, take, drop, length, Ok, Err, refl, sym, ap, subst, ◌∙◌, append_assoc, eqb, leb, ◌≤◌, arith, length-append, length-drop}
 use Rattle.std.specs.Prelude.{not, ◌||◌, ◌&&◌}
 use Rattle.std.specs.Str.{is_utf8}
-use Rattle.std.proofs.lemmas.Bool.{and_parts, or_parts, or_from, not-true, not_from_false, le-leb, leb-true}
+use Rattle.std.proofs.lemmas.Bool.{and_parts, and_from, eqb-true, or_parts, or_from, not-true, not_from_false, le-leb, leb-true}
 use Rattle.std.proofs.lemmas.List.{append-nil}
+use Rattle.acap_lexer.specs.declared.fault.LexFault.TheVariants.{BadToken}
 use Rattle.acap_lexer.specs.declared.kind.Kind.TheVariants as kinds
 use Rattle.std.specs.List.{list_all}
 use Rattle.acap_lexer.specs.Printing.{escape, escaped, is_printable, may_quote, quoted}
 use Rattle.std.specs.List.{prefix_len}
 use Rattle.acap_lexer.specs.Octets.{is_quotable, is_escaped}
-use Rattle.acap_lexer.specs.Reading.{Read, behind, quoted_at, string_at, token_at}
+use Rattle.acap_lexer.specs.Reading.{Read, behind, quoted_at, escaped_at, string_at, token_at}
 
 pub behind_more : (front more : List ℕ) (read : Read (List ℕ)) → behind front (behind more read) ≡ behind (front ++ more) read
 behind_more front more (Ok x) = ap (λ (bs : List ℕ). Ok (bs, x.1)) (sym (append_assoc front more x.0))
@@ -86,15 +87,90 @@ escaped_reads (c ∷ text) rest p = by_test (is_escaped c) refl (and_parts (is_p
         let form : escape c ≡ c ∷ [] = rw e refl in
         ap (λ (front : List ℕ). quoted_at ((front ++ escaped text) ++ 34 ∷ rest)) form ∙ read_plain c tail (is_plain c printable e) ∙ ap (behind (c ∷ [])) later
 
+pub reads_string : (text rest : List ℕ) → list_all is_printable text ≡ true → length (escaped text) ≤ 1024 → token_at (quoted text ++ rest) ≡ Ok (record { kind = kinds.Quoted; value = text }, rest)
+unfolding token_at quoted string_at
+reads_string text rest printable few =
+    let read = escaped_reads text rest printable in
+    let regroup : (escaped text ++ 34 ∷ []) ++ rest ≡ escaped text ++ 34 ∷ rest = append_assoc (escaped text) (34 ∷ []) rest in
+    let short : leb (length (escaped text ++ 34 ∷ rest)) (length rest + 1025) ≡ true = le-leb _ _ (omega (arith, length-append (escaped text) (34 ∷ rest), few)) in
+    rw (regroup, read, short) refl
+
 pub reads_quoted : (text rest : List ℕ) → may_quote text ≡ true → token_at (quoted text ++ rest) ≡ Ok (record { kind = kinds.Quoted; value = text }, rest)
-unfolding token_at quoted may_quote string_at
+unfolding may_quote
 reads_quoted text rest m =
     let parts = and_parts (leb (length (escaped text)) 1024) (is_utf8 text && list_all is_printable text) m in
     let printable = (and_parts (is_utf8 text) (list_all is_printable text) parts.1).1 in
-    let read = escaped_reads text rest printable in
-    let regroup : (escaped text ++ 34 ∷ []) ++ rest ≡ escaped text ++ 34 ∷ rest = append_assoc (escaped text) (34 ∷ []) rest in
-    let short : leb (length (escaped text ++ 34 ∷ rest)) (length rest + 1025) ≡ true = le-leb _ _ (omega (arith, length-append (escaped text) (34 ∷ rest), leb-true _ _ parts.0)) in
-    rw (regroup, read, short) refl
+    reads_string text rest printable (leb-true _ _ parts.0)
+
+-- ---- what is read was so written
+
+behind_ok : (c : ℕ) (read : Read (List ℕ)) (value left : List ℕ) → behind (c ∷ []) read ≡ Ok (value, left) → (v : List ℕ) × (read ≡ Ok (v, left)) × (value ≡ c ∷ v)
+behind_ok c (Err f) value left e = absurd cc
+behind_ok c (Ok x) value left e =
+    let same : ◌≡◌ {A = List ℕ × List ℕ} (c ∷ x.0, x.1) (value, left) = cc in
+    (x.0, ap (λ (l : List ℕ). let r : Read (List ℕ) = Ok (x.0, l) in r) (ap (λ y. y.1) same), sym (ap (λ y. y.0) same))
+
+-- the text is a string's escaped form, its quote, and what is left
+pub record IsQuote (text value left : List ℕ) : Type 0 where
+  pub form : text ≡ escaped value ++ 34 ∷ left
+  pub printable : list_all is_printable value ≡ true
+
+one_more : (c : ℕ) (front rest value v left : List ℕ) → escape c ≡ front → is_printable c ≡ true → value ≡ c ∷ v → IsQuote rest v left → IsQuote (front ++ rest) value left
+one_more c front rest value v left form printable is q =
+    subst (λ (x : List ℕ). IsQuote (front ++ rest) x left) (sym is) (record {
+      form = ap (λ (r : List ℕ). front ++ r) q.form ∙ sym (append_assoc front (escaped v) (34 ∷ left)) ∙ ap (λ (f : List ℕ). (f ++ escaped v) ++ 34 ∷ left) (sym form);
+      printable = and_from _ _ printable q.printable;
+    })
+
+printable_plain : (c : ℕ) → is_quotable c ≡ true → is_printable c ≡ true
+unfolding is_quotable is_printable
+printable_plain c e =
+    let outer = not_special (eqb c 0 || eqb c 10 || eqb c 13 || eqb c 34) (eqb c 92) e in
+    ap not (not_special (eqb c 0 || eqb c 10 || eqb c 13) (eqb c 34) (ap not outer.0)).0
+
+printable_escaped : (c : ℕ) → is_escaped c ≡ true → is_printable c ≡ true
+unfolding is_escaped is_printable
+printable_escaped c e = by_test (eqb c 34) (eqb c 92) refl refl e
+  where
+    by_test : (a b : Bool) → eqb c 34 ≡ a → eqb c 92 ≡ b → (a || b) ≡ true → is_printable c ≡ true
+    by_test true b p q h = rw (eqb-true c 34 p) refl
+    by_test false true p q h = rw (eqb-true c 92 q) refl
+    by_test false false p q h = absurd cc
+
+alone : (c : ℕ) → eqb c 34 ≡ false → eqb c 92 ≡ false → escape c ≡ c ∷ []
+unfolding is_escaped
+alone c q s = rw (q, s) refl
+
+mutual
+  unfolding quoted_at
+
+  pub quoted_spelled : (text value left : List ℕ) → quoted_at text ≡ Ok (value, left) → IsQuote text value left
+  quoted_spelled [] value left e = absurd cc
+  quoted_spelled (c ∷ rest) value left e = by_octet (eqb c 34) (eqb c 92) (is_quotable c) refl refl refl (λ v h. quoted_spelled rest v left h) (escaped_spelled rest value left) e
+    where
+      by_octet : (quote slash own : Bool) → eqb c 34 ≡ quote → eqb c 92 ≡ slash → is_quotable c ≡ own
+          → ((v : List ℕ) → quoted_at rest ≡ Ok (v, left) → IsQuote rest v left) → (escaped_at rest ≡ Ok (value, left) → IsQuote (92 ∷ rest) value left)
+          → cond quote (Ok ([], rest)) (cond slash (escaped_at rest) (cond own (behind (c ∷ []) (quoted_at rest)) (Err BadToken))) ≡ Ok (value, left) → IsQuote (c ∷ rest) value left
+      by_octet true slash own q s o plain escaped h =
+          let same : ◌≡◌ {A = List ℕ × List ℕ} ([], rest) (value, left) = cc in
+          rw (eqb-true c 34 q, ← ap (λ y. y.0) same, ← ap (λ y. y.1) same) (record { form = refl; printable = refl })
+      by_octet false true own q s o plain escaped h = rw (eqb-true c 92 s) (escaped h)
+      by_octet false false true q s o plain escaped h =
+          let b = behind_ok c (quoted_at rest) value left h in
+          one_more c (c ∷ []) rest value b.0 left (alone c q s) (printable_plain c o) b.2 (plain b.0 b.1)
+      by_octet false false false q s o plain escaped h = absurd cc
+
+  escaped_spelled : (rest value left : List ℕ) → escaped_at rest ≡ Ok (value, left) → IsQuote (92 ∷ rest) value left
+  escaped_spelled [] value left e = absurd cc
+  escaped_spelled (d ∷ rest) value left e = by_test (is_escaped d) refl (λ v h. quoted_spelled rest v left h) e
+    where
+      by_test : (b : Bool) → is_escaped d ≡ b → ((v : List ℕ) → quoted_at rest ≡ Ok (v, left) → IsQuote rest v left)
+          → cond b (behind (d ∷ []) (quoted_at rest)) (Err BadToken) ≡ Ok (value, left) → IsQuote (92 ∷ d ∷ rest) value left
+      by_test true s plain h =
+          let b = behind_ok d (quoted_at rest) value left h in
+          let form : escape d ≡ 92 ∷ d ∷ [] = rw s refl in
+          one_more d (92 ∷ d ∷ []) rest value b.0 left form (printable_escaped d s) b.2 (plain b.0 b.1)
+      by_test false s plain h = absurd cc
 
 -- ---- a string without escapes
 
