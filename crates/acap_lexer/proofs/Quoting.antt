@@ -1,5 +1,5 @@
 -- Reading a quoted string.
-use Rattle.std.proofs.Common.{◌≡◌, ℕ, suc, ◌+◌, Bool, true, false, cond, List, [], ◌∷◌, ◌++◌, take, drop, length, Ok, Err, refl, sym, ap, subst, ◌∙◌, append_assoc, eqb, leb, ◌≤◌, arith, length-append, length-drop}
+use Rattle.std.proofs.Common.{◌≡◌, ℕ, suc, ◌+◌, ◌⊎◌, inl, inr, Bool, true, false, List, [], ◌∷◌, ◌++◌, take, drop, length, Ok, Err, refl, sym, ap, ◌∙◌, append_assoc, eqb, leb, ◌≤◌, arith, length-append, length-drop}
 use Rattle.std.specs.Prelude.{not, ◌||◌, ◌&&◌}
 use Rattle.std.specs.Str.{is_utf8}
 use Rattle.std.proofs.lemmas.Bool.{and_parts, and_from, eqb-true, or_parts, or_from, not-true, not_from_false, le-leb, leb-true}
@@ -104,73 +104,48 @@ reads_quoted text rest m =
 
 -- ---- what is read was so written
 
-behind_ok : (c : ℕ) (read : Read (List ℕ)) (value left : List ℕ) → behind (c ∷ []) read ≡ Ok (value, left) → (v : List ℕ) × (read ≡ Ok (v, left)) × (value ≡ c ∷ v)
-behind_ok c (Err f) value left e = absurd cc
-behind_ok c (Ok x) value left e =
-    let same : ◌≡◌ {A = List ℕ × List ℕ} (c ∷ x.0, x.1) (value, left) = cc in
-    (x.0, ap (λ (l : List ℕ). let r : Read (List ℕ) = Ok (x.0, l) in r) (ap (λ y. y.1) same), sym (ap (λ y. y.0) same))
-
 -- the text is a string's escaped form, its quote, and what is left
 pub record IsQuote (text value left : List ℕ) : Type 0 where
   pub form : text ≡ escaped value ++ 34 ∷ left
   pub printable : list_all is_printable value ≡ true
 
-one_more : (c : ℕ) (front rest value v left : List ℕ) → escape c ≡ front → is_printable c ≡ true → value ≡ c ∷ v → IsQuote rest v left → IsQuote (front ++ rest) value left
-one_more c front rest value v left form printable is q =
-    subst (λ (x : List ℕ). IsQuote (front ++ rest) x left) (sym is) (record {
-      form = ap (λ (r : List ℕ). front ++ r) q.form ∙ sym (append_assoc front (escaped v) (34 ∷ left)) ∙ ap (λ (f : List ℕ). (f ++ escaped v) ++ 34 ∷ left) (sym form);
-      printable = and_from _ _ printable q.printable;
-    })
+abbrev Adds : ℕ → List ℕ → List ℕ → List ℕ → Type 0
+Adds c rest value left = (v : List ℕ) × (quoted_at rest ≡ Ok (v, left)) × (value ≡ c ∷ v) × (is_printable c ≡ true)
 
-printable_plain : (c : ℕ) → is_quotable c ≡ true → is_printable c ≡ true
-unfolding is_quotable is_printable
-printable_plain c e =
-    let outer = not_special (eqb c 0 || eqb c 10 || eqb c 13 || eqb c 34) (eqb c 92) e in
-    ap not (not_special (eqb c 0 || eqb c 10 || eqb c 13) (eqb c 34) (ap not outer.0)).0
+quoted_parts : (c : ℕ) (rest value left : List ℕ) → quoted_at (c ∷ rest) ≡ Ok (value, left)
+    → ((c ≡ 34) × (value ≡ []) × (rest ≡ left)) ⊎ (((c ≡ 92) × (escaped_at rest ≡ Ok (value, left))) ⊎ ((escape c ≡ c ∷ []) × Adds c rest value left))
+unfolding quoted_at is_quotable is_printable is_escaped
+quoted_parts c rest value left e = grind (arith, eqb-true c 34, eqb-true c 92)
 
-printable_escaped : (c : ℕ) → is_escaped c ≡ true → is_printable c ≡ true
-unfolding is_escaped is_printable
-printable_escaped c e = by_test (eqb c 34) (eqb c 92) refl refl e
-  where
-    by_test : (a b : Bool) → eqb c 34 ≡ a → eqb c 92 ≡ b → (a || b) ≡ true → is_printable c ≡ true
-    by_test true b p q h = rw (eqb-true c 34 p) refl
-    by_test false true p q h = rw (eqb-true c 92 q) refl
-    by_test false false p q h = absurd cc
+escaped_parts : (d : ℕ) (rest value left : List ℕ) → escaped_at (d ∷ rest) ≡ Ok (value, left) → (escape d ≡ 92 ∷ d ∷ []) × Adds d rest value left
+unfolding quoted_at is_printable is_escaped
+escaped_parts d rest value left e = grind arith
 
-alone : (c : ℕ) → eqb c 34 ≡ false → eqb c 92 ≡ false → escape c ≡ c ∷ []
-unfolding is_escaped
-alone c q s = rw (q, s) refl
+one_more : (c : ℕ) (front rest value left : List ℕ) → escape c ≡ front → (a : Adds c rest value left) → IsQuote rest a.0 left → IsQuote (front ++ rest) value left
+one_more c front rest value left form a q = record {
+  form = rw (q.form, a.2, form) (sym (append_assoc front (escaped a.0) (34 ∷ left)));
+  printable = rw a.2 (and_from _ _ a.3 q.printable);
+}
 
 mutual
   unfolding quoted_at
 
   pub quoted_spelled : (text value left : List ℕ) → quoted_at text ≡ Ok (value, left) → IsQuote text value left
   quoted_spelled [] value left e = absurd cc
-  quoted_spelled (c ∷ rest) value left e = by_octet (eqb c 34) (eqb c 92) (is_quotable c) refl refl refl (λ v h. quoted_spelled rest v left h) (escaped_spelled rest value left) e
-    where
-      by_octet : (quote slash own : Bool) → eqb c 34 ≡ quote → eqb c 92 ≡ slash → is_quotable c ≡ own
-          → ((v : List ℕ) → quoted_at rest ≡ Ok (v, left) → IsQuote rest v left) → (escaped_at rest ≡ Ok (value, left) → IsQuote (92 ∷ rest) value left)
-          → cond quote (Ok ([], rest)) (cond slash (escaped_at rest) (cond own (behind (c ∷ []) (quoted_at rest)) (Err BadToken))) ≡ Ok (value, left) → IsQuote (c ∷ rest) value left
-      by_octet true slash own q s o plain escaped h =
-          let same : ◌≡◌ {A = List ℕ × List ℕ} ([], rest) (value, left) = cc in
-          rw (eqb-true c 34 q, ← ap (λ y. y.0) same, ← ap (λ y. y.1) same) (record { form = refl; printable = refl })
-      by_octet false true own q s o plain escaped h = rw (eqb-true c 92 s) (escaped h)
-      by_octet false false true q s o plain escaped h =
-          let b = behind_ok c (quoted_at rest) value left h in
-          one_more c (c ∷ []) rest value b.0 left (alone c q s) (printable_plain c o) b.2 (plain b.0 b.1)
-      by_octet false false false q s o plain escaped h = absurd cc
+  quoted_spelled (c ∷ rest) value left e =
+      elim (quoted_parts c rest value left e) [
+        | inl q ↦ rw (q.0, q.1, q.2) (record { form = refl; printable = refl })
+        | inr p ↦ elim p [
+          | inl s ↦ rw s.0 (escaped_spelled rest value left s.1)
+          | inr a ↦ one_more c (c ∷ []) rest value left a.0 a.1 (quoted_spelled rest a.1.0 left a.1.1)
+        ]
+      ]
 
   escaped_spelled : (rest value left : List ℕ) → escaped_at rest ≡ Ok (value, left) → IsQuote (92 ∷ rest) value left
   escaped_spelled [] value left e = absurd cc
-  escaped_spelled (d ∷ rest) value left e = by_test (is_escaped d) refl (λ v h. quoted_spelled rest v left h) e
-    where
-      by_test : (b : Bool) → is_escaped d ≡ b → ((v : List ℕ) → quoted_at rest ≡ Ok (v, left) → IsQuote rest v left)
-          → cond b (behind (d ∷ []) (quoted_at rest)) (Err BadToken) ≡ Ok (value, left) → IsQuote (92 ∷ d ∷ rest) value left
-      by_test true s plain h =
-          let b = behind_ok d (quoted_at rest) value left h in
-          let form : escape d ≡ 92 ∷ d ∷ [] = rw s refl in
-          one_more d (92 ∷ d ∷ []) rest value b.0 left form (printable_escaped d s) b.2 (plain b.0 b.1)
-      by_test false s plain h = absurd cc
+  escaped_spelled (d ∷ rest) value left e =
+      let a = escaped_parts d rest value left e in
+      one_more d (92 ∷ d ∷ []) rest value left a.0 a.1 (quoted_spelled rest a.1.0 left a.1.1)
 
 -- ---- a string without escapes
 

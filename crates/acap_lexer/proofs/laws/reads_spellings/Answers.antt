@@ -1,5 +1,4 @@
 use Rattle.acap_lexer.proofs.SpelledLines.{spelling_reads, line_spelled}
-use Rattle.acap_lexer.proofs.SpelledParts.{part_reads, part_spelled}
 use Rattle.acap_lexer.proofs.laws.reads_spellings.Goals as goal
 
 pub returns-clause-spelled : goal.returns-clause-spelled
