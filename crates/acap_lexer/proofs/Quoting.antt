@@ -4,7 +4,6 @@ use Rattle.std.specs.Prelude.{not, ◌||◌, ◌&&◌}
 use Rattle.std.specs.Str.{is_utf8}
 use Rattle.std.proofs.lemmas.Bool.{and_parts, and_from, eqb-true, or_parts, or_from, not-true, not_from_false, le-leb, leb-true}
 use Rattle.std.proofs.lemmas.List.{append-nil}
-use Rattle.acap_lexer.specs.declared.fault.LexFault.TheVariants.{BadToken}
 use Rattle.acap_lexer.specs.declared.kind.Kind.TheVariants as kinds
 use Rattle.std.specs.List.{list_all}
 use Rattle.acap_lexer.specs.Printing.{escape, escaped, is_printable, may_quote, quoted}

@@ -1,5 +1,5 @@
 -- Where a part that is written ends, and the tag before the first.
-use Rattle.std.proofs.Common.{◌≡◌, ℕ, zero, suc, ◌+◌, ◌-◌, ◌≤◌, Bool, true, false, List, [], ◌∷◌, ◌++◌, length, take, drop, Option, Some, None, Result, Ok, Err, refl, sym, ap, subst, ◌∙◌, arith, eqb, slice_index, length-append, append_assoc}
+use Rattle.std.proofs.Common.{◌≡◌, ℕ, zero, suc, ◌+◌, ◌≤◌, Bool, true, false, List, [], ◌∷◌, ◌++◌, length, take, drop, Option, Some, Ok, refl, sym, ap, subst, ◌∙◌, arith, eqb, length-append, append_assoc}
 use Rattle.std.specs.Prelude.{not}
 use Rattle.std.specs.List.{list_all, prefix_len}
 use Rattle.std.proofs.lemmas.Bool.{and_parts, and_from, eqb-true, le-leb, leb-true}
@@ -11,7 +11,7 @@ use Rattle.acap_lexer.specs.declared.kind.Kind.TheVariants as kinds
 use Rattle.acap_lexer.specs.declared.mode.Mode.{Mode}
 use Rattle.acap_lexer.specs.declared.mode.Mode.TheVariants as modes
 use Rattle.acap_lexer.specs.declared.part_end.PartEnd.TheVariants.{At}
-use Rattle.acap_lexer.specs.Octets.{is_word, is_tag, is_digit, is_escaped}
+use Rattle.acap_lexer.specs.Octets.{is_word, is_tag, is_digit}
 use Rattle.acap_lexer.specs.Part.{begun_at, tag_token, last_kind}
 use Rattle.acap_lexer.specs.Printing.{escape, escaped, is_printable, quoted}
 use Rattle.acap_lexer.specs.Reading.{ends_tag, tag_at}

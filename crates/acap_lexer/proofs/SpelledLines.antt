@@ -1,25 +1,24 @@
 -- A line as it is written, and as it is read, part by part.
-use Rattle.std.proofs.Common.{◌≡◌, ℕ, zero, suc, ◌+◌, ◌-◌, ◌<◌, ◌≤◌, Bool, true, false, cond, List, [], ◌∷◌, ◌++◌, length, take, drop, Option, Some, None, Result, Ok, Err, refl, sym, ap, subst, ◌∙◌, arith, length-append, length-drop, append_assoc}
+use Rattle.std.proofs.Common.{◌≡◌, ℕ, zero, suc, ◌+◌, ◌-◌, ◌<◌, ◌≤◌, Bool, true, cond, List, [], ◌∷◌, ◌++◌, length, take, drop, Option, Some, None, Ok, refl, sym, ap, subst, ◌∙◌, arith, length-append, length-drop, append_assoc}
 use Rattle.std.specs.List.{AllByRecursion, list_all}
-use Rattle.std.proofs.lemmas.Bool.{le-ltb, ltb-false}
+use Rattle.std.proofs.lemmas.Bool.{le-ltb}
 use Rattle.std.proofs.lemmas.List.{append-nil, drop-drop, length-take-le, take-append-drop}
 use Rattle.std.proofs.Math.Seq.{take-append_seam, drop-append_seam}
 use Rattle.acap_lexer.specs.declared.announced.Announced.{Announced}
 use Rattle.acap_lexer.specs.declared.kind.Kind.{Kind}
 use Rattle.acap_lexer.specs.declared.kind.Kind.TheVariants as kinds
-use Rattle.acap_lexer.specs.declared.lexed.Lexed.{Lexed}
 use Rattle.acap_lexer.specs.declared.lexed.Lexed.TheVariants.{Line}
 use Rattle.acap_lexer.specs.declared.mode.Mode.{Mode}
 use Rattle.acap_lexer.specs.declared.mode.Mode.TheVariants as modes
 use Rattle.acap_lexer.specs.declared.part_end.PartEnd.TheVariants.{At}
 use Rattle.acap_lexer.specs.Part.{Part, last_kind, part_within, begun_at}
 use Rattle.acap_lexer.specs.Spelling.{Written, Literal, kind_of, own, mark, number, IsCount, Piece, gap, Stand, text_of, token, tokens_from, wait, waits_of, lengths_by, part_lengths, Begins, IsSpelling, kind_before, tokens_before}
-use Rattle.acap_lexer.specs.Stream.{Front, Stage, AtPart, InLiteral, Step, Goes, Progress, said, step_by_mark, step_by_end, step_of, literal_token, part_end, part_limit, command_limit, beginning, waiting, progress_by, progress_from, progress}
+use Rattle.acap_lexer.specs.Stream.{Front, Stage, AtPart, InLiteral, Goes, Progress, said, step_by_mark, step_by_end, step_of, literal_token, part_end, part_limit, command_limit, waiting, progress_by, progress_from, progress}
 use Rattle.acap_lexer.specs.Token.{Token}
 use Rattle.acap_lexer.proofs.EndLaws.{is_at}
 use Rattle.acap_lexer.proofs.ProgressLaws.{by_stages}
 use Rattle.acap_lexer.proofs.SpelledTokens.{IsPlain}
-use Rattle.acap_lexer.proofs.SpelledParts.{Ending, Done, Marked, ending_text, part_text, PartStands, place_behind, mark_at, last_pushed, part_reads, MarkIs, IsPart, part_spelled}
+use Rattle.acap_lexer.proofs.SpelledParts.{Ending, Done, Marked, ending_text, part_text, PartStands, place_behind, mark_at, last_pushed, part_reads, MarkIs, part_spelled}
 use Rattle.acap_lexer.proofs.SpelledEnds.{is_other, others_append, part_others, lead_others, ends_at, cut_of, IsLead, lead_reads, HasLead, lead_spelled, lead_later}
 
 -- ---- a line is a part, and what follows its mark
@@ -52,27 +51,13 @@ record Divides (last : Option Kind) (ps : List Piece) : Type 0 where
   on : GoesOn ending octets others
 
 one_before : (last : Option Kind) (p : Piece) (ps : List Piece) → IsPlain p.written → Stand last (p ∷ ps) → Divides (Some (kind_of p.written)) ps → Divides last (p ∷ ps)
-one_before last p ps plain s d = record {
-  pieces = p ∷ d.pieces;
-  ending = d.ending;
-  octets = d.octets;
-  others = d.others;
-  whole = ap (λ (qs : List Piece). p ∷ qs) d.whole;
-  stand = (s.0, s.1, plain, d.stand);
-  on = d.on;
-}
+one_before last p ps plain s d =
+    record { pieces = p ∷ d.pieces; ending = d.ending; octets = d.octets; others = d.others; whole = ap (λ (qs : List Piece). p ∷ qs) d.whole; stand = (s.0, s.1, plain, d.stand); on = d.on }
 
 by_written : (last : Option Kind) (spaced : Bool) (w : Written) (ps : List Piece) → Stand last (record { spaced = spaced; written = w } ∷ ps) → Divides (Some (kind_of w)) ps
     → Divides last (record { spaced = spaced; written = w } ∷ ps)
-by_written last spaced (Literal digits waits octets) ps s d = record {
-  pieces = [];
-  ending = Marked spaced digits waits;
-  octets = octets;
-  others = ps;
-  whole = refl;
-  stand = (s.0, subst (λ n. IsCount digits n) (sym s.1.number_is) s.1);
-  on = (s.1.number_is, s.2);
-}
+by_written last spaced (Literal digits waits octets) ps s d =
+    record { pieces = []; ending = Marked spaced digits waits; octets = octets; others = ps; whole = refl; stand = (s.0, subst (λ n. IsCount digits n) (sym s.1.number_is) s.1); on = (s.1.number_is, s.2) }
 by_written last spaced w ps s d = one_before last _ ps tt s d
 
 divide : (last : Option Kind) (ps : List Piece) → Stand last ps → Divides last ps
@@ -205,77 +190,37 @@ stage_reads_by mode front text lead seen Done qs octets rs fits s g r later =
     ∙ ap (line_of 0 (seen ++ tokens_from (front.octets + length lead) qs)) (let end : front.octets + length (lead ++ part_text Done qs) + 2 ≡ length text = omega (arith, h.whole) in end)
     ∙ rw (waits_joined Done (last_kind seen) qs [] s, append-nil qs) refl
 stage_reads_by mode front text lead seen (Marked spaced digits waits) qs octets rs fits s g r later =
-    by_stages mode (AtPart front) text r.within ∙ ap (progress_by go) (h.step ∙ goes)
-    ∙ ap (waiting (cond waits 1 0)) (by_stages mode (InLiteral start count opened) text within ∙ ap (progress_by go) taken ∙ ap (waiting 0) (later next (omega (arith, length-append qs (lit ∷ rs))) rest))
-    ∙ ap (λ k. line_of k (next.tokens ++ tokens_from (next.octets + 0) rs) (length text)) (wait_is digits waits octets (waits_of rs) ∙ sym (waits_joined e (last_kind seen) qs (lit ∷ rs) s))
-    ∙ ap (λ (ts : List Token). line_of (waits_of (qs ++ lit ∷ rs)) ts (length text)) tokens_are
-  where
-    e : Ending
-    e = Marked spaced digits waits
-
-    go : Stage → Progress
-    go s = progress_from mode s text
-
-    lit : Piece
-    lit = record { spaced = spaced; written = Literal digits waits octets }
-
-    count : ℕ
-    count = number digits
-
-    at : ℕ
-    at = front.octets + length lead
-
-    start : ℕ
-    start = place_behind at qs + length (gap spaced)
-
-    end : ℕ
-    end = front.octets + length (lead ++ part_text e qs)
-
-    before : List Token
-    before = seen ++ tokens_from at qs
-
-    opened : Front
-    opened = record { tokens = before; octets = end + 2 }
-
-    literal : Token
-    literal = literal_token start count opened octets
-
-    next : Front
-    next = record { tokens = before ++ literal ∷ []; octets = end + 2 + count }
-
-    h : HasStep mode front text lead seen e qs octets rs
-    h = has_step mode front text lead seen e qs octets rs fits s r
-
-    long : length text ≡ end + 2 + length octets + length (text_of rs)
-    long = omega (arith, h.whole, length-append octets (text_of rs))
-
-    within : end + 2 ≤ length text
-    within = omega (arith, long)
-
-    goes : step_by_mark end before (mark_at (place_behind at qs) e) ≡ Goes (cond waits 1 0) (InLiteral start count opened)
-    goes = rw (le-ltb command_limit (end + 2 + count + 2) (omega (arith, long, two_left rs, fits, g.0))) refl
-
-    taken : step_of mode (InLiteral start count opened) text ≡ Goes 0 (AtPart next)
-    taken = literal_step mode start opened text octets (text_of rs) count g.0 (omega (arith, long, g.0)) h.left
-
-    rest : IsRest mode next text [] next.tokens rs
-    rest = record {
+    let e = Marked spaced digits waits in
+    let go = λ (s : Stage). progress_from mode s text in
+    let lit : Piece = record { spaced = spaced; written = Literal digits waits octets } in
+    let count = number digits in
+    let at = front.octets + length lead in
+    let start = place_behind at qs + length (gap spaced) in
+    let end = front.octets + length (lead ++ part_text e qs) in
+    let before = seen ++ tokens_from at qs in
+    let opened : Front = record { tokens = before; octets = end + 2 } in
+    let literal : Token = literal_token start count opened octets in
+    let next : Front = record { tokens = before ++ literal ∷ []; octets = end + 2 + count } in
+    let h = has_step mode front text lead seen e qs octets rs fits s r in
+    let long : length text ≡ end + 2 + length octets + length (text_of rs) = omega (arith, h.whole, length-append octets (text_of rs)) in
+    let goes : step_by_mark end before (mark_at (place_behind at qs) e) ≡ Goes (cond waits 1 0) (InLiteral start count opened) = rw (le-ltb command_limit (end + 2 + count + 2) (omega (arith, long, two_left rs, fits, g.0))) refl in
+    let taken = literal_step mode start opened text octets (text_of rs) count g.0 (omega (arith, long, g.0)) h.left in
+    let rest : IsRest mode next text [] next.tokens rs = record {
       is_lead = (lead_later mode before literal [] []).0;
       within = omega (arith, long, g.0);
       rest_is = ap (λ k. drop k text) (omega (arith, g.0)) ∙ drop_on (end + 2) text octets (text_of rs) h.left;
       stand = subst (λ (l : Option Kind). Stand l rs) (sym (last_pushed before literal)) g.1;
       lengths = h.lengths;
-    }
-
-    -- where the literal's octets end
-    place : end + 2 + count ≡ start + length (own lit.written)
-    place = omega (arith, g.0, place_is e at qs, length-append lead (part_text e qs), length-append (gap spaced) (mark digits waits), length-append (mark digits waits) (13 ∷ 10 ∷ octets))
-
-    tokens_are : next.tokens ++ tokens_from (next.octets + 0) rs ≡ seen ++ tokens_from at (qs ++ lit ∷ rs)
-    tokens_are =
-        ap (λ k. (before ++ record { kind = kinds.Literal; value = octets; start = start; end = k } ∷ []) ++ tokens_from (k + 0) rs) place
-        ∙ ap (λ k. (before ++ token start lit.written ∷ []) ++ tokens_from k rs) (let p : start + length (own lit.written) + 0 ≡ start + length (own lit.written) = omega arith in p)
-        ∙ simp (append_assoc, tokens_joined at qs (lit ∷ rs)) refl
+    } in
+    let place : end + 2 + count ≡ start + length (own lit.written) = omega (arith, g.0, place_is e at qs, length-append lead (part_text e qs), length-append (gap spaced) (mark digits waits), length-append (mark digits waits) (13 ∷ 10 ∷ octets)) in
+    let no_more : start + length (own lit.written) + 0 ≡ start + length (own lit.written) = omega arith in
+    let tokens_are : next.tokens ++ tokens_from (next.octets + 0) rs ≡ seen ++ tokens_from at (qs ++ lit ∷ rs) =
+    ap (λ k. (before ++ record { kind = kinds.Literal; value = octets; start = start; end = k } ∷ []) ++ tokens_from (k + 0) rs) place
+    ∙ ap (λ k. (before ++ token start lit.written ∷ []) ++ tokens_from k rs) no_more ∙ simp (append_assoc, tokens_joined at qs (lit ∷ rs)) refl in
+    by_stages mode (AtPart front) text r.within ∙ ap (progress_by go) (h.step ∙ goes)
+    ∙ ap (waiting (cond waits 1 0)) (by_stages mode (InLiteral start count opened) text (omega (arith, long)) ∙ ap (progress_by go) taken ∙ ap (waiting 0) (later next (omega (arith, length-append qs (lit ∷ rs))) rest))
+    ∙ ap (λ k. line_of k (next.tokens ++ tokens_from (next.octets + 0) rs) (length text)) (wait_is digits waits octets (waits_of rs) ∙ sym (waits_joined e (last_kind seen) qs (lit ∷ rs) s))
+    ∙ ap (λ (ts : List Token). line_of (waits_of (qs ++ lit ∷ rs)) ts (length text)) tokens_are
 
 stage_reads : (n : ℕ) (mode : Mode) (front : Front) (text lead : List ℕ) (seen : List Token) (ps : List Piece) → length ps < n → length text ≤ command_limit
     → IsRest mode front text lead seen ps → IsReadAs mode front text lead seen ps

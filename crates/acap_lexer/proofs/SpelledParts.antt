@@ -1,5 +1,5 @@
 -- A part of a command as it is written, and as it is read.
-use Rattle.std.proofs.Common.{◌≡◌, ℕ, zero, suc, ◌+◌, ◌-◌, ◌<◌, ◌≤◌, Bool, true, false, List, [], ◌∷◌, ◌++◌, length, Option, Some, None, Result, Ok, Err, refl, sym, ap, subst, ◌∙◌, arith, eqb, slice_index, length-append, append_assoc}
+use Rattle.std.proofs.Common.{◌≡◌, ℕ, zero, suc, ◌+◌, ◌-◌, ◌<◌, ◌≤◌, Bool, true, List, [], ◌∷◌, ◌++◌, length, Option, Some, None, Result, Ok, Err, refl, sym, ap, subst, ◌∙◌, arith, length-append, append_assoc}
 use Rattle.std.specs.Prelude.{slice_get}
 use Rattle.std.proofs.lemmas.List.{append-nil}
 use Rattle.acap_lexer.specs.declared.announced.Announced.{Announced}
@@ -12,7 +12,7 @@ use Rattle.acap_lexer.specs.Reading.{◌>>=◌, Read, Lexeme, gap_at, mark_of, t
 use Rattle.acap_lexer.specs.Spelling.{Written, kind_of, own, mark, number, IsCount, IsSpelled, may_follow, Piece, gap, token, tokens_from}
 use Rattle.acap_lexer.specs.Token.{Token}
 use Rattle.acap_lexer.proofs.PartLoop.{one_next}
-use Rattle.acap_lexer.proofs.SpelledTokens.{Stops, IsFirst, Starts, starts, IsPlain, Ends, lexeme_of, mark_reads, mark_spelled, token_reads, token_spelled, gap_reads, is_spaced, gap_spelled}
+use Rattle.acap_lexer.proofs.SpelledTokens.{Stops, IsFirst, starts, IsPlain, Ends, lexeme_of, mark_reads, mark_spelled, token_reads, token_spelled, gap_reads, is_spaced, gap_spelled}
 
 -- how a part ends: with a token, or with the mark of a literal behind its gap
 pub data Ending : Type 0 where
