@@ -2,11 +2,12 @@
 use Rattle.std.proofs.Common.{◌≡◌, ℕ, zero, suc, ◌+◌, ◌-◌, ◌<◌, ◌≤◌, Bool, true, cond, List, [], ◌∷◌, ◌++◌, length, take, drop, Option, Some, None, Ok, refl, sym, ap, subst, ◌∙◌, arith, length-append, length-drop, append_assoc}
 use Rattle.std.specs.List.{AllByRecursion, list_all}
 use Rattle.std.proofs.lemmas.Bool.{le-ltb}
-use Rattle.std.proofs.lemmas.List.{append-nil, drop-drop, length-take-le, take-append-drop}
-use Rattle.std.proofs.Math.Seq.{take-append_seam, drop-append_seam}
+use Rattle.std.proofs.lemmas.List.{append-nil, drop-drop, drop-take, length-take-le, take-append-drop}
+use Rattle.std.proofs.Math.Seq.{take-append_seam, drop-append_seam, take-append-add}
 use Rattle.acap_lexer.specs.declared.announced.Announced.{Announced}
 use Rattle.acap_lexer.specs.declared.kind.Kind.{Kind}
 use Rattle.acap_lexer.specs.declared.kind.Kind.TheVariants as kinds
+use Rattle.acap_lexer.specs.declared.lexed.Lexed.{Lexed}
 use Rattle.acap_lexer.specs.declared.lexed.Lexed.TheVariants.{Line}
 use Rattle.acap_lexer.specs.declared.mode.Mode.{Mode}
 use Rattle.acap_lexer.specs.declared.mode.Mode.TheVariants as modes
@@ -16,7 +17,7 @@ use Rattle.acap_lexer.specs.Spelling.{Written, Literal, kind_of, own, mark, numb
 use Rattle.acap_lexer.specs.Stream.{Front, Stage, AtPart, InLiteral, Goes, Progress, said, step_by_mark, step_by_end, step_of, literal_token, part_end, part_limit, command_limit, waiting, progress_by, progress_from, progress}
 use Rattle.acap_lexer.specs.Token.{Token}
 use Rattle.acap_lexer.proofs.EndLaws.{is_at}
-use Rattle.acap_lexer.proofs.ProgressLaws.{by_stages}
+use Rattle.acap_lexer.proofs.ProgressLaws.{by_stages, keeps_items, takes_octets}
 use Rattle.acap_lexer.proofs.SpelledTokens.{IsPlain}
 use Rattle.acap_lexer.proofs.SpelledParts.{Ending, Done, Marked, ending_text, part_text, PartStands, place_behind, mark_at, last_pushed, part_reads, MarkIs, part_spelled}
 use Rattle.acap_lexer.proofs.SpelledEnds.{is_other, others_append, part_others, lead_others, ends_at, cut_of, IsLead, lead_reads, HasLead, lead_spelled, lead_later}
@@ -292,55 +293,71 @@ nothing_left : (xs : List ℕ) → length xs ≡ 0 → xs ≡ []
 nothing_left [] e = refl
 nothing_left (c ∷ xs) e = absurd (omega (arith, e))
 
-found_by_mark : (n : ℕ) (mode : Mode) (front : Front) (text part more : List ℕ) (x : List Token × List ℕ) (led : HasLead mode front.tokens part x) (p : Part) (e : Ending) (qs : List Piece) (mark : Option (ℕ × Announced)) (tokens : List Token)
-    → MarkIs e mark → length text - front.octets < suc n → front.octets ≤ length text → drop front.octets text ≡ part ++ 13 ∷ 10 ∷ more → length part + 2 ≤ part_limit → PartStands e (last_kind x.0) qs → x.1 ≡ part_text e qs
-    → front.octets + length part + 2 ≤ command_limit → Says (progress_by (λ s. progress_from mode s text) (step_by_mark (front.octets + length part) p.tokens mark)) tokens (length text)
-    → ((f : Front) → length text - f.octets < n → f.octets ≤ length text → Says (progress_from mode (AtPart f) text) tokens (length text) → IsFound mode f text) → IsFound mode front text
+-- a part in a text that ends behind it
+cut_short : (at size : ℕ) (text part more : List ℕ) → drop at text ≡ part ++ 13 ∷ 10 ∷ more → at + length part + 2 ≤ size → drop at (take size text) ≡ part ++ 13 ∷ 10 ∷ take (size - (at + length part + 2)) more
+cut_short at size text part more cut within =
+    let line = part ++ 13 ∷ 10 ∷ [] in
+    let k = size - (at + length part + 2) in
+    let size_is : size ≡ at + (length line + k) = omega (arith, length-append part (13 ∷ 10 ∷ [])) in
+    ap (λ j. drop at (take j text)) size_is ∙ drop-take at (length line + k) text ∙ ap (take (length line + k)) (cut ∙ sym (append_assoc part (13 ∷ 10 ∷ []) more)) ∙ take-append-add line more k
+    ∙ append_assoc part (13 ∷ 10 ∷ []) (take k more)
+
+found_by_mark : (n : ℕ) (mode : Mode) (front : Front) (text part more : List ℕ) (size : ℕ) (x : List Token × List ℕ) (led : HasLead mode front.tokens part x) (p : Part) (e : Ending) (qs : List Piece) (mark : Option (ℕ × Announced)) (tokens : List Token)
+    → MarkIs e mark → size ≤ length text → length text - front.octets < suc n → front.octets ≤ length text → drop front.octets text ≡ part ++ 13 ∷ 10 ∷ more → length part + 2 ≤ part_limit → PartStands e (last_kind x.0) qs → x.1 ≡ part_text e qs
+    → front.octets + length part + 2 ≤ command_limit → Says (progress_by (λ s. progress_from mode s text) (step_by_mark (front.octets + length part) p.tokens mark)) tokens size
+    → ((f : Front) → length text - f.octets < n → f.octets ≤ length text → Says (progress_from mode (AtPart f) text) tokens size → IsFound mode f (take size text)) → IsFound mode front (take size text)
 unfolding line_of
-found_by_mark n mode front text part more x led p Done qs None tokens m far within cut short stand text_is fits e later =
-    let end = by_line p.tokens tokens (front.octets + length part + 2) (length text) e in
-    found mode front text part more x led Done qs [] [] within cut short stand text_is tt (nothing_left more (omega (arith, end.1, ap length cut, length-append part (13 ∷ 10 ∷ more), length-drop front.octets text))) tt (omega (arith, end.1, fits))
-found_by_mark n mode front text part more x led p (Marked spaced digits waits) qs (Some m) tokens is far within cut short stand text_is fits e later =
+found_by_mark n mode front text part more size x led p Done qs None tokens m le far within cut short stand text_is fits e later =
+    let end = by_line p.tokens tokens (front.octets + length part + 2) size e in
+    let whole = length-take-le size text le in
+    let inner = cut_short front.octets size text part more cut (omega (arith, end.1)) in
+    let nothing = nothing_left (take (size - (front.octets + length part + 2)) more) (omega (arith, end.1, whole, ap length inner, length-append part (13 ∷ 10 ∷ take (size - (front.octets + length part + 2)) more), length-drop front.octets (take size text))) in
+    found mode front (take size text) part (take (size - (front.octets + length part + 2)) more) x led Done qs [] [] (omega (arith, end.1, whole)) inner short stand text_is tt nothing tt (omega (arith, end.1, whole, fits))
+found_by_mark n mode front text part more size x led p (Marked spaced digits waits) qs (Some m) tokens is le far within cut short stand text_is fits e later =
     let go = λ (s : Stage). progress_from mode s text in
     let count = m.1.count in
     let opened : Front = record { tokens = p.tokens; octets = front.octets + length part + 2 } in
     let long : length text ≡ front.octets + length part + 2 + length more = omega (arith, ap length cut, length-append part (13 ∷ 10 ∷ more), length-drop front.octets text, within) in
     let opens : progress_from mode (InLiteral m.0 count opened) text ≡ progress_by go (step_of mode (InLiteral m.0 count opened) text) = by_stages mode (InLiteral m.0 count opened) text (omega (arith, long)) in
-    let l = by_literal mode m.0 count opened text go tokens (length text) (ap (λ (q : Progress). q.item) (sym opens) ∙ by_mark (front.octets + length part) p.tokens m go tokens (length text) e) in
+    let l = by_literal mode m.0 count opened text go tokens size (ap (λ (q : Progress). q.item) (sym opens) ∙ by_mark (front.octets + length part) p.tokens m go tokens size e) in
     let f = later _ (omega (arith, far, l.0)) l.0 l.1 in
     let only = (lead_later mode p.tokens (literal_token m.0 count opened (take count (drop opened.octets text))) f.lead f.seen).1 f.rest.is_lead in
-    let left = drop_part front.octets text part more cut in
-    let back : drop count more ≡ text_of f.pieces = ap (drop count) (sym left) ∙ drop-drop count opened.octets text ∙ f.rest.rest_is ∙ ap (λ (xs : List ℕ). xs ++ text_of f.pieces) only.0 in
-    let size : number digits ≡ length (take count more) = sym is ∙ sym (length-take-le count more (omega (arith, l.0, long))) in
-    found mode front text part more x led (Marked spaced digits waits) qs (take count more) f.pieces within cut short stand text_is
-    (size, subst (λ (k : Option Kind). Stand k f.pieces) (ap last_kind only.1 ∙ last_pushed p.tokens _) f.rest.stand)
-    (sym (take-append-drop count more) ∙ ap (λ (xs : List ℕ). take count more ++ xs) back)
+    let whole = length-take-le size text le in
+    let after_part = take (size - (front.octets + length part + 2)) more in
+    let inner = cut_short front.octets size text part more cut (omega (arith, whole, f.rest.within)) in
+    let left = drop_part front.octets (take size text) part after_part inner in
+    let back : drop count after_part ≡ text_of f.pieces = ap (drop count) (sym left) ∙ drop-drop count opened.octets (take size text) ∙ f.rest.rest_is ∙ ap (λ (xs : List ℕ). xs ++ text_of f.pieces) only.0 in
+    let room : count ≤ length after_part = omega (arith, whole, f.rest.within, ap length left, length-drop opened.octets (take size text)) in
+    found mode front (take size text) part after_part x led (Marked spaced digits waits) qs (take count after_part) f.pieces (omega (arith, f.rest.within)) inner short stand text_is
+    (sym is ∙ sym (length-take-le count after_part room), subst (λ (k : Option Kind). Stand k f.pieces) (ap last_kind only.1 ∙ last_pushed p.tokens _) f.rest.stand)
+    (sym (take-append-drop count after_part) ∙ ap (λ (xs : List ℕ). take count after_part ++ xs) back)
     (subst (λ (xs : List ℕ). AllByRecursion (λ k. k ≤ 8192) (part_lengths (length xs) f.pieces)) only.0 f.rest.lengths) f.fits
-found_by_mark n mode front text part more x led p Done qs (Some m) tokens is far within cut short stand text_is fits e later = absurd is
-found_by_mark n mode front text part more x led p (Marked spaced digits waits) qs None tokens is far within cut short stand text_is fits e later = absurd is
+found_by_mark n mode front text part more size x led p Done qs (Some m) tokens is le far within cut short stand text_is fits e later = absurd is
+found_by_mark n mode front text part more size x led p (Marked spaced digits waits) qs None tokens is le far within cut short stand text_is fits e later = absurd is
 
-stage_spelled : (n : ℕ) (mode : Mode) (front : Front) (text : List ℕ) (tokens : List Token) → length text - front.octets < n → front.octets ≤ length text → Says (progress_from mode (AtPart front) text) tokens (length text) → IsFound mode front text
+stage_spelled : (n : ℕ) (mode : Mode) (front : Front) (text : List ℕ) (size : ℕ) (tokens : List Token) → size ≤ length text → length text - front.octets < n → front.octets ≤ length text
+    → Says (progress_from mode (AtPart front) text) tokens size → IsFound mode front (take size text)
 unfolding step_of
-stage_spelled zero mode front text tokens far within line = absurd (omega arith)
-stage_spelled (suc n) mode front text tokens far within line =
+stage_spelled zero mode front text size tokens le far within line = absurd (omega arith)
+stage_spelled (suc n) mode front text size tokens le far within line =
     let go = λ (s : Stage). progress_from mode s text in
     let rest = drop front.octets text in
-    let k = by_end mode front rest go tokens (length text) (ap (λ (q : Progress). q.item) (sym (by_stages mode (AtPart front) text within)) ∙ line) in
+    let k = by_end mode front rest go tokens size (ap (λ (q : Progress). q.item) (sym (by_stages mode (AtPart front) text within)) ∙ line) in
     let cut = cut_of rest k.0 k.1 in
     let part = take k.0 rest in
     let front_is : length part ≡ k.0 = length-take-le k.0 rest (omega (arith, (is_at rest k.0 k.1).within)) in
-    let s = by_said mode front part go tokens (length text) k.2 in
+    let s = by_said mode front part go tokens size k.2 in
     let x = s.1 in
     let p = s.3 in
     let r = part_spelled (length x.1) (front.octets + length part) x.0 x.1 p s.4 in
-    found_by_mark n mode front text part (drop (2 + k.0) rest) x (lead_spelled mode front.tokens part x s.2) p r.ending r.pieces p.mark tokens r.mark_is far within cut.0 (omega (arith, cut.1, front_is)) r.stand r.text_is s.0 s.5
-    (λ f far within l. stage_spelled n mode f text tokens far within l)
+    found_by_mark n mode front text part (drop (2 + k.0) rest) size x (lead_spelled mode front.tokens part x s.2) p r.ending r.pieces p.mark tokens r.mark_is le far within cut.0 (omega (arith, cut.1, front_is)) r.stand r.text_is s.0 s.5
+    (λ f far within l. stage_spelled n mode f text size tokens le far within l)
 
 -- ---- a whole line
 
-pub spelling_reads : (mode : Mode) (text : List ℕ) (tokens : List Token) (waits : ℕ) → IsSpelling mode tokens waits text → progress mode text ≡ record { waits = waits; item = Some (Line tokens, length text) }
+alone_reads : (mode : Mode) (text : List ℕ) (tokens : List Token) (waits : ℕ) → IsSpelling mode tokens waits text → progress mode text ≡ line_of waits tokens (length text)
 unfolding progress line_of
-spelling_reads mode text tokens waits s =
+alone_reads mode text tokens waits s =
     stage_reads (suc (length s.pieces)) mode (record { tokens = []; octets = 0 }) text s.tag (tokens_before mode s.tag) s.pieces (omega arith) s.fits (begins mode s.begins s.stand)
     ∙ ap (λ (ts : List Token). line_of (waits_of s.pieces) ts (length text)) (ap (λ k. tokens_before mode s.tag ++ tokens_from k s.pieces) (omega arith) ∙ sym s.tokens_are)
     ∙ ap (λ k. line_of k tokens (length text)) (sym s.waits_are)
@@ -349,16 +366,32 @@ spelling_reads mode text tokens waits s =
     begins modes.Command b stand = record { is_lead = (b, refl); within = omega arith; rest_is = s.text_is; stand = stand; lengths = s.parts_fit }
     begins modes.Answer b stand = record { is_lead = (b, refl); within = omega arith; rest_is = s.text_is; stand = stand; lengths = s.parts_fit }
 
+-- how far a line leads, so far a longer text does
+with_more : (mode : Mode) (text rest : List ℕ) (waits : ℕ) (tokens : List Token) (n : ℕ) → progress mode text ≡ line_of waits tokens n → progress mode (text ++ rest) ≡ line_of waits tokens n
+unfolding line_of
+with_more mode text rest waits tokens n e =
+    let k = keeps_items mode text rest (Line tokens, n) (ap (λ (p : Progress). p.item) e) in
+    let w : (progress mode (text ++ rest)).waits ≡ waits = k.1 ∙ ap (λ (p : Progress). p.waits) e in
+    ap (λ (i : Option (Lexed × ℕ)). let p : Progress = record { waits = (progress mode (text ++ rest)).waits; item = i } in p) k.0 ∙ ap (λ i. line_of i tokens n) w
+
+pub spelling_reads : (mode : Mode) (text rest : List ℕ) (tokens : List Token) (waits : ℕ) → IsSpelling mode tokens waits text
+    → progress mode (text ++ rest) ≡ record { waits = waits; item = Some (Line tokens, length text) }
+unfolding line_of
+spelling_reads mode text rest tokens waits s = with_more mode text rest waits tokens (length text) (alone_reads mode text tokens waits s)
+
 before_is : (mode : Mode) (lead : List ℕ) (seen : List Token) → IsLead mode [] lead seen → Begins mode lead × (seen ≡ tokens_before mode lead) × (last_kind seen ≡ kind_before mode)
 before_is modes.Command lead seen l = (l.0, l.1, ap last_kind l.1)
 before_is modes.Answer lead seen l = (l.0, l.1, ap last_kind l.1)
 
-pub line_spelled : (mode : Mode) (text : List ℕ) (tokens : List Token) → (progress mode text).item ≡ Some (Line tokens, length text) → IsSpelling mode tokens (progress mode text).waits text
+pub line_spelled : (mode : Mode) (text : List ℕ) (tokens : List Token) (n : ℕ) → (progress mode text).item ≡ Some (Line tokens, n) → IsSpelling mode tokens (progress mode text).waits (take n text)
 unfolding progress line_of
-line_spelled mode text tokens e =
-    let f = stage_spelled (suc (length text)) mode (record { tokens = []; octets = 0 }) text tokens (omega arith) (omega arith) e in
-    let r = stage_reads (suc (length f.pieces)) mode (record { tokens = []; octets = 0 }) text f.lead f.seen f.pieces (omega arith) f.fits f.rest in
-    let same = by_line (f.seen ++ tokens_from (0 + length f.lead) f.pieces) tokens (length text) (length text) (sym (ap (λ (p : Progress). p.item) r) ∙ e) in
+line_spelled mode text tokens n e =
+    let f = stage_spelled (suc (length text)) mode (record { tokens = []; octets = 0 }) text n tokens (takes_octets mode text (Line tokens, n) e).2 (omega arith) (omega arith) e in
+    let line = f.seen ++ tokens_from (0 + length f.lead) f.pieces in
+    let alone = stage_reads (suc (length f.pieces)) mode (record { tokens = []; octets = 0 }) (take n text) f.lead f.seen f.pieces (omega arith) f.fits f.rest in
+    let r : progress mode text ≡ line_of (waits_of f.pieces) line (length (take n text)) =
+    ap (progress mode) (sym (take-append-drop n text)) ∙ with_more mode (take n text) (drop n text) (waits_of f.pieces) line (length (take n text)) alone in
+    let same = by_line line tokens (length (take n text)) n (sym (ap (λ (p : Progress). p.item) r) ∙ e) in
     let b = before_is mode f.lead f.seen f.rest.is_lead in
     record {
       tag = f.lead;

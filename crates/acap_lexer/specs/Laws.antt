@@ -1,5 +1,5 @@
 -- Laws of the definitions.
-use Rattle.std.specs.Prelude.{◌≡◌, ℕ, ◌≤◌, ◌<◌, List, ◌++◌, length, Some, None, IsTrue, Ok}
+use Rattle.std.specs.Prelude.{◌≡◌, ℕ, ◌≤◌, ◌<◌, List, ◌++◌, length, take, Some, None, IsTrue, Ok}
 use Rattle.acap_lexer.specs.declared.kind.Kind.TheVariants as kinds
 use Rattle.acap_lexer.specs.declared.lexed.Lexed.{Lexed}
 use Rattle.acap_lexer.specs.declared.lexed.Lexed.TheVariants.{Line}
@@ -45,12 +45,12 @@ abbrev pub ReadsQuoted : Type 0
 ReadsQuoted = (text rest : List ℕ) → IsTrue (may_quote text) →
     token_at (quoted text ++ rest) ≡ Ok (record { kind = kinds.Quoted; value = text }, rest)
 
--- A line that is written so is read as its tokens, and the CR LF at its end is its last octet.
+-- A text that is written so is read as that line, with so many continuations due before it, whatever follows.
 abbrev pub ReadsSpellings : Type 0
-ReadsSpellings = (mode : Mode) (text : List ℕ) (tokens : List Token) (waits : ℕ) → IsSpelling mode tokens waits text →
-    progress mode text ≡ record { waits = waits; item = Some (Line tokens, length text) }
+ReadsSpellings = (mode : Mode) (text rest : List ℕ) (tokens : List Token) (waits : ℕ) → IsSpelling mode tokens waits text →
+    progress mode (text ++ rest) ≡ record { waits = waits; item = Some (Line tokens, length text) }
 
 -- What is read as a line is written so: no other text is.
 abbrev pub SpellsLines : Type 0
-SpellsLines = (mode : Mode) (text : List ℕ) (tokens : List Token) → (progress mode text).item ≡ Some (Line tokens, length text) →
-    IsSpelling mode tokens (progress mode text).waits text
+SpellsLines = (mode : Mode) (text : List ℕ) (tokens : List Token) (octets : ℕ) → (progress mode text).item ≡ Some (Line tokens, octets) →
+    IsSpelling mode tokens (progress mode text).waits (take octets text)
