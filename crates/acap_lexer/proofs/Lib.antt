@@ -20,3 +20,7 @@ pub mod Asking
 pub mod AskLoop
 pub mod PieceLoops
 pub mod PartBound
+pub mod SpelledTokens
+pub mod SpelledParts
+pub mod SpelledEnds
+pub mod SpelledLines

@@ -43,7 +43,7 @@ ends_past end old text tokens left counter s some past =
     let none : length text - counter ≡ 0 = omega arith in
     sym s.reads ∙ ap (λ n. part_within n end tokens left) none ∙ past_bound end tokens left some
 
-one_next : (most end : ℕ) (tokens : List Token) (left : List ℕ) → 0 < length left → part_within (suc most) end tokens left ≡ next_at (part_within most end) end tokens left
+pub one_next : (most end : ℕ) (tokens : List Token) (left : List ℕ) → 0 < length left → part_within (suc most) end tokens left ≡ next_at (part_within most end) end tokens left
 unfolding part_within
 one_next most end tokens [] some = absurd (omega arith)
 one_next most end tokens (c ∷ rest) some = refl

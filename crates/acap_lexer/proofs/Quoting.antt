@@ -1,15 +1,15 @@
 -- Reading a quoted string.
-use Rattle.std.proofs.Common.{◌≡◌, ℕ, suc, ◌+◌, Bool, true, false, List, [], ◌∷◌, ◌++◌, take, drop, length, Ok, Err, refl, sym, ap, ◌∙◌, append_assoc, eqb, leb, ◌≤◌, arith, length-append, length-drop}
+use Rattle.std.proofs.Common.{◌≡◌, ℕ, suc, ◌+◌, ◌⊎◌, inl, inr, Bool, true, false, List, [], ◌∷◌, ◌++◌, take, drop, length, Ok, Err, refl, sym, ap, ◌∙◌, append_assoc, eqb, leb, ◌≤◌, arith, length-append, length-drop}
 use Rattle.std.specs.Prelude.{not, ◌||◌, ◌&&◌}
 use Rattle.std.specs.Str.{is_utf8}
-use Rattle.std.proofs.lemmas.Bool.{and_parts, or_parts, or_from, not-true, not_from_false, le-leb, leb-true}
+use Rattle.std.proofs.lemmas.Bool.{and_parts, and_from, eqb-true, or_parts, or_from, not-true, not_from_false, le-leb, leb-true}
 use Rattle.std.proofs.lemmas.List.{append-nil}
 use Rattle.acap_lexer.specs.declared.kind.Kind.TheVariants as kinds
 use Rattle.std.specs.List.{list_all}
 use Rattle.acap_lexer.specs.Printing.{escape, escaped, is_printable, may_quote, quoted}
 use Rattle.std.specs.List.{prefix_len}
 use Rattle.acap_lexer.specs.Octets.{is_quotable, is_escaped}
-use Rattle.acap_lexer.specs.Reading.{Read, behind, quoted_at, string_at, token_at}
+use Rattle.acap_lexer.specs.Reading.{Read, behind, quoted_at, escaped_at, string_at, token_at}
 
 pub behind_more : (front more : List ℕ) (read : Read (List ℕ)) → behind front (behind more read) ≡ behind (front ++ more) read
 behind_more front more (Ok x) = ap (λ (bs : List ℕ). Ok (bs, x.1)) (sym (append_assoc front more x.0))
@@ -86,15 +86,65 @@ escaped_reads (c ∷ text) rest p = by_test (is_escaped c) refl (and_parts (is_p
         let form : escape c ≡ c ∷ [] = rw e refl in
         ap (λ (front : List ℕ). quoted_at ((front ++ escaped text) ++ 34 ∷ rest)) form ∙ read_plain c tail (is_plain c printable e) ∙ ap (behind (c ∷ [])) later
 
+pub reads_string : (text rest : List ℕ) → list_all is_printable text ≡ true → length (escaped text) ≤ 1024 → token_at (quoted text ++ rest) ≡ Ok (record { kind = kinds.Quoted; value = text }, rest)
+unfolding token_at quoted string_at
+reads_string text rest printable few =
+    let read = escaped_reads text rest printable in
+    let regroup : (escaped text ++ 34 ∷ []) ++ rest ≡ escaped text ++ 34 ∷ rest = append_assoc (escaped text) (34 ∷ []) rest in
+    let short : leb (length (escaped text ++ 34 ∷ rest)) (length rest + 1025) ≡ true = le-leb _ _ (omega (arith, length-append (escaped text) (34 ∷ rest), few)) in
+    rw (regroup, read, short) refl
+
 pub reads_quoted : (text rest : List ℕ) → may_quote text ≡ true → token_at (quoted text ++ rest) ≡ Ok (record { kind = kinds.Quoted; value = text }, rest)
-unfolding token_at quoted may_quote string_at
+unfolding may_quote
 reads_quoted text rest m =
     let parts = and_parts (leb (length (escaped text)) 1024) (is_utf8 text && list_all is_printable text) m in
     let printable = (and_parts (is_utf8 text) (list_all is_printable text) parts.1).1 in
-    let read = escaped_reads text rest printable in
-    let regroup : (escaped text ++ 34 ∷ []) ++ rest ≡ escaped text ++ 34 ∷ rest = append_assoc (escaped text) (34 ∷ []) rest in
-    let short : leb (length (escaped text ++ 34 ∷ rest)) (length rest + 1025) ≡ true = le-leb _ _ (omega (arith, length-append (escaped text) (34 ∷ rest), leb-true _ _ parts.0)) in
-    rw (regroup, read, short) refl
+    reads_string text rest printable (leb-true _ _ parts.0)
+
+-- ---- what is read was so written
+
+-- the text is a string's escaped form, its quote, and what is left
+pub record IsQuote (text value left : List ℕ) : Type 0 where
+  pub form : text ≡ escaped value ++ 34 ∷ left
+  pub printable : list_all is_printable value ≡ true
+
+abbrev Adds : ℕ → List ℕ → List ℕ → List ℕ → Type 0
+Adds c rest value left = (v : List ℕ) × (quoted_at rest ≡ Ok (v, left)) × (value ≡ c ∷ v) × (is_printable c ≡ true)
+
+quoted_parts : (c : ℕ) (rest value left : List ℕ) → quoted_at (c ∷ rest) ≡ Ok (value, left)
+    → ((c ≡ 34) × (value ≡ []) × (rest ≡ left)) ⊎ (((c ≡ 92) × (escaped_at rest ≡ Ok (value, left))) ⊎ ((escape c ≡ c ∷ []) × Adds c rest value left))
+unfolding quoted_at is_quotable is_printable is_escaped
+quoted_parts c rest value left e = grind (arith, eqb-true c 34, eqb-true c 92)
+
+escaped_parts : (d : ℕ) (rest value left : List ℕ) → escaped_at (d ∷ rest) ≡ Ok (value, left) → (escape d ≡ 92 ∷ d ∷ []) × Adds d rest value left
+unfolding quoted_at is_printable is_escaped
+escaped_parts d rest value left e = grind arith
+
+one_more : (c : ℕ) (front rest value left : List ℕ) → escape c ≡ front → (a : Adds c rest value left) → IsQuote rest a.0 left → IsQuote (front ++ rest) value left
+one_more c front rest value left form a q = record {
+  form = rw (q.form, a.2, form) (sym (append_assoc front (escaped a.0) (34 ∷ left)));
+  printable = rw a.2 (and_from _ _ a.3 q.printable);
+}
+
+mutual
+  unfolding quoted_at
+
+  pub quoted_spelled : (text value left : List ℕ) → quoted_at text ≡ Ok (value, left) → IsQuote text value left
+  quoted_spelled [] value left e = absurd cc
+  quoted_spelled (c ∷ rest) value left e =
+      elim (quoted_parts c rest value left e) [
+        | inl q ↦ rw (q.0, q.1, q.2) (record { form = refl; printable = refl })
+        | inr p ↦ elim p [
+          | inl s ↦ rw s.0 (escaped_spelled rest value left s.1)
+          | inr a ↦ one_more c (c ∷ []) rest value left a.0 a.1 (quoted_spelled rest a.1.0 left a.1.1)
+        ]
+      ]
+
+  escaped_spelled : (rest value left : List ℕ) → escaped_at rest ≡ Ok (value, left) → IsQuote (92 ∷ rest) value left
+  escaped_spelled [] value left e = absurd cc
+  escaped_spelled (d ∷ rest) value left e =
+      let a = escaped_parts d rest value left e in
+      one_more d (92 ∷ d ∷ []) rest value left a.0 a.1 (quoted_spelled rest a.1.0 left a.1.1)
 
 -- ---- a string without escapes
 

@@ -1,13 +1,15 @@
 -- Laws of the definitions.
-use Rattle.std.specs.Prelude.{◌≡◌, ℕ, ◌≤◌, ◌<◌, List, ◌++◌, length, Some, None, IsTrue, Ok}
+use Rattle.std.specs.Prelude.{◌≡◌, ℕ, ◌≤◌, ◌<◌, List, ◌++◌, length, take, Some, None, IsTrue, Ok}
 use Rattle.acap_lexer.specs.declared.kind.Kind.TheVariants as kinds
 use Rattle.acap_lexer.specs.declared.lexed.Lexed.{Lexed}
+use Rattle.acap_lexer.specs.declared.lexed.Lexed.TheVariants.{Line}
 use Rattle.acap_lexer.specs.declared.mode.Mode.{Mode}
 use Rattle.acap_lexer.specs.Holding.{held_limit}
 use Rattle.acap_lexer.specs.Part.{part_within}
 use Rattle.acap_lexer.specs.Reading.{token_at}
 use Rattle.acap_lexer.specs.Stream.{Stage, IsItem, step_of, octets_of, progress, progress_from, progress_by}
 use Rattle.acap_lexer.specs.Printing.{may_quote, quoted}
+use Rattle.acap_lexer.specs.Spelling.{IsSpelling}
 use Rattle.acap_lexer.specs.Token.{Token}
 
 -- An item that begins a text begins every longer text, with as many continuations before it.
@@ -42,3 +44,13 @@ ReadsParts = (most end : ℕ) (seen : List Token) (text : List ℕ) → length t
 abbrev pub ReadsQuoted : Type 0
 ReadsQuoted = (text rest : List ℕ) → IsTrue (may_quote text) →
     token_at (quoted text ++ rest) ≡ Ok (record { kind = kinds.Quoted; value = text }, rest)
+
+-- A text that is written so is read as that line, with so many continuations due before it, whatever follows.
+abbrev pub ReadsSpellings : Type 0
+ReadsSpellings = (mode : Mode) (text rest : List ℕ) (tokens : List Token) (waits : ℕ) → IsSpelling mode tokens waits text →
+    progress mode (text ++ rest) ≡ record { waits = waits; item = Some (Line tokens, length text) }
+
+-- What is read as a line is written so: no other text is.
+abbrev pub SpellsLines : Type 0
+SpellsLines = (mode : Mode) (text : List ℕ) (tokens : List Token) (octets : ℕ) → (progress mode text).item ≡ Some (Line tokens, octets) →
+    IsSpelling mode tokens (progress mode text).waits (take octets text)

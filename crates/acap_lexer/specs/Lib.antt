@@ -11,6 +11,7 @@ pub mod Owing
 pub mod Laws
 pub mod Examples
 pub mod Printing
+pub mod Spelling
 pub mod Escapes
 pub mod Taking
 pub mod Ends

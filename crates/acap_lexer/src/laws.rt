@@ -1,7 +1,7 @@
 //! Laws of the definitions.
 
 ghost use Rattle.acap_lexer.specs.Examples.{Examples, OctetExamples, LimitExamples, HeldExamples, PrintedExamples};
-ghost use Rattle.acap_lexer.specs.Laws.{KeepsItems, KeepsWaits, TakesOctets, LeavesRoom, GoesByStages, ReadsParts, ReadsQuoted};
+ghost use Rattle.acap_lexer.specs.Laws.{KeepsItems, KeepsWaits, TakesOctets, LeavesRoom, GoesByStages, ReadsParts, ReadsQuoted, ReadsSpellings, SpellsLines};
 
 /// An item that begins a text begins every longer text.
 pub fn keeps_items()
@@ -36,6 +36,12 @@ pub fn reads_parts()
 /// What is printed between quotes is read back as that string.
 pub fn reads_quoted()
     ensures { ReadsQuoted }
+{}
+
+/// A line is read exactly where its text is a spelling of its tokens.
+pub fn reads_spellings()
+    ensures spelled { ReadsSpellings }
+    ensures read { SpellsLines }
 {}
 
 /// Examples of texts and what begins them, computed from the definitions alone.

@@ -33,7 +33,7 @@ pub use fault::{LexFault, Memory};
 pub use kind::Kind;
 pub use laws::{
     examples, goes_by_stages, keeps_items, keeps_waits, leaves_room, reads_parts, reads_quoted,
-    takes_octets,
+    reads_spellings, takes_octets,
 };
 pub use lexed::{Lexed, Tag};
 pub use lexer::Lexer;
