@@ -1,5 +1,8 @@
+pub mod Alone
 pub mod Computing
 pub mod Counting
+pub mod Cutting
+pub mod CuttingWorlds
 pub mod Performing
 pub mod Piping
 pub mod Placing

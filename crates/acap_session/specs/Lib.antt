@@ -1,5 +1,6 @@
 pub mod Examples
 pub mod Hearing
+pub mod Laws
 pub mod Piping
 pub mod Places
 pub mod Saying
