@@ -32,118 +32,75 @@ placed_other (x ∷ xs) zero (suc j) p e = refl
 placed_other (x ∷ xs) (suc k) zero p e = refl
 placed_other (x ∷ xs) (suc k) (suc j) p e = placed_other xs k j p (λ s. e (ap suc s))
 
--- ---- a step leaves the world, or sets the place of its seat
-
-abbrev Here : World → ℕ → World → Type 0
-Here w k v = (v ≡ w) ⊎ ((s : Scene) × (v ≡ with_scene w k s))
-
-here_open : (w : World) (k : ℕ) (does : Scene → Scene) (x : Option Place) → Here w k (at_open w k does x)
-here_open w k does None = inl refl
-here_open w k does (Some p) = inr (does (scene_of w p), refl)
-
-here_opened : (w : World) (o : Occasion) (refused : Bool) (user : Option (List ℕ)) (x : Option Place) → Here w o.seat (opened_at w o refused user x)
-here_opened w o refused user None = inr ((turn_of w.users o refused (scene w.machine (begun w.host user) (said_before (place_at w.places o.seat)))).1, refl)
-here_opened w o refused user (Some p) = inl refl
-
-here : (o : Occasion) (refused : Bool) (deed : Deed) (w : World) → Here w o.seat (did o refused deed w)
-unfolding did
-here o refused (world.Open user) w = here_opened w o refused user (open_at w o.seat)
-here o refused (world.Piece octets) w = here_open w o.seat (takes octets) (open_at w o.seat)
-here o refused world.Turn w = here_open w o.seat (λ s. (turn_of w.users o refused s).1) (open_at w o.seat)
-here o refused world.Drain w = here_open w o.seat (λ s. (drain_of o refused s).1) (open_at w o.seat)
-here o refused world.Leave w = here_open w o.seat (ends o) (open_at w o.seat)
-
-stays : (w : World) (k : ℕ) (v : World) → Here w k v → ((seat : ℕ) → seat ≢ k → place_at v.places seat ≡ place_at w.places seat) × (v.users ≡ w.users) × (v.host ≡ w.host)
-stays w k v (inl e) = ((λ seat ne. ap (λ (u : World). place_at u.places seat) e), ap (λ (u : World). u.users) e, ap (λ (u : World). u.host) e)
-stays w k v (inr (s, e)) =
-    ((λ seat ne. ap (λ (u : World). place_at u.places seat) e ∙ placed_other w.places k seat (record { talk = s.talk; out = s.out }) ne), ap (λ (u : World). u.users) e, ap (λ (u : World). u.host) e)
-
-pub others_stay : (x : Step) (w : World) → let v = did x.occasion x.refused x.deed w in
-    ((seat : ℕ) → seat ≢ x.occasion.seat → place_at v.places seat ≡ place_at w.places seat) × (v.users ≡ w.users) × (v.host ≡ w.host)
-others_stay x w = stays w x.occasion.seat (did x.occasion x.refused x.deed w) (here x.occasion x.refused x.deed w)
-
--- ---- at its own seat
-
--- an open session stands there
-open_case : (q p : Place) (b : Bool) → is_closed q.talk.stage ≡ b → if_open (Some q) ≡ Some p → Some q ≡ Some p
-open_case q p true e f = absurd (let k : None ≡ Some p = sym (rw e refl) ∙ f in cc)
-open_case q p false e f = sym (rw e refl) ∙ f
-
-pub stands_open : (old : Option Place) (p : Place) → if_open old ≡ Some p → old ≡ Some p
-stands_open None p e = absurd (cc)
-stands_open (Some q) p e = open_case q p (is_closed q.talk.stage) refl e
+-- ---- one step
 
 abbrev pub place_of : Scene → Place
 place_of s = record { talk = s.talk; out = s.out }
 
-spoken_by : (o : Occasion) (refused : Bool) (s : Scene) (n : Next) (t : Talking) →
-    place_of (turn_by o refused s (n, t)).1 ≡ spoken s.out (answered_by (option_map (λ event. outcome_of (performed refused s.machine o event)) (event_in (n, t))) (n, t))
-spoken_by o refused s next.More t = refl
-spoken_by o refused s (next.Say octets) t = refl
-spoken_by o refused s (next.Ask event) t = refl
-spoken_by o refused s (next.Close octets) t = refl
+some_spoken : (o : Occasion) (refused : Bool) (s : Scene) (x : Next × Talking) →
+    Some (spoken s.out (answered_by (option_map (λ event. outcome_of (performed refused s.machine o event)) (event_in x)) x)) ≡ Some (place_of (turn_by o refused s x).1)
+some_spoken o refused s (next.More, t) = refl
+some_spoken o refused s (next.Say octets, t) = refl
+some_spoken o refused s (next.Ask event, t) = refl
+some_spoken o refused s (next.Close octets, t) = refl
 
--- by the session that is open, which stands there
-abbrev Owns : Step → World → Option Place → Option Place → World → Type 0
-Owns x w now old v =
-    let n = next_in w.users w.host x.occasion x.deed now in
-    place_at v.places x.occasion.seat ≡ own_by (record { occasion = x.occasion; deed = x.deed; reply = reply_of w x n }) n now old
+-- by the session that is open, if one is
+abbrev did_by : Occasion → Bool → Deed → World → Option Place → World
+did_by o refused (world.Open user) w now = opened_at w o refused user now
+did_by o refused (world.Piece octets) w now = at_open w o.seat (takes octets) now
+did_by o refused world.Turn w now = at_open w o.seat (λ s. (turn_of w.users o refused s).1) now
+did_by o refused world.Drain w now = at_open w o.seat (λ s. (drain_of o refused s).1) now
+did_by o refused world.Leave w now = at_open w o.seat (ends o) now
 
-here_set : (w : World) (k : ℕ) (s : Scene) → place_at (with_scene w k s).places k ≡ Some (place_of s)
-here_set w k s = placed_there w.places k (place_of s)
+abbrev owned : Step → World → Option Place → Option Place
+owned x w now =
+    let old = place_at w.places x.occasion.seat in
+    own_by (record { occasion = x.occasion; deed = x.deed; reply = reply_of w x now }) old now (next_in w.users w.host x.occasion x.deed old now)
 
--- what is said is said behind what was said there
-said_there : (old : Option Place) (p : Place) (x : Next × Talking) → old ≡ Some p → Some (spoken p.out x) ≡ Some (spoken (said_before old) x)
-said_there old p x e = ap (λ y. Some (spoken (said_before y) x)) (sym e)
+-- the world is left, and so is what stands at the seat; or that is set
+abbrev Makes : World → ℕ → World → Option Place → Type 0
+Makes w k v now = ((v ≡ w) × (now ≡ place_at w.places k)) ⊎ ((s : Scene) × (v ≡ with_scene w k s) × (now ≡ Some (place_of s)))
 
-open_owns : (o : Occasion) (refused : Bool) (user : Option (List ℕ)) (w : World) (now old : Option Place) → place_at w.places o.seat ≡ old
-    → Owns (record { occasion = o; refused = refused; deed = world.Open user }) w now old (opened_at w o refused user now)
-unfolding turn_of
-open_owns o refused user w None old e =
-    let x = session_next w.users o.nonce o.clock (begun w.host user) in
+makes : (o : Occasion) (refused : Bool) (deed : Deed) (w : World) (now : Option Place) → Makes w o.seat (did_by o refused deed w now) (owned (record { occasion = o; refused = refused; deed = deed }) w now)
+unfolding turn_of drain_of
+makes o refused (world.Open user) w None =
     let s = scene w.machine (begun w.host user) (said_before (place_at w.places o.seat)) in
-    here_set w o.seat (turn_by o refused s x).1 ∙ ap (λ p. Some p) (spoken_by o refused s x.0 x.1)
-    ∙ ap (λ y. Some (spoken (said_before y) (answered_by (option_map (λ event. outcome_of (performed refused w.machine o event)) (event_in x)) x))) e
-open_owns o refused user w (Some p) old e = e
+    inr ((turn_of w.users o refused s).1, refl, some_spoken o refused s (session_next w.users o.nonce o.clock s.talk))
+makes o refused (world.Open user) w (Some p) = inl (refl, refl)
+makes o refused (world.Piece octets) w None = inl (refl, refl)
+makes o refused (world.Piece octets) w (Some p) = inr (takes octets (scene_of w p), refl, refl)
+makes o refused world.Turn w None = inl (refl, refl)
+makes o refused world.Turn w (Some p) = inr ((turn_of w.users o refused (scene_of w p)).1, refl, some_spoken o refused (scene_of w p) (session_next w.users o.nonce o.clock p.talk))
+makes o refused world.Drain w None = inl (refl, refl)
+makes o refused world.Drain w (Some p) = inr ((drain_of o refused (scene_of w p)).1, refl, some_spoken o refused (scene_of w p) (session_drain p.talk))
+makes o refused world.Leave w None = inl (refl, refl)
+makes o refused world.Leave w (Some p) = inr (ends o (scene_of w p), refl, refl)
 
-piece_owns : (o : Occasion) (refused : Bool) (octets : List ℕ) (w : World) (now old : Option Place) → place_at w.places o.seat ≡ old
-    → Owns (record { occasion = o; refused = refused; deed = world.Piece octets }) w now old (at_open w o.seat (takes octets) now)
-piece_owns o refused octets w None old e = e
-piece_owns o refused octets w (Some p) old e = here_set w o.seat (takes octets (scene_of w p))
+abbrev MakesOwn : Occasion → Bool → Deed → World → Type 0
+MakesOwn o refused deed w = Makes w o.seat (did o refused deed w) (own w.users w.host (own_of w (record { occasion = o; refused = refused; deed = deed })) (place_at w.places o.seat))
 
-turn_owns : (o : Occasion) (refused : Bool) (w : World) (now old : Option Place) → place_at w.places o.seat ≡ old → ((p : Place) → now ≡ Some p → old ≡ Some p)
-    → Owns (record { occasion = o; refused = refused; deed = world.Turn }) w now old (at_open w o.seat (λ s. (turn_of w.users o refused s).1) now)
-unfolding turn_of
-turn_owns o refused w None old e there = e
-turn_owns o refused w (Some p) old e there =
-    let x = session_next w.users o.nonce o.clock p.talk in
-    here_set w o.seat (turn_by o refused (scene_of w p) x).1 ∙ ap (λ p. Some p) (spoken_by o refused (scene_of w p) x.0 x.1) ∙ said_there old p _ (there p refl)
-
-drain_owns : (o : Occasion) (refused : Bool) (w : World) (now old : Option Place) → place_at w.places o.seat ≡ old → ((p : Place) → now ≡ Some p → old ≡ Some p)
-    → Owns (record { occasion = o; refused = refused; deed = world.Drain }) w now old (at_open w o.seat (λ s. (drain_of o refused s).1) now)
-unfolding drain_of
-drain_owns o refused w None old e there = e
-drain_owns o refused w (Some p) old e there =
-    let x = session_drain p.talk in
-    here_set w o.seat (turn_by o refused (scene_of w p) x).1 ∙ ap (λ p. Some p) (spoken_by o refused (scene_of w p) x.0 x.1) ∙ said_there old p _ (there p refl)
-
-leave_owns : (o : Occasion) (refused : Bool) (w : World) (now old : Option Place) → place_at w.places o.seat ≡ old
-    → Owns (record { occasion = o; refused = refused; deed = world.Leave }) w now old (at_open w o.seat (ends o) now)
-leave_owns o refused w None old e = e
-leave_owns o refused w (Some p) old e = here_set w o.seat (ends o (scene_of w p))
-
-alone_by : (o : Occasion) (refused : Bool) (deed : Deed) (w : World) →
-    place_at (did o refused deed w).places o.seat ≡ own w.users w.host (own_of w (record { occasion = o; refused = refused; deed = deed })) (place_at w.places o.seat)
+makes_own : (o : Occasion) (refused : Bool) (deed : Deed) (w : World) → MakesOwn o refused deed w
 unfolding did own
-alone_by o refused (world.Open user) w = open_owns o refused user w (open_at w o.seat) (place_at w.places o.seat) refl
-alone_by o refused (world.Piece octets) w = piece_owns o refused octets w (open_at w o.seat) (place_at w.places o.seat) refl
-alone_by o refused world.Turn w = turn_owns o refused w (open_at w o.seat) (place_at w.places o.seat) refl (stands_open (place_at w.places o.seat))
-alone_by o refused world.Drain w = drain_owns o refused w (open_at w o.seat) (place_at w.places o.seat) refl (stands_open (place_at w.places o.seat))
-alone_by o refused world.Leave w = leave_owns o refused w (open_at w o.seat) (place_at w.places o.seat) refl
+makes_own o refused (world.Open user) w = makes o refused (world.Open user) w (open_at w o.seat)
+makes_own o refused (world.Piece octets) w = makes o refused (world.Piece octets) w (open_at w o.seat)
+makes_own o refused world.Turn w = makes o refused world.Turn w (open_at w o.seat)
+makes_own o refused world.Drain w = makes o refused world.Drain w (open_at w o.seat)
+makes_own o refused world.Leave w = makes o refused world.Leave w (open_at w o.seat)
 
-pub step_alone : (x : Step) (w : World) →
-    place_at (did x.occasion x.refused x.deed w).places x.occasion.seat ≡ own w.users w.host (own_of w x) (place_at w.places x.occasion.seat)
-step_alone x w = alone_by x.occasion x.refused x.deed w
+stays : (w v : World) (k : ℕ) (now : Option Place) → Makes w k v now → ((seat : ℕ) → seat ≢ k → place_at v.places seat ≡ place_at w.places seat) × (v.users ≡ w.users) × (v.host ≡ w.host)
+stays w v k now (inl (e, f)) = ((λ seat ne. ap (λ (u : World). place_at u.places seat) e), ap (λ (u : World). u.users) e, ap (λ (u : World). u.host) e)
+stays w v k now (inr (s, e, f)) = ((λ seat ne. ap (λ (u : World). place_at u.places seat) e ∙ placed_other w.places k seat (place_of s) ne), ap (λ (u : World). u.users) e, ap (λ (u : World). u.host) e)
+
+pub others_stay : (x : Step) (w : World) → let v = did x.occasion x.refused x.deed w in
+    ((seat : ℕ) → seat ≢ x.occasion.seat → place_at v.places seat ≡ place_at w.places seat) × (v.users ≡ w.users) × (v.host ≡ w.host)
+others_stay x w = stays w (did x.occasion x.refused x.deed w) x.occasion.seat _ (makes_own x.occasion x.refused x.deed w)
+
+stands : (w v : World) (k : ℕ) (now : Option Place) → Makes w k v now → place_at v.places k ≡ now
+stands w v k now (inl (e, f)) = ap (λ (u : World). place_at u.places k) e ∙ sym f
+stands w v k now (inr (s, e, f)) = ap (λ (u : World). place_at u.places k) e ∙ placed_there w.places k (place_of s) ∙ sym f
+
+pub step_alone : (x : Step) (w : World) → place_at (did x.occasion x.refused x.deed w).places x.occasion.seat ≡ own w.users w.host (own_of w x) (place_at w.places x.occasion.seat)
+step_alone x w = stands w (did x.occasion x.refused x.deed w) x.occasion.seat _ (makes_own x.occasion x.refused x.deed w)
 
 -- ---- all steps
 

@@ -2,7 +2,6 @@ pub mod Alone
 pub mod Computing
 pub mod Counting
 pub mod Cutting
-pub mod CuttingWorlds
 pub mod Performing
 pub mod Piping
 pub mod Placing

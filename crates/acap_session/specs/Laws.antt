@@ -52,13 +52,13 @@ abbrev pub came_of : Occasion → Bool → World → Option Came
 came_of o refused w = option_map (λ place. (turn_of w.users o refused (scene_of w place)).0) (open_at w o.seat)
 
 -- A turn that comes to something comes to the same where more octets stand behind those held, and leaves the same with
--- these octets behind.
+-- these octets behind, where there is room for them before and after.
 abbrev pub TurnsKeep : Type 0
 TurnsKeep = (o later : Occasion) (refused again : Bool) (octets : List ℕ) (w : World) → later.seat ≡ o.seat →
-    HasRoomFor octets (open_at w o.seat) → option_map went_on (came_of o refused w) ≡ Some true →
     let more = did later again (world.Piece octets) w in
-    (came_of o refused more ≡ came_of o refused w)
-    × Alike o.seat (did o refused world.Turn more) (did later again (world.Piece octets) (did o refused world.Turn w))
+    let after = did o refused world.Turn w in
+    HasRoomFor octets (open_at w o.seat) → HasRoomFor octets (open_at after o.seat) → option_map went_on (came_of o refused w) ≡ Some true →
+    (came_of o refused more ≡ came_of o refused w) × Alike o.seat (did o refused world.Turn more) (did later again (world.Piece octets) after)
 
 -- octets come to a session, or it makes a turn
 pub data Move : Type 0 where
@@ -115,57 +115,53 @@ pub record OwnStep : Type 0 where
   pub deed : Deed
   pub reply : Option (Result Reply Fault)
 
--- what is next for a session in its turns and drains, the first turn too, by the session that is open
-abbrev pub next_in : List User → List ℕ → Occasion → Deed → Option Place → Option (Next × Talking)
-next_in users host o (world.Open user) None = Some (session_next users o.nonce o.clock (begun host user))
-next_in users host o (world.Open user) (Some place) = None
-next_in users host o (world.Piece octets) now = None
-next_in users host o world.Turn now = option_map (λ place. session_next users o.nonce o.clock place.talk) now
-next_in users host o world.Drain now = option_map (λ place. session_drain place.talk) now
-next_in users host o world.Leave now = None
+-- What was said before and what is next, where a session opens, makes a turn or drains: by what stands at its seat, and
+-- by that again if it is open.
+abbrev pub next_in : List User → List ℕ → Occasion → Deed → Option Place → Option Place → Option (List ℕ × (Next × Talking))
+next_in users host o (world.Open user) old None = Some (said_before old, session_next users o.nonce o.clock (begun host user))
+next_in users host o world.Turn old (Some place) = Some (place.out, session_next users o.nonce o.clock place.talk)
+next_in users host o world.Drain old (Some place) = Some (place.out, session_drain place.talk)
+next_in users host o deed old now = None
+
+-- else an open session takes octets, or ends
+abbrev pub without_next : Deed → Option Place → Option Place → Option Place
+without_next (world.Piece octets) old (Some place) = Some (record place { talk = with_octets place.talk (room_of place.talk octets) octets })
+without_next world.Leave old (Some place) = Some (record place { talk = record place.talk { stage = stage.Closed } })
+without_next deed old now = old
 
 -- an event that was asked is answered
 abbrev pub answered_by : Option (Result Reply Fault) → Next × Talking → Next × Talking
-answered_by None x = x
-answered_by (Some reply) (next.More, t) = (next.More, t)
-answered_by (Some reply) (next.Say octets, t) = (next.Say octets, t)
 answered_by (Some reply) (next.Ask event, t) = answered t reply
-answered_by (Some reply) (next.Close octets, t) = (next.Close octets, t)
+answered_by reply x = x
 
 -- what is next is said behind what was said
 abbrev pub spoken : List ℕ → Next × Talking → Place
 spoken out x = record { talk = x.1; out = added out x.0 }
 
--- a step in which nothing is next: octets are taken, or the session ends
-abbrev pub without_next : Deed → Option Place → Option Place → Option Place
-without_next (world.Piece octets) (Some place) old = Some (record place { talk = with_octets place.talk (room_of place.talk octets) octets })
-without_next world.Leave (Some place) old = Some (record place { talk = record place.talk { stage = stage.Closed } })
-without_next deed now old = old
-
-abbrev pub own_by : OwnStep → Option (Next × Talking) → Option Place → Option Place → Option Place
-own_by x None now old = without_next x.deed now old
-own_by x (Some n) now old = Some (spoken (said_before old) (answered_by x.reply n))
+abbrev pub own_by : OwnStep → Option Place → Option Place → Option (List ℕ × (Next × Talking)) → Option Place
+own_by x old now None = without_next x.deed old now
+own_by x old now (Some n) = Some (spoken n.0 (answered_by x.reply n.1))
 
 -- A step of a session makes this of what stands at its seat. There is no machine.
 unfoldable pub own : List User → List ℕ → OwnStep → Option Place → Option Place
-own users host x old = own_by x (next_in users host x.occasion x.deed (if_open old)) (if_open old) old
+own users host x old = own_by x old (if_open old) (next_in users host x.occasion x.deed old (if_open old))
 
 abbrev pub own_run : List User → List ℕ → List OwnStep → Option Place → Option Place
 own_run users host [] old = old
 own_run users host (x ∷ xs) old = own_run users host xs (own users host x old)
 
 abbrev pub event_in : Next × Talking → Option Event
-event_in (next.More, t) = None
-event_in (next.Say octets, t) = None
 event_in (next.Ask event, t) = Some event
-event_in (next.Close octets, t) = None
+event_in x = None
 
--- what the machine of a world answers in a step
-abbrev pub reply_of : World → Step → Option (Next × Talking) → Option (Result Reply Fault)
-reply_of w x n = option_map (λ event. outcome_of (performed x.refused w.machine x.occasion event)) (option_and_then event_in n)
+-- what the machine of a world answers in a step, by the session that is open
+abbrev pub reply_of : World → Step → Option Place → Option (Result Reply Fault)
+reply_of w x now =
+    let n = next_in w.users w.host x.occasion x.deed (place_at w.places x.occasion.seat) now in
+    option_map (λ event. outcome_of (performed x.refused w.machine x.occasion event)) (option_and_then (λ y. event_in y.1) n)
 
 abbrev pub own_of : World → Step → OwnStep
-own_of w x = record { occasion = x.occasion; deed = x.deed; reply = reply_of w x (next_in w.users w.host x.occasion x.deed (open_at w x.occasion.seat)) }
+own_of w x = record { occasion = x.occasion; deed = x.deed; reply = reply_of w x (open_at w x.occasion.seat) }
 
 -- the steps of a seat in a run, with what the machine answered there
 abbrev pub own_steps : ℕ → List Step → World → List OwnStep

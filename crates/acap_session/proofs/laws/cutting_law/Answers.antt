@@ -1,4 +1,4 @@
-use Rattle.acap_session.proofs.CuttingWorlds.{cutting}
+use Rattle.acap_session.proofs.Cutting.{cutting}
 use Rattle.acap_session.proofs.laws.cutting_law.Goals as goal
 
 pub returns : goal.returns

@@ -1,4 +1,4 @@
-use Rattle.acap_session.proofs.CuttingWorlds.{joining}
+use Rattle.acap_session.proofs.Cutting.{joining}
 use Rattle.acap_session.proofs.laws.joining_law.Goals as goal
 
 pub returns : goal.returns

@@ -1,4 +1,4 @@
-use Rattle.acap_session.proofs.CuttingWorlds.{pieces_join}
+use Rattle.acap_session.proofs.Cutting.{pieces_join}
 use Rattle.acap_session.proofs.laws.pieces_join.Goals as goal
 
 pub returns : goal.returns

@@ -1,4 +1,4 @@
-use Rattle.acap_session.proofs.CuttingWorlds.{turns_keep}
+use Rattle.acap_session.proofs.Cutting.{turns_keep}
 use Rattle.acap_session.proofs.laws.turns_keep.Goals as goal
 
 pub returns : goal.returns
