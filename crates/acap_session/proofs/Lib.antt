@@ -1,5 +1,7 @@
+pub mod Alone
 pub mod Computing
 pub mod Counting
+pub mod Cutting
 pub mod Performing
 pub mod PipeSteps
 pub mod Piping

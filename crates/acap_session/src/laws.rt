@@ -1,6 +1,7 @@
 //! What follows from the definitions alone: each function does nothing, and its contract is the law.
 ghost use Rattle.acap_session.specs.Examples.{AnswerExamples, HearingExamples, LoginExamples, NextExamples};
 ghost use Rattle.acap_session.specs.PipeSteps.{PipeRuns};
+ghost use Rattle.acap_session.specs.Laws.{PiecesJoin, TurnsKeep, CuttingLaw, JoiningLaw, OthersStay, StepAlone, AloneLaw};
 
 /// What is said to the machine's answers and faults, also after a login (RFC 2244 sections 3.6, 6.2 and 6.3.1).
 pub fn answer_examples()
@@ -26,4 +27,37 @@ pub fn next_examples()
 /// pieces, each with its turns behind it (RFC 2244 section 2).
 pub fn pipe_runs()
     ensures { PipeRuns }
+/// Two pieces are taken as they are taken joined (RFC 2244 section 2).
+pub fn pieces_join()
+    ensures { PiecesJoin }
+{}
+
+/// A turn comes to the same where more octets stand behind those held (RFC 2244 section 2).
+pub fn turns_keep()
+    ensures { TurnsKeep }
+{}
+
+/// How a client's octets are cut makes no difference (RFC 2244 section 2).
+pub fn cutting_law()
+    ensures { CuttingLaw }
+{}
+
+/// What comes of octets in pieces comes of them as one piece (RFC 2244 section 2).
+pub fn joining_law()
+    ensures { JoiningLaw }
+{}
+
+/// A step at one seat leaves what stands at every other (RFC 2244 section 2).
+pub fn others_stay()
+    ensures { OthersStay }
+{}
+
+/// A step makes of its seat what the session makes of the machine's answer, without the machine (RFC 2244 section 2).
+pub fn step_alone()
+    ensures { StepAlone }
+{}
+
+/// A session depends on the others through the machine's replies alone (RFC 2244 section 2).
+pub fn alone_law()
+    ensures { AloneLaw }
 {}

@@ -1,0 +1,187 @@
+-- Laws of the definitions: how a client's octets are cut makes no difference, and a session depends on the others
+-- through the machine's replies alone [RFC 2244 section 2].
+use Rattle.std.specs.Prelude.{◌≡◌, ◌≢◌, ◌⊎◌, ℕ, List, [], ◌∷◌, ◌++◌, ◌==◌, length, map, replicate, flat_map, Bool, true, false, Option, Some, None, option_map, Result, if◌then◌else◌}
+use Rattle.std.specs.Option.{option_and_then}
+use Rattle.acap_grammar.specs.declared.reply.Reply.{Reply}
+use Rattle.acap_login.specs.Login.{User}
+use Rattle.acap_machine.specs.Runs.{outcome_of}
+use Rattle.acap_machine.specs.declared.event.Event.{Event}
+use Rattle.acap_machine.specs.declared.fault.Fault.{Fault}
+use Rattle.acap_session.specs.Places.{Place, place_at, if_open}
+use Rattle.acap_session.specs.Saying.{added}
+use Rattle.acap_session.specs.Script.{IsQuiet}
+use Rattle.acap_session.specs.Session.{session_next, session_drain, answered}
+use Rattle.acap_session.specs.Talking.{Talking, begun}
+use Rattle.acap_session.specs.Turning.{Scene, turn_of, performed}
+use Rattle.acap_session.specs.World as world
+use Rattle.acap_session.specs.World.{World, Deed, Step, did, run, open_at, scene_of, with_scene, with_octets, room_of, said_before, went_on}
+use Rattle.acap_session.specs.declared.next.Next.{Next}
+use Rattle.acap_session.specs.declared.next.Next.TheVariants as next
+use Rattle.acap_session.specs.declared.occasion.Occasion.{Occasion}
+use Rattle.acap_session.specs.declared.stage.Stage.TheVariants as stage
+use Rattle.acap_session.specs.declared.turn.Turn.{Turn as Came}
+
+-- ---- how a client's octets are cut
+
+-- An open session takes two pieces as it takes them joined, whatever there is room for, and whenever the second comes.
+abbrev pub PiecesJoin : Type 0
+PiecesJoin = (o later : Occasion) (refused again : Bool) (a b : List ℕ) (w : World) → later.seat ≡ o.seat →
+    did later again (world.Piece b) (did o refused (world.Piece a) w) ≡ did o refused (world.Piece (a ++ b)) w
+
+-- the session that is open, if one is, has room for all of a piece
+abbrev pub HasRoomFor : List ℕ → Option Place → Type 0
+HasRoomFor piece None = Unit {0}
+HasRoomFor piece (Some place) = room_of place.talk piece ≡ length piece
+
+-- a session without the octets that it holds
+abbrev pub emptied : Scene → Scene
+emptied s = record s { talk = record s.talk { held = record s.talk.held { text = [] } } }
+
+abbrev pub with_emptied : World → ℕ → Option Place → World
+with_emptied w seat None = w
+with_emptied w seat (Some place) = with_scene w seat (emptied (scene_of w place))
+
+-- Two worlds are the same; or a seat's session is closed in both, and they are the same without the octets that it
+-- holds, which nothing reads.
+abbrev pub Alike : ℕ → World → World → Type 0
+Alike seat v w = (v ≡ w) ⊎ ((open_at v seat ≡ None) × (open_at w seat ≡ None)
+    × (with_emptied v seat (place_at v.places seat) ≡ with_emptied w seat (place_at w.places seat)))
+
+-- what a turn comes to, if a session is open
+abbrev pub came_of : Occasion → Bool → World → Option Came
+came_of o refused w = option_map (λ place. (turn_of w.users o refused (scene_of w place)).0) (open_at w o.seat)
+
+-- A turn that comes to something comes to the same where more octets stand behind those held, and leaves the same with
+-- these octets behind, where there is room for them before and after.
+abbrev pub TurnsKeep : Type 0
+TurnsKeep = (o later : Occasion) (refused again : Bool) (octets : List ℕ) (w : World) → later.seat ≡ o.seat →
+    let more = did later again (world.Piece octets) w in
+    let after = did o refused world.Turn w in
+    HasRoomFor octets (open_at w o.seat) → HasRoomFor octets (open_at after o.seat) → option_map went_on (came_of o refused w) ≡ Some true →
+    (came_of o refused more ≡ came_of o refused w) × Alike o.seat (did o refused world.Turn more) (did later again (world.Piece octets) after)
+
+-- octets come to a session, or it makes a turn
+pub data Move : Type 0 where
+  Comes : List ℕ → Move
+  Turns : Move
+
+abbrev pub deed_of : Move → Deed
+deed_of (Comes octets) = world.Piece octets
+deed_of Turns = world.Turn
+
+abbrev pub octets_in : Move → List ℕ
+octets_in (Comes octets) = octets
+octets_in Turns = []
+
+-- all octets that come
+abbrev pub joined : List Move → List ℕ
+joined moves = flat_map octets_in moves
+
+-- on one occasion, no event being refused memory
+abbrev pub steps_on : Occasion → List Move → List Step
+steps_on o moves = map (λ move. record { occasion = o; refused = false; deed = deed_of move }) moves
+
+-- each piece finds room where it comes, however many octets come in all
+abbrev pub HaveRoom : Occasion → List Move → World → Type 0
+HaveRoom o [] w = Unit {0}
+HaveRoom o (Comes octets ∷ moves) w = HasRoomFor octets (open_at w o.seat) × HaveRoom o moves (did o false (world.Piece octets) w)
+HaveRoom o (Turns ∷ moves) w = HaveRoom o moves (did o false world.Turn w)
+
+-- octets came to a seat's session, with turns between and behind them until nothing is next
+pub record IsHeard (o : Occasion) (moves : List Move) (old new : World) : Type 0 where
+  pub room : HaveRoom o moves old
+  pub is : new ≡ run (steps_on o moves) old
+  pub quiet : IsQuiet o new
+
+-- However octets are cut, and wherever turns stand between them: where all turns were made the end is one and the same,
+-- with all that was said.
+abbrev pub CuttingLaw : Type 0
+CuttingLaw = (o : Occasion) (a b : List Move) (old v w : World) → joined a ≡ joined b → IsHeard o a old v → IsHeard o b old w → Alike o.seat v w
+
+-- some turns behind all octets as one piece
+abbrev pub as_one : List ℕ → ℕ → List Move
+as_one octets n = Comes octets ∷ replicate n Turns
+
+-- What comes of octets in pieces comes of them as one piece, if there is room for that, and some turns.
+abbrev pub JoiningLaw : Type 0
+JoiningLaw = (o : Occasion) (moves : List Move) (old new : World) → IsHeard o moves old new → HasRoomFor (joined moves) (open_at old o.seat) →
+    (n : ℕ) × (end : World) × IsHeard o (as_one (joined moves) n) old end × Alike o.seat new end
+
+-- ---- a session alone
+
+-- a step of a session, and what is answered to the event that it asks, if it asks one
+pub record OwnStep : Type 0 where
+  pub occasion : Occasion
+  pub deed : Deed
+  pub reply : Option (Result Reply Fault)
+
+-- What was said before and what is next, where a session opens, makes a turn or drains: by what stands at its seat, and
+-- by that again if it is open.
+abbrev pub next_in : List User → List ℕ → Occasion → Deed → Option Place → Option Place → Option (List ℕ × (Next × Talking))
+next_in users host o (world.Open user) old None = Some (said_before old, session_next users o.nonce o.clock (begun host user))
+next_in users host o world.Turn old (Some place) = Some (place.out, session_next users o.nonce o.clock place.talk)
+next_in users host o world.Drain old (Some place) = Some (place.out, session_drain place.talk)
+next_in users host o deed old now = None
+
+-- else an open session takes octets, or ends
+abbrev pub without_next : Deed → Option Place → Option Place → Option Place
+without_next (world.Piece octets) old (Some place) = Some (record place { talk = with_octets place.talk (room_of place.talk octets) octets })
+without_next world.Leave old (Some place) = Some (record place { talk = record place.talk { stage = stage.Closed } })
+without_next deed old now = old
+
+-- an event that was asked is answered
+abbrev pub answered_by : Option (Result Reply Fault) → Next × Talking → Next × Talking
+answered_by (Some reply) (next.Ask event, t) = answered t reply
+answered_by reply x = x
+
+-- what is next is said behind what was said
+abbrev pub spoken : List ℕ → Next × Talking → Place
+spoken out x = record { talk = x.1; out = added out x.0 }
+
+abbrev pub own_by : OwnStep → Option Place → Option Place → Option (List ℕ × (Next × Talking)) → Option Place
+own_by x old now None = without_next x.deed old now
+own_by x old now (Some n) = Some (spoken n.0 (answered_by x.reply n.1))
+
+-- A step of a session makes this of what stands at its seat. There is no machine.
+unfoldable pub own : List User → List ℕ → OwnStep → Option Place → Option Place
+own users host x old = own_by x old (if_open old) (next_in users host x.occasion x.deed old (if_open old))
+
+abbrev pub own_run : List User → List ℕ → List OwnStep → Option Place → Option Place
+own_run users host [] old = old
+own_run users host (x ∷ xs) old = own_run users host xs (own users host x old)
+
+abbrev pub event_in : Next × Talking → Option Event
+event_in (next.Ask event, t) = Some event
+event_in x = None
+
+-- what the machine of a world answers in a step, by the session that is open
+abbrev pub reply_of : World → Step → Option Place → Option (Result Reply Fault)
+reply_of w x now =
+    let n = next_in w.users w.host x.occasion x.deed (place_at w.places x.occasion.seat) now in
+    option_map (λ event. outcome_of (performed x.refused w.machine x.occasion event)) (option_and_then (λ y. event_in y.1) n)
+
+abbrev pub own_of : World → Step → OwnStep
+own_of w x = record { occasion = x.occasion; deed = x.deed; reply = reply_of w x (open_at w x.occasion.seat) }
+
+-- the steps of a seat in a run, with what the machine answered there
+abbrev pub own_steps : ℕ → List Step → World → List OwnStep
+own_steps seat [] w = []
+own_steps seat (x ∷ xs) w =
+    let rest = own_steps seat xs (did x.occasion x.refused x.deed w) in
+    if x.occasion.seat == seat then own_of w x ∷ rest else rest
+
+-- A step leaves what stands at every other seat, and who may log in where.
+abbrev pub OthersStay : Type 0
+OthersStay = (x : Step) (w : World) → let v = did x.occasion x.refused x.deed w in
+    ((seat : ℕ) → seat ≢ x.occasion.seat → place_at v.places seat ≡ place_at w.places seat) × (v.users ≡ w.users) × (v.host ≡ w.host)
+
+-- At its own seat a step makes what the session makes of the machine's answer.
+abbrev pub StepAlone : Type 0
+StepAlone = (x : Step) (w : World) →
+    place_at (did x.occasion x.refused x.deed w).places x.occasion.seat ≡ own w.users w.host (own_of w x) (place_at w.places x.occasion.seat)
+
+-- What stands at a seat after a run, with all that was said there, comes of the steps of that seat and of what the
+-- machine answered to them.
+abbrev pub AloneLaw : Type 0
+AloneLaw = (seat : ℕ) (steps : List Step) (w : World) →
+    place_at (run steps w).places seat ≡ own_run w.users w.host (own_steps seat steps w) (place_at w.places seat)
