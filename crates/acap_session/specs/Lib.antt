@@ -1,7 +1,7 @@
 pub mod Examples
 pub mod Hearing
-pub mod PipeSteps
 pub mod Laws
+pub mod PipeSteps
 pub mod Piping
 pub mod Places
 pub mod Saying

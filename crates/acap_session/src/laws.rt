@@ -27,6 +27,8 @@ pub fn next_examples()
 /// pieces, each with its turns behind it (RFC 2244 section 2).
 pub fn pipe_runs()
     ensures { PipeRuns }
+{}
+
 /// Two pieces are taken as they are taken joined (RFC 2244 section 2).
 pub fn pieces_join()
     ensures { PiecesJoin }
