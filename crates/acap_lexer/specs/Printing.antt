@@ -2,26 +2,26 @@
 use Rattle.std.specs.Prelude.{◌≡◌, ℕ, List, [], ◌∷◌, ◌++◌, length, take, Bool, not, nat_le, ◌==◌, ◌||◌, ◌&&◌, if◌then◌else◌, flat_map, decimal}
 use Rattle.std.specs.List.{list_all}
 use Rattle.std.specs.Str.{is_utf8}
-use Rattle.acap_lexer.specs.Octets.{is_escaped}
+use Rattle.acap_lexer.specs.Octets.{is_escaped, backslash, brace, carriage_return, closing_brace, line_feed, quote}
 
 abbrev pub escape : ℕ → List ℕ
-escape c = if is_escaped c then 92 ∷ c ∷ [] else c ∷ []
+escape c = if is_escaped c then backslash ∷ c ∷ [] else c ∷ []
 
 abbrev pub escaped : List ℕ → List ℕ
 escaped text = flat_map escape text
 
 -- no NUL, CR or LF
 unfoldable pub is_printable : ℕ → Bool
-is_printable c = not (c == 0 || c == 10 || c == 13)
+is_printable c = not (c == 0 || c == line_feed || c == carriage_return)
 
 unfoldable pub may_quote : List ℕ → Bool
 may_quote text = nat_le (length (escaped text)) 1024 && (is_utf8 text && list_all is_printable text)
 
 unfoldable pub quoted : List ℕ → List ℕ
-quoted text = 34 ∷ [] ++ escaped text ++ 34 ∷ []
+quoted text = quote ∷ [] ++ escaped text ++ quote ∷ []
 
 unfoldable pub literal : List ℕ → List ℕ
-literal text = 123 ∷ [] ++ decimal (length text) ++ 125 ∷ 13 ∷ 10 ∷ [] ++ text
+literal text = brace ∷ [] ++ decimal (length text) ++ closing_brace ∷ carriage_return ∷ line_feed ∷ [] ++ text
 
 unfoldable pub printed : List ℕ → List ℕ
 printed text = if may_quote text then quoted text else literal text

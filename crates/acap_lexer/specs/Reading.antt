@@ -9,7 +9,7 @@ use Rattle.acap_lexer.specs.declared.fault.LexError.{LexError}
 use Rattle.acap_lexer.specs.declared.fault.LexError.TheVariants as errors
 use Rattle.acap_lexer.specs.declared.kind.Kind.{Kind}
 use Rattle.acap_lexer.specs.declared.kind.Kind.TheVariants as kinds
-use Rattle.acap_lexer.specs.Octets.{is_word, is_tag, is_quotable, is_escaped, is_digit}
+use Rattle.acap_lexer.specs.Octets.{is_word, is_tag, is_quotable, is_escaped, is_digit, backslash, brace, closing_brace, closing_parenthesis, parenthesis, plus, quote, space}
 
 infixl 10 ◌>>=◌
 abbrev pub ◌>>=◌ : {A B : Type 0} → Result A LexFault → (A → Result B LexFault) → Result B LexFault
@@ -38,8 +38,8 @@ unfoldable mutual
   pub quoted_at : List ℕ → Read (List ℕ)
   quoted_at [] = Err BadToken
   quoted_at (c ∷ rest) =
-      if c == 34 then Ok ([], rest)
-      else (if c == 92 then escaped_at rest
+      if c == quote then Ok ([], rest)
+      else (if c == backslash then escaped_at rest
       else (if is_quotable c then behind (c ∷ []) (quoted_at rest) else Err BadToken))
 
   -- the same behind a backslash
@@ -69,8 +69,8 @@ is_count digits = nat_le 1 (length digits) && nat_le (length digits) 10 && nat_l
 unfoldable pub closing_of : List ℕ → Option Bool
 closing_of [] = None
 closing_of (c ∷ rest) =
-    if c == 125 && length rest == 0 then Some true
-    else (if c == 43 && (slice_index rest 0 == 125 && length rest == 1) then Some false else None)
+    if c == closing_brace && length rest == 0 then Some true
+    else (if c == plus && (slice_index rest 0 == closing_brace && length rest == 1) then Some false else None)
 
 -- the number, if it is a count
 unfoldable pub count_of : List ℕ → Option ℕ
@@ -86,11 +86,11 @@ announced None closing = None
 unfoldable pub mark_of : List ℕ → Option Announced
 mark_of [] = None
 mark_of (c ∷ rest) =
-    if c == 123 then announced (count_of (take (prefix_len is_digit rest) rest)) (closing_of (drop (prefix_len is_digit rest) rest)) else None
+    if c == brace then announced (count_of (take (prefix_len is_digit rest) rest)) (closing_of (drop (prefix_len is_digit rest) rest)) else None
 
 -- what an octet that may not stand here is
 unfoldable pub stray : List ℕ → LexFault
-stray text = if slice_index text 0 == 123 && is_none (mark_of text) then BadLiteral else BadToken
+stray text = if slice_index text 0 == brace && is_none (mark_of text) then BadLiteral else BadToken
 
 -- a token without its place
 pub record Lexeme : Type 0 where
@@ -104,26 +104,26 @@ as_string read = read >>= λ x. Ok (record { kind = kinds.Quoted; value = x.0 },
 unfoldable pub token_at : List ℕ → Read Lexeme
 token_at [] = Err BadToken
 token_at (c ∷ rest) =
-    if c == 40 then Ok (record { kind = kinds.Open; value = [] }, rest)
-    else (if c == 41 then Ok (record { kind = kinds.Close; value = [] }, rest)
-    else (if c == 34 then as_string (string_at rest)
+    if c == parenthesis then Ok (record { kind = kinds.Open; value = [] }, rest)
+    else (if c == closing_parenthesis then Ok (record { kind = kinds.Close; value = [] }, rest)
+    else (if c == quote then as_string (string_at rest)
     else (if is_word c then Ok (record { kind = kinds.Word; value = take (prefix_len is_word (c ∷ rest)) (c ∷ rest) }, drop (prefix_len is_word (c ∷ rest)) (c ∷ rest))
     else Err (stray (c ∷ rest)))))
 
 -- whether the octet may stand directly behind a token of this kind
 unfoldable pub may_touch : Kind → ℕ → Bool
 may_touch kinds.Tag c = false
-may_touch kinds.Word c = c == 41
-may_touch kinds.Quoted c = c == 41 || c == 40
-may_touch kinds.Literal c = c == 41 || c == 40
+may_touch kinds.Word c = c == closing_parenthesis
+may_touch kinds.Quoted c = c == closing_parenthesis || c == parenthesis
+may_touch kinds.Literal c = c == closing_parenthesis || c == parenthesis
 may_touch kinds.Open c = true
-may_touch kinds.Close c = c == 41
+may_touch kinds.Close c = c == closing_parenthesis
 
 -- where the next token begins, behind one of this kind
 unfoldable pub gap_behind : Kind → List ℕ → Result (List ℕ) LexFault
 gap_behind kind [] = Err BadToken
 gap_behind kind (c ∷ rest) =
-    if c == 32 then (if slice_index rest 0 == 41 then Err BadToken else Ok rest)
+    if c == space then (if slice_index rest 0 == closing_parenthesis then Err BadToken else Ok rest)
     else (if may_touch kind c then Ok (c ∷ rest) else Err (stray (c ∷ rest)))
 
 -- Where the next token begins: behind the one space that stands between two tokens. None stands at the
@@ -136,7 +136,7 @@ gap_at (Some kind) text = gap_behind kind text
 -- whether what is left may stand behind a tag
 unfoldable pub ends_tag : List ℕ → Bool
 ends_tag [] = true
-ends_tag (c ∷ rest) = c == 32
+ends_tag (c ∷ rest) = c == space
 
 -- so many octets may a tag have
 abbrev pub tag_limit : ℕ

@@ -5,7 +5,7 @@ use Rattle.acap_lexer.specs.declared.kind.Kind.{Kind}
 use Rattle.acap_lexer.specs.declared.kind.Kind.TheVariants as kinds
 use Rattle.acap_lexer.specs.declared.mode.Mode.{Mode}
 use Rattle.acap_lexer.specs.declared.mode.Mode.TheVariants as modes
-use Rattle.acap_lexer.specs.Octets.{is_word, is_tag, is_digit}
+use Rattle.acap_lexer.specs.Octets.{is_word, is_tag, is_digit, carriage_return, line_feed}
 use Rattle.acap_lexer.specs.Printing.{escaped, is_printable, quoted}
 use Rattle.acap_lexer.specs.Token.{Token}
 
@@ -34,7 +34,7 @@ value_of Open = []
 value_of Close = []
 
 abbrev pub crlf : List ℕ
-crlf = 13 ∷ 10 ∷ []
+crlf = carriage_return ∷ line_feed ∷ []
 
 -- a literal's mark: `{5}` where the client waits, `{5+}` where it doesn't
 abbrev pub mark : List ℕ → Bool → List ℕ

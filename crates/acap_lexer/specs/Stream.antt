@@ -1,6 +1,7 @@
 -- Which item begins a text, and how many synchronizing literals it follows before. An item is a line with its
 -- tokens, a line with a fault, or a fault after which nothing is read. [RFC 2244, 2.2 and 2.6.3]
 use Rattle.std.specs.Prelude.{ℕ, zero, suc, ◌+◌, List, [], ◌∷◌, ◌++◌, length, take, drop, Option, Some, None, option_map, Result, Ok, Err, nat_lt, ◌==◌, ◌&&◌, if◌then◌else◌, slice_index}
+use Rattle.acap_lexer.specs.Octets.{carriage_return, line_feed}
 use Rattle.acap_lexer.specs.declared.announced.Announced.{Announced}
 use Rattle.acap_lexer.specs.declared.part_end.PartEnd.{PartEnd}
 use Rattle.acap_lexer.specs.declared.part_end.PartEnd.TheVariants.{At, Never, NotYet}
@@ -25,7 +26,7 @@ command_limit = 262144
 -- where the first CR LF begins
 unfoldable pub end_of : List ℕ → Option ℕ
 end_of [] = None
-end_of (c ∷ rest) = if c == 13 && slice_index rest 0 == 10 then Some 0 else option_map (λ n. n + 1) (end_of rest)
+end_of (c ∷ rest) = if c == carriage_return && slice_index rest 0 == line_feed then Some 0 else option_map (λ n. n + 1) (end_of rest)
 
 -- where a part ends: there, nowhere within the limit, or not yet
 abbrev pub part_end_by : Option ℕ → ℕ → PartEnd
