@@ -3,9 +3,9 @@ use Rattle.std.proofs.Common.{◌≡◌, inl, inr, ℕ, zero, suc, Bool, true, f
 use Rattle.std.specs.Prelude.{◌≢◌, ◌⊎◌, option_map}
 use Rattle.std.proofs.lemmas.Bool.{eqb-true, eqb-false}
 use Rattle.acap_machine.specs.Runs.{outcome_of}
-use Rattle.acap_session.specs.Laws.{OwnStep, next_in, answered_by, spoken, own_by, own, own_run, event_in, reply_of, own_of, own_steps}
-use Rattle.acap_session.specs.Places.{Place, Places, place_at, placed, if_open}
-use Rattle.acap_session.specs.Session.{is_closed, session_next, session_drain}
+use Rattle.acap_session.specs.Laws.{OwnStep, next_in, answered_by, spoken, own_by, own, own_run, event_in, reply_of, own_of, own_steps, OthersStay, StepAlone, AloneLaw}
+use Rattle.acap_session.specs.Places.{Place, Places, place_at, placed}
+use Rattle.acap_session.specs.Session.{session_next, session_drain}
 use Rattle.acap_session.specs.Talking.{Talking, begun}
 use Rattle.acap_session.specs.Turning.{Scene, scene, turn_by, turn_of, drain_of, performed}
 use Rattle.acap_session.specs.World as world
@@ -76,10 +76,7 @@ makes o refused world.Drain w (Some p) = inr ((drain_of o refused (scene_of w p)
 makes o refused world.Leave w None = inl (refl, refl)
 makes o refused world.Leave w (Some p) = inr (ends o (scene_of w p), refl, refl)
 
-abbrev MakesOwn : Occasion → Bool → Deed → World → Type 0
-MakesOwn o refused deed w = Makes w o.seat (did o refused deed w) (own w.users w.host (own_of w (record { occasion = o; refused = refused; deed = deed })) (place_at w.places o.seat))
-
-makes_own : (o : Occasion) (refused : Bool) (deed : Deed) (w : World) → MakesOwn o refused deed w
+makes_own : (o : Occasion) (refused : Bool) (deed : Deed) (w : World) → Makes w o.seat (did o refused deed w) (own w.users w.host (own_of w (record { occasion = o; refused = refused; deed = deed })) (place_at w.places o.seat))
 unfolding did own
 makes_own o refused (world.Open user) w = makes o refused (world.Open user) w (open_at w o.seat)
 makes_own o refused (world.Piece octets) w = makes o refused (world.Piece octets) w (open_at w o.seat)
@@ -91,15 +88,14 @@ stays : (w v : World) (k : ℕ) (now : Option Place) → Makes w k v now → ((s
 stays w v k now (inl (e, f)) = ((λ seat ne. ap (λ (u : World). place_at u.places seat) e), ap (λ (u : World). u.users) e, ap (λ (u : World). u.host) e)
 stays w v k now (inr (s, e, f)) = ((λ seat ne. ap (λ (u : World). place_at u.places seat) e ∙ placed_other w.places k seat (place_of s) ne), ap (λ (u : World). u.users) e, ap (λ (u : World). u.host) e)
 
-pub others_stay : (x : Step) (w : World) → let v = did x.occasion x.refused x.deed w in
-    ((seat : ℕ) → seat ≢ x.occasion.seat → place_at v.places seat ≡ place_at w.places seat) × (v.users ≡ w.users) × (v.host ≡ w.host)
+pub others_stay : OthersStay
 others_stay x w = stays w (did x.occasion x.refused x.deed w) x.occasion.seat _ (makes_own x.occasion x.refused x.deed w)
 
 stands : (w v : World) (k : ℕ) (now : Option Place) → Makes w k v now → place_at v.places k ≡ now
 stands w v k now (inl (e, f)) = ap (λ (u : World). place_at u.places k) e ∙ sym f
 stands w v k now (inr (s, e, f)) = ap (λ (u : World). place_at u.places k) e ∙ placed_there w.places k (place_of s) ∙ sym f
 
-pub step_alone : (x : Step) (w : World) → place_at (did x.occasion x.refused x.deed w).places x.occasion.seat ≡ own w.users w.host (own_of w x) (place_at w.places x.occasion.seat)
+pub step_alone : StepAlone
 step_alone x w = stands w (did x.occasion x.refused x.deed w) x.occasion.seat _ (makes_own x.occasion x.refused x.deed w)
 
 -- ---- all steps
@@ -113,7 +109,7 @@ one_more seat x rest w true e =
 one_more seat x rest w false e =
     ap (own_run w.users w.host rest) ((others_stay x w).0 seat (λ s. eqb-false x.occasion.seat seat e (sym s)))
 
-pub alone : (seat : ℕ) (steps : List Step) (w : World) → place_at (run steps w).places seat ≡ own_run w.users w.host (own_steps seat steps w) (place_at w.places seat)
+pub alone : AloneLaw
 alone seat [] w = refl
 alone seat (x ∷ xs) w =
     let v = did x.occasion x.refused x.deed w in

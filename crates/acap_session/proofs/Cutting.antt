@@ -1,5 +1,5 @@
 -- How a client's octets are cut makes no difference: what is next of held octets is next of more octets too.
-use Rattle.std.proofs.Common.{◌≡◌, ◌⊎◌, inl, inr, ℕ, zero, suc, ℤ, ◌+◌, ◌-◌, ◌<◌, ◌≤◌, min, Bool, true, false, if◌then◌else◌, List, [], ◌∷◌, ◌++◌, length, take, drop, Option, Some, None, refl, sym, ap, subst, ◌∙◌, arith, append_assoc}
+use Rattle.std.proofs.Common.{◌≡◌, ◌⊎◌, inl, inr, ℕ, zero, suc, ℤ, ◌+◌, ◌-◌, min, Bool, true, false, if◌then◌else◌, List, [], ◌∷◌, ◌++◌, length, take, Option, Some, None, refl, sym, ap, subst, ◌∙◌, arith, append_assoc}
 use Rattle.std.specs.Prelude.{replicate, option_map}
 use Rattle.std.proofs.lemmas.List.{append-nil, drop-append-le, length-take, length-append, take_all, take_min}
 use Rattle.acap_lexer.specs.Held.{next_of, next_by, held_behind}
@@ -15,7 +15,7 @@ use Rattle.acap_lexer.proofs.Asking.{next_cases, Continues, Lacks, Finds}
 use Rattle.acap_lexer.proofs.ProgressLaws.{keeps_items, keeps_waits, takes_octets}
 use Rattle.acap_login.specs.Login.{User}
 use Rattle.acap_session.specs.Hearing.{heard, heard_answer}
-use Rattle.acap_session.specs.Laws.{Move, Comes, Turns, joined, emptied, with_emptied, HasRoomFor, Alike, came_of, steps_on, HaveRoom, IsHeard, as_one}
+use Rattle.acap_session.specs.Laws.{Move, Comes, Turns, joined, emptied, with_emptied, HasRoomFor, Alike, came_of, steps_on, HaveRoom, IsHeard, as_one, PiecesJoin, IsKept, TurnsKeep, CuttingLaw, IsJoined, JoiningLaw}
 use Rattle.acap_session.specs.Piping.{hears}
 use Rattle.acap_session.specs.Places.{Place, Places, place_at, placed, if_open}
 use Rattle.acap_session.specs.Script.{IsQuiet, IsQuietFor}
@@ -241,8 +241,7 @@ two_takes a b text n m k e f g =
     let second : k - length a ≡ m = omega (arith, e, f, g, length-append a b, length-append text (take n a), length-take n a) in
     append_assoc text (take n a) (take m b) ∙ ap (λ ts. text ++ ts) (sym (take_cut a b k ∙ ap (λ ts. ts ++ take (k - length a) b) (sym (take_min k a)) ∙ (λ i. take (first i) a ++ take (second i) b)))
 
-pub pieces_join : (o later : Occasion) (refused again : Bool) (a b : List ℕ) (w : World) → later.seat ≡ o.seat →
-    did later again (world.Piece b) (did o refused (world.Piece a) w) ≡ did o refused (world.Piece (a ++ b)) w
+pub pieces_join : PiecesJoin
 pieces_join o later refused again a b w h =
     elim (starts w o.seat) [
       | inl none ↦ ap (did later again (world.Piece b)) (piece_none w o o.seat refused a refl none) ∙ piece_none w later o.seat again b h none ∙ sym (piece_none w o o.seat refused (a ++ b) refl none)
@@ -289,14 +288,7 @@ behind_turn : (w : World) (later : Occasion) (k : ℕ) (again : Bool) (b : List 
 behind_turn w later k again b z true h e r = subst (Alike k (with_scene w k (hears b z))) (sym (piece_none (with_scene w k z) later k again b h (open_is w k z true e))) (alike_set w k (hears b z) z (inr (e, e, refl)))
 behind_turn w later k again b z false h e r = inl (sym (piece_heard w later k again b z h e r))
 
-abbrev Kept : Occasion → Occasion → Bool → Bool → List ℕ → World → Type 0
-Kept o later refused again b w =
-    let more = did later again (world.Piece b) w in
-    let after = did o refused world.Turn w in
-    HasRoomFor b (open_at w o.seat) → HasRoomFor b (open_at after o.seat) → option_map went_on (came_of o refused w) ≡ Some true →
-    (came_of o refused more ≡ came_of o refused w) × Alike o.seat (did o refused world.Turn more) (did later again (world.Piece b) after)
-
-kept_set : (o later : Occasion) (refused again : Bool) (b : List ℕ) (w : World) (s : Scene) → later.seat ≡ o.seat → is_closed s.talk.stage ≡ false → Kept o later refused again b (with_scene w o.seat s)
+kept_set : (o later : Occasion) (refused again : Bool) (b : List ℕ) (w : World) (s : Scene) → later.seat ≡ o.seat → is_closed s.talk.stage ≡ false → IsKept o later refused again b (with_scene w o.seat s)
 kept_set o later refused again b w s h e r q g =
     let z = (turn_of w.users o refused s).1 in
     let goes : Some (went_on (turn_of w.users o refused s).0) ≡ Some true = sym (ap (option_map went_on) (came_set w o refused s e)) ∙ g in
@@ -310,11 +302,11 @@ kept_set o later refused again b w s h e r q g =
           (subst (λ (v : World). Alike o.seat (with_scene w o.seat (hears b z)) (did later again (world.Piece b) v)) (sym after) left),
     )
 
-pub turns_keep : (o later : Occasion) (refused again : Bool) (b : List ℕ) (w : World) → later.seat ≡ o.seat → Kept o later refused again b w
+pub turns_keep : TurnsKeep
 turns_keep o later refused again b w h r q g =
     elim (starts w o.seat) [
       | inl none ↦ absurd (let k : None ≡ Some true = sym (ap (λ x. option_map went_on (option_map (λ place. (turn_of w.users o refused (scene_of w place)).0) x)) none) ∙ g in cc)
-      | inr (s, e, c) ↦ subst (Kept o later refused again b) (sym e) (kept_set o later refused again b w s h c) r q g
+      | inr (s, e, c) ↦ subst (IsKept o later refused again b) (sym e) (kept_set o later refused again b w s h c) r q g
     ]
 
 -- ---- all moves
@@ -352,7 +344,7 @@ heard_at o moves w new s h =
 alike_worlds : (w u v : World) (k : ℕ) (x y z : Scene) → u ≡ with_scene w k x → v ≡ with_scene w k y → AreAlike x z → AreAlike y z → Alike k u v
 alike_worlds w u v k x y z e f g h = subst (Alike k u) (sym f) (subst (λ (q : World). Alike k q (with_scene w k y)) (sym e) (alike_set w k x y (alike_both x y z g h)))
 
-pub cutting : (o : Occasion) (a b : List Move) (old u v : World) → joined a ≡ joined b → IsHeard o a old u → IsHeard o b old v → Alike o.seat u v
+pub cutting : CuttingLaw
 cutting o a b old u v e f g =
     elim (starts old o.seat) [
       | inl none ↦ inl (f.is ∙ none_run o a old none ∙ sym (g.is ∙ none_run o b old none))
@@ -368,10 +360,7 @@ turns_room : (o : Occasion) (n : ℕ) (w : World) → HaveRoom o (replicate n Tu
 turns_room o zero w = tt
 turns_room o (suc n) w = turns_room o n (did o false world.Turn w)
 
-abbrev IsOne : Occasion → List Move → World → World → Type 0
-IsOne o moves new old = HasRoomFor (joined moves) (open_at old o.seat) → (n : ℕ) × (end : World) × IsHeard o (as_one (joined moves) n) old end × Alike o.seat new end
-
-one_set : (o : Occasion) (moves : List Move) (w new : World) (s : Scene) → IsHeard o moves (with_scene w o.seat s) new → IsOne o moves new (with_scene w o.seat s)
+one_set : (o : Occasion) (moves : List Move) (w new : World) (s : Scene) → IsHeard o moves (with_scene w o.seat s) new → IsJoined o moves new (with_scene w o.seat s)
 one_set o moves w new s h r =
     let x = heard_at o moves w new s h in
     let c = comes_first w.users o moves s in
@@ -382,11 +371,11 @@ one_set o moves w new s h r =
     let quiet = subst (IsQuietFor o (with_scene w o.seat k.0)) (sym (there w o.seat k.0)) still in
     (c.0, with_scene w o.seat k.0, record { room = room; is = sym k.1; quiet = quiet }, alike_worlds w new (with_scene w o.seat k.0) o.seat x.0.0 k.0 (freely w.users o moves s) x.0.1 refl x.0.2 same)
 
-pub joining : (o : Occasion) (moves : List Move) (old new : World) → IsHeard o moves old new → IsOne o moves new old
+pub joining : JoiningLaw
 joining o moves old new h r =
     elim (starts old o.seat) [
       | inl none ↦ (
           let same = h.is ∙ none_run o moves old none in
           (0, old, record { room = (r, tt); is = sym (none_run o (as_one (joined moves) 0) old none); quiet = subst (IsQuiet o) same h.quiet }, inl same))
-      | inr (s, q, c) ↦ subst (IsOne o moves new) (sym q) (one_set o moves old new s (subst (λ (w : World). IsHeard o moves w new) q h)) r
+      | inr (s, q, c) ↦ subst (IsJoined o moves new) (sym q) (one_set o moves old new s (subst (λ (w : World). IsHeard o moves w new) q h)) r
     ]

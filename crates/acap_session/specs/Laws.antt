@@ -53,12 +53,15 @@ came_of o refused w = option_map (λ place. (turn_of w.users o refused (scene_of
 
 -- A turn that comes to something comes to the same where more octets stand behind those held, and leaves the same with
 -- these octets behind, where there is room for them before and after.
-abbrev pub TurnsKeep : Type 0
-TurnsKeep = (o later : Occasion) (refused again : Bool) (octets : List ℕ) (w : World) → later.seat ≡ o.seat →
+abbrev pub IsKept : Occasion → Occasion → Bool → Bool → List ℕ → World → Type 0
+IsKept o later refused again octets w =
     let more = did later again (world.Piece octets) w in
     let after = did o refused world.Turn w in
     HasRoomFor octets (open_at w o.seat) → HasRoomFor octets (open_at after o.seat) → option_map went_on (came_of o refused w) ≡ Some true →
     (came_of o refused more ≡ came_of o refused w) × Alike o.seat (did o refused world.Turn more) (did later again (world.Piece octets) after)
+
+abbrev pub TurnsKeep : Type 0
+TurnsKeep = (o later : Occasion) (refused again : Bool) (octets : List ℕ) (w : World) → later.seat ≡ o.seat → IsKept o later refused again octets w
 
 -- octets come to a session, or it makes a turn
 pub data Move : Type 0 where
@@ -103,9 +106,11 @@ abbrev pub as_one : List ℕ → ℕ → List Move
 as_one octets n = Comes octets ∷ replicate n Turns
 
 -- What comes of octets in pieces comes of them as one piece, if there is room for that, and some turns.
+abbrev pub IsJoined : Occasion → List Move → World → World → Type 0
+IsJoined o moves new old = HasRoomFor (joined moves) (open_at old o.seat) → (n : ℕ) × (end : World) × IsHeard o (as_one (joined moves) n) old end × Alike o.seat new end
+
 abbrev pub JoiningLaw : Type 0
-JoiningLaw = (o : Occasion) (moves : List Move) (old new : World) → IsHeard o moves old new → HasRoomFor (joined moves) (open_at old o.seat) →
-    (n : ℕ) × (end : World) × IsHeard o (as_one (joined moves) n) old end × Alike o.seat new end
+JoiningLaw = (o : Occasion) (moves : List Move) (old new : World) → IsHeard o moves old new → IsJoined o moves new old
 
 -- ---- a session alone
 
