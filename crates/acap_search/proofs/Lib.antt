@@ -1,5 +1,6 @@
 pub mod EqualLemmas
 pub mod ExampleLemmas
+pub mod NearLemmas
 pub mod OrderLemmas
 pub mod PlaceLaws
 pub mod SeenLemmas

@@ -9,12 +9,14 @@ mod looking;
 mod matching;
 mod near;
 mod ordering;
+mod plain;
 mod query;
 mod rank;
 mod ranking;
 mod refusal;
 mod rows;
 mod searching;
+mod spot;
 #[cfg(test)]
 mod tests;
 mod tuples;
