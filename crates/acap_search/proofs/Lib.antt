@@ -7,4 +7,5 @@ pub mod SeenLemmas
 pub mod SightLemmas
 pub mod SortLemmas
 pub mod Stars
+pub mod TellingLemmas
 pub mod WalkLemmas

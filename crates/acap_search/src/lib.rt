@@ -17,6 +17,7 @@ mod refusal;
 mod rows;
 mod searching;
 mod spot;
+mod telling;
 #[cfg(test)]
 mod tests;
 mod tuples;
@@ -36,5 +37,6 @@ pub use rank::{Place, Places, Rank};
 pub use refusal::SearchRefusal;
 pub use rows::items_of;
 pub use searching::fresh;
+pub use telling::{Told, tell};
 pub use tuples::row_of;
 pub use viewer::Viewer;

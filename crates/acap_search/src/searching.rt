@@ -38,8 +38,8 @@ struct Search<'a> {
     query: &'a Query,
 }
 
-// Whether a key asks for positions.
-fn has_range(key: &Key) -> bool
+/// Whether a key asks for positions.
+pub(crate) fn has_range(key: &Key) -> bool
     ensures { result ≡ rule.has_range key.now }
 {
     match key.node() {
@@ -51,8 +51,8 @@ fn has_range(key: &Key) -> bool
     }
 }
 
-// Whether there are more matches than HARDLIMIT allows.
-fn is_over(most: Option<u32>, count: usize) -> bool
+/// Whether there are more matches than HARDLIMIT allows.
+pub(crate) fn is_over(most: Option<u32>, count: usize) -> bool
     ensures { result ≡ rule.is_over most count }
 {
     match most {
@@ -161,8 +161,8 @@ fn add_own_hits<'a>(
     Ok(())
 }
 
-// Adds what is found at all names along a chain.
-fn add_far_hits(
+/// Adds what is found at all names along a chain.
+pub(crate) fn add_far_hits(
     alloc: Global,
     by: &Viewer<'_, Tree>,
     query: &Query,
