@@ -194,9 +194,21 @@ pub(crate) fn look_at<'a, R: Records>(spot: &Spot<'a, R>, attribute: &[u8]) -> S
     look(spot.by, spot.name, attribute)
 }
 
+/// What a user may read of an attribute of an entry that is looked at.
+pub(crate) fn read_at<'a, R: Records>(spot: &Spot<'a, R>, attribute: &[u8]) -> Option<Lent<'a>>
+    ensures { shown.cell_of result ≡ (rule.answers_at (R.store spot.now.by.now.records.now).records spot.now.by.now.realm.now spot.now.by.now.user.now spot.now.by.now.dataset.now spot.now.by.now.chain spot.now.name.now).read attribute.now }
+{
+    if let Some(entry) = spot.entry
+        && !has_list(entry, attribute)
+    {
+        return seen_if(own_value(entry, spot.name, attribute), spot.rights.r);
+    }
+    look(spot.by, spot.name, attribute).read
+}
+
 /// Whether the user sees an entry that is looked at.
 pub(crate) fn sees_at<R: Records>(spot: &Spot<'_, R>) -> bool
     ensures { result ≡ rule.is_seen (rule.answers_at (R.store spot.now.by.now.records.now).records spot.now.by.now.realm.now spot.now.by.now.user.now spot.now.by.now.dataset.now spot.now.by.now.chain spot.now.name.now) }
 {
-    look_at(spot, b"entry").read.is_some()
+    read_at(spot, b"entry").is_some()
 }

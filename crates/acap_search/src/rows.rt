@@ -6,7 +6,7 @@ ghost use Rattle.acap_search.specs.Rows as rule;
 ghost use Rattle.acap_search.specs.Shown as shown;
 ghost use Rattle.acap_search.specs.Sight as sight;
 
-use crate::looking::{is_nil, look_at};
+use crate::looking::{is_nil, look_at, read_at};
 use crate::spot::Spot;
 use crate::viewer::Viewer;
 use acap_entries::{
@@ -97,13 +97,12 @@ fn datum<R: Records>(
 ) -> Result<Cell, Memory>
     ensures { IfOk result (λ cell. cell ≡ rule.datum (sight.answers_at (R.store spot.now.by.now.records.now).records spot.now.by.now.realm.now spot.now.by.now.user.now spot.now.by.now.dataset.now spot.now.by.now.chain spot.now.name.now) attribute.now wanted) }
 {
-    let seen = look_at(spot, attribute);
     match wanted {
-        Metadata::Acl => seen_acl(spot, attribute, seen.is_readable),
+        Metadata::Acl => seen_acl(spot, attribute, look_at(spot, attribute).is_readable),
         Metadata::Attribute => Ok(Cell::Single(Value::from_slice(alloc, attribute)?)),
-        Metadata::MyRights => Ok(Cell::Single(seen.rights.letters(alloc)?)),
-        Metadata::Size => sizes_of(alloc, seen.read),
-        Metadata::Value => value_of(alloc, seen.read),
+        Metadata::MyRights => Ok(Cell::Single(look_at(spot, attribute).rights.letters(alloc)?)),
+        Metadata::Size => sizes_of(alloc, read_at(spot, attribute)),
+        Metadata::Value => value_of(alloc, read_at(spot, attribute)),
     }
 }
 
@@ -134,7 +133,7 @@ fn add_star<R: Records>(
 ) -> Result<(), Memory>
     ensures { OnOk result (stars.new ≡ rule.put_star (sight.answers_at (R.store spot.now.by.now.records.now).records spot.now.by.now.realm.now spot.now.by.now.user.now spot.now.by.now.dataset.now spot.now.by.now.chain spot.now.name.now).read front.now attribute.now stars.old) }
 {
-    if attribute.starts_with(front) && !is_nil(look_at(spot, attribute).read) {
+    if attribute.starts_with(front) && !is_nil(read_at(spot, attribute)) {
         stars.set(Attribute::from_slice(alloc, attribute)?, true)?;
     }
     Ok(())
