@@ -50,6 +50,18 @@ found_of last query limit matches =
       total = option_map number_told cut.total;
     }
 
+-- the same of the rows of these matches, and of their number if that is told
+abbrev pub rows_if : Option (List ReturnItem) → List Row → List Row
+rows_if None rows = []
+rows_if (Some returns) rows = rows
+
+abbrev pub found_with : ℤ → Query → List Row → Option ℕ → Found
+found_with last query rows total = record {
+  rows = rows_if query.returns rows;
+  last = last_told query.returns last;
+  total = option_map number_told total;
+}
+
 -- ---- what is said
 
 -- a refused search, told with the dataset that was searched

@@ -6,7 +6,7 @@ ghost use Rattle.acap_search.specs.Asking.{asked_of};
 use acap_entries::{Dataset, Memory, Tree, UserName};
 use acap_grammar::{Found, Key, Limit, Refusal, Rows, Said, Search, SearchModifiers, Target};
 use acap_rights::Realm;
-use acap_search::{Asked, Cut, Hits, Query, SearchRefusal, cut_by, first_rows, fresh};
+use acap_search::{Asked, Query, SearchRefusal, Told, tell};
 use std::alloc::Global;
 
 // How many matches a reply tells.
@@ -17,44 +17,37 @@ fn number_told(count: usize) -> u32
 }
 
 // How many matches are told, if their number is.
-fn total_told(cut: Cut) -> Option<u32>
-    ensures { result ≡ option_map rule.number_told cut.total }
+fn total_told(total: Option<usize>) -> Option<u32>
+    ensures { result ≡ option_map rule.number_told total }
 {
-    match cut.total {
+    match total {
         Some(count) => Some(number_told(count)),
         None => None,
     }
 }
 
-// What is told of the matches.
-fn found_of(
-    alloc: Global,
-    tree: &Tree,
-    query: &Query,
-    limit: Option<Limit>,
-    hits: Hits,
-) -> Result<Found, Memory>
-    ensures { IfOk result (λ found. found ≡ rule.found_of tree.now.store.last query.now limit hits) }
+// What a reply has of what is told of the matches.
+fn found_with(alloc: Global, tree: &Tree, query: &Query, told: Told) -> Found
+    ensures { result ≡ rule.found_with tree.now.store.last query.now told.rows told.total }
 {
-    let cut = cut_by(limit, hits.len());
-    let total = total_told(cut);
+    let total = total_told(told.total);
     if query.returns.is_some() {
-        Ok(Found {
-            rows: first_rows(alloc, hits, cut.told)?,
+        Found {
+            rows: told.rows,
             last: Some(tree.last()),
             total,
-        })
+        }
     } else {
-        Ok(Found {
+        Found {
             rows: Rows::new(alloc),
             last: None,
             total,
-        })
+        }
     }
 }
 
 // What is said to a query over a dataset.
-#[tactic(auto, unfolding(crate::specs::Searching::searched_by))]
+#[tactic(auto, unfolding(crate::specs::Searching::searched_by), using(crate::proofs::FoundLemmas::found_is))]
 fn searched_by(
     alloc: Global,
     tree: &Tree,
@@ -65,8 +58,8 @@ fn searched_by(
 ) -> Result<Said, Memory>
     ensures { IfOk result (λ words. words ≡ rule.searched_by tree.now.store realm.now user.now query limit) }
 {
-    match fresh(alloc, tree, realm, user, &query) {
-        Ok(hits) => Ok(Said::Found(found_of(alloc, tree, &query, limit, hits)?)),
+    match tell(alloc, tree, realm, user, &query, limit) {
+        Ok(told) => Ok(Said::Found(found_with(alloc, tree, &query, told))),
         Err(SearchRefusal::RangeHere) => Ok(Said::Refused(Refusal::RangeHere)),
         Err(SearchRefusal::NoExist) => Ok(Said::Refused(Refusal::NoExist(query.dataset))),
         Err(SearchRefusal::WayTooMany) => Ok(Said::Refused(Refusal::WayTooMany)),

@@ -1,9 +1,11 @@
 pub mod EqualLemmas
 pub mod ExampleLemmas
+pub mod NearLemmas
 pub mod OrderLemmas
 pub mod PlaceLaws
 pub mod SeenLemmas
 pub mod SightLemmas
 pub mod SortLemmas
 pub mod Stars
+pub mod TellingLemmas
 pub mod WalkLemmas

@@ -5,6 +5,7 @@ pub mod Fresh
 pub mod Keys
 pub mod Laws
 pub mod Matches
+pub mod Near
 pub mod Places
 pub mod Rows
 pub mod Scopes

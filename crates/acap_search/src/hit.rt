@@ -90,9 +90,9 @@ pub fn first_rows(alloc: Global, hits: Hits, most: usize) -> Result<Rows, Memory
 {
     let mut hits = hits.into_vec();
     hits.truncate(most);
-    let mut rows = Rows::new(alloc);
+    let mut rows = Vec::with_capacity(alloc, hits.len())?;
     for hit in hits {
         rows.push(hit.into_row())?;
     }
-    Ok(rows)
+    Ok(Rows::from_vec(rows))
 }

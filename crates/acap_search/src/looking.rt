@@ -1,12 +1,15 @@
 //! What is seen of an attribute.
-ghost use Rattle.std.specs.Prelude.{◌≡◌, None, if◌then◌else◌};
+ghost use Rattle.std.specs.Prelude.{◌≡◌, ◌||◌, None, is_some, if◌then◌else◌};
+ghost use Rattle.std.specs.FinMap as map;
 ghost use Rattle.acap_entries.specs.declared.cell.Cell.TheVariants.{Nil};
 ghost use Rattle.acap_inherit.specs.Values as lent;
+ghost use Rattle.acap_search.specs.Near as near;
 ghost use Rattle.acap_search.specs.Sight as rule;
 ghost use Rattle.acap_search.specs.Shown as shown;
 
+use crate::spot::Spot;
 use crate::viewer::Viewer;
-use acap_entries::Records;
+use acap_entries::{Cell, Record, Records, stamp};
 use acap_inherit::{Found, Lent, resolve};
 use acap_rights::{Object, Rights, rights_of};
 
@@ -111,4 +114,101 @@ pub fn sees<'a, R: Records>(by: &Viewer<'a, R>, name: &'a [u8]) -> bool
     ensures { result ≡ rule.is_seen (rule.answers_at (R.store by.now.records.now).records by.now.realm.now by.now.user.now by.now.dataset.now by.now.chain name.now) }
 {
     look(by, name, b"entry").read.is_some()
+}
+
+// A stored value, as it is lent.
+fn lent(cell: &Cell) -> Option<Lent<'_>>
+    ensures { shown.cell_of result ≡ cell.now }
+{
+    match cell {
+        Cell::Nil => None,
+        Cell::Single(value) => Some(Lent::Single(value.as_slice())),
+        Cell::Multi(values) => Some(Lent::Multi(values)),
+    }
+}
+
+// What a record has for an attribute, where nothing is inherited.
+fn own_value<'a>(entry: &'a Record, name: &'a [u8], attribute: &[u8]) -> Option<Lent<'a>>
+    ensures { shown.cell_of result ≡ near.own_value entry.now name.now attribute.now }
+{
+    if attribute == b"entry".as_slice() {
+        return if entry.present {
+            Some(Lent::Single(name))
+        } else {
+            None
+        };
+    }
+    if attribute == b"modtime".as_slice() {
+        return Some(Lent::Stamp(stamp(entry.modtime)));
+    }
+    if !entry.present {
+        return None;
+    }
+    match entry.cells.find(attribute) {
+        Some(cell) => lent(cell),
+        None => None,
+    }
+}
+
+// Whether a record has a list for the attribute.
+fn has_list(entry: &Record, attribute: &[u8]) -> bool
+    ensures { result ≡ is_some (map.get entry.now.acls attribute.now) }
+{
+    entry.acls.find(attribute).is_some()
+}
+
+// A value where there is one and the test holds.
+fn seen_if(value: Option<Lent<'_>>, test: bool) -> Option<Lent<'_>>
+    ensures { shown.cell_of result ≡ (if test then shown.cell_of value.entry else Nil) }
+{
+    if test { value } else { None }
+}
+
+// What is seen of a value in the only dataset of a chain.
+fn shown_by(value: Option<Lent<'_>>, rights: Rights) -> Shown<'_>
+    ensures read { shown.cell_of result.read ≡ (if rights.r then shown.cell_of value.entry else Nil) }
+    ensures test { shown.cell_of result.test ≡ (if rights.x || rights.r then shown.cell_of value.entry else Nil) }
+    ensures acl { result.is_readable ≡ rights.r }
+    ensures rights { result.rights ≡ rights }
+{
+    Shown {
+        read: seen_if(value, rights.r),
+        test: seen_if(value, rights.x || rights.r),
+        is_readable: rights.r,
+        rights,
+    }
+}
+
+/// What a user sees of an attribute of an entry that is looked at.
+pub(crate) fn look_at<'a, R: Records>(spot: &Spot<'a, R>, attribute: &[u8]) -> Shown<'a>
+    ensures read { shown.cell_of result.read ≡ (rule.answers_at (R.store spot.now.by.now.records.now).records spot.now.by.now.realm.now spot.now.by.now.user.now spot.now.by.now.dataset.now spot.now.by.now.chain spot.now.name.now).read attribute.now }
+    ensures test { shown.cell_of result.test ≡ (rule.answers_at (R.store spot.now.by.now.records.now).records spot.now.by.now.realm.now spot.now.by.now.user.now spot.now.by.now.dataset.now spot.now.by.now.chain spot.now.name.now).test attribute.now }
+    ensures rights { result.rights ≡ (rule.answers_at (R.store spot.now.by.now.records.now).records spot.now.by.now.realm.now spot.now.by.now.user.now spot.now.by.now.dataset.now spot.now.by.now.chain spot.now.name.now).rights attribute.now }
+    ensures acl { (if result.is_readable then rule.own_acl (R.store spot.now.by.now.records.now).records spot.now.by.now.dataset.now spot.now.name.now attribute.now else None) ≡ (rule.answers_at (R.store spot.now.by.now.records.now).records spot.now.by.now.realm.now spot.now.by.now.user.now spot.now.by.now.dataset.now spot.now.by.now.chain spot.now.name.now).acl attribute.now }
+{
+    if let Some(entry) = spot.entry
+        && !has_list(entry, attribute)
+    {
+        return shown_by(own_value(entry, spot.name, attribute), spot.rights);
+    }
+    look(spot.by, spot.name, attribute)
+}
+
+/// What a user may read of an attribute of an entry that is looked at.
+pub(crate) fn read_at<'a, R: Records>(spot: &Spot<'a, R>, attribute: &[u8]) -> Option<Lent<'a>>
+    ensures { shown.cell_of result ≡ (rule.answers_at (R.store spot.now.by.now.records.now).records spot.now.by.now.realm.now spot.now.by.now.user.now spot.now.by.now.dataset.now spot.now.by.now.chain spot.now.name.now).read attribute.now }
+{
+    if let Some(entry) = spot.entry
+        && !has_list(entry, attribute)
+    {
+        return seen_if(own_value(entry, spot.name, attribute), spot.rights.r);
+    }
+    look(spot.by, spot.name, attribute).read
+}
+
+/// Whether the user sees an entry that is looked at.
+pub(crate) fn sees_at<R: Records>(spot: &Spot<'_, R>) -> bool
+    ensures { result ≡ rule.is_seen (rule.answers_at (R.store spot.now.by.now.records.now).records spot.now.by.now.realm.now spot.now.by.now.user.now spot.now.by.now.dataset.now spot.now.by.now.chain spot.now.name.now) }
+{
+    read_at(spot, b"entry").is_some()
 }

@@ -5,7 +5,8 @@ ghost use Rattle.acap_search.specs.Keys as rule;
 ghost use Rattle.acap_search.specs.Shown as shown;
 ghost use Rattle.acap_search.specs.Sight as sight;
 
-use crate::looking::{is_nil, look};
+use crate::looking::{is_nil, look_at};
+use crate::spot::Spot;
 use crate::viewer::Viewer;
 use acap_entries::{Records, Value};
 use acap_grammar::{Key, Node, Relation, Test};
@@ -71,15 +72,10 @@ fn is_equal(relation: Relation) -> bool
 }
 
 // What is tested of an attribute: where octets are to be equal that which may be tested, else that which may be read.
-fn tested<'a, R: Records>(
-    by: &Viewer<'a, R>,
-    name: &'a [u8],
-    attribute: &[u8],
-    by_octets: bool,
-) -> Option<Lent<'a>>
-    ensures { shown.cell_of result ≡ rule.tested by_octets (sight.answers_at (R.store by.now.records.now).records by.now.realm.now by.now.user.now by.now.dataset.now by.now.chain name.now) attribute.now }
+fn tested<'a, R: Records>(spot: &Spot<'a, R>, attribute: &[u8], by_octets: bool) -> Option<Lent<'a>>
+    ensures { shown.cell_of result ≡ rule.tested by_octets (sight.answers_at (R.store spot.now.by.now.records.now).records spot.now.by.now.realm.now spot.now.by.now.user.now spot.now.by.now.dataset.now spot.now.by.now.chain spot.now.name.now) attribute.now }
 {
-    let seen = look(by, name, attribute);
+    let seen = look_at(spot, attribute);
     if by_octets { seen.test } else { seen.read }
 }
 
@@ -94,25 +90,32 @@ fn is_within(first: u32, last: u32, place: Option<u32>) -> bool
 }
 
 // Whether an entry passes one test.
-fn passes<'a, R: Records>(
-    by: &Viewer<'a, R>,
-    name: &'a [u8],
-    test: &Test,
-    place: Option<u32>,
-) -> bool
-    ensures { result ≡ rule.passes test.now place (sight.answers_at (R.store by.now.records.now).records by.now.realm.now by.now.user.now by.now.dataset.now by.now.chain name.now) }
+fn passes<R: Records>(spot: &Spot<'_, R>, test: &Test, place: Option<u32>) -> bool
+    ensures { result ≡ rule.passes test.now place (sight.answers_at (R.store spot.now.by.now.records.now).records spot.now.by.now.realm.now spot.now.by.now.user.now spot.now.by.now.dataset.now spot.now.by.now.chain spot.now.name.now) }
 {
     match test {
         Test::All => true,
         Test::IsNil(attribute, comparator) => {
-            is_nil(tested(by, name, attribute.as_slice(), is_octet(comparator)))
+            is_nil(tested(spot, attribute.as_slice(), is_octet(comparator)))
         }
         Test::Meets(relation, attribute, comparator, wanted) => {
             let by_octets = is_equal(*relation) && is_octet(comparator);
-            let value = tested(by, name, attribute.as_slice(), by_octets);
+            let value = tested(spot, attribute.as_slice(), by_octets);
             meets(value, *relation, comparator, wanted.as_slice())
         }
         Test::Range(first, last, _) => is_within(*first, *last, place),
+    }
+}
+
+/// Whether a key wants an entry that is looked at.
+pub(crate) fn wants<R: Records>(spot: &Spot<'_, R>, key: &Key, place: Option<u32>) -> bool
+    ensures { result ≡ rule.holds key.now place (sight.answers_at (R.store spot.now.by.now.records.now).records spot.now.by.now.realm.now spot.now.by.now.user.now spot.now.by.now.dataset.now spot.now.by.now.chain spot.now.name.now) }
+{
+    match key.node() {
+        Node::One(test) => passes(spot, test, place),
+        Node::And(first, second) => { wants(spot, first, place) && wants(spot, second, place) }
+        Node::Or(first, second) => { wants(spot, first, place) || wants(spot, second, place) }
+        Node::Not(key) => !wants(spot, key, place),
     }
 }
 
@@ -126,14 +129,5 @@ pub fn matches<'a, R: Records>(
 ) -> bool
     ensures { result ≡ rule.holds key.now place (sight.answers_at (R.store by.now.records.now).records by.now.realm.now by.now.user.now by.now.dataset.now by.now.chain name.now) }
 {
-    match key.node() {
-        Node::One(test) => passes(by, name, test, place),
-        Node::And(first, second) => {
-            matches(by, name, first, place) && matches(by, name, second, place)
-        }
-        Node::Or(first, second) => {
-            matches(by, name, first, place) || matches(by, name, second, place)
-        }
-        Node::Not(key) => !matches(by, name, key, place),
-    }
+    wants(&Spot::far(by, name), key, place)
 }

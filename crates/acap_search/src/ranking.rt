@@ -8,9 +8,9 @@ ghost use Rattle.acap_search.specs.Places as rule;
 ghost use Rattle.acap_search.specs.Shown as shown;
 ghost use Rattle.acap_search.specs.Sight as sight;
 
-use crate::looking::look;
+use crate::looking::look_at;
 use crate::rank::{Place, Places, Rank};
-use crate::viewer::Viewer;
+use crate::spot::Spot;
 use acap_entries::{Memory, Octets, Records, Value};
 use acap_grammar::SortItem;
 use acap_inherit::Lent;
@@ -100,17 +100,16 @@ fn place_of(
 }
 
 /// Where an entry stands for each item of SORT. Fails only for want of memory.
-pub(crate) fn places_of<'a, R: Records>(
+pub(crate) fn places_of<R: Records>(
     alloc: Global,
-    by: &Viewer<'a, R>,
-    name: &'a [u8],
+    spot: &Spot<'_, R>,
     sort: &[SortItem],
 ) -> Result<Places, Memory>
-    ensures { IfOk result (λ places. places ≡ rule.places_in (sight.answers_at (R.store by.now.records.now).records by.now.realm.now by.now.user.now by.now.dataset.now by.now.chain name.now).read sort.now) }
+    ensures { IfOk result (λ places. places ≡ rule.places_in (sight.answers_at (R.store spot.now.by.now.records.now).records spot.now.by.now.realm.now spot.now.by.now.user.now spot.now.by.now.dataset.now spot.now.by.now.chain spot.now.name.now).read sort.now) }
 {
     let mut places = Places::new(alloc);
     for item in sort {
-        let seen = look(by, name, item.attribute.as_slice());
+        let seen = look_at(spot, item.attribute.as_slice());
         places.push(place_of(alloc, &item.comparator, seen.read)?)?;
     }
     Ok(places)

@@ -6,7 +6,8 @@ ghost use Rattle.acap_search.specs.Rows as rule;
 ghost use Rattle.acap_search.specs.Shown as shown;
 ghost use Rattle.acap_search.specs.Sight as sight;
 
-use crate::looking::{is_nil, look};
+use crate::looking::{is_nil, look_at, read_at};
+use crate::spot::Spot;
 use crate::viewer::Viewer;
 use acap_entries::{
     Attribute, Cell, CellList, CellLists, Cells, Copying, Item, Items, Memory, Records, Table,
@@ -60,10 +61,10 @@ fn value_of(alloc: Global, value: Option<Lent<'_>>) -> Result<Cell, Memory>
 }
 
 // The list of an attribute in the record of the searched dataset, if there is one.
-fn acl_of<R: Records>(by: &Viewer<'_, R>, name: &[u8], attribute: &[u8]) -> Result<Cell, Memory>
-    ensures { IfOk result (λ cell. cell ≡ rule.list_cell (sight.own_acl (R.store by.now.records.now).records by.now.dataset.now name.now attribute.now)) }
+fn acl_of<R: Records>(spot: &Spot<'_, R>, attribute: &[u8]) -> Result<Cell, Memory>
+    ensures { IfOk result (λ cell. cell ≡ rule.list_cell (sight.own_acl (R.store spot.now.by.now.records.now).records spot.now.by.now.dataset.now spot.now.name.now attribute.now)) }
 {
-    match by.records.find(by.dataset.as_slice(), name) {
+    match spot.by.records.find(spot.by.dataset.as_slice(), spot.name) {
         Some(record) => match record.acls.find(attribute) {
             Some(list) => Ok(Cell::Multi(list.copy()?)),
             None => Ok(Cell::Nil),
@@ -74,196 +75,197 @@ fn acl_of<R: Records>(by: &Viewer<'_, R>, name: &[u8], attribute: &[u8]) -> Resu
 
 // The same where it is seen.
 fn seen_acl<R: Records>(
-    by: &Viewer<'_, R>,
-    name: &[u8],
+    spot: &Spot<'_, R>,
     attribute: &[u8],
     is_readable: bool,
 ) -> Result<Cell, Memory>
-    ensures { IfOk result (λ cell. cell ≡ rule.list_cell (if is_readable then sight.own_acl (R.store by.now.records.now).records by.now.dataset.now name.now attribute.now else None)) }
+    ensures { IfOk result (λ cell. cell ≡ rule.list_cell (if is_readable then sight.own_acl (R.store spot.now.by.now.records.now).records spot.now.by.now.dataset.now spot.now.name.now attribute.now else None)) }
 {
     if is_readable {
-        acl_of(by, name, attribute)
+        acl_of(spot, attribute)
     } else {
         Ok(Cell::Nil)
     }
 }
 
 // What is told of an attribute.
-fn datum<'a, R: Records>(
+fn datum<R: Records>(
     alloc: Global,
-    by: &Viewer<'a, R>,
-    name: &'a [u8],
+    spot: &Spot<'_, R>,
     attribute: &[u8],
     wanted: Metadata,
 ) -> Result<Cell, Memory>
-    ensures { IfOk result (λ cell. cell ≡ rule.datum (sight.answers_at (R.store by.now.records.now).records by.now.realm.now by.now.user.now by.now.dataset.now by.now.chain name.now) attribute.now wanted) }
+    ensures { IfOk result (λ cell. cell ≡ rule.datum (sight.answers_at (R.store spot.now.by.now.records.now).records spot.now.by.now.realm.now spot.now.by.now.user.now spot.now.by.now.dataset.now spot.now.by.now.chain spot.now.name.now) attribute.now wanted) }
 {
-    let seen = look(by, name, attribute);
     match wanted {
-        Metadata::Acl => seen_acl(by, name, attribute, seen.is_readable),
+        Metadata::Acl => seen_acl(spot, attribute, look_at(spot, attribute).is_readable),
         Metadata::Attribute => Ok(Cell::Single(Value::from_slice(alloc, attribute)?)),
-        Metadata::MyRights => Ok(Cell::Single(seen.rights.letters(alloc)?)),
-        Metadata::Size => sizes_of(alloc, seen.read),
-        Metadata::Value => value_of(alloc, seen.read),
+        Metadata::MyRights => Ok(Cell::Single(look_at(spot, attribute).rights.letters(alloc)?)),
+        Metadata::Size => sizes_of(alloc, read_at(spot, attribute)),
+        Metadata::Value => value_of(alloc, read_at(spot, attribute)),
     }
 }
 
 // What is told of an attribute for each metadata.
 #[tactic(auto, unfolding(crate::specs::Rows::data_of))]
-fn data_of<'a, R: Records>(
+fn data_of<R: Records>(
     alloc: Global,
-    by: &Viewer<'a, R>,
-    name: &'a [u8],
+    spot: &Spot<'_, R>,
     attribute: &[u8],
     wanted: &[Metadata],
 ) -> Result<CellList, Memory>
-    ensures { IfOk result (λ cells. cells ≡ rule.data_of (sight.answers_at (R.store by.now.records.now).records by.now.realm.now by.now.user.now by.now.dataset.now by.now.chain name.now) wanted.now attribute.now) }
+    ensures { IfOk result (λ cells. cells ≡ rule.data_of (sight.answers_at (R.store spot.now.by.now.records.now).records spot.now.by.now.realm.now spot.now.by.now.user.now spot.now.by.now.dataset.now spot.now.by.now.chain spot.now.name.now) wanted.now attribute.now) }
 {
-    let mut cells = CellList::new(alloc);
+    let mut cells = Vec::with_capacity(alloc, wanted.len())?;
     for metadata in wanted {
-        cells.push(datum(alloc, by, name, attribute, *metadata)?)?;
+        cells.push(datum(alloc, spot, attribute, *metadata)?)?;
     }
-    Ok(cells)
+    Ok(CellList::from_vec(cells))
 }
 
 // Adds an attribute that begins with some octets and has a value that is seen.
-fn add_star<'a, R: Records>(
+fn add_star<R: Records>(
     alloc: Global,
-    by: &Viewer<'a, R>,
-    name: &'a [u8],
+    spot: &Spot<'_, R>,
     front: &[u8],
     attribute: &[u8],
     stars: &mut Table<bool>,
 ) -> Result<(), Memory>
-    ensures { OnOk result (stars.new ≡ rule.put_star (sight.answers_at (R.store by.now.records.now).records by.now.realm.now by.now.user.now by.now.dataset.now by.now.chain name.now).read front.now attribute.now stars.old) }
+    ensures { OnOk result (stars.new ≡ rule.put_star (sight.answers_at (R.store spot.now.by.now.records.now).records spot.now.by.now.realm.now spot.now.by.now.user.now spot.now.by.now.dataset.now spot.now.by.now.chain spot.now.name.now).read front.now attribute.now stars.old) }
 {
-    if attribute.starts_with(front) && !is_nil(look(by, name, attribute).read) {
+    if attribute.starts_with(front) && !is_nil(read_at(spot, attribute)) {
         stars.set(Attribute::from_slice(alloc, attribute)?, true)?;
     }
     Ok(())
 }
 
 // Adds those of the attributes for which cells are kept.
-fn add_stars<'a, R: Records>(
+fn add_stars<R: Records>(
     alloc: Global,
-    by: &Viewer<'a, R>,
-    name: &'a [u8],
+    spot: &Spot<'_, R>,
     front: &[u8],
     cells: &Cells,
     stars: &mut Table<bool>,
 ) -> Result<(), Memory>
-    ensures { OnOk result (stars.new ≡ rule.stars_from (sight.answers_at (R.store by.now.records.now).records by.now.realm.now by.now.user.now by.now.dataset.now by.now.chain name.now).read front.now (map.keys cells.now) stars.old) }
+    ensures { OnOk result (stars.new ≡ rule.stars_from (sight.answers_at (R.store spot.now.by.now.records.now).records spot.now.by.now.realm.now spot.now.by.now.user.now spot.now.by.now.dataset.now spot.now.by.now.chain spot.now.name.now).read front.now (map.keys cells.now) stars.old) }
 {
     for (attribute, _) in cells.entries() {
-        add_star(alloc, by, name, front, attribute.as_slice(), stars)?;
+        add_star(alloc, spot, front, attribute.as_slice(), stars)?;
     }
     Ok(())
 }
 
 // Adds those of the attributes in the record of one dataset.
-fn add_record_stars<'a, R: Records>(
+fn add_record_stars<R: Records>(
     alloc: Global,
-    by: &Viewer<'a, R>,
-    name: &'a [u8],
+    spot: &Spot<'_, R>,
     front: &[u8],
     dataset: &[u8],
     stars: &mut Table<bool>,
 ) -> Result<(), Memory>
-    ensures { OnOk result (stars.new ≡ rule.stars_from (sight.answers_at (R.store by.now.records.now).records by.now.realm.now by.now.user.now by.now.dataset.now by.now.chain name.now).read front.now (rule.attributes_in (record_at (R.store by.now.records.now).records dataset.now name.now)) stars.old) }
+    ensures { OnOk result (stars.new ≡ rule.stars_from (sight.answers_at (R.store spot.now.by.now.records.now).records spot.now.by.now.realm.now spot.now.by.now.user.now spot.now.by.now.dataset.now spot.now.by.now.chain spot.now.name.now).read front.now (rule.attributes_in (record_at (R.store spot.now.by.now.records.now).records dataset.now spot.now.name.now)) stars.old) }
 {
-    match by.records.find(dataset, name) {
-        Some(record) => add_stars(alloc, by, name, front, &record.cells, stars),
+    match spot.by.records.find(dataset, spot.name) {
+        Some(record) => add_stars(alloc, spot, front, &record.cells, stars),
         None => Ok(()),
     }
 }
 
 // Adds those of the attributes in the records along the chain.
-fn add_chain_stars<'a, R: Records>(
+fn add_chain_stars<R: Records>(
     alloc: Global,
-    by: &Viewer<'a, R>,
-    name: &'a [u8],
+    spot: &Spot<'_, R>,
     front: &[u8],
     stars: &mut Table<bool>,
 ) -> Result<(), Memory>
-    ensures { OnOk result (stars.new ≡ rule.stars_from (sight.answers_at (R.store by.now.records.now).records by.now.realm.now by.now.user.now by.now.dataset.now by.now.chain name.now).read front.now (rule.attributes_on (R.store by.now.records.now).records name.now by.now.chain) stars.old) }
+    ensures { OnOk result (stars.new ≡ rule.stars_from (sight.answers_at (R.store spot.now.by.now.records.now).records spot.now.by.now.realm.now spot.now.by.now.user.now spot.now.by.now.dataset.now spot.now.by.now.chain spot.now.name.now).read front.now (rule.attributes_on (R.store spot.now.by.now.records.now).records spot.now.name.now spot.now.by.now.chain) stars.old) }
 {
-    for dataset in by.chain.names() {
-        add_record_stars(alloc, by, name, front, dataset, stars)?;
+    for dataset in spot.by.chain.names() {
+        add_record_stars(alloc, spot, front, dataset, stars)?;
     }
     Ok(())
 }
 
 // The attributes that begin with some octets and have a value that is seen.
 #[tactic(auto, unfolding(crate::specs::Rows::stars_of))]
-fn stars_of<'a, R: Records>(
+fn stars_of<R: Records>(
     alloc: Global,
-    by: &Viewer<'a, R>,
-    name: &'a [u8],
+    spot: &Spot<'_, R>,
     front: &[u8],
 ) -> Result<Table<bool>, Memory>
-    ensures { IfOk result (λ stars. stars ≡ rule.stars_of (sight.answers_at (R.store by.now.records.now).records by.now.realm.now by.now.user.now by.now.dataset.now by.now.chain name.now).read (rule.attributes_at (R.store by.now.records.now).records name.now by.now.chain) front.now) }
+    ensures { IfOk result (λ stars. stars ≡ rule.stars_of (sight.answers_at (R.store spot.now.by.now.records.now).records spot.now.by.now.realm.now spot.now.by.now.user.now spot.now.by.now.dataset.now spot.now.by.now.chain spot.now.name.now).read (rule.attributes_at (R.store spot.now.by.now.records.now).records spot.now.name.now spot.now.by.now.chain) front.now) }
 {
     let mut stars = Table::new(alloc);
-    add_star(alloc, by, name, front, b"entry", &mut stars)?;
-    add_star(alloc, by, name, front, b"modtime", &mut stars)?;
-    add_chain_stars(alloc, by, name, front, &mut stars)?;
+    add_star(alloc, spot, front, b"entry", &mut stars)?;
+    add_star(alloc, spot, front, b"modtime", &mut stars)?;
+    add_chain_stars(alloc, spot, front, &mut stars)?;
     Ok(stars)
 }
 
 // What is told of each of some attributes.
-fn lists_of<'a, R: Records>(
+fn lists_of<R: Records>(
     alloc: Global,
-    by: &Viewer<'a, R>,
-    name: &'a [u8],
+    spot: &Spot<'_, R>,
     stars: &Table<bool>,
     wanted: &[Metadata],
 ) -> Result<CellLists, Memory>
-    ensures { IfOk result (λ lists. lists ≡ each (rule.data_of (sight.answers_at (R.store by.now.records.now).records by.now.realm.now by.now.user.now by.now.dataset.now by.now.chain name.now) wanted.now) (map.keys stars.now)) }
+    ensures { IfOk result (λ lists. lists ≡ each (rule.data_of (sight.answers_at (R.store spot.now.by.now.records.now).records spot.now.by.now.realm.now spot.now.by.now.user.now spot.now.by.now.dataset.now spot.now.by.now.chain spot.now.name.now) wanted.now) (map.keys stars.now)) }
 {
     let mut lists = CellLists::new(alloc);
     for (attribute, _) in stars.entries() {
-        lists.push(data_of(alloc, by, name, attribute.as_slice(), wanted)?)?;
+        lists.push(data_of(alloc, spot, attribute.as_slice(), wanted)?)?;
     }
     Ok(lists)
 }
 
 // What is told of one attribute: one datum bare, several in one parenthesis.
 #[tactic(auto, unfolding(crate::specs::Rows::data_of))]
-fn named_item<'a, R: Records>(
+fn named_item<R: Records>(
     alloc: Global,
-    by: &Viewer<'a, R>,
-    name: &'a [u8],
+    spot: &Spot<'_, R>,
     attribute: &[u8],
     wanted: &[Metadata],
 ) -> Result<Item, Memory>
-    ensures { IfOk result (λ item. item ≡ rule.gathered (rule.data_of (sight.answers_at (R.store by.now.records.now).records by.now.realm.now by.now.user.now by.now.dataset.now by.now.chain name.now) wanted.now attribute.now)) }
+    ensures { IfOk result (λ item. item ≡ rule.gathered (rule.data_of (sight.answers_at (R.store spot.now.by.now.records.now).records spot.now.by.now.realm.now spot.now.by.now.user.now spot.now.by.now.dataset.now spot.now.by.now.chain spot.now.name.now) wanted.now attribute.now)) }
 {
     match wanted {
         [] => Ok(Item::Several(CellList::new(alloc))),
-        [metadata] => Ok(Item::One(datum(alloc, by, name, attribute, *metadata)?)),
-        [_, _, ..] => Ok(Item::Several(data_of(alloc, by, name, attribute, wanted)?)),
+        [metadata] => Ok(Item::One(datum(alloc, spot, attribute, *metadata)?)),
+        [_, _, ..] => Ok(Item::Several(data_of(alloc, spot, attribute, wanted)?)),
     }
 }
 
 // What one item of RETURN tells.
-fn item_of<'a, R: Records>(
+fn item_of<R: Records>(
     alloc: Global,
-    by: &Viewer<'a, R>,
-    name: &'a [u8],
+    spot: &Spot<'_, R>,
     asked: &ReturnItem,
 ) -> Result<Item, Memory>
-    ensures { IfOk result (λ item. item ≡ rule.item_of (sight.answers_at (R.store by.now.records.now).records by.now.realm.now by.now.user.now by.now.dataset.now by.now.chain name.now) (rule.stars_of (sight.answers_at (R.store by.now.records.now).records by.now.realm.now by.now.user.now by.now.dataset.now by.now.chain name.now).read (rule.attributes_at (R.store by.now.records.now).records name.now by.now.chain)) asked.now.name asked.now.metadata) }
+    ensures { IfOk result (λ item. item ≡ rule.item_of (sight.answers_at (R.store spot.now.by.now.records.now).records spot.now.by.now.realm.now spot.now.by.now.user.now spot.now.by.now.dataset.now spot.now.by.now.chain spot.now.name.now) (rule.stars_of (sight.answers_at (R.store spot.now.by.now.records.now).records spot.now.by.now.realm.now spot.now.by.now.user.now spot.now.by.now.dataset.now spot.now.by.now.chain spot.now.name.now).read (rule.attributes_at (R.store spot.now.by.now.records.now).records spot.now.name.now spot.now.by.now.chain)) asked.now.name asked.now.metadata) }
 {
     let wanted = asked.metadata.as_slice();
     match &asked.name {
-        ReturnName::Named(attribute) => {
-            named_item(alloc, by, name, attribute.as_slice(), wanted)
-        }
+        ReturnName::Named(attribute) => { named_item(alloc, spot, attribute.as_slice(), wanted) }
         ReturnName::Beginning(front) => {
-            let stars = stars_of(alloc, by, name, front.as_slice())?;
-            Ok(Item::PerAttribute(lists_of(alloc, by, name, &stars, wanted)?))
+            let stars = stars_of(alloc, spot, front.as_slice())?;
+            Ok(Item::PerAttribute(lists_of(alloc, spot, &stars, wanted)?))
         }
     }
+}
+
+/// What a RETURN tells of an entry that is looked at.
+pub(crate) fn items_at<R: Records>(
+    alloc: Global,
+    spot: &Spot<'_, R>,
+    returns: &[ReturnItem],
+) -> Result<Items, Memory>
+    ensures { IfOk result (λ items. items ≡ rule.items_of (sight.answers_at (R.store spot.now.by.now.records.now).records spot.now.by.now.realm.now spot.now.by.now.user.now spot.now.by.now.dataset.now spot.now.by.now.chain spot.now.name.now) (rule.stars_of (sight.answers_at (R.store spot.now.by.now.records.now).records spot.now.by.now.realm.now spot.now.by.now.user.now spot.now.by.now.dataset.now spot.now.by.now.chain spot.now.name.now).read (rule.attributes_at (R.store spot.now.by.now.records.now).records spot.now.name.now spot.now.by.now.chain)) returns.now) }
+{
+    let mut items = Vec::with_capacity(alloc, returns.len())?;
+    for asked in returns {
+        items.push(item_of(alloc, spot, asked)?)?;
+    }
+    Ok(Items::from_vec(items))
 }
 
 /// What a RETURN tells of an entry, by what the user sees of it (RFC 2244 section 6.4.1): an item for each of its items. Fails
@@ -276,9 +278,5 @@ pub fn items_of<'a, R: Records>(
 ) -> Result<Items, Memory>
     ensures { IfOk result (λ items. items ≡ rule.items_of (sight.answers_at (R.store by.now.records.now).records by.now.realm.now by.now.user.now by.now.dataset.now by.now.chain name.now) (rule.stars_of (sight.answers_at (R.store by.now.records.now).records by.now.realm.now by.now.user.now by.now.dataset.now by.now.chain name.now).read (rule.attributes_at (R.store by.now.records.now).records name.now by.now.chain)) returns.now) }
 {
-    let mut items = Items::new(alloc);
-    for asked in returns {
-        items.push(item_of(alloc, by, name, asked)?)?;
-    }
-    Ok(items)
+    items_at(alloc, &Spot::far(by, name), returns)
 }

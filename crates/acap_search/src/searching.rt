@@ -1,10 +1,13 @@
 //! Searches over datasets.
 ghost use Rattle.std.specs.Prelude.{◌≡◌, ◌↔◌, ◌++◌, IsTrue, IfOk, OnOk, Err, Some, None, false, drop, length, flat_map, ◌∷◌, []};
+ghost use Rattle.std.specs.List.{filter_map};
 ghost use Rattle.std.specs.Option.{option_map_or};
 ghost use Rattle.acap_entries.specs.Datasets.{dataset_exists};
 ghost use Rattle.acap_entries.specs.FullPaths.{full_path};
 ghost use Rattle.acap_entries.specs.Names.{slash};
+ghost use Rattle.acap_inherit.specs.EntryNames as names;
 ghost use Rattle.acap_search.specs.Fresh as rule;
+ghost use Rattle.acap_search.specs.Near as near;
 ghost use Rattle.acap_search.specs.Scopes as scopes;
 ghost use Rattle.acap_search.specs.Walks as walks;
 ghost use Rattle.acap_search.specs.declared.refusal.SearchRefusal.TheVariants as refusal;
@@ -12,16 +15,18 @@ ghost use Rattle.acap_search.specs.declared.refusal.SearchRefusal.TheVariants as
 use crate::hit::{Hit, Hits};
 use crate::near::Near;
 use crate::ordering::sort_hits;
+use crate::plain::plain_rights;
 use crate::query::Query;
 use crate::refusal::SearchRefusal;
-use crate::tuples::row_of;
+use crate::spot::Spot;
+use crate::tuples::hit_at;
 use crate::viewer::Viewer;
 use acap_entries::{
     Dataset, Memory, NameFault, Path, Record, Records, Tree, UserName, makes_dataset,
 };
 use acap_grammar::{Key, Node, Test};
-use acap_inherit::{Lineage, chain, names_on};
-use acap_rights::Realm;
+use acap_inherit::{chain, names_on};
+use acap_rights::{Realm, Rights};
 use std::alloc::Global;
 
 // Whose search it is, over which store, and what it looks for.
@@ -33,8 +38,8 @@ struct Search<'a> {
     query: &'a Query,
 }
 
-// Whether a key asks for positions.
-fn has_range(key: &Key) -> bool
+/// Whether a key asks for positions.
+pub(crate) fn has_range(key: &Key) -> bool
     ensures { result ≡ rule.has_range key.now }
 {
     match key.node() {
@@ -46,8 +51,8 @@ fn has_range(key: &Key) -> bool
     }
 }
 
-// Whether there are more matches than HARDLIMIT allows.
-fn is_over(most: Option<u32>, count: usize) -> bool
+/// Whether there are more matches than HARDLIMIT allows.
+pub(crate) fn is_over(most: Option<u32>, count: usize) -> bool
     ensures { result ≡ rule.is_over most count }
 {
     match most {
@@ -131,25 +136,55 @@ fn reached_by(
     }
 }
 
-// What the search makes of an entry, in a store that has it at hand.
-fn hit_at(
+// Adds what is found among the records of a dataset that inherits nothing and has no list for an attribute alone.
+fn add_own_hits<'a>(
     alloc: Global,
-    search: &Search<'_>,
-    near: &Near<'_>,
-    dataset: &Dataset,
-    chain: &Lineage<'_>,
-    name: &[u8],
-) -> Result<Option<Hit>, Memory>
-    ensures { IfOk result (λ hit. hit ≡ walks.hit_at near.now.records search.now.realm.now search.now.user.now search.now.query.now dataset.now chain.now name.now) }
+    by: &'a Viewer<'a, Tree>,
+    rights: Rights,
+    query: &Query,
+    hits: &mut Vec<Hit>,
+) -> Result<(), Memory>
+    requires { near.IsPlain by.now.records.now.store.records by.now.realm.now by.now.user.now by.now.dataset.now by.now.chain rights }
+    ensures { OnOk result (hits.new.items ≡ hits.old.items ++ filter_map (walks.hit_at by.now.records.now.store.records by.now.realm.now by.now.user.now query.now by.now.dataset.now by.now.chain) (names.names_on by.now.records.now.store.records by.now.chain)) }
 {
-    let by = Viewer {
-        records: near,
-        realm: search.realm,
-        user: search.user,
-        dataset,
-        chain: chain.again(),
-    };
-    row_of(alloc, &by, name, search.query, None)
+    for (path, entry) in by.records.entries_of(by.dataset.as_slice()) {
+        let spot = Spot {
+            by,
+            name: path.name.as_slice(),
+            entry: Some(entry),
+            rights,
+        };
+        if let Some(hit) = hit_at(alloc, &spot, query, None)? {
+            hits.push(hit)?;
+        }
+    }
+    Ok(())
+}
+
+/// Adds what is found at all names along a chain.
+pub(crate) fn add_far_hits(
+    alloc: Global,
+    by: &Viewer<'_, Tree>,
+    query: &Query,
+    hits: &mut Vec<Hit>,
+) -> Result<(), Memory>
+    ensures { OnOk result (hits.new.items ≡ hits.old.items ++ filter_map (walks.hit_at by.now.records.now.store.records by.now.realm.now by.now.user.now query.now by.now.dataset.now by.now.chain) (names.names_on by.now.records.now.store.records by.now.chain)) }
+{
+    let management = by.records.find(by.dataset.as_slice(), b"");
+    for name in names_on(by.records, &by.chain) {
+        let near = Near::new(by.records, by.dataset.as_slice(), name, management);
+        let nearer = Viewer {
+            records: &near,
+            realm: by.realm,
+            user: by.user,
+            dataset: by.dataset,
+            chain: by.chain.again(),
+        };
+        if let Some(hit) = hit_at(alloc, &Spot::far(&nearer, name), query, None)? {
+            hits.push(hit)?;
+        }
+    }
+    Ok(())
 }
 
 // Adds what is found in one dataset, whose chain is made once.
@@ -162,16 +197,17 @@ fn add_hits(
 ) -> Result<(), Memory>
     ensures { OnOk result (hits.new.items ≡ hits.old.items ++ walks.hits_in search.now.tree.now.store.records search.now.realm.now search.now.user.now search.now.query.now dataset.now) }
 {
-    let tree = search.tree;
-    let chain = chain(tree, dataset, search.query.no_inherit);
-    let management = tree.find(dataset.as_slice(), b"");
-    for name in names_on(tree, &chain) {
-        let near = Near::new(tree, dataset.as_slice(), name, management);
-        if let Some(hit) = hit_at(alloc, search, &near, dataset, &chain, name)? {
-            hits.push(hit)?;
-        }
+    let by = Viewer {
+        records: search.tree,
+        realm: search.realm,
+        user: search.user,
+        dataset,
+        chain: chain(search.tree, dataset, search.query.no_inherit),
+    };
+    match plain_rights(&by) {
+        Some(rights) => add_own_hits(alloc, &by, rights, search.query, hits),
+        None => add_far_hits(alloc, &by, search.query, hits),
     }
-    Ok(())
 }
 
 // Adds what is found in the dataset that an entry makes, where it is reached.

@@ -1,7 +1,7 @@
 //! Tests of the crate through its public calls.
 use crate::{
     Asked, Hits, Query, SearchRefusal, Viewer, cut_by, first_rows, fresh, items_of, look, matches,
-    row_of, sees,
+    row_of, sees, tell,
 };
 use acap_entries::{
     Acls, Attribute, Boxed, Cell, Cells, Change, Copying, Dataset, Fate, Item, Memory, Moment,
@@ -361,6 +361,47 @@ fn tells_so_many(rt: HostRuntime) {
 }
 
 // Whether the first of some hits equals the first of others.
+// Whether what is told is the rows of what is found.
+fn tells_found(alloc: Global, tree: &Tree, query: &Query) -> Result<bool, SearchRefusal> {
+    let hits = found(alloc, tree, query)?;
+    let count = hits.len();
+    let rows = first_rows(alloc, hits, count)?;
+    let realm = Realm::new(Vec::new(alloc));
+    let seeing = user(alloc)?;
+    let told = tell(alloc, tree, &realm, &seeing, query, None)?;
+    Ok(count > 0 && told.rows == rows && told.total.is_none())
+}
+
+fn tells_in_order(alloc: Global) -> Result<bool, SearchRefusal> {
+    let mut query = all(alloc)?;
+    query.returns = Some(returning(alloc)?);
+    let mut deeper = deep(alloc, 0)?;
+    deeper.returns = Some(returning(alloc)?);
+    let tree = nested(alloc)?;
+    let inheriting = over(alloc, b"/b/")?;
+    Ok(
+        tells_found(alloc, &tree, &query)?
+            && tells_found(alloc, &tree, &deeper)?
+            && tells_found(alloc, &inheriting, &query)?,
+    )
+}
+
+fn tells_one_of_four(alloc: Global) -> Result<bool, SearchRefusal> {
+    let tree = numbered(alloc)?;
+    let query = all(alloc)?;
+    let realm = Realm::new(Vec::new(alloc));
+    let seeing = user(alloc)?;
+    let limit = Limit { over: 2, most: 1 };
+    let told = tell(alloc, &tree, &realm, &seeing, &query, Some(limit))?;
+    Ok(told.total == Some(4) && told.rows.len() == 1)
+}
+
+#[test]
+fn tells(rt: HostRuntime) {
+    assert!(rt; tells_in_order(rt.alloc()) == Ok(true));
+    assert!(rt; tells_one_of_four(rt.alloc()) == Ok(true));
+}
+
 fn has_same_first(hits: &Hits, others: &Hits) -> bool {
     match (hits.as_slice().first(), others.as_slice().first()) {
         (Some(hit), Some(other)) => hit.equals(other) && hit.path() == other.path(),

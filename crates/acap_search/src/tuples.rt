@@ -1,18 +1,20 @@
 //! What a query makes of an entry.
-ghost use Rattle.std.specs.Prelude.{◌≡◌, ◌++◌, IfOk, []};
+ghost use Rattle.std.specs.Prelude.{◌≡◌, ◌++◌, ◌&&◌, IfOk, [], option_map};
 ghost use Rattle.std.specs.Option.{option_copied, option_map_or, unwrap_or};
+ghost use Rattle.acap_search.specs.Keys.{holds};
 ghost use Rattle.acap_search.specs.Places.{places_in};
 ghost use Rattle.acap_search.specs.Rows as row;
 ghost use Rattle.acap_search.specs.Sight as sight;
 ghost use Rattle.acap_search.specs.Tuples as rule;
 
 use crate::hit::Hit;
-use crate::looking::sees;
-use crate::matching::matches;
+use crate::looking::sees_at;
+use crate::matching::wants;
 use crate::query::Query;
 use crate::rank::Places;
 use crate::ranking::places_of;
-use crate::rows::items_of;
+use crate::rows::items_at;
+use crate::spot::Spot;
 use crate::viewer::Viewer;
 use acap_entries::{Copying, EntryName, Items, Memory, Octets, Path, Records, Row, Value};
 use acap_grammar::{Returns, SortItems};
@@ -37,57 +39,92 @@ fn name_told(
 }
 
 // Where an entry stands for a SORT.
-fn places_by<'a, R: Records>(
+fn places_by<R: Records>(
     alloc: Global,
-    by: &Viewer<'a, R>,
-    name: &'a [u8],
+    spot: &Spot<'_, R>,
     sort: Option<&SortItems>,
 ) -> Result<Places, Memory>
-    ensures { IfOk result (λ places. places ≡ places_in (sight.answers_at (R.store by.now.records.now).records by.now.realm.now by.now.user.now by.now.dataset.now by.now.chain name.now).read (unwrap_or (option_copied sort.entry) [])) }
+    ensures { IfOk result (λ places. places ≡ places_in (sight.answers_at (R.store spot.now.by.now.records.now).records spot.now.by.now.realm.now spot.now.by.now.user.now spot.now.by.now.dataset.now spot.now.by.now.chain spot.now.name.now).read (unwrap_or (option_copied sort.entry) [])) }
 {
     match sort {
-        Some(sort) => places_of(alloc, by, name, sort.as_slice()),
+        Some(sort) => places_of(alloc, spot, sort.as_slice()),
         None => Ok(Places::new(alloc)),
     }
 }
 
 // What a RETURN tells of an entry.
-fn items_by<'a, R: Records>(
+fn items_by<R: Records>(
     alloc: Global,
-    by: &Viewer<'a, R>,
-    name: &'a [u8],
+    spot: &Spot<'_, R>,
     returns: Option<&Returns>,
 ) -> Result<Items, Memory>
-    ensures { IfOk result (λ items. items ≡ option_map_or (row.items_of (sight.answers_at (R.store by.now.records.now).records by.now.realm.now by.now.user.now by.now.dataset.now by.now.chain name.now) (row.stars_of (sight.answers_at (R.store by.now.records.now).records by.now.realm.now by.now.user.now by.now.dataset.now by.now.chain name.now).read (row.attributes_at (R.store by.now.records.now).records name.now by.now.chain))) (option_copied returns.entry) []) }
+    ensures { IfOk result (λ items. items ≡ option_map_or (row.items_of (sight.answers_at (R.store spot.now.by.now.records.now).records spot.now.by.now.realm.now spot.now.by.now.user.now spot.now.by.now.dataset.now spot.now.by.now.chain spot.now.name.now) (row.stars_of (sight.answers_at (R.store spot.now.by.now.records.now).records spot.now.by.now.realm.now spot.now.by.now.user.now spot.now.by.now.dataset.now spot.now.by.now.chain spot.now.name.now).read (row.attributes_at (R.store spot.now.by.now.records.now).records spot.now.name.now spot.now.by.now.chain))) (option_copied returns.entry) []) }
 {
     match returns {
-        Some(returns) => items_of(alloc, by, name, returns.as_slice()),
+        Some(returns) => items_at(alloc, spot, returns.as_slice()),
         None => Ok(Items::new(alloc)),
     }
 }
 
-// Where an entry stands, and what is told of it.
-fn hit_of<'a, R: Records>(
-    alloc: Global,
-    by: &Viewer<'a, R>,
-    name: &'a [u8],
-    query: &Query,
-) -> Result<Hit, Memory>
-    ensures { IfOk result (λ hit. hit ≡ rule.match_of query.now (record { dataset = by.now.dataset.now; name = name.now }) (sight.answers_at (R.store by.now.records.now).records by.now.realm.now by.now.user.now by.now.dataset.now by.now.chain name.now) (row.stars_of (sight.answers_at (R.store by.now.records.now).records by.now.realm.now by.now.user.now by.now.dataset.now by.now.chain name.now).read (row.attributes_at (R.store by.now.records.now).records name.now by.now.chain))) }
+// What is told of an entry.
+fn told_of<R: Records>(alloc: Global, spot: &Spot<'_, R>, query: &Query) -> Result<Row, Memory>
+    ensures { IfOk result (λ told. told ≡ (rule.match_of query.now (record { dataset = spot.now.by.now.dataset.now; name = spot.now.name.now }) (sight.answers_at (R.store spot.now.by.now.records.now).records spot.now.by.now.realm.now spot.now.by.now.user.now spot.now.by.now.dataset.now spot.now.by.now.chain spot.now.name.now) (row.stars_of (sight.answers_at (R.store spot.now.by.now.records.now).records spot.now.by.now.realm.now spot.now.by.now.user.now spot.now.by.now.dataset.now spot.now.by.now.chain spot.now.name.now).read (row.attributes_at (R.store spot.now.by.now.records.now).records spot.now.name.now spot.now.by.now.chain))).row) }
 {
-    let dataset = by.dataset.copy()?;
-    let entry = EntryName::from_slice(alloc, name)?;
-    let places = places_by(alloc, by, name, query.sort.as_ref())?;
-    let told = name_told(alloc, query.depth, by.dataset.as_slice(), name)?;
-    let items = items_by(alloc, by, name, query.returns.as_ref())?;
+    let name = name_told(alloc, query.depth, spot.by.dataset.as_slice(), spot.name)?;
+    let items = items_by(alloc, spot, query.returns.as_ref())?;
+    Ok(Row { name, items })
+}
+
+// Where an entry stands, and what is told of it.
+fn hit_of<R: Records>(alloc: Global, spot: &Spot<'_, R>, query: &Query) -> Result<Hit, Memory>
+    ensures { IfOk result (λ hit. hit ≡ rule.match_of query.now (record { dataset = spot.now.by.now.dataset.now; name = spot.now.name.now }) (sight.answers_at (R.store spot.now.by.now.records.now).records spot.now.by.now.realm.now spot.now.by.now.user.now spot.now.by.now.dataset.now spot.now.by.now.chain spot.now.name.now) (row.stars_of (sight.answers_at (R.store spot.now.by.now.records.now).records spot.now.by.now.realm.now spot.now.by.now.user.now spot.now.by.now.dataset.now spot.now.by.now.chain spot.now.name.now).read (row.attributes_at (R.store spot.now.by.now.records.now).records spot.now.name.now spot.now.by.now.chain))) }
+{
+    let dataset = spot.by.dataset.copy()?;
+    let name = EntryName::from_slice(alloc, spot.name)?;
+    let places = places_by(alloc, spot, query.sort.as_ref())?;
+    let row = told_of(alloc, spot, query)?;
     Ok(Hit {
-        path: Path {
-            dataset,
-            name: entry,
-        },
+        path: Path { dataset, name },
         places,
-        row: Row { name: told, items },
+        row,
     })
+}
+
+// Whether the user sees an entry and the key wants it.
+fn is_found<R: Records>(spot: &Spot<'_, R>, query: &Query, place: Option<u32>) -> bool
+    ensures { result ≡ (sight.is_seen (sight.answers_at (R.store spot.now.by.now.records.now).records spot.now.by.now.realm.now spot.now.by.now.user.now spot.now.by.now.dataset.now spot.now.by.now.chain spot.now.name.now) && holds query.now.key place (sight.answers_at (R.store spot.now.by.now.records.now).records spot.now.by.now.realm.now spot.now.by.now.user.now spot.now.by.now.dataset.now spot.now.by.now.chain spot.now.name.now)) }
+{
+    sees_at(spot) && wants(spot, &query.key, place)
+}
+
+/// What a query makes of an entry that is looked at.
+pub(crate) fn hit_at<R: Records>(
+    alloc: Global,
+    spot: &Spot<'_, R>,
+    query: &Query,
+    place: Option<u32>,
+) -> Result<Option<Hit>, Memory>
+    ensures { IfOk result (λ hit. hit ≡ rule.seen_tuple query.now place (record { dataset = spot.now.by.now.dataset.now; name = spot.now.name.now }) (sight.answers_at (R.store spot.now.by.now.records.now).records spot.now.by.now.realm.now spot.now.by.now.user.now spot.now.by.now.dataset.now spot.now.by.now.chain spot.now.name.now) (row.stars_of (sight.answers_at (R.store spot.now.by.now.records.now).records spot.now.by.now.realm.now spot.now.by.now.user.now spot.now.by.now.dataset.now spot.now.by.now.chain spot.now.name.now).read (row.attributes_at (R.store spot.now.by.now.records.now).records spot.now.name.now spot.now.by.now.chain))) }
+{
+    if !is_found(spot, query, place) {
+        return Ok(None);
+    }
+    Ok(Some(hit_of(alloc, spot, query)?))
+}
+
+/// What is told of an entry that is looked at, where the query finds it.
+pub(crate) fn row_at<R: Records>(
+    alloc: Global,
+    spot: &Spot<'_, R>,
+    query: &Query,
+    place: Option<u32>,
+) -> Result<Option<Row>, Memory>
+    ensures { IfOk result (λ told. told ≡ option_map (λ hit. hit.row) (rule.seen_tuple query.now place (record { dataset = spot.now.by.now.dataset.now; name = spot.now.name.now }) (sight.answers_at (R.store spot.now.by.now.records.now).records spot.now.by.now.realm.now spot.now.by.now.user.now spot.now.by.now.dataset.now spot.now.by.now.chain spot.now.name.now) (row.stars_of (sight.answers_at (R.store spot.now.by.now.records.now).records spot.now.by.now.realm.now spot.now.by.now.user.now spot.now.by.now.dataset.now spot.now.by.now.chain spot.now.name.now).read (row.attributes_at (R.store spot.now.by.now.records.now).records spot.now.name.now spot.now.by.now.chain)))) }
+{
+    if !is_found(spot, query, place) {
+        return Ok(None);
+    }
+    Ok(Some(told_of(alloc, spot, query)?))
 }
 
 /// What a query makes of an entry: none where the user doesn't see it or the key doesn't want it, else where it stands and what
@@ -102,8 +139,5 @@ pub fn row_of<'a, R: Records>(
 ) -> Result<Option<Hit>, Memory>
     ensures { IfOk result (λ hit. hit ≡ rule.seen_tuple query.now place (record { dataset = by.now.dataset.now; name = name.now }) (sight.answers_at (R.store by.now.records.now).records by.now.realm.now by.now.user.now by.now.dataset.now by.now.chain name.now) (row.stars_of (sight.answers_at (R.store by.now.records.now).records by.now.realm.now by.now.user.now by.now.dataset.now by.now.chain name.now).read (row.attributes_at (R.store by.now.records.now).records name.now by.now.chain))) }
 {
-    if !sees(by, name) || !matches(by, name, &query.key, place) {
-        return Ok(None);
-    }
-    Ok(Some(hit_of(alloc, by, name, query)?))
+    hit_at(alloc, &Spot::far(by, name), query, place)
 }

@@ -1,0 +1,23 @@
+-- What a reply has of the matches, by what is told of them.
+use Rattle.std.proofs.Common.{◌≡◌, ℕ, ℤ, Option, Some, None, List, take, length, refl, sym, ◌∙◌, option_map, map as each}
+use Rattle.acap_entries.specs.declared.row.Row.{Row}
+use Rattle.acap_grammar.specs.declared.limit.Limit.{Limit}
+use Rattle.acap_grammar.specs.declared.return_item.ReturnItem.{ReturnItem}
+use Rattle.acap_machine.specs.Searching.{number_told, rows_told, rows_if, last_told, found_with, found_of}
+use Rattle.acap_search.specs.Cutting.{cut_of}
+use Rattle.acap_search.specs.Matches.{Match}
+use Rattle.acap_search.specs.declared.query.Query.{Query}
+
+rows_are : (returns : Option (List ReturnItem)) (matches : List Match) (most : ℕ) → rows_if returns (each (λ found. found.row) (take most matches)) ≡ rows_told returns matches most
+rows_are None matches most = refl
+rows_are (Some returns) matches most = refl
+
+pub found_is : (last : ℤ) (query : Query) (limit : Option Limit) (matches : List Match) (rows : List Row) (total : Option ℕ) → rows ≡ each (λ found. found.row) (take (cut_of limit (length matches)).told matches)
+    → total ≡ (cut_of limit (length matches)).total → found_with last query rows total ≡ found_of last query limit matches
+found_is last query limit matches rows total e t =
+    (λ i. found_with last query (e i) (t i))
+    ∙ (λ i. record {
+      rows = rows_are query.returns matches (cut_of limit (length matches)).told i;
+      last = last_told query.returns last;
+      total = option_map number_told (cut_of limit (length matches)).total;
+    })

@@ -1,0 +1,288 @@
+-- What is at hand of an entry gives the answers about it.
+use Rattle.std.proofs.Common.{◌≡◌, ℕ, Bool, true, false, cond, is_some, T, nat_eq, ◌&&◌, ◌||◌, codes, Option, Some, None, List, [], ◌∷◌, ◌++◌, ◌==◌, take, length, refl, sym, ◌∙◌, ap, subst, append-nil, arith, map as each}
+use Rattle.std.specs.FinMap as map
+use Rattle.std.specs.FinMap.{is_sorted, IsAntisymmetric, slice_cmp-IsAntisymmetric, nat_cmp-IsAntisymmetric}
+use Rattle.std.specs.FinMap.Entries.{below_all, find, same_entries}
+use Rattle.std.specs.List.{filter, filter_map, list_any, cons_option}
+use Rattle.std.specs.Option.{option_and_then, option_or, unwrap_or}
+use Rattle.std.specs.Ordering.{is_lt, is_eq, eq_by_cmp, ordering_then, ordering_reverse}
+use Rattle.std.specs.Cmp.{tied_itself, IsTotalOrder}
+use Rattle.std.specs.declared.cmp.Ordering.{Ordering}
+use Rattle.std.specs.declared.cmp.Ordering.TheVariants.{Less, Equal, Greater}
+use Rattle.std.specs.Cmp.Lexicographic.{nat_list_cmp_total, same_text, texts_ties}
+use Rattle.std.proofs.lemmas.Cmp.{on_total, then_total}
+use Rattle.acap_entries.specs.Orders.{octets_cmp, octets_eq}
+use Rattle.acap_entries.specs.Stamp.{stamp_of}
+use Rattle.acap_entries.specs.Store.{Stored, path_cmp}
+use Rattle.acap_entries.specs.declared.cell.Cell.{Cell}
+use Rattle.acap_entries.specs.declared.cell.Cell.TheVariants.{Nil, Single, Multi}
+use Rattle.acap_entries.specs.declared.path.Path.{Path}
+use Rattle.acap_entries.specs.declared.record.Record.{Record}
+use Rattle.acap_inherit.specs.EntryNames.{set_of, merged, names_in, names_on}
+use Rattle.acap_inherit.specs.Records.{record_at, cell_in, ends_inheritance}
+use Rattle.acap_inherit.specs.Resolving.{lying, by_cell, by_record, by_presence, greatest, until_end, entry_on, value_on, modtime_on, stamped, members_for, members_of, resolved}
+use Rattle.acap_rights.specs.Deciding.{Target, OfEntry, OfDataset, list_in, kept_list, stored_list, deciding_list, dataset_list_name, attribute_list_name, implicit_rights, rights_of}
+use Rattle.acap_rights.specs.Homes.{default_list}
+use Rattle.acap_rights.specs.Pairs.{rights_in}
+use Rattle.acap_rights.specs.Rights.{union}
+use Rattle.acap_rights.specs.declared.realm.Realm.{Realm}
+use Rattle.acap_rights.specs.declared.rights.Rights.{Rights}
+use Rattle.acap_search.specs.Near.{is_list_name, has_list_names, own_value, IsPlain, AreKept}
+use Rattle.acap_search.specs.Sight.{may_read, may_test, is_held, cell_at, own_acl, rights_on, answers_at}
+
+-- ---- the record
+
+one_of_one : (b : Bool) (dataset : List ℕ) → cond b (take 1 (dataset ∷ [])) (dataset ∷ []) ≡ dataset ∷ []
+one_of_one true dataset = refl
+one_of_one false dataset = refl
+
+either : {X : Type 0} (b : Bool) (x : X) → cond b x x ≡ x
+either true x = refl
+either false x = refl
+
+twice : (b : Bool) → (b && b) ≡ b
+twice true = refl
+twice false = refl
+
+second_none : (a b : Bool) → (a || b) ≡ false → b ≡ false
+second_none true b e = absurd (cc e)
+second_none false b e = e
+
+by_own_cell : (cell : Option Cell) (entry : Record) (dataset : List ℕ) → by_cell cell entry dataset None ≡ lying (unwrap_or cell Nil) dataset
+by_own_cell (Some cell) entry dataset = refl
+by_own_cell None entry dataset = elim (ends_inheritance entry) as (λ b. cond {A = Option (Cell × List ℕ)} b None None ≡ None) [ true ↦ refl | false ↦ refl ]
+
+-- what a record at hand has is what its attribute resolves to
+module _ (records : Stored) (dataset name : List ℕ) (entry : Record) (kept : record_at records dataset name ≡ Some entry) where
+  own_entry : (members : List (List ℕ)) → members ≡ dataset ∷ [] → entry_on records members name ≡ lying (cond entry.present (Single name) Nil) dataset
+  own_entry members e =
+      ap (λ members. entry_on records members name) e
+      ∙ (ap (λ o. by_presence o name dataset None) kept
+      ∙ (elim entry.present as (λ b. cond b (Some (Single name, dataset)) None ≡ lying (cond b (Single name) Nil) dataset) [ true ↦ refl | false ↦ refl ]))
+
+  own_moment : (members : List (List ℕ)) → members ≡ dataset ∷ [] → modtime_on records members name ≡ Some entry.modtime
+  own_moment members e =
+      ap (λ members. modtime_on records members name) e
+      ∙ (ap (λ o. greatest (each (λ entry. entry.modtime) (until_end (cons_option o [])))) kept
+      ∙ (elim (ends_inheritance entry) as (λ b. greatest (each (λ entry. entry.modtime) (entry ∷ cond b [] [])) ≡ Some entry.modtime) [ true ↦ refl | false ↦ refl ]))
+
+  own_cell : (members : List (List ℕ)) (attribute : List ℕ) → members ≡ dataset ∷ [] → value_on records members name attribute ≡ lying (unwrap_or (cell_in entry attribute) Nil) dataset
+  own_cell members attribute e =
+      ap (λ members. value_on records members name attribute) e
+      ∙ (ap (λ o. by_record o attribute dataset None) kept ∙ by_own_cell (cell_in entry attribute) entry dataset)
+
+  member : members_for (dataset ∷ []) name ≡ dataset ∷ []
+  member = one_of_one (length name == 0) dataset
+
+  members : (attribute : List ℕ) → members_of (dataset ∷ []) name attribute ≡ dataset ∷ []
+  members attribute = ap (λ all. cond (octets_eq attribute (codes "subdataset")) (dataset ∷ []) all) member ∙ either (octets_eq attribute (codes "subdataset")) (dataset ∷ [])
+
+  pub own_resolved : (attribute : List ℕ) → resolved records (dataset ∷ []) name attribute ≡ lying (own_value entry name attribute) dataset
+  unfolding resolved
+  own_resolved attribute =
+      let is_entry = octets_eq attribute (codes "entry") in
+      let is_moment = octets_eq attribute (codes "modtime") in
+      (λ i. cond is_entry (own_entry _ member i) (cond is_moment (stamped (dataset ∷ []) (own_moment _ member i)) (own_cell _ attribute (members attribute) i)))
+      ∙ elim is_entry as (λ a. cond a (lying (cond entry.present (Single name) Nil) dataset) (cond is_moment (lying (Single (stamp_of entry.modtime)) dataset) (lying (unwrap_or (cell_in entry attribute) Nil) dataset))
+      ≡ lying (cond a (cond entry.present (Single name) Nil) (cond is_moment (Single (stamp_of entry.modtime)) (unwrap_or (cell_in entry attribute) Nil))) dataset) [
+        | true ↦ refl
+        | false ↦ elim is_moment as (λ b. cond b (lying (Single (stamp_of entry.modtime)) dataset) (lying (unwrap_or (cell_in entry attribute) Nil) dataset) ≡ lying (cond b (Single (stamp_of entry.modtime)) (unwrap_or (cell_in entry attribute) Nil)) dataset)
+            [ true ↦ refl | false ↦ refl ]
+      ]
+
+-- ---- the rights
+
+names_begin : (attribute : List ℕ) → is_list_name (attribute_list_name attribute) ≡ true
+names_begin attribute = refl
+
+not_found : (attribute : List ℕ) (es : List (List ℕ × Cell)) → list_any (λ e. is_list_name e.0) es ≡ false → find octets_cmp (attribute_list_name attribute) es ≡ None
+not_found attribute [] h = refl
+not_found attribute (e ∷ es) h =
+    elim (eq_by_cmp octets_cmp (attribute_list_name attribute) e.0) as (λ b. eq_by_cmp octets_cmp (attribute_list_name attribute) e.0 ≡ b → cond b (Some e.1) (find octets_cmp (attribute_list_name attribute) es) ≡ None) [
+      | true ↦ λ t.
+          let same : attribute_list_name attribute ≡ e.0 = same_text (attribute_list_name attribute) e.0 (sym (texts_ties (attribute_list_name attribute) e.0 ∙ t)) in
+          let begins : is_list_name e.0 ≡ true = ap is_list_name (sym same) ∙ names_begin attribute in
+          let yes : true ≡ (is_list_name e.0 || list_any (λ e. is_list_name e.0) es) = ap (λ b. b || list_any (λ e. is_list_name e.0) es) (sym begins) in
+          absurd (cc (yes, h))
+      | false ↦ λ t. not_found attribute es (second_none _ _ h)
+    ] refl
+
+no_list : (attribute : List ℕ) (management : Option Record) → has_list_names management ≡ false → option_and_then list_in (option_and_then (λ entry. map.get entry.cells (attribute_list_name attribute)) management) ≡ None
+unfolding has_list_names
+no_list attribute None h = refl
+no_list attribute (Some entry) h = ap (option_and_then list_in) (map.get-entries entry.cells (attribute_list_name attribute) ∙ not_found attribute (map.entries entry.cells) h)
+
+module _ (records : Stored) (realm : Realm) (user dataset name : List ℕ) (entry : Record) (kept : record_at records dataset name ≡ Some entry) (shared : has_list_names (record_at records dataset []) ≡ false) where
+  same_list : (attribute : List ℕ) → map.get entry.acls attribute ≡ None → stored_list records (OfEntry dataset attribute name) ≡ stored_list records (OfDataset dataset)
+  same_list attribute none =
+      let own : option_and_then (λ entry. map.get entry.acls attribute) (record_at records dataset name) ≡ None = ap (option_and_then (λ entry. map.get entry.acls attribute)) kept ∙ none in
+      let shared : kept_list records dataset (attribute_list_name attribute) ≡ None = no_list attribute (record_at records dataset []) shared in
+      λ i. option_or (own i) (option_or (shared i) (kept_list records dataset dataset_list_name))
+
+  pub same_rights : (attribute : List ℕ) → map.get entry.acls attribute ≡ None → rights_on records realm user attribute name dataset ≡ rights_of records realm user (OfDataset dataset)
+  unfolding rights_of deciding_list
+  same_rights attribute none = ap (λ l. union (rights_in realm user (unwrap_or l (default_list dataset))) (implicit_rights realm user dataset)) (same_list attribute none)
+
+pub none_of : {X : Type 0} (o : Option X) (b : Bool) → b ≡ is_some o → b ≡ false → o ≡ None
+none_of None b e h = refl
+none_of (Some x) b e h = absurd (cc (e, h))
+
+-- ---- the answers
+
+cell_lying : (may : Rights → Bool) (rights_in : List ℕ → Rights) (dataset : List ℕ) (value : Cell) → cell_at may (rights_in dataset) rights_in (lying value dataset) ≡ cond (may (rights_in dataset)) value Nil
+cell_lying may rights_in dataset Nil = sym (either (may (rights_in dataset)) Nil)
+cell_lying may rights_in dataset (Single value) = ap (λ b. cond b (Single value) Nil) (twice (may (rights_in dataset)))
+cell_lying may rights_in dataset (Multi values) = ap (λ b. cond b (Multi values) Nil) (twice (may (rights_in dataset)))
+
+held_lying : (may : Rights → Bool) (rights_in : List ℕ → Rights) (dataset : List ℕ) (value : Cell) → is_held may (rights_in dataset) rights_in (lying value dataset) ≡ may (rights_in dataset)
+held_lying may rights_in dataset Nil = refl
+held_lying may rights_in dataset (Single value) = twice (may (rights_in dataset))
+held_lying may rights_in dataset (Multi values) = twice (may (rights_in dataset))
+
+module _ (records : Stored) (realm : Realm) (user dataset : List ℕ) (chain : List (List ℕ)) (name : List ℕ) (entry : Record) (rights : Rights) (plain : IsPlain records realm user dataset chain rights) (kept : record_at records dataset name ≡ Some entry) (attribute : List ℕ) (none : map.get entry.acls attribute ≡ None) where
+  abbrev value : Cell
+  value = own_value entry name attribute
+
+  abbrev rights_in' : List ℕ → Rights
+  rights_in' = rights_on records realm user attribute name
+
+  pub near_rights : rights_on records realm user attribute name dataset ≡ rights
+  near_rights = same_rights records realm user dataset name entry kept plain.2 attribute none ∙ sym plain.1
+
+  found : resolved records chain name attribute ≡ lying value dataset
+  found = ap (λ chain. resolved records chain name attribute) plain.0 ∙ own_resolved records dataset name entry kept attribute
+
+  near_cell : (may : Rights → Bool) → cell_at may (rights_in' dataset) rights_in' (resolved records chain name attribute) ≡ cond (may rights) value Nil
+  near_cell may =
+      ap (cell_at may (rights_in' dataset) rights_in') found ∙ (cell_lying may rights_in' dataset value ∙ ap (λ rights. cond (may rights) value Nil) near_rights)
+
+  pub near_read : (answers_at records realm user dataset chain name).read attribute ≡ cond rights.r value Nil
+  near_read = near_cell may_read
+
+  pub near_test : (answers_at records realm user dataset chain name).test attribute ≡ cond (rights.x || rights.r) value Nil
+  near_test = near_cell may_test
+
+  pub near_acl : (answers_at records realm user dataset chain name).acl attribute ≡ cond rights.r (own_acl records dataset name attribute) None
+  near_acl =
+      ap (λ b. cond b (own_acl records dataset name attribute) None)
+      (ap (is_held may_read (rights_in' dataset) rights_in') found ∙ (held_lying may_read rights_in' dataset value ∙ ap (λ rights. rights.r) near_rights))
+
+-- ---- the records of a dataset
+
+abbrev pub lies_in : List ℕ → Path × Record → Bool
+lies_in dataset e = octets_eq dataset e.0.dataset
+
+first : (a b : Bool) → T (a && b) → T a
+first true b p = tt
+first false b p = p
+
+second : (a b : Bool) → T (a && b) → T b
+second true b p = p
+second false b p = absurd p
+
+both : (a b : Bool) → T a → T b → T (a && b)
+both true b p q = q
+both false b p q = p
+
+-- in one dataset paths are in the order of their names
+by_name : (dataset : List ℕ) (p q : Path) → dataset ≡ p.dataset → dataset ≡ q.dataset → path_cmp p q ≡ octets_cmp p.name q.name
+by_name dataset p q e f =
+    (λ i. ordering_then (octets_cmp (sym e i) (sym f i)) (octets_cmp p.name q.name))
+    ∙ ap (λ r. ordering_then r (octets_cmp p.name q.name)) (tied_itself nat_list_cmp_total dataset)
+
+-- names, each as an entry of a set, and those of some records
+abbrev marks : List (List ℕ) → List (List ℕ × Unit {0})
+marks names = each (λ name. (name, tt)) names
+
+abbrev marked : List (Path × Record) → List (List ℕ × Unit {0})
+marked es = marks (each (λ e. e.0.name) es)
+
+below_marked : (dataset : List ℕ) (p : Path) → dataset ≡ p.dataset → (es : List (Path × Record)) → T (below_all path_cmp p es) → T (below_all octets_cmp p.name (marked (filter (lies_in dataset) es)))
+below_marked dataset p h [] b = tt
+below_marked dataset p h (e ∷ es) b =
+    elim (lies_in dataset e) as (λ t. lies_in dataset e ≡ t → T (below_all octets_cmp p.name (marked (cond t (e ∷ filter (lies_in dataset) es) (filter (lies_in dataset) es))))) [
+      | true ↦ λ t. both _ _ (subst T (ap is_lt (by_name dataset p e.0 h (same_text dataset e.0.dataset (sym t)))) (first _ _ b)) (below_marked dataset p h es (second _ _ b))
+      | false ↦ λ t. below_marked dataset p h es (second _ _ b)
+    ] refl
+
+marked_rise : (dataset : List ℕ) (es : List (Path × Record)) → T (is_sorted path_cmp es) → T (is_sorted octets_cmp (marked (filter (lies_in dataset) es)))
+marked_rise dataset [] s = tt
+marked_rise dataset (e ∷ es) s =
+    elim (lies_in dataset e) as (λ t. lies_in dataset e ≡ t → T (is_sorted octets_cmp (marked (cond t (e ∷ filter (lies_in dataset) es) (filter (lies_in dataset) es))))) [
+      | true ↦ λ t. both _ _ (below_marked dataset e.0 (same_text dataset e.0.dataset (sym t)) es (first _ _ s)) (marked_rise dataset es (second _ _ s))
+      | false ↦ λ t. marked_rise dataset es (second _ _ s)
+    ] refl
+
+listed : (names : List (List ℕ)) → each (λ (e : List ℕ × Unit {0}). e.0) (marks names) ≡ names
+listed [] = refl
+listed (name ∷ names) = ap (λ rest. name ∷ rest) (listed names)
+
+octets_same : IsAntisymmetric octets_cmp
+octets_same = slice_cmp-IsAntisymmetric nat_cmp-IsAntisymmetric
+
+-- names that rise are the keys of their set
+keys_of : (names : List (List ℕ)) → T (is_sorted octets_cmp (marks names)) → map.keys (set_of names) ≡ names
+keys_of names s =
+    ap (each (λ e. e.0)) (same_entries octets_cmp nat_list_cmp_total octets_same (map.entries (set_of names)) (marks names) (map.entries_sorted (set_of names)) s
+    (λ q. sym (map.get-entries (set_of names) q) ∙ map.get-from_entries nat_list_cmp_total (marks names) q))
+    ∙ listed names
+
+-- the names along a chain that is one dataset alone
+pub names_alone : (records : Stored) (dataset : List ℕ) (chain : List (List ℕ)) → chain ≡ dataset ∷ [] → names_on records chain ≡ each (λ e. e.0.name) (filter (lies_in dataset) (map.entries records))
+unfolding merged
+names_alone records dataset chain e =
+    ap (names_on records) e
+    ∙ (ap (λ names. map.keys (set_of names)) (append-nil (names_in records dataset))
+    ∙ keys_of (names_in records dataset) (marked_rise dataset (map.entries records) (map.entries_sorted records)))
+
+-- each of some entries is found among all
+abbrev AreFound : List (Path × Record) → List (Path × Record) → Type 0
+AreFound [] all = Unit {0}
+AreFound (e ∷ es) all = (find path_cmp e.0 all ≡ Some e.1) × AreFound es all
+
+path_total : IsTotalOrder path_cmp
+path_total = then_total (on_total (λ (p : Path). p.dataset) nat_list_cmp_total) (on_total (λ (p : Path). p.name) nat_list_cmp_total)
+
+above : (o : Ordering) → T (is_lt o) → is_eq (ordering_reverse o) ≡ false
+above Less p = refl
+above Equal p = absurd p
+above Greater p = absurd p
+
+found_behind : (e : Path × Record) (es all : List (Path × Record)) → T (below_all path_cmp e.0 es) → AreFound es all → AreFound es (e ∷ all)
+found_behind e [] all b h = tt
+found_behind e (x ∷ es) all b h =
+    let apart : eq_by_cmp path_cmp x.0 e.0 ≡ false = ap is_eq (path_total.antisymm x.0 e.0) ∙ above _ (first _ _ b) in
+    (ap (λ b. cond b (Some e.1) (find path_cmp x.0 all)) apart ∙ h.0, found_behind e es all (second _ _ b) h.1)
+
+all_found : (es : List (Path × Record)) → T (is_sorted path_cmp es) → AreFound es es
+all_found [] s = tt
+all_found (e ∷ es) s =
+    (ap (λ o. cond (is_eq o) (Some e.1) (find path_cmp e.0 es)) (tied_itself path_total e.0), found_behind e es es (first _ _ s) (all_found es (second _ _ s)))
+
+kept_of_found : (records : Stored) (dataset : List ℕ) (es : List (Path × Record)) → AreFound es (map.entries records) → AreKept records dataset (filter (lies_in dataset) es)
+kept_of_found records dataset [] h = tt
+kept_of_found records dataset (e ∷ es) h =
+    elim (lies_in dataset e) as (λ t. lies_in dataset e ≡ t → AreKept records dataset (cond t (e ∷ filter (lies_in dataset) es) (filter (lies_in dataset) es))) [
+      | true ↦ λ t.
+          let place : ◌≡◌ {A = Path} (record { dataset = dataset; name = e.0.name }) e.0 = λ i. record { dataset = same_text dataset e.0.dataset (sym t) i; name = e.0.name } in
+          (ap (map.get records) place ∙ (map.get-entries records e.0 ∙ h.0), kept_of_found records dataset es h.1)
+      | false ↦ λ t. kept_of_found records dataset es h.1
+    ] refl
+
+pub all_kept : (records : Stored) (dataset : List ℕ) (es : List (Path × Record)) → es ≡ filter (lies_in dataset) (map.entries records) → AreKept records dataset es
+all_kept records dataset es e = subst (AreKept records dataset) (sym e) (kept_of_found records dataset (map.entries records) (all_found (map.entries records) (map.entries_sorted records)))
+
+-- a chain of one name
+pub alone_of : {A : Type 0} (name : A → List ℕ) (first : A) (others all : List A) (chain : List (List ℕ)) (dataset : List ℕ) → each name all ≡ chain → all ≡ first ∷ others → length others ≡ 0 → name first ≡ dataset → chain ≡ dataset ∷ []
+alone_of name first [] all chain dataset n e l d = sym n ∙ (ap (each name) e ∙ ap (λ x. x ∷ []) d)
+alone_of name first (other ∷ others) all chain dataset n e l d = absurd (omega (arith, l))
+
+-- what is found at the names of all records, when all have been walked through
+pub own_walked : {Y : Type 0} (f : List ℕ → Option Y) (found before : List Y) (left all : List (Path × Record)) (names : List (List ℕ)) → left ≡ []
+    → found ++ filter_map f (each (λ e. e.0.name) left) ≡ before ++ filter_map f (each (λ e. e.0.name) all) → names ≡ each (λ e. e.0.name) all → found ≡ before ++ filter_map f names
+own_walked f found before left all names e h n =
+    sym (append-nil found)
+    ∙ (ap (λ es. found ++ filter_map f (each (λ e. e.0.name) es)) (sym e) ∙ (h ∙ ap (λ names. before ++ filter_map f names) (sym n)))
+
+pub moved : {A B : Type 0} {x y : A} {n m : B} (P : A → B → Type 0) → x ≡ y → n ≡ m → P x n → P y m
+moved {y = y} {n = n} P e f h = subst (P y) f (subst (λ x. P x n) e h)

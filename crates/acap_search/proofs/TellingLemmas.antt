@@ -1,0 +1,160 @@
+-- What is told of matches that are found in order.
+use Rattle.std.proofs.Common.{◌≡◌, ℕ, zero, suc, Bool, true, false, cond, ◌&&◌, Option, Some, None, List, [], ◌∷◌, ◌++◌, take, length, refl, sym, ◌∙◌, ap, subst, append-nil, flat_map, option_map, map as each}
+use Rattle.std.specs.List.{filter_map, cons_option}
+use Rattle.std.specs.Option.{option_map_or, unwrap_or}
+use Rattle.std.specs.Cmp.{tied_itself}
+use Rattle.std.specs.Cmp.Lexicographic.{nat_list_cmp_total, slice_cmp}
+use Rattle.std.specs.Ordering.{is_lt, nat_cmp, ordering_then, ordering_reverse}
+use Rattle.std.specs.declared.cmp.Ordering.{Ordering}
+use Rattle.std.specs.declared.cmp.Ordering.TheVariants.{Less, Equal, Greater}
+use Rattle.std.proofs.lemmas.Cmp.{nat_cmp_total}
+use Rattle.std.proofs.lemmas.List.{length-map}
+use Rattle.acap_entries.specs.FullPaths.{full_path_cmp}
+use Rattle.acap_entries.specs.Orders.{octets_cmp}
+use Rattle.acap_entries.specs.Store.{Stored}
+use Rattle.acap_entries.specs.declared.path.Path.{Path}
+use Rattle.acap_entries.specs.declared.record.Record.{Record}
+use Rattle.acap_entries.specs.declared.row.Row.{Row}
+use Rattle.acap_grammar.specs.declared.limit.Limit.{Limit}
+use Rattle.acap_inherit.specs.Chains.{chain_of}
+use Rattle.acap_inherit.specs.EntryNames.{names_on}
+use Rattle.acap_inherit.specs.Laws.{NamesLaw}
+use Rattle.acap_inherit.specs.Merging.{is_below, is_rising}
+use Rattle.acap_rights.specs.declared.realm.Realm.{Realm}
+use Rattle.acap_search.specs.Cutting.{cut_of}
+use Rattle.acap_search.specs.Fresh.{sight_of, fresh_of}
+use Rattle.acap_search.specs.Keys.{holds}
+use Rattle.acap_search.specs.Matches.{Match, match_cmp, match_lt, sorted_by, sorted_from}
+use Rattle.acap_search.specs.Places.{places_cmp, places_in}
+use Rattle.acap_search.specs.Rows.{Names, stars_of, attributes_at}
+use Rattle.acap_search.specs.Scopes.{scope_of, beneath}
+use Rattle.acap_search.specs.Sight.{Answers, answers_at, is_seen}
+use Rattle.acap_search.specs.Tuples.{match_of}
+use Rattle.acap_search.specs.Walks.{hit_at, hits_in, hits_over}
+use Rattle.acap_search.specs.declared.query.Query.{Query}
+use Rattle.acap_search.proofs.OrderLemmas.{match_weak}
+use Rattle.acap_search.proofs.SortLemmas.{Above, Rises, same_sorted, sorted_rises, sorted_ties}
+use Rattle.acap_search.proofs.WalkLemmas.{fresh_is}
+
+-- ---- rows
+
+abbrev pub row_in : Match → Row
+row_in m = m.row
+
+pub rows_made : {X : Type 0} (f : X → Option Match) (xs : List X) → filter_map (λ x. option_map row_in (f x)) xs ≡ each row_in (filter_map f xs)
+rows_made f [] = refl
+rows_made f (x ∷ xs) =
+    elim (f x) as (λ o. cons_option (option_map row_in o) (filter_map (λ x. option_map row_in (f x)) xs) ≡ each row_in (cons_option o (filter_map f xs)))
+    [ Some m ↦ ap (λ rest. m.row ∷ rest) (rows_made f xs) | None ↦ rows_made f xs ]
+
+-- what is told of all records, when all have been walked through
+pub own_told : (f : List ℕ → Option Match) (told before : List Row) (left all : List (Path × Record)) (names : List (List ℕ)) → left ≡ []
+    → told ++ filter_map (λ name. option_map row_in (f name)) (each (λ e. e.0.name) left) ≡ before ++ filter_map (λ name. option_map row_in (f name)) (each (λ e. e.0.name) all)
+    → names ≡ each (λ e. e.0.name) all → told ≡ before ++ each row_in (filter_map f names)
+own_told f told before left all names e h n =
+    sym (append-nil told)
+    ∙ (ap (λ es. told ++ filter_map (λ name. option_map row_in (f name)) (each (λ e. e.0.name) es)) (sym e)
+    ∙ (h ∙ (ap (λ names. before ++ filter_map (λ name. option_map row_in (f name)) names) (sym n) ∙ ap (λ rows. before ++ rows) (rows_made f names))))
+
+taken : {X Y : Type 0} (f : X → Y) (n : ℕ) (xs : List X) → take n (each f xs) ≡ each f (take n xs)
+taken f zero xs = refl
+taken f (suc n) [] = refl
+taken f (suc n) (x ∷ xs) = ap (λ rest. f x ∷ rest) (taken f n xs)
+
+-- what is told of matches, where LIMIT keeps some back
+module _ (limit : Option Limit) (rows : List Row) (matches : List Match) (e : rows ≡ each row_in matches) where
+  count : length rows ≡ length matches
+  count = ap length e ∙ length-map matches row_in
+
+  pub cut_told : take (cut_of limit (length rows)).told rows ≡ each row_in (take (cut_of limit (length matches)).told matches)
+  cut_told = (λ i. take (cut_of limit (count i)).told (e i)) ∙ taken row_in (cut_of limit (length matches)).told matches
+
+  pub cut_total : (cut_of limit (length rows)).total ≡ (cut_of limit (length matches)).total
+  cut_total = ap (λ n. (cut_of limit n).total) count
+
+-- ---- order
+
+same_front : (front a b : List ℕ) → octets_cmp (front ++ a) (front ++ b) ≡ octets_cmp a b
+same_front [] a b = refl
+same_front (x ∷ front) a b = ap (λ r. ordering_then r (octets_cmp (front ++ a) (front ++ b))) (tied_itself nat_cmp_total x) ∙ same_front front a b
+
+not_below : (r : Ordering) → is_lt r ≡ true → is_lt (ordering_reverse r) ≡ false
+not_below Less e = refl
+not_below Equal e = absurd (cc (e))
+not_below Greater e = absurd (cc (e))
+
+first_of : (a b : Bool) → (a && b) ≡ true → a ≡ true
+first_of true b e = refl
+first_of false b e = e
+
+second_of : (a b : Bool) → (a && b) ≡ true → b ≡ true
+second_of true b e = e
+second_of false true e = refl
+second_of false false e = e
+
+module _ (dataset : List ℕ) (f : List ℕ → Option Match) where
+  -- a match at a name of the dataset, with no places
+  abbrev IsAt : List ℕ → Match → Type 0
+  IsAt name m = (m.path ≡ record { dataset = dataset; name = name }) × (m.places ≡ [])
+
+  abbrev AreAt : List ℕ → Option Match → Type 0
+  AreAt name None = Unit {0}
+  AreAt name (Some m) = IsAt name m
+
+  behind : (n o : List ℕ) (a b : Match) → IsAt n a → IsAt o b → is_lt (octets_cmp n o) ≡ true → match_lt b a ≡ false
+  behind n o a b p q e =
+      (λ i. is_lt (ordering_then (places_cmp (q.1 i) (p.1 i)) (full_path_cmp (q.0 i) (p.0 i))))
+      ∙ (ap is_lt (same_front dataset o n ∙ nat_list_cmp_total.antisymm o n) ∙ not_below (octets_cmp n o) e)
+
+  module _ (own : (name : List ℕ) → AreAt name (f name)) where
+    above : (n : List ℕ) (a : Match) → IsAt n a → (names : List (List ℕ)) → is_below n names ≡ true → Above match_lt match_weak a (filter_map f names)
+    above n a p [] e = tt
+    above n a p (o ∷ names) e =
+        elim (f o) as (λ m. AreAt o m → Above match_lt match_weak a (cons_option m (filter_map f names))) [
+          | Some b ↦ λ q. (behind n o a b p q (first_of _ _ e), above n a p names (second_of _ _ e))
+          | None ↦ λ q. above n a p names (second_of _ _ e)
+        ] (own o)
+
+    rises : (names : List (List ℕ)) → is_rising names ≡ true → Rises match_lt match_weak (filter_map f names)
+    rises [] e = tt
+    rises (n ∷ names) e =
+        elim (f n) as (λ m. AreAt n m → Rises match_lt match_weak (cons_option m (filter_map f names))) [
+          | Some a ↦ λ p. (above n a p names (first_of _ _ e), rises names (second_of _ _ e))
+          | None ↦ λ p. rises names (second_of _ _ e)
+        ] (own n)
+
+-- what is in order stays so
+in_order : (ms : List Match) → Rises match_lt match_weak ms → sorted_by match_lt ms ≡ ms
+unfolding sorted_by
+in_order ms r = sym (same_sorted match_lt match_weak ms (sorted_from match_lt ms) r (sorted_rises match_lt match_weak ms) (λ z. sym (sorted_ties match_lt match_weak z ms)))
+
+module _ (records : Stored) (realm : Realm) (user : List ℕ) (query : Query) (depth : query.depth ≡ None) (sort : query.sort ≡ None) (law : NamesLaw) where
+  abbrev chain : List (List ℕ)
+  chain = chain_of records query.dataset query.no_inherit
+
+  abbrev found_at : List ℕ → Option Match
+  found_at = hit_at records realm user query query.dataset chain
+
+  made_at : (seen wanted : Bool) (name : List ℕ) (m : Match) → IsAt query.dataset found_at name m → AreAt query.dataset found_at name (cond seen (cond wanted (Some m) None) None)
+  made_at true true name m p = p
+  made_at true false name m p = tt
+  made_at false wanted name m p = tt
+
+  all_at : (name : List ℕ) → AreAt query.dataset found_at name (found_at name)
+  all_at name = made_at _ _ name _ (refl, ap (λ sort. places_in (answers_at records realm user query.dataset chain name).read (unwrap_or sort [])) sort)
+
+  alone : hits_over records realm user query ≡ hits_in records realm user query query.dataset
+  alone =
+      ap (λ depth. flat_map (hits_in records realm user query) (query.dataset ∷ option_map_or (beneath records query.dataset) depth [])) depth
+      ∙ append-nil (hits_in records realm user query query.dataset)
+
+  found_rise : Rises match_lt match_weak (hits_in records realm user query query.dataset)
+  unfolding hits_in
+  found_rise = rises query.dataset found_at all_at (names_on records chain) (law.rising records chain)
+
+  -- without DEPTH and SORT the matches of the dataset come in order
+  pub plain_is : hits_in records realm user query query.dataset ≡ fresh_of (sight_of records realm user (scope_of query)) query
+  plain_is = sym (in_order _ found_rise) ∙ (ap (sorted_by match_lt) (sym alone) ∙ fresh_is records realm user query)
+
+  pub plain_count : (rows : List Row) → rows ≡ each row_in (hits_in records realm user query query.dataset) → length rows ≡ length (hits_over records realm user query)
+  plain_count rows e = ap length e ∙ (length-map (hits_in records realm user query query.dataset) row_in ∙ ap length (sym alone))
