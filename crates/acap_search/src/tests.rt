@@ -360,7 +360,6 @@ fn tells_so_many(rt: HostRuntime) {
     assert!(rt; cuts(rt.alloc()) == Ok(true));
 }
 
-// Whether the first of some hits equals the first of others.
 // Whether what is told is the rows of what is found.
 fn tells_found(alloc: Global, tree: &Tree, query: &Query) -> Result<bool, SearchRefusal> {
     let hits = found(alloc, tree, query)?;
@@ -372,6 +371,7 @@ fn tells_found(alloc: Global, tree: &Tree, query: &Query) -> Result<bool, Search
     Ok(count > 0 && told.rows == rows && told.total.is_none())
 }
 
+// With DEPTH and without, and where a dataset inherits.
 fn tells_in_order(alloc: Global) -> Result<bool, SearchRefusal> {
     let mut query = all(alloc)?;
     query.returns = Some(returning(alloc)?);
@@ -386,6 +386,7 @@ fn tells_in_order(alloc: Global) -> Result<bool, SearchRefusal> {
     )
 }
 
+// LIMIT lets one of four through.
 fn tells_one_of_four(alloc: Global) -> Result<bool, SearchRefusal> {
     let tree = numbered(alloc)?;
     let query = all(alloc)?;
@@ -402,6 +403,7 @@ fn tells(rt: HostRuntime) {
     assert!(rt; tells_one_of_four(rt.alloc()) == Ok(true));
 }
 
+// Whether the first of some hits equals the first of others.
 fn has_same_first(hits: &Hits, others: &Hits) -> bool {
     match (hits.as_slice().first(), others.as_slice().first()) {
         (Some(hit), Some(other)) => hit.equals(other) && hit.path() == other.path(),
