@@ -1,13 +1,12 @@
 -- A session between a reader and a writer is a run of a world.
-use Rattle.std.proofs.Common.{◌≡◌, ℕ, ◌+◌, ◌≤◌, min, Bool, true, false, List, [], ◌∷◌, ◌++◌, length, take, Some, refl, sym, ap, subst, ◌∙◌, arith}
-use Rattle.std.specs.Prelude.{◌-◌, codes, map, flat_map}
+use Rattle.std.proofs.Common.{◌≡◌, ℕ, Bool, true, false, List, [], ◌∷◌, ◌++◌, take, Some, refl, sym, ap, ◌∙◌, arith}
+use Rattle.std.specs.Prelude.{codes, map, flat_map}
 use Rattle.std.proofs.lemmas.List.{take_all}
-use Rattle.acap_lexer.specs.Holding.{held_limit}
-use Rattle.acap_session.specs.PipeSteps.{PipeRuns, world_of_one, step_of, steps_fed, steps_of}
+use Rattle.acap_session.specs.PipeSteps.{PipeRuns, world_of_one, step_of, steps_fed}
 use Rattle.acap_session.specs.Piping.{Fed, AreAnswered, MayTake, always, entered, fed, fed_all, hears, turns, without_administrators}
 use Rattle.acap_session.specs.Session.{is_closed, session_next}
 use Rattle.acap_session.specs.Talking.{Talking}
-use Rattle.acap_session.specs.Turning.{Scene, scene, turn_of}
+use Rattle.acap_session.specs.Turning.{Scene, turn_of}
 use Rattle.acap_session.specs.World.{World, Step, Open, Piece, Turn, did, new_world, room_of, run}
 use Rattle.acap_session.specs.declared.stage.Stage.{Stage}
 use Rattle.acap_session.specs.declared.stage.Stage.TheVariants as stage

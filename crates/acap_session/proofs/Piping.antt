@@ -7,7 +7,7 @@ use Rattle.std.proofs.lemmas.List.{append-nil, take-append-drop}
 use Rattle.acap_lexer.specs.Holding.{Held, held_limit}
 use Rattle.acap_login.specs.Login.{User}
 use Rattle.acap_machine.specs.Machine.{Machine, new_machine}
-use Rattle.acap_session.specs.Piping.{Fed, fed, fed_all, turns, hears, joined, always, begins, entered, IsQuiet, AreAnswered, IsWritten, HasRead, HasEnded, IsSettled, IsFed, HasTurned, HasRoom, MayTake, Goes, SoFar, IsSoFar, without_administrators}
+use Rattle.acap_session.specs.Piping.{Fed, fed, fed_all, turns, hears, joined, always, begins, entered, IsQuiet, AreAnswered, IsWritten, HasRead, HasEnded, IsSettled, IsFed, IsOut, HasAnswered, HasTurned, HasRoom, MayTake, Goes, SoFar, IsSoFar, without_administrators}
 use Rattle.acap_machine.specs.Runs.{outcome_of, machine_after}
 use Rattle.acap_session.specs.Hearing.{opening}
 use Rattle.acap_session.specs.Saying.{added}
@@ -167,6 +167,80 @@ answered_pre users xs (x ∷ a) s h =
     let same = sym (fed_pre users xs x s) in
     (h.0, subst (IsQuiet users) same h.1, subst (AreAnswered users a) same (answered_pre users xs a (fed users x s) h.2))
 
+-- a turn, and turns, behind what was said
+turn_behind : (users : List User) (o : Occasion) (xs : List ℕ) (old new : Scene) (came : Turn) → IsTurn users o old came new → IsTurn users o (prefixed xs old) came (prefixed xs new)
+turn_behind users o xs old new came k = record { refused = k.refused; is = ap (pre xs) k.is ∙ sym (turn_pre users xs o k.refused old) }
+
+settled_behind : (users : List User) (xs : List ℕ) (old new : Scene) → IsSettled users old new → IsSettled users (prefixed xs old) (prefixed xs new)
+settled_behind users xs old new k = record { refused = k.refused; is = ap (prefixed xs) k.is ∙ sym (turns_pre users xs k.refused old); quiet = k.quiet; room = k.room }
+
+-- ---- what is written, and what waits
+
+pub appends_then : (a b c : Option (List ℕ)) (x y : List ℕ) → Appends a b x → Appends b c y → Appends a c (x ++ y)
+appends_then None b c x y p q = tt
+appends_then (Some u) None c x y p q = absurd p
+appends_then (Some u) (Some v) None x y p q = absurd q
+appends_then (Some u) (Some v) (Some w) x y p q = q ∙ ap (λ (t : List ℕ). t ++ y) p ∙ append_assoc u x y
+
+appends_none : (w : Option (List ℕ)) → Appends w w []
+appends_none None = tt
+appends_none (Some u) = sym (append-nil u)
+
+pub out_none : (w : Option (List ℕ)) (waits : List ℕ) (Holds : List ℕ → Type 0) → Holds waits → IsOut w w waits Holds
+out_none w waits Holds h = record { front = []; sent = appends_none w; is = h }
+
+-- all that waited is written
+pub out_all : (old new : Option (List ℕ)) (said waits : List ℕ) → Appends old new said → waits ≡ [] → IsOut old new waits (λ xs. xs ≡ said)
+out_all old new said waits a e = record { front = said; sent = a; is = ap (λ (ys : List ℕ). said ++ ys) e ∙ append-nil said }
+
+out_then : (a b c : Option (List ℕ)) (mid waits : List ℕ) (P S Q : List ℕ → Type 0) → IsOut a b mid P → IsOut b c waits S → ((front said : List ℕ) → P (front ++ mid) → S said → Q (front ++ said)) → IsOut a c waits Q
+out_then a b c mid waits P S Q p s k = record {
+  front = p.front ++ s.front;
+  sent = appends_then a b c p.front s.front p.sent s.sent;
+  is = subst Q (sym (append_assoc p.front s.front waits)) (k p.front (s.front ++ waits) p.is s.is);
+}
+
+-- some turns were made, and what they said is written or waits
+abbrev pub TurnsOut : List User → Scene → Option (List ℕ) → Option (List ℕ) → Scene → Type 0
+TurnsOut users s old new mid = IsOut old new mid.out (λ said. SomeTurns users s (scene mid.machine mid.talk said))
+
+pub turned_out : (users : List User) (s mid new : Scene) (came : Turn) (a b c : Option (List ℕ)) (waits : List ℕ) → TurnsOut users s a b mid → IsTurn users always mid came new → IsOut b c waits (λ said. said ≡ new.out) → TurnsOut users s a c (scene new.machine new.talk waits)
+turned_out users s mid new came a b c waits p k e =
+    out_then a b c new.out waits (λ said. SomeTurns users s (scene new.machine new.talk said)) (λ said. said ≡ new.out) (λ said. SomeTurns users s (scene new.machine new.talk said))
+    (record { front = p.front; sent = p.sent; is = turn_more users s (prefixed p.front mid) (prefixed p.front new) came p.is (turn_behind users always p.front mid new came k) })
+    e
+    (λ front said q same. subst (λ ys. SomeTurns users s (scene new.machine new.talk (front ++ ys))) (sym same) q)
+
+abbrev pub SettledOut : List User → Scene → Option (List ℕ) → Option (List ℕ) → Scene → Type 0
+SettledOut users s old new mid = IsOut old new mid.out (λ said. IsSettled users s (scene mid.machine mid.talk said))
+
+pub settled_out : (users : List User) (s mid new : Scene) (a b : Option (List ℕ)) → TurnsOut users s a b mid → Goes mid.talk → IsTurn users always mid turn.More new → SettledOut users s a b new
+settled_out users s mid new a b p g k =
+    record { front = p.front; sent = p.sent; is = settled_more users s (prefixed p.front mid) (prefixed p.front new) p.is g (turn_behind users always p.front mid new turn.More k) }
+
+pub closed_out : (users : List User) (s mid new : Scene) (a b : Option (List ℕ)) → TurnsOut users s a b mid → IsTurn users always mid turn.Closed new → SettledOut users s a b new
+closed_out users s mid new a b p k =
+    record { front = p.front; sent = p.sent; is = settled_closed users s (prefixed p.front mid) (prefixed p.front new) p.is (turn_behind users always p.front mid new turn.Closed k) }
+
+-- parts of a piece were heard, and what was said to them is written or waits
+abbrev pub PartsOut : List User → List ℕ → List ℕ → Scene → Option (List ℕ) → Option (List ℕ) → Scene → Type 0
+PartsOut users piece rest s old new mid = IsOut old new mid.out (λ said. IsPartly users piece rest s (scene mid.machine mid.talk said))
+
+pub parts_out : (users : List User) (piece rest back : List ℕ) (n : ℕ) (s mid new : Scene) (a b c : Option (List ℕ)) → PartsOut users piece rest s a b mid → MayTake (take n rest) mid.talk → back ≡ drop n rest → SettledOut users (pushed rest n mid) b c new → PartsOut users piece back s a c new
+parts_out users piece rest back n s mid new a b c p f e k =
+    out_then a b c mid.out new.out (λ said. IsPartly users piece rest s (scene mid.machine mid.talk said)) (λ said. IsSettled users (pushed rest n mid) (scene new.machine new.talk said)) (λ said. IsPartly users piece back s (scene new.machine new.talk said)) p k
+    (λ front said q settled. partly_more users piece rest back n s (prefixed front mid) (scene new.machine new.talk (front ++ said)) q f e (settled_behind users front (pushed rest n mid) (scene new.machine new.talk said) settled))
+
+abbrev pub FedOut : List User → List ℕ → Scene → Option (List ℕ) → Option (List ℕ) → Scene → Type 0
+FedOut users piece s old new mid = IsOut old new mid.out (λ said. IsFed users piece s (scene mid.machine mid.talk said))
+
+pub fed_out : (users : List User) (piece rest : List ℕ) (s new : Scene) (a b : Option (List ℕ)) → PartsOut users piece rest s a b new → (is_closed new.talk.stage ≡ false → rest ≡ []) → FedOut users piece s a b new
+fed_out users piece rest s new a b p all = record { front = p.front; sent = p.sent; is = fed_whole users piece rest s (prefixed p.front new) p.is all }
+
+-- and then all of it is written
+pub answered_out : (users : List User) (piece : List ℕ) (m : Machine) (t : Talking) (new : Scene) (a b c : Option (List ℕ)) → FedOut users piece (scene m t []) a b new → Appends b c new.out → HasAnswered users piece a c m t new.machine new.talk
+answered_out users piece m t new a b c p s = record { said = p.front ++ new.out; heard = p.is; sent = appends_then a b c p.front new.out p.sent s }
+
 -- ---- pieces behind pieces
 
 all_append : (users : List User) (a b : List Fed) (s : Scene) → fed_all users (a ++ b) s ≡ fed_all users b (fed_all users a s)
@@ -182,12 +256,6 @@ joined_append [] b = refl
 joined_append (x ∷ a) b = ap (λ ys. x.0 ++ ys) (joined_append a b) ∙ sym (append_assoc x.0 (joined a) (joined b))
 
 -- ---- what was written so far
-
-pub appends_then : (a b c : Option (List ℕ)) (x y : List ℕ) → Appends a b x → Appends b c y → Appends a c (x ++ y)
-appends_then None b c x y p q = tt
-appends_then (Some u) None c x y p q = absurd p
-appends_then (Some u) (Some v) None x y p q = absurd q
-appends_then (Some u) (Some v) (Some w) x y p q = q ∙ ap (λ (t : List ℕ). t ++ y) p ∙ append_assoc u x y
 
 -- a piece is heard
 pub record IsHeard (user : List ℕ) (pieces : List Fed) (piece : List ℕ) (m : Machine) (t : Talking) (written : List ℕ) : Type 0 where

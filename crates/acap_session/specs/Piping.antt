@@ -129,6 +129,12 @@ pub record IsFed (users : List User) (piece : List ℕ) (old new : Scene) : Type
   pub room : HasRoom new.talk
   pub all : is_closed new.talk.stage ≡ false → rest ≡ []
 
+-- What is said is written or waits to be. This holds of all of it, of which so much waits, where a front is written by now.
+pub record IsOut (old new : Option (List ℕ)) (waits : List ℕ) (Holds : List ℕ → Type 0) : Type 0 where
+  pub front : List ℕ
+  pub sent : Appends old new front
+  pub is : Holds (front ++ waits)
+
 -- one turn was made, and the session goes on
 pub record HasTurned (users : List User) (old new : Scene) : Type 0 where
   pub came : Turn

@@ -3,7 +3,7 @@
 ghost use Rattle.std.specs.Prelude.{◌≡◌, [], false, IfErr, OnOk};
 ghost use Rattle.std.specs.Io.KnownBytes.{Appends};
 ghost use Rattle.acap_session.specs.Piping as piping;
-ghost use Rattle.acap_session.specs.Piping.{Goes, HasAnswered, HasRoom, HasTurned, IsFed, IsLater, IsSettled, Pipes, Serves};
+ghost use Rattle.acap_session.specs.Piping.{Goes, HasAnswered, HasRoom, HasTurned, IsFed, IsLater, IsOut, IsSettled, Pipes, Serves};
 ghost use Rattle.acap_session.specs.Session.{is_closed};
 ghost use Rattle.acap_session.specs.declared.pipe_fault.PipeFault.TheVariants as faults;
 ghost use Rattle.acap_session.specs.Turning.{scene};
@@ -23,6 +23,12 @@ use std::io::{Read, Write};
 /// After so many reads a session ends as if the reader had failed.
 const READS: u32 = 1_000_000_000;
 
+/// So many octets are asked for at a time.
+const PIECE: usize = 65_536;
+
+/// As soon as so many octets wait, they are written, so that what waits grows by one answer at most.
+const MANY: usize = 65_536;
+
 // The one seat of a session that has a machine of its own, whose clock always shows the start of 1970.
 fn always() -> Occasion
     ensures { result ≡ piping.always }
@@ -41,46 +47,6 @@ fn without_administrators(alloc: Global) -> Realm
     Realm::new(Vec::new(alloc))
 }
 
-// Makes all turns that can be made, and adds what they say.
-fn settle(
-    session: &mut Session,
-    state: &mut State,
-    users: &Users,
-    out: &mut Vec<u8>,
-) -> Result<(), Memory>
-    requires { Goes session.old }
-    ensures { OnOk result (IsSettled users.now (scene state.old.machine session.old out.old.items) (scene state.new.machine session.new out.new.items)) }
-{
-    loop {
-        match turn(session, state, users, always(), out)? {
-            Turn::Said => {}
-            Turn::More => return Ok(()),
-            Turn::Closed => return Ok(()),
-        }
-    }
-}
-
-// Gives a session a piece, and makes all turns that can be made. What comes behind a close isn't heard.
-fn feed(
-    session: &mut Session,
-    state: &mut State,
-    users: &Users,
-    piece: &[u8],
-    out: &mut Vec<u8>,
-) -> Result<(), Memory>
-    requires { HasRoom session.old }
-    ensures { OnOk result (IsFed users.now piece.now (scene state.old.machine session.old out.old.items) (scene state.new.machine session.new out.new.items)) }
-{
-    let mut rest = piece;
-    'parts: while !rest.is_empty() && !session.is_closed() {
-        let taken = session.push(rest)?;
-        let (_, behind) = rest.split_at(taken);
-        rest = behind;
-        settle(session, state, users, out)?;
-    }
-    Ok(())
-}
-
 // Writes all that is to be written, so that whoever waits for it has it.
 fn send<W: Write>(writer: &mut W, out: &mut Vec<u8>) -> Result<(), PipeFault>
     ensures sent { OnOk result (Appends (W.contents writer.old) (W.contents writer.new) out.old.items) }
@@ -94,6 +60,61 @@ fn send<W: Write>(writer: &mut W, out: &mut Vec<u8>) -> Result<(), PipeFault>
         return Err(PipeFault::Write);
     };
     out.clear();
+    Ok(())
+}
+
+// Writes what waits, where it is much.
+fn ease<W: Write>(writer: &mut W, out: &mut Vec<u8>) -> Result<(), PipeFault>
+    ensures said { OnOk result (IsOut (W.contents writer.old) (W.contents writer.new) out.new.items (λ said. said ≡ out.old.items)) }
+    ensures fault { IfErr result (λ fault. fault ≡ faults.Write) }
+{
+    if out.len() < MANY {
+        return Ok(());
+    }
+    send(writer, out)
+}
+
+// Makes all turns that can be made. What they say waits, and is written as soon as it is much.
+fn settle<W: Write>(
+    session: &mut Session,
+    state: &mut State,
+    users: &Users,
+    writer: &mut W,
+    out: &mut Vec<u8>,
+) -> Result<(), PipeFault>
+    requires { Goes session.old }
+    ensures ok { OnOk result (IsOut (W.contents writer.old) (W.contents writer.new) out.new.items (λ said. IsSettled users.now (scene state.old.machine session.old out.old.items) (scene state.new.machine session.new said))) }
+    ensures fault { IfErr result IsLater }
+{
+    'turns: loop {
+        match turn(session, state, users, always(), out)? {
+            Turn::Said => ease(writer, out)?,
+            Turn::More => return Ok(()),
+            Turn::Closed => return Ok(()),
+        }
+    }
+}
+
+// Gives a session a piece, and makes all turns that can be made. What comes behind a close isn't heard.
+fn feed<W: Write>(
+    session: &mut Session,
+    state: &mut State,
+    users: &Users,
+    piece: &[u8],
+    writer: &mut W,
+    out: &mut Vec<u8>,
+) -> Result<(), PipeFault>
+    requires { HasRoom session.old }
+    ensures ok { OnOk result (IsOut (W.contents writer.old) (W.contents writer.new) out.new.items (λ said. IsFed users.now piece.now (scene state.old.machine session.old out.old.items) (scene state.new.machine session.new said))) }
+    ensures fault { IfErr result IsLater }
+{
+    let mut rest = piece;
+    'parts: while !rest.is_empty() && !session.is_closed() {
+        let taken = session.push(rest)?;
+        let (_, behind) = rest.split_at(taken);
+        rest = behind;
+        settle(session, state, users, writer, out)?;
+    }
     Ok(())
 }
 
@@ -128,10 +149,14 @@ fn answer<W: Write>(
     ensures empty { OnOk result (out.new.items ≡ []) }
     ensures fault { IfErr result IsLater }
 {
-    let fed = feed(session, state, users, piece, out);
-    send(writer, out)?;
-    fed?;
-    Ok(())
+    match feed(session, state, users, piece, writer, out) {
+        Ok(()) => send(writer, out),
+        Err(PipeFault::Write) => Err(PipeFault::Write),
+        Err(fault) => {
+            send(writer, out)?;
+            Err(fault)
+        }
+    }
 }
 
 // Reads piece by piece, and writes what is said to each before the next is read.
@@ -149,7 +174,7 @@ fn serve<R: Read, W: Write>(
     requires nobody { users.now ≡ [] }
     ensures { Serves (R.remaining reader.old) (R.remaining reader.new) (W.contents writer.old) (W.contents writer.new) state.old.machine session.old result }
 {
-    let mut buffer = [0u8; 4096];
+    let mut buffer = [0u8; PIECE];
     'reads: for _ in 0..READS {
         let Ok(count) = reader.read(&mut buffer) else {
             return Err(PipeFault::Read);
