@@ -1,5 +1,5 @@
 -- What stands twice, sought from the last entry on.
-use Rattle.std.proofs.Common.{◌≡◌, Bool, true, false, cond, ◌||◌, List, [], ◌∷◌, ◌++◌, Option, Some, None, refl, sym, ap, ◌∙◌, Bor}
+use Rattle.std.proofs.Common.{◌≡◌, ◌<◌, Bool, true, false, cond, ◌||◌, List, [], ◌∷◌, ◌++◌, length, Option, Some, None, refl, sym, ap, ◌∙◌, arith, Bor}
 use Rattle.std.specs.Prelude.{is_some}
 use Rattle.std.specs.Option.{option_copied}
 use Rattle.std.specs.List.{list_any}
@@ -85,3 +85,9 @@ seen_before seen others e h =
 pub copied_some : {A : Type 0} (o : Option (Bor A)) → is_some (option_copied o) ≡ is_some o
 copied_some None = refl
 copied_some (Some x) = refl
+
+-- no two of fewer than two
+pub of_few : (entries : List StoreEntry) → length entries < 2 → has_twice entries ≡ false
+of_few [] few = refl
+of_few (e ∷ []) few = refl
+of_few (e ∷ x ∷ entries) few = absurd (omega (arith, few))

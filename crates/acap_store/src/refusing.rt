@@ -16,6 +16,9 @@ use std::alloc::Global;
 fn has_twice(alloc: Global, entries: &[StoreEntry]) -> Result<bool, Memory>
     ensures { IfOk result (λ found. found ≡ rule.has_twice entries.now) }
 {
+    if entries.len() < 2 {
+        return Ok(false);
+    }
     let mut seen = Writes::new(alloc);
     let mut left = entries;
     while let Some((entry, others)) = left.split_last() {
