@@ -32,14 +32,7 @@ fn entry_object(path: &Path) -> Object<'_>
     }
 }
 
-// Whether rights suffice for an entry.
-fn suffices_for_entry(exists: bool, rights: Rights) -> bool
-    ensures { result ≡ rule.suffices_for_entry exists rights }
-{
-    rights.r && (exists || rights.w || rights.i)
-}
-
-// Whether the user may change the entry at a path, or make it.
+// Whether the user may change the entry at a path, or make it. Whoever may make it isn't asked whether it exists.
 fn may_touch(by: &Asker<'_>, path: &Path) -> bool
     ensures { result ≡ rule.may_touch by.now.tree.now.store.records by.now.realm.now by.now.user.now path.now }
 {
@@ -47,7 +40,7 @@ fn may_touch(by: &Asker<'_>, path: &Path) -> bool
         return true;
     }
     let rights = rights_of(by.tree, by.realm, by.user, &entry_object(path));
-    suffices_for_entry(exists_at(by.tree, path), rights)
+    rights.r && (rights.w || rights.i || exists_at(by.tree, path))
 }
 
 // The object whose list an item is, if it is one.
