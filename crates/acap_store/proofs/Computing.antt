@@ -23,15 +23,18 @@ use Rattle.acap_entries.specs.declared.deletion.Deletion.{Deletion}
 use Rattle.acap_entries.specs.declared.record.Record.{Record}
 use Rattle.acap_rights.specs.Keeping.{target_of_list}
 use Rattle.acap_rights.specs.Pairs.{pair_of, is_identifier}
+use Rattle.acap_rights.specs.declared.rights.Rights.{Rights}
 use Rattle.acap_store.specs.Deleting.{names_deleted, ascending, set_of, with_names, is_told, deleted_in, Names}
 use Rattle.acap_store.specs.Examples.{ItemExamples, MeaningExamples, PermissionExamples, LimitExamples, WritingExamples, TellingLaw}
 use Rattle.acap_store.specs.Invalid.{is_invalid, invalid}
 use Rattle.acap_store.specs.Limits.{is_full_after}
 use Rattle.acap_store.specs.Meaning.{meaning}
+use Rattle.acap_store.specs.Permission.{denied_in}
+use Rattle.acap_store.specs.Refusing.{no_exist, modified}
 use Rattle.acap_store.proofs.DatasetLemmas.{and_false, and_true, or_false}
 
 pub item_examples : (records : Stored) → ItemExamples records
-unfolding is_invalid target_of_list pair_of is_identifier is_dataset_argument components is_component is_utf8 chars encode_utf8
+unfolding invalid is_invalid target_of_list pair_of is_identifier is_dataset_argument components is_component is_utf8 chars encode_utf8
 item_examples records = record {
   ordinary = refl;
   told_by_the_server = refl;
@@ -44,6 +47,10 @@ item_examples records = record {
   base = refl;
   beside = λ item. refl;
   above = λ items e same. rw same (ap not (and_false _));
+  alike = λ items e same none. rw (same, none) refl;
+  makes_none = λ none. rw none refl;
+  makes_one = λ found some. rw some refl;
+  second_item = refl;
 }
 
 pub meaning_examples : (records : Stored) → MeaningExamples records
@@ -55,13 +62,14 @@ meaning_examples records = record {
   taken_off = refl;
   dropped = refl;
   dropped_of_entry = refl;
+  entries = λ modifiers items. refl;
   whole = refl;
   stored = refl;
   no_rights = refl;
 }
 
 pub permission_examples : PermissionExamples
-unfolding target_of_list
+unfolding target_of_list denied_in
 permission_examples = record {
   there = refl;
   not_there = refl;
@@ -73,10 +81,17 @@ permission_examples = record {
   on_attribute = refl;
   on_entry = refl;
   on_management = refl;
+  first_entry = λ records realm e f r denied. rw denied refl;
+  second_entry = λ records realm e f r free denied. rw (free, denied) refl;
+  no_entry = λ records realm absent r. rw (absent, r) refl;
+  management = λ records realm w. rw w refl;
+  nothing_there = λ records realm exists r none i. rw (exists, r, none, i) refl;
+  value_there = λ records realm found exists r w some i. rw (exists, r, w, some, i) refl;
+  no_a = λ records realm exists r rights. rw (exists, r, rights) refl;
 }
 
 pub limit_examples : LimitExamples
-unfolding is_full_after
+unfolding is_full_after no_exist modified
 limit_examples = record {
   twice = refl;
   once = refl;
@@ -88,6 +103,14 @@ limit_examples = record {
   records_65536 = λ records w e. rw e refl;
   records_65537 = λ records w e. rw e refl;
   clock_end = λ s written now e. refl;
+  not_asked = λ records e no. rw no refl;
+  not_created = λ records e f no yes absent. rw (no, yes, absent) refl;
+  not_changed = λ records e since asked absent. rw (asked, absent) refl;
+  changed = λ records e f no asked exists late. rw (no, asked, exists, late) refl;
+  second_large = refl;
+  second_crowded = λ written v w both a b. rw (both, a, b) refl;
+  crowded = λ records written c. rw c refl;
+  full = λ records written c f. rw (c, f) refl;
   long_name = refl;
 }
 
@@ -99,10 +122,15 @@ writing_examples = record {
   deletes = λ old moment. refl;
   removes = λ old moment. refl;
   default = λ moment. refl;
+  keeps = λ old moment. refl;
+  keeps_step = λ records p old moment e. rw e refl;
+  list_of_entry = λ old moment. refl;
   values = λ cells. refl;
   lists = λ acls. refl;
   base = λ cells. refl;
   no_base = λ cells. refl;
+  other_value = λ cells. refl;
+  there = λ records dataset own e. rw e refl;
   missing = rw (get-empty {X = Record} path_cmp (record { dataset = 47 ∷ []; name = 97 ∷ [] }), get-empty {X = Record} path_cmp (record { dataset = 47 ∷ 97 ∷ 47 ∷ []; name = 98 ∷ [] })) refl;
 }
 
@@ -173,13 +201,20 @@ unfolding ascending
 names_rise names = rising (table.entries (set_of names)) (entries_sorted (set_of names))
 
 pub telling_law : TellingLaw
-unfolding names_deleted deleted_in
+unfolding names_deleted deleted_in is_home for_user
 telling_law = record {
   rises = λ s dataset since. names_rise (map (λ d. d.path.name) (filter (is_told s.records dataset since) s.deletions));
   told = λ s dataset name since. ascending_has name (map (λ d. d.path.name) (filter (is_told s.records dataset since) s.deletions)) ∙ told_names name (is_told s.records dataset since) s.deletions;
   no_dataset = λ s realm user dataset since e. rw e refl;
   too_old = λ s realm user dataset since e old. rw (e, old) refl;
   not_readable = λ s realm user dataset since e old r. rw (e, old, r) refl;
+  readable = λ s realm user dataset since e old r. rw (e, old, r) refl;
+  by_r = λ records realm r. ap (λ (rights : Rights). rights.r) r;
+  not_by_others = λ records realm others. ap (λ (rights : Rights). rights.r) others;
+  meant = λ s realm since. refl;
+  later = λ records absent. rw absent refl;
+  elsewhere = λ records. refl;
+  there_again = λ records exists. rw exists refl;
   forgotten = λ s e. rw e refl;
   not_forgotten = λ s since e. rw e refl;
 }

@@ -7,7 +7,9 @@ use Rattle.acap_entries.specs.Datasets.{dataset_exists}
 use Rattle.acap_entries.specs.Moments.{last_moment, moment_after}
 use Rattle.acap_entries.specs.Orders.{octets_cmp, octets_eq}
 use Rattle.acap_entries.specs.Store.{Stored, Store, Written, after_writes}
+use Rattle.acap_entries.specs.declared.cell.Cell.{Cell}
 use Rattle.acap_entries.specs.declared.cell.Cell.TheVariants.{Nil, Single, Multi}
+use Rattle.acap_entries.specs.declared.fate.Fate.{Fate}
 use Rattle.acap_entries.specs.declared.fate.Fate.TheVariants as fate
 use Rattle.acap_entries.specs.declared.path.Path.{Path}
 use Rattle.acap_entries.specs.declared.record.Record.{Record}
@@ -19,23 +21,24 @@ use Rattle.acap_grammar.specs.declared.refusal.Refusal.TheVariants as refusals
 use Rattle.acap_grammar.specs.declared.store_entry.StoreEntry.{StoreEntry}
 use Rattle.acap_grammar.specs.declared.store_item.StoreItem.{StoreItem}
 use Rattle.acap_grammar.specs.declared.store_metadata.StoreMetadata.TheVariants as metadata
+use Rattle.acap_grammar.specs.declared.store_modifiers.StoreModifiers.{StoreModifiers}
 use Rattle.acap_grammar.specs.Storing.{unconditional}
-use Rattle.acap_rights.specs.Deciding.{Target, OfDataset, OfAttribute, OfEntry, deciding_list}
+use Rattle.acap_rights.specs.Deciding.{Target, OfDataset, OfAttribute, OfEntry, deciding_list, rights_of}
 use Rattle.acap_rights.specs.Edits.{with_pair, without}
 use Rattle.acap_rights.specs.Pairs.{form_of}
 use Rattle.acap_rights.specs.Rights.{no_rights}
 use Rattle.acap_rights.specs.declared.realm.Realm.{Realm}
 use Rattle.acap_rights.specs.declared.rights.Rights.{Rights}
 use Rattle.acap_inherit.specs.Chains.{chain_of}
-use Rattle.acap_store.specs.Deleting.{ending, deleted_by, exists_after, names_deleted, is_told, deleted_in, is_too_old, may_read}
-use Rattle.acap_store.specs.Forms.{exists_at}
+use Rattle.acap_store.specs.Deleting.{ending, deleted_by, exists_after, names_deleted, is_told, deleted_in, deleted_since, is_too_old, may_read}
+use Rattle.acap_store.specs.Forms.{resolved_at, exists_at}
 use Rattle.acap_store.specs.Invalid.{is_invalid, invalid}
-use Rattle.acap_store.specs.Limits.{gives_large, is_too_much, is_large, is_crowded, is_full_after}
-use Rattle.acap_store.specs.Meaning.{meaning, no_create}
-use Rattle.acap_store.specs.Permission.{permission, suffices_for_entry, suffices_for_item, item_target, list_target}
-use Rattle.acap_store.specs.Planning.{planned_for, refusals_by_room}
+use Rattle.acap_store.specs.Limits.{gives_large, is_too_much, is_large, is_crowded, writes_crowded, is_full_after}
+use Rattle.acap_store.specs.Meaning.{meaning}
+use Rattle.acap_store.specs.Permission.{permission, permission_in, suffices_for_entry, suffices_for_item, item_target, list_target}
+use Rattle.acap_store.specs.Planning.{planned_for, refusals_by_room, change_with}
 use Rattle.acap_store.specs.Refusing.{has_twice, no_exist, modified, modtime_at, is_later, first_of}
-use Rattle.acap_store.specs.Writing.{Celled, Listed, renewed, deleted_record, with_values, with_lists, fate_of, missing_to, written_for}
+use Rattle.acap_store.specs.Writing.{Celled, Listed, renewed, deleted_record, with_values, with_lists, fate_of, own_if_missing, missing_to, step_at, written_for}
 use Rattle.acap_store.specs.declared.meant.Meant.{Meant}
 use Rattle.acap_store.specs.declared.write.Write.TheVariants as write
 
@@ -99,6 +102,14 @@ pub record ItemExamples (records : Stored) : Type 0 where
   pub beside : (item : StoreItem) → is_invalid records [] (entry (codes "a") (value (codes "entry") (Put Nil) ∷ item ∷ [])) (value (codes "entry") (Put Nil)) ≡ true
   pub above : (items : List StoreItem) (e : StoreEntry) → e.path ≡ record { dataset = codes "/option/user/joe/a/b/"; name = codes "c" } →
       is_invalid records (e ∷ []) (entry (codes "a") (value (codes "entry") Default ∷ [])) (value (codes "entry") Default) ≡ true
+  -- a path whose dataset only begins alike lies beside it
+  pub alike : (items : List StoreItem) (e : StoreEntry) → e.path ≡ record { dataset = codes "/option/user/joe/ab/"; name = codes "c" } → resolved_at records (at (codes "a")) (codes "subdataset") ≡ None →
+      is_invalid records (e ∷ []) (entry (codes "a") (value (codes "entry") Default ∷ [])) (value (codes "entry") Default) ≡ false
+  -- an entry may end where it makes no dataset
+  pub makes_none : resolved_at records (at (codes "a")) (codes "subdataset") ≡ None → judged records (codes "a") (value (codes "entry") (Put Nil) ∷ value (codes "entry") Default ∷ []) ≡ false ∷ false ∷ []
+  pub makes_one : (found : Cell × List ℕ) → resolved_at records (at (codes "a")) (codes "subdataset") ≡ Some found → judged records (codes "a") (value (codes "entry") (Put Nil) ∷ value (codes "entry") Default ∷ []) ≡ true ∷ true ∷ []
+  -- every item of every entry is judged, and the first that is invalid is told
+  pub second_item : invalid records (record { entries = entry (codes "a") (value (codes "k") Default ∷ []) ∷ entry (codes "b") (value (codes "k") Default ∷ value (codes "modtime") Default ∷ []) ∷ []; drops_dataset_list = false }) ≡ Some (refusals.Invalid (at (codes "b")) (codes "modtime"))
 
 -- ---- what SETACL and DELETEACL mean
 
@@ -107,7 +118,7 @@ object attribute name = record { dataset = codes "/option/~/"; attribute = attri
 
 -- one item, with NOCREATE
 abbrev pub one : List ℕ → StoreItem → List StoreEntry
-one name item = record { path = at name; modifiers = no_create; items = item ∷ [] } ∷ []
+one name item = record { path = at name; modifiers = record { no_create = true; unchanged_since = None }; items = item ∷ [] } ∷ []
 
 abbrev pub decided : Stored → Target → List (List ℕ)
 decided records target = deciding_list records target
@@ -123,6 +134,9 @@ pub record MeaningExamples (records : Stored) : Type 0 where
       ≡ record { entries = one [] (value (codes "dataset.acl.k") (list (without (codes "ann") (decided records (OfAttribute home (codes "k")))))); drops_dataset_list = false }
   pub dropped : meaning records joe (write.DeleteAcl (object (Some (codes "k")) None) None) ≡ record { entries = one [] (value (codes "dataset.acl.k") Default); drops_dataset_list = false }
   pub dropped_of_entry : meaning records joe (write.DeleteAcl (object (Some (codes "k")) (Some (codes "a"))) None) ≡ record { entries = one (codes "a") (acl (codes "k") Default); drops_dataset_list = false }
+  -- a STORE stores its entries as they are, at the paths that its user means
+  pub entries : (modifiers : StoreModifiers) (items : List StoreItem) → meaning records joe (write.Store (record { path = record { dataset = codes "/option/~/"; name = codes "a" }; modifiers = modifiers; items = items } ∷ []))
+      ≡ record { entries = record { path = at (codes "a"); modifiers = modifiers; items = items } ∷ []; drops_dataset_list = false }
   -- the list of a dataset is not dropped as a whole, though a STORE may do that
   pub whole : invalid records (meaning records joe (write.DeleteAcl (object None None) None)) ≡ Some (refusals.Invalid (at []) (codes "dataset.acl"))
   pub stored : invalid records (record { entries = one [] (value (codes "dataset.acl") Default); drops_dataset_list = false }) ≡ None
@@ -133,6 +147,17 @@ pub record MeaningExamples (records : Stored) : Type 0 where
 
 abbrev pub with_r : Rights
 with_r = record no_rights { r = true }
+
+-- joe's on an attribute of the entry `a`
+abbrev pub rights_at : Stored → Realm → List ℕ → Rights
+rights_at records realm attribute = rights_of records realm joe (OfEntry home attribute (codes "a"))
+
+-- why joe may not store some items in the entry `a`
+abbrev pub denied_items : Stored → Realm → List StoreItem → Option Refusal
+denied_items records realm items = permission records realm joe (entry (codes "a") items ∷ [])
+
+abbrev pub missing_on : List ℕ → Option Refusal
+missing_on attribute = Some (refusals.Permission (record { dataset = home; attribute = Some attribute; name = Some (codes "a") }))
 
 pub record PermissionExamples : Type 0 where
   -- an entry: r where it exists, and where it doesn't r with w or i
@@ -148,6 +173,21 @@ pub record PermissionExamples : Type 0 where
   pub on_attribute : list_target (at []) (value (codes "dataset.acl.k") (Put Nil)) ≡ Some (OfAttribute home (codes "k"))
   pub on_entry : list_target (at (codes "a")) (acl (codes "k") (Put Nil)) ≡ Some (OfEntry home (codes "k") (codes "a"))
   pub on_management : item_target (at []) (value (codes "dataset.inherit") (Put Nil)) ≡ OfEntry home (codes "dataset.inherit") []
+  -- the first entry at which rights are missing is told, wherever it stands
+  pub first_entry : (records : Stored) (realm : Realm) (e f : StoreEntry) (r : Refusal) → permission_in records realm joe e ≡ Some r → permission records realm joe (e ∷ f ∷ []) ≡ Some r
+  pub second_entry : (records : Stored) (realm : Realm) (e f : StoreEntry) (r : Refusal) → permission_in records realm joe e ≡ None → permission_in records realm joe f ≡ Some r → permission records realm joe (e ∷ f ∷ []) ≡ Some r
+  -- in it its `entry` comes before its items, and the management entry is asked for its items alone
+  pub no_entry : (records : Stored) (realm : Realm) → exists_at records (at (codes "a")) ≡ false → rights_at records realm (codes "entry") ≡ with_r → denied_items records realm (value (codes "k") Default ∷ []) ≡ missing_on (codes "entry")
+  pub management : (records : Stored) (realm : Realm) → rights_of records realm joe (OfEntry home (codes "k") []) ≡ record no_rights { w = true } → permission records realm joe (entry [] (value (codes "k") Default ∷ []) ∷ []) ≡ None
+  -- where the value that is there resolves to NIL i suffices, and where it doesn't it doesn't, in the second item as in the first
+  pub nothing_there : (records : Stored) (realm : Realm) → exists_at records (at (codes "a")) ≡ true → rights_at records realm (codes "entry") ≡ with_r
+      → resolved_at records (at (codes "a")) (codes "k") ≡ None → rights_at records realm (codes "k") ≡ record no_rights { i = true } → denied_items records realm (value (codes "k") Default ∷ []) ≡ None
+  pub value_there : (records : Stored) (realm : Realm) (found : Cell × List ℕ) → exists_at records (at (codes "a")) ≡ true → rights_at records realm (codes "entry") ≡ with_r
+      → rights_at records realm (codes "k") ≡ record no_rights { w = true } → resolved_at records (at (codes "a")) (codes "l") ≡ Some found → rights_at records realm (codes "l") ≡ record no_rights { i = true }
+      → denied_items records realm (value (codes "k") Default ∷ value (codes "l") Default ∷ []) ≡ missing_on (codes "l")
+  -- a list of an attribute needs a on it
+  pub no_a : (records : Stored) (realm : Realm) → exists_at records (at (codes "a")) ≡ true → rights_at records realm (codes "entry") ≡ with_r
+      → rights_at records realm (codes "k") ≡ record { x = true; r = true; w = true; i = true; a = false } → denied_items records realm (acl (codes "k") Default ∷ []) ≡ missing_on (codes "k")
 
 -- ---- conditions and limits
 
@@ -162,6 +202,18 @@ pub record LimitExamples : Type 0 where
   pub records_65536 : (records : Stored) (written : Written) → table.len (after_writes (table.entries written) records) ≡ 65_536 → is_full_after records written ≡ false
   pub records_65537 : (records : Stored) (written : Written) → table.len (after_writes (table.entries written) records) ≡ 65_537 → is_full_after records written ≡ true
   pub clock_end : (s : Store) (written : Written) (now : ℤ) → s.last ≡ last_moment → first_of (refusals_by_room s true written now) ≡ Some refusals.Limit
+  -- NOCREATE refuses the first entry that has it and whose dataset doesn't exist, and only where it is asked for
+  pub not_asked : (records : Stored) (e : StoreEntry) → e.modifiers.no_create ≡ false → no_exist records (e ∷ []) ≡ None
+  pub not_created : (records : Stored) (e f : StoreEntry) → e.modifiers.no_create ≡ false → f.modifiers.no_create ≡ true → dataset_exists records f.path.dataset ≡ false → no_exist records (e ∷ f ∷ []) ≡ Some (refusals.NoExist f.path.dataset)
+  -- UNCHANGEDSINCE refuses the first entry that has it, exists and is later, and no entry that doesn't exist
+  pub not_changed : (records : Stored) (e : StoreEntry) (since : ℤ) → e.modifiers.unchanged_since ≡ Some since → exists_at records e.path ≡ false → modified records (e ∷ []) ≡ None
+  pub changed : (records : Stored) (e f : StoreEntry) → e.modifiers.unchanged_since ≡ None → f.modifiers.unchanged_since ≡ Some (pos 5) → exists_at records f.path ≡ true → modtime_at records f.path ≡ Some (pos 6)
+      → modified records (e ∷ f ∷ []) ≡ Some (refusals.Modified f.path)
+  -- each limit is enough for a refusal, and it is asked of every item and of every record that is written
+  pub second_large : gives_large (entry (codes "a") [] ∷ entry (codes "b") (value (codes "k") Default ∷ value (codes "l") (list (replicate 257 [])) ∷ []) ∷ []) ≡ true
+  pub second_crowded : (written : Written) (v w : Path × Fate) → table.entries written ≡ v ∷ w ∷ [] → is_crowded v.1 ≡ false → is_crowded w.1 ≡ true → writes_crowded written ≡ true
+  pub crowded : (records : Stored) (written : Written) → writes_crowded written ≡ true → is_too_much records false written ≡ true
+  pub full : (records : Stored) (written : Written) → writes_crowded written ≡ false → is_full_after records written ≡ true → is_too_much records false written ≡ true
   -- the name of an attribute's list may be longer than any name that is sent
   pub long_name : length (codes "dataset.acl." ++ replicate 200 120) ≡ 212
 
@@ -176,6 +228,14 @@ pub record WritingExamples : Type 0 where
   pub removes : (old : Option Record) (moment : ℤ) → fate_of joe old moment (entry (codes "a") (value (codes "entry") Default ∷ [])) ≡ fate.Remove
   -- DEFAULT of what isn't there writes the record, and its own name is not kept
   pub default : (moment : ℤ) → fate_of joe None moment (entry (codes "a") (value (codes "k") Default ∷ value (codes "entry") (text (codes "a")) ∷ [])) ≡ fate.Put (renewed None (table.remove table.empty (codes "k")) table.empty moment)
+  -- an entry keeps what is not given to it, and so does the own entry of a missing dataset, which gets `subdataset`
+  pub keeps : (old : Record) (moment : ℤ) → fate_of joe (Some old) moment (entry (codes "a") (value (codes "k") (text (codes "1")) ∷ acl (codes "l") (list []) ∷ []))
+      ≡ fate.Put (record { present = true; blocks_inheritance = old.blocks_inheritance; cells = table.insert old.cells (codes "k") (Single (codes "1")); acls = table.insert old.acls (codes "l") []; modtime = moment })
+  pub keeps_step : (records : Stored) (p : Path) (old : Record) (moment : ℤ) → table.get records p ≡ Some old → step_at records moment p
+      ≡ (p, fate.Put (record { present = true; blocks_inheritance = old.blocks_inheritance; cells = table.insert old.cells (codes "subdataset") (Multi (codes "." ∷ [])); acls = old.acls; modtime = moment }))
+  -- the list of `entry` is a list as any other, and no end
+  pub list_of_entry : (old : Record) (moment : ℤ) → fate_of joe (Some old) moment (entry (codes "a") (acl (codes "entry") (Put Nil) ∷ []))
+      ≡ fate.Put (record { present = true; blocks_inheritance = old.blocks_inheritance; cells = old.cells; acls = table.remove old.acls (codes "entry"); modtime = moment })
   -- values and lists
   pub values : (cells : Celled) → with_values joe (at (codes "a")) cells (value (codes "k") (text (codes "1")) ∷ acl (codes "l") (list []) ∷ value (codes "l") (Put Nil) ∷ value (codes "m") Default ∷ [])
       ≡ table.remove (table.insert (table.insert cells (codes "k") (Single (codes "1"))) (codes "l") Nil) (codes "m")
@@ -184,6 +244,9 @@ pub record WritingExamples : Type 0 where
   -- what is inherited from is kept as its user means it, in the management entry
   pub base : (cells : Celled) → with_values joe (at []) cells (value (codes "dataset.inherit") (text (codes "/option/~/b")) ∷ []) ≡ table.insert cells (codes "dataset.inherit") (Single (codes "/option/user/joe/b/"))
   pub no_base : (cells : Celled) → with_values joe (at (codes "a")) cells (value (codes "dataset.inherit") (text (codes "/option/~/b")) ∷ []) ≡ table.insert cells (codes "dataset.inherit") (Single (codes "/option/~/b"))
+  pub other_value : (cells : Celled) → with_values joe (at []) cells (value (codes "k") (text (codes "/option/~/b")) ∷ []) ≡ table.insert cells (codes "k") (Single (codes "/option/~/b"))
+  -- a dataset that exists is not made again
+  pub there : (records : Stored) (dataset : List ℕ) (own : List ℕ × List ℕ) → dataset_exists records dataset ≡ true → own_if_missing records dataset own ≡ []
   -- each missing dataset on the way, the nearest to `/` first
   pub missing : missing_to table.empty (codes "/a/b/") ≡ record { dataset = codes "/"; name = codes "a" } ∷ record { dataset = codes "/a/"; name = codes "b" } ∷ []
 
@@ -198,6 +261,15 @@ pub record TellingLaw : Type 0 where
   pub no_dataset : (s : Store) (realm : Realm) (user dataset : List ℕ) (since : ℤ) → dataset_exists s.records dataset ≡ false → deleted_in s realm user dataset since ≡ Err (refusals.NoExist dataset)
   pub too_old : (s : Store) (realm : Realm) (user dataset : List ℕ) (since : ℤ) → dataset_exists s.records dataset ≡ true → is_too_old s since ≡ true → deleted_in s realm user dataset since ≡ Err refusals.TooOld
   pub not_readable : (s : Store) (realm : Realm) (user dataset : List ℕ) (since : ℤ) → dataset_exists s.records dataset ≡ true → is_too_old s since ≡ false → may_read s.records realm user dataset ≡ false → deleted_in s realm user dataset since ≡ Ok []
+  pub readable : (s : Store) (realm : Realm) (user dataset : List ℕ) (since : ℤ) → dataset_exists s.records dataset ≡ true → is_too_old s since ≡ false → may_read s.records realm user dataset ≡ true → deleted_in s realm user dataset since ≡ Ok (names_deleted s dataset since)
+  pub by_r : (records : Stored) (realm : Realm) → rights_of records realm joe (OfAttribute home (codes "entry")) ≡ with_r → may_read records realm joe home ≡ true
+  pub not_by_others : (records : Stored) (realm : Realm) → rights_of records realm joe (OfAttribute home (codes "entry")) ≡ record { x = true; r = false; w = true; i = true; a = true } → may_read records realm joe home ≡ false
+  -- the dataset is the one that its user means
+  pub meant : (s : Store) (realm : Realm) (since : ℤ) → deleted_since s realm joe (codes "/option/~/") since ≡ deleted_in s realm joe home since
+  -- a deletion is told after its moment, not at it, in its dataset alone, and not where the entry exists again
+  pub later : (records : Stored) → exists_at records (at (codes "a")) ≡ false → map (λ moment. is_told records home (pos 5) (record { path = at (codes "a"); moment = moment })) (pos 4 ∷ pos 5 ∷ pos 6 ∷ []) ≡ false ∷ false ∷ true ∷ []
+  pub elsewhere : (records : Stored) → is_told records (codes "/option/user/") (pos 5) (record { path = at (codes "a"); moment = pos 6 }) ≡ false
+  pub there_again : (records : Stored) → exists_at records (at (codes "a")) ≡ true → is_told records home (pos 5) (record { path = at (codes "a"); moment = pos 6 }) ≡ false
   -- a time that is the forgotten moment itself is not too old, nor is any where nothing was forgotten
   pub forgotten : (s : Store) → s.forgotten ≡ Some (pos 5) → map (is_too_old s) (pos 4 ∷ pos 5 ∷ pos 6 ∷ []) ≡ true ∷ false ∷ false ∷ []
   pub not_forgotten : (s : Store) (since : ℤ) → s.forgotten ≡ None → is_too_old s since ≡ false
@@ -228,6 +300,16 @@ pub record ChangeExamples (records : Stored) : Type 0 where
   pub not_there : exists_at records (at (codes "a")) ≡ false → ending records (entry (codes "a") (value (codes "entry") Default ∷ []) ∷ []) ≡ []
   pub shows_through : (written : Written) → exists_at records (at (codes "a")) ≡ true → exists_after records written (at (codes "a")) ≡ true → deleted_by records written (entry (codes "a") (value (codes "entry") Default ∷ []) ∷ []) ≡ []
   pub ends : (written : Written) → exists_at records (at (codes "a")) ≡ true → exists_after records written (at (codes "a")) ≡ false → deleted_by records written (entry (codes "a") (value (codes "entry") Default ∷ []) ∷ []) ≡ at (codes "a") ∷ []
+  -- that is judged by the store that the writes leave
+  pub gone : (written : Written) → exists_at records (at (codes "a")) ≡ true → chain_of (after_writes (table.entries written) records) home false ≡ home ∷ [] → table.get (after_writes (table.entries written) records) (at (codes "a")) ≡ None →
+      deleted_by records written (entry (codes "a") (value (codes "entry") Default ∷ []) ∷ []) ≡ at (codes "a") ∷ []
+  pub recorded : (written : Written) (moment : ℤ) → exists_at records (at (codes "a")) ≡ true → exists_after records written (at (codes "a")) ≡ true →
+      change_with records (entry (codes "a") (value (codes "entry") Default ∷ []) ∷ []) written moment ≡ record { writes = written; moment = moment; deleted = [] }
+  -- an entry exists where its base has it, and has its values
+  pub inherited : (base : List ℕ) (second : Record) → chain_of records home false ≡ home ∷ base ∷ [] → table.get records (at (codes "a")) ≡ None → table.get records (record { dataset = base; name = codes "a" }) ≡ Some second →
+      second.present ≡ true → exists_at records (at (codes "a")) ≡ true
+  pub inherited_value : (base : List ℕ) (second : Record) → chain_of records home false ≡ home ∷ base ∷ [] → table.get records (at (codes "a")) ≡ None → table.get records (record { dataset = base; name = codes "a" }) ≡ Some second →
+      second.present ≡ true → table.get second.cells (codes "k") ≡ Some (Single (codes "1")) → resolved_at records (at (codes "a")) (codes "k") ≡ Some (Single (codes "1"), base)
   -- UNCHANGEDSINCE goes by the latest record along the chain
   pub latest : (base : List ℕ) (first second : Record) → chain_of records home false ≡ home ∷ base ∷ [] → table.get records (at (codes "a")) ≡ Some first → table.get records (record { dataset = base; name = codes "a" }) ≡ Some second →
       first.blocks_inheritance ≡ false → second.blocks_inheritance ≡ false → first.modtime ≡ pos 1 → second.modtime ≡ pos 9 → modtime_at records (at (codes "a")) ≡ Some (pos 9)
