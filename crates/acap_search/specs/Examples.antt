@@ -10,14 +10,17 @@ use Rattle.acap_search.specs.Rows.{Names, digits, item_of}
 use Rattle.std.specs.Prelude.{◌≡◌, ℕ, Bool, true, false, List, [], ◌∷◌, Option, Some, None, codes, if◌then◌else◌, pos, map as each}
 use Rattle.std.specs.Ordering.{is_lt}
 use Rattle.std.specs.declared.cmp.Ordering.TheVariants.{Less, Equal}
+use Rattle.acap_entries.specs.Datasets.{makes_dataset, dataset_exists}
 use Rattle.acap_entries.specs.FullPaths.{full_path_cmp}
 use Rattle.acap_entries.specs.Orders.{octets_eq}
-use Rattle.acap_entries.specs.Store.{path_cmp}
+use Rattle.acap_entries.specs.Store.{Stored, path_cmp}
 use Rattle.acap_entries.specs.declared.cell.Cell.{Cell}
 use Rattle.acap_entries.specs.declared.cell.Cell.TheVariants.{Nil, Single, Multi}
 use Rattle.acap_entries.specs.declared.path.Path.{Path}
 use Rattle.acap_grammar.specs.Wanted.{Wanted, One, And, Or, Not}
 use Rattle.acap_grammar.specs.declared.limit.Limit.{Limit}
+use Rattle.acap_grammar.specs.declared.return_item.ReturnItem.{ReturnItem}
+use Rattle.acap_grammar.specs.declared.search_modifiers.SearchModifiers.{SearchModifiers}
 use Rattle.acap_grammar.specs.declared.relation.Relation.{Relation}
 use Rattle.acap_grammar.specs.declared.relation.Relation.TheVariants as relation
 use Rattle.acap_grammar.specs.declared.test.Test.TheVariants as test
@@ -25,19 +28,27 @@ use Rattle.acap_order.specs.Spellings.{ascending, descending}
 use Rattle.acap_order.specs.declared.comparator.Collation.{Collation}
 use Rattle.acap_order.specs.declared.comparator.Collation.TheVariants.{Octet, AsciiCasemap, AsciiNumeric}
 use Rattle.acap_order.specs.declared.comparator.Comparator.{Comparator}
-use Rattle.acap_inherit.specs.Resolving.{Resolution}
+use Rattle.acap_inherit.specs.Chains.{chain_of}
+use Rattle.acap_inherit.specs.EntryNames.{names_on}
+use Rattle.acap_inherit.specs.Records.{record_at}
+use Rattle.acap_inherit.specs.Resolving.{Resolution, resolved}
+use Rattle.acap_rights.specs.Deciding.{OfEntry, rights_of}
+use Rattle.acap_rights.specs.declared.realm.Realm.{Realm}
 use Rattle.acap_rights.specs.Rights.{no_rights, all_rights}
 use Rattle.acap_rights.specs.declared.rights.Rights.{Rights}
+use Rattle.acap_search.specs.Asking.{asked_of}
 use Rattle.acap_search.specs.Cutting.{cut_of}
-use Rattle.acap_search.specs.Fresh.{has_range, is_over}
+use Rattle.acap_search.specs.Fresh.{Sight, sight_of, paths_in, tuple_at, fresh_of, refusal_of, has_range, is_over}
 use Rattle.acap_search.specs.Keys.{holds}
 use Rattle.acap_search.specs.Matches.{Match, match_cmp, sorted_from}
-use Rattle.acap_search.specs.Places.{place_in, place_cmp}
-use Rattle.acap_search.specs.Scopes.{is_reached, levels, is_component_name, made_by}
-use Rattle.acap_search.specs.Sight.{Answers, cell_at, is_held, is_seen, may_read, may_test}
-use Rattle.acap_search.specs.Tuples.{name_told, match_of}
+use Rattle.acap_search.specs.Places.{place_in, place_cmp, places_cmp}
+use Rattle.acap_search.specs.Scopes.{scope_of, datasets_of, reached_by, is_reached, levels, is_component_name, made_by}
+use Rattle.acap_search.specs.Sight.{Answers, answers_at, cell_at, is_held, is_seen, may_read, may_test}
+use Rattle.acap_search.specs.Tuples.{name_told, match_of, tuple_for}
 use Rattle.acap_search.specs.declared.cutting.Cut.{Cut}
+use Rattle.acap_search.specs.declared.query.Asked.{Asked}
 use Rattle.acap_search.specs.declared.query.Query.{Query}
+use Rattle.acap_search.specs.declared.refusal.SearchRefusal.TheVariants as refusal
 use Rattle.acap_search.specs.declared.rank.Place.TheVariants.{Behind}
 use Rattle.acap_search.specs.declared.rank.Place.{Place}
 
@@ -87,6 +98,9 @@ pub record KeyExamples : Type 0 where
   pub not_begun : wants (key relation.Begins Octet (codes "1")) (testing (Single (codes "1")) Nil) ≡ false
   pub tested_is_not_nil : wants (is_nil_key Octet) (testing (Single (codes "1")) Nil) ≡ false
   pub unread_is_nil : wants (is_nil_key AsciiCasemap) (testing (Single (codes "1")) Nil) ≡ true
+  -- equal to the whole string
+  pub equal : wants (key relation.Equal AsciiCasemap (codes "ab")) (reading (Single (codes "aB")) Nil) ≡ true
+  pub not_equal : wants (key relation.Equal Octet (codes "1")) (reading (Single (codes "12")) Nil) ≡ false
   -- at least, and greater; the other way round with `-`
   pub at_least : wants (key relation.AtLeast AsciiNumeric (codes "9")) (reading (Single (codes "9")) Nil) ≡ true
   pub greater : wants (key relation.Greater AsciiNumeric (codes "9")) (reading (Single (codes "9")) Nil) ≡ false
@@ -99,9 +113,14 @@ pub record KeyExamples : Type 0 where
   pub nothing_in_a_list : wants (key relation.Contains Octet []) (reading (Multi []) Nil) ≡ false
   -- parts
   pub begins : wants (key relation.Begins AsciiCasemap (codes "OPT")) (reading (Single (codes "option")) Nil) ≡ true
+  pub begins_later : wants (key relation.Begins AsciiCasemap (codes "TION")) (reading (Single (codes "option")) Nil) ≡ false
   pub contains : wants (key relation.Contains Octet (codes "tio")) (reading (Single (codes "option")) Nil) ≡ true
   pub both : wants (And (key relation.Contains Octet (codes "a")) (key relation.Contains Octet (codes "b"))) (reading (Single (codes "abc")) Nil) ≡ true
   pub one : wants (Or (key relation.Contains Octet (codes "d")) (key relation.Contains Octet (codes "b"))) (reading (Single (codes "abc")) Nil) ≡ true
+  pub first : wants (Or (key relation.Contains Octet (codes "b")) (key relation.Contains Octet (codes "d"))) (reading (Single (codes "abc")) Nil) ≡ true
+  pub neither : wants (Or (key relation.Contains Octet (codes "d")) (key relation.Contains Octet (codes "e"))) (reading (Single (codes "abc")) Nil) ≡ false
+  pub first_alone : wants (And (key relation.Contains Octet (codes "a")) (key relation.Contains Octet (codes "d"))) (reading (Single (codes "abc")) Nil) ≡ false
+  pub second_alone : wants (And (key relation.Contains Octet (codes "d")) (key relation.Contains Octet (codes "a"))) (reading (Single (codes "abc")) Nil) ≡ false
   -- positions
   pub no_position : holds range None (reading Nil Nil) ≡ false
   pub first_position : holds range (Some 2) (reading Nil Nil) ≡ true
@@ -109,6 +128,8 @@ pub record KeyExamples : Type 0 where
   pub before : holds range (Some 1) (reading Nil Nil) ≡ false
   pub behind : holds range (Some 4) (reading Nil Nil) ≡ false
   pub range_under_not : has_range (Not (And (One test.All) range)) ≡ true
+  pub range_first : has_range (And range (One test.All)) ≡ true
+  pub range_under_or : has_range (Or (One test.All) range) ≡ true
   pub no_range : has_range (Not (And (One test.All) (One test.All))) ≡ false
 
 -- ---- orders
@@ -129,6 +150,9 @@ pub record OrderExamples : Type 0 where
   pub letters : sorted_places (ascending AsciiCasemap) (Single (codes "b") ∷ Single (codes "A") ∷ Single (codes "C") ∷ []) ≡ each (place_in (ascending AsciiCasemap)) (Single (codes "a") ∷ Single (codes "B") ∷ Single (codes "c") ∷ [])
   pub octets : sorted_places (ascending Octet) (Single (codes "b") ∷ Single (codes "A") ∷ Single (codes "C") ∷ []) ≡ each (place_in (ascending Octet)) (Single (codes "A") ∷ Single (codes "C") ∷ Single (codes "b") ∷ [])
   pub alike : place_cmp (place_in (descending Octet) Nil) (place_in (descending Octet) (Multi (codes "a" ∷ []))) ≡ Equal
+  -- the first item of SORT decides first, and then the second
+  pub first_item : places_cmp (each (place_in (ascending Octet)) (Single (codes "a") ∷ Single (codes "c") ∷ [])) (each (place_in (ascending Octet)) (Single (codes "b") ∷ Single (codes "a") ∷ [])) ≡ Less
+  pub second_item : places_cmp (each (place_in (ascending Octet)) (Single (codes "a") ∷ Single (codes "b") ∷ [])) (each (place_in (ascending Octet)) (Single (codes "a") ∷ Single (codes "c") ∷ [])) ≡ Less
   -- the full path in octets, which is another order than that by dataset and then by name
   pub paths : full_path_cmp (path_of (codes "/d/") (codes "a")) (path_of (codes "/d/a/") (codes "x")) ≡ Less
   pub paths_beneath : full_path_cmp (path_of (codes "/d/a/") (codes "x")) (path_of (codes "/d/") (codes "b")) ≡ Less
@@ -137,11 +161,64 @@ pub record OrderExamples : Type 0 where
 
 -- ---- scopes, names and limits
 
+-- a query that sorts by the attribute x
+abbrev pub sorting : Query
+sorting = record {
+  dataset = codes "/d/";
+  depth = None;
+  no_inherit = false;
+  hard_limit = None;
+  key = One test.All;
+  sort = Some (record { attribute = x; comparator = ascending Octet } ∷ []);
+  returns = None;
+}
+
+-- the same with a modifier
+abbrev pub deep : Option ℕ → Query
+deep depth = record sorting { depth = depth }
+
+abbrev pub not_inheriting : Query
+not_inheriting = record sorting { no_inherit = true }
+
+abbrev pub d : List ℕ
+d = codes "/d/"
+
+-- what a user sees of an entry of the dataset /d/ in the scope of a query
+abbrev pub seen_by : Stored → Realm → List ℕ → Query → List ℕ → Answers
+seen_by records realm user query name = (sight_of records realm user (scope_of query)).answers (path_of d name)
+
 abbrev pub limit : ℕ → ℕ → Option Limit
 limit over most = Some (record { over = over; most = most })
 
 abbrev pub cut : ℕ → Option ℕ → Cut
 cut told total = record { told = told; total = total }
+
+-- all modifiers of a SEARCH
+abbrev pub modified : SearchModifiers
+modified = record {
+  depth = Some 2;
+  hard_limit = Some 5;
+  limit = limit 3 1;
+  make_context = Some (record { enumerate = false; notify = true; name = codes "c" });
+  no_inherit = true;
+  returns = Some [];
+  sort = Some [];
+}
+
+abbrev pub asked_with_all : Asked
+asked_with_all = record {
+  query = record {
+    dataset = codes "/option/user/joe/";
+    depth = Some 2;
+    no_inherit = true;
+    hard_limit = Some 5;
+    key = One test.All;
+    sort = Some [];
+    returns = Some [];
+  };
+  limit = limit 3 1;
+  make_context = Some (record { enumerate = false; notify = true; name = codes "c" });
+}
 
 pub record ScopeExamples : Type 0 where
   -- DEPTH counts the searched dataset, and 0 is no bound
@@ -162,6 +239,19 @@ pub record ScopeExamples : Type 0 where
   -- a name is told alone, or with DEPTH the full path
   pub alone : name_told None (path_of (codes "/d/") (codes "a")) ≡ codes "a"
   pub full : name_told (Some 1) (path_of (codes "/d/") (codes "a")) ≡ codes "/d/a"
+  -- levels are counted from the searched dataset, and a dataset beside it is not looked through
+  pub reached : (e : Record) → makes_dataset e ≡ true → reached_by d 2 (path_of d (codes "a"), e) ≡ Some (codes "/d/a/")
+  pub unreached : (e : Record) → reached_by d 2 (path_of (codes "/d/a/") (codes "b"), e) ≡ None
+  pub beneath_alone : (records : Stored) (e : Record) → makes_dataset e ≡ true → map.entries records ≡ (path_of (codes "/c/") (codes "a"), e) ∷ (path_of d (codes "b"), e) ∷ []
+      → datasets_of records (scope_of (deep (Some 0))) ≡ d ∷ codes "/d/b/" ∷ []
+  pub no_depth : (records : Stored) → datasets_of records (scope_of (deep None)) ≡ d ∷ []
+  -- NOINHERIT leaves the dataset alone, and without it the whole chain counts
+  pub not_inherited : (records : Stored) (realm : Realm) (user name : List ℕ) → seen_by records realm user not_inheriting name ≡ answers_at records realm user d (d ∷ []) name
+  pub inherited : (records : Stored) (realm : Realm) (user name : List ℕ) → seen_by records realm user sorting name ≡ answers_at records realm user d (chain_of records d false) name
+  pub names_not_inherited : (records : Stored) → paths_in records (scope_of not_inheriting).no_inherit d ≡ each (path_of d) (names_on records (d ∷ []))
+  pub names_inherited : (records : Stored) → paths_in records (scope_of sorting).no_inherit d ≡ each (path_of d) (names_on records (chain_of records d false))
+  -- what a SEARCH asks for is all that it says, and `~` is the user's
+  pub asked : asked_of (codes "joe") (codes "/option/~/") modified (One test.All) ≡ asked_with_all
 
 pub record LimitExamples : Type 0 where
   pub unlimited : cut_of None 3 ≡ cut 3 None
@@ -174,36 +264,70 @@ pub record LimitExamples : Type 0 where
   pub hard_nothing : is_over (Some 0) 0 ≡ false
   pub hard_bound : is_over (Some 3) 3 ≡ false
   pub no_hard_limit : (count : ℕ) → is_over None count ≡ false
+  -- the first reason is told, and HARDLIMIT counts the matches
+  pub range_here : (records : Stored) (realm : Realm) (user : List ℕ) (query : Query) → query.key ≡ range → refusal_of records realm user query ≡ Some refusal.RangeHere
+  pub no_dataset : (records : Stored) (realm : Realm) (user : List ℕ) (query : Query) → query.key ≡ One test.All → dataset_exists records query.dataset ≡ false
+      → refusal_of records realm user query ≡ Some refusal.NoExist
+  pub too_many : (records : Stored) (realm : Realm) (user : List ℕ) (query : Query) (a b : Match) → query.key ≡ One test.All → dataset_exists records query.dataset ≡ true → query.hard_limit ≡ Some 1
+      → fresh_of (sight_of records realm user (scope_of query)) query ≡ a ∷ b ∷ [] → refusal_of records realm user query ≡ Some refusal.WayTooMany
+  pub not_too_many : (records : Stored) (realm : Realm) (user : List ℕ) (query : Query) (a b : Match) → query.key ≡ One test.All → dataset_exists records query.dataset ≡ true → query.hard_limit ≡ Some 2
+      → fresh_of (sight_of records realm user (scope_of query)) query ≡ a ∷ b ∷ [] → refusal_of records realm user query ≡ None
 
 -- ---- what is seen and told
 
 abbrev pub only : Bool → Bool → Rights
 only x r = record { x = x; r = r; w = false; i = false; a = false }
 
+abbrev pub b : List ℕ
+b = codes "/b/"
+
+abbrev pub e : List ℕ
+e = codes "e"
+
 -- a value that lies in the dataset /b/, by the rights in the searched dataset and in that one
 abbrev pub lying_there : Resolution
-lying_there = Some (Single (codes "1"), codes "/b/")
+lying_there = Some (Single (codes "1"), b)
+
+-- an entry of the dataset /d/ has the attribute x from the dataset /b/, where x also has a list; its own record has this list or none;
+-- and these are a user's rights on it in either dataset
+pub record IsLent (records : Stored) (realm : Realm) (user : List ℕ) (list : Option (List (List ℕ))) (in_d in_b : Rights) : Type 0 where
+  pub value : resolved records (d ∷ b ∷ []) e x ≡ lying_there
+  pub own : (own_record : Record) × (record_at records d e ≡ Some own_record) × (map.get own_record.acls x ≡ list)
+  pub base : (base_record : Record) × (record_at records b e ≡ Some base_record) × (theirs : List (List ℕ)) × (map.get base_record.acls x ≡ Some theirs)
+  pub here : rights_of records realm user (OfEntry d x e) ≡ in_d
+  pub there : rights_of records realm user (OfEntry b x e) ≡ in_b
+
+-- what is answered about it
+pub record IsAnswered (records : Stored) (realm : Realm) (user : List ℕ) (value tested : Cell) (list : Option (List (List ℕ))) (held : Rights) : Type 0 where
+  pub read : (answers_at records realm user d (d ∷ b ∷ []) e).read x ≡ value
+  pub test : (answers_at records realm user d (d ∷ b ∷ []) e).test x ≡ tested
+  pub acl : (answers_at records realm user d (d ∷ b ∷ []) e).acl x ≡ list
+  pub rights : (answers_at records realm user d (d ∷ b ∷ []) e).rights x ≡ held
 
 abbrev pub unnamed : Answers
 unnamed = record { read = λ attribute. Nil; test = λ attribute. Single (codes "e"); acl = λ attribute. None; rights = λ attribute. all_rights }
 
--- a query that sorts by the attribute x
-abbrev pub sorting : Query
-sorting = record {
-  dataset = codes "/d/";
-  depth = None;
-  no_inherit = false;
-  hard_limit = None;
-  key = One test.All;
-  sort = Some (record { attribute = x; comparator = ascending Octet } ∷ []);
-  returns = None;
-}
+-- an entry whose attributes are read like this
+abbrev pub naming : (List ℕ → Cell) → Answers
+naming read = record unnamed { read = read }
 
 abbrev pub no_stars : List ℕ → Names
 no_stars front = map.empty
 
 abbrev pub matched : Answers → Match
 matched answers = match_of sorting (path_of (codes "/d/") (codes "e")) answers no_stars
+
+-- two entries of which the first in the order of paths has the greater x
+abbrev pub two_seen : Sight
+two_seen = record {
+  paths = path_of d (codes "a") ∷ path_of d (codes "b") ∷ [];
+  answers = λ path. reading (Single (if octets_eq path.name (codes "a") then codes "2" else codes "1")) Nil;
+  attributes = λ path. [];
+}
+
+-- a query that sorts by two attributes
+abbrev pub by_both : Query
+by_both = record sorting { sort = Some (record { attribute = x; comparator = ascending Octet } ∷ record { attribute = y; comparator = descending Octet } ∷ []) }
 
 abbrev pub match_at : List ℕ → List ℕ → Match
 match_at dataset name = record { path = path_of dataset name; places = []; row = record { name = []; items = [] } }
@@ -219,14 +343,55 @@ pub record SightExamples : Type 0 where
   pub nil_unread : is_held may_read (only true false) (λ dataset. only true true) None ≡ false
   -- an entry whose name may be tested alone is not seen
   pub unseen : is_seen unnamed ≡ false
+  -- nor one of which all is read but its name, and one of which its name alone is read is seen
+  pub unseen_unnamed : is_seen (naming (λ attribute. if octets_eq attribute (codes "entry") then Nil else Single (codes "1"))) ≡ false
+  pub seen_named : is_seen (naming (λ attribute. if octets_eq attribute (codes "entry") then Single e else Nil)) ≡ true
+  -- a value is read with the right to read it here and where it lies, tested with less, and its list is told with the same right, and never another's
+  pub lent : (records : Stored) (realm : Realm) (user : List ℕ) (list : List (List ℕ)) → IsLent records realm user (Some list) (only false true) (only false true)
+      → IsAnswered records realm user (Single (codes "1")) (Single (codes "1")) (Some list) (only false true)
+  pub lent_no_list : (records : Stored) (realm : Realm) (user : List ℕ) → IsLent records realm user None (only false true) (only false true)
+      → IsAnswered records realm user (Single (codes "1")) (Single (codes "1")) None (only false true)
+  pub lent_test_here : (records : Stored) (realm : Realm) (user : List ℕ) (list : List (List ℕ)) → IsLent records realm user (Some list) (only true false) (only false true)
+      → IsAnswered records realm user Nil (Single (codes "1")) None (only true false)
+  pub lent_test_there : (records : Stored) (realm : Realm) (user : List ℕ) (list : List (List ℕ)) → IsLent records realm user (Some list) (only false true) (only true false)
+      → IsAnswered records realm user Nil (Single (codes "1")) None (only false true)
+  pub lent_nothing_here : (records : Stored) (realm : Realm) (user : List ℕ) (list : List (List ℕ)) → IsLent records realm user (Some list) (only false false) (only true true)
+      → IsAnswered records realm user Nil Nil None (only false false)
+  pub lent_nothing_there : (records : Stored) (realm : Realm) (user : List ℕ) (list : List (List ℕ)) → IsLent records realm user (Some list) (only true true) (only false false)
+      → IsAnswered records realm user Nil Nil None (only true true)
   -- what may not be read has no place among strings
   pub placed_read : (matched (reading (Single (codes "1")) Nil)).places ≡ place_in (ascending Octet) (Single (codes "1")) ∷ []
   pub placed_unread : (matched (testing (Single (codes "1")) Nil)).places ≡ Behind ∷ []
+  -- each item of SORT has a place
+  pub two_places : (match_of by_both (path_of d e) (reading (Single (codes "1")) (Single (codes "2"))) no_stars).places
+      ≡ place_in (ascending Octet) (Single (codes "1")) ∷ place_in (descending Octet) (Single (codes "2")) ∷ []
+  -- what the key doesn't want is not found
+  pub not_wanted : tuple_for (record sorting { key = Not (One test.All) }) None (path_of d e) unnamed no_stars ≡ None
+  -- matches are in the order of their places
+  pub by_place : each (λ found. found.path) (fresh_of two_seen sorting) ≡ path_of d (codes "b") ∷ path_of d (codes "a") ∷ []
   -- matches with equal places are in the order of their full paths
   pub by_path : match_cmp (match_at (codes "/d/a/") (codes "x")) (match_at (codes "/d/") (codes "b")) ≡ Less
 
 abbrev pub told : List Metadata → Cell → Item
 told metadata value = item_of (reading value Nil) no_stars (name.Named x) metadata
+
+-- what is told where x may be tested alone
+abbrev pub told_tested : List Metadata → Cell → Item
+told_tested metadata value = item_of (testing value Nil) no_stars (name.Named x) metadata
+
+-- what is told of the attributes that begin with x
+abbrev pub beginning : ReturnItem
+beginning = record { name = name.Beginning x; metadata = metadata.Attribute ∷ metadata.Value ∷ [] }
+
+-- what a search with that in RETURN, and with DEPTH, tells of an entry whose attributes are x and y
+abbrev pub listing : Query
+listing = record (deep (Some 1)) { sort = None; returns = Some (beginning ∷ []) }
+
+abbrev pub in_sight : Answers → Sight
+in_sight answers = record { paths = []; answers = λ path. answers; attributes = λ path. x ∷ y ∷ [] }
+
+abbrev pub listed : List (List Cell) → Match
+listed attributes = record { path = path_of d e; places = []; row = record { name = codes "/d/e"; items = item.PerAttribute attributes ∷ [] } }
 
 pub record RowExamples : Type 0 where
   -- one datum bare, several in a parenthesis
@@ -239,3 +404,15 @@ pub record RowExamples : Type 0 where
   pub sizes : told (metadata.Size ∷ []) (Multi (codes "a" ∷ [] ∷ [])) ≡ item.One (Multi (digits 1 ∷ digits 0 ∷ []))
   pub rights : told (metadata.MyRights ∷ []) Nil ≡ item.One (Single (codes "xrwia"))
   pub no_list : told (metadata.Acl ∷ []) Nil ≡ item.One Nil
+  pub list : (list : List (List ℕ)) → item_of (record (reading Nil Nil) { acl = λ attribute. Some list }) no_stars (name.Named x) (metadata.Acl ∷ []) ≡ item.One (Multi list)
+  pub without_rights : told_tested (metadata.MyRights ∷ []) (Single (codes "abc")) ≡ item.One (Single [])
+  -- what may be tested alone is told as NIL
+  pub untold : told_tested (metadata.Value ∷ metadata.Size ∷ []) (Single (codes "abc")) ≡ item.Several (Nil ∷ Nil ∷ [])
+  -- a name with `*` tells the same of each attribute that it lists, whatever their number
+  pub star : (stars : List ℕ → Names) → map.keys (stars (codes "x")) ≡ x ∷ codes "xy" ∷ []
+      → item_of (reading (Single (codes "1")) Nil) stars (name.Beginning (codes "x")) (metadata.Attribute ∷ metadata.Value ∷ [])
+      ≡ item.PerAttribute ((Single x ∷ Single (codes "1") ∷ []) ∷ (Single (codes "xy") ∷ Nil ∷ []) ∷ [])
+  pub star_of_nothing : (stars : List ℕ → Names) → map.keys (stars (codes "x")) ≡ [] → item_of (reading Nil Nil) stars (name.Beginning (codes "x")) (metadata.Value ∷ []) ≡ item.PerAttribute []
+  -- it lists what is read, and not what may be tested alone; and an entry is told under its full path with DEPTH
+  pub star_read : tuple_at (in_sight (reading (Single (codes "1")) (Single (codes "2")))) listing (path_of d e) ≡ Some (listed ((Single x ∷ Single (codes "1") ∷ []) ∷ []))
+  pub star_tested : tuple_at (in_sight (testing (Single (codes "1")) (Single (codes "2")))) listing (path_of d e) ≡ Some (listed [])
