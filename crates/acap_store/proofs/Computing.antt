@@ -47,7 +47,7 @@ item_examples records = record {
   base = refl;
   beside = λ item. refl;
   above = λ items e same. rw same (ap not (and_false _));
-  alike = λ items e same none. rw (same, none) refl;
+  alike = λ e same none. rw (same, none) refl;
   makes_none = λ none. rw none refl;
   makes_one = λ found some. rw some refl;
   second_item = refl;
@@ -81,12 +81,14 @@ permission_examples = record {
   on_attribute = refl;
   on_entry = refl;
   on_management = refl;
+  on_its_entry = refl;
   first_entry = λ records realm e f r denied. rw denied refl;
   second_entry = λ records realm e f r free denied. rw (free, denied) refl;
   no_entry = λ records realm absent r. rw (absent, r) refl;
   management = λ records realm w. rw w refl;
   nothing_there = λ records realm exists r none i. rw (exists, r, none, i) refl;
   value_there = λ records realm found exists r w some i. rw (exists, r, w, some, i) refl;
+  end_there = λ records realm found exists r some. rw (exists, r, some) refl;
   no_a = λ records realm exists r rights. rw (exists, r, rights) refl;
 }
 

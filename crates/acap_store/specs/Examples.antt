@@ -103,7 +103,7 @@ pub record ItemExamples (records : Stored) : Type 0 where
   pub above : (items : List StoreItem) (e : StoreEntry) → e.path ≡ record { dataset = codes "/option/user/joe/a/b/"; name = codes "c" } →
       is_invalid records (e ∷ []) (entry (codes "a") (value (codes "entry") Default ∷ [])) (value (codes "entry") Default) ≡ true
   -- a path whose dataset only begins alike lies beside it
-  pub alike : (items : List StoreItem) (e : StoreEntry) → e.path ≡ record { dataset = codes "/option/user/joe/ab/"; name = codes "c" } → resolved_at records (at (codes "a")) (codes "subdataset") ≡ None →
+  pub alike : (e : StoreEntry) → e.path ≡ record { dataset = codes "/option/user/joe/ab/"; name = codes "c" } → resolved_at records (at (codes "a")) (codes "subdataset") ≡ None →
       is_invalid records (e ∷ []) (entry (codes "a") (value (codes "entry") Default ∷ [])) (value (codes "entry") Default) ≡ false
   -- an entry may end where it makes no dataset
   pub makes_none : resolved_at records (at (codes "a")) (codes "subdataset") ≡ None → judged records (codes "a") (value (codes "entry") (Put Nil) ∷ value (codes "entry") Default ∷ []) ≡ false ∷ false ∷ []
@@ -156,6 +156,7 @@ rights_at records realm attribute = rights_of records realm joe (OfEntry home at
 abbrev pub denied_items : Stored → Realm → List StoreItem → Option Refusal
 denied_items records realm items = permission records realm joe (entry (codes "a") items ∷ [])
 
+-- the answer where a right is missing on an attribute of that entry
 abbrev pub missing_on : List ℕ → Option Refusal
 missing_on attribute = Some (refusals.Permission (record { dataset = home; attribute = Some attribute; name = Some (codes "a") }))
 
@@ -173,18 +174,21 @@ pub record PermissionExamples : Type 0 where
   pub on_attribute : list_target (at []) (value (codes "dataset.acl.k") (Put Nil)) ≡ Some (OfAttribute home (codes "k"))
   pub on_entry : list_target (at (codes "a")) (acl (codes "k") (Put Nil)) ≡ Some (OfEntry home (codes "k") (codes "a"))
   pub on_management : item_target (at []) (value (codes "dataset.inherit") (Put Nil)) ≡ OfEntry home (codes "dataset.inherit") []
+  pub on_its_entry : list_target (at []) (acl (codes "k") (Put Nil)) ≡ Some (OfEntry home (codes "k") [])
   -- the first entry at which rights are missing is told, wherever it stands
   pub first_entry : (records : Stored) (realm : Realm) (e f : StoreEntry) (r : Refusal) → permission_in records realm joe e ≡ Some r → permission records realm joe (e ∷ f ∷ []) ≡ Some r
   pub second_entry : (records : Stored) (realm : Realm) (e f : StoreEntry) (r : Refusal) → permission_in records realm joe e ≡ None → permission_in records realm joe f ≡ Some r → permission records realm joe (e ∷ f ∷ []) ≡ Some r
   -- in it its `entry` comes before its items, and the management entry is asked for its items alone
   pub no_entry : (records : Stored) (realm : Realm) → exists_at records (at (codes "a")) ≡ false → rights_at records realm (codes "entry") ≡ with_r → denied_items records realm (value (codes "k") Default ∷ []) ≡ missing_on (codes "entry")
   pub management : (records : Stored) (realm : Realm) → rights_of records realm joe (OfEntry home (codes "k") []) ≡ record no_rights { w = true } → permission records realm joe (entry [] (value (codes "k") Default ∷ []) ∷ []) ≡ None
-  -- where the value that is there resolves to NIL i suffices, and where it doesn't it doesn't, in the second item as in the first
+  -- i suffices where the attribute resolves to NIL and nowhere else, and each item is judged: an `entry` too, which ends
   pub nothing_there : (records : Stored) (realm : Realm) → exists_at records (at (codes "a")) ≡ true → rights_at records realm (codes "entry") ≡ with_r
       → resolved_at records (at (codes "a")) (codes "k") ≡ None → rights_at records realm (codes "k") ≡ record no_rights { i = true } → denied_items records realm (value (codes "k") Default ∷ []) ≡ None
   pub value_there : (records : Stored) (realm : Realm) (found : Cell × List ℕ) → exists_at records (at (codes "a")) ≡ true → rights_at records realm (codes "entry") ≡ with_r
       → rights_at records realm (codes "k") ≡ record no_rights { w = true } → resolved_at records (at (codes "a")) (codes "l") ≡ Some found → rights_at records realm (codes "l") ≡ record no_rights { i = true }
       → denied_items records realm (value (codes "k") Default ∷ value (codes "l") Default ∷ []) ≡ missing_on (codes "l")
+  pub end_there : (records : Stored) (realm : Realm) (found : Cell × List ℕ) → exists_at records (at (codes "a")) ≡ true → rights_at records realm (codes "entry") ≡ record no_rights { r = true; i = true }
+      → resolved_at records (at (codes "a")) (codes "entry") ≡ Some found → denied_items records realm (value (codes "entry") (Put Nil) ∷ []) ≡ missing_on (codes "entry")
   -- a list of an attribute needs a on it
   pub no_a : (records : Stored) (realm : Realm) → exists_at records (at (codes "a")) ≡ true → rights_at records realm (codes "entry") ≡ with_r
       → rights_at records realm (codes "k") ≡ record { x = true; r = true; w = true; i = true; a = false } → denied_items records realm (acl (codes "k") Default ∷ []) ≡ missing_on (codes "k")
