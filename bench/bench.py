@@ -79,6 +79,7 @@ def inputs():
     search = lambda n: 'SEARCH "/option/~/" RETURN (' + " ".join(f'"option.a{i}"' for i in range(n)) + ") ALL"
     for count in (1, 5):
         yield f"SEARCH of 10,000 entries, {count} attributes", "us", filled(10_000, count), lines([search(count)] * 40), 40
+    yield "SEARCH of 60,000 entries, 1 attributes", "us", filled(60_000), lines([search(1)] * 10), 10
     sorted_by = 'SEARCH "/option/~/" RETURN ("option.a0") SORT ("option.a0" "-i;ascii-numeric") ALL'
     yield "SEARCH of 10,000 entries, SORT by a number", "us", filled(10_000, 1), lines([sorted_by] * 20), 20
     keyed = 'SEARCH "/option/~/" RETURN ("option.a0") AND COMPARE "option.a0" "i;octet" "0" PREFIX "option.a1" "i;octet" "0"'

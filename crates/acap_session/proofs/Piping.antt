@@ -7,7 +7,7 @@ use Rattle.std.proofs.lemmas.List.{append-nil, take-append-drop}
 use Rattle.acap_lexer.specs.Holding.{Held, held_limit}
 use Rattle.acap_login.specs.Login.{User}
 use Rattle.acap_machine.specs.Machine.{Machine, new_machine}
-use Rattle.acap_session.specs.Piping.{Fed, fed, fed_all, turns, hears, joined, always, begins, entered, IsQuiet, AreAnswered, IsWritten, HasRead, HasEnded, IsSettled, IsFed, IsOut, HasAnswered, HasTurned, HasRoom, MayTake, Goes, SoFar, IsSoFar, without_administrators}
+use Rattle.acap_session.specs.Piping.{Fed, fed, fed_all, turns, hears, joined, always, begins, entered, IsQuiet, AreAnswered, IsWritten, HasRead, HasEnded, IsSettled, IsFed, IsOut, HasTurned, HasRoom, MayTake, Goes, SoFar, IsSoFar, without_administrators}
 use Rattle.acap_machine.specs.Runs.{outcome_of, machine_after}
 use Rattle.acap_session.specs.Hearing.{opening}
 use Rattle.acap_session.specs.Saying.{added}
@@ -189,10 +189,6 @@ appends_none (Some u) = sym (append-nil u)
 pub out_none : (w : Option (List ℕ)) (waits : List ℕ) (Holds : List ℕ → Type 0) → Holds waits → IsOut w w waits Holds
 out_none w waits Holds h = record { front = []; sent = appends_none w; is = h }
 
--- all that waited is written
-pub out_all : (old new : Option (List ℕ)) (said waits : List ℕ) → Appends old new said → waits ≡ [] → IsOut old new waits (λ xs. xs ≡ said)
-out_all old new said waits a e = record { front = said; sent = a; is = ap (λ (ys : List ℕ). said ++ ys) e ∙ append-nil said }
-
 out_then : (a b c : Option (List ℕ)) (mid waits : List ℕ) (P S Q : List ℕ → Type 0) → IsOut a b mid P → IsOut b c waits S → ((front said : List ℕ) → P (front ++ mid) → S said → Q (front ++ said)) → IsOut a c waits Q
 out_then a b c mid waits P S Q p s k = record {
   front = p.front ++ s.front;
@@ -236,10 +232,6 @@ FedOut users piece s old new mid = IsOut old new mid.out (λ said. IsFed users p
 
 pub fed_out : (users : List User) (piece rest : List ℕ) (s new : Scene) (a b : Option (List ℕ)) → PartsOut users piece rest s a b new → (is_closed new.talk.stage ≡ false → rest ≡ []) → FedOut users piece s a b new
 fed_out users piece rest s new a b p all = record { front = p.front; sent = p.sent; is = fed_whole users piece rest s (prefixed p.front new) p.is all }
-
--- and then all of it is written
-pub answered_out : (users : List User) (piece : List ℕ) (m : Machine) (t : Talking) (new : Scene) (a b c : Option (List ℕ)) → FedOut users piece (scene m t []) a b new → Appends b c new.out → HasAnswered users piece a c m t new.machine new.talk
-answered_out users piece m t new a b c p s = record { said = p.front ++ new.out; heard = p.is; sent = appends_then a b c p.front new.out p.sent s }
 
 -- ---- pieces behind pieces
 
