@@ -23,7 +23,10 @@ pub(crate) fn put_all(entries: &mut Leaves<Path, Boxed<Record>>, writes: Writes)
     while let Some((path, fate)) = left.pop() {
         match fate {
             Fate::Put(record) => entries.put(path, record),
-            Fate::Remove => entries.take_out(&path),
+            Fate::Remove => {
+                entries.take_out(&path);
+                drop(path);
+            }
         }
     }
 }

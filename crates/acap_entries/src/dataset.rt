@@ -6,8 +6,7 @@ ghost use Rattle.acap_entries.specs.Homes as home;
 use crate::copying::Copying;
 use crate::memory::Memory;
 use crate::name_fault::NameFault;
-use crate::octets::Octets;
-use crate::text::UserName;
+use crate::text::{DatasetText, UserName};
 use crate::{homes, names};
 use std::alloc::Global;
 use std::marker::Model;
@@ -15,7 +14,7 @@ use std::marker::Model;
 /// The name of a dataset: an absolute path that ends in `/` (RFC 2244 section 3.1).
 #[derive(Debug, PartialEq, Eq, PartialOrd, Ord, Drop)]
 pub struct Dataset {
-    octets: Octets,
+    octets: DatasetText,
 }
 
 impl Model for Dataset {
@@ -64,7 +63,7 @@ impl Dataset {
         requires { IsTrue (name.ends_with name.slash octets.now) }
         ensures { IfOk result (λ made. made ≡ octets.now) }
     {
-        let octets = Octets::from_slice(alloc, octets)?;
+        let octets = DatasetText::from_slice(alloc, octets)?;
         Ok(Dataset { octets })
     }
 
@@ -113,11 +112,7 @@ impl Copying for Dataset {
 fn closed(alloc: Global, octets: &[u8]) -> Result<Dataset, Memory>
     ensures { IfOk result (λ made. made ≡ name.closed octets.now) }
 {
-    let mut bytes = Vec::from_slice(alloc, octets)?;
-    if !names::ends_with(octets, b'/') {
-        bytes.push(b'/')?;
-    }
-    Ok(Dataset {
-        octets: Octets::from_vec(bytes),
-    })
+    let missing: &[u8] = if names::ends_with(octets, b'/') { b"" } else { b"/" };
+    let octets = DatasetText::joined(alloc, octets, missing, b"", b"")?;
+    Ok(Dataset { octets })
 }

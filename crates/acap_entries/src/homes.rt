@@ -5,7 +5,7 @@ ghost use Rattle.acap_entries.specs.Homes as home;
 use crate::copying::Copying;
 use crate::memory::Memory;
 use crate::names::first_slash;
-use crate::octets::Octets;
+use crate::text::DatasetText;
 use std::alloc::Global;
 
 // Where the second component of a dataset begins, if that is `~`.
@@ -26,22 +26,16 @@ fn tilde_at(dataset: &[u8]) -> Option<usize>
 }
 
 // The octets with `user/USER` in place of the one octet there, in no more memory than they need.
-fn replaced(alloc: Global, octets: &[u8], at: usize, user: &[u8]) -> Result<Octets, Memory>
+fn replaced(alloc: Global, octets: &[u8], at: usize, user: &[u8]) -> Result<DatasetText, Memory>
     requires { at < length octets.now }
     ensures { IfOk result (λ made. made ≡ take at octets.now ++ codes "user/" ++ user.now ++ drop (at + 1) octets.now) }
 {
-    let room = octets.len().saturating_add(user.len()).saturating_add(4);
-    let mut made = Vec::with_capacity(alloc, room)?;
-    made.extend_from_slice(&octets[..at])?;
-    made.extend_from_slice(b"user/")?;
-    made.extend_from_slice(user)?;
-    made.extend_from_slice(&octets[at + 1..])?;
-    Ok(Octets::from_vec(made))
+    DatasetText::joined(alloc, &octets[..at], b"user/", user, &octets[at + 1..])
 }
 
 // The dataset that a user means, in memory of its own.
 #[tactic(auto, unfolding(crate::specs::Homes::for_user))]
-pub(crate) fn for_user(dataset: &Octets, user: &[u8]) -> Result<Octets, Memory>
+pub(crate) fn for_user(dataset: &DatasetText, user: &[u8]) -> Result<DatasetText, Memory>
     ensures { IfOk result (λ made. made ≡ home.for_user user.now dataset.now) }
 {
     match tilde_at(dataset.as_slice()) {
@@ -52,7 +46,7 @@ pub(crate) fn for_user(dataset: &Octets, user: &[u8]) -> Result<Octets, Memory>
 
 // The same, in the memory that the octets have where they stay.
 #[tactic(auto, unfolding(crate::specs::Homes::for_user))]
-pub(crate) fn into_for_user(dataset: Octets, user: &[u8]) -> Result<Octets, Memory>
+pub(crate) fn into_for_user(dataset: DatasetText, user: &[u8]) -> Result<DatasetText, Memory>
     ensures { IfOk result (λ made. made ≡ home.for_user user.now dataset) }
 {
     match tilde_at(dataset.as_slice()) {

@@ -1,5 +1,5 @@
 //! The texts of a server: attributes, entries, users, contexts and values, each a string of octets of its own kind.
-ghost use Rattle.std.specs.Prelude.{◌≡◌, ◌↔◌, IfOk, OnOk, IsTrue, Err, Some, refl, false, nat_eq, ℕ, List, Bool};
+ghost use Rattle.std.specs.Prelude.{◌≡◌, ◌↔◌, ◌++◌, IfOk, OnOk, IsTrue, Err, Some, refl, false, nat_eq, ℕ, List, Bool};
 ghost use Rattle.std.specs.Cmp.Lexicographic.{pointwise, slice_cmp, nat_list_eq_equiv, nat_list_cmp_total, texts_ties, texts_po};
 ghost use Rattle.std.specs.Cmp.{partial_equiv_from_equiv};
 ghost use Rattle.std.specs.Ordering.{nat_cmp};
@@ -10,6 +10,7 @@ use crate::memory::Memory;
 use crate::name_fault::NameFault;
 use crate::names;
 use crate::octets::Octets;
+use smallvec::SmallVec;
 use std::alloc::Global;
 use std::cmp::Ordering;
 use std::marker::{Model, PhantomData};
@@ -28,6 +29,9 @@ pub type UserName = Text<UserKind>;
 
 /// A string of octets that an attribute may have (RFC 2244 section 3.1).
 pub type Value = Text<ValueKind>;
+
+/// The octets of a dataset's name.
+pub(crate) type DatasetText = Text<DatasetKind>;
 
 /// The names of attributes.
 #[derive(Debug, Drop)]
@@ -49,6 +53,13 @@ pub struct UserKind;
 #[derive(Debug, Drop)]
 pub struct ValueKind;
 
+/// The names of datasets.
+#[derive(Debug, Drop)]
+pub struct DatasetKind;
+
+/// How many octets lie in the text itself and take no memory of their own: most names and values are no longer.
+const INLINE: usize = 24;
+
 /// A kind of names: which octets are such a name.
 pub trait Kind {
     ghost is_name: { List ℕ → Bool };
@@ -61,7 +72,7 @@ pub trait Kind {
 /// Octets of a kind, ordered octet by octet with a proper prefix first.
 #[derive(Debug, Drop)]
 pub struct Text<K> {
-    octets: Octets,
+    octets: SmallVec<u8, INLINE>,
     kind: PhantomData<K>,
 }
 
@@ -70,7 +81,7 @@ impl<K> Model for Text<K> {
 
     ghost Value = { List ℕ };
 
-    ghost view = { λ v. v.octets };
+    ghost view = { λ v. v.octets.items };
 }
 
 impl<K: Kind> Text<K> {
@@ -88,9 +99,9 @@ impl<K: Kind> Text<K> {
 }
 
 impl<K> Text<K> {
-    /// Any octets as they are, in the memory that they have.
-    pub fn new(octets: Octets) -> Text<K>
-        ensures { result ≡ octets }
+    // The text of these octets.
+    fn of(octets: SmallVec<u8, INLINE>) -> Text<K>
+        ensures { result ≡ octets.items }
     {
         Text {
             octets,
@@ -98,12 +109,47 @@ impl<K> Text<K> {
         }
     }
 
+    /// Any octets as they are. Takes no memory, and keeps that which they have, if they are many.
+    pub fn new(octets: Octets) -> Text<K>
+        ensures { result ≡ octets }
+    {
+        Text::of(SmallVec::from_vec(octets.into_vec()))
+    }
+
     /// Any octets as they are, copied. Fails only for want of memory.
     pub fn from_slice(alloc: Global, octets: &[u8]) -> Result<Text<K>, Memory>
         ensures { IfOk result (λ made. made ≡ octets.now) }
     {
-        let octets = Octets::from_slice(alloc, octets)?;
-        Ok(Text::new(octets))
+        let octets = SmallVec::from_slice(alloc, octets)?;
+        Ok(Text::of(octets))
+    }
+
+    /// The octets of four texts, one behind the other. Fails only for want of memory.
+    pub(crate) fn joined(
+        alloc: Global,
+        first: &[u8],
+        second: &[u8],
+        third: &[u8],
+        fourth: &[u8],
+    ) -> Result<Text<K>, Memory>
+        ensures { IfOk result (λ made. made ≡ first.now ++ second.now ++ third.now ++ fourth.now) }
+    {
+        let room = first
+            .len()
+            .saturating_add(second.len())
+            .saturating_add(third.len())
+            .saturating_add(fourth.len());
+        let mut octets = SmallVec::with_capacity(alloc, room)?;
+        octets.extend_from_slice(first)?;
+        octets.extend_from_slice(second)?;
+        octets.extend_from_slice(third)?;
+        octets.extend_from_slice(fourth)?;
+        Ok(Text::of(octets))
+    }
+
+    /// The allocator that keeps them.
+    pub(crate) fn allocator(&self) -> Global {
+        *self.octets.allocator()
     }
 
     /// The octets.
@@ -116,8 +162,7 @@ impl<K> Text<K> {
 
 impl<K> Copying for Text<K> {
     fn copy(&self) -> Result<Text<K>, Memory> {
-        let octets = self.octets.copy()?;
-        Ok(Text::new(octets))
+        Text::from_slice(self.allocator(), self.as_slice())
     }
 }
 
@@ -127,7 +172,7 @@ impl<K> PartialEq for Text<K> {
     ghost laws = { partial_equiv_from_equiv nat_list_eq_equiv };
 
     fn eq(&self, other: &Text<K>) -> bool {
-        self.octets == other.octets
+        self.as_slice() == other.as_slice()
     }
 }
 
@@ -155,7 +200,7 @@ impl<K> Ord for Text<K> {
     ghost matches_eq = { texts_ties };
 
     fn cmp(&self, other: &Text<K>) -> Ordering {
-        self.octets.cmp(&other.octets)
+        self.as_slice().cmp(&other.as_slice())
     }
 }
 
