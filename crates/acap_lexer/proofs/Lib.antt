@@ -14,6 +14,7 @@ pub mod Reaching
 pub mod Advancing
 pub mod PrintedLength
 pub mod Runs
+pub mod PlainTexts
 pub mod LexerLaws
 pub mod Computing
 pub mod Asking

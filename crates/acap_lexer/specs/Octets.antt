@@ -1,5 +1,5 @@
 -- Which octets may stand where. [RFC 2244, 2.6 and 8]
-use Rattle.std.specs.Prelude.{ℕ, Bool, not, ◌||◌, ◌&&◌, nat_le, ◌==◌}
+use Rattle.std.specs.Prelude.{ℕ, Bool, not, ◌||◌, ◌&&◌, nat_le, nat_lt, ◌==◌}
 
 -- ---- octets by name
 
@@ -49,6 +49,10 @@ is_tag c = c == 0x21 || within 0x23 0x27 c || within 0x2C 0x5B c || within 0x5D 
 -- between quotes, as itself: any but NUL, LF, CR, `"` and `\`
 unfoldable pub is_quotable : ℕ → Bool
 is_quotable c = not (c == 0 || c == line_feed || c == carriage_return || c == quote || c == backslash)
+
+-- between quotes, as itself, and a character alone
+unfoldable pub is_plain : ℕ → Bool
+is_plain c = is_quotable c && nat_lt c 128
 
 -- between quotes, behind a backslash: `"` and `\`
 unfoldable pub is_escaped : ℕ → Bool

@@ -1,7 +1,7 @@
 //! Which octets may stand where.
 
 ghost use Rattle.std.specs.Prelude.{◌≡◌};
-ghost use Rattle.acap_lexer.specs.Octets.{is_word, is_tag, is_quotable, is_escaped, is_digit};
+ghost use Rattle.acap_lexer.specs.Octets.{is_word, is_tag, is_quotable, is_plain, is_escaped, is_digit};
 
 /// Where each octet may stand: `0` nowhere as itself, `1` in a quoted string, `2` in a word too, `3` in a tag too.
 static CLASSES: [u8; 256] = *b"\
@@ -33,6 +33,14 @@ pub(crate) fn is_quotable(c: u8) -> bool
     ensures { result ≡ is_quotable c }
 {
     CLASSES[c as usize] != b'0'
+}
+
+#[inline]
+#[tactic(auto, unfolding(crate::specs::Octets::is_plain))]
+pub(crate) fn is_plain(c: u8) -> bool
+    ensures { result ≡ is_plain c }
+{
+    is_quotable(c) && c < 128
 }
 
 #[tactic(auto, unfolding(crate::specs::Octets::is_escaped))]

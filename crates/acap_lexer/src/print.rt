@@ -1,17 +1,20 @@
 //! The printed form of a string.
 
-ghost use Rattle.std.specs.Prelude.{◌≡◌, ◌++◌, OnOk, OnErr, MatchOption, nat_le, length, count_by};
+ghost use Rattle.std.specs.Prelude.{◌≡◌, ◌++◌, ◌∷◌, [], OnOk, OnErr, MatchOption, IsTrue, nat_le, length, count_by};
 ghost use Rattle.std.specs.List.{list_all};
-ghost use Rattle.acap_lexer.specs.Octets.{is_escaped as is_escaped_octet};
+ghost use Rattle.acap_lexer.specs.Octets.{is_escaped as is_escaped_octet, is_plain as is_plain_octet, quote};
 ghost use Rattle.std.specs.Str.{is_utf8};
 ghost use Rattle.acap_lexer.specs.Printing.{escaped, is_printable, may_quote, quoted, literal, printed, Grows};
 ghost use Rattle.acap_lexer.specs.Escapes.{IsSplitAtEscape};
 
 use crate::fault::Memory;
-use crate::octets::is_escaped;
+use crate::octets::{is_escaped, is_plain};
 use memchr::{memchr2, memchr3};
 
 const QUOTED_LIMIT: usize = 1024;
+
+/// A text of at most so many octets is looked at once, octet by octet.
+const SCANNED: usize = 64;
 
 /// How many octets want a backslash.
 fn escapes(text: &[u8]) -> usize
@@ -115,11 +118,38 @@ fn append_string(text: &[u8], out: &mut Vec<u8>) -> Result<(), Memory>
     ensures ok { OnOk result (out.new.items ≡ out.old.items ++ printed text.now) }
     ensures grows { Grows out.old.items out.new.items }
 {
-    if may_quote(text) {
+    if is_plain_text(text) {
+        append_plain(text, out)
+    } else if may_quote(text) {
         append_quoted(text, out)
     } else {
         append_literal(text, out)
     }
+}
+
+fn all_plain(text: &[u8]) -> bool
+    ensures { result ≡ list_all is_plain_octet text.now }
+{
+    text.iter().all(|c| is_plain(*c))
+}
+
+/// Whether a text is known to stand between quotes as it is.
+#[tactic(auto, using(crate::proofs::PlainTexts::plain_form))]
+fn is_plain_text(text: &[u8]) -> bool
+    ensures { IsTrue result → printed text.now ≡ quote ∷ [] ++ text.now ++ quote ∷ [] }
+{
+    text.len() <= SCANNED && all_plain(text)
+}
+
+fn append_plain(text: &[u8], out: &mut Vec<u8>) -> Result<(), Memory>
+    ensures ok { OnOk result (out.new.items ≡ out.old.items ++ (quote ∷ [] ++ text.now ++ quote ∷ [])) }
+    ensures grows { Grows out.old.items out.new.items }
+{
+    out.reserve(text.len() + 2)?;
+    out.push(b'"')?;
+    out.extend_from_slice(text)?;
+    out.push(b'"')?;
+    Ok(())
 }
 
 /// Adds the printed form of the string: the whole of it, or nothing.
