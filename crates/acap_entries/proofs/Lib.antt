@@ -18,3 +18,4 @@ pub mod FullPathLaws
 pub mod DatasetRanges
 pub mod Equalities
 pub mod RecordEquality
+pub mod WordLemmas

@@ -2,6 +2,7 @@
 ghost use Rattle.std.specs.Prelude.{◌≡◌, ◌++◌, []};
 ghost use Rattle.acap_entries.specs.Orders.{octets_cmp};
 
+use crate::comparing::compare;
 use crate::path::Path;
 use crate::text::Attribute;
 use std::cmp::Ordering;
@@ -41,7 +42,7 @@ impl<'a> Probe<Attribute> for AttributeText<'a> {
     ghost key = { λ p. p.octets.now };
 
     fn compare(&self, known: &Attribute) -> Ordering {
-        self.octets.cmp(&known.as_slice())
+        compare(self.octets, known.as_slice())
     }
 }
 
@@ -58,8 +59,8 @@ impl<'a> Probe<Path> for PathText<'a> {
     ghost key = { λ p. record { dataset = p.dataset.now; name = p.name.now } };
 
     fn compare(&self, known: &Path) -> Ordering {
-        match self.dataset.cmp(&known.dataset.as_slice()) {
-            Ordering::Equal => self.name.cmp(&known.name.as_slice()),
+        match compare(self.dataset, known.dataset.as_slice()) {
+            Ordering::Equal => compare(self.name, known.name.as_slice()),
             unequal => unequal,
         }
     }
@@ -79,7 +80,7 @@ impl<'a> Probe<Path> for Edge<'a> {
 
     fn compare(&self, known: &Path) -> Ordering {
         match cmp_joined(self.front, self.last, known.dataset.as_slice()) {
-            Ordering::Equal => b"".as_slice().cmp(&known.name.as_slice()),
+            Ordering::Equal => compare(b"", known.name.as_slice()),
             unequal => unequal,
         }
     }
@@ -108,9 +109,9 @@ pub(crate) fn cmp_joined(front: &[u8], rest: &[u8], other: &[u8]) -> Ordering
 {
     if other.starts_with(front) {
         let (_, behind) = other.split_at(front.len());
-        return rest.cmp(&behind);
+        return compare(rest, behind);
     }
-    front.cmp(&other)
+    compare(front, other)
 }
 
 /// How octets that are given in two parts compare with others that are.
@@ -130,5 +131,5 @@ pub(crate) fn cmp_pairs(
         let (_, between) = front.split_at(other_front.len());
         return cmp_joined(between, rest, other_rest);
     }
-    front.cmp(&other_front)
+    compare(front, other_front)
 }

@@ -6,6 +6,7 @@ mod boxed;
 mod cell;
 mod change;
 mod civil;
+mod comparing;
 mod copying;
 mod dataset;
 mod deletion;

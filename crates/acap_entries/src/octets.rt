@@ -4,6 +4,7 @@ ghost use Rattle.std.specs.Cmp.Lexicographic.{pointwise, slice_cmp, nat_list_eq_
 ghost use Rattle.std.specs.Cmp.{partial_equiv_from_equiv};
 ghost use Rattle.std.specs.Ordering.{nat_cmp};
 
+use crate::comparing::compare;
 use crate::copying::Copying;
 use crate::memory::Memory;
 use std::alloc::Global;
@@ -101,6 +102,6 @@ impl Ord for Octets {
     ghost matches_eq = { texts_ties };
 
     fn cmp(&self, other: &Octets) -> Ordering {
-        self.as_slice().cmp(&other.as_slice())
+        compare(self.as_slice(), other.as_slice())
     }
 }

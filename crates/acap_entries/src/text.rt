@@ -5,6 +5,7 @@ ghost use Rattle.std.specs.Cmp.{partial_equiv_from_equiv};
 ghost use Rattle.std.specs.Ordering.{nat_cmp};
 ghost use Rattle.acap_entries.specs.Names as name;
 
+use crate::comparing::compare;
 use crate::copying::Copying;
 use crate::memory::Memory;
 use crate::name_fault::NameFault;
@@ -200,7 +201,7 @@ impl<K> Ord for Text<K> {
     ghost matches_eq = { texts_ties };
 
     fn cmp(&self, other: &Text<K>) -> Ordering {
-        self.as_slice().cmp(&other.as_slice())
+        compare(self.as_slice(), other.as_slice())
     }
 }
 

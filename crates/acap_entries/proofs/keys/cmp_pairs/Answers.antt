@@ -14,5 +14,5 @@ returns-then-starts_with-2 c =
 
 pub returns : goal.returns
 returns c =
-    rw c.cmp.ensures
+    rw c.compare.ensures
     (sym (fronts_apart c.args.front.now c.args.rest.now c.args.other_front.now c.args.other_rest.now (sym c.starts_with.ensures.value ∙ c.if-starts_with.false) (sym c.starts_with-2.ensures.value ∙ c.if-starts_with-2.false)))

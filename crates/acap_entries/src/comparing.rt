@@ -1,0 +1,32 @@
+//! How octets compare, word by word where they are alike.
+ghost use Rattle.std.specs.Prelude.{◌≡◌, ◌<◌, length, IfSome};
+ghost use Rattle.acap_entries.specs.Orders.{octets_cmp};
+
+use std::cmp::Ordering;
+
+// What is left of two texts behind their first eight octets, where these are alike.
+fn behind_word<'a>(a: &'a [u8], b: &'a [u8]) -> Option<(&'a [u8], &'a [u8])>
+    ensures order { IfSome result (λ left. octets_cmp left.0.now left.1.now ≡ octets_cmp a.now b.now) }
+    ensures shorter { IfSome result (λ left. length left.0.now < length a.now) }
+{
+    let (first, left) = a.split_first_chunk::<8>()?;
+    let (second, right) = b.split_first_chunk::<8>()?;
+    if first == second {
+        Some((left, right))
+    } else {
+        None
+    }
+}
+
+/// How octets compare with others, octet by octet with a proper prefix first. Takes no memory.
+pub(crate) fn compare(a: &[u8], b: &[u8]) -> Ordering
+    ensures { result ≡ octets_cmp a.now b.now }
+{
+    let mut left = a;
+    let mut right = b;
+    'words: while let Some((first, second)) = behind_word(left, right) {
+        left = first;
+        right = second;
+    }
+    left.cmp(&right)
+}
