@@ -7,7 +7,7 @@ use crate::copying::{Copying, copy_all};
 use crate::keys::Whole;
 use crate::memory::Memory;
 use crate::seat::Seat;
-use crate::sorted::{lookup, put_in_room, room_for_one, take_out};
+use crate::sorted::{lookup, set_in, take_out};
 use std::alloc::Global;
 use std::marker::Model;
 
@@ -55,8 +55,7 @@ impl<V: Drop> Seats<V> {
         ensures ok { OnOk result (self.new ≡ map.insert self.old seat given) }
         ensures err { OnErr result (self.new ≡ self.old) }
     {
-        room_for_one(&mut self.entries)?;
-        put_in_room(&mut self.entries, seat, given);
+        set_in(&mut self.entries, seat, given)?;
         Ok(())
     }
 

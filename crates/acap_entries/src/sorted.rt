@@ -1,5 +1,5 @@
 //! Entries in the order of their keys: look-ups by halves, and edits in room that there is.
-ghost use Rattle.std.specs.Prelude.{◌≡◌, ◌+◌, ◌<◌, ◌≤◌, length, IsTrue, vec_len, vec_capacity, OnOk};
+ghost use Rattle.std.specs.Prelude.{◌≡◌, ◌+◌, ◌<◌, ◌≤◌, length, IsTrue, vec_len, vec_capacity, OnOk, OnErr, false};
 ghost use Rattle.std.specs.Option.{option_copied};
 ghost use Rattle.acap_entries.specs.Sorted.{place, is_tied, without, found, put_in, InOrder};
 
@@ -37,6 +37,30 @@ pub fn lookup<'a, K: Ord, V, Q: Probe<K>>(entries: &'a [(K, V)], probe: &Q) -> O
     if tied { Some(&entries[at].1) } else { None }
 }
 
+// Sets the value of a key whose place is known, in the room that there is.
+fn put_there<K: Ord + Drop, V: Drop>(
+    entries: &mut Vec<(K, V)>,
+    at: usize,
+    tied: bool,
+    key: K,
+    value: V,
+)
+    requires place { at ≡ place K.cmp key entries.old.items }
+    requires tied { tied ≡ is_tied K.cmp key entries.old.items }
+    requires within { at ≤ vec_len entries.old }
+    requires below { IsTrue tied → at < vec_len entries.old }
+    requires room { tied ≡ false → vec_len entries.old < vec_capacity entries.old }
+    ensures len { vec_len entries.new ≤ vec_len entries.old + 1 }
+    ensures items { entries.new.items ≡ put_in K.cmp key value entries.old.items }
+    ensures capacity { vec_capacity entries.new ≡ vec_capacity entries.old }
+{
+    if tied {
+        entries[at].1 = value;
+    } else {
+        entries.insert(at, (key, value)).unwrap();
+    }
+}
+
 /// Sets the value of a key, in the room that there is. Takes no memory.
 pub fn put_in_room<K: Ord + Drop, V: Drop>(entries: &mut Vec<(K, V)>, key: K, value: V)
     requires room { vec_len entries.old < vec_capacity entries.old }
@@ -46,11 +70,26 @@ pub fn put_in_room<K: Ord + Drop, V: Drop>(entries: &mut Vec<(K, V)>, key: K, va
     ensures capacity { vec_capacity entries.new ≡ vec_capacity entries.old }
 {
     let (at, tied) = place_of(entries.as_slice(), &Whole { key: &key });
-    if tied {
-        entries[at].1 = value;
-    } else {
-        entries.insert(at, (key, value)).unwrap();
+    put_there(entries, at, tied, key, value);
+}
+
+/// Sets the value of a key: in its place where it is there, else in room that is made for it. Fails only for want of memory,
+/// and then the entries stay.
+pub fn set_in<K: Ord + Drop, V: Drop>(
+    entries: &mut Vec<(K, V)>,
+    key: K,
+    value: V,
+) -> Result<(), Memory>
+    requires { InOrder K.cmp entries.old.items }
+    ensures ok { OnOk result (entries.new.items ≡ put_in K.cmp key value entries.old.items) }
+    ensures err { OnErr result (entries.new.items ≡ entries.old.items) }
+{
+    let (at, tied) = place_of(entries.as_slice(), &Whole { key: &key });
+    if !tied {
+        room_for_one(entries)?;
     }
+    put_there(entries, at, tied, key, value);
+    Ok(())
 }
 
 /// Makes room for one entry more: the first has room of its own, and later ones half as much again as there is, so that

@@ -11,7 +11,7 @@ use crate::copying::{Copying, copy_all};
 use crate::keys::{AttributeText, Probe, Whole};
 use crate::lists::Values;
 use crate::memory::Memory;
-use crate::sorted::{lookup, put_in_room, room_for_one, take_out};
+use crate::sorted::{lookup, set_in, take_out};
 use crate::text::Attribute;
 use std::alloc::Global;
 use std::marker::Model;
@@ -97,8 +97,7 @@ impl<V: Drop> Table<V> {
         ensures ok { OnOk result (self.new ≡ map.insert self.old attribute given) }
         ensures err { OnErr result (self.new ≡ self.old) }
     {
-        room_for_one(&mut self.entries)?;
-        put_in_room(&mut self.entries, attribute, given);
+        set_in(&mut self.entries, attribute, given)?;
         Ok(())
     }
 

@@ -10,7 +10,7 @@ use crate::fate::Fate;
 use crate::keys::{PathText, Whole};
 use crate::memory::Memory;
 use crate::path::Path;
-use crate::sorted::{lookup, put_in_room, room_for_one, take_out};
+use crate::sorted::{lookup, set_in, take_out};
 use std::alloc::Global;
 use std::marker::Model;
 
@@ -79,8 +79,7 @@ impl Writes {
         ensures ok { OnOk result (self.new ≡ map.insert self.old path fate) }
         ensures err { OnErr result (self.new ≡ self.old) }
     {
-        room_for_one(&mut self.entries)?;
-        put_in_room(&mut self.entries, path, fate);
+        set_in(&mut self.entries, path, fate)?;
         Ok(())
     }
 

@@ -6,3 +6,4 @@ pub mod HomeLemmas
 pub mod ListLemmas
 pub mod PairLemmas
 pub mod RightsLemmas
+pub mod SharingLemmas

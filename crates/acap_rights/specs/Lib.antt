@@ -7,3 +7,4 @@ pub mod Laws
 pub mod Pairs
 pub mod Realms
 pub mod Rights
+pub mod Sharing

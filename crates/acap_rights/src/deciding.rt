@@ -35,8 +35,8 @@ fn own_list<'a>(entry: Option<&'a Record>, attribute: &[u8]) -> Option<&'a [Valu
     }
 }
 
-// The list of a dataset in its management entry.
-fn dataset_list(management: Option<&Record>) -> Option<&[Value]>
+/// The list of a dataset in its management entry.
+pub(crate) fn dataset_list(management: Option<&Record>) -> Option<&[Value]>
     ensures { option_copied result ≡ option_and_then rule.list_in (option_and_then (λ entry. map.get entry.cells (codes "dataset.acl")) (option_copied management.entry)) }
 {
     match management {

@@ -1,6 +1,7 @@
 //! What rights a user has. No call here takes memory.
 ghost use Rattle.std.specs.Prelude.{◌≡◌};
-ghost use Rattle.acap_rights.specs.Rights.{rights_by};
+ghost use Rattle.acap_rights.specs.Rights.{rights_by, union};
+ghost use Rattle.std.specs.Option.{option_copied, unwrap_or};
 ghost use Rattle.acap_rights.specs.Pairs as rule;
 ghost use Rattle.acap_rights.specs.Homes.{default_list};
 ghost use Rattle.acap_rights.specs.Deciding as decided;
@@ -111,6 +112,26 @@ pub fn implicit_rights(realm: &Realm, identifier: &[u8], dataset: &[u8]) -> Righ
     }
 }
 
+/// The rights of a user by the stored list that decides in a dataset, else by its default, and the implicit rights.
+pub(crate) fn rights_by(
+    realm: &Realm,
+    user: &UserName,
+    dataset: &[u8],
+    stored: Option<&[Value]>,
+) -> Rights
+    ensures { result ≡ union (rule.rights_in realm.now user.now (unwrap_or (option_copied stored.entry) (default_list dataset.now))) (decided.implicit_rights realm.now user.now dataset.now) }
+{
+    let user = user.as_slice();
+    let listed = match stored {
+        Some(acl) => rights_in(realm, user, acl),
+        None => default_rights(realm, user, dataset),
+    };
+    if listed == Rights::all() {
+        return listed;
+    }
+    listed.union(implicit_rights(realm, user, dataset))
+}
+
 /// The rights of a user on an object, be it there or not (RFC 2244 section 3.5): what the list that decides there gives, and
 /// the implicit rights.
 #[tactic(auto, unfolding(crate::specs::Deciding::rights_of, crate::specs::Deciding::deciding_list))]
@@ -122,14 +143,5 @@ pub fn rights_of<R: Records>(
 ) -> Rights
     ensures { result ≡ decided.rights_of (R.store records.now).records realm.now user.now (decided.target_of object.now) }
 {
-    let user = user.as_slice();
-    let dataset = object.dataset();
-    let listed = match stored_list(records, object) {
-        Some(acl) => rights_in(realm, user, acl),
-        None => default_rights(realm, user, dataset),
-    };
-    if listed == Rights::all() {
-        return listed;
-    }
-    listed.union(implicit_rights(realm, user, dataset))
+    rights_by(realm, user, object.dataset(), stored_list(records, object))
 }

@@ -1,5 +1,6 @@
 //! What follows from the definitions alone: each function does nothing, and its contract is the law.
 ghost use Rattle.acap_rights.specs.Laws.{PairLaw, WhomLaw, NegativeLaw, OrderLaw, AdministratorLaw, OwnerLaw, DecidingLaw, KeepingLaw, EditLaw};
+ghost use Rattle.acap_rights.specs.Sharing.{SharedLaw};
 ghost use Rattle.acap_rights.specs.Examples.{PairExamples, RightsExamples, HomeExamples, EditExamples};
 
 /// What a string of a list says is the pair whose form it is, and nothing where it is no pair's form.
@@ -35,6 +36,12 @@ pub fn owner_law()
 /// Which of the four lists decides, one after the other: the empty list decides too, and NIL is none.
 pub fn deciding_law()
     ensures { DecidingLaw }
+{}
+
+/// Rights that are asked once for a dataset are those on each attribute for which an entry has no list of its own.
+#[tactic(auto, using(crate::proofs::SharingLemmas::shared_law))]
+pub fn shared_law()
+    ensures { SharedLaw }
 {}
 
 /// Which attributes of a management entry are lists, and whose.

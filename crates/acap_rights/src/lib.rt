@@ -15,6 +15,7 @@ mod object;
 mod pairs;
 mod realm;
 mod rights;
+mod sharing;
 #[cfg(test)]
 mod tests;
 
@@ -26,9 +27,10 @@ pub use homes::is_owner;
 pub use keeping::{list_attribute, object_of_list};
 pub use laws::{
     administrator_law, deciding_law, edit_examples, edit_law, home_examples, keeping_law,
-    negative_law, order_law, owner_law, pair_examples, pair_law, rights_examples, whom_law,
+    negative_law, order_law, owner_law, pair_examples, pair_law, rights_examples, shared_law, whom_law,
 };
 pub use object::Object;
 pub use pairs::{is_acl, is_pair};
 pub use realm::Realm;
 pub use rights::Rights;
+pub use sharing::shared_rights;

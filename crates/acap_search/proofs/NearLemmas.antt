@@ -21,13 +21,14 @@ use Rattle.acap_entries.specs.declared.record.Record.{Record}
 use Rattle.acap_inherit.specs.EntryNames.{set_of, merged, names_in, names_on}
 use Rattle.acap_inherit.specs.Records.{record_at, cell_in, ends_inheritance}
 use Rattle.acap_inherit.specs.Resolving.{lying, by_cell, by_record, by_presence, greatest, until_end, entry_on, value_on, modtime_on, stamped, members_for, members_of, resolved}
-use Rattle.acap_rights.specs.Deciding.{Target, OfEntry, OfDataset, list_in, kept_list, stored_list, deciding_list, dataset_list_name, attribute_list_name, implicit_rights, rights_of}
+use Rattle.acap_rights.specs.Deciding.{Target, OfEntry, own_list, rights_of}
+use Rattle.acap_rights.proofs.SharingLemmas.{shared_law}
 use Rattle.acap_rights.specs.Homes.{default_list}
 use Rattle.acap_rights.specs.Pairs.{rights_in}
 use Rattle.acap_rights.specs.Rights.{union}
 use Rattle.acap_rights.specs.declared.realm.Realm.{Realm}
 use Rattle.acap_rights.specs.declared.rights.Rights.{Rights}
-use Rattle.acap_search.specs.Near.{is_list_name, has_list_names, own_value, IsPlain, AreKept}
+use Rattle.acap_search.specs.Near.{own_value, IsPlain, AreKept}
 use Rattle.acap_search.specs.Sight.{may_read, may_test, is_held, cell_at, own_acl, rights_on, answers_at}
 
 -- ---- the record
@@ -92,37 +93,6 @@ module _ (records : Stored) (dataset name : List ℕ) (entry : Record) (kept : r
 
 -- ---- the rights
 
-names_begin : (attribute : List ℕ) → is_list_name (attribute_list_name attribute) ≡ true
-names_begin attribute = refl
-
-not_found : (attribute : List ℕ) (es : List (List ℕ × Cell)) → list_any (λ e. is_list_name e.0) es ≡ false → find octets_cmp (attribute_list_name attribute) es ≡ None
-not_found attribute [] h = refl
-not_found attribute (e ∷ es) h =
-    elim (eq_by_cmp octets_cmp (attribute_list_name attribute) e.0) as (λ b. eq_by_cmp octets_cmp (attribute_list_name attribute) e.0 ≡ b → cond b (Some e.1) (find octets_cmp (attribute_list_name attribute) es) ≡ None) [
-      | true ↦ λ t.
-          let same : attribute_list_name attribute ≡ e.0 = same_text (attribute_list_name attribute) e.0 (sym (texts_ties (attribute_list_name attribute) e.0 ∙ t)) in
-          let begins : is_list_name e.0 ≡ true = ap is_list_name (sym same) ∙ names_begin attribute in
-          let yes : true ≡ (is_list_name e.0 || list_any (λ e. is_list_name e.0) es) = ap (λ b. b || list_any (λ e. is_list_name e.0) es) (sym begins) in
-          absurd (cc (yes, h))
-      | false ↦ λ t. not_found attribute es (second_none _ _ h)
-    ] refl
-
-no_list : (attribute : List ℕ) (management : Option Record) → has_list_names management ≡ false → option_and_then list_in (option_and_then (λ entry. map.get entry.cells (attribute_list_name attribute)) management) ≡ None
-unfolding has_list_names
-no_list attribute None h = refl
-no_list attribute (Some entry) h = ap (option_and_then list_in) (map.get-entries entry.cells (attribute_list_name attribute) ∙ not_found attribute (map.entries entry.cells) h)
-
-module _ (records : Stored) (realm : Realm) (user dataset name : List ℕ) (entry : Record) (kept : record_at records dataset name ≡ Some entry) (shared : has_list_names (record_at records dataset []) ≡ false) where
-  same_list : (attribute : List ℕ) → map.get entry.acls attribute ≡ None → stored_list records (OfEntry dataset attribute name) ≡ stored_list records (OfDataset dataset)
-  same_list attribute none =
-      let own : option_and_then (λ entry. map.get entry.acls attribute) (record_at records dataset name) ≡ None = ap (option_and_then (λ entry. map.get entry.acls attribute)) kept ∙ none in
-      let shared : kept_list records dataset (attribute_list_name attribute) ≡ None = no_list attribute (record_at records dataset []) shared in
-      λ i. option_or (own i) (option_or (shared i) (kept_list records dataset dataset_list_name))
-
-  pub same_rights : (attribute : List ℕ) → map.get entry.acls attribute ≡ None → rights_on records realm user attribute name dataset ≡ rights_of records realm user (OfDataset dataset)
-  unfolding rights_of deciding_list
-  same_rights attribute none = ap (λ l. union (rights_in realm user (unwrap_or l (default_list dataset))) (implicit_rights realm user dataset)) (same_list attribute none)
-
 pub none_of : {X : Type 0} (o : Option X) (b : Bool) → b ≡ is_some o → b ≡ false → o ≡ None
 none_of None b e h = refl
 none_of (Some x) b e h = absurd (cc (e, h))
@@ -147,7 +117,9 @@ module _ (records : Stored) (realm : Realm) (user dataset : List ℕ) (chain : L
   rights_in' = rights_on records realm user attribute name
 
   pub near_rights : rights_on records realm user attribute name dataset ≡ rights
-  near_rights = same_rights records realm user dataset name entry kept plain.2 attribute none ∙ sym plain.1
+  near_rights =
+      let own : own_list records (OfEntry dataset attribute name) ≡ None = ap (option_and_then (λ entry. map.get entry.acls attribute)) kept ∙ none in
+      shared_law records realm user dataset attribute name rights plain.1 own
 
   found : resolved records chain name attribute ≡ lying value dataset
   found = ap (λ chain. resolved records chain name attribute) plain.0 ∙ own_resolved records dataset name entry kept attribute

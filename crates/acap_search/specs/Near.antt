@@ -1,7 +1,5 @@
 -- What is at hand of an entry whose dataset inherits nothing: words of private contracts.
-use Rattle.std.specs.Prelude.{◌≡◌, ℕ, Bool, false, nat_eq, List, [], ◌∷◌, codes, Option, Some, None, if◌then◌else◌}
-use Rattle.std.specs.FinMap as map
-use Rattle.std.specs.List.{list_any, starts_with}
+use Rattle.std.specs.Prelude.{◌≡◌, ℕ, List, [], ◌∷◌, codes, Option, Some, if◌then◌else◌}
 use Rattle.std.specs.Option.{unwrap_or, ForSome}
 use Rattle.acap_entries.specs.Orders.{octets_eq}
 use Rattle.acap_entries.specs.Stamp.{stamp_of}
@@ -11,17 +9,9 @@ use Rattle.acap_entries.specs.declared.cell.Cell.TheVariants.{Nil, Single}
 use Rattle.acap_entries.specs.declared.path.Path.{Path}
 use Rattle.acap_entries.specs.declared.record.Record.{Record}
 use Rattle.acap_inherit.specs.Records.{record_at, cell_in}
-use Rattle.acap_rights.specs.Deciding.{OfDataset, rights_of}
+use Rattle.acap_rights.specs.Sharing.{shared_rights}
 use Rattle.acap_rights.specs.declared.realm.Realm.{Realm}
 use Rattle.acap_rights.specs.declared.rights.Rights.{Rights}
-
--- whether a management entry has a list for an attribute alone, that is a `dataset.acl.ATTRIBUTE`
-abbrev pub is_list_name : List ℕ → Bool
-is_list_name attribute = starts_with nat_eq attribute (codes "dataset.acl.")
-
-unfoldable pub has_list_names : Option Record → Bool
-has_list_names None = false
-has_list_names (Some entry) = list_any (λ e. is_list_name e.0) (map.entries entry.cells)
 
 -- what a record has for an attribute, where nothing is inherited
 abbrev pub own_value : Record → List ℕ → List ℕ → Cell
@@ -34,8 +24,7 @@ own_value entry name attribute =
 abbrev pub IsPlain : Stored → Realm → List ℕ → List ℕ → List (List ℕ) → Rights → Type 0
 IsPlain records realm user dataset chain rights =
     (chain ≡ dataset ∷ [])
-    × (rights ≡ rights_of records realm user (OfDataset dataset))
-    × (has_list_names (record_at records dataset []) ≡ false)
+    × (shared_rights records realm user dataset ≡ Some rights)
 
 -- where the record of an entry is at hand, its dataset is such a one
 abbrev pub IsNear : Stored → Realm → List ℕ → List ℕ → List (List ℕ) → List ℕ → Option Record → Rights → Type 0

@@ -1,11 +1,11 @@
 -- How many records there are after writes.
-use Rattle.std.proofs.Common.{◌≡◌, ℕ, zero, suc, ◌+◌, ◌<◌, Bool, true, false, ◌&&◌, cond, T, List, [], ◌∷◌, length, Option, Some, None, refl, ap, ◌∙◌, arith}
+use Rattle.std.proofs.Common.{◌≡◌, ℕ, zero, suc, ◌+◌, ◌<◌, Bool, true, false, ◌&&◌, cond, T, List, [], ◌∷◌, length, Option, Some, None, refl, sym, ap, ◌∙◌, ◌≤◌, arith}
 use Rattle.std.specs.Prelude.{filter, is_none, is_some, nat_lt, ◌-◌}
 use Rattle.std.specs.declared.cmp.Ordering.{Ordering}
 use Rattle.std.specs.declared.cmp.Ordering.TheVariants.{Less, Equal, Greater}
 use Rattle.std.specs.Ordering.{is_eq, is_lt}
 use Rattle.std.specs.FinMap as table
-use Rattle.std.specs.FinMap.{find, is_sorted, entries_sorted, len-insert, len-remove}
+use Rattle.std.specs.FinMap.{find, is_sorted, entries_sorted, len-entries, len-insert, len-remove}
 use Rattle.std.specs.FinMap.Entries.{below_all}
 use Rattle.acap_entries.specs.Store.{Stored, Written, path_cmp, after_fate, after_write, after_writes}
 use Rattle.acap_entries.specs.declared.fate.Fate.{Fate}
@@ -15,6 +15,7 @@ use Rattle.acap_entries.specs.declared.record.Record.{Record}
 use Rattle.acap_entries.proofs.StoreLemmas.{path_cmp_total, get_written}
 use Rattle.acap_store.specs.Counting.{is_new, is_gone}
 use Rattle.acap_store.specs.Limits.{is_full_after}
+use Rattle.std.proofs.lemmas.List.Sums.{length-filter, count_by-le-length}
 use Rattle.std.proofs.lemmas.Bool.{lt-ltb, le-ltb, ltb-false, ltb-true}
 
 first : (a b : Bool) → T (a && b) → T a
@@ -100,6 +101,15 @@ passes limit after gone known made e =
       | true ↦ λ h. lt-ltb (limit + gone) (known + made) (omega (arith, ltb-true limit after h, e))
       | false ↦ λ h. le-ltb (limit + gone) (known + made) (omega (arith, ltb-false limit after h, e))
     ] refl
+
+-- no more are made than are written
+pub not_full : (written : Written) (records : Stored) → table.len records + table.len written ≤ 65_536 → false ≡ is_full_after records written
+unfolding is_full_after
+not_full written records room =
+    let counts : table.len (after_writes (table.entries written) records) + length (filter (is_gone records) (table.entries written)) ≡ table.len records + length (filter (is_new records) (table.entries written)) = counted written records in
+    let made : length (filter (is_new records) (table.entries written)) ≤ length (table.entries written) = rw (length-filter (is_new records) (table.entries written)) (count_by-le-length (is_new records) (table.entries written)) in
+    let len : table.len written ≡ length (table.entries written) = len-entries written in
+    sym (le-ltb 65_536 _ (omega (arith, counts, made, len, room)))
 
 pub full_by_count : (written : Written) (records : Stored) →
     nat_lt (65_536 + length (filter (is_gone records) (table.entries written))) (table.len records + length (filter (is_new records) (table.entries written)))

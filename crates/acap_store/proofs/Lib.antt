@@ -6,6 +6,7 @@ pub mod DatasetLemmas
 pub mod HousedLaws
 pub mod LimitLaws
 pub mod RefusalLemmas
+pub mod ListLemmas
 pub mod RightLemmas
 pub mod RootLemmas
 pub mod Stages

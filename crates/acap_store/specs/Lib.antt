@@ -10,4 +10,5 @@ pub mod Meaning
 pub mod Permission
 pub mod Planning
 pub mod Refusing
+pub mod Sharing
 pub mod Writing

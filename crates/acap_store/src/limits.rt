@@ -121,11 +121,14 @@ fn count_gone(tree: &Tree, writes: &[(Path, Fate)]) -> usize
     count
 }
 
-// Whether there are too many records afterwards.
-#[tactic(auto, using(crate::proofs::CountLemmas::full_by_count))]
+// Whether there are too many records afterwards. They aren't counted where there is room for as many as are written.
+#[tactic(auto, using(crate::proofs::CountLemmas::full_by_count, crate::proofs::CountLemmas::not_full))]
 fn is_full_after(tree: &Tree, writes: &Writes) -> bool
     ensures { result ≡ limits.is_full_after tree.now.store.records writes.now }
 {
+    if tree.len() as u128 + writes.len() as u128 <= RECORDS {
+        return false;
+    }
     let gone = count_gone(tree, writes.entries()) as u128;
     let made = count_new(tree, writes.entries()) as u128;
     RECORDS + gone < tree.len() as u128 + made

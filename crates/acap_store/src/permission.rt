@@ -1,13 +1,14 @@
 //! Whether a user has the rights that a STORE needs.
-ghost use Rattle.std.specs.Prelude.{◌≡◌, not, find, option_map, is_none, is_some, IfOk, IfSome};
+ghost use Rattle.std.specs.Prelude.{◌≡◌, not, find, option_map, is_none, is_some, IfOk, IfSome, IsTrue};
 ghost use Rattle.std.specs.Option.{option_copied};
 ghost use Rattle.acap_rights.specs.Deciding as decided;
 ghost use Rattle.acap_store.specs.Permission as rule;
+ghost use Rattle.acap_store.specs.Sharing.{HasNoLists, AreShared};
 
 use crate::forms::{exists_at, is_management, is_nil_at, is_value};
 use acap_entries::{Attribute, Copying, EntryName, Memory, Path, Tree, UserName};
 use acap_grammar::{Refusal, StoreEntry, StoreItem};
-use acap_rights::{Object, Realm, Rights, object_of_list, rights_of};
+use acap_rights::{Object, Realm, Rights, object_of_list, rights_of, shared_rights};
 use std::alloc::Global;
 
 /// Who asks, and of what store.
@@ -32,15 +33,60 @@ fn entry_object(path: &Path) -> Object<'_>
     }
 }
 
-// Whether the user may change the entry at a path, or make it. Whoever may make it isn't asked whether it exists.
-fn may_touch(by: &Asker<'_>, path: &Path) -> bool
-    ensures { result ≡ rule.may_touch by.now.tree.now.store.records by.now.realm.now by.now.user.now path.now }
+// Whether no attribute of the entry at a path has a list of its own.
+fn has_no_lists(tree: &Tree, path: &Path) -> bool
+    ensures { IsTrue result → HasNoLists tree.now.store.records path.now }
 {
-    if is_management(path) {
+    match tree.get(path) {
+        Some(record) => record.acls.len() == 0,
+        None => true,
+    }
+}
+
+// An entry that is asked about, and the rights on all of its attributes, where they are the same.
+struct Asked<'a> {
+    by: &'a Asker<'a>,
+    path: &'a Path,
+    shared: Option<Rights>,
+    ghost known: { AreShared by.now.tree.now.store.records by.now.realm.now by.now.user.now path.now shared },
+}
+
+// The rights on all attributes of the entry at a path, where no list is for one of them.
+fn shared_at(by: &Asker<'_>, path: &Path) -> Option<Rights>
+    ensures { AreShared by.now.tree.now.store.records by.now.realm.now by.now.user.now path.now result }
+{
+    if !has_no_lists(by.tree, path) {
+        return None;
+    }
+    shared_rights(by.tree, by.realm, by.user, path.dataset.as_slice())
+}
+
+// The rights on one attribute of the entry.
+fn rights_on(asked: &Asked<'_>, attribute: &[u8]) -> Rights
+    ensures { result ≡ decided.rights_of asked.now.by.now.tree.now.store.records asked.now.by.now.realm.now asked.now.by.now.user.now (decided.OfEntry asked.now.path.now.dataset attribute.now asked.now.path.now.name) }
+{
+    match asked.shared {
+        Some(rights) => rights,
+        None => {
+            let object = Object::Entry {
+                dataset: asked.path.dataset.as_slice(),
+                attribute,
+                name: asked.path.name.as_slice(),
+            };
+            rights_of(asked.by.tree, asked.by.realm, asked.by.user, &object)
+        }
+    }
+}
+
+// Whether the user may change the entry, or make it. Whoever may make it isn't asked whether it exists.
+fn may_touch(asked: &Asked<'_>) -> bool
+    ensures { result ≡ rule.may_touch asked.now.by.now.tree.now.store.records asked.now.by.now.realm.now asked.now.by.now.user.now asked.now.path.now }
+{
+    if is_management(asked.path) {
         return true;
     }
-    let rights = rights_of(by.tree, by.realm, by.user, &entry_object(path));
-    rights.r && (rights.w || rights.i || exists_at(by.tree, path))
+    let rights = rights_on(asked, b"entry");
+    rights.r && (rights.w || rights.i || exists_at(asked.by.tree, asked.path))
 }
 
 // The object whose list an item is, if it is one.
@@ -86,23 +132,24 @@ pub(crate) fn is_list(path: &Path, item: &StoreItem) -> bool
     list_object(path, item).is_some()
 }
 
-// Whether the user may store an item in the entry at a path.
-fn may_store(by: &Asker<'_>, path: &Path, item: &StoreItem) -> bool
-    ensures { result ≡ rule.may_store by.now.tree.now.store.records by.now.realm.now by.now.user.now path.now item.now }
+// Whether the user may store an item in the entry.
+fn may_store(asked: &Asked<'_>, item: &StoreItem) -> bool
+    ensures { result ≡ rule.may_store asked.now.by.now.tree.now.store.records asked.now.by.now.realm.now asked.now.by.now.user.now asked.now.path.now item.now }
 {
-    let rights = rights_of(by.tree, by.realm, by.user, &item_object(path, item));
-    if is_list(path, item) {
-        rights.a
-    } else {
-        rights.w || (is_nil_at(by.tree, path, item.attribute.as_slice()) && rights.i)
+    let by = asked.by;
+    if let Some(object) = list_object(asked.path, item) {
+        return rights_of(by.tree, by.realm, by.user, &object).a;
     }
+    let attribute = item.attribute.as_slice();
+    let rights = rights_on(asked, attribute);
+    rights.w || (is_nil_at(by.tree, asked.path, attribute) && rights.i)
 }
 
-// The first item that the user may not store in the entry at a path.
-fn denied_item<'a>(by: &Asker<'_>, path: &Path, items: &'a [StoreItem]) -> Option<&'a StoreItem>
-    ensures { option_copied result ≡ find (λ item. not (rule.may_store by.now.tree.now.store.records by.now.realm.now by.now.user.now path.now item)) items.now }
+// The first item that the user may not store in the entry.
+fn denied_item<'a>(asked: &Asked<'_>, items: &'a [StoreItem]) -> Option<&'a StoreItem>
+    ensures { option_copied result ≡ find (λ item. not (rule.may_store asked.now.by.now.tree.now.store.records asked.now.by.now.realm.now asked.now.by.now.user.now asked.now.path.now item)) items.now }
 {
-    items.iter().find(|item| !may_store(by, path, item))
+    items.iter().find(|item| !may_store(asked, item))
 }
 
 // The first object of an entry on which rights are missing.
@@ -111,10 +158,15 @@ fn denied_in<'a>(by: &Asker<'_>, entry: &'a StoreEntry) -> Option<Object<'a>>
     ensures target { option_map decided.target_of result ≡ rule.denied_in by.now.tree.now.store.records by.now.realm.now by.now.user.now entry.now }
     ensures inside { IfSome result (λ object. decided.dataset_in (decided.target_of object) ≡ entry.now.path.dataset) }
 {
-    if !may_touch(by, &entry.path) {
+    let asked = Asked {
+        by,
+        path: &entry.path,
+        shared: shared_at(by, &entry.path),
+    };
+    if !may_touch(&asked) {
         return Some(entry_object(&entry.path));
     }
-    match denied_item(by, &entry.path, entry.items.as_slice()) {
+    match denied_item(&asked, entry.items.as_slice()) {
         Some(item) => Some(item_object(&entry.path, item)),
         None => None,
     }

@@ -4,7 +4,7 @@ use Rattle.acap_entries.specs.Store.{path_cmp}
 use Rattle.acap_entries.proofs.writes.Writes.set.Goals as goal
 
 pub invariant_of-self-2 : goal.invariant_of-self-2
-invariant_of-self-2 c = rw (c.put_in_room.ensures.items, c.in_ok-room_for_one.ensures.items) (put_in_order path_cmp path_cmp_total _ _ _ c.self.invariant)
+invariant_of-self-2 c = rw (c.in_ok-set_in.ensures.ok) (put_in_order path_cmp path_cmp_total _ _ _ c.self.invariant)
 
 pub returns-clause-ok : goal.returns-clause-ok
-returns-clause-ok c = rw (c.put_in_room.ensures.items, c.in_ok-room_for_one.ensures.items, ← c.self.view_is) (insert_kept path_cmp path_cmp_total _ _ _ c.self.invariant)
+returns-clause-ok c = rw (c.in_ok-set_in.ensures.ok, ← c.self.view_is) (insert_kept path_cmp path_cmp_total _ _ _ c.self.invariant)
