@@ -44,6 +44,7 @@ fn has_no_lists(tree: &Tree, path: &Path) -> bool
 }
 
 // An entry that is asked about, and the rights on all of its attributes, where they are the same.
+#[derive(Drop)]
 struct Asked<'a> {
     by: &'a Asker<'a>,
     path: &'a Path,
