@@ -3,12 +3,13 @@
 ghost use Rattle.std.specs.Prelude.{◌≡◌};
 ghost use Rattle.acap_lexer.specs.Octets.{is_word, is_tag, is_quotable, is_plain, is_escaped, is_digit};
 
-/// Where each octet may stand: `0` nowhere as itself, `1` in a quoted string, `2` in a word too, `3` in a tag too.
+/// Where each octet may stand: `0` nowhere as itself, `1` in a quoted string, `2` there as a character alone, `3` in a word too,
+/// `4` in a tag too.
 static CLASSES: [u8; 256] = *b"\
-    01111111110110111111111111111111\
-    13033333112233333333333333333333\
-    33333333333333333333333333330333\
-    33333333333333333333333333313331\
+    02222222220220222222222222222222\
+    24044444223344444444444444444444\
+    44444444444444444444444444440444\
+    44444444444444444444444444424442\
     11111111111111111111111111111111\
     11111111111111111111111111111111\
     11111111111111111111111111111111\
@@ -18,14 +19,14 @@ static CLASSES: [u8; 256] = *b"\
 pub(crate) fn is_word(c: u8) -> bool
     ensures { result ≡ is_word c }
 {
-    CLASSES[c as usize] >= b'2'
+    CLASSES[c as usize] >= b'3'
 }
 
 #[inline]
 pub(crate) fn is_tag(c: u8) -> bool
     ensures { result ≡ is_tag c }
 {
-    CLASSES[c as usize] == b'3'
+    CLASSES[c as usize] == b'4'
 }
 
 #[inline]
@@ -36,11 +37,10 @@ pub(crate) fn is_quotable(c: u8) -> bool
 }
 
 #[inline]
-#[tactic(auto, unfolding(crate::specs::Octets::is_plain))]
 pub(crate) fn is_plain(c: u8) -> bool
     ensures { result ≡ is_plain c }
 {
-    is_quotable(c) && c < 128
+    CLASSES[c as usize] >= b'2'
 }
 
 #[tactic(auto, unfolding(crate::specs::Octets::is_escaped))]

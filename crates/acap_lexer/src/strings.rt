@@ -1,7 +1,7 @@
 //! Quoted strings.
 
-ghost use Rattle.std.specs.Prelude.{◌≡◌, ◌≤◌, ◌++◌, length, IfOk, IfSome};
-ghost use Rattle.std.specs.List.{prefix_len};
+ghost use Rattle.std.specs.Prelude.{◌≡◌, ◌≤◌, ◌+◌, ◌++◌, length, IfOk, IfSome};
+ghost use Rattle.std.specs.List.{list_all, prefix_len};
 ghost use Rattle.acap_lexer.specs.Octets.{is_quotable as is_quotable_octet};
 ghost use Rattle.acap_lexer.specs.Reading.{Gives, behind, quoted_at, string_at};
 ghost use Rattle.acap_lexer.specs.Printing.{Grows};
@@ -15,12 +15,53 @@ const BAD_TOKEN: LexError = LexError::Fault(LexFault::BadToken);
 /// So many octets may stand between the quotes, escapes counted.
 const QUOTED_LIMIT: usize = 1024;
 
-/// How many octets at the front stand for themselves.
-fn plain_len(text: &[u8]) -> usize
+/// The test of `is_quotable` by itself: with no table and no branch, so that eight octets are asked at once.
+#[inline]
+#[tactic(auto, unfolding(crate::specs::Octets::is_quotable))]
+fn is_none_of_five(c: u8) -> bool
+    ensures { result ≡ is_quotable_octet c }
+{
+    (c != 0) & (c != b'\n') & (c != b'\r') & (c != b'"') & (c != b'\\')
+}
+
+/// Whether eight octets all stand for themselves.
+fn all_quotable(word: &[u8; 8]) -> bool
+    ensures { result ≡ list_all is_quotable_octet word.now }
+{
+    let mut all = true;
+    'octets: for c in word {
+        all &= is_none_of_five(*c);
+    }
+    all
+}
+
+/// What is left behind eight octets that stand for themselves.
+fn behind_word(text: &[u8]) -> Option<&[u8]>
+    ensures plain { IfSome result (λ left. prefix_len is_quotable_octet text.now ≡ 8 + prefix_len is_quotable_octet left.now) }
+    ensures behind { IfSome result (λ left. length left.now + 8 ≡ length text.now) }
+{
+    let (word, left) = text.split_first_chunk::<8>()?;
+    if all_quotable(word) { Some(left) } else { None }
+}
+
+/// How many octets at the front stand for themselves, counted by the octet.
+fn plain_front(text: &[u8]) -> usize
     ensures within { result ≤ length text.now }
     ensures longest { result ≡ prefix_len is_quotable_octet text.now }
 {
     text.iter().take_while(|c| is_quotable(**c)).count()
+}
+
+/// How many octets at the front stand for themselves, counted by eights as far as that goes.
+fn plain_len(text: &[u8]) -> usize
+    ensures within { result ≤ length text.now }
+    ensures longest { result ≡ prefix_len is_quotable_octet text.now }
+{
+    let mut left = text;
+    'words: while let Some(rest) = behind_word(left) {
+        left = rest;
+    }
+    text.len() - left.len() + plain_front(left)
 }
 
 /// How many octets lie between the quotes of the string without escapes at the front, and what is left behind it, if
