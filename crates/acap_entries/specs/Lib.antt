@@ -1,4 +1,5 @@
 pub mod Changes
+pub mod Compact
 pub mod Datasets
 pub mod Deletions
 pub mod FullPaths

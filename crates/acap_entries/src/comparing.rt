@@ -18,6 +18,29 @@ fn behind_word<'a>(a: &'a [u8], b: &'a [u8]) -> Option<(&'a [u8], &'a [u8])>
     }
 }
 
+// How octets compare with others, one after the other.
+fn by_octets(a: &[u8], b: &[u8]) -> Ordering
+    ensures { result ≡ octets_cmp a.now b.now }
+{
+    let mut left = a;
+    let mut right = b;
+    'octets: while let Some((x, others)) = left.split_first() {
+        let Some((y, rest)) = right.split_first() else {
+            return Ordering::Greater;
+        };
+        if x != y {
+            return x.cmp(y);
+        }
+        left = others;
+        right = rest;
+    }
+    if right.is_empty() {
+        Ordering::Equal
+    } else {
+        Ordering::Less
+    }
+}
+
 /// How octets compare with others, octet by octet with a proper prefix first. Takes no memory.
 pub(crate) fn compare(a: &[u8], b: &[u8]) -> Ordering
     ensures { result ≡ octets_cmp a.now b.now }
@@ -28,5 +51,5 @@ pub(crate) fn compare(a: &[u8], b: &[u8]) -> Ordering
         left = first;
         right = second;
     }
-    left.cmp(&right)
+    by_octets(left, right)
 }

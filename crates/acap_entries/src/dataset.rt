@@ -112,7 +112,11 @@ impl Copying for Dataset {
 fn closed(alloc: Global, octets: &[u8]) -> Result<Dataset, Memory>
     ensures { IfOk result (λ made. made ≡ name.closed octets.now) }
 {
-    let missing: &[u8] = if names::ends_with(octets, b'/') { b"" } else { b"/" };
+    let missing: &[u8] = if names::ends_with(octets, b'/') {
+        b""
+    } else {
+        b"/"
+    };
     let octets = DatasetText::joined(alloc, octets, missing, b"", b"")?;
     Ok(Dataset { octets })
 }

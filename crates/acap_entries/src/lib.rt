@@ -6,6 +6,7 @@ mod boxed;
 mod cell;
 mod change;
 mod civil;
+mod compact;
 mod comparing;
 mod copying;
 mod dataset;

@@ -5,13 +5,13 @@ ghost use Rattle.std.specs.Cmp.{partial_equiv_from_equiv};
 ghost use Rattle.std.specs.Ordering.{nat_cmp};
 ghost use Rattle.acap_entries.specs.Names as name;
 
+use crate::compact::Compact;
 use crate::comparing::compare;
 use crate::copying::Copying;
 use crate::memory::Memory;
 use crate::name_fault::NameFault;
 use crate::names;
 use crate::octets::Octets;
-use smallvec::SmallVec;
 use std::alloc::Global;
 use std::cmp::Ordering;
 use std::marker::{Model, PhantomData};
@@ -58,9 +58,6 @@ pub struct ValueKind;
 #[derive(Debug, Drop)]
 pub struct DatasetKind;
 
-/// How many octets lie in the text itself and take no memory of their own: most names and values are no longer.
-const INLINE: usize = 24;
-
 /// A kind of names: which octets are such a name.
 pub trait Kind {
     ghost is_name: { List ℕ → Bool };
@@ -73,7 +70,7 @@ pub trait Kind {
 /// Octets of a kind, ordered octet by octet with a proper prefix first.
 #[derive(Debug, Drop)]
 pub struct Text<K> {
-    octets: SmallVec<u8, INLINE>,
+    octets: Compact,
     kind: PhantomData<K>,
 }
 
@@ -82,7 +79,7 @@ impl<K> Model for Text<K> {
 
     ghost Value = { List ℕ };
 
-    ghost view = { λ v. v.octets.items };
+    ghost view = { λ v. v.octets };
 }
 
 impl<K: Kind> Text<K> {
@@ -101,8 +98,8 @@ impl<K: Kind> Text<K> {
 
 impl<K> Text<K> {
     // The text of these octets.
-    fn of(octets: SmallVec<u8, INLINE>) -> Text<K>
-        ensures { result ≡ octets.items }
+    fn of(octets: Compact) -> Text<K>
+        ensures { result ≡ octets }
     {
         Text {
             octets,
@@ -114,14 +111,14 @@ impl<K> Text<K> {
     pub fn new(octets: Octets) -> Text<K>
         ensures { result ≡ octets }
     {
-        Text::of(SmallVec::from_vec(octets.into_vec()))
+        Text::of(Compact::from_vec(octets.into_vec()))
     }
 
     /// Any octets as they are, copied. Fails only for want of memory.
     pub fn from_slice(alloc: Global, octets: &[u8]) -> Result<Text<K>, Memory>
         ensures { IfOk result (λ made. made ≡ octets.now) }
     {
-        let octets = SmallVec::from_slice(alloc, octets)?;
+        let octets = Compact::from_slice(alloc, octets)?;
         Ok(Text::of(octets))
     }
 
@@ -140,17 +137,17 @@ impl<K> Text<K> {
             .saturating_add(second.len())
             .saturating_add(third.len())
             .saturating_add(fourth.len());
-        let mut octets = SmallVec::with_capacity(alloc, room)?;
+        let mut octets = Vec::with_capacity(alloc, room)?;
         octets.extend_from_slice(first)?;
         octets.extend_from_slice(second)?;
         octets.extend_from_slice(third)?;
         octets.extend_from_slice(fourth)?;
-        Ok(Text::of(octets))
+        Ok(Text::of(Compact::from_vec(octets)))
     }
 
     /// The allocator that keeps them.
     pub(crate) fn allocator(&self) -> Global {
-        *self.octets.allocator()
+        self.octets.allocator()
     }
 
     /// The octets.

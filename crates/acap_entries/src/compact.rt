@@ -1,0 +1,106 @@
+//! Octets that lie in place while they are few.
+ghost use Rattle.std.specs.Prelude.{◌≡◌, ◌≤◌, length, take, IfOk};
+
+use crate::memory::Memory;
+use std::alloc::Global;
+use std::marker::Model;
+
+/// So many octets lie in place, in as much room as a vector's place takes with what tells the two apart.
+const IN_PLACE: usize = 30;
+
+/// A few octets, and the allocator that more of them would be kept by.
+#[derive(Debug, Drop)]
+pub(crate) struct Few {
+    len: u8,
+    octets: [u8; IN_PLACE],
+    alloc: Global,
+    ghost within: { len ≤ 30 },
+}
+
+/// Where octets lie.
+#[derive(Debug, Drop)]
+pub(crate) enum Kept {
+    /// In place.
+    InPlace(Few),
+    /// In memory of their own.
+    Apart(Vec<u8>),
+}
+
+/// Octets that lie in place while they are few, and take no memory then: seen as their list.
+#[derive(Debug, Drop)]
+pub(crate) struct Compact {
+    kept: Kept,
+}
+
+impl Model for Compact {
+    ghost use Rattle.std.specs.Prelude.{ℕ, List};
+    ghost use Rattle.acap_entries.specs.Compact.{octets_of};
+
+    ghost Value = { List ℕ };
+
+    ghost view = { λ c. octets_of c.kept };
+}
+
+// Octets that are few, in place.
+fn in_place(alloc: Global, text: &[u8]) -> Few
+    requires { length text.now ≤ 30 }
+    ensures { take result.len result.octets ≡ text.now }
+{
+    let mut octets = [0; IN_PLACE];
+    octets[..text.len()].copy_from_slice(text);
+    Few {
+        len: text.len() as u8,
+        octets,
+        alloc,
+    }
+}
+
+impl Compact {
+    /// The octets of a vector. Takes no memory, and keeps the vector's, if they are many.
+    pub(crate) fn from_vec(octets: Vec<u8>) -> Compact
+        ensures { result ≡ octets.items }
+    {
+        if octets.len() > IN_PLACE {
+            return Compact {
+                kept: Kept::Apart(octets),
+            };
+        }
+        let few = in_place(*octets.allocator(), octets.as_slice());
+        Compact {
+            kept: Kept::InPlace(few),
+        }
+    }
+
+    /// The same octets, copied. Fails only for want of memory.
+    pub(crate) fn from_slice(alloc: Global, text: &[u8]) -> Result<Compact, Memory>
+        ensures { IfOk result (λ made. made ≡ text.now) }
+    {
+        if text.len() > IN_PLACE {
+            let octets = Vec::from_slice(alloc, text)?;
+            return Ok(Compact {
+                kept: Kept::Apart(octets),
+            });
+        }
+        Ok(Compact {
+            kept: Kept::InPlace(in_place(alloc, text)),
+        })
+    }
+
+    /// The octets.
+    pub(crate) fn as_slice(&self) -> &[u8]
+        ensures { result.now ≡ self.now }
+    {
+        match &self.kept {
+            Kept::InPlace(few) => &few.octets[..few.len as usize],
+            Kept::Apart(octets) => octets.as_slice(),
+        }
+    }
+
+    /// The allocator that keeps them.
+    pub(crate) fn allocator(&self) -> Global {
+        match &self.kept {
+            Kept::InPlace(few) => few.alloc,
+            Kept::Apart(octets) => *octets.allocator(),
+        }
+    }
+}
