@@ -42,6 +42,7 @@ impl Model for Compact {
 }
 
 // Octets that are few, in place.
+#[inline]
 fn in_place(alloc: Global, text: &[u8]) -> Few
     requires { length text.now ≤ 30 }
     ensures { take result.len result.octets ≡ text.now }
@@ -72,6 +73,7 @@ impl Compact {
     }
 
     /// The same octets, copied. Fails only for want of memory.
+    #[inline]
     pub(crate) fn from_slice(alloc: Global, text: &[u8]) -> Result<Compact, Memory>
         ensures { IfOk result (λ made. made ≡ text.now) }
     {
@@ -87,6 +89,7 @@ impl Compact {
     }
 
     /// The octets.
+    #[inline]
     pub(crate) fn as_slice(&self) -> &[u8]
         ensures { result.now ≡ self.now }
     {

@@ -5,6 +5,7 @@ ghost use Rattle.acap_entries.specs.Orders.{octets_cmp};
 use std::cmp::Ordering;
 
 // What is left of two texts behind their first eight octets, where these are alike.
+#[inline]
 fn behind_word<'a>(a: &'a [u8], b: &'a [u8]) -> Option<(&'a [u8], &'a [u8])>
     ensures order { IfSome result (λ left. octets_cmp left.0.now left.1.now ≡ octets_cmp a.now b.now) }
     ensures shorter { IfSome result (λ left. length left.0.now < length a.now) }

@@ -98,6 +98,7 @@ impl<K: Kind> Text<K> {
 
 impl<K> Text<K> {
     // The text of these octets.
+    #[inline]
     fn of(octets: Compact) -> Text<K>
         ensures { result ≡ octets }
     {
@@ -151,6 +152,7 @@ impl<K> Text<K> {
     }
 
     /// The octets.
+    #[inline]
     pub fn as_slice(&self) -> &[u8]
         ensures { result.now ≡ self.now }
     {

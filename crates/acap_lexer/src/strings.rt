@@ -25,6 +25,7 @@ fn is_none_of_five(c: u8) -> bool
 }
 
 /// Whether eight octets all stand for themselves.
+#[inline]
 fn all_quotable(word: &[u8; 8]) -> bool
     ensures { result ≡ list_all is_quotable_octet word.now }
 {
@@ -36,6 +37,7 @@ fn all_quotable(word: &[u8; 8]) -> bool
 }
 
 /// What is left behind eight octets that stand for themselves.
+#[inline]
 fn behind_word(text: &[u8]) -> Option<&[u8]>
     ensures plain { IfSome result (λ left. prefix_len is_quotable_octet text.now ≡ 8 + prefix_len is_quotable_octet left.now) }
     ensures behind { IfSome result (λ left. length left.now + 8 ≡ length text.now) }

@@ -27,7 +27,8 @@ pub use homes::is_owner;
 pub use keeping::{list_attribute, object_of_list};
 pub use laws::{
     administrator_law, deciding_law, edit_examples, edit_law, home_examples, keeping_law,
-    negative_law, order_law, owner_law, pair_examples, pair_law, rights_examples, shared_law, whom_law,
+    negative_law, order_law, owner_law, pair_examples, pair_law, rights_examples, shared_law,
+    whom_law,
 };
 pub use object::Object;
 pub use pairs::{is_acl, is_pair};
