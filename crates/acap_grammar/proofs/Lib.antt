@@ -12,3 +12,4 @@ pub mod FaultPlaces
 pub mod Computing
 pub mod Exact
 pub mod ReplyEquality
+pub mod CommandEquality
