@@ -10,3 +10,6 @@ pub mod KeySteps
 pub mod Looking
 pub mod FaultPlaces
 pub mod Computing
+pub mod Exact
+pub mod ReplyEquality
+pub mod CommandEquality

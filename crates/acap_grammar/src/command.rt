@@ -1,4 +1,5 @@
 //! What a client asks for.
+ghost use Rattle.std.specs.Prelude.{◌≡◌, ◌↔◌, IsTrue};
 
 use crate::lists::{ContextNames, Entries};
 use crate::object::Object;
@@ -32,6 +33,36 @@ pub enum Command {
     FreeContext(ContextName),
     /// UPDATECONTEXT: the pending notices of the contexts are to be told (section 6.5).
     UpdateContext(ContextNames),
+}
+
+impl Command {
+    /// Whether two of them are equal. Takes no memory.
+    pub fn equals(&self, other: &Command) -> bool
+        ensures { IsTrue result ↔ (self.now ≡ other.now) }
+    {
+        match (self, other) {
+            (Command::Noop, Command::Noop) | (Command::Logout, Command::Logout) => true,
+            (Command::Authenticate(one), Command::Authenticate(two)) => one == two,
+            (Command::Store(one), Command::Store(two)) => one == two,
+            (Command::Search(one), Command::Search(two)) => one.get().equals(two.get()),
+            (Command::SetAcl(one, name, rights), Command::SetAcl(two, other_name, letters)) => {
+                one.equals(two) && name == other_name && rights == letters
+            }
+            (Command::DeleteAcl(one, name), Command::DeleteAcl(two, other_name)) => {
+                one.equals(two) && name == other_name
+            }
+            (Command::MyRights(one), Command::MyRights(two)) => one.equals(two),
+            (Command::ListRights(one, name), Command::ListRights(two, other_name)) => {
+                one.equals(two) && name == other_name
+            }
+            (Command::DeletedSince(one, since), Command::DeletedSince(two, other_since)) => {
+                one == two && since == other_since
+            }
+            (Command::FreeContext(one), Command::FreeContext(two)) => one == two,
+            (Command::UpdateContext(one), Command::UpdateContext(two)) => one == two,
+            _ => false,
+        }
+    }
 }
 
 impl Copying for Command {

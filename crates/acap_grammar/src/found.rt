@@ -1,11 +1,12 @@
 //! What a SEARCH tells.
+ghost use Rattle.std.specs.Prelude.{◌≡◌, ◌↔◌, IsTrue};
 
 use crate::lists::Rows;
-use acap_entries::Moment;
+use acap_entries::{Copying, Memory, Moment};
 
 /// What a SEARCH tells: its rows, the store's last moment where a RETURN asked for rows, and how many entries matched
 /// where not all of them are printed (RFC 2244 section 6.4.1).
-#[derive(Debug, Drop)]
+#[derive(Debug, PartialEq, Eq, Drop)]
 pub struct Found {
     /// The rows, each printed as an ENTRY.
     pub rows: Rows,
@@ -13,4 +14,24 @@ pub struct Found {
     pub last: Option<Moment>,
     /// How many entries matched, told where LIMIT kept some of them from being printed.
     pub total: Option<u32>,
+}
+
+impl Found {
+    /// Whether two of them are equal, as `==` says it. Takes no memory.
+    pub fn equals(&self, other: &Found) -> bool
+        ensures { IsTrue result ↔ (self.now ≡ other.now) }
+    {
+        *self == *other
+    }
+}
+
+impl Copying for Found {
+    fn copy(&self) -> Result<Found, Memory> {
+        let rows = self.rows.copy()?;
+        Ok(Found {
+            rows,
+            last: self.last,
+            total: self.total,
+        })
+    }
 }

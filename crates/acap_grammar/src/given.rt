@@ -1,14 +1,24 @@
 //! What an attribute is given.
+ghost use Rattle.std.specs.Prelude.{◌≡◌, ◌↔◌, IsTrue};
 
 use acap_entries::{Cell, Copying, Memory};
 
 /// What a STORE gives to an attribute or to its access control list (RFC 2244 section 6.6.1).
-#[derive(Debug, Drop)]
+#[derive(Debug, PartialEq, Eq, Drop)]
 pub enum Given {
     /// A value to be stored: NIL, one string, or a list of strings.
     Put(Cell),
     /// DEFAULT: what is stored is to be removed.
     Default,
+}
+
+impl Given {
+    /// Whether two of them are equal, as `==` says it. Takes no memory.
+    pub fn equals(&self, other: &Given) -> bool
+        ensures { IsTrue result ↔ (self.now ≡ other.now) }
+    {
+        *self == *other
+    }
 }
 
 impl Copying for Given {

@@ -1,6 +1,6 @@
 //! Which entries a SEARCH wants.
 
-ghost use Rattle.std.specs.Prelude.{◌≡◌, IfOk};
+ghost use Rattle.std.specs.Prelude.{◌≡◌, ◌↔◌, IfOk, IsTrue};
 ghost use Rattle.acap_grammar.specs.Nodes.{wanted_of};
 ghost use Rattle.acap_grammar.specs.Wanted as wanted;
 
@@ -93,6 +93,23 @@ impl Key {
         ensures { IfOk result (λ made. made ≡ wanted.Not key) }
     {
         Ok(Key::new(Node::Not(boxed(alloc, key)?)))
+    }
+
+    /// Whether two of them are equal. Takes no memory.
+    pub fn equals(&self, other: &Key) -> bool
+        ensures { IsTrue result ↔ (self.now ≡ other.now) }
+    {
+        match (&self.node, &other.node) {
+            (Node::One(test), Node::One(other_test)) => test.equals(other_test),
+            (Node::And(first, second), Node::And(other_first, other_second)) => {
+                first.equals(other_first) && second.equals(other_second)
+            }
+            (Node::Or(first, second), Node::Or(other_first, other_second)) => {
+                first.equals(other_first) && second.equals(other_second)
+            }
+            (Node::Not(key), Node::Not(other_key)) => key.equals(other_key),
+            _ => false,
+        }
     }
 }
 

@@ -1,4 +1,5 @@
 //! How many matches are told.
+ghost use Rattle.std.specs.Prelude.{◌≡◌, ◌↔◌, IsTrue};
 
 /// LIMIT: how many entries a SEARCH tells where many match (RFC 2244 section 6.4.1).
 #[derive(Clone, Copy, Debug, PartialEq, Eq)]
@@ -7,4 +8,13 @@ pub struct Limit {
     pub over: u32,
     /// So many of more matches are told.
     pub most: u32,
+}
+
+impl Limit {
+    /// Whether two of them are equal, as `==` says it. Takes no memory.
+    pub fn equals(&self, other: &Limit) -> bool
+        ensures { IsTrue result ↔ (self.now ≡ other.now) }
+    {
+        *self == *other
+    }
 }

@@ -1,9 +1,10 @@
 //! The context that a SEARCH makes.
+ghost use Rattle.std.specs.Prelude.{◌≡◌, ◌↔◌, IsTrue};
 
 use acap_entries::{ContextName, Copying, Memory};
 
 /// MAKECONTEXT: what a SEARCH finds is to be kept as a context (RFC 2244 section 6.4.1).
-#[derive(Debug, Drop)]
+#[derive(Debug, PartialEq, Eq, Drop)]
 pub struct MakeContext {
     /// ENUMERATE: its entries have positions.
     pub enumerate: bool,
@@ -11,6 +12,15 @@ pub struct MakeContext {
     pub notify: bool,
     /// Its name.
     pub name: ContextName,
+}
+
+impl MakeContext {
+    /// Whether two of them are equal, as `==` says it. Takes no memory.
+    pub fn equals(&self, other: &MakeContext) -> bool
+        ensures { IsTrue result ↔ (self.now ≡ other.now) }
+    {
+        *self == *other
+    }
 }
 
 impl Copying for MakeContext {

@@ -1,4 +1,5 @@
 //! What is told of an attribute.
+ghost use Rattle.std.specs.Prelude.{◌≡◌, ◌↔◌, IsTrue};
 
 use acap_entries::{Copying, Memory};
 
@@ -15,6 +16,15 @@ pub enum Metadata {
     Size,
     /// `value`: its value.
     Value,
+}
+
+impl Metadata {
+    /// Whether two of them are equal, as `==` says it. Takes no memory.
+    pub fn equals(&self, other: &Metadata) -> bool
+        ensures { IsTrue result ↔ (self.now ≡ other.now) }
+    {
+        *self == *other
+    }
 }
 
 impl Copying for Metadata {

@@ -1,9 +1,10 @@
 //! What rights are held on.
+ghost use Rattle.std.specs.Prelude.{◌≡◌, ◌↔◌, IsTrue};
 
 use acap_entries::{Attribute, Copying, Dataset, EntryName, Memory};
 
 /// What rights are about: a dataset, an attribute of it, or that attribute of one entry (RFC 2244 section 3.5).
-#[derive(Debug, Drop)]
+#[derive(Debug, PartialEq, Eq, Drop)]
 pub struct Object {
     /// The dataset.
     pub dataset: Dataset,
@@ -11,6 +12,15 @@ pub struct Object {
     pub attribute: Option<Attribute>,
     /// The entry, if it is about one; it counts only beside an attribute.
     pub name: Option<EntryName>,
+}
+
+impl Object {
+    /// Whether two of them are equal, as `==` says it. Takes no memory.
+    pub fn equals(&self, other: &Object) -> bool
+        ensures { IsTrue result ↔ (self.now ≡ other.now) }
+    {
+        *self == *other
+    }
 }
 
 impl Copying for Object {

@@ -1,4 +1,5 @@
 //! How a value meets a string.
+ghost use Rattle.std.specs.Prelude.{◌≡◌, ◌↔◌, IsTrue};
 
 /// How a value is to stand to the string of a key (RFC 2244 section 6.4.1).
 #[derive(Clone, Copy, Debug, PartialEq, Eq)]
@@ -13,4 +14,13 @@ pub enum Relation {
     Begins,
     /// SUBSTRING: the string stands in the value.
     Contains,
+}
+
+impl Relation {
+    /// Whether two of them are equal, as `==` says it. Takes no memory.
+    pub fn equals(&self, other: &Relation) -> bool
+        ensures { IsTrue result ↔ (self.now ≡ other.now) }
+    {
+        *self == *other
+    }
 }

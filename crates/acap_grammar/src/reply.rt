@@ -1,10 +1,11 @@
 //! An answer under its tag.
+ghost use Rattle.std.specs.Prelude.{◌≡◌, ◌↔◌, IsTrue};
 
 use crate::said::Said;
-use acap_entries::Octets;
+use acap_entries::{Copying, Memory, Octets};
 
 /// A reply: what is said, and the tag of the command that it answers (RFC 2244 section 6.2).
-#[derive(Debug, Drop)]
+#[derive(Debug, PartialEq, Eq, Drop)]
 pub struct Reply {
     /// The tag under which it is printed; without one a `*` stands in its place.
     pub tag: Option<Octets>,
@@ -30,5 +31,20 @@ impl Reply {
             tag: Some(tag),
             said: self.said,
         }
+    }
+
+    /// Whether two of them are equal, as `==` says it. Takes no memory.
+    pub fn equals(&self, other: &Reply) -> bool
+        ensures { IsTrue result ↔ (self.now ≡ other.now) }
+    {
+        *self == *other
+    }
+}
+
+impl Copying for Reply {
+    fn copy(&self) -> Result<Reply, Memory> {
+        let tag = self.tag.copy()?;
+        let said = self.said.copy()?;
+        Ok(Reply { tag, said })
     }
 }

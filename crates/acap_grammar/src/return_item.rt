@@ -1,16 +1,26 @@
 //! One item of a RETURN.
+ghost use Rattle.std.specs.Prelude.{◌≡◌, ◌↔◌, IsTrue};
 
 use crate::lists::MetadataList;
 use crate::return_name::ReturnName;
 use acap_entries::{Copying, Memory};
 
 /// An item of RETURN (RFC 2244 section 6.4.1).
-#[derive(Debug, Drop)]
+#[derive(Debug, PartialEq, Eq, Drop)]
 pub struct ReturnItem {
     /// Of which attributes it tells.
     pub name: ReturnName,
     /// What it tells of each, at least one thing.
     pub metadata: MetadataList,
+}
+
+impl ReturnItem {
+    /// Whether two of them are equal, as `==` says it. Takes no memory.
+    pub fn equals(&self, other: &ReturnItem) -> bool
+        ensures { IsTrue result ↔ (self.now ≡ other.now) }
+    {
+        *self == *other
+    }
 }
 
 impl Copying for ReturnItem {

@@ -1,14 +1,24 @@
 //! The attributes that an item of RETURN names.
+ghost use Rattle.std.specs.Prelude.{◌≡◌, ◌↔◌, IsTrue};
 
 use acap_entries::{Attribute, Copying, Memory, Value};
 
 /// Of which attributes an item of RETURN tells (RFC 2244 section 6.4.1).
-#[derive(Debug, Drop)]
+#[derive(Debug, PartialEq, Eq, Drop)]
 pub enum ReturnName {
     /// The attribute of this name.
     Named(Attribute),
     /// A name with `*` at its end: those attributes whose names begin with what stands before it.
     Beginning(Value),
+}
+
+impl ReturnName {
+    /// Whether two of them are equal, as `==` says it. Takes no memory.
+    pub fn equals(&self, other: &ReturnName) -> bool
+        ensures { IsTrue result ↔ (self.now ≡ other.now) }
+    {
+        *self == *other
+    }
 }
 
 impl Copying for ReturnName {

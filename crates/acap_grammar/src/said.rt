@@ -1,12 +1,13 @@
 //! What is said to a client.
+ghost use Rattle.std.specs.Prelude.{◌≡◌, ◌↔◌, IsTrue};
 
 use crate::found::Found;
 use crate::refusal::Refusal;
 use crate::verb::Verb;
-use acap_entries::{Octets, Value, Values};
+use acap_entries::{Copying, Memory, Octets, Value, Values};
 
 /// What is said to a client (RFC 2244 section 6.2).
-#[derive(Debug, Drop)]
+#[derive(Debug, PartialEq, Eq, Drop)]
 pub enum Said {
     /// The greeting that begins a session.
     Greeting,
@@ -30,4 +31,31 @@ pub enum Said {
     GoodBye,
     /// The command, or the connection, is refused.
     Refused(Refusal),
+}
+
+impl Said {
+    /// Whether two of them are equal, as `==` says it. Takes no memory.
+    pub fn equals(&self, other: &Said) -> bool
+        ensures { IsTrue result ↔ (self.now ≡ other.now) }
+    {
+        *self == *other
+    }
+}
+
+impl Copying for Said {
+    fn copy(&self) -> Result<Said, Memory> {
+        match self {
+            Said::Greeting => Ok(Said::Greeting),
+            Said::Left => Ok(Said::Left),
+            Said::Drained => Ok(Said::Drained),
+            Said::Done(verb) => Ok(Said::Done(*verb)),
+            Said::Found(found) => Ok(Said::Found(found.copy()?)),
+            Said::Deleted(names) => Ok(Said::Deleted(names.copy()?)),
+            Said::Rights(rights) => Ok(Said::Rights(rights.copy()?)),
+            Said::RightsList(rights) => Ok(Said::RightsList(rights.copy()?)),
+            Said::Challenge(octets) => Ok(Said::Challenge(octets.copy()?)),
+            Said::GoodBye => Ok(Said::GoodBye),
+            Said::Refused(refusal) => Ok(Said::Refused(refusal.copy()?)),
+        }
+    }
 }

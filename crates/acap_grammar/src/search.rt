@@ -1,4 +1,5 @@
 //! A SEARCH.
+ghost use Rattle.std.specs.Prelude.{◌≡◌, ◌↔◌, IsTrue};
 
 use crate::key::Key;
 use crate::search_modifiers::SearchModifiers;
@@ -14,6 +15,17 @@ pub struct Search {
     pub modifiers: SearchModifiers,
     /// Which entries are wanted.
     pub key: Key,
+}
+
+impl Search {
+    /// Whether two of them are equal. Takes no memory.
+    pub fn equals(&self, other: &Search) -> bool
+        ensures { IsTrue result ↔ (self.now ≡ other.now) }
+    {
+        self.target.equals(&other.target)
+            && self.modifiers.equals(&other.modifiers)
+            && self.key.equals(&other.key)
+    }
 }
 
 impl Copying for Search {

@@ -1,4 +1,5 @@
 //! How a SEARCH is made.
+ghost use Rattle.std.specs.Prelude.{◌≡◌, ◌↔◌, IsTrue};
 
 use crate::limit::Limit;
 use crate::lists::{Returns, SortItems};
@@ -6,7 +7,7 @@ use crate::make_context::MakeContext;
 use acap_entries::{Copying, Memory};
 
 /// How a SEARCH is made, and what is told of it (RFC 2244 section 6.4.1).
-#[derive(Debug, Drop)]
+#[derive(Debug, PartialEq, Eq, Drop)]
 pub struct SearchModifiers {
     /// DEPTH: how many levels of datasets are looked through, 0 standing for all; one where it isn't sent.
     pub depth: Option<u32>,
@@ -25,7 +26,6 @@ pub struct SearchModifiers {
 }
 
 impl SearchModifiers {
-    ghost use Rattle.std.specs.Prelude.{◌≡◌};
     ghost use Rattle.acap_grammar.specs.Searching.{unmodified};
 
     /// A SEARCH without modifiers.
@@ -41,6 +41,13 @@ impl SearchModifiers {
             returns: None,
             sort: None,
         }
+    }
+
+    /// Whether two of them are equal, as `==` says it. Takes no memory.
+    pub fn equals(&self, other: &SearchModifiers) -> bool
+        ensures { IsTrue result ↔ (self.now ≡ other.now) }
+    {
+        *self == *other
     }
 }
 

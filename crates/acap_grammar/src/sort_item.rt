@@ -1,15 +1,25 @@
 //! One item of a SORT.
+ghost use Rattle.std.specs.Prelude.{◌≡◌, ◌↔◌, IsTrue};
 
 use acap_entries::{Attribute, Copying, Memory};
 use acap_order::Comparator;
 
 /// An item of SORT (RFC 2244 section 6.4.1).
-#[derive(Debug, Drop)]
+#[derive(Debug, PartialEq, Eq, Drop)]
 pub struct SortItem {
     /// The attribute whose values order the entries.
     pub attribute: Attribute,
     /// How they do.
     pub comparator: Comparator,
+}
+
+impl SortItem {
+    /// Whether two of them are equal, as `==` says it. Takes no memory.
+    pub fn equals(&self, other: &SortItem) -> bool
+        ensures { IsTrue result ↔ (self.now ≡ other.now) }
+    {
+        *self == *other
+    }
 }
 
 impl Copying for SortItem {

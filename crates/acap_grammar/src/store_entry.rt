@@ -1,11 +1,12 @@
 //! One entry of a STORE.
+ghost use Rattle.std.specs.Prelude.{◌≡◌, ◌↔◌, IsTrue};
 
 use crate::lists::StoreItems;
 use crate::store_modifiers::StoreModifiers;
 use acap_entries::{Copying, Memory, Path};
 
 /// One entry of a STORE (RFC 2244 section 6.6.1).
-#[derive(Debug, Drop)]
+#[derive(Debug, PartialEq, Eq, Drop)]
 pub struct StoreEntry {
     /// Where it is, as sent: a component `~` stands.
     pub path: Path,
@@ -13,6 +14,15 @@ pub struct StoreEntry {
     pub modifiers: StoreModifiers,
     /// What is given to its attributes, at least one.
     pub items: StoreItems,
+}
+
+impl StoreEntry {
+    /// Whether two of them are equal, as `==` says it. Takes no memory.
+    pub fn equals(&self, other: &StoreEntry) -> bool
+        ensures { IsTrue result ↔ (self.now ≡ other.now) }
+    {
+        *self == *other
+    }
 }
 
 impl Copying for StoreEntry {

@@ -1,11 +1,12 @@
 //! One item of a STORE.
+ghost use Rattle.std.specs.Prelude.{◌≡◌, ◌↔◌, IsTrue};
 
 use crate::given::Given;
 use crate::store_metadata::StoreMetadata;
 use acap_entries::{Attribute, Copying, Memory};
 
 /// What a STORE gives to one attribute of an entry (RFC 2244 section 6.6.1).
-#[derive(Debug, Drop)]
+#[derive(Debug, PartialEq, Eq, Drop)]
 pub struct StoreItem {
     /// The attribute.
     pub attribute: Attribute,
@@ -13,6 +14,15 @@ pub struct StoreItem {
     pub metadata: StoreMetadata,
     /// What it is given.
     pub given: Given,
+}
+
+impl StoreItem {
+    /// Whether two of them are equal, as `==` says it. Takes no memory.
+    pub fn equals(&self, other: &StoreItem) -> bool
+        ensures { IsTrue result ↔ (self.now ≡ other.now) }
+    {
+        *self == *other
+    }
 }
 
 impl Copying for StoreItem {

@@ -1,4 +1,5 @@
 //! What of an attribute a STORE gives.
+ghost use Rattle.std.specs.Prelude.{◌≡◌, ◌↔◌, IsTrue};
 
 use acap_entries::{Copying, Memory};
 
@@ -9,6 +10,15 @@ pub enum StoreMetadata {
     Value,
     /// `acl`: its access control list.
     Acl,
+}
+
+impl StoreMetadata {
+    /// Whether two of them are equal, as `==` says it. Takes no memory.
+    pub fn equals(&self, other: &StoreMetadata) -> bool
+        ensures { IsTrue result ↔ (self.now ≡ other.now) }
+    {
+        *self == *other
+    }
 }
 
 impl Copying for StoreMetadata {

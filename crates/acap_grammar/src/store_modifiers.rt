@@ -1,9 +1,10 @@
 //! The conditions of a STORE.
+ghost use Rattle.std.specs.Prelude.{◌≡◌, ◌↔◌, IsTrue};
 
 use acap_entries::{Copying, Memory, Moment};
 
 /// On what the STORE of an entry depends (RFC 2244 section 6.6.1).
-#[derive(Debug, Drop)]
+#[derive(Debug, PartialEq, Eq, Drop)]
 pub struct StoreModifiers {
     /// NOCREATE: the entry's dataset must exist.
     pub no_create: bool,
@@ -12,7 +13,6 @@ pub struct StoreModifiers {
 }
 
 impl StoreModifiers {
-    ghost use Rattle.std.specs.Prelude.{◌≡◌};
     ghost use Rattle.acap_grammar.specs.Storing.{unconditional};
 
     /// A STORE that depends on nothing.
@@ -23,6 +23,13 @@ impl StoreModifiers {
             no_create: false,
             unchanged_since: None,
         }
+    }
+
+    /// Whether two of them are equal, as `==` says it. Takes no memory.
+    pub fn equals(&self, other: &StoreModifiers) -> bool
+        ensures { IsTrue result ↔ (self.now ≡ other.now) }
+    {
+        *self == *other
     }
 }
 

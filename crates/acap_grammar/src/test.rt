@@ -1,11 +1,12 @@
 //! One test of a key.
+ghost use Rattle.std.specs.Prelude.{◌≡◌, ◌↔◌, IsTrue};
 
 use crate::relation::Relation;
 use acap_entries::{Attribute, Copying, Memory, Moment, Value};
 use acap_order::Comparator;
 
 /// What a key asks of an entry (RFC 2244 section 6.4.1).
-#[derive(Debug, Drop)]
+#[derive(Debug, PartialEq, Eq, Drop)]
 pub enum Test {
     /// ALL: nothing.
     All,
@@ -16,6 +17,15 @@ pub enum Test {
     /// RANGE: the entry stands in the context at a position from the first to the second, and no position was told
     /// anew since that time.
     Range(u32, u32, Moment),
+}
+
+impl Test {
+    /// Whether two of them are equal, as `==` says it. Takes no memory.
+    pub fn equals(&self, other: &Test) -> bool
+        ensures { IsTrue result ↔ (self.now ≡ other.now) }
+    {
+        *self == *other
+    }
 }
 
 impl Copying for Test {

@@ -1,4 +1,5 @@
 //! The verbs of commands.
+ghost use Rattle.std.specs.Prelude.{◌≡◌, ◌↔◌, IsTrue};
 
 /// The verbs of commands (RFC 2244 section 6).
 #[derive(Clone, Copy, Debug, PartialEq, Eq)]
@@ -27,4 +28,13 @@ pub enum Verb {
     MyRights,
     /// LISTRIGHTS (section 6.7).
     ListRights,
+}
+
+impl Verb {
+    /// Whether two of them are equal, as `==` says it. Takes no memory.
+    pub fn equals(&self, other: &Verb) -> bool
+        ensures { IsTrue result ↔ (self.now ≡ other.now) }
+    {
+        *self == *other
+    }
 }
