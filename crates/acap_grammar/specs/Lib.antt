@@ -6,6 +6,7 @@ pub mod Examples
 pub mod Marks
 pub mod Nodes
 pub mod Outcome
+pub mod Plain
 pub mod Refusals
 pub mod Replies
 pub mod Searching

@@ -1,5 +1,5 @@
 -- How a refusal is told: NO, BAD or BYE, a code in some, and a text [RFC 2244 sections 3.6 and 6.2].
-use Rattle.std.specs.Prelude.{ℕ, Bool, true, false, List, [], ◌++◌, codes, Option, Some, None}
+use Rattle.std.specs.Prelude.{ℕ, List, [], ◌++◌, codes, Option, Some, None}
 use Rattle.acap_lexer.specs.declared.fault.LexFault.{LexFault}
 use Rattle.acap_lexer.specs.declared.fault.LexFault.TheVariants as lexical
 use Rattle.acap_lexer.specs.Printing.{printed}
@@ -117,11 +117,3 @@ code_of refusal.TryFreeContext = codes "(TRYFREECONTEXT) "
 code_of refusal.Memory = codes "(TRYLATER) "
 code_of refusal.HistoryFull = codes "(TRYLATER) "
 code_of _ = []
-
--- whether it names nothing
-abbrev pub is_plain : Refusal → Bool
-is_plain (refusal.Permission object) = false
-is_plain (refusal.NoExist dataset) = false
-is_plain (refusal.Modified path) = false
-is_plain (refusal.Invalid path attribute) = false
-is_plain _ = true

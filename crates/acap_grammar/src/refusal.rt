@@ -1,6 +1,6 @@
 //! Why a command is refused.
 ghost use Rattle.std.specs.Prelude.{◌≡◌, ◌↔◌, IsTrue};
-ghost use Rattle.acap_grammar.specs.Refusals.{is_plain};
+ghost use Rattle.acap_grammar.specs.Plain.{is_plain};
 
 use crate::object::Object;
 use acap_entries::{Attribute, Copying, Dataset, Memory, Path};

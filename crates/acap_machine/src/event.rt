@@ -1,4 +1,6 @@
 //! What sessions bring to the machine.
+ghost use Rattle.std.specs.Prelude.{◌≡◌, ◌↔◌, IsTrue};
+
 use acap_entries::{Copying, Memory, UserName};
 use acap_grammar::Command;
 
@@ -13,6 +15,20 @@ pub enum Event {
     Drain,
     /// The user leaves the seat.
     Leave,
+}
+
+impl Event {
+    /// Whether two of them are equal. Takes no memory.
+    pub fn equals(&self, other: &Event) -> bool
+        ensures { IsTrue result ↔ (self.now ≡ other.now) }
+    {
+        match (self, other) {
+            (Event::Enter(one), Event::Enter(two)) => one == two,
+            (Event::Command(one), Event::Command(two)) => one.equals(two),
+            (Event::Drain, Event::Drain) | (Event::Leave, Event::Leave) => true,
+            _ => false,
+        }
+    }
 }
 
 impl Copying for Event {

@@ -1,4 +1,6 @@
 //! One event at a seat.
+ghost use Rattle.std.specs.Prelude.{◌≡◌, ◌↔◌, IsTrue};
+
 use crate::event::Event;
 use acap_entries::{Copying, Memory, Moment, Seat};
 
@@ -11,6 +13,15 @@ pub struct Step {
     pub event: Event,
     /// The moment.
     pub clock: Moment,
+}
+
+impl Step {
+    /// Whether two of them are equal. Takes no memory.
+    pub fn equals(&self, other: &Step) -> bool
+        ensures { IsTrue result ↔ (self.now ≡ other.now) }
+    {
+        self.seat == other.seat && self.event.equals(&other.event) && self.clock == other.clock
+    }
 }
 
 impl Copying for Step {
