@@ -1,17 +1,13 @@
 -- A text of plain octets is printed as it is, between quotes.
-use Rattle.std.proofs.Common.{◌≡◌, ℕ, zero, suc, slice_index, ◌<◌, ◌≤◌, Bool, true, false, List, [], ◌∷◌, ◌++◌, length, refl, sym, ap, ◌∙◌, arith}
-use Rattle.std.specs.Prelude.{not, ◌&&◌, ◌||◌, nat_le, nat_lt}
+use Rattle.std.proofs.Common.{◌≡◌, ℕ, zero, suc, slice_index, ◌<◌, ◌≤◌, Bool, true, false, List, [], ◌∷◌, ◌++◌, length, refl, ap, ◌∙◌, arith}
+use Rattle.std.specs.Prelude.{not, ◌||◌, nat_le, nat_lt}
 use Rattle.std.specs.List.{list_all}
 use Rattle.std.specs.Str.{is_utf8}
 use Rattle.std.proofs.lemmas.Bool.{le-leb, ltb-true}
 use Rattle.std.proofs.lemmas.Str.{is_utf8-from_IsUtf8, IsUtf8-from_ascii}
+use Rattle.acap_lexer.proofs.WordLemmas.{both_of}
 use Rattle.acap_lexer.specs.Octets.{is_escaped, is_plain, is_quotable, quote}
 use Rattle.acap_lexer.specs.Printing.{escape, escaped, is_printable, may_quote, quoted, printed}
-
-both_of : (a b : Bool) → (a && b) ≡ true → (a ≡ true) × (b ≡ true)
-both_of true true h = (refl, refl)
-both_of true false h = cc
-both_of false b h = cc
 
 parts_of : (x d e : Bool) → not (x || d || e) ≡ true → (not x ≡ true) × ((d || e) ≡ false)
 parts_of true d e h = cc

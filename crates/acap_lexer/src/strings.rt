@@ -15,7 +15,7 @@ const BAD_TOKEN: LexError = LexError::Fault(LexFault::BadToken);
 /// So many octets may stand between the quotes, escapes counted.
 const QUOTED_LIMIT: usize = 1024;
 
-/// The test of `is_quotable` by itself: with no table and no branch, so that eight octets are asked at once.
+/// The test of `is_quotable` by itself: with no table and no branch, so that sixteen octets are asked at once.
 #[inline]
 #[tactic(auto, unfolding(crate::specs::Octets::is_quotable))]
 fn is_none_of_five(c: u8) -> bool
@@ -24,9 +24,9 @@ fn is_none_of_five(c: u8) -> bool
     (c != 0) & (c != b'\n') & (c != b'\r') & (c != b'"') & (c != b'\\')
 }
 
-/// Whether eight octets all stand for themselves.
+/// Whether sixteen octets all stand for themselves.
 #[inline]
-fn all_quotable(word: &[u8; 8]) -> bool
+fn all_quotable(word: &[u8; 16]) -> bool
     ensures { result ≡ list_all is_quotable_octet word.now }
 {
     let mut all = true;
@@ -36,13 +36,13 @@ fn all_quotable(word: &[u8; 8]) -> bool
     all
 }
 
-/// What is left behind eight octets that stand for themselves.
+/// What is left behind sixteen octets that stand for themselves.
 #[inline]
 fn behind_word(text: &[u8]) -> Option<&[u8]>
-    ensures plain { IfSome result (λ left. prefix_len is_quotable_octet text.now ≡ 8 + prefix_len is_quotable_octet left.now) }
-    ensures behind { IfSome result (λ left. length left.now + 8 ≡ length text.now) }
+    ensures plain { IfSome result (λ left. prefix_len is_quotable_octet text.now ≡ 16 + prefix_len is_quotable_octet left.now) }
+    ensures behind { IfSome result (λ left. length left.now + 16 ≡ length text.now) }
 {
-    let (word, left) = text.split_first_chunk::<8>()?;
+    let (word, left) = text.split_first_chunk::<16>()?;
     if all_quotable(word) { Some(left) } else { None }
 }
 
@@ -54,7 +54,7 @@ fn plain_front(text: &[u8]) -> usize
     text.iter().take_while(|c| is_quotable(**c)).count()
 }
 
-/// How many octets at the front stand for themselves, counted by eights as far as that goes.
+/// How many octets at the front stand for themselves, counted by sixteens as far as that goes.
 fn plain_len(text: &[u8]) -> usize
     ensures within { result ≤ length text.now }
     ensures longest { result ≡ prefix_len is_quotable_octet text.now }
