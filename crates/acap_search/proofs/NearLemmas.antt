@@ -1,15 +1,15 @@
 -- What is at hand of an entry gives the answers about it.
-use Rattle.std.proofs.Common.{◌≡◌, ℕ, Bool, true, false, cond, is_some, T, nat_eq, ◌&&◌, ◌||◌, codes, Option, Some, None, List, [], ◌∷◌, ◌++◌, ◌==◌, take, length, refl, sym, ◌∙◌, ap, subst, append-nil, arith, map as each}
+use Rattle.std.proofs.Common.{◌≡◌, ℕ, Bool, true, false, cond, is_some, T, ◌&&◌, ◌||◌, codes, Option, Some, None, List, [], ◌∷◌, ◌++◌, ◌==◌, take, length, refl, sym, ◌∙◌, ap, subst, append-nil, arith, map as each}
 use Rattle.std.specs.FinMap as map
 use Rattle.std.specs.FinMap.{is_sorted, IsAntisymmetric, slice_cmp-IsAntisymmetric, nat_cmp-IsAntisymmetric}
 use Rattle.std.specs.FinMap.Entries.{below_all, find, same_entries}
-use Rattle.std.specs.List.{filter, filter_map, list_any, cons_option}
-use Rattle.std.specs.Option.{option_and_then, option_or, unwrap_or}
+use Rattle.std.specs.List.{filter, filter_map, cons_option}
+use Rattle.std.specs.Option.{option_and_then, unwrap_or}
 use Rattle.std.specs.Ordering.{is_lt, is_eq, eq_by_cmp, ordering_then, ordering_reverse}
 use Rattle.std.specs.Cmp.{tied_itself, IsTotalOrder}
 use Rattle.std.specs.declared.cmp.Ordering.{Ordering}
 use Rattle.std.specs.declared.cmp.Ordering.TheVariants.{Less, Equal, Greater}
-use Rattle.std.specs.Cmp.Lexicographic.{nat_list_cmp_total, same_text, texts_ties}
+use Rattle.std.specs.Cmp.Lexicographic.{nat_list_cmp_total, same_text}
 use Rattle.std.proofs.lemmas.Cmp.{on_total, then_total}
 use Rattle.acap_entries.specs.Orders.{octets_cmp, octets_eq}
 use Rattle.acap_entries.specs.Stamp.{stamp_of}
@@ -21,11 +21,9 @@ use Rattle.acap_entries.specs.declared.record.Record.{Record}
 use Rattle.acap_inherit.specs.EntryNames.{set_of, merged, names_in, names_on}
 use Rattle.acap_inherit.specs.Records.{record_at, cell_in, ends_inheritance}
 use Rattle.acap_inherit.specs.Resolving.{lying, by_cell, by_record, by_presence, greatest, until_end, entry_on, value_on, modtime_on, stamped, members_for, members_of, resolved}
-use Rattle.acap_rights.specs.Deciding.{Target, OfEntry, own_list, rights_of}
+use Rattle.acap_rights.specs.Deciding.{OfEntry, own_list}
 use Rattle.acap_rights.proofs.SharingLemmas.{shared_law}
-use Rattle.acap_rights.specs.Homes.{default_list}
 use Rattle.acap_rights.specs.Pairs.{rights_in}
-use Rattle.acap_rights.specs.Rights.{union}
 use Rattle.acap_rights.specs.declared.realm.Realm.{Realm}
 use Rattle.acap_rights.specs.declared.rights.Rights.{Rights}
 use Rattle.acap_search.specs.Near.{own_value, IsPlain, AreKept}
@@ -44,10 +42,6 @@ either false x = refl
 twice : (b : Bool) → (b && b) ≡ b
 twice true = refl
 twice false = refl
-
-second_none : (a b : Bool) → (a || b) ≡ false → b ≡ false
-second_none true b e = absurd (cc e)
-second_none false b e = e
 
 by_own_cell : (cell : Option Cell) (entry : Record) (dataset : List ℕ) → by_cell cell entry dataset None ≡ lying (unwrap_or cell Nil) dataset
 by_own_cell (Some cell) entry dataset = refl

@@ -1,10 +1,10 @@
 -- What is told of matches that are found in order.
-use Rattle.std.proofs.Common.{◌≡◌, ℕ, zero, suc, Bool, true, false, cond, ◌&&◌, Option, Some, None, List, [], ◌∷◌, ◌++◌, take, length, refl, sym, ◌∙◌, ap, subst, append-nil, flat_map, option_map, map as each}
+use Rattle.std.proofs.Common.{◌≡◌, ℕ, zero, suc, Bool, true, false, cond, ◌&&◌, Option, Some, None, List, [], ◌∷◌, ◌++◌, take, length, refl, sym, ◌∙◌, ap, append-nil, flat_map, option_map, map as each}
 use Rattle.std.specs.List.{filter_map, cons_option}
 use Rattle.std.specs.Option.{option_map_or, unwrap_or}
 use Rattle.std.specs.Cmp.{tied_itself}
-use Rattle.std.specs.Cmp.Lexicographic.{nat_list_cmp_total, slice_cmp}
-use Rattle.std.specs.Ordering.{is_lt, nat_cmp, ordering_then, ordering_reverse}
+use Rattle.std.specs.Cmp.Lexicographic.{nat_list_cmp_total}
+use Rattle.std.specs.Ordering.{is_lt, ordering_then, ordering_reverse}
 use Rattle.std.specs.declared.cmp.Ordering.{Ordering}
 use Rattle.std.specs.declared.cmp.Ordering.TheVariants.{Less, Equal, Greater}
 use Rattle.std.proofs.lemmas.Cmp.{nat_cmp_total}
@@ -23,13 +23,10 @@ use Rattle.acap_inherit.specs.Merging.{is_below, is_rising}
 use Rattle.acap_rights.specs.declared.realm.Realm.{Realm}
 use Rattle.acap_search.specs.Cutting.{cut_of}
 use Rattle.acap_search.specs.Fresh.{sight_of, fresh_of}
-use Rattle.acap_search.specs.Keys.{holds}
-use Rattle.acap_search.specs.Matches.{Match, match_cmp, match_lt, sorted_by, sorted_from}
+use Rattle.acap_search.specs.Matches.{Match, match_lt, sorted_by, sorted_from}
 use Rattle.acap_search.specs.Places.{places_cmp, places_in}
-use Rattle.acap_search.specs.Rows.{Names, stars_of, attributes_at}
 use Rattle.acap_search.specs.Scopes.{scope_of, beneath}
-use Rattle.acap_search.specs.Sight.{Answers, answers_at, is_seen}
-use Rattle.acap_search.specs.Tuples.{match_of}
+use Rattle.acap_search.specs.Sight.{answers_at}
 use Rattle.acap_search.specs.Walks.{hit_at, hits_in, hits_over}
 use Rattle.acap_search.specs.declared.query.Query.{Query}
 use Rattle.acap_search.proofs.OrderLemmas.{match_weak}

@@ -1,4 +1,4 @@
-use Rattle.std.proofs.Common.{◌≡◌, sym, ◌∙◌, ap, cond}
+use Rattle.std.proofs.Common.{sym, ◌∙◌, ap, cond}
 use Rattle.std.specs.Option.{option_copied}
 use Rattle.acap_entries.specs.declared.cell.Cell.TheVariants.{Nil}
 use Rattle.acap_search.proofs.NearLemmas.{none_of, near_read}

@@ -1,4 +1,4 @@
-use Rattle.std.proofs.Common.{true, false, length, sym, ap, ◌∙◌, map}
+use Rattle.std.proofs.Common.{true, false, sym, ap, ◌∙◌, map}
 use Rattle.acap_entries.specs.Datasets.{dataset_exists}
 use Rattle.acap_search.specs.Fresh.{is_over}
 use Rattle.acap_search.proofs.TellingLemmas.{row_in, plain_is, plain_count}
