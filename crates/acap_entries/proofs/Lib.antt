@@ -19,3 +19,4 @@ pub mod DatasetRanges
 pub mod Equalities
 pub mod RecordEquality
 pub mod WordLemmas
+pub mod PlainNames

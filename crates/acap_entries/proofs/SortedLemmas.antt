@@ -4,20 +4,20 @@ use Rattle.std.specs.declared.cmp.Ordering.{Ordering}
 use Rattle.std.specs.declared.cmp.Ordering.TheVariants.{Less, Equal, Greater}
 use Rattle.std.specs.Ordering.{is_eq, is_lt}
 use Rattle.std.specs.Cmp.{IsTotalOrder}
-use Rattle.std.specs.List.{insert, remove}
+use Rattle.std.specs.List.{insert, remove, slice_get}
 use Rattle.std.specs.FinMap.{find, put, is_sorted}
 use Rattle.std.specs.FinMap.Entries.{by_order, below_all}
 use Rattle.acap_entries.specs.Sorted.{place, is_tied, without, found, put_in, InOrder}
 
-first : (a b : Bool) → T (a && b) → T a
+pub first : (a b : Bool) → T (a && b) → T a
 first true b p = tt
 first false b p = p
 
-second : (a b : Bool) → T (a && b) → T b
+pub second : (a b : Bool) → T (a && b) → T b
 second true b p = p
 second false b p = absurd p
 
-is_less : (o : Ordering) → T (is_lt o) → o ≡ Less
+pub is_less : (o : Ordering) → T (is_lt o) → o ≡ Less
 is_less Less p = refl
 is_less Equal p = absurd p
 is_less Greater p = absurd p
@@ -64,6 +64,24 @@ module _ {K X : Type 0} (R : K → K → Ordering) where
   put_in_tied k v es d e = put_tied k v es d e
 
   module _ (o : IsTotalOrder R) where
+    lower : (k l : K) (es : List (K × X)) → R k l ≡ Less → T (below_all R l es) → T (below_all R k es)
+    lower k l [] p h = tt
+    lower k l (x ∷ es) p h =
+        let less : R k x.0 ≡ Less = o.trans k l x.0 p (is_less _ (first _ _ h)) in
+        rw less (lower k l es p (second _ _ h))
+
+    -- a key below the first adds nothing to ask for
+    rises_on : (x y : K × X) (es : List (K × X)) → R x.0 y.0 ≡ Less → is_sorted R (x ∷ y ∷ es) ≡ is_sorted R (y ∷ es)
+    rises_on x y es p = rw p (elim (below_all R y.0 es) as (λ b. below_all R y.0 es ≡ b → (below_all R x.0 es && (b && is_sorted R es)) ≡ (b && is_sorted R es)) [
+      | true ↦ λ e. let low : T (below_all R x.0 es) = lower x.0 y.0 es p (subst T (sym e) tt) in elim (below_all R x.0 es) as (λ b. T b → (b && is_sorted R es) ≡ is_sorted R es) [ true ↦ λ t. refl | false ↦ λ t. absurd t ] low
+      | false ↦ λ e. elim (below_all R x.0 es) as (λ b. (b && false) ≡ false) [ true ↦ refl | false ↦ refl ]
+    ] refl)
+
+    -- the same, the first of those behind being known
+    pub rises_behind : (x y : K × X) (others : List (K × X)) → slice_get others 0 ≡ Some y → R x.0 y.0 ≡ Less → is_sorted R (x ∷ others) ≡ is_sorted R others
+    rises_behind x y [] e p = cc
+    rises_behind x y (z ∷ es) e p = let same : z ≡ y = cc in rises_on x z es (ap (λ t. R x.0 t.0) same ∙ p)
+
     pub below_missing : (k l : K) (es : List (K × X)) → R k l ≡ Less → T (below_all R l es) → find R k es ≡ None
     below_missing k l [] p h = refl
     below_missing k l (x ∷ es) p h =

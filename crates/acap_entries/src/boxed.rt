@@ -42,6 +42,20 @@ impl<T: Drop> Boxed<T> {
     }
 }
 
+impl<T: PartialEq> PartialEq for Boxed<T> {
+    ghost eq = { T.eq };
+
+    ghost laws = { T.laws };
+
+    fn eq(&self, other: &Boxed<T>) -> bool {
+        *self.held == *other.held
+    }
+}
+
+impl<T: Eq> Eq for Boxed<T> {
+    ghost laws = { T.Eq.laws };
+}
+
 impl<T: Copying + Drop> Copying for Boxed<T> {
     fn copy(&self) -> Result<Boxed<T>, Memory> {
         let value = self.held.copy()?;

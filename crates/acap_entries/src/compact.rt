@@ -1,5 +1,5 @@
 //! Octets that lie in place while they are few.
-ghost use Rattle.std.specs.Prelude.{◌≡◌, ◌≤◌, length, take, IfOk};
+ghost use Rattle.std.specs.Prelude.{◌≡◌, ◌≤◌, ◌+◌, ◌++◌, [], length, take, IfOk};
 
 use crate::memory::Memory;
 use std::alloc::Global;
@@ -56,7 +56,79 @@ fn in_place(alloc: Global, text: &[u8]) -> Few
     }
 }
 
+// None yet, in place.
+#[inline]
+fn none(alloc: Global) -> Few
+    ensures octets { take result.len result.octets ≡ [] }
+    ensures len { result.len ≡ 0 }
+{
+    Few {
+        len: 0,
+        octets: [0; IN_PLACE],
+        alloc,
+    }
+}
+
+impl Few {
+    // Adds octets behind those that there are.
+    #[inline]
+    fn append(&mut self, more: &[u8])
+        requires { self.old.len + length more.now ≤ 30 }
+        ensures octets { take self.new.len self.new.octets ≡ take self.old.len self.old.octets ++ more.now }
+        ensures len { self.new.len ≡ self.old.len + length more.now }
+    {
+        let start = self.len as usize;
+        let end = start + more.len();
+        self.octets[start..end].copy_from_slice(more);
+        self.len = end as u8;
+    }
+}
+
+// Four texts that are few together, one behind the other.
+fn few_joined(alloc: Global, first: &[u8], second: &[u8], third: &[u8], fourth: &[u8]) -> Few
+    requires { length first.now + length second.now + length third.now + length fourth.now ≤ 30 }
+    ensures { take result.len result.octets ≡ first.now ++ second.now ++ third.now ++ fourth.now }
+{
+    let mut few = none(alloc);
+    few.append(first);
+    few.append(second);
+    few.append(third);
+    few.append(fourth);
+    few
+}
+
 impl Compact {
+    /// The octets of four texts, one behind the other. Fails only for want of memory.
+    pub(crate) fn joined(
+        alloc: Global,
+        first: &[u8],
+        second: &[u8],
+        third: &[u8],
+        fourth: &[u8],
+    ) -> Result<Compact, Memory>
+        ensures { IfOk result (λ made. made ≡ first.now ++ second.now ++ third.now ++ fourth.now) }
+    {
+        let room = first
+            .len()
+            .saturating_add(second.len())
+            .saturating_add(third.len())
+            .saturating_add(fourth.len());
+        if room <= IN_PLACE {
+            let few = few_joined(alloc, first, second, third, fourth);
+            return Ok(Compact {
+                kept: Kept::InPlace(few),
+            });
+        }
+        let mut octets = Vec::with_capacity(alloc, room)?;
+        octets.extend_from_slice(first)?;
+        octets.extend_from_slice(second)?;
+        octets.extend_from_slice(third)?;
+        octets.extend_from_slice(fourth)?;
+        Ok(Compact {
+            kept: Kept::Apart(octets),
+        })
+    }
+
     /// The octets of a vector. Takes no memory, and keeps the vector's, if they are many.
     pub(crate) fn from_vec(octets: Vec<u8>) -> Compact
         ensures { result ≡ octets.items }

@@ -1,5 +1,5 @@
 //! The names of datasets.
-ghost use Rattle.std.specs.Prelude.{◌≡◌, ◌↔◌, ◌++◌, ◌∷◌, [], IfOk, OnOk, IsTrue, Err, false};
+ghost use Rattle.std.specs.Prelude.{◌≡◌, ◌↔◌, ◌++◌, ◌∷◌, [], IfOk, OnOk, OnErr, IsTrue, Err, false};
 ghost use Rattle.acap_entries.specs.Names as name;
 ghost use Rattle.acap_entries.specs.Homes as home;
 
@@ -76,12 +76,15 @@ impl Dataset {
         Ok(Dataset { octets })
     }
 
-    /// The same, in the memory that it has where it stays. Fails only for want of memory.
-    pub(crate) fn into_for_user(self, user: &UserName) -> Result<Dataset, Memory>
-        ensures { IfOk result (λ made. made ≡ home.for_user user.now self) }
+    /// Becomes the dataset that a user means. Where memory is refused it stays.
+    pub(crate) fn set_user(&mut self, user: &UserName) -> Result<(), Memory>
+        ensures ok { OnOk result (self.new ≡ home.for_user user.now self.old) }
+        ensures err { OnErr result (self.new ≡ self.old) }
     {
-        let octets = homes::into_for_user(self.octets, user.as_slice())?;
-        Ok(Dataset { octets })
+        if let Some(octets) = homes::other_for_user(&self.octets, user.as_slice())? {
+            self.octets = octets;
+        }
+        Ok(())
     }
 
     /// The octets without the closing `/`.

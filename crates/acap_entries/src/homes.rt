@@ -44,13 +44,17 @@ pub(crate) fn for_user(dataset: &DatasetText, user: &[u8]) -> Result<DatasetText
     }
 }
 
-// The same, in the memory that the octets have where they stay.
+// The same where it is another dataset, and none where it is that one.
 #[tactic(auto, unfolding(crate::specs::Homes::for_user))]
-pub(crate) fn into_for_user(dataset: DatasetText, user: &[u8]) -> Result<DatasetText, Memory>
-    ensures { IfOk result (λ made. made ≡ home.for_user user.now dataset) }
+pub(crate) fn other_for_user(
+    dataset: &DatasetText,
+    user: &[u8],
+) -> Result<Option<DatasetText>, Memory>
+    ensures other { IfOk result (λ made. IfSome made (λ other. other ≡ home.for_user user.now dataset.now)) }
+    ensures same { IfOk result (λ made. IfNone made (home.for_user user.now dataset.now ≡ dataset.now)) }
 {
     match tilde_at(dataset.as_slice()) {
-        Some(at) => replaced(dataset.allocator(), dataset.as_slice(), at, user),
-        None => Ok(dataset),
+        Some(at) => Ok(Some(replaced(dataset.allocator(), dataset.as_slice(), at, user)?)),
+        None => Ok(None),
     }
 }

@@ -1,5 +1,5 @@
 //! Which octets are names (RFC 2244 sections 3.1, 3.1.1 and 3.3). No call here takes memory.
-ghost use Rattle.std.specs.Prelude.{◌≡◌, ◌≤◌, ◌<◌, ◌-◌, ◌∷◌, [], length, slice_index, IfSome, IfNone, IsTrue};
+ghost use Rattle.std.specs.Prelude.{ℕ, ◌≡◌, ◌≤◌, ◌<◌, ◌-◌, ◌∷◌, [], ◌&&◌, not, false, true, length, slice_index, IfSome, IfNone, IsTrue};
 ghost use Rattle.std.specs.List.{list_all, slice_split, position};
 ghost use Rattle.std.specs.Option.{option_map};
 ghost use Rattle.std.specs.Str as text;
@@ -31,16 +31,36 @@ pub fn ends_with(octets: &[u8], octet: u8) -> bool
     !octets.is_empty() && octets[octets.len() - 1] == octet
 }
 
+// Whether they are ASCII above an octet, without one more: such are UTF-8, and most names are. For a short name this
+// pass takes less time than a test of UTF-8 and a search for each octet that may not stand in it; its callers ask for
+// it up to the length where it no longer does.
+fn is_plain(octets: &[u8], above: u8, other: u8) -> bool
+    ensures utf8 { IsTrue result → text.is_utf8 octets.now ≡ true }
+    ensures above { IsTrue result → (octet : ℕ) → octet ≤ above → name.has octet octets.now ≡ false }
+    ensures other { IsTrue result → name.has other octets.now ≡ false }
+{
+    octets
+        .iter()
+        .all(|octet| above < *octet && *octet < 128 && *octet != other)
+}
+
+// Whether they are UTF-8 without NUL and without one octet more. It stands apart so that a caller that needs no such
+// test saves no registers for it.
+#[inline(never)]
+fn is_text_without(octets: &[u8], other: u8) -> bool
+    ensures { result ≡ (text.is_utf8 octets.now && not (name.has name.nul octets.now) && not (name.has other octets.now)) }
+{
+    is_utf8(octets) && !octets.contains(&0) && !octets.contains(&other)
+}
+
 /// Whether they are a component of a path: UTF-8, not empty, without NUL and `/`, not beginning `.`.
 #[tactic(auto, unfolding(crate::specs::Names::is_component))]
 pub fn is_component(octets: &[u8]) -> bool
     ensures { result ≡ name.is_component octets.now }
 {
     !octets.is_empty()
-        && is_utf8(octets)
-        && !octets.contains(&0)
-        && !octets.contains(&b'/')
         && !begins_with(octets, b'.')
+        && ((octets.len() <= 18 && is_plain(octets, 0, b'/')) || is_text_without(octets, b'/'))
 }
 
 /// Where the first slash stands.
@@ -152,12 +172,23 @@ pub fn is_dataset_argument(octets: &[u8]) -> bool
 pub fn is_attribute(octets: &[u8]) -> bool
     ensures { result ≡ name.is_attribute octets.now }
 {
+    // few names have an octet up to `*`, so one comparison rules out NUL, `%` and `*`
     !octets.is_empty()
         && octets.len() <= 200
-        && is_utf8(octets)
-        && !octets.contains(&0)
-        && !octets.contains(&b'*')
-        && !octets.contains(&b'%')
+        && ((octets.len() <= 38 && is_plain(octets, b'*', b'*'))
+            || (is_text_without(octets, b'*') && !octets.contains(&b'%')))
+}
+
+// Whether they are a component without SP and TAB.
+#[tactic(auto, unfolding(crate::specs::Names::is_component))]
+fn is_component_without_blanks(octets: &[u8]) -> bool
+    ensures { result ≡ name.is_component octets.now && not (name.has name.space octets.now) && not (name.has name.tab octets.now) }
+{
+    if octets.len() <= 28 && is_plain(octets, b' ', b'/') {
+        !octets.is_empty() && !begins_with(octets, b'.')
+    } else {
+        is_component(octets) && !octets.contains(&b' ') && !octets.contains(&b'\t')
+    }
 }
 
 /// Whether they are the name of a user: a component of at most 64 octets, without SP and TAB, not beginning `-`,
@@ -166,11 +197,9 @@ pub fn is_attribute(octets: &[u8]) -> bool
 pub fn is_user_name(octets: &[u8]) -> bool
     ensures { result ≡ name.is_user_name octets.now }
 {
-    is_component(octets)
-        && octets.len() <= 64
-        && !octets.contains(&b' ')
-        && !octets.contains(&b'\t')
+    octets.len() <= 64
         && !begins_with(octets, b'-')
+        && is_component_without_blanks(octets)
         && octets != b"anyone".as_slice()
         && octets != b"~".as_slice()
 }

@@ -1,5 +1,5 @@
 //! Where entries are.
-ghost use Rattle.std.specs.Prelude.{◌≡◌, ◌↔◌, IfOk, OnOk, IsTrue, Err, false};
+ghost use Rattle.std.specs.Prelude.{◌≡◌, ◌↔◌, IfOk, OnOk, OnErr, IsTrue, Err, false};
 ghost use Rattle.std.specs.Option.{option_map};
 ghost use Rattle.acap_entries.specs.Names as rule;
 ghost use Rattle.acap_entries.specs.Homes as home;
@@ -69,14 +69,13 @@ impl Path {
         }
     }
 
-    /// The path that a user means: its dataset is the one that the user means. Takes memory where that is another, and
-    /// fails only for want of it.
-    pub fn for_user(self, user: &UserName) -> Result<Path, Memory>
-        ensures { IfOk result (λ made. made ≡ record self { dataset = home.for_user user.now self.dataset }) }
+    /// Becomes the path that a user means: its dataset is the one that the user means. Takes memory where that is another
+    /// and long, and where memory is refused it stays.
+    pub fn set_user(&mut self, user: &UserName) -> Result<(), Memory>
+        ensures ok { OnOk result (self.new ≡ record self.old { dataset = home.for_user user.now self.old.dataset }) }
+        ensures err { OnErr result (self.new ≡ self.old) }
     {
-        let Path { dataset, name } = self;
-        let dataset = dataset.into_for_user(user)?;
-        Ok(Path { dataset, name })
+        self.dataset.set_user(user)
     }
 }
 

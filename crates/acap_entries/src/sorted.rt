@@ -1,6 +1,7 @@
 //! Entries in the order of their keys: look-ups by halves, and edits in room that there is.
 ghost use Rattle.std.specs.Prelude.{◌≡◌, ◌+◌, ◌<◌, ◌≤◌, length, IsTrue, vec_len, vec_capacity, OnOk, OnErr, false};
 ghost use Rattle.std.specs.Option.{option_copied};
+ghost use Rattle.std.specs.FinMap.{is_sorted};
 ghost use Rattle.acap_entries.specs.Sorted.{place, is_tied, without, found, put_in, InOrder};
 
 use crate::keys::{Probe, Whole};
@@ -59,6 +60,23 @@ fn put_there<K: Ord + Drop, V: Drop>(
     } else {
         entries.insert(at, (key, value)).unwrap();
     }
+}
+
+/// Whether each key is greater than the one before it.
+pub fn ascends<K: Ord, V>(entries: &[(K, V)]) -> bool
+    ensures { result ≡ is_sorted K.cmp entries.now }
+{
+    let mut left = entries;
+    while let Some((first, others)) = left.split_first() {
+        let Some(next) = others.first() else {
+            return true;
+        };
+        match first.0.cmp(&next.0) {
+            Ordering::Less => left = others,
+            Ordering::Equal | Ordering::Greater => return false,
+        }
+    }
+    true
 }
 
 /// Sets the value of a key, in the room that there is. Takes no memory.

@@ -133,17 +133,8 @@ impl<K> Text<K> {
     ) -> Result<Text<K>, Memory>
         ensures { IfOk result (λ made. made ≡ first.now ++ second.now ++ third.now ++ fourth.now) }
     {
-        let room = first
-            .len()
-            .saturating_add(second.len())
-            .saturating_add(third.len())
-            .saturating_add(fourth.len());
-        let mut octets = Vec::with_capacity(alloc, room)?;
-        octets.extend_from_slice(first)?;
-        octets.extend_from_slice(second)?;
-        octets.extend_from_slice(third)?;
-        octets.extend_from_slice(fourth)?;
-        Ok(Text::of(Compact::from_vec(octets)))
+        let octets = Compact::joined(alloc, first, second, third, fourth)?;
+        Ok(Text::of(octets))
     }
 
     /// The allocator that keeps them.

@@ -1,5 +1,5 @@
 //! What a change writes.
-ghost use Rattle.std.specs.Prelude.{◌≡◌, OnOk, OnErr, vec_len};
+ghost use Rattle.std.specs.Prelude.{◌≡◌, ◌↔◌, IsOk, IfOk, IfErr, OnOk, OnErr, vec_len};
 ghost use Rattle.std.specs.Option.{option_copied};
 ghost use Rattle.std.specs.FinMap as map;
 ghost use Rattle.acap_entries.specs.Sorted.{InOrder};
@@ -10,7 +10,7 @@ use crate::fate::Fate;
 use crate::keys::{PathText, Whole};
 use crate::memory::Memory;
 use crate::path::Path;
-use crate::sorted::{lookup, set_in, take_out};
+use crate::sorted::{ascends, lookup, set_in, take_out};
 use std::alloc::Global;
 use std::marker::Model;
 
@@ -42,6 +42,19 @@ impl Writes {
     {
         Writes {
             entries: Vec::new(alloc),
+        }
+    }
+
+    /// Those writes, in the memory that they have, if each path is greater than the one before it; else they are given back.
+    pub fn from_ascending(entries: Vec<(Path, Fate)>) -> Result<Writes, Vec<(Path, Fate)>>
+        ensures order { IsOk result ↔ InOrder path_cmp entries.items }
+        ensures value { IfOk result (λ made. made ≡ map.from_sorted entries.items) }
+        ensures same { IfErr result (λ same. same.items ≡ entries.items) }
+    {
+        if ascends(entries.as_slice()) {
+            Ok(Writes { entries })
+        } else {
+            Err(entries)
         }
     }
 

@@ -13,3 +13,4 @@ pub mod Computing
 pub mod Exact
 pub mod ReplyEquality
 pub mod CommandEquality
+pub mod Ascending

@@ -1,4 +1,5 @@
 pub mod Arguments
+pub mod Ascending
 pub mod Grammar
 pub mod Keys
 pub mod Laws

@@ -105,10 +105,10 @@ pub(crate) fn append_code(refusal: &Refusal, out: &mut Vec<u8>) -> Result<(), Me
     ensures grows { Grows out.old.items out.new.items }
 {
     match refusal {
-        Refusal::Permission(object) => append_permission(object, out),
+        Refusal::Permission(object) => append_permission(object.get(), out),
         Refusal::NoExist(dataset) => append_no_exist(dataset, out),
-        Refusal::Modified(path) => append_modified(path, out),
-        Refusal::Invalid(path, attribute) => append_invalid(path, attribute, out),
+        Refusal::Modified(path) => append_modified(path.get(), out),
+        Refusal::Invalid(path, attribute) => append_invalid(path.get(), attribute, out),
         Refusal::TooOld => append_word(b"(TOOOLD) ", out),
         Refusal::WayTooMany => append_word(b"(WAYTOOMANY) ", out),
         Refusal::TryFreeContext => append_word(b"(TRYFREECONTEXT) ", out),

@@ -19,14 +19,14 @@ pub enum Command {
     Store(Entries),
     /// SEARCH: entries are to be found (section 6.4.1). It stands in a box, so that the other commands are short.
     Search(Boxed<Search>),
-    /// SETACL: the identifier is to have these rights on the object, both as sent (section 6.7).
-    SetAcl(Object, Value, Value),
+    /// SETACL: the identifier is to have these rights on the object, both as sent (section 6.7). Objects stand in boxes too.
+    SetAcl(Boxed<Object>, Value, Value),
     /// DELETEACL: the identifier is to be taken off the object's list, or the whole list to be removed (section 6.7).
-    DeleteAcl(Object, Option<Value>),
+    DeleteAcl(Boxed<Object>, Option<Value>),
     /// MYRIGHTS: the rights are to be told that the user has on the object (section 6.7).
-    MyRights(Object),
+    MyRights(Boxed<Object>),
     /// LISTRIGHTS: the rights are to be told that the identifier may have on the object (section 6.7).
-    ListRights(Object, Value),
+    ListRights(Boxed<Object>, Value),
     /// DELETEDSINCE: the entries of the dataset are to be told that were deleted later than the time (section 6.6.2).
     DeletedSince(Dataset, Moment),
     /// FREECONTEXT: the context is to be given up (section 6.5).
@@ -46,14 +46,14 @@ impl Command {
             (Command::Store(one), Command::Store(two)) => one == two,
             (Command::Search(one), Command::Search(two)) => one.get().equals(two.get()),
             (Command::SetAcl(one, name, rights), Command::SetAcl(two, other_name, letters)) => {
-                one.equals(two) && name == other_name && rights == letters
+                one == two && name == other_name && rights == letters
             }
             (Command::DeleteAcl(one, name), Command::DeleteAcl(two, other_name)) => {
-                one.equals(two) && name == other_name
+                one == two && name == other_name
             }
-            (Command::MyRights(one), Command::MyRights(two)) => one.equals(two),
+            (Command::MyRights(one), Command::MyRights(two)) => one == two,
             (Command::ListRights(one, name), Command::ListRights(two, other_name)) => {
-                one.equals(two) && name == other_name
+                one == two && name == other_name
             }
             (Command::DeletedSince(one, since), Command::DeletedSince(two, other_since)) => {
                 one == two && since == other_since

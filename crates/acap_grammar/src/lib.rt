@@ -7,6 +7,7 @@ pub mod command;
 mod data;
 mod descent;
 pub mod found;
+mod gathered;
 pub mod given;
 pub mod grammar_error;
 pub mod grammar_fault;

@@ -3,6 +3,7 @@
 ghost use Rattle.std.specs.Prelude.{◌≡◌, drop};
 ghost use Rattle.acap_grammar.specs.Outcome.{Gives, Reads};
 ghost use Rattle.acap_grammar.specs.Marks.{is_string, ends as ends_tokens, starts};
+ghost use Rattle.acap_grammar.specs.Arguments.{object_at as object_in};
 ghost use Rattle.acap_grammar.specs.Grammar as grammar;
 
 use crate::arguments::{context_at, dataset_at, object_at, time_at, value_at};
@@ -11,6 +12,7 @@ use crate::descent::{ends, starts_string};
 use crate::grammar_error::GrammarError;
 use crate::grammar_fault::GrammarFault;
 use crate::lists::ContextNames;
+use crate::object::Object;
 use crate::searching::search_at;
 use crate::several::{Gather, some_of};
 use crate::storing::entries_at;
@@ -32,12 +34,24 @@ fn authenticate_at(
     Ok((Command::Authenticate(mechanism), next))
 }
 
+// An object, in a box.
+fn boxed_object_at(
+    alloc: Global,
+    tokens: &Tokens,
+    at: usize,
+) -> Result<(Boxed<Object>, usize), GrammarError>
+    ensures { Reads (λ x. (x.0, drop x.1 tokens.now)) result (object_in (drop at tokens.now)) }
+{
+    let (object, next) = object_at(alloc, tokens, at)?;
+    Ok((Boxed::new(alloc, object)?, next))
+}
+
 // Behind SETACL: object identifier rights.
 #[tactic(auto, unfolding(crate::specs::Grammar::set_acl_at))]
 fn set_acl_at(alloc: Global, tokens: &Tokens, at: usize) -> Result<(Command, usize), GrammarError>
     ensures { Reads (λ x. (x.0, drop x.1 tokens.now)) result (grammar.set_acl_at (drop at tokens.now)) }
 {
-    let (object, next) = object_at(alloc, tokens, at)?;
+    let (object, next) = boxed_object_at(alloc, tokens, at)?;
     let (identifier, next) = value_at(alloc, tokens, next)?;
     let (rights, next) = value_at(alloc, tokens, next)?;
     Ok((Command::SetAcl(object, identifier, rights), next))
@@ -67,7 +81,7 @@ fn delete_acl_at(
 ) -> Result<(Command, usize), GrammarError>
     ensures { Reads (λ x. (x.0, drop x.1 tokens.now)) result (grammar.delete_acl_at (drop at tokens.now)) }
 {
-    let (object, next) = object_at(alloc, tokens, at)?;
+    let (object, next) = boxed_object_at(alloc, tokens, at)?;
     let (identifier, next) = identifier_part(alloc, tokens, next)?;
     Ok((Command::DeleteAcl(object, identifier), next))
 }
@@ -81,7 +95,7 @@ fn list_rights_at(
 ) -> Result<(Command, usize), GrammarError>
     ensures { Reads (λ x. (x.0, drop x.1 tokens.now)) result (grammar.list_rights_at (drop at tokens.now)) }
 {
-    let (object, next) = object_at(alloc, tokens, at)?;
+    let (object, next) = boxed_object_at(alloc, tokens, at)?;
     let (identifier, next) = value_at(alloc, tokens, next)?;
     Ok((Command::ListRights(object, identifier), next))
 }
@@ -165,7 +179,7 @@ fn arguments_at(
         Verb::SetAcl => set_acl_at(alloc, tokens, at),
         Verb::DeleteAcl => delete_acl_at(alloc, tokens, at),
         Verb::MyRights => {
-            let (object, next) = object_at(alloc, tokens, at)?;
+            let (object, next) = boxed_object_at(alloc, tokens, at)?;
             Ok((Command::MyRights(object), next))
         }
         Verb::ListRights => list_rights_at(alloc, tokens, at),

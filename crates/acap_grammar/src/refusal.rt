@@ -3,7 +3,7 @@ ghost use Rattle.std.specs.Prelude.{◌≡◌, ◌↔◌, IsTrue};
 ghost use Rattle.acap_grammar.specs.Plain.{is_plain};
 
 use crate::object::Object;
-use acap_entries::{Attribute, Copying, Dataset, Memory, Path};
+use acap_entries::{Attribute, Boxed, Copying, Dataset, Memory, Path};
 
 /// Why a command, or a connection, is refused (RFC 2244 sections 3.6 and 6.2).
 #[derive(Debug, PartialEq, Eq, Drop)]
@@ -44,14 +44,14 @@ pub enum Refusal {
     NoMechanism,
     /// The answer to the challenge isn't the user's.
     LoginFailed,
-    /// The rights on the object are missing.
-    Permission(Object),
+    /// The rights on the object are missing. What is long stands in a box, so that a refusal is short.
+    Permission(Boxed<Object>),
     /// The dataset doesn't exist.
     NoExist(Dataset),
     /// The entry was changed later than the client says.
-    Modified(Path),
+    Modified(Boxed<Path>),
     /// The attribute of the entry may not have this value.
-    Invalid(Path, Attribute),
+    Invalid(Boxed<Path>, Attribute),
     /// A limit of the store was reached.
     Limit,
     /// No later moment can be told.

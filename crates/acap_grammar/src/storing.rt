@@ -10,6 +10,7 @@ use crate::arguments::{attribute_at, path_at, time_at};
 use crate::descent::{
     Piece, behind_close, behind_open, closes, ends, opens, peek, starts_string, string_at,
 };
+use crate::gathered::{GatheredEntries, GatheredItems};
 use crate::given::Given;
 use crate::grammar_error::GrammarError;
 use crate::grammar_fault::GrammarFault;
@@ -35,37 +36,6 @@ pub(crate) fn once(stood: bool) -> Result<(), GrammarError>
     } else {
         Ok(())
     }
-}
-
-#[tactic(auto, unfolding(crate::specs::Storing::has_path))]
-fn has_path(path: &Path, seen: &[StoreEntry]) -> bool
-    ensures { result ≡ storing.has_path path.now seen.now }
-{
-    let dataset = path.dataset.as_slice();
-    let name = path.name.as_slice();
-    seen.iter().any(|e| e.path.dataset.as_slice() == dataset && e.path.name.as_slice() == name)
-}
-
-#[tactic(auto, unfolding(crate::specs::Storing::has_attribute))]
-fn has_attribute(attribute: &Attribute, seen: &[StoreItem]) -> bool
-    ensures { result ≡ storing.has_attribute attribute.now seen.now }
-{
-    let attribute = attribute.as_slice();
-    seen.iter().any(|i| i.attribute.as_slice() == attribute)
-}
-
-fn same_metadata(a: StoreMetadata, b: StoreMetadata) -> bool
-    ensures { result ≡ storing.same_metadata a b }
-{
-    a == b
-}
-
-#[tactic(auto, unfolding(crate::specs::Storing::has_item))]
-fn has_item(attribute: &Attribute, metadata: StoreMetadata, seen: &[StoreItem]) -> bool
-    ensures { result ≡ storing.has_item attribute.now metadata seen.now }
-{
-    let attribute = attribute.as_slice();
-    seen.iter().any(|i| i.attribute.as_slice() == attribute && same_metadata(i.metadata, metadata))
 }
 
 // ---- what is given
@@ -144,7 +114,7 @@ fn metadata_named(text: &[u8]) -> Result<StoreMetadata, GrammarError>
 #[derive(Drop)]
 pub(crate) struct Gifts {
     pub(crate) attribute: Attribute,
-    pub(crate) items: StoreItems,
+    pub(crate) items: GatheredItems,
 }
 
 impl Gifts {
@@ -153,8 +123,7 @@ impl Gifts {
         ensures { IfOk result (λ made. made ≡ record self { items = self.items ++ record { attribute = self.attribute; metadata = metadata; given = given } ∷ [] }) }
     {
         let attribute = self.attribute.copy()?;
-        let mut items = self.items;
-        items.push(StoreItem {
+        let items = self.items.with(StoreItem {
             attribute,
             metadata,
             given,
@@ -168,17 +137,15 @@ impl Gifts {
 
 impl Gifts {
     // One last thing for the attribute, which moves there.
-    fn put_last(self, metadata: StoreMetadata, given: Given) -> Result<StoreItems, Memory>
+    fn put_last(self, metadata: StoreMetadata, given: Given) -> Result<GatheredItems, Memory>
         ensures { IfOk result (λ made. made ≡ self.items ++ record { attribute = self.attribute; metadata = metadata; given = given } ∷ []) }
     {
         let Gifts { attribute, items } = self;
-        let mut items = items;
-        items.push(StoreItem {
+        items.with(StoreItem {
             attribute,
             metadata,
             given,
-        })?;
-        Ok(items)
+        })
     }
 }
 
@@ -206,7 +173,7 @@ impl Gather for Gifts {
     ) -> Result<(Gifts, usize), GrammarError> {
         let (text, next) = string_at(tokens, at)?;
         let metadata = metadata_named(text)?;
-        once(has_item(&self.attribute, metadata, self.items.as_slice()))?;
+        once(self.items.has_item(&self.attribute, metadata))?;
         let (given, left) = given_at(alloc, tokens, next)?;
         Ok((self.put(metadata, given)?, left))
     }
@@ -219,7 +186,7 @@ fn gifts_at(
     seen: Gifts,
     tokens: &Tokens,
     at: usize,
-) -> Result<(StoreItems, usize), GrammarError>
+) -> Result<(GatheredItems, usize), GrammarError>
     ensures { Reads (λ x. (x.0, drop x.1 tokens.now)) result (storing.gifts_at seen (drop at tokens.now)) }
 {
     if opens(tokens, at) {
@@ -231,7 +198,7 @@ fn gifts_at(
     Ok((items, left))
 }
 
-impl Gather for StoreItems {
+impl Gather for GatheredItems {
     ghost over = { starts is_close };
 
     ghost fits = { starts is_string };
@@ -252,9 +219,9 @@ impl Gather for StoreItems {
         alloc: Global,
         tokens: &Tokens,
         at: usize,
-    ) -> Result<(StoreItems, usize), GrammarError> {
+    ) -> Result<(GatheredItems, usize), GrammarError> {
         let (attribute, next) = attribute_at(alloc, tokens, at)?;
-        once(has_attribute(&attribute, self.as_slice()))?;
+        once(self.has_attribute(&attribute))?;
         let seen = Gifts {
             attribute,
             items: self,
@@ -267,7 +234,8 @@ impl Gather for StoreItems {
 fn items_at(alloc: Global, tokens: &Tokens, at: usize) -> Result<(StoreItems, usize), GrammarError>
     ensures { Reads (λ x. (x.0, drop x.1 tokens.now)) result (storing.items_at (drop at tokens.now)) }
 {
-    some_of(alloc, StoreItems::new(alloc), 256, tokens, at)
+    let (gathered, left) = some_of(alloc, GatheredItems::new(alloc), 256, tokens, at)?;
+    Ok((gathered.items, left))
 }
 
 // ---- modifiers
@@ -370,18 +338,18 @@ fn conditions_at(tokens: &Tokens, at: usize) -> Result<(StoreModifiers, usize), 
 #[tactic(auto, unfolding(crate::specs::Storing::path_at))]
 fn new_path_at(
     alloc: Global,
-    seen: &[StoreEntry],
+    seen: &GatheredEntries,
     tokens: &Tokens,
     at: usize,
 ) -> Result<(Path, usize), GrammarError>
     ensures { Reads (λ x. (x.0, drop x.1 tokens.now)) result (storing.path_at seen.now (drop at tokens.now)) }
 {
     let (path, next) = path_at(alloc, tokens, at)?;
-    once(has_path(&path, seen))?;
+    once(seen.has_path(&path))?;
     Ok((path, next))
 }
 
-impl Gather for Entries {
+impl Gather for GatheredEntries {
     ghost over = { ends_tokens };
 
     ghost fits = { starts is_open };
@@ -402,14 +370,13 @@ impl Gather for Entries {
         alloc: Global,
         tokens: &Tokens,
         at: usize,
-    ) -> Result<(Entries, usize), GrammarError> {
+    ) -> Result<(GatheredEntries, usize), GrammarError> {
         let inside = behind_open(tokens, at)?;
-        let (path, next) = new_path_at(alloc, self.as_slice(), tokens, inside)?;
+        let (path, next) = new_path_at(alloc, &self, tokens, inside)?;
         let (modifiers, next) = conditions_at(tokens, next)?;
         let (items, next) = items_at(alloc, tokens, next)?;
         let left = behind_close(tokens, next)?;
-        let mut entries = self;
-        entries.push(StoreEntry {
+        let entries = self.with(StoreEntry {
             path,
             modifiers,
             items,
@@ -427,5 +394,6 @@ pub(crate) fn entries_at(
 ) -> Result<(Entries, usize), GrammarError>
     ensures { Reads (λ x. (x.0, drop x.1 tokens.now)) result (storing.entries_at (drop at tokens.now)) }
 {
-    some_of(alloc, Entries::new(alloc), 256, tokens, at)
+    let (gathered, left) = some_of(alloc, GatheredEntries::new(alloc), 256, tokens, at)?;
+    Ok((gathered.entries, left))
 }

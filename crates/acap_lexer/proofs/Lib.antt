@@ -15,7 +15,7 @@ pub mod Advancing
 pub mod PrintedLength
 pub mod Runs
 pub mod PlainTexts
-pub mod WordLemmas
+pub mod PlainWords
 pub mod LexerLaws
 pub mod Computing
 pub mod Asking

@@ -3,9 +3,8 @@ use Rattle.std.proofs.Common.{◌≡◌, ℕ, zero, suc, slice_index, ◌<◌, �
 use Rattle.std.specs.Prelude.{not, ◌||◌, nat_le, nat_lt}
 use Rattle.std.specs.List.{list_all}
 use Rattle.std.specs.Str.{is_utf8}
-use Rattle.std.proofs.lemmas.Bool.{le-leb, ltb-true}
+use Rattle.std.proofs.lemmas.Bool.{and_parts, le-leb, ltb-true}
 use Rattle.std.proofs.lemmas.Str.{is_utf8-from_IsUtf8, IsUtf8-from_ascii}
-use Rattle.acap_lexer.proofs.WordLemmas.{both_of}
 use Rattle.acap_lexer.specs.Octets.{is_escaped, is_plain, is_quotable, quote}
 use Rattle.acap_lexer.specs.Printing.{escape, escaped, is_printable, may_quote, quoted, printed}
 
@@ -23,7 +22,7 @@ record IsPlain (c : ℕ) : Type 0 where
 plain_octet : (c : ℕ) → is_plain c ≡ true → IsPlain c
 unfolding is_plain is_quotable is_escaped is_printable
 plain_octet c h =
-    let both = both_of (is_quotable c) (nat_lt c 128) h in
+    let both = and_parts (is_quotable c) (nat_lt c 128) h in
     let parts = parts_of _ _ _ both.0 in
     record { bare = parts.1; printable = parts.0; ascii = ltb-true _ _ both.1 }
 
@@ -43,7 +42,7 @@ ascii_more c text h others (suc i) = others i
 plain_text : (text : List ℕ) → list_all is_plain text ≡ true → IsPlainText text
 plain_text [] h = record { same = refl; printable = refl; ascii = ascii_none }
 plain_text (c ∷ text) h =
-    let both = both_of (is_plain c) (list_all is_plain text) h in
+    let both = and_parts (is_plain c) (list_all is_plain text) h in
     let octet : IsPlain c = plain_octet c both.0 in
     let others : IsPlainText text = plain_text text both.1 in
     let form : escape c ≡ c ∷ [] = rw octet.bare refl in

@@ -53,6 +53,29 @@ quoted_plain (c ∷ rest) = by_test (is_quotable c) refl (quoted_plain rest)
         let first : quoted_at (c ∷ rest) ≡ behind (c ∷ []) (quoted_at rest) = rw (p.0, p.1, e) refl in
         first ∙ ap (behind (c ∷ [])) later ∙ behind_more (c ∷ []) (take n rest) (quoted_at (drop n rest)) ∙ ap split_at (sym more)
 
+read_plain : (c : ℕ) (rest : List ℕ) → is_quotable c ≡ true → quoted_at (c ∷ rest) ≡ behind (c ∷ []) (quoted_at rest)
+unfolding quoted_at
+read_plain c rest e = let p = plain c e in rw (p.0, p.1, e) refl
+
+-- an octet that was read, and those behind it that stand for themselves, may be read at once
+octets_at_once : (c : ℕ) (rest : List ℕ) (read : Read (List ℕ)) (n : ℕ) → n ≡ prefix_len is_quotable rest → read ≡ behind (c ∷ []) (quoted_at rest)
+    → read ≡ behind (take (1 + n) (c ∷ rest)) (quoted_at (drop (1 + n) (c ∷ rest)))
+octets_at_once c rest read n longest first =
+    let more : 1 + n ≡ suc n = omega arith in
+    let later : quoted_at rest ≡ behind (take n rest) (quoted_at (drop n rest)) = rw longest (quoted_plain rest) in
+    rw more (first ∙ ap (behind (c ∷ [])) later ∙ behind_more (c ∷ []) (take n rest) (quoted_at (drop n rest)))
+
+pub escaped_run : (text run left : List ℕ) (d : ℕ) (rest : List ℕ) (n : ℕ) → text ≡ d ∷ rest → is_escaped d ≡ true → n ≡ prefix_len is_quotable rest
+    → run ≡ take (1 + n) text → left ≡ drop (1 + n) text → escaped_at text ≡ behind run (quoted_at left)
+unfolding quoted_at
+escaped_run text run left d rest n form e longest taken dropped =
+    rw (taken, dropped, form) (octets_at_once d rest (escaped_at (d ∷ rest)) n longest (rw e refl))
+
+pub plain_run : (text run left : List ℕ) (c : ℕ) (rest : List ℕ) (n : ℕ) → text ≡ c ∷ rest → is_quotable c ≡ true → n ≡ prefix_len is_quotable rest
+    → run ≡ take (1 + n) text → left ≡ drop (1 + n) text → quoted_at text ≡ behind run (quoted_at left)
+plain_run text run left c rest n form e longest taken dropped =
+    rw (taken, dropped, form) (octets_at_once c rest (quoted_at (c ∷ rest)) n longest (read_plain c rest e))
+
 -- ---- what is printed is read back
 
 read_escaped : (c : ℕ) (rest : List ℕ) → is_escaped c ≡ true → quoted_at (92 ∷ c ∷ rest) ≡ behind (c ∷ []) (quoted_at rest)
@@ -65,10 +88,6 @@ is_plain c p e =
     let special = or_parts (eqb c 34) (eqb c 92) e in
     let control = not-true (eqb c 0 || eqb c 10 || eqb c 13) p in
     not_from_false _ (or_from (eqb c 0 || eqb c 10 || eqb c 13 || eqb c 34) (eqb c 92) (or_from (eqb c 0 || eqb c 10 || eqb c 13) (eqb c 34) control special.0) special.1)
-
-read_plain : (c : ℕ) (rest : List ℕ) → is_quotable c ≡ true → quoted_at (c ∷ rest) ≡ behind (c ∷ []) (quoted_at rest)
-unfolding quoted_at
-read_plain c rest e = let p = plain c e in rw (p.0, p.1, e) refl
 
 pub escaped_reads : (text rest : List ℕ) → list_all is_printable text ≡ true → quoted_at (escaped text ++ 34 ∷ rest) ≡ Ok (text, rest)
 unfolding quoted_at

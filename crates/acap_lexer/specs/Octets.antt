@@ -50,6 +50,10 @@ is_tag c = c == 0x21 || within 0x23 0x27 c || within 0x2C 0x5B c || within 0x5D 
 unfoldable pub is_quotable : ℕ → Bool
 is_quotable c = not (c == 0 || c == line_feed || c == carriage_return || c == quote || c == backslash)
 
+-- not between quotes as itself
+abbrev pub is_special : ℕ → Bool
+is_special c = not (is_quotable c)
+
 -- between quotes, as itself, and a character alone
 unfoldable pub is_plain : ℕ → Bool
 is_plain c = is_quotable c && nat_lt c 128

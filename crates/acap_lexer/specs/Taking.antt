@@ -1,5 +1,5 @@
 -- What the readers of a part promise of one step, whatever follows it.
-use Rattle.std.specs.Prelude.{◌≡◌, ℕ, ◌<◌, ◌≤◌, List, [], ◌∷◌, length, take, Option, Some, None, Result, Ok, Err}
+use Rattle.std.specs.Prelude.{◌≡◌, ℕ, ◌<◌, ◌≤◌, List, [], length, take, Option, Some, None, Result, Ok, Err}
 use Rattle.std.specs.Borrow.{Bor}
 use Rattle.acap_lexer.specs.declared.fault.LexError.{LexError}
 use Rattle.acap_lexer.specs.declared.fault.LexFault.{LexFault}
@@ -10,17 +10,17 @@ use Rattle.acap_lexer.specs.Token.{Token}
 use Rattle.acap_lexer.specs.Part.{Part, next_at}
 use Rattle.acap_lexer.specs.Reading.{Fails, Read, behind, quoted_at, escaped_at, string_at}
 
--- an octet of a string, or its closing quote
-abbrev pub TakesFrom : Read (List ℕ) → List ℕ → Option ℕ → List ℕ → Type 0
+-- octets of a string, or its closing quote
+abbrev pub TakesFrom : Read (List ℕ) → List ℕ → Option (Bor (List ℕ)) → List ℕ → Type 0
 TakesFrom read text None left = (read ≡ Ok ([], left)) × (length left < length text)
-TakesFrom read text (Some c) left = (read ≡ behind (c ∷ []) (quoted_at left)) × (length left < length text)
+TakesFrom read text (Some run) left = (read ≡ behind run.now (quoted_at left)) × (length left < length text)
 
-abbrev pub TakesOctet : List ℕ → Result (Option ℕ × Bor (List ℕ)) LexError → Type 0
-TakesOctet text (Ok x) = TakesFrom (quoted_at text) text x.0 x.1.now
-TakesOctet text (Err e) = Fails e (quoted_at text)
+abbrev pub TakesRun : List ℕ → Result (Option (Bor (List ℕ)) × Bor (List ℕ)) LexError → Type 0
+TakesRun text (Ok x) = TakesFrom (quoted_at text) text x.0 x.1.now
+TakesRun text (Err e) = Fails e (quoted_at text)
 
 -- the same behind a backslash
-abbrev pub TakesEscaped : List ℕ → Result (Option ℕ × Bor (List ℕ)) LexError → Type 0
+abbrev pub TakesEscaped : List ℕ → Result (Option (Bor (List ℕ)) × Bor (List ℕ)) LexError → Type 0
 TakesEscaped text (Ok x) = TakesFrom (escaped_at text) text x.0 x.1.now
 TakesEscaped text (Err e) = Fails e (escaped_at text)
 

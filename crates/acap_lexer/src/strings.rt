@@ -1,49 +1,35 @@
 //! Quoted strings.
 
-ghost use Rattle.std.specs.Prelude.{◌≡◌, ◌≤◌, ◌+◌, ◌++◌, length, IfOk, IfSome};
-ghost use Rattle.std.specs.List.{list_all, prefix_len};
-ghost use Rattle.acap_lexer.specs.Octets.{is_quotable as is_quotable_octet};
+ghost use Rattle.std.specs.Prelude.{◌≡◌, ◌≤◌, ◌+◌, ◌++◌, length, map, IfOk, IfSome};
+ghost use Rattle.std.specs.List.{prefix_len};
+ghost use Rattle.std.specs.Simd.Lanes.{mask_l};
+ghost use Rattle.acap_lexer.specs.Octets.{is_quotable as is_quotable_octet, is_special};
 ghost use Rattle.acap_lexer.specs.Reading.{Gives, behind, quoted_at, string_at};
 ghost use Rattle.acap_lexer.specs.Printing.{Grows};
-ghost use Rattle.acap_lexer.specs.Taking.{TakesOctet, TakesEscaped, IsPlainString};
+ghost use Rattle.acap_lexer.specs.Taking.{TakesRun, TakesEscaped, IsPlainString};
 
 use crate::fault::{LexError, LexFault};
 use crate::octets::{is_escaped, is_quotable};
+use std::simd::prelude::*;
 
 const BAD_TOKEN: LexError = LexError::Fault(LexFault::BadToken);
 
 /// So many octets may stand between the quotes, escapes counted.
 const QUOTED_LIMIT: usize = 1024;
 
-/// The test of `is_quotable` by itself: with no table and no branch, so that sixteen octets are asked at once.
-#[inline]
-#[tactic(auto, unfolding(crate::specs::Octets::is_quotable))]
-fn is_none_of_five(c: u8) -> bool
-    ensures { result ≡ is_quotable_octet c }
-{
-    (c != 0) & (c != b'\n') & (c != b'\r') & (c != b'"') & (c != b'\\')
-}
+/// So many octets are looked at at once.
+const AT_ONCE: usize = 16;
 
-/// Whether sixteen octets all stand for themselves.
+/// A bit for each octet that doesn't stand for itself.
 #[inline]
-fn all_quotable(word: &[u8; 16]) -> bool
-    ensures { result ≡ list_all is_quotable_octet word.now }
+fn specials(octets: u8x16) -> u64
+    ensures { result ≡ mask_l (map is_special octets) }
 {
-    let mut all = true;
-    'octets: for c in word {
-        all &= is_none_of_five(*c);
-    }
-    all
-}
-
-/// What is left behind sixteen octets that stand for themselves.
-#[inline]
-fn behind_word(text: &[u8]) -> Option<&[u8]>
-    ensures plain { IfSome result (λ left. prefix_len is_quotable_octet text.now ≡ 16 + prefix_len is_quotable_octet left.now) }
-    ensures behind { IfSome result (λ left. length left.now + 16 ≡ length text.now) }
-{
-    let (word, left) = text.split_first_chunk::<16>()?;
-    if all_quotable(word) { Some(left) } else { None }
+    (octets.simd_eq(u8x16::splat(0))
+        | octets.simd_eq(u8x16::splat(b'\n'))
+        | octets.simd_eq(u8x16::splat(b'\r'))
+        | octets.simd_eq(u8x16::splat(b'"'))
+        | octets.simd_eq(u8x16::splat(b'\\'))).to_bitmask()
 }
 
 /// How many octets at the front stand for themselves, counted by the octet.
@@ -59,11 +45,15 @@ fn plain_len(text: &[u8]) -> usize
     ensures within { result ≤ length text.now }
     ensures longest { result ≡ prefix_len is_quotable_octet text.now }
 {
-    let mut left = text;
-    'words: while let Some(rest) = behind_word(left) {
-        left = rest;
+    let mut at = 0;
+    'words: while text.len() - at >= AT_ONCE {
+        let found = specials(u8x16::from_slice(&text[at..]));
+        if found != 0 {
+            return at + found.trailing_zeros() as usize;
+        }
+        at += AT_ONCE;
     }
-    text.len() - left.len() + plain_front(left)
+    at + plain_front(&text[at..])
 }
 
 /// How many octets lie between the quotes of the string without escapes at the front, and what is left behind it, if
@@ -80,10 +70,11 @@ pub(crate) fn plain_string_at(rest: &[u8]) -> Option<(usize, &[u8])>
     Some((len, left))
 }
 
-/// The first octet that a string stands for, or none at its closing quote, and what is left behind it.
+/// The next octets that a string stands for, as far as they lie side by side in it, or none at its closing quote, and
+/// what is left.
 #[tactic(auto, unfolding(crate::specs::Reading::quoted_at))]
-fn octet_at(text: &[u8]) -> Result<(Option<u8>, &[u8]), LexError>
-    ensures { TakesOctet text.now result }
+fn run_at(text: &[u8]) -> Result<(Option<&[u8]>, &[u8]), LexError>
+    ensures { TakesRun text.now result }
 {
     let Some((c, after)) = text.split_first() else {
         return Err(BAD_TOKEN);
@@ -97,12 +88,14 @@ fn octet_at(text: &[u8]) -> Result<(Option<u8>, &[u8]), LexError>
     if !is_quotable(*c) {
         return Err(BAD_TOKEN);
     }
-    Ok((Some(*c), after))
+    let (run, left) = text.split_at(1 + plain_len(after));
+    Ok((Some(run), left))
 }
 
-/// The octet that a backslash escapes, and what is left behind it.
+/// The octet that a backslash escapes, together with those behind it that stand for themselves, so that all are copied
+/// at once, and what is left.
 #[tactic(auto, unfolding(crate::specs::Reading::quoted_at))]
-fn escaped_at(text: &[u8]) -> Result<(Option<u8>, &[u8]), LexError>
+fn escaped_at(text: &[u8]) -> Result<(Option<&[u8]>, &[u8]), LexError>
     ensures { TakesEscaped text.now result }
 {
     let Some((c, after)) = text.split_first() else {
@@ -111,7 +104,8 @@ fn escaped_at(text: &[u8]) -> Result<(Option<u8>, &[u8]), LexError>
     if !is_escaped(*c) {
         return Err(BAD_TOKEN);
     }
-    Ok((Some(*c), after))
+    let (run, left) = text.split_at(1 + plain_len(after));
+    Ok((Some(run), left))
 }
 
 /// What a quoted string stands for, added to the text, and what is left behind its last quote.
@@ -122,13 +116,11 @@ fn quoted_at<'a>(rest: &'a [u8], text: &mut Vec<u8>) -> Result<&'a [u8], LexErro
     ensures within { IfOk result (λ left. length left.now ≤ length rest.now) }
 {
     let mut left = rest;
-    'octets: loop {
-        let (plain, behind) = left.split_at(plain_len(left));
-        text.extend_from_slice(plain)?;
-        let (octet, after) = octet_at(behind)?;
-        match octet {
+    'runs: loop {
+        let (run, after) = run_at(left)?;
+        match run {
             None => return Ok(after),
-            Some(c) => text.push(c)?,
+            Some(octets) => text.extend_from_slice(octets)?,
         }
         left = after;
     }

@@ -1,5 +1,5 @@
 -- What a reply has of the matches, by what is told of them.
-use Rattle.std.proofs.Common.{◌≡◌, ℕ, ℤ, Option, Some, None, List, take, length, refl, sym, ◌∙◌, option_map, map as each}
+use Rattle.std.proofs.Common.{◌≡◌, ℕ, ℤ, Option, Some, None, List, take, length, refl, ◌∙◌, option_map, map as each}
 use Rattle.acap_entries.specs.declared.row.Row.{Row}
 use Rattle.acap_grammar.specs.declared.limit.Limit.{Limit}
 use Rattle.acap_grammar.specs.declared.return_item.ReturnItem.{ReturnItem}

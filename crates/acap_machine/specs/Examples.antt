@@ -1,6 +1,6 @@
 -- Examples of what is told of matches, what is served and refused, and what a step of the machine does, by the definitions
 -- alone [RFC 2244 sections 2, 4.1, 6.4.1, 6.6.1 and 6.7].
-use Rattle.std.specs.Prelude.{◌≡◌, ℕ, ℤ, List, [], ◌∷◌, map, true, false, Option, None, Some, Result, Ok, Err, codes}
+use Rattle.std.specs.Prelude.{◌≡◌, ℕ, ℤ, List, [], ◌∷◌, map, false, Option, None, Some, Result, Ok, Err, codes}
 use Rattle.std.specs.FinMap as table
 use Rattle.acap_entries.specs.Changes.{store_after}
 use Rattle.acap_entries.specs.Store.{Store}
@@ -27,17 +27,16 @@ use Rattle.acap_grammar.specs.declared.verb.Verb.{Verb}
 use Rattle.acap_grammar.specs.declared.verb.Verb.TheVariants as verb
 use Rattle.acap_machine.specs.Machine.{Machine}
 use Rattle.acap_machine.specs.Runs.{outcome_of, machine_after, stepped_at, run_of}
-use Rattle.acap_machine.specs.Searching.{number_told, found_of, found_unless, searched, searched_by}
+use Rattle.acap_machine.specs.Searching.{number_told, found_of, found_unless, searched}
 use Rattle.acap_machine.specs.Seats.{seated_as}
-use Rattle.acap_machine.specs.Serving.{served, changes_or}
-use Rattle.acap_machine.specs.Stepping.{step_of, plain, answered, IsFault}
+use Rattle.acap_machine.specs.Serving.{served}
+use Rattle.acap_machine.specs.Stepping.{step_of, plain, IsFault}
 use Rattle.acap_machine.specs.declared.answer.Answer.TheVariants.{Says, Changes}
 use Rattle.acap_machine.specs.declared.event.Event.TheVariants as event
 use Rattle.acap_machine.specs.declared.fault.Fault.{Fault}
 use Rattle.acap_machine.specs.declared.fault.Fault.TheVariants as fault
 use Rattle.acap_machine.specs.declared.step.Step.{Step}
 use Rattle.acap_rights.specs.declared.realm.Realm.{Realm}
-use Rattle.acap_search.specs.Asking.{asked_of}
 use Rattle.acap_search.specs.Matches.{Match}
 use Rattle.acap_search.specs.declared.query.Query.{Query}
 use Rattle.acap_search.specs.declared.refusal.SearchRefusal.TheVariants as refusal

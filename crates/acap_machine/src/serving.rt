@@ -60,10 +60,10 @@ fn rights_listed(
     alloc: Global,
     realm: &Realm,
     user: &UserName,
-    object: Object,
+    object: &Object,
     identifier: &[u8],
 ) -> Result<Said, Memory>
-    ensures { IfOk result (λ words. words ≡ rule.rights_listed realm.now user.now object identifier.now) }
+    ensures { IfOk result (λ words. words ≡ rule.rights_listed realm.now user.now object.now identifier.now) }
 {
     let dataset = object.dataset.for_user(user)?;
     let rights = implicit_rights(realm, identifier, dataset.as_slice());
@@ -120,11 +120,11 @@ pub(crate) fn served(
             Ok(Answer::Says(words))
         }
         Command::MyRights(object) => {
-            let words = rights_told(alloc, tree, realm, user, object)?;
+            let words = rights_told(alloc, tree, realm, user, object.into_value())?;
             Ok(Answer::Says(words))
         }
         Command::ListRights(object, identifier) => {
-            let words = rights_listed(alloc, realm, user, object, identifier.as_slice())?;
+            let words = rights_listed(alloc, realm, user, object.get(), identifier.as_slice())?;
             Ok(Answer::Says(words))
         }
         Command::DeletedSince(dataset, since) => {

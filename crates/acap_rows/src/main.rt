@@ -40,7 +40,7 @@ fn run_row(rt: &HostRuntime, file: &str, row: &Row, tally: &mut Tally) -> io::Re
     let wrong = first_wrong(rt.alloc(), row)?;
     tally.count(wrong.is_none());
     if let Some(wrong) = wrong {
-        println!(rt; "{file}: {} ({})", row.name, wrong.cut)?;
+        println!(rt; "{file}: {} ({})", row.name, wrong.sizes)?;
         println!(rt; "  wanted: {}", wrong.lines.wanted)?;
         println!(rt; "  got:    {}", wrong.lines.got)?;
     }

@@ -3,25 +3,25 @@
 use std::fmt::{self, Display, Formatter};
 use std::io::{self, Read};
 
-/// How octets are cut: a first piece of at most so many, then pieces of at most a size.
+/// The sizes of the pieces that octets are cut into: the first is of at most so many, the others are of at most a size.
 #[derive(Clone, Copy, Debug)]
-pub(crate) struct Cut {
+pub(crate) struct PieceSizes {
     pub(crate) first: usize,
     pub(crate) size: usize,
 }
 
-impl Cut {
+impl PieceSizes {
     /// All at once.
-    pub(crate) const WHOLE: Cut = Cut {
+    pub(crate) const WHOLE: PieceSizes = PieceSizes {
         first: 1_000_000,
         size: 1_000_000,
     };
 
     /// Octet by octet.
-    pub(crate) const SINGLE: Cut = Cut { first: 1, size: 1 };
+    pub(crate) const SINGLE: PieceSizes = PieceSizes { first: 1, size: 1 };
 }
 
-impl Display for Cut {
+impl Display for PieceSizes {
     fn fmt<W: fmt::Write>(&self, f: &mut Formatter<W>) -> fmt::Result {
         write!(
             f,
@@ -31,20 +31,20 @@ impl Display for Cut {
     }
 }
 
-/// A reader of octets that are cut so.
+/// A reader of octets, cut into such pieces.
 #[derive(Drop)]
 pub(crate) struct Pieces<'a> {
     pub(crate) left: &'a [u8],
-    pub(crate) cut: Cut,
+    pub(crate) sizes: PieceSizes,
 }
 
 impl<'a> Read for Pieces<'a> {
     fn read(&mut self, buf: &mut [u8]) -> io::Result<usize> {
-        let count = self.cut.first.min(self.left.len()).min(buf.len());
+        let count = self.sizes.first.min(self.left.len()).min(buf.len());
         let (front, back) = self.left.split_at(count);
         buf[..count].copy_from_slice(front);
         self.left = back;
-        self.cut.first = self.cut.size;
+        self.sizes.first = self.sizes.size;
         Ok(count)
     }
 }

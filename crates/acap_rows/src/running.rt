@@ -1,7 +1,7 @@
 //! Runs a row, however its octets are cut.
 
 use crate::difference::{Lines, first_lines};
-use crate::pieces::{Cut, Pieces};
+use crate::pieces::{PieceSizes, Pieces};
 use crate::row_file::{Kind, Row};
 use acap_entries::UserName;
 use acap_session::{ScriptFault, run_pipe, run_script};
@@ -21,16 +21,16 @@ const MOST_CUT: usize = 256;
 #[derive(Debug, Drop)]
 pub(crate) struct Wrong {
     /// How its octets were cut.
-    pub(crate) cut: Cut,
+    pub(crate) sizes: PieceSizes,
     /// The first line that differs.
     pub(crate) lines: Lines,
 }
 
 // What a session of that user writes that reads these octets.
-fn said(alloc: Global, user: &str, sent: &[u8], cut: Cut) -> Result<Vec<u8>, AllocError> {
+fn said(alloc: Global, user: &str, sent: &[u8], sizes: PieceSizes) -> Result<Vec<u8>, AllocError> {
     let mut text = Vec::new(alloc);
     let done = match UserName::read(alloc, user.as_bytes()) {
-        Ok(user) => run_pipe(alloc, &mut Pieces { left: sent, cut }, &mut text, user).is_ok(),
+        Ok(user) => run_pipe(alloc, &mut Pieces { left: sent, sizes }, &mut text, user).is_ok(),
         Err(_) => false,
     };
     if !done {
@@ -53,9 +53,16 @@ fn add_fault(fault: ScriptFault, text: &mut Vec<u8>) -> Result<(), AllocError> {
 }
 
 // What a script writes, and, behind it, the fault that it ends by.
-fn played(alloc: Global, script: &[u8], cut: Cut) -> Result<Vec<u8>, AllocError> {
+fn played(alloc: Global, script: &[u8], sizes: PieceSizes) -> Result<Vec<u8>, AllocError> {
     let mut text = Vec::new(alloc);
-    match run_script(alloc, &mut Pieces { left: script, cut }, &mut text) {
+    match run_script(
+        alloc,
+        &mut Pieces {
+            left: script,
+            sizes,
+        },
+        &mut text,
+    ) {
         Ok(()) => {}
         Err(fault) => add_fault(fault, &mut text)?,
     }
@@ -63,10 +70,10 @@ fn played(alloc: Global, script: &[u8], cut: Cut) -> Result<Vec<u8>, AllocError>
 }
 
 // What is written for what a row sends, cut so.
-fn answered(alloc: Global, row: &Row, cut: Cut) -> Result<Vec<u8>, AllocError> {
+fn answered(alloc: Global, row: &Row, sizes: PieceSizes) -> Result<Vec<u8>, AllocError> {
     match row.kind {
-        Kind::Session(user) => said(alloc, user, row.sent.as_slice(), cut),
-        Kind::Script => played(alloc, row.sent.as_slice(), cut),
+        Kind::Session(user) => said(alloc, user, row.sent.as_slice(), sizes),
+        Kind::Script => played(alloc, row.sent.as_slice(), sizes),
     }
 }
 
@@ -80,37 +87,37 @@ fn wanted_of(alloc: Global, row: &Row) -> Result<Vec<u8>, AllocError> {
     Ok(wanted)
 }
 
-// How a row is wrong that is cut so, if it is.
+// How a row is wrong that is cut into such pieces, if it is.
 fn wrong_at(
     alloc: Global,
     row: &Row,
     wanted: &[u8],
-    cut: Cut,
+    sizes: PieceSizes,
 ) -> Result<Option<Wrong>, AllocError> {
-    let got = answered(alloc, row, cut)?;
+    let got = answered(alloc, row, sizes)?;
     if got.as_slice() == wanted {
         return Ok(None);
     }
     let lines = first_lines(alloc, wanted, got.as_slice())?;
-    Ok(Some(Wrong { cut, lines }))
+    Ok(Some(Wrong { sizes, lines }))
 }
 
 /// How a row is wrong, if it is: whole, octet by octet, or, where it isn't long, cut in two after any octet.
 pub(crate) fn first_wrong(alloc: Global, row: &Row) -> Result<Option<Wrong>, AllocError> {
     let wanted = wanted_of(alloc, row)?;
-    for cut in [Cut::WHOLE, Cut::SINGLE] {
-        if let Some(wrong) = wrong_at(alloc, row, wanted.as_slice(), cut)? {
+    for sizes in [PieceSizes::WHOLE, PieceSizes::SINGLE] {
+        if let Some(wrong) = wrong_at(alloc, row, wanted.as_slice(), sizes)? {
             return Ok(Some(wrong));
         }
     }
     let length = row.sent.len();
     let end = if length > MOST_CUT { 0 } else { length };
     for first in 1..end {
-        let cut = Cut {
+        let sizes = PieceSizes {
             first,
             size: MOST_CUT,
         };
-        if let Some(wrong) = wrong_at(alloc, row, wanted.as_slice(), cut)? {
+        if let Some(wrong) = wrong_at(alloc, row, wanted.as_slice(), sizes)? {
             return Ok(Some(wrong));
         }
     }

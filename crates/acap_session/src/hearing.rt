@@ -18,32 +18,40 @@ use acap_login::challenge;
 use acap_machine::Event;
 use std::alloc::Global;
 
-/// Words are said under a tag, and the session is ready again.
+/// Words are said under a tag, and the session is ready again. Where memory is refused its stage stays, as in each call below.
 pub(crate) fn says(
     tag: Option<Octets>,
     said: Said,
+    stage: &mut Stage,
     out: &mut Vec<u8>,
-) -> Result<(Heard, Stage), Memory>
-    ensures ok { IfOk result (λ turn. turn ≡ (heard_of (hearing.says tag said).0, stages.Ready)) }
+) -> Result<Heard, Memory>
+    ensures ok { IfOk result (λ heard. heard ≡ heard_of (hearing.says tag said).0) }
+    ensures stage { OnOk result (stage.new ≡ stages.Ready) }
     ensures out { OnOk result (out.new.items ≡ added out.old.items (hearing.says tag said).0) }
     ensures err { OnErr result (out.new.items ≡ out.old.items) }
+    ensures kept { OnErr result (stage.new ≡ stage.old) }
 {
     render(&Reply { tag, said }, out)?;
-    Ok((Heard::Said, Stage::Ready))
+    *stage = Stage::Ready;
+    Ok(Heard::Said)
 }
 
 /// Words are said under a tag, and the session is closed.
 pub(crate) fn closes(
     tag: Option<Octets>,
     said: Said,
+    stage: &mut Stage,
     out: &mut Vec<u8>,
-) -> Result<(Heard, Stage), Memory>
-    ensures ok { IfOk result (λ turn. turn ≡ (heard_of (hearing.closes tag said).0, stages.Closed)) }
+) -> Result<Heard, Memory>
+    ensures ok { IfOk result (λ heard. heard ≡ heard_of (hearing.closes tag said).0) }
+    ensures stage { OnOk result (stage.new ≡ stages.Closed) }
     ensures out { OnOk result (out.new.items ≡ added out.old.items (hearing.closes tag said).0) }
     ensures err { OnErr result (out.new.items ≡ out.old.items) }
+    ensures kept { OnErr result (stage.new ≡ stage.old) }
 {
     render(&Reply { tag, said }, out)?;
-    Ok((Heard::Closes, Stage::Closed))
+    *stage = Stage::Closed;
+    Ok(Heard::Closes)
 }
 
 // A command that concerns the store is the machine's, if there is a user.
@@ -51,15 +59,21 @@ fn asks(
     user: &Option<UserName>,
     tag: Option<Octets>,
     command: Command,
+    stage: &mut Stage,
     out: &mut Vec<u8>,
-) -> Result<(Heard, Stage), Memory>
-    ensures ok { IfOk result (λ turn. turn ≡ (heard_of (hearing.asks user.now tag command).0, (hearing.asks user.now tag command).1)) }
+) -> Result<Heard, Memory>
+    ensures ok { IfOk result (λ heard. heard ≡ heard_of (hearing.asks user.now tag command).0) }
+    ensures stage { OnOk result (stage.new ≡ (hearing.asks user.now tag command).1) }
     ensures out { OnOk result (out.new.items ≡ added out.old.items (hearing.asks user.now tag command).0) }
     ensures err { OnErr result (out.new.items ≡ out.old.items) }
+    ensures kept { OnErr result (stage.new ≡ stage.old) }
 {
     match user {
-        Some(_) => Ok((Heard::Asks(Event::Command(command)), Stage::Asked(tag))),
-        None => says(tag, Said::Refused(Refusal::NotLoggedIn), out),
+        Some(_) => {
+            *stage = Stage::Asked(tag);
+            Ok(Heard::Asks(Event::Command(command)))
+        }
+        None => says(tag, Said::Refused(Refusal::NotLoggedIn), stage, out),
     }
 }
 
@@ -78,15 +92,19 @@ fn seconds(clock: Moment) -> u64
 fn challenges(
     tag: Option<Octets>,
     told: Octets,
+    stage: &mut Stage,
     out: &mut Vec<u8>,
-) -> Result<(Heard, Stage), Memory>
-    ensures ok { IfOk result (λ turn. turn ≡ (heard_of (hearing.challenges tag told).0, (hearing.challenges tag told).1)) }
+) -> Result<Heard, Memory>
+    ensures ok { IfOk result (λ heard. heard ≡ heard_of (hearing.challenges tag told).0) }
+    ensures stage { OnOk result (stage.new ≡ (hearing.challenges tag told).1) }
     ensures out { OnOk result (out.new.items ≡ added out.old.items (hearing.challenges tag told).0) }
     ensures err { OnErr result (out.new.items ≡ out.old.items) }
+    ensures kept { OnErr result (stage.new ≡ stage.old) }
 {
     let reply = Reply::new(Said::Challenge(told.copy()?));
     render(&reply, out)?;
-    Ok((Heard::Said, Stage::Challenged(tag, told)))
+    *stage = Stage::Challenged(tag, told);
+    Ok(Heard::Said)
 }
 
 // A user who is logged in needs no mechanism; another is challenged, if the mechanism is CRAM-MD5.
@@ -98,20 +116,23 @@ fn authenticates(
     clock: Moment,
     tag: Option<Octets>,
     mechanism: &Value,
+    stage: &mut Stage,
     out: &mut Vec<u8>,
-) -> Result<(Heard, Stage), Memory>
-    ensures ok { IfOk result (λ turn. let x = hearing.authenticated host.now user.now nonce clock tag mechanism.now in turn ≡ (heard_of x.0, x.1)) }
+) -> Result<Heard, Memory>
+    ensures ok { IfOk result (λ heard. heard ≡ heard_of (hearing.authenticated host.now user.now nonce clock tag mechanism.now).0) }
+    ensures stage { OnOk result (stage.new ≡ (hearing.authenticated host.now user.now nonce clock tag mechanism.now).1) }
     ensures out { OnOk result (out.new.items ≡ added out.old.items (hearing.authenticated host.now user.now nonce clock tag mechanism.now).0) }
     ensures err { OnErr result (out.new.items ≡ out.old.items) }
+    ensures kept { OnErr result (stage.new ≡ stage.old) }
 {
     if user.is_some() {
-        return says(tag, Said::Refused(Refusal::LoggedIn), out);
+        return says(tag, Said::Refused(Refusal::LoggedIn), stage, out);
     }
     if !mechanism.as_slice().eq_ignore_ascii_case(b"CRAM-MD5") {
-        return says(tag, Said::Refused(Refusal::NoMechanism), out);
+        return says(tag, Said::Refused(Refusal::NoMechanism), stage, out);
     }
     let told = challenge(alloc, nonce, seconds(clock), host.as_slice())?;
-    challenges(tag, Octets::from_vec(told), out)
+    challenges(tag, Octets::from_vec(told), stage, out)
 }
 
 #[tactic(auto, unfolding(crate::specs::Hearing::heard_command))]
@@ -123,19 +144,22 @@ fn heard_command(
     clock: Moment,
     tag: Option<Octets>,
     command: Command,
+    stage: &mut Stage,
     out: &mut Vec<u8>,
-) -> Result<(Heard, Stage), Memory>
-    ensures ok { IfOk result (λ turn. let x = hearing.heard_command host.now user.now nonce clock tag command in turn ≡ (heard_of x.0, x.1)) }
+) -> Result<Heard, Memory>
+    ensures ok { IfOk result (λ heard. heard ≡ heard_of (hearing.heard_command host.now user.now nonce clock tag command).0) }
+    ensures stage { OnOk result (stage.new ≡ (hearing.heard_command host.now user.now nonce clock tag command).1) }
     ensures out { OnOk result (out.new.items ≡ added out.old.items (hearing.heard_command host.now user.now nonce clock tag command).0) }
     ensures err { OnErr result (out.new.items ≡ out.old.items) }
+    ensures kept { OnErr result (stage.new ≡ stage.old) }
 {
     match command {
-        Command::Noop => says(tag, Said::Done(Verb::Noop), out),
-        Command::Logout => closes(tag, Said::GoodBye, out),
+        Command::Noop => says(tag, Said::Done(Verb::Noop), stage, out),
+        Command::Logout => closes(tag, Said::GoodBye, stage, out),
         Command::Authenticate(mechanism) => {
-            authenticates(alloc, host, user, nonce, clock, tag, &mechanism, out)
+            authenticates(alloc, host, user, nonce, clock, tag, &mechanism, stage, out)
         },
-        command => asks(user, tag, command, out),
+        command => asks(user, tag, command, stage, out),
     }
 }
 
@@ -156,17 +180,25 @@ fn heard_line(
     nonce: u64,
     clock: Moment,
     tokens: &Tokens,
+    stage: &mut Stage,
     out: &mut Vec<u8>,
-) -> Result<(Heard, Stage), Memory>
-    ensures ok { IfOk result (λ turn. let x = hearing.heard_line host.now user.now nonce clock (hearing.tag_of tokens.now) (command_of tokens.now) in turn ≡ (heard_of x.0, x.1)) }
+) -> Result<Heard, Memory>
+    ensures ok { IfOk result (λ heard. heard ≡ heard_of (hearing.heard_line host.now user.now nonce clock (hearing.tag_of tokens.now) (command_of tokens.now)).0) }
+    ensures stage { OnOk result (stage.new ≡ (hearing.heard_line host.now user.now nonce clock (hearing.tag_of tokens.now) (command_of tokens.now)).1) }
     ensures out { OnOk result (out.new.items ≡ added out.old.items (hearing.heard_line host.now user.now nonce clock (hearing.tag_of tokens.now) (command_of tokens.now)).0) }
     ensures err { OnErr result (out.new.items ≡ out.old.items) }
+    ensures kept { OnErr result (stage.new ≡ stage.old) }
 {
     let tag = tag_of(alloc, tokens)?;
     match parse(alloc, tokens) {
-        Ok(command) => heard_command(alloc, host, user, nonce, clock, tag, command, out),
+        Ok(command) => heard_command(alloc, host, user, nonce, clock, tag, command, stage, out),
         Err(GrammarError::Memory) => Err(Memory),
-        Err(GrammarError::Fault(fault)) => says(tag, Said::Refused(Refusal::from(fault)), out),
+        Err(GrammarError::Fault(fault)) => says(
+            tag,
+            Said::Refused(Refusal::from(fault)),
+            stage,
+            out,
+        ),
     }
 }
 
@@ -199,36 +231,53 @@ pub(crate) fn heard(
     nonce: u64,
     clock: Moment,
     lexed: &Lexed,
+    stage: &mut Stage,
     out: &mut Vec<u8>,
-) -> Result<(Heard, Stage), Memory>
-    ensures ok { IfOk result (λ turn. let x = hearing.heard host.now user.now nonce clock lexed.now in turn ≡ (heard_of x.0, x.1)) }
+) -> Result<Heard, Memory>
+    ensures ok { IfOk result (λ heard. heard ≡ heard_of (hearing.heard host.now user.now nonce clock lexed.now).0) }
+    ensures stage { OnOk result (stage.new ≡ (hearing.heard host.now user.now nonce clock lexed.now).1) }
     ensures out { OnOk result (out.new.items ≡ added out.old.items (hearing.heard host.now user.now nonce clock lexed.now).0) }
     ensures err { OnErr result (out.new.items ≡ out.old.items) }
+    ensures kept { OnErr result (stage.new ≡ stage.old) }
 {
     match lexed {
-        Lexed::More => Ok((Heard::More, Stage::Ready)),
+        Lexed::More => {
+            *stage = Stage::Ready;
+            Ok(Heard::More)
+        }
         Lexed::Plus => {
             continues(out)?;
-            Ok((Heard::Said, Stage::Ready))
+            *stage = Stage::Ready;
+            Ok(Heard::Said)
         }
-        Lexed::Line(tokens) => heard_line(alloc, host, user, nonce, clock, tokens, out),
+        Lexed::Line(tokens) => heard_line(alloc, host, user, nonce, clock, tokens, stage, out),
         Lexed::Bad(fault, tag) => {
             let tag = copied(alloc, tag)?;
-            says(tag, Said::Refused(Refusal::from(*fault)), out)
+            says(tag, Said::Refused(Refusal::from(*fault)), stage, out)
         }
-        Lexed::Fatal(fault) => closes(None, Said::Refused(Refusal::from(*fault)), out),
+        Lexed::Fatal(fault) => closes(None, Said::Refused(Refusal::from(*fault)), stage, out),
     }
 }
 
 /// How a session begins: without a user it says the greeting, and a user's session first asks to enter.
 #[tactic(auto, unfolding(crate::specs::Hearing::opening))]
-pub(crate) fn opening(user: &Option<UserName>, out: &mut Vec<u8>) -> Result<(Heard, Stage), Memory>
-    ensures ok { IfOk result (λ turn. turn ≡ (heard_of (hearing.opening user.now).0, (hearing.opening user.now).1)) }
+pub(crate) fn opening(
+    user: &Option<UserName>,
+    stage: &mut Stage,
+    out: &mut Vec<u8>,
+) -> Result<Heard, Memory>
+    ensures ok { IfOk result (λ heard. heard ≡ heard_of (hearing.opening user.now).0) }
+    ensures stage { OnOk result (stage.new ≡ (hearing.opening user.now).1) }
     ensures out { OnOk result (out.new.items ≡ added out.old.items (hearing.opening user.now).0) }
     ensures err { OnErr result (out.new.items ≡ out.old.items) }
+    ensures kept { OnErr result (stage.new ≡ stage.old) }
 {
     match user {
-        Some(user) => Ok((Heard::Asks(Event::Enter(user.copy()?)), Stage::Entering)),
-        None => says(None, Said::Greeting, out),
+        Some(user) => {
+            let enters = Event::Enter(user.copy()?);
+            *stage = Stage::Entering;
+            Ok(Heard::Asks(enters))
+        }
+        None => says(None, Said::Greeting, stage, out),
     }
 }

@@ -32,18 +32,22 @@ fn logs_in(
     tag: Option<Octets>,
     challenge: &Octets,
     answer: &[u8],
+    stage: &mut Stage,
     out: &mut Vec<u8>,
-) -> Result<(Heard, Stage), Memory>
-    ensures ok { IfOk result (λ turn. let x = hearing.logs_in tag (hearing.who users.now challenge.now answer.now) in turn ≡ (heard_of x.0, x.1)) }
+) -> Result<Heard, Memory>
+    ensures ok { IfOk result (λ heard. heard ≡ heard_of (hearing.logs_in tag (hearing.who users.now challenge.now answer.now)).0) }
+    ensures stage { OnOk result (stage.new ≡ (hearing.logs_in tag (hearing.who users.now challenge.now answer.now)).1) }
     ensures out { OnOk result (out.new.items ≡ added out.old.items (hearing.logs_in tag (hearing.who users.now challenge.now answer.now)).0) }
     ensures err { OnErr result (out.new.items ≡ out.old.items) }
+    ensures kept { OnErr result (stage.new ≡ stage.old) }
 {
     match who(users, challenge, answer)? {
         Some(user) => {
             let enters = Event::Enter(user.copy()?);
-            Ok((Heard::Asks(enters), Stage::LoggingIn(tag, user)))
+            *stage = Stage::LoggingIn(tag, user);
+            Ok(Heard::Asks(enters))
         }
-        None => says(tag, Said::Refused(Refusal::LoginFailed), out),
+        None => says(tag, Said::Refused(Refusal::LoginFailed), stage, out),
     }
 }
 
@@ -63,15 +67,18 @@ fn answer_token(
     challenge: &Octets,
     kind: Kind,
     text: &[u8],
+    stage: &mut Stage,
     out: &mut Vec<u8>,
-) -> Result<(Heard, Stage), Memory>
-    ensures ok { IfOk result (λ turn. let x = hearing.answer_token users.now tag challenge.now kind text.now in turn ≡ (heard_of x.0, x.1)) }
+) -> Result<Heard, Memory>
+    ensures ok { IfOk result (λ heard. heard ≡ heard_of (hearing.answer_token users.now tag challenge.now kind text.now).0) }
+    ensures stage { OnOk result (stage.new ≡ (hearing.answer_token users.now tag challenge.now kind text.now).1) }
     ensures out { OnOk result (out.new.items ≡ added out.old.items (hearing.answer_token users.now tag challenge.now kind text.now).0) }
     ensures err { OnErr result (out.new.items ≡ out.old.items) }
+    ensures kept { OnErr result (stage.new ≡ stage.old) }
 {
     match kind {
-        Kind::Quoted | Kind::Literal => logs_in(users, tag, challenge, text, out),
-        kind => says(tag, Said::Refused(refusal_of(kind, text)), out),
+        Kind::Quoted | Kind::Literal => logs_in(users, tag, challenge, text, stage, out),
+        kind => says(tag, Said::Refused(refusal_of(kind, text)), stage, out),
     }
 }
 
@@ -81,16 +88,27 @@ fn answer_line(
     tag: Option<Octets>,
     challenge: &Octets,
     tokens: &Tokens,
+    stage: &mut Stage,
     out: &mut Vec<u8>,
-) -> Result<(Heard, Stage), Memory>
-    ensures ok { IfOk result (λ turn. let x = hearing.answer_line users.now tag challenge.now tokens.now in turn ≡ (heard_of x.0, x.1)) }
+) -> Result<Heard, Memory>
+    ensures ok { IfOk result (λ heard. heard ≡ heard_of (hearing.answer_line users.now tag challenge.now tokens.now).0) }
+    ensures stage { OnOk result (stage.new ≡ (hearing.answer_line users.now tag challenge.now tokens.now).1) }
     ensures out { OnOk result (out.new.items ≡ added out.old.items (hearing.answer_line users.now tag challenge.now tokens.now).0) }
     ensures err { OnErr result (out.new.items ≡ out.old.items) }
+    ensures kept { OnErr result (stage.new ≡ stage.old) }
 {
     if tokens.len() != 1 {
-        return says(tag, Said::Refused(Refusal::Arguments), out);
+        return says(tag, Said::Refused(Refusal::Arguments), stage, out);
     }
-    answer_token(users, tag, challenge, tokens.kind(0), tokens.value(0), out)
+    answer_token(
+        users,
+        tag,
+        challenge,
+        tokens.kind(0),
+        tokens.value(0),
+        stage,
+        out,
+    )
 }
 
 /// What a session that awaits the answer to a challenge says to an answer of its lexer, or whom it lets enter.
@@ -100,20 +118,27 @@ pub(crate) fn heard_answer(
     tag: Option<Octets>,
     challenge: Octets,
     lexed: &Lexed,
+    stage: &mut Stage,
     out: &mut Vec<u8>,
-) -> Result<(Heard, Stage), Memory>
-    ensures ok { IfOk result (λ turn. let x = hearing.heard_answer users.now tag challenge lexed.now in turn ≡ (heard_of x.0, x.1)) }
+) -> Result<Heard, Memory>
+    ensures ok { IfOk result (λ heard. heard ≡ heard_of (hearing.heard_answer users.now tag challenge lexed.now).0) }
+    ensures stage { OnOk result (stage.new ≡ (hearing.heard_answer users.now tag challenge lexed.now).1) }
     ensures out { OnOk result (out.new.items ≡ added out.old.items (hearing.heard_answer users.now tag challenge lexed.now).0) }
     ensures err { OnErr result (out.new.items ≡ out.old.items) }
+    ensures kept { OnErr result (stage.new ≡ stage.old) }
 {
     match lexed {
-        Lexed::More => Ok((Heard::More, Stage::Challenged(tag, challenge))),
+        Lexed::More => {
+            *stage = Stage::Challenged(tag, challenge);
+            Ok(Heard::More)
+        }
         Lexed::Plus => {
             continues(out)?;
-            Ok((Heard::Said, Stage::Challenged(tag, challenge)))
+            *stage = Stage::Challenged(tag, challenge);
+            Ok(Heard::Said)
         }
-        Lexed::Line(tokens) => answer_line(users, tag, &challenge, tokens, out),
-        Lexed::Bad(_, _) => says(tag, Said::Refused(Refusal::Arguments), out),
-        Lexed::Fatal(fault) => closes(None, Said::Refused(Refusal::from(*fault)), out),
+        Lexed::Line(tokens) => answer_line(users, tag, &challenge, tokens, stage, out),
+        Lexed::Bad(_, _) => says(tag, Said::Refused(Refusal::Arguments), stage, out),
+        Lexed::Fatal(fault) => closes(None, Said::Refused(Refusal::from(*fault)), stage, out),
     }
 }

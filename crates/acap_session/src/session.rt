@@ -1,6 +1,6 @@
 //! One session between a client and the machine.
 
-ghost use Rattle.std.specs.Prelude.{◌≡◌, ◌-◌, ◌++◌, [], true, None, min, length, take, IfOk, OnOk, OnErr, Ok, IsErr};
+ghost use Rattle.std.specs.Prelude.{◌≡◌, ◌-◌, ◌++◌, [], true, None, min, length, take, IfOk, OnOk, OnErr};
 ghost use Rattle.acap_lexer.specs.Holding.{held_limit};
 ghost use Rattle.acap_session.specs.Saying as saying;
 ghost use Rattle.acap_session.specs.Saying.{added, heard_of};
@@ -120,10 +120,7 @@ impl Session {
         ensures err { OnErr result (self.new.stage ≡ stages.Closed) }
     {
         match mem::replace(&mut self.stage, Stage::Closed) {
-            Stage::Opening => {
-                let turn = opening(&self.user, out);
-                self.settle(turn)
-            }
+            Stage::Opening => opening(&self.user, &mut self.stage, out),
             Stage::Ready => self.hear_command(nonce, clock, out),
             Stage::Challenged(tag, challenge) => self.hear_answer(users, tag, challenge, out),
             stage => {
@@ -151,11 +148,18 @@ impl Session {
         let Ok(lexed) = self.lexer.next(Mode::Command) else {
             return Err(Memory);
         };
-        let turn = heard(
-            self.alloc, &self.host, &self.user, nonce, clock, &lexed, out,
+        let came = heard(
+            self.alloc,
+            &self.host,
+            &self.user,
+            nonce,
+            clock,
+            &lexed,
+            &mut self.stage,
+            out,
         );
         hand_back(&mut self.lexer, lexed);
-        self.settle(turn)
+        came
     }
 
     // Hears the lexer's next answer where the answer to a challenge is awaited.
@@ -176,28 +180,9 @@ impl Session {
         let Ok(lexed) = self.lexer.next(Mode::Answer) else {
             return Err(Memory);
         };
-        let turn = heard_answer(users, tag, challenge, &lexed, out);
+        let came = heard_answer(users, tag, challenge, &lexed, &mut self.stage, out);
         hand_back(&mut self.lexer, lexed);
-        self.settle(turn)
-    }
-
-    // Comes to the stage that a turn leads to: where memory was refused the session is closed.
-    fn settle(&mut self, turn: Result<(Heard, Stage), Memory>) -> Result<Heard, Memory>
-        ensures ok { IfOk result (λ heard. turn ≡ Ok (heard, self.new.stage)) }
-        ensures same { self.new ≡ record self.old { stage = self.new.stage } }
-        ensures err { OnErr result (self.new.stage ≡ stages.Closed) }
-        ensures refused { OnErr result (IsErr turn) }
-    {
-        match turn {
-            Ok((heard, stage)) => {
-                self.stage = stage;
-                Ok(heard)
-            }
-            Err(Memory) => {
-                self.stage = Stage::Closed;
-                Err(Memory)
-            }
-        }
+        came
     }
 
     /// Takes the machine's answer to the event that was asked, and gives what is said then: `Say` or `Close`. Where
@@ -227,8 +212,7 @@ impl Session {
         ensures err { OnErr result (self.new.stage ≡ stages.Closed) }
     {
         let stage = mem::replace(&mut self.stage, Stage::Closed);
-        let turn = answered(stage, &mut self.user, outcome, out);
-        self.settle(turn)
+        answered(stage, &mut self.user, outcome, &mut self.stage, out)
     }
 
     /// Asks for what is pending, if the session's user may: else nothing is next. Takes no memory.

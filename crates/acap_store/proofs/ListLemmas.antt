@@ -1,5 +1,5 @@
 -- Where an entry has no list of its own, rights that are asked once for its dataset are those on each of its attributes.
-use Rattle.std.proofs.Common.{◌≡◌, ℕ, List, Option, Some, None, refl, sym, ◌∙◌, ap}
+use Rattle.std.proofs.Common.{◌≡◌, ℕ, List, Option, Some, None, sym, ◌∙◌, ap}
 use Rattle.std.specs.FinMap as table
 use Rattle.std.specs.Option.{option_and_then}
 use Rattle.acap_entries.specs.Orders.{octets_cmp}
@@ -7,7 +7,6 @@ use Rattle.acap_entries.specs.Store.{Stored}
 use Rattle.acap_entries.specs.declared.path.Path.{Path}
 use Rattle.acap_entries.specs.declared.record.Record.{Record}
 use Rattle.acap_rights.proofs.SharingLemmas.{shared_law}
-use Rattle.acap_rights.specs.Deciding.{OfEntry, own_list}
 use Rattle.acap_rights.specs.Sharing.{shared_rights}
 use Rattle.acap_rights.specs.declared.realm.Realm.{Realm}
 use Rattle.acap_rights.specs.declared.rights.Rights.{Rights}

@@ -1,5 +1,5 @@
 -- The order of refusals, and what a change deletes, by computation.
-use Rattle.std.proofs.Common.{◌≡◌, ℕ, ℤ, false, true, List, [], ◌∷◌, Option, Some, None, refl}
+use Rattle.std.proofs.Common.{◌≡◌, ℕ, ℤ, false, true, List, [], ◌∷◌, Some, None, refl}
 use Rattle.std.specs.Prelude.{codes}
 use Rattle.std.specs.FinMap.{get, entries}
 use Rattle.acap_entries.specs.Store.{Stored, Store, after_writes}

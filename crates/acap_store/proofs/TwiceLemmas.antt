@@ -1,9 +1,11 @@
 -- What stands twice, sought from the last entry on.
-use Rattle.std.proofs.Common.{◌≡◌, ◌<◌, Bool, true, false, cond, ◌||◌, List, [], ◌∷◌, ◌++◌, length, Option, Some, None, refl, sym, ap, ◌∙◌, arith, Bor}
+use Rattle.std.proofs.Common.{◌≡◌, Bool, true, false, cond, T, subst, ◌||◌, List, [], ◌∷◌, ◌++◌, map, Option, Some, None, refl, sym, ap, ◌∙◌, Bor}
 use Rattle.std.specs.Prelude.{is_some}
 use Rattle.std.specs.Option.{option_copied}
-use Rattle.std.specs.List.{list_any}
-use Rattle.std.specs.Ordering.{eq_by_cmp}
+use Rattle.std.specs.List.{list_any, slice_get}
+use Rattle.std.specs.Ordering.{eq_by_cmp, is_eq}
+use Rattle.std.specs.declared.cmp.Ordering.TheVariants.{Less}
+use Rattle.std.specs.FinMap.Entries.{below_all}
 use Rattle.std.specs.FinMap as table
 use Rattle.std.specs.FinMap.{get-insert, get-empty}
 use Rattle.acap_entries.specs.Store.{Written, path_cmp}
@@ -11,8 +13,10 @@ use Rattle.acap_entries.specs.declared.fate.Fate.{Fate}
 use Rattle.acap_entries.specs.declared.fate.Fate.TheVariants.{Remove}
 use Rattle.acap_entries.specs.declared.path.Path.{Path}
 use Rattle.acap_entries.proofs.StoreLemmas.{path_cmp_total}
+use Rattle.acap_entries.proofs.SortedLemmas.{first, second, is_less, rises_behind}
 use Rattle.acap_grammar.specs.declared.store_entry.StoreEntry.{StoreEntry}
 use Rattle.acap_store.specs.Refusing.{same_path, has_twice}
+use Rattle.acap_store.specs.Rising.{keyed, rising}
 use Rattle.acap_store.proofs.DatasetLemmas.{iff_bool, paths_same, paths_refl, or_false}
 use Rattle.acap_store.proofs.StoreLaws.{path_tie}
 
@@ -86,8 +90,26 @@ pub copied_some : {A : Type 0} (o : Option (Bor A)) → is_some (option_copied o
 copied_some None = refl
 copied_some (Some x) = refl
 
--- no two of fewer than two
-pub of_few : (entries : List StoreEntry) → length entries < 2 → has_twice entries ≡ false
-of_few [] few = refl
-of_few (e ∷ []) few = refl
-of_few (e ∷ x ∷ entries) few = absurd (omega (arith, few))
+-- a path that is less than another is another
+less_apart : (p q : Path) → path_cmp p q ≡ Less → same_path q p ≡ false
+less_apart p q h = turned q p ∙ sym (path_tie p q) ∙ ap is_eq h
+
+none_same : (p : Path) (entries : List StoreEntry) → T (below_all path_cmp p (map keyed entries)) → list_any (λ other. same_path other.path p) entries ≡ false
+none_same p [] h = refl
+none_same p (e ∷ entries) h = ap (λ b. b || list_any (λ other. same_path other.path p) entries) (less_apart p e.path (is_less _ (first _ _ h))) ∙ none_same p entries (second _ _ h)
+
+-- no path stands twice among those that ascend
+once_each : (entries : List StoreEntry) → T (rising entries) → has_twice entries ≡ false
+once_each [] h = refl
+once_each (e ∷ entries) h = ap (λ b. b || has_twice entries) (none_same e.path entries (first _ _ h)) ∙ once_each entries (second _ _ h)
+
+pub of_rising : (entries : List StoreEntry) → rising entries ≡ true → has_twice entries ≡ false
+of_rising entries h = once_each entries (subst T (sym h) tt)
+
+first_keyed : (others : List StoreEntry) (next : StoreEntry) → slice_get others 0 ≡ Some next → slice_get (map keyed others) 0 ≡ Some (keyed next)
+first_keyed [] next e = cc
+first_keyed (x ∷ others) next e = let same : x ≡ next = cc in ap (λ y. Some (keyed y)) same
+
+-- the first of several that ascend asks for nothing more than the second
+pub rises_behind_first : (first next : StoreEntry) (others : List StoreEntry) → slice_get others 0 ≡ Some next → path_cmp first.path next.path ≡ Less → rising (first ∷ others) ≡ rising others
+rises_behind_first first next others e less = rises_behind path_cmp path_cmp_total (keyed first) (keyed next) (map keyed others) (first_keyed others next e) less

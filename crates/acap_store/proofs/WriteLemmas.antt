@@ -1,9 +1,15 @@
 -- What the loops that write need of the definitions.
-use Rattle.std.proofs.Common.{◌≡◌, ℕ, zero, suc, ◌<◌, ◌≤◌, Bool, true, false, cond, List, [], ◌∷◌, ◌++◌, length, map, Some, None, refl, sym, ap, ◌∙◌, arith}
+use Rattle.std.proofs.Common.{◌≡◌, ℕ, zero, suc, ◌<◌, ◌≤◌, Bool, true, false, cond, T, subst, List, [], ◌∷◌, ◌++◌, length, map, Some, None, refl, sym, ap, ◌∙◌, arith}
 use Rattle.std.specs.Prelude.{take, filter, ◌-◌}
 use Rattle.std.specs.Option.{option_map_or}
 use Rattle.std.specs.FinMap as table
-use Rattle.acap_entries.proofs.StoreLemmas.{entries-IsPathByPath}
+use Rattle.std.specs.FinMap.{put, is_sorted, empty_of_len}
+use Rattle.std.specs.FinMap.Entries.{by_order, below_all}
+use Rattle.acap_entries.specs.Sorted.{put_in, InOrder}
+use Rattle.acap_entries.specs.Store.{path_cmp}
+use Rattle.acap_entries.proofs.MapLemmas.{from_sorted_none, insert_kept}
+use Rattle.acap_entries.proofs.StoreLemmas.{entries-IsPathByPath, path_cmp_total}
+use Rattle.acap_entries.proofs.SortedLemmas.{first, second, is_less}
 use Rattle.acap_entries.specs.Names.{own_entry, dataset_of, name_of, dataset_len}
 use Rattle.acap_entries.specs.Store.{Stored, Written, after_fate, after_writes}
 use Rattle.acap_entries.specs.declared.path.Path.{Path}
@@ -15,6 +21,27 @@ use Rattle.acap_store.specs.Writing.{Celled, Listed, put_all, with_value, with_v
 pub put_all_append : (front back : List (Path × Fate)) (w : Written) → put_all (front ++ back) w ≡ put_all front (put_all back w)
 put_all_append [] back w = refl
 put_all_append (x ∷ front) back w = ap (λ m. table.insert m x.0 x.1) (put_all_append front back w)
+
+is_true : (b : Bool) → T b → b ≡ true
+is_true true h = refl
+is_true false h = absurd h
+
+-- what comes before all the others stands first
+put_first : (k : Path) (v : Fate) (es : List (Path × Fate)) → T (below_all path_cmp k es) → put_in path_cmp k v es ≡ (k, v) ∷ es
+unfolding put_in
+put_first k v [] h = refl
+put_first k v (e ∷ es) h = ap (λ r. by_order r ((k, v) ∷ e ∷ es) ((e.0, v) ∷ es) (e ∷ put path_cmp k v es)) (is_less _ (first _ _ h))
+
+ascending : (es : List (Path × Fate)) → T (is_sorted path_cmp es) → put_all es table.empty ≡ table.from_sorted es
+ascending [] h = sym (from_sorted_none path_cmp)
+ascending (e ∷ es) h =
+    ap (λ w. table.insert w e.0 e.1) (ascending es (second _ _ h))
+    ∙ sym (insert_kept path_cmp path_cmp_total es e.0 e.1 (record { rises = is_true _ (second _ _ h) }))
+    ∙ ap table.from_sorted (put_first e.0 e.1 es (first _ _ h))
+
+-- writes over none, by ascending paths, are what they are as a list
+pub put_all_ascending : (es : List (Path × Fate)) (w : Written) → table.len w ≡ 0 → InOrder path_cmp es → put_all es w ≡ table.from_sorted es
+put_all_ascending es w none h = ap (put_all es) (empty_of_len w none) ∙ ascending es (subst T (sym h.rises) tt)
 
 pub with_values_push : (user : List ℕ) (p : Path) (cells : Celled) (items : List StoreItem) (item : StoreItem) → with_values user p cells (items ++ item ∷ []) ≡ with_value user p (with_values user p cells items) item
 with_values_push user p cells [] item = refl

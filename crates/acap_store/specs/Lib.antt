@@ -10,5 +10,6 @@ pub mod Meaning
 pub mod Permission
 pub mod Planning
 pub mod Refusing
+pub mod Rising
 pub mod Sharing
 pub mod Writing

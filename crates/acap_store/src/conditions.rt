@@ -4,9 +4,10 @@ ghost use Rattle.std.specs.Option.{option_copied};
 ghost use Rattle.acap_store.specs.Refusing as rule;
 
 use crate::forms::exists_at;
-use acap_entries::{Copying, Memory, Moment, Path, Tree};
+use acap_entries::{Boxed, Copying, Memory, Moment, Path, Tree};
 use acap_grammar::{Refusal, StoreEntry};
 use acap_inherit::{chain, modtime};
+use std::alloc::Global;
 
 // Whether NOCREATE is said where the dataset doesn't exist.
 fn lacks_dataset(tree: &Tree, entry: &StoreEntry) -> bool
@@ -72,11 +73,15 @@ fn first_changed<'a>(tree: &Tree, entries: &'a [StoreEntry]) -> Option<&'a Store
 
 /// The refusal for the first entry that changed later than it says.
 #[tactic(auto, unfolding(crate::specs::Refusing::modified))]
-pub(crate) fn modified(tree: &Tree, entries: &[StoreEntry]) -> Result<Option<Refusal>, Memory>
+pub(crate) fn modified(
+    alloc: Global,
+    tree: &Tree,
+    entries: &[StoreEntry],
+) -> Result<Option<Refusal>, Memory>
     ensures { IfOk result (λ made. made ≡ rule.modified tree.now.store.records entries.now) }
 {
     match first_changed(tree, entries) {
-        Some(entry) => Ok(Some(Refusal::Modified(entry.path.copy()?))),
+        Some(entry) => Ok(Some(Refusal::Modified(Boxed::new(alloc, entry.path.copy()?)?))),
         None => Ok(None),
     }
 }

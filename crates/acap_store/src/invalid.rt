@@ -8,9 +8,10 @@ use crate::ending::may_end;
 use crate::forms::{is_management, is_nothing, is_value};
 use crate::meant::Meant;
 use crate::permission::is_list;
-use acap_entries::{Cell, Copying, Memory, Tree, is_dataset_argument};
+use acap_entries::{Boxed, Cell, Copying, Memory, Tree, is_dataset_argument};
 use acap_grammar::{Given, Refusal, StoreEntry, StoreItem};
 use acap_rights::is_acl;
+use std::alloc::Global;
 
 // Whether the list of the one string `.` is given.
 fn is_dot(given: &Given) -> bool
@@ -110,12 +111,17 @@ fn first_in<'a>(tree: &Tree, meant: &Meant, entry: &'a StoreEntry) -> Option<&'a
 }
 
 // The refusal of an entry's first item that may not be stored.
-fn invalid_in(tree: &Tree, meant: &Meant, entry: &StoreEntry) -> Result<Option<Refusal>, Memory>
+fn invalid_in(
+    alloc: Global,
+    tree: &Tree,
+    meant: &Meant,
+    entry: &StoreEntry,
+) -> Result<Option<Refusal>, Memory>
     ensures { IfOk result (λ made. made ≡ rule.invalid_in tree.now.store.records meant.now entry.now) }
 {
     match first_in(tree, meant, entry) {
         Some(item) => {
-            let path = entry.path.copy()?;
+            let path = Boxed::new(alloc, entry.path.copy()?)?;
             let attribute = item.attribute.copy()?;
             Ok(Some(Refusal::Invalid(path, attribute)))
         }
@@ -125,11 +131,11 @@ fn invalid_in(tree: &Tree, meant: &Meant, entry: &StoreEntry) -> Result<Option<R
 
 /// The refusal of the first item of all that may not be stored.
 #[tactic(auto, unfolding(crate::specs::Invalid::invalid))]
-pub(crate) fn invalid(tree: &Tree, meant: &Meant) -> Result<Option<Refusal>, Memory>
+pub(crate) fn invalid(alloc: Global, tree: &Tree, meant: &Meant) -> Result<Option<Refusal>, Memory>
     ensures { IfOk result (λ made. made ≡ rule.invalid tree.now.store.records meant.now) }
 {
     for entry in meant.entries.as_slice() {
-        let refusal = invalid_in(tree, meant, entry)?;
+        let refusal = invalid_in(alloc, tree, meant, entry)?;
         if refusal.is_some() {
             return Ok(refusal);
         }

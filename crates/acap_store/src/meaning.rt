@@ -18,24 +18,14 @@ use acap_rights::{Acl, decided_list, list_attribute};
 use std::alloc::Global;
 
 // The entries as their user means them: `~` is replaced in each path.
-fn entries_for(alloc: Global, user: &UserName, entries: Entries) -> Result<Entries, Memory>
+fn entries_for(user: &UserName, entries: Entries) -> Result<Entries, Memory>
     ensures { IfOk result (λ made. made ≡ rule.entries_for user.now entries) }
 {
-    let mut made = Entries::from_vec(Vec::with_capacity(alloc, entries.len())?);
-    for entry in entries.into_vec() {
-        let StoreEntry {
-            path,
-            modifiers,
-            items,
-        } = entry;
-        let path = path.for_user(user)?;
-        made.push(StoreEntry {
-            path,
-            modifiers,
-            items,
-        })?;
+    let mut made = entries.into_vec();
+    for entry in made.iter_mut() {
+        entry.path.set_user(user)?;
     }
-    Ok(made)
+    Ok(Entries::from_vec(made))
 }
 
 // The entries of one entry, with NOCREATE, that gets one item.
@@ -167,11 +157,11 @@ pub(crate) fn meaning(
 {
     match write {
         Write::Store(entries) => Ok(Meant {
-            entries: entries_for(alloc, user, entries)?,
+            entries: entries_for(user, entries)?,
             drops_dataset_list: false,
         }),
         Write::SetAcl(object, identifier, letters) => {
-            let object = object_for(user, object)?;
+            let object = object_for(user, object.into_value())?;
             set(
                 alloc,
                 tree,
@@ -181,7 +171,7 @@ pub(crate) fn meaning(
             )
         }
         Write::DeleteAcl(object, listed) => {
-            let object = object_for(user, object)?;
+            let object = object_for(user, object.into_value())?;
             match listed {
                 Some(identifier) => take_off(alloc, tree, object, identifier.as_slice()),
                 None => dropped(alloc, object),

@@ -6,7 +6,7 @@ ghost use Rattle.acap_store.specs.Permission as rule;
 ghost use Rattle.acap_store.specs.Sharing.{HasNoLists, AreShared};
 
 use crate::forms::{exists_at, is_management, is_nil_at, is_value};
-use acap_entries::{Attribute, Copying, EntryName, Memory, Path, Tree, UserName};
+use acap_entries::{Attribute, Boxed, Copying, EntryName, Memory, Path, Tree, UserName};
 use acap_grammar::{Refusal, StoreEntry, StoreItem};
 use acap_rights::{Object, Realm, Rights, object_of_list, rights_of, shared_rights};
 use std::alloc::Global;
@@ -210,7 +210,10 @@ fn permission_in(
     ensures { IfOk result (λ made. made ≡ rule.permission_in by.now.tree.now.store.records by.now.realm.now by.now.user.now entry.now) }
 {
     match denied_in(by, entry) {
-        Some(object) => Ok(Some(Refusal::Permission(named(alloc, &entry.path, &object)?))),
+        Some(object) => {
+            let object = named(alloc, &entry.path, &object)?;
+            Ok(Some(Refusal::Permission(Boxed::new(alloc, object)?)))
+        }
         None => Ok(None),
     }
 }

@@ -3,6 +3,7 @@ ghost use Rattle.std.specs.Prelude.{◌≡◌, ◌∷◌, [], IfOk};
 ghost use Rattle.acap_store.specs.Refusing as rule;
 ghost use Rattle.acap_store.specs.Invalid as invalid;
 ghost use Rattle.acap_store.specs.Planning as planning;
+ghost use Rattle.acap_store.specs.Rising.{rising};
 
 use crate::conditions::{modified, no_exist};
 use crate::invalid::invalid;
@@ -11,12 +12,31 @@ use crate::permission::{Asker, permission};
 use acap_entries::{Copying, Fate, Memory, Tree, Writes};
 use acap_grammar::{Refusal, StoreEntry};
 use std::alloc::Global;
+use std::cmp::Ordering;
 
-// Whether two entries have one path: from the last on, each is sought by halving among those behind it.
+// Whether each path is greater than the one before it: then none stands twice.
+fn ascend(entries: &[StoreEntry]) -> bool
+    ensures { result ≡ rising entries.now }
+{
+    let mut left = entries;
+    while let Some((first, others)) = left.split_first() {
+        let Some(next) = others.first() else {
+            return true;
+        };
+        match first.path.cmp(&next.path) {
+            Ordering::Less => left = others,
+            Ordering::Equal | Ordering::Greater => return false,
+        }
+    }
+    true
+}
+
+// Whether two entries have one path. Where paths ascend none does; else each is sought by halving among those behind it,
+// from the last on.
 fn has_twice(alloc: Global, entries: &[StoreEntry]) -> Result<bool, Memory>
     ensures { IfOk result (λ found. found ≡ rule.has_twice entries.now) }
 {
-    if entries.len() < 2 {
+    if ascend(entries) {
         return Ok(false);
     }
     let mut seen = Writes::new(alloc);
@@ -33,22 +53,22 @@ fn has_twice(alloc: Global, entries: &[StoreEntry]) -> Result<bool, Memory>
 
 // The first refusal for a change that came between, and for what may not be stored.
 #[tactic(auto, using(crate::proofs::RefusalLemmas::last_one))]
-fn changed(tree: &Tree, meant: &Meant) -> Result<Option<Refusal>, Memory>
+fn changed(alloc: Global, tree: &Tree, meant: &Meant) -> Result<Option<Refusal>, Memory>
     ensures { IfOk result (λ made. made ≡ rule.first_of (rule.modified tree.now.store.records meant.now.entries ∷ invalid.invalid tree.now.store.records meant.now ∷ [])) }
 {
-    match modified(tree, meant.entries.as_slice())? {
+    match modified(alloc, tree, meant.entries.as_slice())? {
         Some(refusal) => Ok(Some(refusal)),
-        None => invalid(tree, meant),
+        None => invalid(alloc, tree, meant),
     }
 }
 
 // The same, after that for a dataset that is missing.
-fn missing(tree: &Tree, meant: &Meant) -> Result<Option<Refusal>, Memory>
+fn missing(alloc: Global, tree: &Tree, meant: &Meant) -> Result<Option<Refusal>, Memory>
     ensures { IfOk result (λ made. made ≡ rule.first_of (rule.no_exist tree.now.store.records meant.now.entries ∷ rule.modified tree.now.store.records meant.now.entries ∷ invalid.invalid tree.now.store.records meant.now ∷ [])) }
 {
     match no_exist(tree, meant.entries.as_slice())? {
         Some(refusal) => Ok(Some(refusal)),
-        None => changed(tree, meant),
+        None => changed(alloc, tree, meant),
     }
 }
 
@@ -58,7 +78,7 @@ fn asked(alloc: Global, by: &Asker<'_>, meant: &Meant) -> Result<Option<Refusal>
 {
     match permission(alloc, by, meant.entries.as_slice())? {
         Some(refusal) => Ok(Some(refusal)),
-        None => missing(by.tree, meant),
+        None => missing(alloc, by.tree, meant),
     }
 }
 

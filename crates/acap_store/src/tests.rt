@@ -1,6 +1,6 @@
 //! That calls succeed with ample memory, over a tree.
 use crate::{Write, deleted_since, plan};
-use acap_entries::{Attribute, Cell, Dataset, Memory, Moment, Path, Tree, UserName, Value};
+use acap_entries::{Attribute, Boxed, Cell, Dataset, Memory, Moment, Path, Tree, UserName, Value};
 use acap_grammar::{
     Entries, Given, Object, StoreEntry, StoreItem, StoreItems, StoreMetadata, StoreModifiers,
 };
@@ -73,7 +73,11 @@ fn sets(alloc: Global) -> Result<usize, Memory> {
         name: None,
     };
     let ann = Value::from_slice(alloc, b"ann")?;
-    let write = Write::SetAcl(object, ann, Value::from_slice(alloc, b"r")?);
+    let write = Write::SetAcl(
+        Boxed::new(alloc, object)?,
+        ann,
+        Value::from_slice(alloc, b"r")?,
+    );
     perform(&mut tree, alloc, &user, write)?;
     Ok(tree.len())
 }

@@ -1,6 +1,6 @@
 //! The commands that write.
 
-use acap_entries::Value;
+use acap_entries::{Boxed, Value};
 use acap_grammar::{Entries, Object};
 
 /// A command that writes, as sent: `~` stands (RFC 2244 sections 6.6.1 and 6.7).
@@ -9,7 +9,7 @@ pub enum Write {
     /// STORE: the entries are stored, all or none.
     Store(Entries),
     /// SETACL: the identifier gets these rights on the object.
-    SetAcl(Object, Value, Value),
+    SetAcl(Boxed<Object>, Value, Value),
     /// DELETEACL: the identifier is taken off the object's list, or the whole list is removed.
-    DeleteAcl(Object, Option<Value>),
+    DeleteAcl(Boxed<Object>, Option<Value>),
 }

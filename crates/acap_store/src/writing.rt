@@ -149,6 +149,25 @@ fn put_all(writes: &mut Writes, added: Vec<(Path, Fate)>) -> Result<(), Memory>
     Ok(())
 }
 
+// Writes over others: where there are no others and the paths ascend, they are all there is, in the memory that they have.
+#[tactic(auto, using(crate::proofs::WriteLemmas::put_all_ascending))]
+fn over(writes: Writes, added: Vec<(Path, Fate)>) -> Result<Writes, Memory>
+    ensures { IfOk result (λ made. made ≡ writing.put_all added.items writes) }
+{
+    let mut writes = writes;
+    if writes.len() > 0 {
+        put_all(&mut writes, added)?;
+        return Ok(writes);
+    }
+    match Writes::from_ascending(added) {
+        Ok(made) => Ok(made),
+        Err(added) => {
+            put_all(&mut writes, added)?;
+            Ok(writes)
+        }
+    }
+}
+
 /// All that a STORE of entries writes at a moment.
 #[tactic(auto, unfolding(crate::specs::Writing::written_for))]
 pub(crate) fn written_for(
@@ -160,8 +179,7 @@ pub(crate) fn written_for(
 ) -> Result<Writes, Memory>
     ensures { IfOk result (λ made. made ≡ writing.written_for tree.now.store.records user.now entries moment) }
 {
-    let mut writes = steps_for(alloc, tree, entries.as_slice(), moment)?;
-    let added = entries_at(alloc, tree, user, &writes, entries, moment)?;
-    put_all(&mut writes, added)?;
-    Ok(writes)
+    let steps = steps_for(alloc, tree, entries.as_slice(), moment)?;
+    let added = entries_at(alloc, tree, user, &steps, entries, moment)?;
+    over(steps, added)
 }

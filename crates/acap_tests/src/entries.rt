@@ -82,7 +82,9 @@ fn limits_names(rt: HostRuntime) {
 
 /// What a path means to a user.
 fn path_of(alloc: Global, user: &UserName, sent: &[u8]) -> Result<Path, NameFault> {
-    Ok(Path::read(alloc, sent)?.for_user(user)?)
+    let mut path = Path::read(alloc, sent)?;
+    path.set_user(user)?;
+    Ok(path)
 }
 
 /// What a dataset means to a user.

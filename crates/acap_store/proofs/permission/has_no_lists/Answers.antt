@@ -1,4 +1,4 @@
-use Rattle.std.proofs.Common.{◌≡◌, sym, ◌∙◌}
+use Rattle.std.proofs.Common.{sym, ◌∙◌}
 use Rattle.std.proofs.lemmas.Bool.{eqb-true}
 use Rattle.acap_store.proofs.ListLemmas.{no_lists}
 use Rattle.acap_store.proofs.permission.has_no_lists.Goals as goal

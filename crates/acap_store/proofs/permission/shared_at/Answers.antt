@@ -1,4 +1,3 @@
-use Rattle.std.proofs.Common.{◌≡◌, sym, ◌∙◌}
 use Rattle.acap_store.proofs.ListLemmas.{shared_are}
 use Rattle.acap_store.proofs.permission.shared_at.Goals as goal
 

@@ -1,12 +1,12 @@
-use Rattle.std.proofs.Common.{◌≡◌, ◌++◌, ◌∷◌, [], ◌||◌, false, sym, ap, ◌∙◌, arith}
+use Rattle.std.proofs.Common.{◌≡◌, ◌++◌, ◌∷◌, [], ◌||◌, false, sym, ap, ◌∙◌}
 use Rattle.std.specs.Prelude.{is_some}
 use Rattle.std.specs.FinMap as table
 use Rattle.acap_store.specs.Refusing as rule
-use Rattle.acap_store.proofs.TwiceLemmas.{any_seen, at_first, of_few, one_more, copied_some}
+use Rattle.acap_store.proofs.TwiceLemmas.{any_seen, at_first, of_rising, one_more, copied_some}
 use Rattle.acap_store.proofs.refusing.has_twice.Goals as goal
 
-pub returns-then-entries-lt2 : goal.returns-then-entries-lt2
-returns-then-entries-lt2 c = sym (of_few c.args.entries.now (omega (arith, c.if-entries-lt2.true)))
+pub returns-then-ascend : goal.returns-then-ascend
+returns-then-ascend c = sym (of_rising c.args.entries.now (sym c.ascend.ensures ∙ c.if-ascend.true))
 
 pub loop-entry-init : goal.loop-entry-init
 loop-entry-init c = rw c.new-seen.ensures (at_first c.args.entries.now)

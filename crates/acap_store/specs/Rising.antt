@@ -1,0 +1,13 @@
+-- Entries whose paths ascend, as most clients send them: a word of private contracts.
+use Rattle.std.specs.Prelude.{Bool, List, map}
+use Rattle.std.specs.FinMap.{is_sorted}
+use Rattle.acap_entries.specs.Store.{path_cmp}
+use Rattle.acap_entries.specs.declared.path.Path.{Path}
+use Rattle.acap_grammar.specs.declared.store_entry.StoreEntry.{StoreEntry}
+
+abbrev pub keyed : StoreEntry → Path × StoreEntry
+keyed e = (e.path, e)
+
+-- each path is greater than all before it
+abbrev pub rising : List StoreEntry → Bool
+rising entries = is_sorted path_cmp (map keyed entries)
