@@ -14,3 +14,4 @@ pub mod Exact
 pub mod ReplyEquality
 pub mod CommandEquality
 pub mod Ascending
+pub mod OrderLemmas

@@ -1,5 +1,6 @@
 pub mod Arguments
 pub mod Ascending
+pub mod EntryOrder
 pub mod Grammar
 pub mod Keys
 pub mod Laws

@@ -4,8 +4,10 @@ ghost use Rattle.std.specs.Str.{bytes_eq};
 ghost use Rattle.acap_entries.specs.Orders.{octets_cmp};
 ghost use Rattle.acap_entries.specs.Store.{path_cmp};
 ghost use Rattle.acap_grammar.specs.Ascending.{last_cmp};
+ghost use Rattle.acap_grammar.specs.EntryOrder.{Orders};
 ghost use Rattle.acap_grammar.specs.Storing as storing;
 
+use crate::entry_order::EntryOrder;
 use crate::lists::{Entries, StoreItems};
 use crate::store_entry::StoreEntry;
 use crate::store_item::StoreItem;
@@ -17,24 +19,23 @@ use std::marker::Model;
 
 // ---- entries
 
-/// The entries so far, and whether the path of the last is the greatest of all, as it is while they come in ascending order.
+/// The entries so far, and their order once their paths don't ascend.
 #[derive(Drop)]
 pub(crate) struct GatheredEntries {
     pub(crate) entries: Entries,
-    ascend: bool,
+    order: Option<EntryOrder>,
 }
 
 impl Model for GatheredEntries {
     ghost use Rattle.std.specs.Prelude.{List};
-    ghost use Rattle.acap_entries.specs.Store.{path_cmp};
-    ghost use Rattle.acap_grammar.specs.Ascending.{Ascends};
+    ghost use Rattle.acap_grammar.specs.EntryOrder.{Gathered};
     ghost use Rattle.acap_grammar.specs.declared.store_entry.StoreEntry.{StoreEntry};
 
     ghost Value = { List StoreEntry };
 
     ghost view = { λ g. g.entries };
 
-    ghost invariant = { λ g. Ascends (λ e. e.path) path_cmp g.ascend g.entries };
+    ghost invariant = { λ g. Gathered g.order g.entries };
 }
 
 // How the path of the last entry compares with another; none is less.
@@ -63,6 +64,15 @@ fn has_path(path: &Path, seen: &[StoreEntry]) -> bool
     seen.iter().any(|e| is_same_path(&e.path, path))
 }
 
+// The order of entries whose paths don't ascend with one more.
+fn order_with(alloc: Global, seen: &[StoreEntry], next: &StoreEntry) -> Result<EntryOrder, Memory>
+    ensures { IfOk result (λ order. Orders order (seen.now ++ next.now ∷ [])) }
+{
+    let mut order = EntryOrder::of(alloc, seen)?;
+    let _ = order.add(seen, next)?;
+    Ok(order)
+}
+
 impl GatheredEntries {
     /// None yet. Takes no memory.
     pub(crate) fn new(alloc: Global) -> GatheredEntries
@@ -70,7 +80,7 @@ impl GatheredEntries {
     {
         GatheredEntries {
             entries: Entries::new(alloc),
-            ascend: true,
+            order: None,
         }
     }
 
@@ -79,20 +89,33 @@ impl GatheredEntries {
         ensures { result ≡ storing.has_path path.now self.now }
     {
         let seen = self.entries.as_slice();
-        if self.ascend && last_path_cmp(seen, path).is_lt() {
-            return false;
+        match &self.order {
+            Some(order) => order.has_path(seen, path),
+            None => !last_path_cmp(seen, path).is_lt() && has_path(path, seen),
         }
-        has_path(path, seen)
     }
 
     /// One entry more. Fails only for want of memory.
-    pub(crate) fn with(self, entry: StoreEntry) -> Result<GatheredEntries, Memory>
+    pub(crate) fn with(self, alloc: Global, entry: StoreEntry) -> Result<GatheredEntries, Memory>
         ensures { IfOk result (λ made. made ≡ self ++ entry ∷ []) }
     {
-        let ascend = self.ascend && last_path_cmp(self.entries.as_slice(), &entry.path).is_le();
-        let mut entries = self.entries;
+        let GatheredEntries { entries, order } = self;
+        let order = match order {
+            Some(mut order) => {
+                let _ = order.add(entries.as_slice(), &entry)?;
+                Some(order)
+            }
+            None => {
+                if last_path_cmp(entries.as_slice(), &entry.path).is_le() {
+                    None
+                } else {
+                    Some(order_with(alloc, entries.as_slice(), &entry)?)
+                }
+            }
+        };
+        let mut entries = entries;
         entries.push(entry)?;
-        Ok(GatheredEntries { entries, ascend })
+        Ok(GatheredEntries { entries, order })
     }
 }
 

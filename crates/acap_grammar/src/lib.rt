@@ -6,6 +6,7 @@ mod codes;
 pub mod command;
 mod data;
 mod descent;
+pub mod entry_order;
 pub mod found;
 mod gathered;
 pub mod given;
@@ -47,6 +48,7 @@ mod words;
 
 pub use acap_entries::{Copying, Memory};
 pub use command::Command;
+pub use entry_order::EntryOrder;
 pub use found::Found;
 pub use given::Given;
 pub use grammar_error::GrammarError;

@@ -376,11 +376,12 @@ impl Gather for GatheredEntries {
         let (modifiers, next) = conditions_at(tokens, next)?;
         let (items, next) = items_at(alloc, tokens, next)?;
         let left = behind_close(tokens, next)?;
-        let entries = self.with(StoreEntry {
+        let entry = StoreEntry {
             path,
             modifiers,
             items,
-        })?;
+        };
+        let entries = self.with(alloc, entry)?;
         Ok((entries, left))
     }
 }

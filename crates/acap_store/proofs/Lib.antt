@@ -13,3 +13,4 @@ pub mod Stages
 pub mod StoreLaws
 pub mod TwiceLemmas
 pub mod WriteLemmas
+pub mod StepLemmas

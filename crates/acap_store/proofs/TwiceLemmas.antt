@@ -1,48 +1,23 @@
 -- What stands twice, sought from the last entry on.
-use Rattle.std.proofs.Common.{◌≡◌, Bool, true, false, cond, T, subst, ◌||◌, List, [], ◌∷◌, ◌++◌, map, Option, Some, None, refl, sym, ap, ◌∙◌, Bor}
-use Rattle.std.specs.Prelude.{is_some}
-use Rattle.std.specs.Option.{option_copied}
+use Rattle.std.proofs.Common.{◌≡◌, ℕ, zero, suc, ◌<◌, ◌+◌, length, take, drop, get_or, not, arith, Bool, true, false, T, subst, ◌||◌, List, [], ◌∷◌, ◌++◌, map, Some, refl, sym, ap, ◌∙◌}
+use Rattle.std.proofs.lemmas.List.Folds.{list_any-append}
 use Rattle.std.specs.List.{list_any, slice_get}
-use Rattle.std.specs.Ordering.{eq_by_cmp, is_eq}
+use Rattle.std.specs.Ordering.{is_eq}
 use Rattle.std.specs.declared.cmp.Ordering.TheVariants.{Less}
 use Rattle.std.specs.FinMap.Entries.{below_all}
-use Rattle.std.specs.FinMap as table
-use Rattle.std.specs.FinMap.{get-insert, get-empty}
-use Rattle.acap_entries.specs.Store.{Written, path_cmp}
-use Rattle.acap_entries.specs.declared.fate.Fate.{Fate}
-use Rattle.acap_entries.specs.declared.fate.Fate.TheVariants.{Remove}
+use Rattle.acap_entries.specs.Store.{path_cmp}
 use Rattle.acap_entries.specs.declared.path.Path.{Path}
 use Rattle.acap_entries.proofs.StoreLemmas.{path_cmp_total}
 use Rattle.acap_entries.proofs.SortedLemmas.{first, second, is_less, rises_behind}
+use Rattle.acap_grammar.specs.Storing.{has_path}
 use Rattle.acap_grammar.specs.declared.store_entry.StoreEntry.{StoreEntry}
 use Rattle.acap_store.specs.Refusing.{same_path, has_twice}
 use Rattle.acap_store.specs.Rising.{keyed, rising}
 use Rattle.acap_store.proofs.DatasetLemmas.{iff_bool, paths_same, paths_refl, or_false}
 use Rattle.acap_store.proofs.StoreLaws.{path_tie}
 
--- whether one of the entries has a path that was seen
-abbrev pub any_seen : Written → List StoreEntry → Bool
-any_seen seen entries = list_any (λ e. is_some (table.get seen e.path)) entries
-
-none_seen : (entries : List StoreEntry) → any_seen table.empty entries ≡ false
-none_seen [] = refl
-none_seen (e ∷ entries) = ap (λ o. is_some o || any_seen table.empty entries) (get-empty path_cmp e.path) ∙ none_seen entries
-
-pub at_first : (entries : List StoreEntry) → (has_twice entries || any_seen table.empty entries) ≡ has_twice entries
-at_first entries = ap (λ b. has_twice entries || b) (none_seen entries) ∙ or_false (has_twice entries)
-
 turned : (p q : Path) → same_path p q ≡ same_path q p
 turned p q = iff_bool _ _ (λ e. paths_refl q p (sym (paths_same p q e))) (λ e. paths_refl p q (sym (paths_same q p e)))
-
-seen_too : (b : Bool) (old : Option Fate) → is_some (cond b (Some Remove) old) ≡ (b || is_some old)
-seen_too true old = refl
-seen_too false old = refl
-
-seen_after : (seen : Written) (p q : Path) → is_some (table.get (table.insert seen p Remove) q) ≡ (same_path p q || is_some (table.get seen q))
-seen_after seen p q =
-    ap is_some (get-insert path_cmp_total seen p Remove q)
-    ∙ seen_too (eq_by_cmp path_cmp q p) (table.get seen q)
-    ∙ ap (λ b. b || is_some (table.get seen q)) (path_tie q p ∙ turned q p)
 
 or_true : (b : Bool) → b || true ≡ true
 or_true true = refl
@@ -56,39 +31,57 @@ any_last : (test : StoreEntry → Bool) (xs : List StoreEntry) (e : StoreEntry) 
 any_last test [] e = or_false (test e)
 any_last test (x ∷ xs) e = ap (λ b. test x || b) (any_last test xs e) ∙ grouped (test x) (list_any test xs) (test e)
 
-left_side : (a m h s t : Bool) → (((a || m) || h) || (s || t)) ≡ ((a || m || s) || (h || t))
-left_side true m h s t = refl
-left_side false true h s t = refl
-left_side false false h true t = or_true h
-left_side false false h false t = refl
+turned_behind : (a m h s : Bool) → ((a || m) || (h || s)) ≡ ((a || h) || (m || s))
+turned_behind true m h s = refl
+turned_behind false true true s = refl
+turned_behind false true false s = refl
+turned_behind false false h s = refl
 
-right_side : (a m h s t : Bool) → ((a || h) || ((m || s) || t)) ≡ ((a || m || s) || (h || t))
-right_side true m h s t = refl
-right_side false true h s t = or_true h
-right_side false false h true t = or_true h
-right_side false false h false t = refl
+-- of entries and one more, two have one path where two of them have, or one of them has the path of that
+twice_more : (entries : List StoreEntry) (e : StoreEntry) → has_twice (entries ++ e ∷ []) ≡ (has_twice entries || has_path e.path entries)
+unfolding has_path
+twice_more [] e = refl
+twice_more (x ∷ entries) e =
+    let a = list_any (λ other. same_path other.path x.path) entries in
+    ap (λ b. b || has_twice (entries ++ e ∷ [])) (any_last (λ other. same_path other.path x.path) entries e)
+    ∙ ap (λ b. (a || same_path e.path x.path) || b) (twice_more entries e)
+    ∙ turned_behind a (same_path e.path x.path) (has_twice entries) (has_path e.path entries)
+    ∙ ap (λ b. (a || has_twice entries) || (b || has_path e.path entries)) (turned e.path x.path)
 
--- the last entry is taken off: its path was seen, or it is from then on
-pub one_more : (seen : Written) (others : List StoreEntry) (e : StoreEntry) → is_some (table.get seen e.path) ≡ false →
-    (has_twice (others ++ e ∷ []) || any_seen seen (others ++ e ∷ [])) ≡ (has_twice others || any_seen (table.insert seen e.path Remove) others)
-one_more seen [] e h = or_false _ ∙ h
-one_more seen (x ∷ others) e h =
-    let a = list_any (λ other. same_path other.path x.path) others in
-    let m = same_path e.path x.path in
-    let s = is_some (table.get seen x.path) in
-    ap (λ b. (b || has_twice (others ++ e ∷ [])) || (s || any_seen seen (others ++ e ∷ []))) (any_last (λ other. same_path other.path x.path) others e)
-    ∙ left_side a m (has_twice (others ++ e ∷ [])) s (any_seen seen (others ++ e ∷ []))
-    ∙ ap (λ b. (a || m || s) || b) (one_more seen others e h)
-    ∙ sym (right_side a m (has_twice others) s (any_seen (table.insert seen e.path Remove) others))
-    ∙ ap (λ b. (a || has_twice others) || (b || any_seen (table.insert seen e.path Remove) others)) (sym (seen_after seen e.path x.path))
+pub once_more : (entries : List StoreEntry) (e : StoreEntry) → has_twice entries ≡ false → has_path e.path entries ≡ false → has_twice (entries ++ e ∷ []) ≡ false
+once_more entries e once new = twice_more entries e ∙ ap (λ b. b || has_path e.path entries) once ∙ new
 
-pub seen_before : (seen : Written) (others : List StoreEntry) (e : StoreEntry) → is_some (table.get seen e.path) ≡ true → (has_twice (others ++ e ∷ []) || any_seen seen (others ++ e ∷ [])) ≡ true
-seen_before seen others e h =
-    ap (λ b. has_twice (others ++ e ∷ []) || b) (any_last (λ e. is_some (table.get seen e.path)) others e ∙ ap (λ b. any_seen seen others || b) h ∙ or_true (any_seen seen others)) ∙ or_true _
+any_front : (test : StoreEntry → Bool) (xs ys : List StoreEntry) → list_any test xs ≡ true → list_any test (xs ++ ys) ≡ true
+any_front test xs ys h = list_any-append test xs ys ∙ ap (λ b. b || list_any test ys) h
 
-pub copied_some : {A : Type 0} (o : Option (Bor A)) → is_some (option_copied o) ≡ is_some o
-copied_some None = refl
-copied_some (Some x) = refl
+either : (a h b k : Bool) → (a ≡ true → b ≡ true) → (h ≡ true → k ≡ true) → (a || h) ≡ true → (b || k) ≡ true
+either true h b k f g e = ap (λ x. x || k) (f refl)
+either false h b k f g e = ap (λ x. b || x) (g e) ∙ or_true b
+
+twice_front : (xs ys : List StoreEntry) → has_twice xs ≡ true → has_twice (xs ++ ys) ≡ true
+twice_front [] ys h = cc
+twice_front (x ∷ xs) ys h = either _ _ _ _ (any_front (λ other. same_path other.path x.path) xs ys) (twice_front xs ys) h
+
+-- an entry whose path is that of one before it
+pub twice_at : (front back : List StoreEntry) (e : StoreEntry) → has_path e.path front ≡ true → has_twice ((front ++ e ∷ []) ++ back) ≡ true
+twice_at front back e there = twice_front (front ++ e ∷ []) back (twice_more front e ∙ ap (λ b. has_twice front || b) there ∙ or_true (has_twice front))
+
+one_longer : (entries : List StoreEntry) (at : ℕ) (e : StoreEntry) → at < length entries → e ≡ get_or (drop at entries) 0 e → take (suc at) entries ≡ take at entries ++ e ∷ []
+one_longer [] at e h is = absurd (omega (arith, h))
+one_longer (x ∷ entries) zero e h is = ap (λ y. y ∷ []) (sym is)
+one_longer (x ∷ entries) (suc at) e h is = ap (λ t. x ∷ t) (one_longer entries at e (omega (arith, h)) is)
+
+-- one entry more of the front of a list
+pub taken : (entries : List StoreEntry) (at : ℕ) (e : StoreEntry) → at < length entries → e ≡ get_or (drop at entries) 0 e → take (at + 1) entries ≡ take at entries ++ e ∷ []
+taken entries at e h is = let next : at + 1 ≡ suc at = omega arith in ap (λ n. take n entries) next ∙ one_longer entries at e h is
+
+pub not_true : (b : Bool) → true ≡ not b → b ≡ false
+not_true true e = cc
+not_true false e = refl
+
+pub not_false : (b : Bool) → false ≡ not b → b ≡ true
+not_false true e = refl
+not_false false e = cc
 
 -- a path that is less than another is another
 less_apart : (p q : Path) → path_cmp p q ≡ Less → same_path q p ≡ false

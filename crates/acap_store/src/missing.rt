@@ -72,7 +72,8 @@ fn write_steps(
     Ok(())
 }
 
-/// The own entries of all datasets that are missing for entries.
+/// The own entries of all datasets that are missing for entries. Most entries have the dataset of the one behind them, whose
+/// way isn't gone again.
 #[tactic(auto, unfolding(crate::specs::Writing::steps_for))]
 pub(crate) fn steps_for(
     alloc: Global,
@@ -84,14 +85,13 @@ pub(crate) fn steps_for(
 {
     let mut writes = Writes::new(alloc);
     let mut left = entries;
+    let mut done: &[u8] = b"";
     while let Some((entry, others)) = left.split_last() {
-        write_steps(
-            alloc,
-            tree,
-            &mut writes,
-            entry.path.dataset.as_slice(),
-            moment,
-        )?;
+        let dataset = entry.path.dataset.as_slice();
+        if dataset != done {
+            write_steps(alloc, tree, &mut writes, dataset, moment)?;
+            done = dataset;
+        }
         left = others;
     }
     Ok(writes)

@@ -2,6 +2,7 @@
 ghost use Rattle.std.specs.Prelude.{◌≡◌, not, find, option_map, is_none, is_some, IfOk, IfSome, IsTrue};
 ghost use Rattle.std.specs.Option.{option_copied};
 ghost use Rattle.acap_rights.specs.Deciding as decided;
+ghost use Rattle.acap_rights.specs.Sharing as sharing;
 ghost use Rattle.acap_store.specs.Permission as rule;
 ghost use Rattle.acap_store.specs.Sharing.{HasNoLists, AreShared};
 
@@ -52,14 +53,16 @@ struct Asked<'a> {
     ghost known: { AreShared by.now.tree.now.store.records by.now.realm.now by.now.user.now path.now shared },
 }
 
-// The rights on all attributes of the entry at a path, where no list is for one of them.
-fn shared_at(by: &Asker<'_>, path: &Path) -> Option<Rights>
+// The rights on all attributes of the entry at a path, where no list is for one of them: those that its dataset shares.
+fn shared_at(by: &Asker<'_>, path: &Path, shared: Option<Rights>) -> Option<Rights>
+    requires { shared ≡ sharing.shared_rights by.now.tree.now.store.records by.now.realm.now by.now.user.now path.now.dataset }
     ensures { AreShared by.now.tree.now.store.records by.now.realm.now by.now.user.now path.now result }
 {
-    if !has_no_lists(by.tree, path) {
-        return None;
+    if has_no_lists(by.tree, path) {
+        shared
+    } else {
+        None
     }
-    shared_rights(by.tree, by.realm, by.user, path.dataset.as_slice())
 }
 
 // The rights on one attribute of the entry.
@@ -155,14 +158,19 @@ fn denied_item<'a>(asked: &Asked<'_>, items: &'a [StoreItem]) -> Option<&'a Stor
 
 // The first object of an entry on which rights are missing.
 #[tactic(auto, unfolding(crate::specs::Permission::denied_in))]
-fn denied_in<'a>(by: &Asker<'_>, entry: &'a StoreEntry) -> Option<Object<'a>>
+fn denied_in<'a>(
+    by: &Asker<'_>,
+    entry: &'a StoreEntry,
+    shared: Option<Rights>,
+) -> Option<Object<'a>>
+    requires { shared ≡ sharing.shared_rights by.now.tree.now.store.records by.now.realm.now by.now.user.now entry.now.path.dataset }
     ensures target { option_map decided.target_of result ≡ rule.denied_in by.now.tree.now.store.records by.now.realm.now by.now.user.now entry.now }
     ensures inside { IfSome result (λ object. decided.dataset_in (decided.target_of object) ≡ entry.now.path.dataset) }
 {
     let asked = Asked {
         by,
         path: &entry.path,
-        shared: shared_at(by, &entry.path),
+        shared: shared_at(by, &entry.path, shared),
     };
     if !may_touch(&asked) {
         return Some(entry_object(&entry.path));
@@ -206,15 +214,39 @@ fn permission_in(
     alloc: Global,
     by: &Asker<'_>,
     entry: &StoreEntry,
+    shared: Option<Rights>,
 ) -> Result<Option<Refusal>, Memory>
+    requires { shared ≡ sharing.shared_rights by.now.tree.now.store.records by.now.realm.now by.now.user.now entry.now.path.dataset }
     ensures { IfOk result (λ made. made ≡ rule.permission_in by.now.tree.now.store.records by.now.realm.now by.now.user.now entry.now) }
 {
-    match denied_in(by, entry) {
+    match denied_in(by, entry, shared) {
         Some(object) => {
             let object = named(alloc, &entry.path, &object)?;
             Ok(Some(Refusal::Permission(Boxed::new(alloc, object)?)))
         }
         None => Ok(None),
+    }
+}
+
+// A dataset, and the rights on all attributes of its entries, but for those that have lists, where these are the same.
+#[derive(Clone, Copy, Drop)]
+struct Shared<'a> {
+    dataset: &'a [u8],
+    rights: Option<Rights>,
+}
+
+// The rights that a dataset shares: those known, where they are known of this dataset.
+fn shared_in<'a>(by: &Asker<'_>, known: Option<Shared<'a>>, dataset: &'a [u8]) -> Shared<'a>
+    requires { IfSome known (λ shared. shared.rights ≡ sharing.shared_rights by.now.tree.now.store.records by.now.realm.now by.now.user.now shared.dataset.now) }
+    ensures dataset { result.dataset.now ≡ dataset.now }
+    ensures rights { result.rights ≡ sharing.shared_rights by.now.tree.now.store.records by.now.realm.now by.now.user.now dataset.now }
+{
+    match known {
+        Some(shared) if shared.dataset == dataset => shared,
+        _ => Shared {
+            dataset,
+            rights: shared_rights(by.tree, by.realm, by.user, dataset),
+        },
     }
 }
 
@@ -226,11 +258,14 @@ pub(crate) fn permission(
 ) -> Result<Option<Refusal>, Memory>
     ensures { IfOk result (λ made. made ≡ rule.permission by.now.tree.now.store.records by.now.realm.now by.now.user.now entries.now) }
 {
+    let mut known: Option<Shared<'_>> = None;
     for entry in entries {
-        let refusal = permission_in(alloc, by, entry)?;
+        let shared = shared_in(by, known, entry.path.dataset.as_slice());
+        let refusal = permission_in(alloc, by, entry, shared.rights)?;
         if refusal.is_some() {
             return Ok(refusal);
         }
+        known = Some(shared);
     }
     Ok(None)
 }

@@ -9,8 +9,8 @@ use crate::conditions::{modified, no_exist};
 use crate::invalid::invalid;
 use crate::meant::Meant;
 use crate::permission::{Asker, permission};
-use acap_entries::{Copying, Fate, Memory, Tree, Writes};
-use acap_grammar::{Refusal, StoreEntry};
+use acap_entries::{Memory, Tree};
+use acap_grammar::{EntryOrder, Refusal, StoreEntry};
 use std::alloc::Global;
 use std::cmp::Ordering;
 
@@ -39,14 +39,12 @@ fn has_twice(alloc: Global, entries: &[StoreEntry]) -> Result<bool, Memory>
     if ascend(entries) {
         return Ok(false);
     }
-    let mut seen = Writes::new(alloc);
-    let mut left = entries;
-    while let Some((entry, others)) = left.split_last() {
-        if seen.get(&entry.path).is_some() {
+    let mut order = EntryOrder::new(alloc);
+    for at in 0..entries.len() {
+        let (seen, others) = entries.split_at(at);
+        if !order.add(seen, &others[0])? {
             return Ok(true);
         }
-        seen.set(entry.path.copy()?, Fate::Remove)?;
-        left = others;
     }
     Ok(false)
 }

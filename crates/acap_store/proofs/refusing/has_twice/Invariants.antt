@@ -1,10 +1,10 @@
-use Rattle.std.proofs.Common.{◌≡◌, ◌||◌, length}
+use Rattle.std.proofs.Common.{◌≡◌, false, take}
+use Rattle.acap_grammar.specs.EntryOrder.{Orders}
 use Rattle.acap_store.specs.Refusing as rule
-use Rattle.acap_store.proofs.TwiceLemmas.{any_seen}
 use Rattle.acap_store.proofs.refusing.has_twice.Given as goal
 
-abbrev pub invariant-loop-entry : goal.invariant-loop-entry
-invariant-loop-entry l = (rule.has_twice l.left || any_seen l.seen l.left) ≡ rule.has_twice l.entries
-
-abbrev pub decreases-loop-entry : goal.decreases-loop-entry
-decreases-loop-entry l = length l.left
+abbrev pub invariant-loop-at : goal.invariant-loop-at
+invariant-loop-at l = record {
+  order : Orders l.order (take l.at l.entries);
+  once : rule.has_twice (take l.at l.entries) ≡ false;
+}

@@ -1,13 +1,17 @@
-use Rattle.std.proofs.Common.{refl}
+use Rattle.std.proofs.Common.{◌++◌, ◌∷◌, [], true, refl, subst}
 use Rattle.acap_entries.proofs.StoreLemmas.{path_cmp_total}
 use Rattle.acap_entries.specs.Store.{path_cmp}
+use Rattle.acap_grammar.specs.EntryOrder.{Gathered, Orders}
 use Rattle.acap_grammar.specs.declared.store_entry.StoreEntry.{StoreEntry}
-use Rattle.acap_grammar.proofs.Ascending.{ascends_more, ascends_not}
+use Rattle.acap_grammar.proofs.Ascending.{ascends_more}
 use Rattle.acap_grammar.proofs.gathered.GatheredEntries.with.Goals as goal
-use Rattle.acap_grammar.proofs.gathered.GatheredEntries.with.Goals.{then-self, else-self}
+use Rattle.acap_grammar.proofs.gathered.GatheredEntries.with.Goals.{in-Some+in_ok-add-in-Some, in-None+then-is_le, in-None+else-is_le+in_ok-order_with-in-None}
 
 pub invariant_of-result : goal.invariant_of-result
-invariant_of-result c = elim c.if-self.branch [
-  | then-self w ↦ rw c.in_ok-push.ensures.ok (ascends_more (λ (e : StoreEntry). e.path) path_cmp path_cmp_total c.self.inside.ascend c.if-self.ascend _ _ c.self.invariant w.if-self.true (rw (w.ascend-is, w.is_le-ascend.ensures, w.last_path_cmp.ensures, w.as_slice.ensures) refl))
-  | else-self w ↦ ascends_not (λ (e : StoreEntry). e.path) path_cmp path_cmp_total c.if-self.ascend _ (rw w.ascend-is w.if-self.false)
+invariant_of-result c = elim c.match-order.branch [
+  | in-Some+in_ok-add-in-Some w ↦ rw (w.order-is, c.in_ok-push.ensures.ok) (subst (λ t. Orders w.add.new.self (t ++ c.args.entry ∷ [])) w.as_slice.ensures w.in_ok-add-in-Some.ensures.ok)
+  | in-None+then-is_le w ↦
+      let ascend = subst (λ o. Gathered o c.self.inside.entries) w.in-None.is c.self.invariant in
+      rw (w.order-is, c.in_ok-push.ensures.ok) (ascends_more (λ (e : StoreEntry). e.path) path_cmp path_cmp_total true true _ _ ascend refl (rw (← w.as_slice-in-None.ensures, ← w.last_path_cmp.ensures) w.if-is_le.ensures))
+  | in-None+else-is_le+in_ok-order_with-in-None w ↦ rw (w.order-is, c.in_ok-push.ensures.ok) (subst (λ t. Orders w.in_ok-order_with-in-None.field-0 (t ++ c.args.entry ∷ [])) w.as_slice-else-is_le.ensures w.in_ok-order_with-in-None.ensures)
 ]
