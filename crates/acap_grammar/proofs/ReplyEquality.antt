@@ -7,7 +7,7 @@ use Rattle.acap_entries.specs.declared.path.Path.{Path}
 use Rattle.acap_entries.specs.contracts.path.PathPartialEq.TheImpl as path_eq
 use Rattle.acap_entries.specs.contracts.path.PathEq.TheImpl.Laws as path_laws
 use Rattle.acap_entries.proofs.Equalities.{pair_exact, values_exact, rows_exact}
-use Rattle.acap_grammar.specs.declared.found.Found.{Found}
+use Rattle.acap_grammar.specs.declared.search_reply.SearchReply.{SearchReply}
 use Rattle.acap_grammar.specs.declared.object.Object.{Object}
 use Rattle.acap_grammar.specs.declared.refusal.Refusal.{Refusal}
 use Rattle.acap_grammar.specs.declared.refusal.Refusal.TheVariants as refusal
@@ -16,8 +16,8 @@ use Rattle.acap_grammar.specs.declared.said.Said.{Said}
 use Rattle.acap_grammar.specs.declared.said.Said.TheVariants as said
 use Rattle.acap_grammar.specs.declared.verb.Verb.{Verb}
 use Rattle.acap_grammar.specs.declared.verb.Verb.TheVariants as verb
-use Rattle.acap_grammar.specs.contracts.found.FoundPartialEq.TheImpl as found_eq
-use Rattle.acap_grammar.specs.contracts.found.FoundEq.TheImpl.Laws as found_laws
+use Rattle.acap_grammar.specs.contracts.search_reply.SearchReplyPartialEq.TheImpl as found_eq
+use Rattle.acap_grammar.specs.contracts.search_reply.SearchReplyEq.TheImpl.Laws as found_laws
 use Rattle.acap_grammar.specs.contracts.object.ObjectPartialEq.TheImpl as object_eq
 use Rattle.acap_grammar.specs.contracts.object.ObjectEq.TheImpl.Laws as object_laws
 use Rattle.acap_grammar.specs.contracts.refusal.RefusalPartialEq.TheImpl as refusal_eq
@@ -46,12 +46,12 @@ object_same a b e =
 pub object_exact : (a b : Object) → Decides (object_eq.ghosts.eq a b) (a ≡ b)
 object_exact = exact_of object_laws.laws-law object_same
 
-found_same : (a b : Found) → found_eq.ghosts.eq a b ≡ true → a ≡ b
+found_same : (a b : SearchReply) → found_eq.ghosts.eq a b ≡ true → a ≡ b
 found_same a b e =
     let h = (pair_exact rows_exact (pair_exact (option_exact signed_Decides) (option_exact unsigned_Decides)) (a.rows, (a.last, a.total)) (b.rows, (b.last, b.total))).0 e in
     λ i. record { rows = (h i).0; last = (h i).1.0; total = (h i).1.1 }
 
-pub found_exact : (a b : Found) → Decides (found_eq.ghosts.eq a b) (a ≡ b)
+pub found_exact : (a b : SearchReply) → Decides (found_eq.ghosts.eq a b) (a ≡ b)
 found_exact = exact_of found_laws.laws-law found_same
 
 verb_same : (a b : Verb) → verb_eq.ghosts.eq a b ≡ true → a ≡ b
@@ -120,7 +120,7 @@ said_same said.Greeting said.Greeting e = refl
 said_same said.Left said.Left e = refl
 said_same said.Drained said.Drained e = refl
 said_same (said.Done x) (said.Done y) e = ap said.Done ((verb_exact x y).0 e)
-said_same (said.Found x) (said.Found y) e = ap said.Found ((found_exact x y).0 e)
+said_same (said.Searched x) (said.Searched y) e = ap said.Searched ((found_exact x y).0 e)
 said_same (said.Deleted x) (said.Deleted y) e = ap said.Deleted ((values_exact x y).0 e)
 said_same (said.Rights x) (said.Rights y) e = ap said.Rights ((bytes_decides x y).0 e)
 said_same (said.RightsList x) (said.RightsList y) e = ap said.RightsList ((values_exact x y).0 e)

@@ -147,11 +147,11 @@ refused tag refusal = under tag (said.Refused refusal)
 
 -- a search that finds one row, of which this is told
 abbrev pub telling : List Item → Reply
-telling items = under (codes "A3") (said.Found (record { rows = record { name = codes "font"; items = items } ∷ []; last = None; total = None }))
+telling items = under (codes "A3") (said.Searched (record { rows = record { name = codes "font"; items = items } ∷ []; last = None; total = None }))
 
 pub record ReplyExamples : Type 0 where
   pub stored : octets_of (under (codes "A1") (said.Done verb.Store)) ≡ codes "A1 OK \"STORE done\"" ++ crlf
-  pub found : octets_of (under (codes "A2") (said.Found (record { rows = font_row ∷ []; last = Some (pos 0); total = None })))
+  pub found : octets_of (under (codes "A2") (said.Searched (record { rows = font_row ∷ []; last = Some (pos 0); total = None })))
       ≡ codes "A2 ENTRY \"font\" \"mono\" \"19700101000000000000\"" ++ crlf ++ codes "A2 MODTIME \"19700101000000000000\"" ++ crlf ++ codes "A2 OK \"SEARCH done\"" ++ crlf
   pub good_bye : octets_of (under (codes "A3") said.GoodBye) ≡ codes "* BYE \"Good bye\"" ++ crlf ++ codes "A3 OK \"LOGOUT done\"" ++ crlf
   pub bad_tag : octets_of (alone (said.Refused refusal.BadTag)) ≡ codes "* BAD \"Bad tag\"" ++ crlf
@@ -173,7 +173,7 @@ pub record ReplyExamples : Type 0 where
   pub try_free_context : octets_of (refused (codes "A9") refusal.TryFreeContext) ≡ codes "A9 NO (TRYFREECONTEXT) \"Too many contexts\"" ++ crlf
   pub memory : octets_of (refused (codes "A1") refusal.Memory) ≡ codes "A1 NO (TRYLATER) \"No memory\"" ++ crlf
   pub history_full : octets_of (refused (codes "A1") refusal.HistoryFull) ≡ codes "A1 NO (TRYLATER) \"History is full\"" ++ crlf
-  pub too_many : octets_of (under (codes "A2") (said.Found (record { rows = []; last = None; total = Some 65_536 }))) ≡ codes "A2 OK (TOOMANY 65536) \"SEARCH done\"" ++ crlf
+  pub too_many : octets_of (under (codes "A2") (said.Searched (record { rows = []; last = None; total = Some 65_536 }))) ≡ codes "A2 OK (TOOMANY 65536) \"SEARCH done\"" ++ crlf
   pub list_row : octets_of (telling (item.One (cell.Multi (codes "a" ∷ codes "b" ∷ [])) ∷ [])) ≡ codes "A3 ENTRY \"font\" (\"a\" \"b\")" ++ crlf ++ codes "A3 OK \"SEARCH done\"" ++ crlf
   pub nil_row : octets_of (telling (item.One cell.Nil ∷ [])) ≡ codes "A3 ENTRY \"font\" NIL" ++ crlf ++ codes "A3 OK \"SEARCH done\"" ++ crlf
   pub several_row : octets_of (telling (item.Several (cell.Single (codes "mono") ∷ cell.Nil ∷ cell.Multi (codes "a" ∷ codes "b" ∷ []) ∷ []) ∷ []))

@@ -7,7 +7,7 @@ use Rattle.acap_entries.specs.declared.cell.Cell.TheVariants as cell
 use Rattle.acap_entries.specs.declared.item.Item.{Item}
 use Rattle.acap_entries.specs.declared.item.Item.TheVariants as item
 use Rattle.acap_entries.specs.declared.row.Row.{Row}
-use Rattle.acap_grammar.specs.declared.found.Found.{Found}
+use Rattle.acap_grammar.specs.declared.search_reply.SearchReply.{SearchReply}
 use Rattle.acap_grammar.specs.declared.refusal.Refusal.{Refusal}
 use Rattle.acap_grammar.specs.declared.reply.Reply.{Reply}
 use Rattle.acap_grammar.specs.declared.said.Said.{Said}
@@ -99,7 +99,7 @@ searched_form tag None = done_form tag verb.Search
 searched_form tag (Some total) = tag ++ codes " OK " ++ total_form total ++ printed (done_of verb.Search) ++ crlf
 
 -- the end of a search: its rows, the moment that it tells, and its completion
-unfoldable pub found_form : List ℕ → Found → List ℕ
+unfoldable pub found_form : List ℕ → SearchReply → List ℕ
 found_form tag found = rows_form tag found.rows ++ last_form tag found.last ++ searched_form tag found.total
 
 -- the name of a deleted entry: tag `DELETED` name
@@ -135,7 +135,7 @@ said_form tag said.Greeting = greeting
 said_form tag said.Left = []
 said_form tag said.Drained = []
 said_form tag (said.Done verb) = done_form tag verb
-said_form tag (said.Found found) = found_form tag found
+said_form tag (said.Searched found) = found_form tag found
 said_form tag (said.Deleted names) = deleted_form tag names
 said_form tag (said.Rights rights) = rights_form tag rights
 said_form tag (said.RightsList rights) = rights_list_form tag rights

@@ -6,11 +6,11 @@ ghost use Rattle.acap_grammar.specs.Replies.{row_form, rows_form, last_form, don
 
 use crate::codes::append_code;
 use crate::data::append_items;
-use crate::found::Found;
 use crate::refusal::Refusal;
 use crate::refusing::text_of;
 use crate::reply::Reply;
 use crate::said::Said;
+use crate::search_reply::SearchReply;
 use crate::status::Status;
 use crate::strings::{append_spaced, append_string};
 use crate::verb::Verb;
@@ -154,7 +154,7 @@ fn append_searched(tag: &[u8], total: Option<u32>, out: &mut Vec<u8>) -> Result<
 }
 
 #[tactic(auto, unfolding(crate::specs::Replies::found_form))]
-fn append_found(tag: &[u8], found: &Found, out: &mut Vec<u8>) -> Result<(), Memory>
+fn append_found(tag: &[u8], found: &SearchReply, out: &mut Vec<u8>) -> Result<(), Memory>
     ensures ok { OnOk result (out.new.items ≡ out.old.items ++ found_form tag.now found.now) }
     ensures grows { Grows out.old.items out.new.items }
 {
@@ -249,7 +249,7 @@ fn append_said(tag: &[u8], said: &Said, out: &mut Vec<u8>) -> Result<(), Memory>
         Said::Greeting => append_greeting(out),
         Said::Left | Said::Drained => Ok(()),
         Said::Done(verb) => append_done(tag, *verb, out),
-        Said::Found(found) => append_found(tag, found, out),
+        Said::Searched(found) => append_found(tag, found, out),
         Said::Deleted(names) => append_deleted(tag, names.as_slice(), out),
         Said::Rights(rights) => append_rights(tag, rights.as_slice(), out),
         Said::RightsList(rights) => append_rights_list(tag, rights.as_slice(), out),

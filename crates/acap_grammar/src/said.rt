@@ -1,8 +1,8 @@
 //! What is said to a client.
 ghost use Rattle.std.specs.Prelude.{◌≡◌, ◌↔◌, IsTrue};
 
-use crate::found::Found;
 use crate::refusal::Refusal;
+use crate::search_reply::SearchReply;
 use crate::verb::Verb;
 use acap_entries::{Copying, Memory, Octets, Value, Values};
 
@@ -17,8 +17,8 @@ pub enum Said {
     Drained,
     /// The command with this verb is done.
     Done(Verb),
-    /// A SEARCH is done, and this was found.
-    Found(Found),
+    /// A SEARCH is done, and this is told.
+    Searched(SearchReply),
     /// A DELETEDSINCE is done, and the entries with these names were deleted (section 6.6.2).
     Deleted(Values),
     /// A MYRIGHTS is done, and the user has these rights (section 6.7).
@@ -49,7 +49,7 @@ impl Copying for Said {
             Said::Left => Ok(Said::Left),
             Said::Drained => Ok(Said::Drained),
             Said::Done(verb) => Ok(Said::Done(*verb)),
-            Said::Found(found) => Ok(Said::Found(found.copy()?)),
+            Said::Searched(found) => Ok(Said::Searched(found.copy()?)),
             Said::Deleted(names) => Ok(Said::Deleted(names.copy()?)),
             Said::Rights(rights) => Ok(Said::Rights(rights.copy()?)),
             Said::RightsList(rights) => Ok(Said::RightsList(rights.copy()?)),

@@ -9,7 +9,7 @@ use Rattle.acap_grammar.specs.Searching.{unmodified}
 use Rattle.acap_grammar.specs.Wanted as key
 use Rattle.acap_grammar.specs.declared.command.Command.{Command}
 use Rattle.acap_grammar.specs.declared.command.Command.TheVariants as command
-use Rattle.acap_grammar.specs.declared.found.Found.{Found}
+use Rattle.acap_grammar.specs.declared.search_reply.SearchReply.{SearchReply}
 use Rattle.acap_grammar.specs.declared.limit.Limit.{Limit}
 use Rattle.acap_grammar.specs.declared.object.Object.{Object}
 use Rattle.acap_grammar.specs.declared.refusal.Refusal.{Refusal}
@@ -104,7 +104,7 @@ pub record ServingExamples : Type 0 where
   -- `~` is the user's
   pub own : (s : Store) (realm : Realm) (modifiers : SearchModifiers) → searched s realm joe (all_in (codes "/option/~/") modifiers) ≡ searched s realm joe (all_in home modifiers)
   -- a search that is refused tells the dataset that is missing
-  pub missing : (found : Found) → map (λ because. found_unless home (Some because) found) (refusal.RangeHere ∷ refusal.NoExist ∷ refusal.WayTooMany ∷ [])
+  pub missing : (found : SearchReply) → map (λ because. found_unless home (Some because) found) (refusal.RangeHere ∷ refusal.NoExist ∷ refusal.WayTooMany ∷ [])
       ≡ said.Refused refusals.RangeHere ∷ said.Refused (refusals.NoExist home) ∷ said.Refused refusals.WayTooMany ∷ []
   -- contexts aren't served yet, whatever they are asked of
   pub contexts : (s : Store) (realm : Realm) (user : List ℕ) (clock : ℤ) →

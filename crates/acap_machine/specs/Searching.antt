@@ -3,7 +3,7 @@ use Rattle.std.specs.Prelude.{ℕ, ℤ, List, [], length, min, take, Option, Som
 use Rattle.acap_entries.specs.Store.{Store}
 use Rattle.acap_entries.specs.declared.row.Row.{Row}
 use Rattle.acap_grammar.specs.Wanted.{Wanted}
-use Rattle.acap_grammar.specs.declared.found.Found.{Found}
+use Rattle.acap_grammar.specs.declared.search_reply.SearchReply.{SearchReply}
 use Rattle.acap_grammar.specs.declared.limit.Limit.{Limit}
 use Rattle.acap_grammar.specs.declared.make_context.MakeContext.{MakeContext}
 use Rattle.acap_grammar.specs.declared.refusal.Refusal.{Refusal}
@@ -41,7 +41,7 @@ last_told None last = None
 last_told (Some returns) last = Some last
 
 -- LIMIT says how many of them, and whether their number is told
-abbrev pub found_of : ℤ → Query → Option Limit → List Match → Found
+abbrev pub found_of : ℤ → Query → Option Limit → List Match → SearchReply
 found_of last query limit matches =
     let cut = cut_of limit (length matches) in
     record {
@@ -55,7 +55,7 @@ abbrev pub rows_if : Option (List ReturnItem) → List Row → List Row
 rows_if None rows = []
 rows_if (Some returns) rows = rows
 
-abbrev pub found_with : ℤ → Query → List Row → Option ℕ → Found
+abbrev pub found_with : ℤ → Query → List Row → Option ℕ → SearchReply
 found_with last query rows total = record {
   rows = rows_if query.returns rows;
   last = last_told query.returns last;
@@ -71,9 +71,9 @@ refused_as dataset refusal.NoExist = refusals.NoExist dataset
 refused_as dataset refusal.WayTooMany = refusals.WayTooMany
 refused_as dataset refusal.Memory = refusals.Memory
 
-abbrev pub found_unless : List ℕ → Option SearchRefusal → Found → Said
+abbrev pub found_unless : List ℕ → Option SearchRefusal → SearchReply → Said
 found_unless dataset (Some refusal) found = said.Refused (refused_as dataset refusal)
-found_unless dataset None found = said.Found found
+found_unless dataset None found = said.Searched found
 
 -- the matches of a query over a dataset
 abbrev pub matches_of : Store → Realm → List ℕ → Query → List Match

@@ -4,7 +4,7 @@ ghost use Rattle.acap_machine.specs.Searching as rule;
 ghost use Rattle.acap_search.specs.Asking.{asked_of};
 
 use acap_entries::{Dataset, Memory, Tree, UserName};
-use acap_grammar::{Found, Key, Limit, Refusal, Rows, Said, Search, SearchModifiers, Target};
+use acap_grammar::{Key, Limit, Refusal, Rows, Said, Search, SearchModifiers, SearchReply, Target};
 use acap_rights::Realm;
 use acap_search::{Asked, Query, SearchRefusal, Told, tell};
 use std::alloc::Global;
@@ -27,18 +27,18 @@ fn total_told(total: Option<usize>) -> Option<u32>
 }
 
 // What a reply has of what is told of the matches.
-fn found_with(alloc: Global, tree: &Tree, query: &Query, told: Told) -> Found
+fn found_with(alloc: Global, tree: &Tree, query: &Query, told: Told) -> SearchReply
     ensures { result ≡ rule.found_with tree.now.store.last query.now told.rows told.total }
 {
     let total = total_told(told.total);
     if query.returns.is_some() {
-        Found {
+        SearchReply {
             rows: told.rows,
             last: Some(tree.last()),
             total,
         }
     } else {
-        Found {
+        SearchReply {
             rows: Rows::new(alloc),
             last: None,
             total,
@@ -59,7 +59,7 @@ fn searched_by(
     ensures { IfOk result (λ words. words ≡ rule.searched_by tree.now.store realm.now user.now query limit) }
 {
     match tell(alloc, tree, realm, user, &query, limit) {
-        Ok(told) => Ok(Said::Found(found_with(alloc, tree, &query, told))),
+        Ok(told) => Ok(Said::Searched(found_with(alloc, tree, &query, told))),
         Err(SearchRefusal::RangeHere) => Ok(Said::Refused(Refusal::RangeHere)),
         Err(SearchRefusal::NoExist) => Ok(Said::Refused(Refusal::NoExist(query.dataset))),
         Err(SearchRefusal::WayTooMany) => Ok(Said::Refused(Refusal::WayTooMany)),

@@ -7,7 +7,7 @@ use acap_entries::{Copying, Memory, Moment};
 /// What a SEARCH tells: its rows, the store's last moment where a RETURN asked for rows, and how many entries matched
 /// where not all of them are printed (RFC 2244 section 6.4.1).
 #[derive(Debug, PartialEq, Eq, Drop)]
-pub struct Found {
+pub struct SearchReply {
     /// The rows, each printed as an ENTRY.
     pub rows: Rows,
     /// The moment printed as a MODTIME after them, if one is.
@@ -16,19 +16,19 @@ pub struct Found {
     pub total: Option<u32>,
 }
 
-impl Found {
+impl SearchReply {
     /// Whether two of them are equal, as `==` says it. Takes no memory.
-    pub fn equals(&self, other: &Found) -> bool
+    pub fn equals(&self, other: &SearchReply) -> bool
         ensures { IsTrue result ↔ (self.now ≡ other.now) }
     {
         *self == *other
     }
 }
 
-impl Copying for Found {
-    fn copy(&self) -> Result<Found, Memory> {
+impl Copying for SearchReply {
+    fn copy(&self) -> Result<SearchReply, Memory> {
         let rows = self.rows.copy()?;
-        Ok(Found {
+        Ok(SearchReply {
             rows,
             last: self.last,
             total: self.total,
