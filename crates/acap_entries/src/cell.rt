@@ -7,7 +7,7 @@ use crate::memory::Memory;
 use crate::text::Value;
 
 /// What an attribute has: NIL, one string, or a list of strings (RFC 2244 section 3.1).
-#[derive(Debug, PartialEq, Eq, Drop)]
+#[derive(PartialEq, Eq, Drop)]
 pub enum Cell {
     /// NIL.
     Nil,

@@ -8,7 +8,7 @@ use crate::writes::Writes;
 
 /// A step from one store to the next: what is written, the moment that the store then has, and which entries stop
 /// existing (RFC 2244 sections 3.1 and 6.6.2).
-#[derive(Debug, Drop)]
+#[derive(Drop)]
 pub struct Change {
     /// The records put and removed, by path.
     pub writes: Writes,

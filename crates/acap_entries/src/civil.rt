@@ -1,7 +1,7 @@
 //! A date and a time of day.
 
 /// A date and a time of day in UTC, of the proleptic Gregorian calendar.
-#[derive(Clone, Copy, Debug, PartialEq, Eq)]
+#[derive(Clone, Copy, PartialEq, Eq)]
 pub struct Civil {
     /// The year, from 0 to 9999.
     pub year: u16,

@@ -9,7 +9,7 @@ use std::marker::Model;
 const IN_PLACE: usize = 30;
 
 /// A few octets, and the allocator that more of them would be kept by.
-#[derive(Debug, Drop)]
+#[derive(Drop)]
 pub(crate) struct Few {
     len: u8,
     octets: [u8; IN_PLACE],
@@ -18,7 +18,7 @@ pub(crate) struct Few {
 }
 
 /// Where octets lie.
-#[derive(Debug, Drop)]
+#[derive(Drop)]
 pub(crate) enum Kept {
     /// In place.
     InPlace(Few),
@@ -27,7 +27,7 @@ pub(crate) enum Kept {
 }
 
 /// Octets that lie in place while they are few, and take no memory then: seen as their list.
-#[derive(Debug, Drop)]
+#[derive(Drop)]
 pub(crate) struct Compact {
     kept: Kept,
 }

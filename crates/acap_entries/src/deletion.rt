@@ -6,7 +6,7 @@ use crate::moment::Moment;
 use crate::path::Path;
 
 /// That an entry stopped existing in its dataset, and when (RFC 2244 section 6.6.2).
-#[derive(Debug, PartialEq, Eq, Drop)]
+#[derive(PartialEq, Eq, Drop)]
 pub struct Deletion {
     /// Where the entry was.
     pub path: Path,

@@ -16,7 +16,7 @@ use std::marker::Model;
 const MOST: usize = 4_096;
 
 /// The newest deletions of a store in their order, and the moment of the newest other one, if there is one.
-#[derive(Debug, Drop)]
+#[derive(Drop)]
 pub(crate) struct Deletions {
     kept: VecDeque<Deletion>,
     forgotten: Option<Moment>,

@@ -6,7 +6,7 @@ use crate::memory::Memory;
 use crate::record::Record;
 
 /// What a change does at a path. A record lies in a box, so that it moves as a whole in eight octets.
-#[derive(Debug, Drop)]
+#[derive(Drop)]
 pub enum Fate {
     /// Puts a record there, in place of one that may be there.
     Put(Boxed<Record>),

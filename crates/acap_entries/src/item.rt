@@ -7,7 +7,7 @@ use crate::lists::{CellList, CellLists};
 use crate::memory::Memory;
 
 /// What is printed for one item of RETURN (RFC 2244 section 6.4.1).
-#[derive(Debug, PartialEq, Eq, Drop)]
+#[derive(PartialEq, Eq, Drop)]
 pub enum Item {
     /// One datum, printed bare.
     One(Cell),

@@ -15,7 +15,7 @@ use std::marker::Model;
 pub(crate) const MOST: usize = 64;
 
 /// Up to 64 entries, which contracts see as their list. Room for 64 is made with the leaf.
-#[derive(Debug, Drop)]
+#[derive(Drop)]
 pub(crate) struct Leaf<K, V> {
     entries: Vec<(K, V)>,
 }

@@ -192,7 +192,7 @@ fn room_for<K: Ord + Drop, V: Drop, Q: Probe<K>>(
 
 /// Entries in the order of their keys, which contracts see as their list, and beside it the number of entries more
 /// that there is room for.
-#[derive(Debug, Drop)]
+#[derive(Drop)]
 pub(crate) struct Leaves<K, V> {
     leaves: Vec<Leaf<K, V>>,
     spare: Vec<Leaf<K, V>>,

@@ -11,7 +11,7 @@ use std::marker::Model;
 
 /// Paths and their records, by dataset and then by name: an iterator, seen as the list of those that are still to
 /// come. Looks at them where they lie, and takes no memory.
-#[derive(Debug, Drop)]
+#[derive(Drop)]
 pub struct Listing<'a> {
     pub(crate) front: &'a [(Path, Boxed<Record>)],
     pub(crate) leaves: &'a [Leaf<Path, Boxed<Record>>],

@@ -15,7 +15,7 @@ use std::alloc::Global;
 use std::cmp::Ordering;
 
 /// Where an entry is: its dataset and its name there (RFC 2244 section 3.1). Ordered by dataset, then by name.
-#[derive(Debug, PartialEq, Eq, PartialOrd, Ord, Drop)]
+#[derive(PartialEq, Eq, PartialOrd, Ord, Drop)]
 pub struct Path {
     /// The dataset.
     pub dataset: Dataset,

@@ -7,7 +7,7 @@ use crate::moment::Moment;
 use crate::table::{Acls, Cells};
 
 /// What the store keeps at a path (RFC 2244 section 3.1).
-#[derive(Debug, PartialEq, Eq, Drop)]
+#[derive(PartialEq, Eq, Drop)]
 pub struct Record {
     /// Whether the entry exists here; a deleted one leaves its record.
     pub present: bool,

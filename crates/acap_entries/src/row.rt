@@ -7,7 +7,7 @@ use crate::memory::Memory;
 use crate::text::Value;
 
 /// What is printed of an entry: its name and an item for each of RETURN (RFC 2244 section 6.4.1).
-#[derive(Debug, PartialEq, Eq, Drop)]
+#[derive(PartialEq, Eq, Drop)]
 pub struct Row {
     /// The name as printed, or the full path.
     pub name: Value,

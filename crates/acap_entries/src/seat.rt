@@ -6,7 +6,7 @@ use crate::memory::Memory;
 use std::marker::Model;
 
 /// The place of a session at the server: a number from 0 to 63.
-#[derive(Clone, Copy, Debug, PartialEq, Eq, PartialOrd, Ord)]
+#[derive(Clone, Copy, PartialEq, Eq, PartialOrd, Ord)]
 pub struct Seat {
     number: u8,
 }

@@ -12,7 +12,7 @@ use std::alloc::Global;
 use std::marker::Model;
 
 /// What is kept for some seats: seen as a finite map from their numbers.
-#[derive(Debug, Drop)]
+#[derive(Drop)]
 pub struct Seats<V> {
     entries: Vec<(Seat, V)>,
 }

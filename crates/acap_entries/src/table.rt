@@ -23,7 +23,7 @@ pub type Cells = Table<Cell>;
 pub type Acls = Table<Values>;
 
 /// What is kept for some attributes: seen as a finite map.
-#[derive(Debug, Drop)]
+#[derive(Drop)]
 pub struct Table<V> {
     entries: Vec<(Attribute, V)>,
 }

@@ -35,27 +35,27 @@ pub type Value = Text<ValueKind>;
 pub(crate) type DatasetText = Text<DatasetKind>;
 
 /// The names of attributes.
-#[derive(Debug, Drop)]
+#[derive(Drop)]
 pub struct AttributeKind;
 
 /// The names of entries.
-#[derive(Debug, Drop)]
+#[derive(Drop)]
 pub struct EntryKind;
 
 /// The names of contexts.
-#[derive(Debug, Drop)]
+#[derive(Drop)]
 pub struct ContextKind;
 
 /// The names of users.
-#[derive(Debug, Drop)]
+#[derive(Drop)]
 pub struct UserKind;
 
 /// The values of attributes.
-#[derive(Debug, Drop)]
+#[derive(Drop)]
 pub struct ValueKind;
 
 /// The names of datasets.
-#[derive(Debug, Drop)]
+#[derive(Drop)]
 pub struct DatasetKind;
 
 /// A kind of names: which octets are such a name.
@@ -68,7 +68,7 @@ pub trait Kind {
 }
 
 /// Octets of a kind, ordered octet by octet with a proper prefix first.
-#[derive(Debug, Drop)]
+#[derive(Drop)]
 pub struct Text<K> {
     octets: Compact,
     kind: PhantomData<K>,

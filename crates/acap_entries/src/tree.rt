@@ -29,7 +29,7 @@ use std::marker::Model;
 
 /// The store in memory: seen as a finite map from paths to records with its last moment and newest deletions, and
 /// beside it what it has room for, which no equality speaks of (RFC 2244 section 3.1).
-#[derive(Debug, Drop)]
+#[derive(Drop)]
 pub struct Tree {
     entries: Leaves<Path, Boxed<Record>>,
     last: Moment,

@@ -15,7 +15,7 @@ use std::alloc::Global;
 use std::marker::Model;
 
 /// What is written at some paths, a record or its removal: seen as a finite map.
-#[derive(Debug, Drop)]
+#[derive(Drop)]
 pub struct Writes {
     entries: Vec<(Path, Fate)>,
 }

@@ -7,7 +7,7 @@ use crate::search::Search;
 use acap_entries::{Boxed, ContextName, Copying, Dataset, Memory, Moment, Value};
 
 /// What a client asks for (RFC 2244 section 6).
-#[derive(Debug, Drop)]
+#[derive(Drop)]
 pub enum Command {
     /// NOOP: nothing is asked for (section 6.2).
     Noop,

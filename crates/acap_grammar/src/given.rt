@@ -4,7 +4,7 @@ ghost use Rattle.std.specs.Prelude.{◌≡◌, ◌↔◌, IsTrue};
 use acap_entries::{Cell, Copying, Memory};
 
 /// What a STORE gives to an attribute or to its access control list (RFC 2244 section 6.6.1).
-#[derive(Debug, PartialEq, Eq, Drop)]
+#[derive(PartialEq, Eq, Drop)]
 pub enum Given {
     /// A value to be stored: NIL, one string, or a list of strings.
     Put(Cell),

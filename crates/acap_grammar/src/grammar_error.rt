@@ -5,7 +5,7 @@ use acap_entries::Memory;
 use std::alloc::{AllocError, AllocFailed};
 
 /// Why a command wasn't read: a fault of its own, or want of memory.
-#[derive(Clone, Copy, Debug, PartialEq, Eq)]
+#[derive(Clone, Copy, PartialEq, Eq)]
 pub enum GrammarError {
     /// The first fault from the left (RFC 2244 sections 2.2 and 8).
     Fault(GrammarFault),

@@ -1,7 +1,7 @@
 //! What is wrong with a command.
 
 /// Why tokens stand for no command: the first fault from the left (RFC 2244 sections 2.2 and 8).
-#[derive(Clone, Copy, Debug, PartialEq, Eq)]
+#[derive(Clone, Copy, PartialEq, Eq)]
 pub enum GrammarFault {
     /// No verb, or none that is known.
     UnknownCommand,

@@ -11,14 +11,14 @@ use std::marker::Model;
 
 /// Which entries a SEARCH wants (RFC 2244 section 6.4.1). Contracts see it as a tree of tests.
 #[cycle(key)]
-#[derive(Debug, Drop)]
+#[derive(Drop)]
 pub struct Key {
     node: Node,
 }
 
 /// What a key is made of (RFC 2244 section 6.4.1).
 #[cycle(key)]
-#[derive(Debug, Drop)]
+#[derive(Drop)]
 pub enum Node {
     /// One test.
     One(Test),

@@ -4,7 +4,7 @@ ghost use Rattle.std.specs.Prelude.{◌≡◌, ◌↔◌, IsTrue};
 use acap_entries::{ContextName, Copying, Memory};
 
 /// MAKECONTEXT: what a SEARCH finds is to be kept as a context (RFC 2244 section 6.4.1).
-#[derive(Debug, PartialEq, Eq, Drop)]
+#[derive(PartialEq, Eq, Drop)]
 pub struct MakeContext {
     /// ENUMERATE: its entries have positions.
     pub enumerate: bool,

@@ -4,7 +4,7 @@ ghost use Rattle.std.specs.Prelude.{◌≡◌, ◌↔◌, IsTrue};
 use acap_entries::{Copying, Memory};
 
 /// What is told of an attribute (RFC 2244 sections 3.1.2 and 6.4.1).
-#[derive(Clone, Copy, Debug, PartialEq, Eq)]
+#[derive(Clone, Copy, PartialEq, Eq)]
 pub enum Metadata {
     /// `acl`: its access control list.
     Acl,

@@ -4,7 +4,7 @@ ghost use Rattle.std.specs.Prelude.{◌≡◌, ◌↔◌, IsTrue};
 use acap_entries::{Attribute, Copying, Dataset, EntryName, Memory};
 
 /// What rights are about: a dataset, an attribute of it, or that attribute of one entry (RFC 2244 section 3.5).
-#[derive(Debug, PartialEq, Eq, Drop)]
+#[derive(PartialEq, Eq, Drop)]
 pub struct Object {
     /// The dataset.
     pub dataset: Dataset,

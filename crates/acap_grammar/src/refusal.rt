@@ -6,7 +6,7 @@ use crate::object::Object;
 use acap_entries::{Attribute, Boxed, Copying, Dataset, Memory, Path};
 
 /// Why a command, or a connection, is refused (RFC 2244 sections 3.6 and 6.2).
-#[derive(Debug, PartialEq, Eq, Drop)]
+#[derive(PartialEq, Eq, Drop)]
 pub enum Refusal {
     /// No tag begins the command.
     BadTag,

@@ -5,7 +5,7 @@ use crate::said::Said;
 use acap_entries::{Copying, Memory, Octets};
 
 /// A reply: what is said, and the tag of the command that it answers (RFC 2244 section 6.2).
-#[derive(Debug, PartialEq, Eq, Drop)]
+#[derive(PartialEq, Eq, Drop)]
 pub struct Reply {
     /// The tag under which it is printed; without one a `*` stands in its place.
     pub tag: Option<Octets>,

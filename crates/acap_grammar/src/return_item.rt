@@ -6,7 +6,7 @@ use crate::return_name::ReturnName;
 use acap_entries::{Copying, Memory};
 
 /// An item of RETURN (RFC 2244 section 6.4.1).
-#[derive(Debug, PartialEq, Eq, Drop)]
+#[derive(PartialEq, Eq, Drop)]
 pub struct ReturnItem {
     /// Of which attributes it tells.
     pub name: ReturnName,

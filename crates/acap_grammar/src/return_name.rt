@@ -4,7 +4,7 @@ ghost use Rattle.std.specs.Prelude.{◌≡◌, ◌↔◌, IsTrue};
 use acap_entries::{Attribute, Copying, Memory, Value};
 
 /// Of which attributes an item of RETURN tells (RFC 2244 section 6.4.1).
-#[derive(Debug, PartialEq, Eq, Drop)]
+#[derive(PartialEq, Eq, Drop)]
 pub enum ReturnName {
     /// The attribute of this name.
     Named(Attribute),

@@ -7,7 +7,7 @@ use crate::verb::Verb;
 use acap_entries::{Copying, Memory, Octets, Value, Values};
 
 /// What is said to a client (RFC 2244 section 6.2).
-#[derive(Debug, PartialEq, Eq, Drop)]
+#[derive(PartialEq, Eq, Drop)]
 pub enum Said {
     /// The greeting that begins a session.
     Greeting,

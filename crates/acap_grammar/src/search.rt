@@ -7,7 +7,7 @@ use crate::target::Target;
 use acap_entries::{Copying, Memory};
 
 /// A SEARCH: what is looked through, what is wanted, and what is told of it (RFC 2244 section 6.4.1).
-#[derive(Debug, Drop)]
+#[derive(Drop)]
 pub struct Search {
     /// What is looked through.
     pub target: Target,

@@ -7,7 +7,7 @@ use crate::make_context::MakeContext;
 use acap_entries::{Copying, Memory};
 
 /// How a SEARCH is made, and what is told of it (RFC 2244 section 6.4.1).
-#[derive(Debug, PartialEq, Eq, Drop)]
+#[derive(PartialEq, Eq, Drop)]
 pub struct SearchModifiers {
     /// DEPTH: how many levels of datasets are looked through, 0 standing for all; one where it isn't sent.
     pub depth: Option<u32>,

@@ -6,7 +6,7 @@ use acap_entries::{Copying, Memory, Moment};
 
 /// What a SEARCH tells: its rows, the store's last moment where a RETURN asked for rows, and how many entries matched
 /// where not all of them are printed (RFC 2244 section 6.4.1).
-#[derive(Debug, PartialEq, Eq, Drop)]
+#[derive(PartialEq, Eq, Drop)]
 pub struct SearchReply {
     /// The rows, each printed as an ENTRY.
     pub rows: Rows,

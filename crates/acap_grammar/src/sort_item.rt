@@ -5,7 +5,7 @@ use acap_entries::{Attribute, Copying, Memory};
 use acap_order::Comparator;
 
 /// An item of SORT (RFC 2244 section 6.4.1).
-#[derive(Debug, PartialEq, Eq, Drop)]
+#[derive(PartialEq, Eq, Drop)]
 pub struct SortItem {
     /// The attribute whose values order the entries.
     pub attribute: Attribute,

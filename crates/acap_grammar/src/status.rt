@@ -1,7 +1,7 @@
 //! How a refusal begins.
 
 /// How a refusal is told (RFC 2244 section 6.2).
-#[derive(Clone, Copy, Debug, PartialEq, Eq)]
+#[derive(Clone, Copy, PartialEq, Eq)]
 pub enum Status {
     /// NO: the command failed.
     No,

@@ -6,7 +6,7 @@ use crate::store_modifiers::StoreModifiers;
 use acap_entries::{Copying, Memory, Path};
 
 /// One entry of a STORE (RFC 2244 section 6.6.1).
-#[derive(Debug, PartialEq, Eq, Drop)]
+#[derive(PartialEq, Eq, Drop)]
 pub struct StoreEntry {
     /// Where it is, as sent: a component `~` stands.
     pub path: Path,

@@ -6,7 +6,7 @@ use crate::store_metadata::StoreMetadata;
 use acap_entries::{Attribute, Copying, Memory};
 
 /// What a STORE gives to one attribute of an entry (RFC 2244 section 6.6.1).
-#[derive(Debug, PartialEq, Eq, Drop)]
+#[derive(PartialEq, Eq, Drop)]
 pub struct StoreItem {
     /// The attribute.
     pub attribute: Attribute,

@@ -4,7 +4,7 @@ ghost use Rattle.std.specs.Prelude.{◌≡◌, ◌↔◌, IsTrue};
 use acap_entries::{Copying, Memory};
 
 /// What of an attribute is stored (RFC 2244 sections 3.1.2 and 6.6.1).
-#[derive(Clone, Copy, Debug, PartialEq, Eq)]
+#[derive(Clone, Copy, PartialEq, Eq)]
 pub enum StoreMetadata {
     /// `value`: its value.
     Value,

@@ -4,7 +4,7 @@ ghost use Rattle.std.specs.Prelude.{◌≡◌, ◌↔◌, IsTrue};
 use acap_entries::{Copying, Memory, Moment};
 
 /// On what the STORE of an entry depends (RFC 2244 section 6.6.1).
-#[derive(Debug, PartialEq, Eq, Drop)]
+#[derive(PartialEq, Eq, Drop)]
 pub struct StoreModifiers {
     /// NOCREATE: the entry's dataset must exist.
     pub no_create: bool,

@@ -4,7 +4,7 @@ ghost use Rattle.std.specs.Prelude.{◌≡◌, ◌↔◌, IsTrue};
 use acap_entries::{ContextName, Copying, Dataset, Memory};
 
 /// What a SEARCH looks through (RFC 2244 section 6.4.1).
-#[derive(Debug, PartialEq, Eq, Drop)]
+#[derive(PartialEq, Eq, Drop)]
 pub enum Target {
     /// The entries of a dataset, as sent but with its closing `/`: a component `~` stands.
     Dataset(Dataset),

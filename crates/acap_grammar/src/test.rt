@@ -6,7 +6,7 @@ use acap_entries::{Attribute, Copying, Memory, Moment, Value};
 use acap_order::Comparator;
 
 /// What a key asks of an entry (RFC 2244 section 6.4.1).
-#[derive(Debug, PartialEq, Eq, Drop)]
+#[derive(PartialEq, Eq, Drop)]
 pub enum Test {
     /// ALL: nothing.
     All,

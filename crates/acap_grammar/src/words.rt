@@ -38,7 +38,7 @@ pub(crate) fn word_at<W: Spelled>(tokens: &Tokens, at: usize) -> Option<(W, usiz
 }
 
 /// The modifiers of a STORE's entry.
-#[derive(Clone, Copy, Debug, PartialEq, Eq)]
+#[derive(Clone, Copy, PartialEq, Eq)]
 pub(crate) enum StoreWord {
     /// NOCREATE.
     NoCreate,
@@ -47,7 +47,7 @@ pub(crate) enum StoreWord {
 }
 
 /// The modifiers of a SEARCH.
-#[derive(Clone, Copy, Debug, PartialEq, Eq)]
+#[derive(Clone, Copy, PartialEq, Eq)]
 pub(crate) enum SearchWord {
     /// DEPTH.
     Depth,
@@ -66,7 +66,7 @@ pub(crate) enum SearchWord {
 }
 
 /// The words with which keys begin.
-#[derive(Clone, Copy, Debug, PartialEq, Eq)]
+#[derive(Clone, Copy, PartialEq, Eq)]
 pub(crate) enum KeyWord {
     /// ALL.
     All,

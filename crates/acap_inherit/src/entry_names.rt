@@ -12,7 +12,7 @@ use std::marker::Model;
 
 /// Names of entries, each once, in the order of their octets: an iterator, seen as the list of those that are still to
 /// come. Takes no memory.
-#[derive(Debug, Drop)]
+#[derive(Drop)]
 pub struct EntryNames<'a> {
     ranges: ArrayVec<Range<'a>, 8>,
 }

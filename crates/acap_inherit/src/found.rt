@@ -2,7 +2,7 @@
 use crate::lent::Lent;
 
 /// What an attribute of an entry resolves to (RFC 2244 section 5.1).
-#[derive(Clone, Copy, Debug)]
+#[derive(Clone, Copy)]
 pub enum Found<'a> {
     /// NIL, which lies nowhere.
     Nil,

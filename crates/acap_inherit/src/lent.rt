@@ -2,7 +2,7 @@
 use acap_entries::Values;
 
 /// A value that is not NIL, as it is lent: nothing is copied.
-#[derive(Clone, Copy, Debug)]
+#[derive(Clone, Copy)]
 pub enum Lent<'a> {
     /// One string, of the store or the entry's name.
     Single(&'a [u8]),

@@ -10,8 +10,6 @@ mod lineage;
 mod merging;
 mod range;
 mod resolving;
-#[cfg(test)]
-mod tests;
 
 pub use chains::chain;
 pub use entry_names::{EntryNames, names_on};

@@ -5,7 +5,7 @@ use arrayvec::ArrayVec;
 use std::marker::Model;
 
 /// The chain of a dataset, from itself on: one to eight names, which lie where they are stored (RFC 2244 section 5.2).
-#[derive(Debug, Drop)]
+#[derive(Drop)]
 pub struct Lineage<'a> {
     pub(crate) names: ArrayVec<&'a [u8], 8>,
 }

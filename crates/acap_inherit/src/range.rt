@@ -7,7 +7,7 @@ use acap_entries::Listing;
 use std::marker::Model;
 
 /// Names of records, seen as the list of those that are still to come.
-#[derive(Debug, Default, Drop)]
+#[derive(Default, Drop)]
 pub(crate) struct Range<'a> {
     left: Option<(&'a [u8], Listing<'a>)>,
 }

@@ -1,7 +1,7 @@
 //! What a literal mark says.
 
 /// The octets that a literal mark announces (RFC 2244, section 2.6.3).
-#[derive(Clone, Copy, Debug, PartialEq, Eq)]
+#[derive(Clone, Copy, PartialEq, Eq)]
 pub(crate) struct Announced {
     /// How many octets follow the CR LF.
     pub(crate) count: u32,

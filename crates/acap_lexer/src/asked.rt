@@ -1,7 +1,7 @@
 //! How far a command was answered.
 
 /// What came of asking for a command.
-#[derive(Clone, Copy, Debug, PartialEq, Eq)]
+#[derive(Clone, Copy, PartialEq, Eq)]
 pub(crate) enum Asked {
     /// It isn't whole.
     NotYet,

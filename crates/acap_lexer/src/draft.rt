@@ -30,7 +30,7 @@ const TOKENS_KEPT: usize = 2048;
 
 /// The tokens of a command so far, and the text in which their values lie: copies of its parts and literals, and what
 /// strings with escapes stand for.
-#[derive(Debug, Drop)]
+#[derive(Drop)]
 pub(crate) struct Draft {
     text: Vec<u8>,
     places: Vec<Place>,

@@ -6,7 +6,7 @@ ghost use Rattle.acap_lexer.specs.declared.fault.LexError.TheVariants as errors;
 use std::alloc::{AllocError, AllocFailed};
 
 /// What is wrong with a line or a command: the first fault from the left (RFC 2244, sections 2.2 and 2.6).
-#[derive(Clone, Copy, Debug, PartialEq, Eq)]
+#[derive(Clone, Copy, PartialEq, Eq)]
 pub enum LexFault {
     /// No tag of 1 to 32 octets, followed by a space or the CR LF, begins the command.
     BadTag,
@@ -21,11 +21,11 @@ pub enum LexFault {
 }
 
 /// A growth was refused memory.
-#[derive(Clone, Copy, Debug, PartialEq, Eq)]
+#[derive(Clone, Copy, PartialEq, Eq)]
 pub struct Memory;
 
 /// Why a part wasn't read.
-#[derive(Clone, Copy, Debug, PartialEq, Eq)]
+#[derive(Clone, Copy, PartialEq, Eq)]
 pub(crate) enum LexError {
     Memory,
     Fault(LexFault),

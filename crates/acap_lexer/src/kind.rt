@@ -1,7 +1,7 @@
 //! The kinds of token.
 
 /// What a token is (RFC 2244, section 2.2).
-#[derive(Clone, Copy, Debug, PartialEq, Eq)]
+#[derive(Clone, Copy, PartialEq, Eq)]
 pub enum Kind {
     /// The tag, which is the first token of a command. An answer has none.
     Tag,

@@ -5,7 +5,7 @@ use crate::tokens::Tokens;
 use std::marker::Model;
 
 /// The tag of a command, 1 to 32 octets, as it is written in front of the answers (RFC 2244, section 2.2).
-#[derive(Debug, Drop)]
+#[derive(Drop)]
 pub struct Tag {
     octets: Vec<u8>,
 }
@@ -36,7 +36,7 @@ impl Tag {
 }
 
 /// What comes next in a stream of octets.
-#[derive(Debug, Drop)]
+#[derive(Drop)]
 pub enum Lexed {
     /// No further answer stands in the octets so far.
     More,

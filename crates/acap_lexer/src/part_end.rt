@@ -1,7 +1,7 @@
 //! Where a part ends.
 
 /// The end of the part that begins a text.
-#[derive(Clone, Copy, Debug, PartialEq, Eq)]
+#[derive(Clone, Copy, PartialEq, Eq)]
 pub(crate) enum PartEnd {
     /// Its CR LF begins there.
     At(usize),

@@ -6,7 +6,7 @@ use crate::fault::Memory;
 use crate::kind::Kind;
 
 /// Where a token lies: its value in the text of values, and its own octets in the command.
-#[derive(Clone, Copy, Debug)]
+#[derive(Clone, Copy)]
 pub(crate) struct Place {
     pub(crate) kind: Kind,
     pub(crate) value_start: u32,

@@ -4,7 +4,7 @@ use crate::draft::Draft;
 use crate::mode::Mode;
 
 /// A literal whose octets come next: where its mark begins in the command, and how many octets it has.
-#[derive(Clone, Copy, Debug)]
+#[derive(Clone, Copy)]
 pub(crate) struct Literal {
     pub(crate) start: usize,
     pub(crate) count: usize,

@@ -12,7 +12,7 @@ use std::ops::Range;
 
 /// The tokens of a command, of which the tag is the first, or of an answer line, which has no tag (RFC 2244,
 /// section 2.2).
-#[derive(Debug, Drop)]
+#[derive(Drop)]
 pub struct Tokens {
     text: Vec<u8>,
     places: Vec<Place>,

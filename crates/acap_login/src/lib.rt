@@ -6,8 +6,6 @@ mod challenges;
 mod checking;
 mod hmac;
 pub mod laws;
-#[cfg(test)]
-mod tests;
 mod users;
 
 pub use challenges::challenge;

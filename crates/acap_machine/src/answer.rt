@@ -3,7 +3,7 @@ use acap_entries::Change;
 use acap_grammar::{Said, Verb};
 
 /// What a command comes to (RFC 2244 section 6).
-#[derive(Debug, Drop)]
+#[derive(Drop)]
 pub enum Answer {
     /// Words, which leave the machine as it is.
     Says(Said),

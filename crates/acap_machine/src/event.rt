@@ -5,7 +5,7 @@ use acap_entries::{Copying, Memory, UserName};
 use acap_grammar::Command;
 
 /// What a session brings to the machine (RFC 2244 sections 2 and 6).
-#[derive(Debug, Drop)]
+#[derive(Drop)]
 pub enum Event {
     /// A user takes the seat.
     Enter(UserName),

@@ -2,7 +2,7 @@
 use acap_entries::Memory;
 
 /// Why an event isn't performed; the machine is as before.
-#[derive(Clone, Copy, Debug, PartialEq, Eq)]
+#[derive(Clone, Copy, PartialEq, Eq)]
 pub enum Fault {
     /// Memory was refused.
     Memory,

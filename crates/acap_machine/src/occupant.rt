@@ -2,7 +2,7 @@
 use acap_entries::{Copying, Memory, UserName};
 
 /// Who has a seat (RFC 2244 section 2).
-#[derive(Debug, Drop)]
+#[derive(Drop)]
 pub struct Occupant {
     /// The user.
     pub user: UserName,

@@ -16,7 +16,7 @@ use std::marker::Model;
 
 /// The machine in memory: seen as who is who, its store and who sits where, and beside these the number of records that
 /// there is room for, which no equality speaks of (RFC 2244 section 2).
-#[derive(Debug, Drop)]
+#[derive(Drop)]
 pub struct State {
     realm: Realm,
     tree: Tree,

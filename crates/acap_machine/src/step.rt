@@ -5,7 +5,7 @@ use crate::event::Event;
 use acap_entries::{Copying, Memory, Moment, Seat};
 
 /// One event at a seat, and the moment that the clock shows.
-#[derive(Debug, Drop)]
+#[derive(Drop)]
 pub struct Step {
     /// The seat.
     pub seat: Seat,

@@ -11,7 +11,7 @@ use std::marker::Model;
 
 /// What a client holds of a context: the rows that it was given by the SEARCH that made it, as the notices since then have changed
 /// them. Of an enumerated context that is a list, of another the rows by the names of their entries (RFC 2244 section 3.3).
-#[derive(Debug, Drop)]
+#[derive(Drop)]
 pub struct Held {
     rows: Vec<Row>,
     enumerated: bool,

@@ -6,7 +6,7 @@ use acap_entries::Memory;
 use std::alloc::{AllocError, AllocFailed};
 
 /// Why a notice wasn't applied.
-#[derive(Clone, Copy, Debug, PartialEq, Eq)]
+#[derive(Clone, Copy, PartialEq, Eq)]
 pub enum HeldFault {
     /// It doesn't fit what is held.
     Misfit,

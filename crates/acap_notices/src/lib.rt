@@ -10,8 +10,6 @@ mod notice;
 mod places;
 mod queue;
 mod queue_fault;
-#[cfg(test)]
-mod tests;
 mod told;
 
 pub use held::Held;

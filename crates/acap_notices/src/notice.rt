@@ -5,7 +5,7 @@ use acap_entries::{Copying, Memory, Row, Value};
 
 /// A change of one entry in the list of a live search. The entry is told by its name as it is printed, which is its row's. Positions
 /// are counted from 1, and are 0 where the context isn't enumerated (RFC 2244 section 6.5).
-#[derive(Debug, PartialEq, Eq, Drop)]
+#[derive(PartialEq, Eq, Drop)]
 pub enum Notice {
     /// An entry has come in.
     AddTo {

@@ -14,7 +14,7 @@ pub type Notices = Sequence<Notice>;
 pub const MOST: usize = 4_096;
 
 /// The notices of one context that wait to be told, the oldest first (RFC 2244 section 3.3).
-#[derive(Debug, PartialEq, Eq, Drop)]
+#[derive(PartialEq, Eq, Drop)]
 pub struct Queue {
     notices: Notices,
 }

@@ -5,7 +5,7 @@ use crate::notice::Notice;
 use acap_entries::{ContextName, Copying, Memory, Moment};
 
 /// What a client is told of one of its contexts (RFC 2244 section 6.5).
-#[derive(Debug, PartialEq, Eq, Drop)]
+#[derive(PartialEq, Eq, Drop)]
 pub enum Told {
     /// A change of an entry.
     Note(ContextName, Notice),

@@ -2,7 +2,7 @@ use crate::{casemap, numbers, octets};
 use std::cmp::Ordering;
 
 /// What a comparator compares two strings by (RFC 2244, section 3.4).
-#[derive(Clone, Copy, Debug, PartialEq, Eq)]
+#[derive(Clone, Copy, PartialEq, Eq)]
 pub enum Collation {
     /// `i;octet`: the octets of a string.
     Octet,
@@ -13,7 +13,7 @@ pub enum Collation {
 }
 
 /// Whether a comparator orders strings as its collation does, or the other way round.
-#[derive(Clone, Copy, Debug, PartialEq, Eq)]
+#[derive(Clone, Copy, PartialEq, Eq)]
 pub enum Direction {
     /// The order of the collation, named with `+` or no sign.
     Ascending,
@@ -22,7 +22,7 @@ pub enum Direction {
 }
 
 /// A way to order and to match strings of octets (RFC 2244, section 3.4).
-#[derive(Clone, Copy, Debug, PartialEq, Eq)]
+#[derive(Clone, Copy, PartialEq, Eq)]
 pub struct Comparator {
     /// What strings are compared by.
     pub collation: Collation,

@@ -2,7 +2,7 @@
 use acap_entries::Memory;
 
 /// Why a list was not read.
-#[derive(Clone, Copy, Debug, PartialEq, Eq)]
+#[derive(Clone, Copy, PartialEq, Eq)]
 pub enum AclFault {
     /// The strings are no access control list.
     BadAcl,

@@ -16,8 +16,6 @@ mod pairs;
 mod realm;
 mod rights;
 mod sharing;
-#[cfg(test)]
-mod tests;
 
 pub use acl::Acl;
 pub use acl_fault::AclFault;

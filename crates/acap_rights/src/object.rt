@@ -4,7 +4,7 @@ ghost use Rattle.acap_rights.specs.Deciding.{target_of, dataset_in};
 
 /// What rights are about, lent as octets: a dataset, an attribute in it, or that attribute of one of its entries, be it there
 /// or not (RFC 2244 section 3.5).
-#[derive(Clone, Copy, Debug, Drop)]
+#[derive(Clone, Copy, Drop)]
 pub enum Object<'a> {
     /// A dataset.
     Dataset {

@@ -5,7 +5,7 @@ ghost use Rattle.acap_rights.specs.Realms as rule;
 use acap_entries::{Copying, Memory, Sequence, UserName};
 
 /// Who is who among the users: the administrators, who have all rights (RFC 2244 section 3.5).
-#[derive(Debug, PartialEq, Eq, Drop)]
+#[derive(PartialEq, Eq, Drop)]
 pub struct Realm {
     /// The administrators.
     pub administrators: Sequence<UserName>,

@@ -6,7 +6,7 @@ use acap_entries::{Memory, Value, Values};
 use std::alloc::Global;
 
 /// Some of the five rights (RFC 2244 section 3.5).
-#[derive(Clone, Copy, Debug, PartialEq, Eq)]
+#[derive(Clone, Copy, PartialEq, Eq)]
 pub struct Rights {
     /// To search: to use the key EQUAL with the comparator `i;octet`.
     pub x: bool,

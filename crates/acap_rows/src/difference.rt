@@ -6,7 +6,7 @@ use std::alloc::{AllocError, Global};
 const SHOWN: usize = 60;
 
 /// Two lines, as a row file has them.
-#[derive(Debug, Drop)]
+#[derive(Drop)]
 pub(crate) struct Lines {
     pub(crate) wanted: String,
     pub(crate) got: String,

@@ -7,8 +7,6 @@ mod escapes;
 mod pieces;
 mod row_file;
 mod running;
-#[cfg(test)]
-mod tests;
 
 use crate::row_file::{Row, read_rows};
 use crate::running::first_wrong;

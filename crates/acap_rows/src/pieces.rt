@@ -4,7 +4,7 @@ use std::fmt::{self, Display, Formatter};
 use std::io::{self, Read};
 
 /// The sizes of the pieces that octets are cut into: the first is of at most so many, the others are of at most a size.
-#[derive(Clone, Copy, Debug)]
+#[derive(Clone, Copy)]
 pub(crate) struct PieceSizes {
     pub(crate) first: usize,
     pub(crate) size: usize,

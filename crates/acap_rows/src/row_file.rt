@@ -4,7 +4,7 @@ use crate::escapes::add_line;
 use std::alloc::Global;
 
 /// What becomes of what a row sends.
-#[derive(Clone, Copy, Debug)]
+#[derive(Clone, Copy)]
 pub(crate) enum Kind<'a> {
     /// It is what a session of that user reads.
     Session(&'a str),
@@ -23,7 +23,7 @@ impl<'a> Kind<'a> {
 }
 
 /// A row: what is sent, and what is answered.
-#[derive(Debug, Drop)]
+#[derive(Drop)]
 pub(crate) struct Row<'a> {
     pub(crate) name: &'a str,
     pub(crate) kind: Kind<'a>,

@@ -18,7 +18,7 @@ const FAULT: &[u8] = b"(ended by a fault)";
 const MOST_CUT: usize = 256;
 
 /// How a row is wrong.
-#[derive(Debug, Drop)]
+#[derive(Drop)]
 pub(crate) struct Wrong {
     /// How its octets were cut.
     pub(crate) sizes: PieceSizes,

@@ -5,7 +5,7 @@ ghost use Rattle.acap_search.specs.Cutting as rule;
 use acap_grammar::Limit;
 
 /// How many of the matches of a SEARCH are told (RFC 2244 section 6.4.1).
-#[derive(Clone, Copy, Debug, PartialEq, Eq)]
+#[derive(Clone, Copy, PartialEq, Eq)]
 pub struct Cut {
     /// So many, from the first on.
     pub told: usize,

@@ -9,7 +9,7 @@ use std::marker::Model;
 
 /// An entry that a search found: where it is, where it stands for SORT, and what is told of it (RFC 2244 section 6.4.1). It is
 /// made by a search alone, or copied.
-#[derive(Debug, Drop)]
+#[derive(Drop)]
 pub struct Hit {
     pub(crate) path: Path,
     pub(crate) places: Places,

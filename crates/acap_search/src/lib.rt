@@ -18,8 +18,6 @@ mod rows;
 mod searching;
 mod spot;
 mod telling;
-#[cfg(test)]
-mod tests;
 mod tuples;
 mod viewer;
 

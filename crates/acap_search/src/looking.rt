@@ -14,7 +14,7 @@ use acap_inherit::{Found, Lent, resolve};
 use acap_rights::{Object, Rights, rights_of};
 
 /// What a user sees of an attribute of an entry, as it is lent: nothing is copied (RFC 2244 section 3.5).
-#[derive(Clone, Copy, Debug)]
+#[derive(Clone, Copy)]
 pub struct Shown<'a> {
     /// Its value where the user may read it, else none.
     pub read: Option<Lent<'a>>,

@@ -8,7 +8,7 @@ use std::marker::Model;
 
 /// A store that has at hand what is kept of one entry of a dataset, and of the management entry: neither is sought again for
 /// each attribute that is asked for.
-#[derive(Debug, Drop)]
+#[derive(Drop)]
 pub(crate) struct Near<'a> {
     tree: &'a Tree,
     dataset: &'a [u8],

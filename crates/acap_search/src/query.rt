@@ -7,7 +7,7 @@ use acap_grammar::{Key, Limit, MakeContext, Returns, SearchModifiers, SortItems}
 
 /// What a search over a dataset looks for, and what is told of each match (RFC 2244 section 6.4.1): all that a context keeps of
 /// the SEARCH that made it.
-#[derive(Debug, Drop)]
+#[derive(Drop)]
 pub struct Query {
     /// The dataset, in which no component stands for the user.
     pub dataset: Dataset,
@@ -26,7 +26,7 @@ pub struct Query {
 }
 
 /// What a SEARCH over a dataset asks for (RFC 2244 section 6.4.1).
-#[derive(Debug, Drop)]
+#[derive(Drop)]
 pub struct Asked {
     /// What is searched for.
     pub query: Query,

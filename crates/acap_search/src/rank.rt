@@ -4,7 +4,7 @@ ghost use Rattle.std.specs.Prelude.{◌≡◌, ◌↔◌, IsTrue};
 use acap_entries::{Copying, Memory, Sequence, Value};
 
 /// What a string is compared by, made once for an entry and not for each comparison (RFC 2244 section 3.4).
-#[derive(Debug, PartialEq, Eq, Drop)]
+#[derive(PartialEq, Eq, Drop)]
 pub enum Rank {
     /// Its octets, or those in upper case.
     Octets(Value),
@@ -15,7 +15,7 @@ pub enum Rank {
 }
 
 /// Where an entry stands for one item of SORT (RFC 2244 section 6.4.1).
-#[derive(Debug, PartialEq, Eq, Drop)]
+#[derive(PartialEq, Eq, Drop)]
 pub enum Place {
     /// As its string does.
     Rising(Rank),

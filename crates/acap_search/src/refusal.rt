@@ -5,7 +5,7 @@ ghost use Rattle.acap_search.specs.declared.refusal.SearchRefusal.TheVariants as
 use acap_entries::Memory;
 
 /// Why a search over a dataset is refused, the first that holds being told (RFC 2244 section 6.4.1).
-#[derive(Clone, Copy, Debug, PartialEq, Eq)]
+#[derive(Clone, Copy, PartialEq, Eq)]
 pub enum SearchRefusal {
     /// The key asks for positions, which only the entries of a context have.
     RangeHere,

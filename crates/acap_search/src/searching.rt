@@ -30,7 +30,7 @@ use acap_rights::{Realm, Rights};
 use std::alloc::Global;
 
 // Whose search it is, over which store, and what it looks for.
-#[derive(Debug, Drop)]
+#[derive(Drop)]
 struct Search<'a> {
     tree: &'a Tree,
     realm: &'a Realm,

@@ -8,7 +8,7 @@ use acap_rights::Rights;
 
 /// An entry that is looked at by its name. Where its dataset inherits nothing and has no list for an attribute alone, its record
 /// and the user's rights in the dataset are at hand: the store is then asked for neither.
-#[derive(Debug, Drop)]
+#[derive(Drop)]
 pub(crate) struct Spot<'a, R: Records> {
     /// Who looks, and from where.
     pub(crate) by: &'a Viewer<'a, R>,

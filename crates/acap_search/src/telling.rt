@@ -25,7 +25,7 @@ use acap_rights::{Realm, Rights};
 use std::alloc::Global;
 
 /// What a SEARCH over a dataset tells of its matches (RFC 2244 section 6.4.1).
-#[derive(Debug, Drop)]
+#[derive(Drop)]
 pub struct Told {
     /// The rows of the first of them, as many as LIMIT lets through.
     pub rows: Rows,

@@ -5,7 +5,7 @@ use acap_rights::Realm;
 
 /// Who looks at the entries of a dataset, and along which chain (RFC 2244 sections 3.5 and 5.2). It is made once for a dataset,
 /// and not for each entry.
-#[derive(Debug, Drop)]
+#[derive(Drop)]
 pub struct Viewer<'a, R> {
     /// The store.
     pub records: &'a R,

@@ -3,7 +3,7 @@
 use acap_machine::Event;
 
 /// What comes of what a session hears, where the octets that it says go to a vector that is lent.
-#[derive(Debug, Drop)]
+#[derive(Drop)]
 pub(crate) enum Heard {
     /// Nothing is next.
     More,

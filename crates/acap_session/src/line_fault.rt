@@ -4,7 +4,7 @@ use crate::world_fault::WorldFault;
 use acap_entries::Memory;
 
 /// Why a line of a script can't be done.
-#[derive(Clone, Copy, Debug, PartialEq, Eq)]
+#[derive(Clone, Copy, PartialEq, Eq)]
 pub(crate) enum LineFault {
     /// It is none, or can't stand where it does.
     Wrong,

@@ -4,7 +4,7 @@ use acap_entries::Octets;
 use acap_machine::Event;
 
 /// What a session does next.
-#[derive(Debug, Drop)]
+#[derive(Drop)]
 pub enum Next {
     /// Nothing: more octets, or the answer to an event, are awaited, or the session is closed.
     More,

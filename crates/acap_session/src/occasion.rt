@@ -4,7 +4,7 @@ use acap_entries::{Moment, Seat};
 
 /// Where and when a session makes a step: its seat, what the clock shows, and the nonce that a challenge is told
 /// (RFC 2195 section 2).
-#[derive(Clone, Copy, Debug)]
+#[derive(Clone, Copy)]
 pub(crate) struct Occasion {
     /// The seat.
     pub(crate) seat: Seat,

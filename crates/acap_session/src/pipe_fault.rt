@@ -3,7 +3,7 @@
 use acap_entries::Memory;
 
 /// Why a session between a reader and a writer could not go on.
-#[derive(Clone, Copy, Debug, PartialEq, Eq)]
+#[derive(Clone, Copy, PartialEq, Eq)]
 pub enum PipeFault {
     /// The reader failed, or was read 1,000,000,000 times.
     Read,

@@ -3,7 +3,7 @@
 use acap_entries::Memory;
 
 /// Why a script could not go on.
-#[derive(Clone, Copy, Debug, PartialEq, Eq)]
+#[derive(Clone, Copy, PartialEq, Eq)]
 pub enum ScriptFault {
     /// This line, counted from 1, is none, or can't stand where it does.
     Line(u64),

@@ -4,7 +4,7 @@ use crate::seat_line::SeatLine;
 use acap_entries::{Moment, Octets, Seat, UserName};
 
 /// A line of a script.
-#[derive(Debug, Drop)]
+#[derive(Drop)]
 pub(crate) enum ScriptLine {
     /// Nothing, or a remark.
     Pass,

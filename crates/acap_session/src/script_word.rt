@@ -1,7 +1,7 @@
 //! The words with which the lines of a script begin.
 
 /// The words with which the lines of a script begin.
-#[derive(Clone, Copy, Debug, PartialEq, Eq)]
+#[derive(Clone, Copy, PartialEq, Eq)]
 pub(crate) enum ScriptWord {
     /// `user`.
     User,

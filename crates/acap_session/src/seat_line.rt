@@ -3,7 +3,7 @@
 use acap_entries::{Octets, UserName};
 
 /// What a line of a script does at a seat.
-#[derive(Debug, Drop)]
+#[derive(Drop)]
 pub(crate) enum SeatLine {
     /// A session opens, of nobody yet.
     Open,

@@ -3,7 +3,7 @@
 use acap_entries::{Octets, UserName};
 
 /// What a session is about to do.
-#[derive(Debug, Drop)]
+#[derive(Drop)]
 pub enum Stage {
     /// It has said nothing yet.
     Opening,

@@ -3,7 +3,7 @@
 use acap_entries::Memory;
 
 /// Why a step of the world can't be made.
-#[derive(Clone, Copy, Debug, PartialEq, Eq)]
+#[derive(Clone, Copy, PartialEq, Eq)]
 pub enum WorldFault {
     /// No session is open at the seat.
     NoSeat,

@@ -18,8 +18,6 @@ mod permission;
 mod planning;
 mod records;
 mod refusing;
-#[cfg(test)]
-mod tests;
 mod write;
 mod writing;
 

@@ -3,7 +3,7 @@
 use acap_grammar::Entries;
 
 /// What a command stores, `~` being replaced.
-#[derive(Debug, Drop)]
+#[derive(Drop)]
 pub(crate) struct Meant {
     /// The entries.
     pub(crate) entries: Entries,

@@ -4,7 +4,7 @@ use acap_entries::{Boxed, Value};
 use acap_grammar::{Entries, Object};
 
 /// A command that writes, as sent: `~` stands (RFC 2244 sections 6.6.1 and 6.7).
-#[derive(Debug, Drop)]
+#[derive(Drop)]
 pub enum Write {
     /// STORE: the entries are stored, all or none.
     Store(Entries),

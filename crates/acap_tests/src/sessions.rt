@@ -69,10 +69,7 @@ fn closes_where_its_entry_is_refused(rt: HostRuntime) {
         Fault::HistoryFull,
     ];
     for fault in faults {
-        assert!(rt;
-            closes_unentered(rt.alloc(), fault) == Ok(true),
-            "{fault:?}"
-        );
+        assert!(rt; closes_unentered(rt.alloc(), fault) == Ok(true));
     }
 }
 
@@ -107,10 +104,7 @@ fn tells_faults_of_the_machine(rt: HostRuntime) {
         (Fault::AlreadyEntered, false, b""),
     ];
     for (fault, goes_on, text) in rows {
-        assert!(rt;
-            tells(rt.alloc(), fault, goes_on, text) == Ok(true),
-            "{fault:?}"
-        );
+        assert!(rt; tells(rt.alloc(), fault, goes_on, text) == Ok(true), "{text:?}");
     }
 }
 

@@ -128,7 +128,7 @@ fn keeps_seats_apart(rt: HostRuntime) {
         (2, b"A3 NOOP\r\n", NO_SEAT),
         (2, b"enter joe", GREETING),
     ];
-    assert_eq!(rt; performed(rt.alloc(), &lines), Ok(Moment::first()));
+    assert!(rt; performed(rt.alloc(), &lines) == Ok(Moment::first()));
 }
 
 // A world has the machine that its sessions' commands change.
@@ -142,5 +142,5 @@ fn has_a_machine(rt: HostRuntime) {
             b"A1 OK \"STORE done\"\r\n",
         ),
     ];
-    assert_eq!(rt; performed(rt.alloc(), &lines), Ok(moment(CLOCK)));
+    assert!(rt; performed(rt.alloc(), &lines) == Ok(moment(CLOCK)));
 }

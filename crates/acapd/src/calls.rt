@@ -9,7 +9,7 @@ use std::alloc::Global;
 use std::env::Args;
 
 /// What a call of the program asks for.
-#[derive(Debug, Drop)]
+#[derive(Drop)]
 pub(crate) enum Call {
     /// Nothing that it knows.
     Nothing,

@@ -3,7 +3,7 @@
 use acap_session::{PipeFault, ScriptFault};
 
 /// Why the program could not go on.
-#[derive(Clone, Copy, Debug, PartialEq, Eq)]
+#[derive(Clone, Copy, PartialEq, Eq)]
 pub(crate) enum Fault {
     /// Standard input failed.
     Read,
