@@ -16,6 +16,9 @@ use std::{env, fs, io};
 /// The status where a row doesn't hold, or there is none.
 const WRONG: u8 = 1;
 
+/// The word behind which the arguments name files of wrong rows: what is told of these is looked at, and none counts.
+const TOLD: &str = "--told";
+
 /// How many rows there were, and how many of them held.
 #[derive(Clone, Copy)]
 struct Tally {
@@ -74,10 +77,16 @@ fn run_file(rt: &HostRuntime, file: &str, tally: &mut Tally) -> io::Result<()> {
 
 fn main(rt: HostRuntime) -> io::Result<ExitCode> {
     let mut tally = Tally { rows: 0, held: 0 };
+    let mut counts = true;
     let mut words = env::args(&rt)?;
     let _program = words.next();
-    for file in words {
-        run_file(&rt, file.as_str(), &mut tally)?;
+    for word in words {
+        let mut told = Tally { rows: 0, held: 0 };
+        match word.as_str() {
+            TOLD => counts = false,
+            file if counts => run_file(&rt, file, &mut tally)?,
+            file => run_file(&rt, file, &mut told)?,
+        }
     }
     let Tally { rows, held } = tally;
     println!(rt; "{held} of {rows} rows hold")?;

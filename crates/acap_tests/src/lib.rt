@@ -1,19 +1,9 @@
-//! Tests of the crates below through their public calls, a module each.
+//! Tests of the machine and of sessions through their public calls, for what no row reaches.
 #![tactic(auto)]
 
 #[cfg(test)]
-mod entries;
-#[cfg(test)]
-mod lexer;
-#[cfg(test)]
 mod machine;
 #[cfg(test)]
-mod order;
-#[cfg(test)]
 mod pipe;
-#[cfg(test)]
-mod printing;
-#[cfg(test)]
-mod sessions;
 #[cfg(test)]
 mod world;

@@ -1,7 +1,7 @@
-//! Tests of the machine: users at their seats, the clock, copies, runs, and events that are refused memory.
+//! Tests of the machine: copies, runs, and events that are refused memory. What is answered is in the rows.
 ghost use Rattle.std.specs.Prelude.{◌<◌};
 
-use acap_entries::{Copying, Memory, Moment, Seat, UserName, makes_dataset};
+use acap_entries::{Copying, Memory, Moment, Seat, UserName};
 use acap_grammar::{Command, GrammarError, Reply, parse, render};
 use acap_lexer::{Lexed, Lexer, Mode};
 use acap_machine::{Event, Fault, Outcomes, State, Step, Steps, run};
@@ -19,9 +19,6 @@ const NOBODY: &[u8] = b"not entered";
 
 const TAKEN: &[u8] = b"already entered";
 
-// The last of all moments.
-const LAST: i64 = 253_402_300_799_999_999;
-
 /// The seat with that number.
 pub(crate) fn seat(number: u8) -> Seat
     requires { number < 64 }
@@ -30,7 +27,7 @@ pub(crate) fn seat(number: u8) -> Seat
 }
 
 /// The moment so many microseconds after the start of 1970.
-pub(crate) fn moment(micros: i64) -> Moment {
+fn moment(micros: i64) -> Moment {
     Moment::new(micros).unwrap_or(Moment::first())
 }
 
@@ -124,35 +121,6 @@ fn empty(alloc: Global) -> State {
     State::new(alloc, Realm::new(Vec::new(alloc)))
 }
 
-// A seat that nobody has answers to nothing but a user who enters, and one that somebody has may not be entered.
-#[test]
-fn seats_one_user_at_a_time(rt: HostRuntime) {
-    let lines: [Line; 13] = [
-        (0, 0, b"A1 NOOP", NOBODY),
-        (0, 0, b"drain", NOBODY),
-        (0, 0, b"leave", NOBODY),
-        (0, 0, b"enter joe", HELLO),
-        (0, 0, b"enter ann", TAKEN),
-        (63, 0, b"enter ann", HELLO),
-        (0, 0, b"drain", b""),
-        (0, 0, b"A1 NOOP", b"* OK \"NOOP done\"\r\n"),
-        (
-            0,
-            0,
-            b"A1 LOGOUT",
-            b"* BYE \"Good bye\"\r\n* OK \"LOGOUT done\"\r\n",
-        ),
-        (0, 0, b"leave", b""),
-        (0, 0, b"leave", NOBODY),
-        (0, 0, b"enter ann", HELLO),
-        (63, 0, b"drain", b""),
-    ];
-    assert_eq!(rt;
-        first_wrong(rt.alloc(), &mut empty(rt.alloc()), &lines),
-        None
-    );
-}
-
 // Two users, each with a `~` of their own, at clocks that differ.
 const USERS: [Line; 4] = [
     (1, 0, b"enter joe", HELLO),
@@ -211,13 +179,6 @@ const SHARING: [Line; 6] = [
     ),
 ];
 
-#[test]
-fn serves_two_users(rt: HostRuntime) {
-    let mut state = empty(rt.alloc());
-    assert_eq!(rt; first_wrong(rt.alloc(), &mut state, &USERS), None);
-    assert_eq!(rt; first_wrong(rt.alloc(), &mut state, &SHARING), None);
-}
-
 // The first of the events that a copy answers in another way, if one is.
 fn copied_wrong(alloc: Global, state: &State, lines: &[Line]) -> Option<&'static [u8]> {
     let mut copied = state.copy().ok()?;
@@ -232,89 +193,6 @@ fn copies_the_machine(rt: HostRuntime) {
     assert_eq!(rt; copied_wrong(rt.alloc(), &state, &SHARING), None);
     assert!(rt; state.tree().last() == moment(9));
     assert_eq!(rt; copied_wrong(rt.alloc(), &state, &SHARING), None);
-}
-
-// What the store of a machine has that was told so much.
-#[test]
-fn lends_its_store(rt: HostRuntime) {
-    let mut state = empty(rt.alloc());
-    assert_eq!(rt; first_wrong(rt.alloc(), &mut state, &USERS), None);
-    let tree = state.tree();
-    let own: &[u8] = b"/option/user/joe/";
-    assert!(rt; tree.entries().len() == 6 && !tree.entries().is_empty());
-    assert!(rt; tree.entries_of(own).len() == 1 && tree.entries_of(b"/option/user/").len() == 2);
-    assert!(rt; tree.dataset_exists(own) && !tree.dataset_exists(b"/option/site/"));
-    assert!(rt; tree.deletions().is_empty() && tree.forgotten().is_none());
-    assert!(rt; tree.find(own, b"font").is_some() && tree.find(own, b"size").is_none());
-    assert!(rt;
-        tree.find(b"/option/user/", b"joe")
-            .map_or(false, |entry| makes_dataset(entry))
-    );
-}
-
-// A machine whose administrator is root.
-fn administered(alloc: Global) -> Result<State, Memory> {
-    let mut names = Vec::new(alloc);
-    names.push(UserName::from_slice(alloc, b"root")?)?;
-    Ok(State::new(alloc, Realm::new(names)))
-}
-
-// An administrator stores where others may not.
-#[test]
-fn knows_administrators(rt: HostRuntime) {
-    let lines: [Line; 4] = [
-        (0, 0, b"enter root", HELLO),
-        (1, 0, b"enter joe", HELLO),
-        (
-            0,
-            0,
-            b"A1 STORE (\"/option/site/b\" \"k\" \"x\")",
-            b"* OK \"STORE done\"\r\n",
-        ),
-        (
-            1,
-            0,
-            b"A2 STORE (\"/option/site/b\" \"k\" \"x\")",
-            b"* NO (PERMISSION (\"/option/site/\" \"k\" \"b\")) \"Permission denied\"\r\n",
-        ),
-    ];
-    if let Ok(mut state) = administered(rt.alloc()) {
-        assert_eq!(rt; first_wrong(rt.alloc(), &mut state, &lines), None);
-        assert_eq!(rt; state.realm().administrators.len(), 1);
-    }
-}
-
-// Each change is later than the one before it, also where the clock goes back; behind the last moment there is none.
-#[test]
-fn goes_forward(rt: HostRuntime) {
-    let store: &[u8] = b"A1 STORE (\"/option/~/n\" \"k\" \"x\")";
-    let search: &[u8] = b"A1 SEARCH \"/option/~/\" RETURN () ALL";
-    let stored: &[u8] = b"* OK \"STORE done\"\r\n";
-    let lines: [Line; 9] = [
-        (0, 0, b"enter joe", HELLO),
-        (0, 1_000, store, stored),
-        (0, 500, store, stored),
-        (0, -62_167_219_200_000_000, store, stored),
-        (
-            0,
-            5_000,
-            search,
-            b"* ENTRY \"n\"\r\n* MODTIME \"19700101000000001002\"\r\n* OK \"SEARCH done\"\r\n",
-        ),
-        (0, LAST, store, stored),
-        (0, LAST, store, b"* NO \"Clock at its end\"\r\n"),
-        (0, 0, store, b"* NO \"Clock at its end\"\r\n"),
-        (
-            0,
-            0,
-            search,
-            b"* ENTRY \"n\"\r\n* MODTIME \"99991231235959999999\"\r\n* OK \"SEARCH done\"\r\n",
-        ),
-    ];
-    assert_eq!(rt;
-        first_wrong(rt.alloc(), &mut empty(rt.alloc()), &lines),
-        None
-    );
 }
 
 // Commands with all that they can have, whose texts are sought where memory may be refused.

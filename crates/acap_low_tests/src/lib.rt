@@ -1,0 +1,9 @@
+//! Tests of the crates up to acap_search through their public calls, a module each.
+#![tactic(auto)]
+
+#[cfg(test)]
+mod lexer;
+#[cfg(test)]
+mod notices;
+#[cfg(test)]
+mod search;
