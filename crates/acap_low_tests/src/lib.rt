@@ -7,3 +7,5 @@ mod lexer;
 mod notices;
 #[cfg(test)]
 mod search;
+#[cfg(test)]
+mod settings;

@@ -1,0 +1,57 @@
+-- Lists of values as the arrays and tables that they stand for.
+use Rattle.std.proofs.Common.{◌&&◌, Bor, ◌≡◌, ℕ, true, List, [], ◌∷◌, String, Global, string_bytes, map, refl, ap, sym, ◌∙◌}
+use Rattle.std.proofs.lemmas.Bool.{and_parts}
+use Rattle.std.specs.List.{AllPass, list_all}
+use Rattle.std.proofs.lemmas.List.Sums.{AllPass-from_list_all}
+use Rattle.toml.specs.Data.{Data, string, table, item, member}
+use Rattle.toml.specs.View.{view, items_of, items_view, members_view}
+use Rattle.toml.specs.declared.value.Value.{Value}
+use Rattle.acap_settings.specs.Keys.{is_user, is_text, is_secret, is_group, is_user_list, is_secret_table, is_group_table, all_items, all_members}
+use Rattle.acap_entries.specs.Names.{is_user_name}
+use Rattle.acap_settings.specs.Members.{lent, seen}
+use Rattle.acap_settings.specs.Settings.{name_items, table_of}
+use Rattle.acap_settings.proofs.Views.{all_items_view}
+
+pub name_items_lem : (names : List (List ℕ)) → name_items names ≡ items_of (map string names)
+name_items_lem [] = refl
+name_items_lem (name ∷ more) = ap (λ d. item (string name) d) (name_items_lem more)
+
+pub users_pass : (names : List Value) → all_items is_user (items_view names) ≡ true → AllPass (λ name. is_user (view name)) names
+users_pass names e = AllPass-from_list_all (λ name. is_user (view name)) names (sym (all_items_view is_user names) ∙ e)
+
+-- the same values make the same array
+pub users_said : (names : List Value) (users : List (List ℕ)) → map view names ≡ map string users → items_view names ≡ name_items users
+users_said names users e = ap items_of e ∙ sym (name_items_lem users)
+
+abbrev pub Lent : Type 0
+Lent = Bor (String Global) × Bor Value
+
+secrets_pass_lem : (pairs : List Lent) → all_members is_secret (members_view (map lent pairs)) ≡ true → list_all (λ pair. is_text (view pair.1.now)) pairs ≡ true
+secrets_pass_lem [] h = refl
+secrets_pass_lem (pair ∷ more) h =
+    let (here, rest) = and_parts (is_user_name (string_bytes pair.0.now) && is_text (view pair.1.now)) (all_members is_secret (members_view (map lent more))) h in
+    let (named, text) = and_parts (is_user_name (string_bytes pair.0.now)) (is_text (view pair.1.now)) here in
+    rw (text, secrets_pass_lem more rest)
+
+groups_pass_lem : (pairs : List Lent) → all_members is_group (members_view (map lent pairs)) ≡ true → list_all (λ pair. is_user_list (view pair.1.now)) pairs ≡ true
+groups_pass_lem [] h = refl
+groups_pass_lem (pair ∷ more) h =
+    let (here, rest) = and_parts (is_user_name (string_bytes pair.0.now) && is_user_list (view pair.1.now)) (all_members is_group (members_view (map lent more))) h in
+    let (named, users) = and_parts (is_user_name (string_bytes pair.0.now)) (is_user_list (view pair.1.now)) here in
+    rw (users, groups_pass_lem more rest)
+
+pub secrets_pass : (entries : List (String Global × Value)) (pairs : List Lent) → map lent pairs ≡ entries → is_secret_table (table (members_view entries)) ≡ true → AllPass (λ pair. is_text (view pair.1.now)) pairs
+secrets_pass entries pairs e h =
+    AllPass-from_list_all (λ pair. is_text (view pair.1.now)) pairs (secrets_pass_lem pairs (ap (λ es. is_secret_table (table (members_view es))) e ∙ h))
+
+pub groups_pass : (entries : List (String Global × Value)) (pairs : List Lent) → map lent pairs ≡ entries → is_group_table (table (members_view entries)) ≡ true → AllPass (λ pair. is_user_list (view pair.1.now)) pairs
+groups_pass entries pairs e h =
+    AllPass-from_list_all (λ pair. is_user_list (view pair.1.now)) pairs (groups_pass_lem pairs (ap (λ es. is_group_table (table (members_view es))) e ∙ h))
+
+table_said_lem : (pairs : List Lent) → members_view (map lent pairs) ≡ table_of (map seen pairs)
+table_said_lem [] = refl
+table_said_lem (pair ∷ more) = ap (λ ms. member (string_bytes pair.0.now) (view pair.1.now) ms) (table_said_lem more)
+
+-- members that are lent stand for the same table
+pub table_said : (entries : List (String Global × Value)) (pairs : List Lent) (said : List (List ℕ × Data)) → map lent pairs ≡ entries → map seen pairs ≡ said → members_view entries ≡ table_of said
+table_said entries pairs said e s = ap members_view (sym e) ∙ table_said_lem pairs ∙ ap table_of s

@@ -1,0 +1,19 @@
+-- Members of a table, as octets and data.
+use Rattle.std.specs.Prelude.{ℕ, List, Option, String, string_bytes}
+use Rattle.std.specs.BTreeMap.{BTreeMap}
+use Rattle.std.specs.declared.alloc.Global.{Global}
+use Rattle.std.specs.Borrow.{Bor}
+use Rattle.toml.specs.Data.{Data, get_member}
+use Rattle.toml.specs.View.{table_view, view}
+use Rattle.toml.specs.declared.value.Value.{Value}
+
+-- what stands at a key
+abbrev pub member_at : List ℕ → BTreeMap (String Global) Value → Option Data
+member_at key settings = get_member key (table_view settings)
+
+-- a member that is lent: what it is, and its octets and data
+abbrev pub lent : Bor (String Global) × Bor Value → String Global × Value
+lent pair = (pair.0.now, pair.1.now)
+
+abbrev pub seen : Bor (String Global) × Bor Value → List ℕ × Data
+seen pair = (string_bytes pair.0.now, view pair.1.now)

@@ -1,0 +1,13 @@
+//! What a settings file says: where the server listens, who may log in, and how much it does at once.
+#![tactic(auto)]
+
+mod bad_key;
+mod fault;
+mod group;
+mod judging;
+mod settings;
+mod taking;
+
+pub use fault::SettingsFault;
+pub use group::{Group, Groups};
+pub use settings::Settings;
