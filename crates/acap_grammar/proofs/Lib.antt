@@ -20,3 +20,4 @@ pub mod Yielding
 pub mod NamedReads
 pub mod SendableReads
 pub mod TextReads
+pub mod FormedReads

@@ -25,12 +25,12 @@ use Rattle.acap_grammar.specs.Spelling.{dataset_text, target_text}
 
 -- ---- texts that end in an octet
 
-abbrev ends_here : ℕ → List ℕ → Bool
+abbrev pub ends_here : ℕ → List ℕ → Bool
 ends_here octet [] = false
 ends_here octet (x ∷ []) = x == octet
 ends_here octet (x ∷ y ∷ ys) = ends_here octet (y ∷ ys)
 
-ends_same : (octet : ℕ) (xs : List ℕ) → ends_with octet xs ≡ ends_here octet xs
+pub ends_same : (octet : ℕ) (xs : List ℕ) → ends_with octet xs ≡ ends_here octet xs
 ends_same octet [] = refl
 ends_same octet (x ∷ []) = refl
 ends_same octet (x ∷ y ∷ ys) =
@@ -39,7 +39,7 @@ ends_same octet (x ∷ y ∷ ys) =
     let some : nat_lt 0 (suc (suc (length ys))) ≡ nat_lt 0 (suc (length ys)) = grind (arith, nat_tests) in
     rw (some, more) (rw less at (ends_same octet (y ∷ ys)))
 
-with_end : (octet : ℕ) (xs : List ℕ) → ends_here octet xs ≡ true → take (length xs - 1) xs ++ octet ∷ [] ≡ xs
+pub with_end : (octet : ℕ) (xs : List ℕ) → ends_here octet xs ≡ true → take (length xs - 1) xs ++ octet ∷ [] ≡ xs
 with_end octet [] h = absurd cc
 with_end octet (x ∷ []) h = ap (λ (n : ℕ). n ∷ []) (sym (eqb-true x octet h))
 with_end octet (x ∷ y ∷ ys) h =
@@ -83,14 +83,14 @@ no_slash_behind (x ∷ y ∷ ys) h = no_slash_behind (y ∷ ys) (by_slash (is_sl
   by_slash true parts k = all_behind parts k
   by_slash false parts k = ap (list_all is_component) (sym (behind_onto x parts)) ∙ k
 
-components_closed : (x : ℕ) (xs : List ℕ) → components (x ∷ (xs ++ slash ∷ [])) ≡ slice_split is_slash xs
+pub components_closed : (x : ℕ) (xs : List ℕ) → components (x ∷ (xs ++ slash ∷ [])) ≡ slice_split is_slash xs
 unfolding components
 components_closed x xs =
     let long : nat_le (length (x ∷ (xs ++ slash ∷ []))) 1 ≡ false = let size = length-append xs (slash ∷ []) in grind (arith, nat_tests, size) in
     let ends : ends_with slash (x ∷ (xs ++ slash ∷ [])) ≡ true = ends_same slash (x ∷ (xs ++ slash ∷ [])) ∙ ends_behind slash (x ∷ xs) in
     rw (long, ends, without_end slash (x ∷ xs)) refl
 
-components_open : (x y : ℕ) (ys : List ℕ) → ends_with slash (x ∷ y ∷ ys) ≡ false → components (x ∷ y ∷ ys) ≡ slice_split is_slash (y ∷ ys)
+pub components_open : (x y : ℕ) (ys : List ℕ) → ends_with slash (x ∷ y ∷ ys) ≡ false → components (x ∷ y ∷ ys) ≡ slice_split is_slash (y ∷ ys)
 unfolding components
 components_open x y ys ends =
     let long : nat_le (length (x ∷ y ∷ ys)) 1 ≡ false = grind (arith, nat_tests) in
@@ -98,13 +98,13 @@ components_open x y ys ends =
 
 -- ---- a dataset without its closing slash
 
-record IsArgument (text : List ℕ) : Type 0 where
+pub record IsArgument (text : List ℕ) : Type 0 where
   pub size : nat_le (length text) 1024 ≡ true
   pub begins : begins_with slash text ≡ true
   pub parts : list_all is_component (components text) ≡ true
   pub few : nat_le (length (components text)) 16 ≡ true
 
-argument : (text : List ℕ) → is_dataset_argument text ≡ true → IsArgument text
+pub argument : (text : List ℕ) → is_dataset_argument text ≡ true → IsArgument text
 unfolding is_dataset_argument
 argument text h =
     let a = and_parts _ _ h in

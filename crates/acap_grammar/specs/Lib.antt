@@ -19,3 +19,4 @@ pub mod Storing
 pub mod Wanted
 pub mod Alike
 pub mod Texts
+pub mod Formed

@@ -1,6 +1,7 @@
 //! What follows from the definitions alone: each function does nothing, and its contract is the law.
 ghost use Rattle.acap_grammar.specs.Alike.{PlacesLaw};
 ghost use Rattle.acap_grammar.specs.Examples.{LineExamples, LineFaults, LimitExamples, TextExamples};
+ghost use Rattle.acap_grammar.specs.Formed.{ReadsFormed};
 ghost use Rattle.acap_grammar.specs.Laws.{FirstFault, CommandExamples, FaultExamples, ReplyExamples};
 ghost use Rattle.acap_grammar.specs.Sendable.{ReadsSendable, SpellsCommands};
 ghost use Rattle.acap_grammar.specs.Texts.{SpelledTexts};
@@ -57,10 +58,11 @@ pub fn spelled_commands()
     ensures { SpellsCommands }
 {}
 
-/// What is read as a command can be sent: nothing beyond the names, the limits and the combinations of the table is
-/// accepted (RFC 2244 sections 3, 6 and 8).
+/// What is read as a command can be sent, and its paths are well formed: nothing beyond the names, the limits and the
+/// combinations of the table is accepted (RFC 2244 sections 3, 6 and 8).
 pub fn sendable_law()
-    ensures { ReadsSendable }
+    ensures sendable { ReadsSendable }
+    ensures paths { ReadsFormed }
 {}
 
 /// Each command within the limits has a text, whose octets are answered by a line that is read as that command, whatever
