@@ -20,4 +20,5 @@ pub mod Yielding
 pub mod NamedReads
 pub mod SendableReads
 pub mod TextReads
+pub mod FormedNames
 pub mod FormedReads

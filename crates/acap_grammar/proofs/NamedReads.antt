@@ -55,14 +55,14 @@ ends_behind octet [] = grind (arith, nat_tests)
 ends_behind octet (x ∷ []) = grind (arith, nat_tests)
 ends_behind octet (x ∷ y ∷ ys) = ends_behind octet (y ∷ ys)
 
-without_end : (octet : ℕ) (xs : List ℕ) → take (length (xs ++ octet ∷ []) - 1) (xs ++ octet ∷ []) ≡ xs
+pub without_end : (octet : ℕ) (xs : List ℕ) → take (length (xs ++ octet ∷ []) - 1) (xs ++ octet ∷ []) ≡ xs
 without_end octet xs =
     let size : length (xs ++ octet ∷ []) - 1 ≡ length xs = omega (arith, length-append xs (octet ∷ [])) in
     rw size (take-append-le (length xs) xs (octet ∷ []) (omega arith) ∙ take_all (length xs) xs (omega arith))
 
 -- ---- components
 
-all_behind : (parts : List (List ℕ)) → list_all is_component parts ≡ true → list_all is_component (drop 1 parts) ≡ true
+pub all_behind : (parts : List (List ℕ)) → list_all is_component parts ≡ true → list_all is_component (drop 1 parts) ≡ true
 all_behind [] h = refl
 all_behind (c ∷ parts) h = (and_parts (is_component c) (list_all is_component parts) h).1
 
@@ -71,7 +71,7 @@ behind_onto x [] = refl
 behind_onto x (c ∷ parts) = refl
 
 -- what stands between slashes, where each part behind the first is a component, doesn't end in a slash
-no_slash_behind : (xs : List ℕ) → list_all is_component (drop 1 (slice_split is_slash xs)) ≡ true → ends_here slash xs ≡ false
+pub no_slash_behind : (xs : List ℕ) → list_all is_component (drop 1 (slice_split is_slash xs)) ≡ true → ends_here slash xs ≡ false
 unfolding is_component
 no_slash_behind [] h = refl
 no_slash_behind (x ∷ []) h = by_slash (is_slash x) h where
@@ -112,7 +112,7 @@ argument text h =
     let c = and_parts _ _ b.1 in
     record { size = b.0; begins = c.0; parts = c.1; few = a.1 }
 
-by_argument : (text : List ℕ) → IsArgument text → is_dataset_argument text ≡ true
+pub by_argument : (text : List ℕ) → IsArgument text → is_dataset_argument text ≡ true
 unfolding is_dataset_argument
 by_argument text a = and_from _ _ (and_from _ _ a.size (and_from _ _ a.begins a.parts)) a.few
 
@@ -139,12 +139,14 @@ some_text : (text : List ℕ) → begins_with slash text ≡ true → 0 < length
 some_text [] h = absurd cc
 some_text (x ∷ xs) h = omega arith
 
+-- a text is read as the dataset whose text it is
+pub read_back : (text d : List ℕ) → is_dataset_argument text ≡ true → closed text ≡ d → dataset_text d ≡ text → IsDataset d
+unfolding dataset_named
+read_back text d h c s = rw (s, h, c) refl
+
 pub dataset_named_back : (text d : List ℕ) → dataset_named text ≡ Ok d → IsDataset d
 unfolding dataset_named
 dataset_named_back text d e = by_good (is_dataset_argument text) refl e where
-  from_parts : (t d : List ℕ) → is_dataset_argument t ≡ true → closed t ≡ d → dataset_text d ≡ t → dataset_named (dataset_text d) ≡ Ok d
-  from_parts t d h c s = rw (s, h, c) refl
-
   ended : (t : List ℕ) → is_dataset_argument t ≡ true → ends_with slash t ≡ true → dataset_named (dataset_text t) ≡ Ok t
   ended [] h k = absurd cc
   ended (x ∷ []) h k = rw (h, k) refl
@@ -156,7 +158,7 @@ dataset_named_back text d e = by_good (is_dataset_argument text) refl e where
       let less : suc (length ys) - 1 ≡ length ys = omega arith in
       let long : nat_le (length (x ∷ y ∷ ys)) 1 ≡ false = grind (arith, nat_tests) in
       let text_is : dataset_text (x ∷ y ∷ ys) ≡ x ∷ front = rw (long, more, less) refl in
-      from_parts (x ∷ front) (x ∷ y ∷ ys) (by_argument _ o.0) (rw o.1 (ap (λ (t : List ℕ). x ∷ t) whole)) text_is
+      read_back (x ∷ front) (x ∷ y ∷ ys) (by_argument _ o.0) (rw o.1 (ap (λ (t : List ℕ). x ∷ t) whole)) text_is
 
   by_end : (b : Bool) → ends_with slash text ≡ b → is_dataset_argument text ≡ true → (if b then text else text ++ slash ∷ []) ≡ d → IsDataset d
   by_end true k h c = subst IsDataset c (ended text h k)
@@ -165,7 +167,7 @@ dataset_named_back text d e = by_good (is_dataset_argument text) refl e where
       let size : length (text ++ slash ∷ []) ≡ length text + 1 = length-append text (slash ∷ []) in
       let long : nat_le (length (text ++ slash ∷ [])) 1 ≡ false = grind (arith, nat_tests, size, some) in
       let text_is : dataset_text (text ++ slash ∷ []) ≡ text = rw (long, without_end slash text) refl in
-      subst IsDataset c (from_parts text (text ++ slash ∷ []) h (rw k refl) text_is)
+      subst IsDataset c (read_back text (text ++ slash ∷ []) h (rw k refl) text_is)
 
   by_good : (b : Bool) → is_dataset_argument text ≡ b → if_named b (closed text) ≡ Ok d → IsDataset d
   by_good true h f = let same : closed text ≡ d = cc in by_end (ends_with slash text) refl h same

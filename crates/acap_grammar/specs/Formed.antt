@@ -1,24 +1,38 @@
--- Which paths and datasets are well formed, from their components on, and that those of a command are [RFC 2244 section 3.1].
-use Rattle.std.specs.Prelude.{◌≡◌, ℕ, ◌<◌, ◌≤◌, ◌⊎◌, List, [], ◌∷◌, ◌++◌, length, slice_get, Some, IfSome, Ok}
+-- Which names are well formed, paths and datasets from their components on, and that those of a command are [RFC 2244
+-- sections 3.1, 3.1.1, 3.3 and 4.1].
+use Rattle.std.specs.Prelude.{◌≡◌, ℕ, ◌<◌, ◌≤◌, ◌⊎◌, ◌↔◌, List, [], ◌∷◌, ◌++◌, length, slice_get, Some, IfSome, Ok}
 use Rattle.std.specs.List.{AllByRecursion}
 use Rattle.std.specs.Str.{IsUtf8}
 use Rattle.acap_lexer.specs.Token.{Token}
-use Rattle.acap_entries.specs.Names.{slash, dot, nul}
+use Rattle.acap_entries.specs.Names.{slash, dot, star, percent, nul}
 use Rattle.acap_entries.specs.declared.path.Path.{Path}
 use Rattle.acap_grammar.specs.declared.command.Command.{Command}
 use Rattle.acap_grammar.specs.declared.command.Command.TheVariants as command
 use Rattle.acap_grammar.specs.declared.object.Object.{Object}
 use Rattle.acap_grammar.specs.declared.target.Target.{Target}
 use Rattle.acap_grammar.specs.declared.target.Target.TheVariants as target
+use Rattle.acap_grammar.specs.Arguments.{path_named, dataset_named, attribute_named, context_named}
 use Rattle.acap_grammar.specs.Grammar.{command_of}
 use Rattle.acap_grammar.specs.Spelling.{dataset_text}
 
--- one or more octets of UTF-8, none of them NUL or `/`, and the first none `.`
+-- ---- octets
+
+-- none of them is that one, and the first isn't
+abbrev pub Lacks : ℕ → List ℕ → Type 0
+Lacks octet text = AllByRecursion (λ x. x ≡ octet → ⊥) text
+
+abbrev pub BeginsOther : ℕ → List ℕ → Type 0
+BeginsOther octet text = slice_get text 0 ≡ Some octet → ⊥
+
+-- ---- paths
+
+-- a component: one octet or more of UTF-8, none of them NUL or `/`, and the first no `.`
 pub record IsComponent (text : List ℕ) : Type 0 where
   pub some : 0 < length text
   pub utf8 : IsUtf8 text
-  pub octets : AllByRecursion (λ octet. (octet ≡ nul → ⊥) × (octet ≡ slash → ⊥)) text
-  pub first : slice_get text 0 ≡ Some dot → ⊥
+  pub no_nul : Lacks nul text
+  pub no_slash : Lacks slash text
+  pub no_dot : BeginsOther dot text
 
 -- a dataset is a slash and then its components, each closed by a slash
 abbrev pub closed_each : List (List ℕ) → List ℕ
@@ -42,6 +56,34 @@ pub record IsFormedDataset (dataset : List ℕ) : Type 0 where
   pub is : IsMadeOf components dataset
   pub few : length components ≤ 16
   pub octets : length (dataset_text dataset) ≤ 1024
+
+-- ---- other names
+
+-- an attribute: 1 to 200 octets of UTF-8, none of them NUL, `*` or `%`
+pub record IsFormedAttribute (text : List ℕ) : Type 0 where
+  pub some : 0 < length text
+  pub few : length text ≤ 200
+  pub utf8 : IsUtf8 text
+  pub no_nul : Lacks nul text
+  pub no_star : Lacks star text
+  pub no_percent : Lacks percent text
+
+-- a context: 1 to 255 octets of UTF-8, the first no `/`
+pub record IsFormedContext (text : List ℕ) : Type 0 where
+  pub some : 0 < length text
+  pub few : length text ≤ 255
+  pub utf8 : IsUtf8 text
+  pub no_slash : BeginsOther slash text
+
+-- Exactly these are read as names: an attribute and a context as they are, a path as its octets, and a dataset without
+-- its closing slash.
+pub record NamesLaw : Type 0 where
+  pub attribute : (text a : List ℕ) → (attribute_named text ≡ Ok a) ↔ ((text ≡ a) × IsFormedAttribute a)
+  pub context : (text c : List ℕ) → (context_named text ≡ Ok c) ↔ ((text ≡ c) × IsFormedContext c)
+  pub path : (text : List ℕ) (p : Path) → (path_named text ≡ Ok p) ↔ ((text ≡ p.dataset ++ p.name) × IsFormed p)
+  pub dataset : (d : List ℕ) → (dataset_named (dataset_text d) ≡ Ok d) ↔ IsFormedDataset d
+
+-- ---- commands
 
 -- an object's dataset, and the path of its entry
 abbrev pub IsFormedObject : Object → Type 0

@@ -1,7 +1,7 @@
 //! What follows from the definitions alone: each function does nothing, and its contract is the law.
 ghost use Rattle.acap_grammar.specs.Alike.{PlacesLaw};
 ghost use Rattle.acap_grammar.specs.Examples.{LineExamples, LineFaults, LimitExamples, TextExamples};
-ghost use Rattle.acap_grammar.specs.Formed.{ReadsFormed};
+ghost use Rattle.acap_grammar.specs.Formed.{NamesLaw, ReadsFormed};
 ghost use Rattle.acap_grammar.specs.Laws.{FirstFault, CommandExamples, FaultExamples, ReplyExamples};
 ghost use Rattle.acap_grammar.specs.Sendable.{ReadsSendable, SpellsCommands};
 ghost use Rattle.acap_grammar.specs.Texts.{SpelledTexts};
@@ -69,4 +69,10 @@ pub fn sendable_law()
 /// follows (RFC 2244 sections 2.2, 2.6 and 8).
 pub fn spelled_texts()
     ensures { SpelledTexts }
+{}
+
+/// Names are read exactly where they are well formed: paths and datasets from their components on, attributes and
+/// contexts (RFC 2244 sections 3.1, 3.3 and 4.1).
+pub fn names_law()
+    ensures { NamesLaw }
 {}
