@@ -1,8 +1,8 @@
 -- Names are read exactly where they are well formed.
 use Rattle.std.proofs.Common.{◌≡◌, ℕ, zero, suc, ◌+◌, ◌-◌, ◌<◌, ◌≤◌, Bool, true, false, not, List, [], ◌∷◌, ◌++◌, length, take, drop, reverse, get_or, Some, Ok, refl, sym, ap, subst, ◌∙◌, arith, append_assoc, length-append, ◌⊎◌, inl, inr}
-use Rattle.std.specs.Prelude.{if◌then◌else◌, ◌&&◌, ◌==◌, nat_le, slice_index}
+use Rattle.std.specs.Prelude.{if◌then◌else◌, ◌||◌, ◌&&◌, ◌==◌, nat_le, slice_index}
 use Rattle.std.specs.List.{All, AllByRecursion, list_all, slice_split, onto_first, prefix_len, suffix_len}
-use Rattle.std.proofs.lemmas.Bool.{and_parts, and_from, or_parts, or_from, not-true, not-false, not_from_false, leb-true, ltb-true, le-leb, lt-ltb, eqb-false, ne_eqb}
+use Rattle.std.proofs.lemmas.Bool.{and_parts, and_from, or_parts, or_from, or_right, not-true, not-false, not_from_false, leb-true, ltb-true, le-leb, lt-ltb, eqb-false, ne_eqb}
 use Rattle.std.proofs.lemmas.Bool.Decides.{nat_tests}
 use Rattle.std.proofs.lemmas.List.{take-append-drop, get_or-reverse, length-reverse, reverse-append}
 use Rattle.std.proofs.lemmas.List.Elements.{All-nil, All-cons}
@@ -16,11 +16,16 @@ use Rattle.acap_lexer.proofs.SpelledTokens.{longest}
 use Rattle.acap_entries.specs.Names.{is_slash, slash, dot, star, percent, nul, has, begins_with, ends_with, is_component, components, dataset_len, dataset_of, name_of, is_entry_name, step_count, is_path, is_dataset_argument, is_attribute, is_context_name, closed}
 use Rattle.acap_entries.specs.declared.path.Path.{Path}
 use Rattle.acap_entries.proofs.NameLemmas.{closed_by_slash, part_count, path_has_dataset, same_parts, taken_closed}
+use Rattle.acap_grammar.specs.declared.return_name.ReturnName.{ReturnName}
+use Rattle.acap_grammar.specs.declared.return_name.ReturnName.TheVariants as name
 use Rattle.acap_grammar.specs.Arguments.{if_named, path_named, dataset_named, entry_named, attribute_named, context_named}
-use Rattle.acap_grammar.specs.Formed.{Lacks, BeginsOther, IsComponent, closed_each, IsMadeOf, IsFormed, IsFormedDataset, IsFormedAttribute, IsFormedContext, NamesLaw}
+use Rattle.acap_grammar.specs.Formed.{Lacks, BeginsOther, IsComponent, closed_each, IsMadeOf, IsFormed, IsFormedDataset, IsFormedAttribute, IsFormedContext, IsFormedReturn, NamesLaw}
+use Rattle.acap_grammar.specs.Outcome.{◌>>=◌}
+use Rattle.acap_grammar.specs.Searching.{return_named}
 use Rattle.acap_grammar.specs.Sendable.{Names, IsDataset}
-use Rattle.acap_grammar.specs.Spelling.{dataset_text}
-use Rattle.acap_grammar.proofs.NamedReads.{end_again, ends_same, with_end, without_end, all_behind, no_slash_behind, components_closed, components_open, IsArgument, argument, by_argument, read_back}
+use Rattle.acap_grammar.specs.Spelling.{dataset_text, return_text}
+use Rattle.acap_grammar.proofs.NamedReads.{end_again, ends_here, ends_behind, ends_same, with_end, without_end, all_behind, no_slash_behind, components_closed, components_open, IsArgument, argument, by_argument, read_back}
+use Rattle.acap_grammar.proofs.SendableReads.{return_back}
 
 -- ---- components
 
@@ -400,6 +405,49 @@ same_path : (good : Bool) (p q : Path) → if_named good p ≡ Ok q → p ≡ q
 same_path true p q e = cc
 same_path false p q e = absurd cc
 
+-- ---- what a RETURN names
+
+no_end : (octet : ℕ) (text : List ℕ) → Lacks octet text → ends_here octet text ≡ false
+no_end octet [] h = refl
+no_end octet (x ∷ []) h = ne_eqb x octet h.0
+no_end octet (x ∷ y ∷ text) h = no_end octet (y ∷ text) h.1
+
+front_is : (front : List ℕ) → length front == 0 || is_attribute front ≡ true → (front ≡ []) ⊎ IsFormedAttribute front
+front_is [] h = inl refl
+front_is (x ∷ front) h =
+    let some : (length (x ∷ front) == 0) ≡ false = grind (arith, nat_tests) in
+    inr (attribute_is (x ∷ front) (subst (λ (b : Bool). b || is_attribute (x ∷ front) ≡ true) some h))
+
+by_front : (front : List ℕ) → (front ≡ []) ⊎ IsFormedAttribute front → length front == 0 || is_attribute front ≡ true
+by_front front (inl e) = subst (λ (t : List ℕ). length t == 0 || is_attribute t ≡ true) (sym e) refl
+by_front front (inr f) = or_right (length front == 0) (is_attribute front) (by_attribute front f)
+
+returned_is : (text : List ℕ) (n : ReturnName) → return_named text ≡ Ok n → IsFormedReturn n
+unfolding return_named attribute_named
+returned_is text n e = by_end (ends_with star text) e where
+  by_good : (good : Bool) (front : List ℕ) → length front == 0 || is_attribute front ≡ good → if_named good (name.Beginning front) ≡ Ok n → IsFormedReturn n
+  by_good true front m f = let same : name.Beginning front ≡ n = cc in subst IsFormedReturn same (front_is front m)
+  by_good false front m f = absurd cc
+
+  by_attribute_test : (good : Bool) → is_attribute text ≡ good → (if_named good text >>= λ attribute. Ok (name.Named attribute)) ≡ Ok n → IsFormedReturn n
+  by_attribute_test true m f = let same : name.Named text ≡ n = cc in subst IsFormedReturn same (attribute_is text m)
+  by_attribute_test false m f = absurd cc
+
+  by_end : (b : Bool)
+      → (if b then (let front = take (length text - 1) text in if_named (length front == 0 || is_attribute front) (name.Beginning front)) else (if_named (is_attribute text) text >>= λ attribute. Ok (name.Named attribute))) ≡ Ok n
+      → IsFormedReturn n
+  by_end true f = by_good _ (take (length text - 1) text) refl f
+  by_end false f = by_attribute_test (is_attribute text) refl f
+
+by_returned : (n : ReturnName) → IsFormedReturn n → return_named (return_text n) ≡ Ok n
+unfolding return_named attribute_named
+by_returned (name.Named a) f =
+    let ends : ends_with star a ≡ false = ends_same star a ∙ no_end star a f.no_star in
+    rw (ends, by_attribute a f) refl
+by_returned (name.Beginning front) f =
+    let ends : ends_with star (front ++ star ∷ []) ≡ true = ends_same star (front ++ star ∷ []) ∙ ends_behind star front in
+    rw (ends, without_end star front, by_front front f) refl
+
 pub names_law : NamesLaw
 unfolding attribute_named context_named path_named dataset_of name_of
 names_law = record {
@@ -416,6 +464,10 @@ names_law = record {
         let whole : text ≡ p.dataset ++ p.name = sym (take-append-drop (dataset_len text) text) ∙ ap (λ (q : Path). q.dataset ++ q.name) (same_path (is_path text) (record { dataset = dataset_of text; name = name_of text }) p e) in
         (whole, formed_path p (ap path_named (sym whole) ∙ e))),
     (λ h. ap path_named h.0 ∙ path_is_good p.dataset p.name h.1.components h.1.dataset h.1.name h.1.octets),
+  );
+  returned = λ text n. (
+    (λ e. (sym (return_back text n e), returned_is text n e)),
+    (λ h. ap return_named h.0 ∙ by_returned n h.1),
   );
   dataset = λ d. (formed_dataset d, dataset_is_good d);
 }

@@ -50,7 +50,7 @@ with_end octet (x ∷ y ∷ ys) h =
 pub end_again : (octet : ℕ) (xs : List ℕ) → ends_with octet xs ≡ true → take (length xs - 1) xs ++ octet ∷ [] ≡ xs
 end_again octet xs h = with_end octet xs (sym (ends_same octet xs) ∙ h)
 
-ends_behind : (octet : ℕ) (xs : List ℕ) → ends_here octet (xs ++ octet ∷ []) ≡ true
+pub ends_behind : (octet : ℕ) (xs : List ℕ) → ends_here octet (xs ++ octet ∷ []) ≡ true
 ends_behind octet [] = grind (arith, nat_tests)
 ends_behind octet (x ∷ []) = grind (arith, nat_tests)
 ends_behind octet (x ∷ y ∷ ys) = ends_behind octet (y ∷ ys)

@@ -456,7 +456,7 @@ unfolding searching.metadata_part
 metadata_part n =
     choose (OneTo 32) _ _ _ (weaker _ (OneTo 32) _ (enclosed_items IsAny mark.is_string searching.metadata_at metadata 31) (λ all h. h.0)) (value (OneTo 32) (searching.default_metadata n) (left_out n))
 
-return_back : (text : List ℕ) (n : ReturnName) → searching.return_named text ≡ Ok n → return_text n ≡ text
+pub return_back : (text : List ℕ) (n : ReturnName) → searching.return_named text ≡ Ok n → return_text n ≡ text
 unfolding searching.return_named argument.attribute_named
 return_back text n e = by_end (ends_with star text) refl e where
   by_front : (good : Bool) (front : List ℕ) → front ++ star ∷ [] ≡ text → argument.if_named good (name.Beginning front) ≡ Ok n → return_text n ≡ text

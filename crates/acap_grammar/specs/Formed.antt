@@ -9,11 +9,14 @@ use Rattle.acap_entries.specs.declared.path.Path.{Path}
 use Rattle.acap_grammar.specs.declared.command.Command.{Command}
 use Rattle.acap_grammar.specs.declared.command.Command.TheVariants as command
 use Rattle.acap_grammar.specs.declared.object.Object.{Object}
+use Rattle.acap_grammar.specs.declared.return_name.ReturnName.{ReturnName}
+use Rattle.acap_grammar.specs.declared.return_name.ReturnName.TheVariants as name
 use Rattle.acap_grammar.specs.declared.target.Target.{Target}
 use Rattle.acap_grammar.specs.declared.target.Target.TheVariants as target
 use Rattle.acap_grammar.specs.Arguments.{path_named, dataset_named, attribute_named, context_named}
 use Rattle.acap_grammar.specs.Grammar.{command_of}
-use Rattle.acap_grammar.specs.Spelling.{dataset_text}
+use Rattle.acap_grammar.specs.Searching.{return_named}
+use Rattle.acap_grammar.specs.Spelling.{dataset_text, return_text}
 
 -- ---- octets
 
@@ -75,12 +78,18 @@ pub record IsFormedContext (text : List ℕ) : Type 0 where
   pub utf8 : IsUtf8 text
   pub no_slash : BeginsOther slash text
 
--- Exactly these are read as names: an attribute and a context as they are, a path as its octets, and a dataset without
--- its closing slash.
+-- what a RETURN names: an attribute, or those whose names begin so, all of them where that is nothing
+abbrev pub IsFormedReturn : ReturnName → Type 0
+IsFormedReturn (name.Named attribute) = IsFormedAttribute attribute
+IsFormedReturn (name.Beginning front) = (front ≡ []) ⊎ IsFormedAttribute front
+
+-- Exactly these are read as names: an attribute and a context as they are, a path as its octets, a dataset without its
+-- closing slash, and what a RETURN names with a `*` behind the beginning of names.
 pub record NamesLaw : Type 0 where
   pub attribute : (text a : List ℕ) → (attribute_named text ≡ Ok a) ↔ ((text ≡ a) × IsFormedAttribute a)
   pub context : (text c : List ℕ) → (context_named text ≡ Ok c) ↔ ((text ≡ c) × IsFormedContext c)
   pub path : (text : List ℕ) (p : Path) → (path_named text ≡ Ok p) ↔ ((text ≡ p.dataset ++ p.name) × IsFormed p)
+  pub returned : (text : List ℕ) (n : ReturnName) → (return_named text ≡ Ok n) ↔ ((text ≡ return_text n) × IsFormedReturn n)
   pub dataset : (d : List ℕ) → (dataset_named (dataset_text d) ≡ Ok d) ↔ IsFormedDataset d
 
 -- ---- commands
