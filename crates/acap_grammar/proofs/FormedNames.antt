@@ -1,10 +1,10 @@
 -- Names are read exactly where they are well formed.
-use Rattle.std.proofs.Common.{◌≡◌, ℕ, zero, suc, ◌+◌, ◌-◌, ◌<◌, ◌≤◌, Bool, true, false, not, List, [], ◌∷◌, ◌++◌, length, take, drop, reverse, get_or, Some, Ok, refl, sym, ap, subst, ◌∙◌, arith, append_assoc, length-append, ◌⊎◌, inl, inr}
+use Rattle.std.proofs.Common.{◌≡◌, ℕ, zero, suc, ◌+◌, ◌-◌, ◌<◌, ◌≤◌, Bool, true, false, not, List, [], ◌∷◌, ◌++◌, length, take, drop, reverse, get_or, Some, Result, Ok, Err, refl, sym, ap, subst, ◌∙◌, arith, append_assoc, length-append, ◌⊎◌, inl, inr}
 use Rattle.std.specs.Prelude.{if◌then◌else◌, ◌||◌, ◌&&◌, ◌==◌, nat_le, slice_index}
 use Rattle.std.specs.List.{All, AllByRecursion, list_all, slice_split, onto_first, prefix_len, suffix_len}
 use Rattle.std.proofs.lemmas.Bool.{and_parts, and_from, or_parts, or_from, or_right, not-true, not-false, not_from_false, leb-true, ltb-true, le-leb, lt-ltb, eqb-false, ne_eqb}
 use Rattle.std.proofs.lemmas.Bool.Decides.{nat_tests}
-use Rattle.std.proofs.lemmas.List.{take-append-drop, get_or-reverse, length-reverse, reverse-append}
+use Rattle.std.proofs.lemmas.List.{length-take-le, take-append-drop, get_or-reverse, length-reverse, reverse-append}
 use Rattle.std.proofs.lemmas.List.Elements.{All-nil, All-cons}
 use Rattle.std.proofs.lemmas.List.Folds.{list_all-append}
 use Rattle.std.proofs.lemmas.List.Splits.{slice_split_none, slice_split_at}
@@ -16,16 +16,18 @@ use Rattle.acap_lexer.proofs.SpelledTokens.{longest}
 use Rattle.acap_entries.specs.Names.{is_slash, slash, dot, star, percent, nul, has, begins_with, ends_with, is_component, components, dataset_len, dataset_of, name_of, is_entry_name, step_count, is_path, is_dataset_argument, is_attribute, is_context_name, closed}
 use Rattle.acap_entries.specs.declared.path.Path.{Path}
 use Rattle.acap_entries.proofs.NameLemmas.{closed_by_slash, part_count, path_has_dataset, same_parts, taken_closed}
+use Rattle.acap_grammar.specs.declared.grammar_fault.GrammarFault.{GrammarFault}
 use Rattle.acap_grammar.specs.declared.return_name.ReturnName.{ReturnName}
 use Rattle.acap_grammar.specs.declared.return_name.ReturnName.TheVariants as name
-use Rattle.acap_grammar.specs.Arguments.{if_named, path_named, dataset_named, entry_named, attribute_named, context_named}
-use Rattle.acap_grammar.specs.Formed.{Lacks, BeginsOther, IsComponent, closed_each, IsMadeOf, IsFormed, IsFormedDataset, IsFormedAttribute, IsFormedContext, IsFormedReturn, NamesLaw}
+use Rattle.acap_grammar.specs.declared.target.Target.{Target}
+use Rattle.acap_grammar.specs.declared.target.Target.TheVariants as target
+use Rattle.acap_grammar.specs.Arguments.{if_named, path_named, dataset_named, entry_named, attribute_named, context_named, target_named}
+use Rattle.acap_grammar.specs.Formed.{Lacks, BeginsOther, IsComponent, closed_each, IsMadeOf, IsFormed, IsFormedDataset, IsFormedAttribute, IsFormedContext, IsFormedReturn, IsFormedTarget, NamesLaw}
 use Rattle.acap_grammar.specs.Outcome.{◌>>=◌}
 use Rattle.acap_grammar.specs.Searching.{return_named}
 use Rattle.acap_grammar.specs.Sendable.{Names, IsDataset}
-use Rattle.acap_grammar.specs.Spelling.{dataset_text, return_text}
+use Rattle.acap_grammar.specs.Spelling.{dataset_text, return_text, target_text}
 use Rattle.acap_grammar.proofs.NamedReads.{end_again, ends_here, ends_behind, ends_same, with_end, without_end, all_behind, no_slash_behind, components_closed, components_open, IsArgument, argument, by_argument, read_back}
-use Rattle.acap_grammar.proofs.SendableReads.{return_back}
 
 -- ---- components
 
@@ -124,16 +126,41 @@ was_read text d e = by_good (is_dataset_argument text) refl e where
   by_good true h f = record { good = h; is = cc }
   by_good false h f = absurd cc
 
-pub formed_dataset : (d : List ℕ) → IsDataset d → IsFormedDataset d
-formed_dataset d e =
-    let w = was_read (dataset_text d) d e in
-    let a = argument (dataset_text d) w.good in
+-- without its closing slash it has no more octets than were sent
+shorter_text : (x : ℕ) (b : List ℕ) → dataset_text (x ∷ (b ++ slash ∷ [])) ≡ x ∷ b
+shorter_text x b =
+    let size : length (b ++ slash ∷ []) ≡ length b + 1 = length-append b (slash ∷ []) in
+    let long : nat_le (length (x ∷ (b ++ slash ∷ []))) 1 ≡ false = grind (arith, nat_tests, size) in
+    rw (long, without_end slash (x ∷ b)) refl
+
+no_longer : (text : List ℕ) → length (dataset_text text) ≤ length text
+no_longer text = by_size (nat_le (length text) 1) where
+  by_size : (b : Bool) → length (if b then text else take (length text - 1) text) ≤ length text
+  by_size true = omega arith
+  by_size false = let size = length-take-le (length text - 1) text (omega arith) in omega (arith, size)
+
+as_sent : (text : List ℕ) → begins_with slash text ≡ true → length (dataset_text (closed text)) ≤ length text
+as_sent [] h = absurd cc
+as_sent (x ∷ text) h = by_end (ends_with slash (x ∷ text)) where
+  by_end : (b : Bool) → length (dataset_text (if b then x ∷ text else x ∷ (text ++ slash ∷ []))) ≤ length (x ∷ text)
+  by_end true = no_longer (x ∷ text)
+  by_end false = let size = ap (λ (t : List ℕ). length t) (shorter_text x text) in omega (arith, size)
+
+dataset_formed : (text d : List ℕ) → dataset_named text ≡ Ok d → IsFormedDataset d
+dataset_formed text d e =
+    let w = was_read text d e in
+    let a = argument text w.good in
+    let size : length text ≤ 1024 = leb-true (length text) 1024 a.size in
+    let sent : length (dataset_text (closed text)) ≤ 1024 = omega (arith, size, as_sent text a.begins) in
     record {
-      components = components (dataset_text d);
-      is = subst (λ (t : List ℕ). IsMadeOf (components (dataset_text d)) t) w.is (made_of (dataset_text d) a.begins a.parts);
-      few = leb-true (length (components (dataset_text d))) 16 a.few;
-      octets = leb-true (length (dataset_text d)) 1024 a.size;
+      components = components text;
+      is = subst (λ (t : List ℕ). IsMadeOf (components text) t) w.is (made_of text a.begins a.parts);
+      few = leb-true (length (components text)) 16 a.few;
+      octets = subst (λ (t : List ℕ). length (dataset_text t) ≤ 1024) w.is sent;
     }
+
+pub formed_dataset : (d : List ℕ) → IsDataset d → IsFormedDataset d
+formed_dataset d e = dataset_formed (dataset_text d) d e
 
 ends_in_slash : (d : List ℕ) → IsDataset d → ends_with slash d ≡ true
 ends_in_slash d e = let w = was_read (dataset_text d) d e in ap (ends_with slash) (sym w.is) ∙ closed_ends (dataset_text d)
@@ -319,12 +346,6 @@ path_is_good d n cs m name octets =
     let steps : length (components d) + (if length n == 0 then 0 else 1) ≤ 16 = subst (λ (all : List (List ℕ)). length all + (if length n == 0 then 0 else 1) ≤ 16) (sym parts) i.few in
     rw (le-leb (length (d ++ n)) 1024 octets, k.dataset, k.name, begins, all, i.good, le-leb (length (components d) + (if length n == 0 then 0 else 1)) 16 steps) refl
 
-shorter_text : (b : List ℕ) → dataset_text (slash ∷ (b ++ slash ∷ [])) ≡ slash ∷ b
-shorter_text b =
-    let size : length (b ++ slash ∷ []) ≡ length b + 1 = length-append b (slash ∷ []) in
-    let long : nat_le (length (slash ∷ (b ++ slash ∷ []))) 1 ≡ false = grind (arith, nat_tests, size) in
-    rw (long, without_end slash (slash ∷ b)) refl
-
 read_between : (b : List ℕ) → list_all is_component (slice_split is_slash b) ≡ true → length (slice_split is_slash b) ≤ 16 → length (slash ∷ b) ≤ 1024 → IsDataset (slash ∷ (b ++ slash ∷ []))
 unfolding is_component
 read_between [] parts few octets = absurd cc
@@ -337,7 +358,7 @@ read_between (y ∷ ys) parts few octets =
       parts = ap (list_all is_component) are ∙ parts;
       few = ap (λ (cs : List (List ℕ)). nat_le (length cs) 16) are ∙ le-leb (length (slice_split is_slash (y ∷ ys))) 16 few;
     } in
-    read_back (slash ∷ y ∷ ys) (slash ∷ ((y ∷ ys) ++ slash ∷ [])) (by_argument (slash ∷ y ∷ ys) a) (rw ends refl) (shorter_text (y ∷ ys))
+    read_back (slash ∷ y ∷ ys) (slash ∷ ((y ∷ ys) ++ slash ∷ [])) (by_argument (slash ∷ y ∷ ys) a) (rw ends refl) (shorter_text slash (y ∷ ys))
 
 made_good : (cs : List (List ℕ)) → AllByRecursion IsComponent cs → length cs ≤ 16 → length (dataset_text (slash ∷ closed_each cs)) ≤ 1024 → IsDataset (slash ∷ closed_each cs)
 unfolding dataset_named is_dataset_argument components
@@ -346,12 +367,16 @@ made_good (c ∷ cs) h few octets =
     let b = bare c cs in
     let whole : closed_each (c ∷ cs) ≡ bare c cs ++ slash ∷ [] = closed_bare c cs in
     let split : slice_split is_slash (bare c cs) ≡ c ∷ cs = split_bare c cs h in
-    let text_is : dataset_text (slash ∷ closed_each (c ∷ cs)) ≡ slash ∷ bare c cs = ap (λ (t : List ℕ). dataset_text (slash ∷ t)) whole ∙ shorter_text (bare c cs) in
+    let text_is : dataset_text (slash ∷ closed_each (c ∷ cs)) ≡ slash ∷ bare c cs = ap (λ (t : List ℕ). dataset_text (slash ∷ t)) whole ∙ shorter_text slash (bare c cs) in
     subst (λ (t : List ℕ). IsDataset (slash ∷ t)) (sym whole)
     (read_between (bare c cs) (ap (list_all is_component) split ∙ by_components (c ∷ cs) h) (subst (λ (all : List (List ℕ)). length all ≤ 16) (sym split) few) (subst (λ (t : List ℕ). length t ≤ 1024) text_is octets))
 
 dataset_is_good : (d : List ℕ) → IsFormedDataset d → IsDataset d
 dataset_is_good d f = subst IsDataset (sym f.is.whole) (made_good f.components f.is.each f.few (subst (λ (t : List ℕ). length (dataset_text t) ≤ 1024) f.is.whole f.octets))
+
+-- a dataset that was read is read back without its closing slash
+pub dataset_back : (text d : List ℕ) → dataset_named text ≡ Ok d → IsDataset d
+dataset_back text d e = dataset_is_good d (dataset_formed text d e)
 
 -- ---- attributes and contexts
 
@@ -405,6 +430,31 @@ same_path : (good : Bool) (p q : Path) → if_named good p ≡ Ok q → p ≡ q
 same_path true p q e = cc
 same_path false p q e = absurd cc
 
+-- ---- what is looked through
+
+abbrev IsTarget : Target → Type 0
+IsTarget of = Names target_named (target_text of) of × IsFormedTarget of
+
+pub target_is : (text : List ℕ) (of : Target) → target_named text ≡ Ok of → IsTarget of
+unfolding target_named context_named
+target_is text of e = by_slash (begins_with slash text) refl e where
+  by_dataset : (r : Result (List ℕ) GrammarFault) → dataset_named text ≡ r → (r >>= λ dataset. Ok (target.Dataset dataset)) ≡ Ok of → IsTarget of
+  by_dataset (Err f) m k = absurd cc
+  by_dataset (Ok d) m k =
+      let same : target.Dataset d ≡ of = cc in
+      let back = dataset_back text d m in
+      let begins = (argument (dataset_text d) (was_read (dataset_text d) d back).good).begins in
+      subst IsTarget same (rw (begins, back) refl, dataset_formed text d m)
+
+  by_name : (b : Bool) → is_context_name text ≡ b → begins_with slash text ≡ false → (if_named b text >>= λ name. Ok (target.Context name)) ≡ Ok of → IsTarget of
+  by_name false m n k = absurd cc
+  by_name true m n k = let same : target.Context text ≡ of = cc in subst IsTarget same (rw (n, m) refl, tt)
+
+  by_slash : (b : Bool) → begins_with slash text ≡ b
+      → (if b then (dataset_named text >>= λ dataset. Ok (target.Dataset dataset)) else (context_named text >>= λ name. Ok (target.Context name))) ≡ Ok of → IsTarget of
+  by_slash true m k = by_dataset (dataset_named text) refl k
+  by_slash false m k = by_name (is_context_name text) refl m k
+
 -- ---- what a RETURN names
 
 no_end : (octet : ℕ) (text : List ℕ) → Lacks octet text → ends_here octet text ≡ false
@@ -422,22 +472,25 @@ by_front : (front : List ℕ) → (front ≡ []) ⊎ IsFormedAttribute front →
 by_front front (inl e) = subst (λ (t : List ℕ). length t == 0 || is_attribute t ≡ true) (sym e) refl
 by_front front (inr f) = or_right (length front == 0) (is_attribute front) (by_attribute front f)
 
-returned_is : (text : List ℕ) (n : ReturnName) → return_named text ≡ Ok n → IsFormedReturn n
+abbrev IsReturned : List ℕ → ReturnName → Type 0
+IsReturned text n = (text ≡ return_text n) × IsFormedReturn n
+
+pub returned_is : (text : List ℕ) (n : ReturnName) → return_named text ≡ Ok n → IsReturned text n
 unfolding return_named attribute_named
-returned_is text n e = by_end (ends_with star text) e where
-  by_good : (good : Bool) (front : List ℕ) → length front == 0 || is_attribute front ≡ good → if_named good (name.Beginning front) ≡ Ok n → IsFormedReturn n
-  by_good true front m f = let same : name.Beginning front ≡ n = cc in subst IsFormedReturn same (front_is front m)
-  by_good false front m f = absurd cc
+returned_is text n e = by_end (ends_with star text) refl e where
+  by_good : (good : Bool) (front : List ℕ) → text ≡ front ++ star ∷ [] → length front == 0 || is_attribute front ≡ good → if_named good (name.Beginning front) ≡ Ok n → IsReturned text n
+  by_good true front w m f = let same : name.Beginning front ≡ n = cc in subst (IsReturned text) same (w, front_is front m)
+  by_good false front w m f = absurd cc
 
-  by_attribute_test : (good : Bool) → is_attribute text ≡ good → (if_named good text >>= λ attribute. Ok (name.Named attribute)) ≡ Ok n → IsFormedReturn n
-  by_attribute_test true m f = let same : name.Named text ≡ n = cc in subst IsFormedReturn same (attribute_is text m)
-  by_attribute_test false m f = absurd cc
+  by_test : (good : Bool) → is_attribute text ≡ good → (if_named good text >>= λ attribute. Ok (name.Named attribute)) ≡ Ok n → IsReturned text n
+  by_test true m f = let same : name.Named text ≡ n = cc in subst (IsReturned text) same (refl, attribute_is text m)
+  by_test false m f = absurd cc
 
-  by_end : (b : Bool)
+  by_end : (b : Bool) → ends_with star text ≡ b
       → (if b then (let front = take (length text - 1) text in if_named (length front == 0 || is_attribute front) (name.Beginning front)) else (if_named (is_attribute text) text >>= λ attribute. Ok (name.Named attribute))) ≡ Ok n
-      → IsFormedReturn n
-  by_end true f = by_good _ (take (length text - 1) text) refl f
-  by_end false f = by_attribute_test (is_attribute text) refl f
+      → IsReturned text n
+  by_end true m f = by_good _ (take (length text - 1) text) (sym (end_again star text m)) refl f
+  by_end false m f = by_test (is_attribute text) refl f
 
 by_returned : (n : ReturnName) → IsFormedReturn n → return_named (return_text n) ≡ Ok n
 unfolding return_named attribute_named
@@ -465,9 +518,6 @@ names_law = record {
         (whole, formed_path p (ap path_named (sym whole) ∙ e))),
     (λ h. ap path_named h.0 ∙ path_is_good p.dataset p.name h.1.components h.1.dataset h.1.name h.1.octets),
   );
-  returned = λ text n. (
-    (λ e. (sym (return_back text n e), returned_is text n e)),
-    (λ h. ap return_named h.0 ∙ by_returned n h.1),
-  );
+  returned = λ text n. (returned_is text n, (λ h. ap return_named h.0 ∙ by_returned n h.1));
   dataset = λ d. (formed_dataset d, dataset_is_good d);
 }

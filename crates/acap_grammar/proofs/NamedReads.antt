@@ -1,8 +1,8 @@
 -- Names and times that were read: a dataset is read back without its closing slash, and a time is a moment.
-use Rattle.std.proofs.Common.{◌≡◌, ℕ, ℤ, suc, ◌+◌, ◌-◌, ◌<◌, ◌≤◌, Bool, true, false, List, [], ◌∷◌, ◌++◌, length, take, drop, Some, None, Result, Ok, Err, refl, sym, ap, subst, ◌∙◌, arith, length-append, pos}
+use Rattle.std.proofs.Common.{◌≡◌, ℕ, ℤ, suc, ◌-◌, ◌<◌, Bool, true, false, List, [], ◌∷◌, ◌++◌, length, take, drop, Some, None, refl, sym, ap, subst, ◌∙◌, arith, length-append, pos}
 use Rattle.std.specs.Prelude.{if◌then◌else◌, ◌==◌, nat_le, nat_lt}
 use Rattle.std.specs.List.{list_all, slice_split, onto_first}
-use Rattle.std.proofs.lemmas.Bool.{and_parts, and_from, leb-true, le-leb}
+use Rattle.std.proofs.lemmas.Bool.{and_parts, and_from}
 use Rattle.std.proofs.lemmas.Bool.Decides.{nat_tests}
 use Rattle.std.proofs.lemmas.List.{take-append-le, take_all}
 use borrow.Author.Tests.{eqb-true}
@@ -10,18 +10,14 @@ use Rattle.jiff_core.proofs.CalendarLemmas.{day_count_bounds}
 use Rattle.jiff_core.proofs.SignedLemmas.{signed_arith}
 use Rattle.acap_entries.specs.Moments.{IsMoment}
 use Rattle.acap_entries.specs.Stamp.{IsCivil, days_of, clock_of, moment_of}
-use Rattle.acap_entries.specs.Names.{is_slash, slash, begins_with, ends_with, is_component, components, is_dataset_argument, closed, is_context_name}
+use Rattle.acap_entries.specs.Names.{is_slash, slash, begins_with, ends_with, is_component, components, is_dataset_argument, closed}
 use Rattle.acap_entries.specs.Times.{civil_in, is_time, time_of}
 use Rattle.acap_entries.specs.declared.civil.Civil.{Civil}
 use Rattle.acap_entries.proofs.StampLemmas.{zero_count}
 use Rattle.acap_entries.proofs.TimeLemmas.{civil_by_test}
-use Rattle.acap_grammar.specs.declared.grammar_fault.GrammarFault.{GrammarFault}
-use Rattle.acap_grammar.specs.declared.target.Target.{Target}
-use Rattle.acap_grammar.specs.declared.target.Target.TheVariants as target
-use Rattle.acap_grammar.specs.Arguments.{if_named, dataset_named, context_named, target_named}
-use Rattle.acap_grammar.specs.Outcome.{◌>>=◌}
-use Rattle.acap_grammar.specs.Sendable.{Names, IsDataset}
-use Rattle.acap_grammar.specs.Spelling.{dataset_text, target_text}
+use Rattle.acap_grammar.specs.Arguments.{dataset_named}
+use Rattle.acap_grammar.specs.Sendable.{IsDataset}
+use Rattle.acap_grammar.specs.Spelling.{dataset_text}
 
 -- ---- texts that end in an octet
 
@@ -116,26 +112,7 @@ pub by_argument : (text : List ℕ) → IsArgument text → is_dataset_argument 
 unfolding is_dataset_argument
 by_argument text a = and_from _ _ (and_from _ _ a.size (and_from _ _ a.begins a.parts)) a.few
 
-opened : (x : ℕ) (xs : List ℕ) → IsArgument (x ∷ (xs ++ slash ∷ [])) → IsArgument (x ∷ xs) × (ends_with slash (x ∷ xs) ≡ false)
-unfolding is_component
-opened x xs a = by_rest xs a (ap (list_all is_component) (sym (components_closed x xs)) ∙ a.parts) where
-  by_rest : (xs : List ℕ) → IsArgument (x ∷ (xs ++ slash ∷ [])) → list_all is_component (slice_split is_slash xs) ≡ true → IsArgument (x ∷ xs) × (ends_with slash (x ∷ xs) ≡ false)
-  by_rest [] a p = absurd cc
-  by_rest (y ∷ ys) a p =
-      let ends : ends_with slash (x ∷ y ∷ ys) ≡ false = ends_same slash (x ∷ y ∷ ys) ∙ no_slash_behind (y ∷ ys) (all_behind (slice_split is_slash (y ∷ ys)) p) in
-      let same : components (x ∷ y ∷ ys) ≡ components (x ∷ ((y ∷ ys) ++ slash ∷ [])) = components_open x y ys ends ∙ sym (components_closed x (y ∷ ys)) in
-      let short : length (x ∷ ((y ∷ ys) ++ slash ∷ [])) ≤ 1024 = leb-true (length (x ∷ ((y ∷ ys) ++ slash ∷ []))) 1024 a.size in
-      let size : length (x ∷ y ∷ ys) ≤ 1024 = omega (arith, short, length-append ys (slash ∷ [])) in (
-        record {
-          size = le-leb (length (x ∷ y ∷ ys)) 1024 size;
-          begins = a.begins;
-          parts = ap (list_all is_component) same ∙ a.parts;
-          few = ap (λ (cs : List (List ℕ)). nat_le (length cs) 16) same ∙ a.few;
-        },
-        ends,
-      )
-
-some_text : (text : List ℕ) → begins_with slash text ≡ true → 0 < length text
+pub some_text : (text : List ℕ) → begins_with slash text ≡ true → 0 < length text
 some_text [] h = absurd cc
 some_text (x ∷ xs) h = omega arith
 
@@ -143,35 +120,6 @@ some_text (x ∷ xs) h = omega arith
 pub read_back : (text d : List ℕ) → is_dataset_argument text ≡ true → closed text ≡ d → dataset_text d ≡ text → IsDataset d
 unfolding dataset_named
 read_back text d h c s = rw (s, h, c) refl
-
-pub dataset_named_back : (text d : List ℕ) → dataset_named text ≡ Ok d → IsDataset d
-unfolding dataset_named
-dataset_named_back text d e = by_good (is_dataset_argument text) refl e where
-  ended : (t : List ℕ) → is_dataset_argument t ≡ true → ends_with slash t ≡ true → dataset_named (dataset_text t) ≡ Ok t
-  ended [] h k = absurd cc
-  ended (x ∷ []) h k = rw (h, k) refl
-  ended (x ∷ y ∷ ys) h k =
-      let front = take (length (y ∷ ys) - 1) (y ∷ ys) in
-      let whole : front ++ slash ∷ [] ≡ y ∷ ys = with_end slash (y ∷ ys) (sym (ends_same slash (x ∷ y ∷ ys)) ∙ k) in
-      let o = opened x front (argument _ (ap (λ (t : List ℕ). is_dataset_argument (x ∷ t)) whole ∙ h)) in
-      let more : suc (suc (length ys)) - 1 ≡ suc (length ys) = omega arith in
-      let less : suc (length ys) - 1 ≡ length ys = omega arith in
-      let long : nat_le (length (x ∷ y ∷ ys)) 1 ≡ false = grind (arith, nat_tests) in
-      let text_is : dataset_text (x ∷ y ∷ ys) ≡ x ∷ front = rw (long, more, less) refl in
-      read_back (x ∷ front) (x ∷ y ∷ ys) (by_argument _ o.0) (rw o.1 (ap (λ (t : List ℕ). x ∷ t) whole)) text_is
-
-  by_end : (b : Bool) → ends_with slash text ≡ b → is_dataset_argument text ≡ true → (if b then text else text ++ slash ∷ []) ≡ d → IsDataset d
-  by_end true k h c = subst IsDataset c (ended text h k)
-  by_end false k h c =
-      let some = some_text text (argument text h).begins in
-      let size : length (text ++ slash ∷ []) ≡ length text + 1 = length-append text (slash ∷ []) in
-      let long : nat_le (length (text ++ slash ∷ [])) 1 ≡ false = grind (arith, nat_tests, size, some) in
-      let text_is : dataset_text (text ++ slash ∷ []) ≡ text = rw (long, without_end slash text) refl in
-      subst IsDataset c (read_back text (text ++ slash ∷ []) h (rw k refl) text_is)
-
-  by_good : (b : Bool) → is_dataset_argument text ≡ b → if_named b (closed text) ≡ Ok d → IsDataset d
-  by_good true h f = let same : closed text ≡ d = cc in by_end (ends_with slash text) refl h same
-  by_good false h f = absurd cc
 
 -- ---- times
 
@@ -188,32 +136,3 @@ moment_of_time text t e = by_time (is_time text) refl e where
   by_time : (b : Bool) → is_time text ≡ b → (if b then Some (moment_of (civil_in text)) else None) ≡ Some t → IsMoment t
   by_time true m f = let same : moment_of (civil_in text) ≡ t = cc in subst IsMoment same (within (civil_in text) (civil_by_test (civil_in text) (and_parts _ _ m).1))
   by_time false m f = absurd cc
-
--- ---- what is looked through
-
-pub target_back : (text : List ℕ) (of : Target) → target_named text ≡ Ok of → Names target_named (target_text of) of
-unfolding target_named dataset_named context_named
-target_back text of e = by_slash (begins_with slash text) refl e where
-  dataset_begins : (d : List ℕ) → IsDataset d → begins_with slash (dataset_text d) ≡ true
-  dataset_begins d h = by_good (is_dataset_argument (dataset_text d)) refl h where
-    by_good : (b : Bool) → is_dataset_argument (dataset_text d) ≡ b → if_named b (closed (dataset_text d)) ≡ Ok d → begins_with slash (dataset_text d) ≡ true
-    by_good true h f = (argument (dataset_text d) h).begins
-    by_good false h f = absurd cc
-
-  by_dataset : (r : Result (List ℕ) GrammarFault) → dataset_named text ≡ r → (r >>= λ dataset. Ok (target.Dataset dataset)) ≡ Ok of → Names target_named (target_text of) of
-  by_dataset (Err f) m k = absurd cc
-  by_dataset (Ok d) m k =
-      let same : target.Dataset d ≡ of = cc in
-      let back = dataset_named_back text d m in
-      subst (λ (t : Target). Names target_named (target_text t) t) same (rw (dataset_begins d back, back) refl)
-
-  by_context : (b : Bool) → is_context_name text ≡ b → begins_with slash text ≡ false → (if_named b text >>= λ name. Ok (target.Context name)) ≡ Ok of → Names target_named (target_text of) of
-  by_context false m n k = absurd cc
-  by_context true m n k =
-      let same : target.Context text ≡ of = cc in
-      subst (λ (t : Target). Names target_named (target_text t) t) same (rw (n, m) refl)
-
-  by_slash : (b : Bool) → begins_with slash text ≡ b
-      → (if b then (dataset_named text >>= λ dataset. Ok (target.Dataset dataset)) else (context_named text >>= λ name. Ok (target.Context name))) ≡ Ok of → Names target_named (target_text of) of
-  by_slash true m k = by_dataset (dataset_named text) refl k
-  by_slash false m k = by_context (is_context_name text) refl m k

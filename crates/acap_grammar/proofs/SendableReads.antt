@@ -1,6 +1,6 @@
 -- What is read is a command that can be sent.
-use Rattle.std.proofs.Common.{◌≡◌, ℕ, ℤ, zero, suc, ◌+◌, ◌-◌, ◌<◌, ◌≤◌, Bool, true, false, List, [], ◌∷◌, ◌++◌, length, take, drop, Option, Some, None, Result, Ok, Err, refl, sym, ap, subst, ◌∙◌, arith, append_assoc, length-append, ◌⊎◌, inl, inr}
-use Rattle.std.specs.Prelude.{codes, if◌then◌else◌, nat_le, IfSome, ◌&&◌, ◌||◌, ◌==◌}
+use Rattle.std.proofs.Common.{◌≡◌, ℕ, ℤ, zero, suc, ◌+◌, ◌<◌, ◌≤◌, Bool, true, false, List, [], ◌∷◌, ◌++◌, length, drop, Option, Some, None, Result, Ok, Err, refl, sym, ap, subst, ◌∙◌, arith, append_assoc, length-append, ◌⊎◌, inl, inr}
+use Rattle.std.specs.Prelude.{codes, if◌then◌else◌, nat_le, IfSome, ◌&&◌}
 use Rattle.std.specs.Str.{bytes_eq}
 use Rattle.std.specs.List.{list_all, list_any}
 use Rattle.std.specs.Char.{is_ascii_digit}
@@ -13,7 +13,7 @@ use Rattle.acap_lexer.specs.Token.{Token}
 use Rattle.acap_order.specs.Ranks.{is_numeric}
 use Rattle.acap_order.specs.declared.comparator.Comparator.{Comparator}
 use Rattle.acap_entries.specs.Moments.{IsMoment}
-use Rattle.acap_entries.specs.Names.{is_path, dataset_of, name_of, dataset_len, is_attribute, is_context_name, is_entry_name, ends_with, star}
+use Rattle.acap_entries.specs.Names.{is_path, dataset_of, name_of, dataset_len, is_attribute, is_context_name, is_entry_name}
 use Rattle.acap_entries.specs.Times.{time_of}
 use Rattle.acap_entries.specs.declared.path.Path.{Path}
 use Rattle.acap_grammar.specs.declared.command.Command.{Command}
@@ -55,10 +55,11 @@ use Rattle.acap_grammar.specs.Outcome.{◌>>=◌, Fault, Read, refused, judged}
 use Rattle.acap_grammar.specs.Searching as searching
 use Rattle.acap_grammar.specs.Sendable.{Names, IsNumber, Each, OneTo, InCase, IsAttribute, IsDataset, Within, IsObject, IsNew, AreItems, IsEntry, IsStore, IsLimit, IsContextName, IsContext, IsReturn, AreReturns, AreSorts, AreModifiers, Fits, IsTest, IsKey, levels, IsSearch, IsSendable}
 use Rattle.acap_grammar.specs.Several.{several, some_of, enclosed}
-use Rattle.acap_grammar.specs.Spelling.{return_text, target_text}
+use Rattle.acap_grammar.specs.Spelling.{target_text}
 use Rattle.acap_grammar.specs.Storing as storing
 use Rattle.acap_grammar.specs.Wanted.{Wanted, One, And, Or, Not}
-use Rattle.acap_grammar.proofs.NamedReads.{end_again, dataset_named_back, moment_of_time, target_back}
+use Rattle.acap_grammar.proofs.FormedNames.{dataset_back, returned_is, target_is}
+use Rattle.acap_grammar.proofs.NamedReads.{moment_of_time}
 use Rattle.acap_grammar.proofs.Yielding.{Yields, bind, any, value, choose, behind, IsNamed, named, past_once, new_name, worded, no_fault, next_item, no_item, kept, AddsOne, list_items, some_items, enclosed_items}
 
 -- ---- names, numbers and times
@@ -91,7 +92,7 @@ path_is p n =
     subst (λ (t : List ℕ). argument.path_named t ≡ Ok p) (sym whole) n.is
 
 dataset_is : (d : List ℕ) → IsNamed argument.dataset_named d → IsDataset d
-dataset_is d n = dataset_named_back n.text d n.is
+dataset_is d n = dataset_back n.text d n.is
 
 time_is : (t : ℤ) → IsNamed argument.time_named t → IsMoment t
 time_is t n = by_time (time_of n.text) refl n.is where
@@ -456,23 +457,6 @@ unfolding searching.metadata_part
 metadata_part n =
     choose (OneTo 32) _ _ _ (weaker _ (OneTo 32) _ (enclosed_items IsAny mark.is_string searching.metadata_at metadata 31) (λ all h. h.0)) (value (OneTo 32) (searching.default_metadata n) (left_out n))
 
-pub return_back : (text : List ℕ) (n : ReturnName) → searching.return_named text ≡ Ok n → return_text n ≡ text
-unfolding searching.return_named argument.attribute_named
-return_back text n e = by_end (ends_with star text) refl e where
-  by_front : (good : Bool) (front : List ℕ) → front ++ star ∷ [] ≡ text → argument.if_named good (name.Beginning front) ≡ Ok n → return_text n ≡ text
-  by_front true front w m = let same : name.Beginning front ≡ n = cc in subst (λ (r : ReturnName). return_text r ≡ text) same w
-  by_front false front w m = absurd cc
-
-  by_attribute : (good : Bool) → (argument.if_named good text >>= λ attribute. Ok (name.Named attribute)) ≡ Ok n → return_text n ≡ text
-  by_attribute true m = let same : name.Named text ≡ n = cc in subst (λ (r : ReturnName). return_text r ≡ text) same refl
-  by_attribute false m = absurd cc
-
-  by_end : (b : Bool) → ends_with star text ≡ b
-      → (if b then (let front = take (length text - 1) text in argument.if_named (length front == 0 || is_attribute front) (name.Beginning front)) else (argument.if_named (is_attribute text) text >>= λ attribute. Ok (name.Named attribute))) ≡ Ok n
-      → return_text n ≡ text
-  by_end true m f = by_front _ (take (length text - 1) text) (end_again star text m) f
-  by_end false m f = by_attribute _ f
-
 abbrev IsReturned : List ReturnItem → ReturnItem → Type 0
 IsReturned before r = IsReturn r
 
@@ -481,7 +465,7 @@ unfolding searching.return_at
 return_item seen =
     bind _ (AddsOne IsReturned seen) _ _ (named searching.return_named)
     (λ n h. bind _ (AddsOne IsReturned seen) _ _ (metadata_part n)
-    (λ m few. value (AddsOne IsReturned seen) _ (record { added = record { name = n; metadata = m }; whole = refl; suits = (subst (λ (t : List ℕ). searching.return_named t ≡ Ok n) (sym (return_back h.text n h.is)) h.is, few) })))
+    (λ m few. value (AddsOne IsReturned seen) _ (record { added = record { name = n; metadata = m }; whole = refl; suits = (subst (λ (t : List ℕ). searching.return_named t ≡ Ok n) (returned_is h.text n h.is).0 h.is, few) })))
 
 returns : Yields searching.returns_at AreReturns
 unfolding searching.returns_at
@@ -593,7 +577,7 @@ search_all =
     bind _ IsSearch _ _ (named argument.target_named) (λ of n. bind _ IsSearch _ _ (modifiers of) (λ s h. bind _ IsSearch _ _ (key 32)
     (λ k l. value IsSearch (record { target = s.target; modifiers = s.modifiers; key = k })
     (record {
-      target = subst (λ (t : Target). Names argument.target_named (target_text t) t) (sym h.target_is) (target_back n.text of n.is);
+      target = subst (λ (t : Target). Names argument.target_named (target_text t) t) (sym h.target_is) (target_is n.text of n.is).0;
       modifiers = h.fit.0;
       fits = subst (λ (t : Target). Fits t s.modifiers) (sym h.target_is) h.fit.1;
       key = l.0;
