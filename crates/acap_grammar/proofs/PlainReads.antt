@@ -62,36 +62,20 @@ abbrev IsOfKinds : (Kind → Bool) → Type 0
 IsOfKinds is = (k : Kind) → is (plain_kind k) ≡ is k
 
 strings_kind : IsOfKinds mark.is_string
-strings_kind kind.Tag = refl
-strings_kind kind.Word = refl
-strings_kind kind.Quoted = refl
 strings_kind kind.Literal = refl
-strings_kind kind.Open = refl
-strings_kind kind.Close = refl
+strings_kind _ = refl
 
 words_kind : IsOfKinds mark.is_word
-words_kind kind.Tag = refl
-words_kind kind.Word = refl
-words_kind kind.Quoted = refl
 words_kind kind.Literal = refl
-words_kind kind.Open = refl
-words_kind kind.Close = refl
+words_kind _ = refl
 
 opens_kind : IsOfKinds mark.is_open
-opens_kind kind.Tag = refl
-opens_kind kind.Word = refl
-opens_kind kind.Quoted = refl
 opens_kind kind.Literal = refl
-opens_kind kind.Open = refl
-opens_kind kind.Close = refl
+opens_kind _ = refl
 
 closes_kind : IsOfKinds mark.is_close
-closes_kind kind.Tag = refl
-closes_kind kind.Word = refl
-closes_kind kind.Quoted = refl
 closes_kind kind.Literal = refl
-closes_kind kind.Open = refl
-closes_kind kind.Close = refl
+closes_kind _ = refl
 
 -- ---- one reader behind another
 
