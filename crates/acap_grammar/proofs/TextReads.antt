@@ -41,7 +41,7 @@ use Rattle.acap_grammar.specs.declared.test.Test.TheVariants as test
 use Rattle.acap_grammar.specs.Alike.{plain_kind, plain}
 use Rattle.acap_grammar.specs.Sendable.{IsNumber, IsLimit, AreModifiers, IsTest, IsKey, IsSendable}
 use Rattle.acap_grammar.specs.Spelling as spelling
-use Rattle.acap_grammar.specs.Texts.{written_string, written, pieces_behind, pieces_of, line_of, holding, SpelledTexts}
+use Rattle.acap_grammar.specs.Texts.{written_string, written, pieces_behind, pieces_of, line_of, holding, SpelledTexts, ReadsTexts}
 use Rattle.acap_grammar.specs.Wanted.{Wanted, One, And, Or, Not}
 use Rattle.acap_grammar.proofs.NumberReads.{numerals}
 use Rattle.acap_grammar.proofs.PlainReads.{places_law}
@@ -390,3 +390,7 @@ spelled_texts tag rest c h s short =
     let alike : map plain tokens ≡ map plain (spelling.tokens_of tag c) =
     ap (λ (ts : List Token). spelling.token kind.Tag tag ∷ ts) b.alike ∙ sym (ap (λ (ts : List Token). map plain ts) whole) in
     (tokens, line_answered (line_of tag c) rest tokens (spelling_reads mode.Command (line_of tag c) rest tokens 0 is_spelling), (places_law tokens (spelling.tokens_of tag c) alike).0 ∙ spells_commands tag c s)
+
+pub reads_texts : ReadsTexts
+reads_texts tag text rest c tokens waits s is_spelling alike =
+    (spelling_reads mode.Command text rest tokens waits is_spelling, (places_law tokens (spelling.tokens_of tag c) alike).0 ∙ spells_commands tag c s)

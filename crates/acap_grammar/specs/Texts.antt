@@ -1,5 +1,5 @@
 -- A command as text: the tokens of its plainest spelling, as they are written in a line [RFC 2244 sections 2.2, 2.6 and 8].
-use Rattle.std.specs.Prelude.{◌≡◌, ℕ, ◌≤◌, List, [], ◌∷◌, ◌++◌, length, drop, decimal, false, None, Ok, if◌then◌else◌}
+use Rattle.std.specs.Prelude.{◌≡◌, ℕ, ◌≤◌, List, [], ◌∷◌, ◌++◌, length, drop, decimal, false, None, Ok, if◌then◌else◌, Some}
 use Rattle.std.specs.List.{AllByRecursion}
 use Rattle.acap_lexer.specs.declared.kind.Kind.{Kind}
 use Rattle.acap_lexer.specs.declared.kind.Kind.TheVariants as kind
@@ -8,9 +8,11 @@ use Rattle.acap_lexer.specs.declared.mode.Mode.TheVariants as mode
 use Rattle.acap_lexer.specs.Held.{next_of}
 use Rattle.acap_lexer.specs.Holding.{Held}
 use Rattle.acap_lexer.specs.Printing.{may_quote}
-use Rattle.acap_lexer.specs.Spelling.{Written, Word, Quoted, Literal, Open, Close, Piece, IsTag, kind_of, may_part, part_lengths, text_of}
+use Rattle.acap_lexer.specs.Spelling.{Written, Word, Quoted, Literal, Open, Close, Piece, IsSpelling, IsTag, kind_of, may_part, part_lengths, text_of}
+use Rattle.acap_lexer.specs.Stream.{progress}
 use Rattle.acap_lexer.specs.Token.{Token}
 use Rattle.acap_grammar.specs.declared.command.Command.{Command}
+use Rattle.acap_grammar.specs.Alike.{Alike}
 use Rattle.acap_grammar.specs.Grammar.{command_of}
 use Rattle.acap_grammar.specs.Sendable.{IsSendable}
 use Rattle.acap_grammar.specs.Spelling.{tokens_of}
@@ -55,3 +57,9 @@ holding text = record { text = text; told = 0; fatal = None }
 abbrev pub SpelledTexts : Type 0
 SpelledTexts = (tag rest : List ℕ) (c : Command) → IsTag tag → IsSendable c → IsShort tag c
     → (tokens : List Token) × (next_of mode.Command (holding (line_of tag c ++ rest)) ≡ (Line tokens, holding rest)) × (command_of tokens ≡ Ok c)
+
+-- So is every other text of these tokens, with strings as literals or between quotes, with or without spaces where either
+-- may be: it is read as that command once the literals that wait have been told to go on.
+abbrev pub ReadsTexts : Type 0
+ReadsTexts = (tag text rest : List ℕ) (c : Command) (tokens : List Token) (waits : ℕ) → IsSendable c → IsSpelling mode.Command tokens waits text → Alike tokens (tokens_of tag c)
+    → (progress mode.Command (text ++ rest) ≡ record { waits = waits; item = Some (Line tokens, length text) }) × (command_of tokens ≡ Ok c)

@@ -4,7 +4,7 @@ ghost use Rattle.acap_grammar.specs.Examples.{LineExamples, LineFaults, LimitExa
 ghost use Rattle.acap_grammar.specs.Formed.{NamesLaw, ReadsFormed};
 ghost use Rattle.acap_grammar.specs.Laws.{FirstFault, CommandExamples, FaultExamples, ReplyExamples};
 ghost use Rattle.acap_grammar.specs.Sendable.{ReadsSendable, SpellsCommands};
-ghost use Rattle.acap_grammar.specs.Texts.{SpelledTexts};
+ghost use Rattle.acap_grammar.specs.Texts.{ReadsTexts, SpelledTexts};
 
 /// The fault is the first from the left: what stands behind the token at which it lies changes nothing, and it lies at
 /// the end of the line only where an argument or the verb is missing.
@@ -66,9 +66,10 @@ pub fn sendable_law()
 {}
 
 /// Each command within the limits has a text, whose octets are answered by a line that is read as that command, whatever
-/// follows (RFC 2244 sections 2.2, 2.6 and 8).
+/// follows; and so is every other text of its tokens (RFC 2244 sections 2.2, 2.6 and 8).
 pub fn spelled_texts()
-    ensures { SpelledTexts }
+    ensures plainest { SpelledTexts }
+    ensures others { ReadsTexts }
 {}
 
 /// Names are read exactly where they are well formed: paths and datasets from their components on, attributes and
