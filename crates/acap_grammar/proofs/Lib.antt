@@ -15,3 +15,10 @@ pub mod ReplyEquality
 pub mod CommandEquality
 pub mod Ascending
 pub mod OrderLemmas
+pub mod PlainReads
+pub mod Yielding
+pub mod NamedReads
+pub mod SendableReads
+pub mod TextReads
+pub mod FormedNames
+pub mod FormedReads

@@ -12,18 +12,18 @@ use Rattle.acap_grammar.specs.Arguments.{number_in, number_at}
 use Rattle.acap_grammar.specs.Sendable.{IsNumber}
 use Rattle.acap_grammar.specs.Spelling.{number}
 
-abbrev read_on : ℕ → List ℕ → ℕ
+abbrev pub read_on : ℕ → List ℕ → ℕ
 read_on n digits = fold (λ n d. 10 * n + (d - 48)) n digits
 
-own : IsNumeralModel (λ ds. list_all is_ascii_digit ds ≡ true) (read_on 0)
-own = numerals_by_fold _ (search rules) read_on (search rules)
+pub numerals : IsNumeralModel (λ ds. list_all is_ascii_digit ds ≡ true) (read_on 0)
+numerals = numerals_by_fold _ (search rules) read_on (search rules)
 
 back : (n : ℕ) → IsNumber n → number_in (decimal n) ≡ Some n
 unfolding count_of is_count
 back n h =
     let small : n < 2 ^ 64 = omega arith in
-    let digits : list_all is_ascii_digit (decimal n) ≡ true = digits_decimal own n small in
-    let value : read_on 0 (decimal n) ≡ n = digits_value-decimal own n small in
+    let digits : list_all is_ascii_digit (decimal n) ≡ true = digits_decimal numerals n small in
+    let value : read_on 0 (decimal n) ≡ n = digits_value-decimal numerals n small in
     let some : leb 1 (length (decimal n)) ≡ true = le-leb _ _ (decimal_nonempty n small) in
     let ten : leb (length (decimal n)) 10 ≡ true = le-leb _ _ (length-decimal-le 10 n (omega arith) (omega arith) small) in
     let fits : leb (read_on 0 (decimal n)) 4294967295 ≡ true = le-leb _ _ (omega (arith, value, h)) in

@@ -17,3 +17,6 @@ pub mod Several
 pub mod Spelling
 pub mod Storing
 pub mod Wanted
+pub mod Alike
+pub mod Texts
+pub mod Formed

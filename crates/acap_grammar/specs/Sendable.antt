@@ -2,6 +2,7 @@
 -- sections 3, 6 and 8].
 use Rattle.std.specs.Prelude.{◌≡◌, ℕ, zero, suc, ◌+◌, ◌≤◌, ◌<◌, List, [], ◌∷◌, ◌++◌, length, Bool, true, false, ◌&&◌, Option, Some, None, IfSome, Result, Ok, max}
 use Rattle.std.specs.Str.{bytes_eq}
+use Rattle.acap_lexer.specs.Token.{Token}
 use Rattle.acap_order.specs.Ranks.{is_numeric}
 use Rattle.acap_entries.specs.Moments.{IsMoment}
 use Rattle.acap_grammar.specs.declared.command.Command.{Command}
@@ -172,3 +173,7 @@ IsSendable (command.UpdateContext names) = OneTo 200 names × Each (λ before na
 -- each of them is the command for which its plainest spelling stands
 abbrev pub SpellsCommands : Type 0
 SpellsCommands = (tag : List ℕ) (c : Command) → IsSendable c → command_of (tokens_of tag c) ≡ Ok c
+
+-- and nothing else is read as a command
+abbrev pub ReadsSendable : Type 0
+ReadsSendable = (tokens : List Token) (c : Command) → command_of tokens ≡ Ok c → IsSendable c

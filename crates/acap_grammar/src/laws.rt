@@ -1,12 +1,21 @@
 //! What follows from the definitions alone: each function does nothing, and its contract is the law.
+ghost use Rattle.acap_grammar.specs.Alike.{PlacesLaw};
 ghost use Rattle.acap_grammar.specs.Examples.{LineExamples, LineFaults, LimitExamples, TextExamples};
+ghost use Rattle.acap_grammar.specs.Formed.{NamesLaw, ReadsFormed};
 ghost use Rattle.acap_grammar.specs.Laws.{FirstFault, CommandExamples, FaultExamples, ReplyExamples};
-ghost use Rattle.acap_grammar.specs.Sendable.{SpellsCommands};
+ghost use Rattle.acap_grammar.specs.Sendable.{ReadsSendable, SpellsCommands};
+ghost use Rattle.acap_grammar.specs.Texts.{ReadsTexts, SpelledTexts};
 
 /// The fault is the first from the left: what stands behind the token at which it lies changes nothing, and it lies at
 /// the end of the line only where an argument or the verb is missing.
 pub fn first_fault()
     ensures { FirstFault }
+{}
+
+/// What a line says doesn't depend on where its tokens lie, nor on which strings are literals: lines with tokens of the
+/// same kinds and values are the same command, or have the same fault at the same token (RFC 2244 sections 2.2 and 2.6.3).
+pub fn places_law()
+    ensures { PlacesLaw }
 {}
 
 /// The tokens of a STORE, a SEARCH and a DELETEACL (RFC 2244 sections 6.4.1, 6.6.1 and 6.7) and the commands that they are.
@@ -47,4 +56,24 @@ pub fn text_examples()
 /// Each command within the limits is read back from its plainest spelling (RFC 2244 sections 6 and 8).
 pub fn spelled_commands()
     ensures { SpellsCommands }
+{}
+
+/// What is read as a command can be sent, and its paths are well formed: nothing beyond the names, the limits and the
+/// combinations of the table is accepted (RFC 2244 sections 3, 6 and 8).
+pub fn sendable_law()
+    ensures sendable { ReadsSendable }
+    ensures paths { ReadsFormed }
+{}
+
+/// Each command within the limits has a text, whose octets are answered by a line that is read as that command, whatever
+/// follows; and so is every other text of its tokens (RFC 2244 sections 2.2, 2.6 and 8).
+pub fn spelled_texts()
+    ensures plainest { SpelledTexts }
+    ensures others { ReadsTexts }
+{}
+
+/// Names are read exactly where they are well formed: paths and datasets from their components on, attributes and
+/// contexts (RFC 2244 sections 3.1, 3.3 and 4.1).
+pub fn names_law()
+    ensures { NamesLaw }
 {}

@@ -49,7 +49,7 @@ by_places (d ∷ digits) count =
     by_places digits (10 * count + (d - 48)) ∙ in_places count (d - 48) (10 ^ length digits) (number digits)
     ∙ ap (λ n. count * n + ((d - 48) * 10 ^ length digits + number digits)) (sym (pow-suc 10 (length digits)))
 
-number_same : (digits : List ℕ) → number_of digits ≡ number digits
+pub number_same : (digits : List ℕ) → number_of digits ≡ number digits
 number_same digits = by_places digits 0 ∙ omega arith
 
 count_reads : (digits : List ℕ) (count : ℕ) → IsCount digits count → count_of digits ≡ Some count

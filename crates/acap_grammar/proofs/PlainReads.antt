@@ -1,0 +1,498 @@
+-- Readers read the same of tokens without their places.
+use Rattle.std.proofs.Common.{◌≡◌, ℕ, zero, suc, ◌-◌, Bool, true, false, List, [], ◌∷◌, ◌++◌, drop, Option, Some, None, Result, Ok, Err, refl, sym, ap, ◌∙◌}
+use Rattle.std.specs.Prelude.{codes, if◌then◌else◌, map, option_map, is_none}
+use Rattle.std.specs.Str.{str_eq_ignore_ascii_case}
+use Rattle.std.proofs.lemmas.List.{length-map}
+use Rattle.acap_lexer.specs.declared.kind.Kind.{Kind}
+use Rattle.acap_lexer.specs.declared.kind.Kind.TheVariants as kind
+use Rattle.acap_lexer.specs.Token.{Token}
+use Rattle.acap_order.specs.declared.comparator.Comparator.{Comparator}
+use Rattle.acap_grammar.specs.declared.command.Command.{Command}
+use Rattle.acap_grammar.specs.declared.grammar_fault.GrammarFault.{GrammarFault}
+use Rattle.acap_grammar.specs.declared.grammar_fault.GrammarFault.TheVariants as fault
+use Rattle.acap_grammar.specs.declared.make_context.MakeContext.{MakeContext}
+use Rattle.acap_grammar.specs.declared.relation.Relation.{Relation}
+use Rattle.acap_grammar.specs.declared.relation.Relation.TheVariants as relation
+use Rattle.acap_grammar.specs.declared.return_item.ReturnItem.{ReturnItem}
+use Rattle.acap_grammar.specs.declared.return_name.ReturnName.{ReturnName}
+use Rattle.acap_grammar.specs.declared.search_modifiers.SearchModifiers.{SearchModifiers}
+use Rattle.acap_grammar.specs.declared.searching.Scope.{Scope}
+use Rattle.acap_grammar.specs.declared.store_entry.StoreEntry.{StoreEntry}
+use Rattle.acap_grammar.specs.declared.store_item.StoreItem.{StoreItem}
+use Rattle.acap_grammar.specs.declared.store_modifiers.StoreModifiers.{StoreModifiers}
+use Rattle.acap_grammar.specs.declared.storing.Gifts.{Gifts}
+use Rattle.acap_grammar.specs.declared.target.Target.{Target}
+use Rattle.acap_grammar.specs.declared.verb.Verb.{Verb}
+use Rattle.acap_grammar.specs.declared.verb.Verb.TheVariants as verb
+use Rattle.acap_grammar.specs.declared.words.KeyWord.{KeyWord}
+use Rattle.acap_grammar.specs.declared.words.KeyWord.TheVariants as key_word
+use Rattle.acap_grammar.specs.declared.words.SearchWord.{SearchWord}
+use Rattle.acap_grammar.specs.declared.words.SearchWord.TheVariants as search_word
+use Rattle.acap_grammar.specs.declared.words.StoreWord.{StoreWord}
+use Rattle.acap_grammar.specs.declared.words.StoreWord.TheVariants as store_word
+use Rattle.acap_grammar.specs.Alike.{plain_kind, plain, PlacesLaw}
+use Rattle.acap_grammar.specs.Arguments as argument
+use Rattle.acap_grammar.specs.Grammar as grammar
+use Rattle.acap_grammar.specs.Keys as keys
+use Rattle.acap_grammar.specs.Laws.{place_in, fault_at}
+use Rattle.acap_grammar.specs.Marks as mark
+use Rattle.acap_grammar.specs.Outcome.{◌>>=◌, Fault, Read, refused, judged}
+use Rattle.acap_grammar.specs.Searching as searching
+use Rattle.acap_grammar.specs.Several.{several, some_of, enclosed}
+use Rattle.acap_grammar.specs.Storing as storing
+use Rattle.acap_grammar.specs.Wanted.{Wanted}
+
+-- what was read, with the tokens left as plain ones
+abbrev plain_fault : Fault → Fault
+plain_fault e = record { fault = e.fault; left = map plain e.left }
+
+abbrev plain_read : {A : Type 0} → Read A → Read A
+plain_read (Ok x) = Ok (x.0, map plain x.1)
+plain_read (Err e) = Err (plain_fault e)
+
+-- a reader that doesn't look at places
+record Blind {A : Type 0} (read : List Token → Read A) : Type 0 where
+  pub same : (ts : List Token) → read (map plain ts) ≡ plain_read (read ts)
+
+-- a test of tokens, and of a kind, that doesn't either
+record Sees (test : List Token → Bool) : Type 0 where
+  pub same : (ts : List Token) → test (map plain ts) ≡ test ts
+
+abbrev IsOfKinds : (Kind → Bool) → Type 0
+IsOfKinds is = (k : Kind) → is (plain_kind k) ≡ is k
+
+strings_kind : IsOfKinds mark.is_string
+strings_kind kind.Literal = refl
+strings_kind _ = refl
+
+words_kind : IsOfKinds mark.is_word
+words_kind kind.Literal = refl
+words_kind _ = refl
+
+opens_kind : IsOfKinds mark.is_open
+opens_kind kind.Literal = refl
+opens_kind _ = refl
+
+closes_kind : IsOfKinds mark.is_close
+closes_kind kind.Literal = refl
+closes_kind _ = refl
+
+-- ---- one reader behind another
+
+value : {A : Type 0} (x : A) → Blind (λ (ts : List Token). Ok (x, ts))
+value x = record { same = λ ts. refl }
+
+-- the second also looks at the tokens of the first
+bind_all : {A B : Type 0} (read : List Token → Read A) (f : List Token → A × List Token → Read B) → Blind read
+    → ((x : A) (ts rest : List Token) → f (map plain ts) (x, map plain rest) ≡ plain_read (f ts (x, rest))) → Blind (λ ts. read ts >>= f ts)
+bind_all {A} {B} read f p q = record { same = λ ts. rw (p.same ts) (by_read ts (read ts)) } where
+  by_read : (ts : List Token) (r : Read A) → (plain_read r >>= f (map plain ts)) ≡ plain_read (r >>= f ts)
+  by_read ts (Ok x) = q x.0 ts x.1
+  by_read ts (Err e) = refl
+
+bind : {A B : Type 0} (read : List Token → Read A) (f : A × List Token → Read B) → Blind read → ((x : A) → Blind (λ ts. f (x, ts))) → Blind (λ ts. read ts >>= f)
+bind read f p q = bind_all read (λ ts x. f x) p (λ x ts rest. (q x).same rest)
+
+judged_same : {A : Type 0} (judgement : Result (Unit {0}) GrammarFault) (read : List Token → Read A) → Blind read → (ts rest : List Token)
+    → (judged (map plain ts) judgement >>= λ new. read (map plain rest)) ≡ plain_read (judged ts judgement >>= λ new. read rest)
+judged_same (Ok x) read p ts rest = p.same rest
+judged_same (Err e) read p ts rest = refl
+
+choose : {A : Type 0} (test : List Token → Bool) (x y : List Token → Read A) → Sees test → Blind x → Blind y → Blind (λ ts. if test ts then x ts else y ts)
+choose test x y g p q = record { same = λ ts. rw (g.same ts) (by_test ts (test ts)) } where
+  by_test : (ts : List Token) (b : Bool) → (if b then x (map plain ts) else y (map plain ts)) ≡ plain_read (if b then x ts else y ts)
+  by_test ts true = p.same ts
+  by_test ts false = q.same ts
+
+starting : (is : Kind → Bool) → IsOfKinds is → Sees (mark.starts is)
+unfolding mark.starts
+starting is h = record { same = same } where
+  same : (ts : List Token) → mark.starts is (map plain ts) ≡ mark.starts is ts
+  same [] = refl
+  same (t ∷ ts) = h t.kind
+
+ending : Sees mark.ends
+unfolding mark.ends
+ending = record { same = same } where
+  same : (ts : List Token) → mark.ends (map plain ts) ≡ mark.ends ts
+  same [] = refl
+  same (t ∷ ts) = refl
+
+-- behind a token of a kind
+behind : {A : Type 0} (is : Kind → Bool) (f : List Token → Read A) → IsOfKinds is → Blind f → Blind (λ ts. mark.behind is ts >>= f)
+unfolding mark.behind
+behind is f h p = record { same = same } where
+  by_kind : (t : Token) (rest : List Token) (b : Bool)
+      → ((if b then Ok (map plain rest) else refused (plain t ∷ map plain rest) fault.Arguments) >>= f) ≡ plain_read ((if b then Ok rest else refused (t ∷ rest) fault.Arguments) >>= f)
+  by_kind t rest true = p.same rest
+  by_kind t rest false = refl
+
+  same : (ts : List Token) → (mark.behind is (map plain ts) >>= f) ≡ plain_read (mark.behind is ts >>= f)
+  same [] = refl
+  same (t ∷ rest) = rw (h t.kind) (by_kind t rest (is t.kind))
+
+-- ---- strings, names and numbers
+
+string : Blind mark.string_at
+unfolding mark.string_at
+string = record { same = same } where
+  by_kind : (t : Token) (rest : List Token) (b : Bool)
+      → (if b then Ok (t.value, map plain rest) else refused (plain t ∷ map plain rest) fault.Arguments) ≡ plain_read (if b then Ok (t.value, rest) else refused (t ∷ rest) fault.Arguments)
+  by_kind t rest true = refl
+  by_kind t rest false = refl
+
+  same : (ts : List Token) → mark.string_at (map plain ts) ≡ plain_read (mark.string_at ts)
+  same [] = refl
+  same (t ∷ rest) = rw (strings_kind t.kind) (by_kind t rest (mark.is_string t.kind))
+
+judged_name : {A : Type 0} (judgement : Result A GrammarFault) (ts rest : List Token)
+    → (judged (map plain ts) judgement >>= λ x. Ok (x, map plain rest)) ≡ plain_read (judged ts judgement >>= λ x. Ok (x, rest))
+judged_name (Ok x) ts rest = refl
+judged_name (Err e) ts rest = refl
+
+named : {A : Type 0} (read : List ℕ → Result A GrammarFault) → Blind (argument.named_at read)
+unfolding argument.named_at
+named read = bind_all _ _ string (λ text ts rest. judged_name (read text) ts rest)
+
+-- a name that didn't stand before
+new_name : {A B : Type 0} (read : List ℕ → Result A GrammarFault) (stood : A → Bool) (f : A → List Token → Read B) → ((x : A) → Blind (f x))
+    → Blind (λ ts. argument.named_at read ts >>= λ x. judged ts (storing.once (stood x.0)) >>= λ new. f x.0 x.1)
+new_name read stood f p = bind_all _ _ (named read) (λ x ts rest. judged_same (storing.once (stood x)) (f x) (p x) ts rest)
+
+number : Blind argument.number_at
+unfolding argument.number_at
+number = record { same = same } where
+  by_kind : (t : Token) (rest : List Token) (b : Bool)
+      → (if b then (judged (plain t ∷ map plain rest) (argument.or_fault fault.Arguments (argument.number_in t.value)) >>= λ x. Ok (x, map plain rest)) else refused (plain t ∷ map plain rest) fault.Arguments)
+      ≡ plain_read (if b then (judged (t ∷ rest) (argument.or_fault fault.Arguments (argument.number_in t.value)) >>= λ x. Ok (x, rest)) else refused (t ∷ rest) fault.Arguments)
+  by_kind t rest true = judged_name (argument.or_fault fault.Arguments (argument.number_in t.value)) (t ∷ rest) rest
+  by_kind t rest false = refl
+
+  same : (ts : List Token) → argument.number_at (map plain ts) ≡ plain_read (argument.number_at ts)
+  same [] = refl
+  same (t ∷ rest) = rw (words_kind t.kind) (by_kind t rest (mark.is_word t.kind))
+
+-- ---- words
+
+abbrev plain_word : {W : Type 0} → Option (W × List Token) → Option (W × List Token)
+plain_word None = None
+plain_word (Some x) = Some (x.0, map plain x.1)
+
+word_same : {W : Type 0} (table : List (List ℕ × W)) (ts : List Token) → mark.word_at table (map plain ts) ≡ plain_word (mark.word_at table ts)
+unfolding mark.word_at
+word_same table [] = refl
+word_same {W} table (t ∷ rest) = rw (words_kind t.kind) (by_word (mark.is_word t.kind) (mark.word_in table t.value)) where
+  by_word : (b : Bool) (o : Option W) → (if b then option_map (λ x. (x, map plain rest)) o else None) ≡ plain_word (if b then option_map (λ x. (x, rest)) o else None)
+  by_word false o = refl
+  by_word true None = refl
+  by_word true (Some w) = refl
+
+worded_first : {W : Type 0} (table : List (List ℕ × W)) → Sees (λ ts. is_none (mark.word_at table ts))
+worded_first {W} table = record { same = λ ts. rw (word_same table ts) (by_word (mark.word_at table ts)) } where
+  by_word : (o : Option (W × List Token)) → is_none (plain_word o) ≡ is_none o
+  by_word None = refl
+  by_word (Some x) = refl
+
+-- what is read by a word of a table
+worded : {W A : Type 0} (table : List (List ℕ × W)) (g : List Token → Option (W × List Token) → Read A) → Blind (λ ts. g ts None)
+    → ((w : W) (ts rest : List Token) → g (map plain ts) (Some (w, map plain rest)) ≡ plain_read (g ts (Some (w, rest)))) → Blind (λ ts. g ts (mark.word_at table ts))
+worded {W} {A} table g none some = record { same = λ ts. rw (word_same table ts) (by_word ts (mark.word_at table ts)) } where
+  by_word : (ts : List Token) (o : Option (W × List Token)) → g (map plain ts) (plain_word o) ≡ plain_read (g ts o)
+  by_word ts None = none.same ts
+  by_word ts (Some x) = some x.0 ts x.1
+
+missing : {A : Type 0} (e : GrammarFault) → Blind {A = A} (λ ts. refused ts e)
+missing e = record { same = λ ts. refl }
+
+-- what is read where a word stands first, and where not
+abbrev plain_rest : Option (List Token) → Option (List Token)
+plain_rest None = None
+plain_rest (Some rest) = Some (map plain rest)
+
+flag_same : (text : List ℕ) (ts : List Token) → mark.behind_word text (map plain ts) ≡ plain_rest (mark.behind_word text ts)
+unfolding mark.behind_word
+flag_same text [] = refl
+flag_same text (t ∷ rest) = rw (words_kind t.kind) (by_tests (mark.is_word t.kind) (str_eq_ignore_ascii_case t.value text)) where
+  by_tests : (b c : Bool) → (if b then (if c then Some (map plain rest) else None) else None) ≡ plain_rest (if b then (if c then Some rest else None) else None)
+  by_tests false c = refl
+  by_tests true false = refl
+  by_tests true true = refl
+
+flagged : {A : Type 0} (text : List ℕ) (g : List Token → Option (List Token) → Read A) → Blind (λ ts. g ts None)
+    → ((ts rest : List Token) → g (map plain ts) (Some (map plain rest)) ≡ plain_read (g ts (Some rest))) → Blind (λ ts. g ts (mark.behind_word text ts))
+flagged text g none some = record { same = λ ts. rw (flag_same text ts) (by_flag ts (mark.behind_word text ts)) } where
+  by_flag : (ts : List Token) (o : Option (List Token)) → g (map plain ts) (plain_rest o) ≡ plain_read (g ts o)
+  by_flag ts None = none.same ts
+  by_flag ts (Some rest) = some ts rest
+
+-- ---- items one after the other
+
+items : {A : Type 0} (over fits : List Token → Bool) (item : A → List Token → Read A) → Sees over → Sees fits → ((seen : A) → Blind (item seen)) → (room : ℕ) (seen : A) → Blind (several over fits item room seen)
+unfolding several
+items over fits item o f p zero seen = choose over _ _ o (value seen) (record { same = λ ts. rw (f.same ts) refl })
+items over fits item o f p (suc room) seen = choose over _ _ o (value seen) (bind (item seen) _ (p seen) (λ x. items over fits item o f p room x))
+
+some_items : {A : Type 0} (over fits : List Token → Bool) (item : A → List Token → Read A) → Sees over → Sees fits → ((seen : A) → Blind (item seen)) → (most : ℕ) (none : A) → Blind (some_of over fits item most none)
+unfolding some_of
+some_items over fits item o f p most none = bind (item none) _ (p none) (λ x. items over fits item o f p (most - 1) x)
+
+-- strings in a parenthesis
+enclosed_items : {A : Type 0} (item : A → List Token → Read A) → ((seen : A) → Blind (item seen)) → (most : ℕ) (none : A) → Blind (enclosed (mark.starts mark.is_close) (mark.starts mark.is_string) item most none)
+unfolding enclosed
+enclosed_items item p most none =
+    behind mark.is_open _ opens_kind (bind _ _ (some_items _ _ item (starting mark.is_close closes_kind) (starting mark.is_string strings_kind) p most none) (λ x. behind mark.is_close _ closes_kind (value x)))
+
+-- ---- objects
+
+entry_part : (dataset : List ℕ) → Blind (argument.entry_part dataset)
+unfolding argument.entry_part
+entry_part dataset = choose _ _ _ (starting mark.is_close closes_kind) (value _) (bind _ _ (named _) (λ x. value _))
+
+attribute_part : (dataset : List ℕ) → Blind (argument.attribute_part dataset)
+unfolding argument.attribute_part
+attribute_part dataset = choose _ _ _ (starting mark.is_close closes_kind) (value _) (bind _ _ (named _) (λ a. bind _ _ (entry_part dataset) (λ n. value _)))
+
+object : Blind argument.object_at
+unfolding argument.object_at
+object = behind mark.is_open _ opens_kind (bind _ _ (named _) (λ d. bind _ _ (attribute_part d) (λ p. behind mark.is_close _ closes_kind (value _))))
+
+-- ---- STORE
+
+strings_same : (ts : List Token) (seen : List (List ℕ)) → storing.strings_at seen (map plain ts) ≡ plain_read (storing.strings_at seen ts)
+unfolding storing.strings_at
+strings_same [] seen = refl
+strings_same (t ∷ rest) seen = rw (closes_kind t.kind, strings_kind t.kind) (by_kind (mark.is_close t.kind) (mark.is_string t.kind) (strings_same rest (seen ++ t.value ∷ []))) where
+  by_kind : (b c : Bool) → storing.strings_at (seen ++ t.value ∷ []) (map plain rest) ≡ plain_read (storing.strings_at (seen ++ t.value ∷ []) rest)
+      → (if b then Ok (seen, map plain rest) else (if c then storing.strings_at (seen ++ t.value ∷ []) (map plain rest) else refused (plain t ∷ map plain rest) fault.Arguments))
+      ≡ plain_read (if b then Ok (seen, rest) else (if c then storing.strings_at (seen ++ t.value ∷ []) rest else refused (t ∷ rest) fault.Arguments))
+  by_kind true c further = refl
+  by_kind false true further = further
+  by_kind false false further = refl
+
+-- behind the first token, whatever that is
+past_first : {A : Type 0} (read : List Token → Read A) → Blind read → Blind (λ ts. read (drop 1 ts))
+past_first read p = record { same = same } where
+  same : (ts : List Token) → read (drop 1 (map plain ts)) ≡ plain_read (read (drop 1 ts))
+  same [] = p.same []
+  same (t ∷ rest) = p.same rest
+
+plain_value : Blind storing.plain_at
+unfolding storing.plain_at
+plain_value =
+    choose _ _ _ (starting mark.is_string strings_kind) (bind _ _ string (λ x. value _))
+    (worded storing.given_words (λ ts o. judged ts (argument.or_fault fault.Arguments o)) (missing fault.Arguments) (λ w ts rest. refl))
+
+given : Blind storing.given_at
+unfolding storing.given_at
+given = choose _ _ _ (starting mark.is_open opens_kind) (bind _ _ (past_first _ (record { same = λ ts. strings_same ts [] })) (λ x. value _)) plain_value
+
+gift : (seen : Gifts) → Blind (storing.gift_at seen)
+unfolding storing.gift_at
+gift seen =
+    new_name storing.metadata_named (λ m. storing.has_item seen.attribute m seen.items)
+    (λ m ts. storing.given_at ts >>= λ g. Ok (record seen { items = seen.items ++ record { attribute = seen.attribute; metadata = m; given = g.0 } ∷ [] }, g.1)) (λ m. bind _ _ given (λ g. value _))
+
+gifts : (seen : Gifts) → Blind (storing.gifts_at seen)
+unfolding storing.gifts_at
+gifts seen = choose _ _ _ (starting mark.is_open opens_kind) (bind _ _ (enclosed_items storing.gift_at gift 3 seen) (λ x. value _)) (bind _ _ plain_value (λ x. value _))
+
+item : (seen : List StoreItem) → Blind (storing.item_at seen)
+unfolding storing.item_at
+item seen =
+    new_name argument.attribute_named (λ a. storing.has_attribute a seen) (λ a ts. storing.gifts_at (record { attribute = a; items = seen }) ts) (λ a. gifts _)
+
+store_items : Blind storing.items_at
+unfolding storing.items_at
+store_items = some_items _ _ storing.item_at (starting mark.is_close closes_kind) (starting mark.is_string strings_kind) item 256 []
+
+conditioned : (seen : StoreModifiers) (w : StoreWord) → Blind (storing.conditioned seen w)
+unfolding storing.conditioned
+conditioned seen store_word.NoCreate = value _
+conditioned seen store_word.UnchangedSince = bind _ _ (named _) (λ x. value _)
+
+condition : (seen : StoreModifiers) → Blind (storing.condition_at seen)
+unfolding storing.condition_at
+condition seen =
+    worded storing.store_words (storing.condition_by seen) (missing fault.Arguments) (λ w ts rest. judged_same (storing.once (storing.has_condition seen w)) (storing.conditioned seen w) (conditioned seen w) ts rest)
+
+conditions : Blind storing.conditions_at
+unfolding storing.conditions_at storing.no_condition
+conditions = items storing.no_condition storing.no_condition storing.condition_at (worded_first storing.store_words) (worded_first storing.store_words) condition 3 storing.unconditional
+
+new_path : (seen : List StoreEntry) → Blind (storing.path_at seen)
+unfolding storing.path_at
+new_path seen = new_name argument.path_named (λ p. storing.has_path p seen) (λ p ts. Ok (p, ts)) (λ p. value p)
+
+store_entry : (seen : List StoreEntry) → Blind (storing.entry_at seen)
+unfolding storing.entry_at
+store_entry seen =
+    behind mark.is_open _ opens_kind (bind _ _ (new_path seen) (λ p. bind _ _ conditions (λ m. bind _ _ store_items (λ i. behind mark.is_close _ closes_kind (value _)))))
+
+entries : Blind storing.entries_at
+unfolding storing.entries_at
+entries = some_items _ _ storing.entry_at ending (starting mark.is_open opens_kind) store_entry 256 []
+
+-- ---- keys
+
+string_part : (r : Relation) (of : List ℕ) (by : Comparator) → Blind (keys.string_part r of by)
+string_part r of by = bind _ _ string (λ x. value _)
+
+value_part : (r : Relation) (of : List ℕ) (by : Comparator) → Blind (keys.value_part r of by)
+unfolding keys.value_part
+value_part relation.Equal of by = flagged (codes "NIL") (keys.equal_part of by) (string_part relation.Equal of by) (λ ts rest. refl)
+value_part relation.AtLeast of by = string_part relation.AtLeast of by
+value_part relation.Greater of by = string_part relation.Greater of by
+value_part relation.Begins of by = string_part relation.Begins of by
+value_part relation.Contains of by = string_part relation.Contains of by
+
+meets : (r : Relation) → Blind (keys.meets_at r)
+unfolding keys.meets_at
+meets r = bind _ _ (named _) (λ a. bind _ _ (named _) (λ c. value_part r a c))
+
+range : Blind keys.range_at
+unfolding keys.range_at
+range = bind _ _ number (λ first. bind _ _ number (λ last. bind _ _ (named _) (λ since. value _)))
+
+two : (join : Wanted → Wanted → Wanted) (inner : List Token → Read Wanted) → Blind inner → Blind (keys.two_of join inner)
+two join inner p = bind _ _ p (λ first. bind _ _ p (λ second. value _))
+
+key_behind : (inner : List Token → Read Wanted) → Blind inner → (w : KeyWord) → Blind (keys.key_behind inner w)
+unfolding keys.key_behind
+key_behind inner p key_word.All = value _
+key_behind inner p key_word.And = two _ inner p
+key_behind inner p key_word.Or = two _ inner p
+key_behind inner p key_word.Not = bind _ _ p (λ x. value _)
+key_behind inner p key_word.Range = bind _ _ range (λ x. value _)
+key_behind inner p (key_word.Meets r) = bind _ _ (meets r) (λ x. value _)
+
+key : (levels : ℕ) → Blind (keys.key_at levels)
+unfolding keys.key_at
+key zero = record { same = λ ts. rw (ending.same ts) refl }
+key (suc levels) = worded keys.key_words (keys.key_by (keys.key_at levels)) (missing fault.Arguments) (λ w ts rest. (key_behind _ (key levels) w).same rest)
+
+-- ---- SEARCH
+
+metadata_part : (of : ReturnName) → Blind (searching.metadata_part of)
+unfolding searching.metadata_part searching.metadata_at
+metadata_part of = choose _ _ _ (starting mark.is_open opens_kind) (enclosed_items searching.metadata_at (λ seen. bind _ _ (named _) (λ x. value _)) 32 []) (value _)
+
+return_item : (seen : List ReturnItem) → Blind (searching.return_at seen)
+unfolding searching.return_at
+return_item seen = bind _ _ (named _) (λ n. bind _ _ (metadata_part n) (λ m. value _))
+
+returns : Blind searching.returns_at
+unfolding searching.returns_at
+returns =
+    behind mark.is_open _ opens_kind
+    (bind _ _ (items _ _ searching.return_at (starting mark.is_close closes_kind) (starting mark.is_string strings_kind) return_item 256 []) (λ all. behind mark.is_close _ closes_kind (value _)))
+
+sorts : Blind searching.sorts_at
+unfolding searching.sorts_at searching.sort_at
+sorts = enclosed_items searching.sort_at (λ seen. bind _ _ (named _) (λ a. bind _ _ (named _) (λ c. value _))) 16 []
+
+limit : Blind searching.limit_at
+unfolding searching.limit_at
+limit = bind _ _ number (λ over. bind _ _ number (λ most. value _))
+
+abbrev context_behind : Bool → Bool → List Token → Read MakeContext
+context_behind e n ts = argument.named_at argument.context_named ts >>= λ x. Ok (record { enumerate = e; notify = n; name = x.0 }, x.1)
+
+one_context : (e n : Bool) → Blind (context_behind e n)
+one_context e n = bind _ _ (named _) (λ x. value _)
+
+abbrev notified_behind : Bool → List Token → Read MakeContext
+notified_behind e ts = let notify = searching.flag_at (codes "NOTIFY") ts in context_behind e notify.0 notify.1
+
+notified : (e : Bool) → Blind (notified_behind e)
+unfolding searching.flag_at
+notified e = flagged (codes "NOTIFY") (λ ts o. context_behind e (searching.flag_by ts o).0 (searching.flag_by ts o).1) (one_context e false) (λ ts rest. (one_context e true).same rest)
+
+make_context : Blind searching.make_context_at
+unfolding searching.make_context_at searching.flag_at
+make_context = flagged (codes "ENUMERATE") (λ ts o. notified_behind (searching.flag_by ts o).0 (searching.flag_by ts o).1) (notified false) (λ ts rest. (notified true).same rest)
+
+modified : (m : SearchModifiers) (w : SearchWord) → Blind (searching.modified m w)
+unfolding searching.modified
+modified m search_word.Depth = bind _ _ number (λ x. value _)
+modified m search_word.HardLimit = bind _ _ number (λ x. value _)
+modified m search_word.Limit = bind _ _ limit (λ x. value _)
+modified m search_word.MakeContext = bind _ _ make_context (λ x. value _)
+modified m search_word.NoInherit = value _
+modified m search_word.Return = bind _ _ returns (λ x. value _)
+modified m search_word.Sort = bind _ _ sorts (λ x. value _)
+
+modifier : (s : Scope) → Blind (searching.modifier_at s)
+unfolding searching.modifier_at
+modifier s =
+    worded searching.search_words (searching.modifier_by s) (missing fault.Arguments)
+    (λ w ts rest. judged_same (searching.may_modify s w) (λ left. searching.modified s.modifiers w left >>= λ all. Ok (record s { modifiers = all.0 }, all.1)) (bind _ _ (modified s.modifiers w) (λ all. value _)) ts rest)
+
+modifiers : (of : Target) → Blind (searching.modifiers_at of)
+unfolding searching.modifiers_at searching.no_modifier
+modifiers of = items searching.no_modifier searching.no_modifier searching.modifier_at (worded_first searching.search_words) (worded_first searching.search_words) modifier 8 _
+
+search_all : Blind searching.search_at
+unfolding searching.search_at
+search_all = bind _ _ (named _) (λ of. bind _ _ (modifiers of) (λ s. bind _ _ (key 32) (λ k. value _)))
+
+-- ---- the whole
+
+contexts : Blind grammar.contexts_at
+unfolding grammar.contexts_at grammar.context_at
+contexts = some_items _ _ grammar.context_at ending (starting mark.is_string strings_kind) (λ seen. bind _ _ (named _) (λ x. value _)) 200 []
+
+arguments : (v : Verb) → Blind (grammar.arguments_at v)
+unfolding grammar.arguments_at grammar.set_acl_at grammar.delete_acl_at grammar.list_rights_at grammar.deleted_since_at
+arguments verb.Noop = value _
+arguments verb.Logout = value _
+arguments verb.Authenticate = bind _ _ string (λ x. value _)
+arguments verb.Store = bind _ _ entries (λ x. value _)
+arguments verb.Search = bind _ _ search_all (λ x. value _)
+arguments verb.SetAcl = bind _ _ object (λ o. bind _ _ string (λ i. bind _ _ string (λ r. value _)))
+arguments verb.DeleteAcl = bind _ _ object (λ o. bind _ _ (choose _ _ _ ending (value _) (bind _ _ string (λ x. value _))) (λ i. value _))
+arguments verb.MyRights = bind _ _ object (λ x. value _)
+arguments verb.ListRights = bind _ _ object (λ o. bind _ _ string (λ i. value _))
+arguments verb.DeletedSince = bind _ _ (named _) (λ d. bind _ _ (named _) (λ t. value _))
+arguments verb.FreeContext = bind _ _ (named _) (λ x. value _)
+arguments verb.UpdateContext = bind _ _ contexts (λ x. value _)
+
+abbrev plain_result : Result Command Fault → Result Command Fault
+plain_result (Ok c) = Ok c
+plain_result (Err e) = Err (plain_fault e)
+
+whole_same : (r : Read Command) → (plain_read r >>= grammar.whole) ≡ plain_result (r >>= grammar.whole)
+whole_same (Ok x) = rw (ending.same x.1) (by_end (mark.ends x.1)) where
+  by_end : (b : Bool) → (if b then Ok x.0 else refused (map plain x.1) fault.Arguments) ≡ plain_result (if b then Ok x.0 else refused x.1 fault.Arguments)
+  by_end true = refl
+  by_end false = refl
+whole_same (Err e) = refl
+
+by_verb : (ts : List Token) → grammar.command_by (map plain ts) (mark.word_at grammar.verbs (map plain ts)) ≡ plain_result (grammar.command_by ts (mark.word_at grammar.verbs ts))
+by_verb ts = rw (word_same grammar.verbs ts) (by_word (mark.word_at grammar.verbs ts)) where
+  by_word : (o : Option (Verb × List Token)) → grammar.command_by (map plain ts) (plain_word o) ≡ plain_result (grammar.command_by ts o)
+  by_word None = refl
+  by_word (Some x) = rw ((arguments x.0).same x.1) (whole_same (grammar.arguments_at x.0 x.1))
+
+command_same : (ts : List Token) → grammar.command_at (map plain ts) ≡ plain_result (grammar.command_at ts)
+command_same [] = by_verb []
+command_same (t ∷ rest) = by_verb rest
+
+same_command : (r : Result Command Fault) → grammar.without_place (plain_result r) ≡ grammar.without_place r
+same_command (Ok c) = refl
+same_command (Err e) = refl
+
+same_place : (ts : List Token) (r : Result Command Fault) → place_in (map plain ts) (plain_result r) ≡ place_in ts r
+same_place ts (Ok c) = refl
+same_place ts (Err e) = rw (length-map ts plain, length-map e.left plain) refl
+
+pub places_law : PlacesLaw
+unfolding grammar.command_of
+places_law tokens others alike = (
+  sym (plain_command tokens) ∙ ap grammar.command_of alike ∙ plain_command others,
+  sym (plain_place tokens) ∙ ap fault_at alike ∙ plain_place others,
+) where
+  plain_command : (ts : List Token) → grammar.command_of (map plain ts) ≡ grammar.command_of ts
+  plain_command ts = rw (command_same ts) (same_command (grammar.command_at ts))
+
+  plain_place : (ts : List Token) → fault_at (map plain ts) ≡ fault_at ts
+  plain_place ts = rw (command_same ts) (same_place ts (grammar.command_at ts))
