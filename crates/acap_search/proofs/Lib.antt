@@ -1,5 +1,6 @@
 pub mod EqualLemmas
 pub mod ExampleLemmas
+pub mod FreshLemmas
 pub mod NearLemmas
 pub mod OrderLemmas
 pub mod PlaceLaws
@@ -8,4 +9,5 @@ pub mod SightLemmas
 pub mod SortLemmas
 pub mod Stars
 pub mod TellingLemmas
+pub mod TupleLemmas
 pub mod WalkLemmas

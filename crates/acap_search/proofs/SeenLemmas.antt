@@ -14,11 +14,13 @@ use Rattle.acap_inherit.specs.Laws.{NothingLaw, NamesLaw}
 use Rattle.acap_inherit.specs.Records.{record_at}
 use Rattle.acap_inherit.specs.Resolving.{Resolution, resolved}
 use Rattle.acap_rights.specs.declared.realm.Realm.{Realm}
-use Rattle.acap_search.specs.Fresh.{answers_on, paths_in, paths_of, full_path_lt, sight_of}
-use Rattle.acap_search.specs.Laws.{SeenLaw}
+use Rattle.acap_search.specs.Fresh.{Sight, answers_on, paths_in, paths_of, full_path_lt, sight_of, is_among, tuple_of}
+use Rattle.acap_search.specs.Laws.{SeenLaw, TupleLaw}
 use Rattle.acap_search.specs.Matches.{put_by, sorted_from, sorted_by}
-use Rattle.acap_search.specs.Scopes.{Scope, datasets_of}
-use Rattle.acap_search.specs.Sight.{is_seen, is_nil, cell_at, may_read, rights_on}
+use Rattle.acap_search.specs.Scopes.{Scope, scope_of, datasets_of}
+use Rattle.acap_search.specs.Sight.{Answers, is_seen, is_nil, cell_at, may_read, rights_on}
+use Rattle.acap_search.specs.declared.query.Sought.{Sought}
+use Rattle.acap_search.proofs.TupleLemmas.{from_among, tuple_at, tuple_inside}
 
 -- ---- what lists contain
 
@@ -176,4 +178,37 @@ pub seen_law : NothingLaw → NamesLaw → SeenLaw
 seen_law nothing names = record {
   all = λ records realm user scope path. all_seen nothing names records realm user scope path;
   only = λ records realm user scope path. only_seen nothing names records realm user scope path;
+}
+
+module _ (nothing : NothingLaw) (names : NamesLaw) (records : Stored) (realm : Realm) (user : List ℕ) (sought : Sought) (path : Path) where
+  abbrev sight : Sight
+  sight = sight_of records realm user (scope_of sought)
+
+  abbrev answers : Answers
+  answers = answers_on records realm user sought.no_inherit path
+
+  out_of_sight : is_among sight.paths path ≡ false → tuple_of sight sought path ≡ None
+  out_of_sight e = ap (λ b. cond b (tuple_at sight sought path) None) e
+
+  outside : (Contains (datasets_of records (scope_of sought)) path.dataset → ⊥) → tuple_of sight sought path ≡ None
+  outside h =
+      elim (is_among sight.paths path) as (λ b. is_among sight.paths path ≡ b → tuple_of sight sought path ≡ None) [
+        | true ↦ λ e. absurd (h (only_seen nothing names records realm user (scope_of sought) path (from_among sight.paths path e)).0)
+        | false ↦ out_of_sight
+      ] refl
+
+  inside : Contains (datasets_of records (scope_of sought)) path.dataset → tuple_of sight sought path ≡ cond (is_seen answers) (tuple_at sight sought path) None
+  inside h =
+      elim (is_seen answers) as (λ b. is_seen answers ≡ b → tuple_of sight sought path ≡ cond b (tuple_at sight sought path) None) [
+        | true ↦ λ e. tuple_inside sight sought path (all_seen nothing names records realm user (scope_of sought) path h e)
+        | false ↦ λ e. elim (is_among sight.paths path) as (λ b. is_among sight.paths path ≡ b → tuple_of sight sought path ≡ None) [
+          | true ↦ λ f. absurd (cc (e, (only_seen nothing names records realm user (scope_of sought) path (from_among sight.paths path f)).1))
+          | false ↦ out_of_sight
+        ] refl
+      ] refl
+
+pub tuple_law : NothingLaw → NamesLaw → TupleLaw
+tuple_law nothing names = record {
+  outside = λ records realm user sought path. outside nothing names records realm user sought path;
+  inside = λ records realm user sought path. inside nothing names records realm user sought path;
 }

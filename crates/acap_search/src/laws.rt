@@ -1,11 +1,11 @@
 //! What follows from the definitions alone: the contract of each function is the law, and its body names
 //! at most a law of the crates below.
 ghost use Rattle.acap_search.specs.Examples.{KeyExamples, OrderExamples, ScopeExamples, LimitExamples, SightExamples, RowExamples};
-ghost use Rattle.acap_search.specs.Laws.{AclLaw, SeenLaw, SightLaw, StarLaw, PlaceLaw};
+ghost use Rattle.acap_search.specs.Laws.{AclLaw, FreshLaw, SeenLaw, SightLaw, StarLaw, PlaceLaw, TupleLaw};
 
 use acap_inherit::{names_law, nothing_law};
 
-/// What a search finds depends on nothing but what the user sees (RFC 2244 section 3.5).
+/// What a search finds depends on nothing but the four answers about what the user sees (RFC 2244 section 3.5).
 pub fn sight_law()
     ensures { SightLaw }
 {
@@ -19,6 +19,19 @@ pub fn seen_law()
     nothing_law();
     names_law();
 }
+
+/// Which paths have a tuple, and which one (RFC 2244 section 6.4.1).
+pub fn tuple_law()
+    ensures { TupleLaw }
+{
+    nothing_law();
+    names_law();
+}
+
+/// What a search finds is what is matched, in order (RFC 2244 section 6.4.1).
+pub fn fresh_law()
+    ensures { FreshLaw }
+{}
 
 /// Which attributes a name with `*` lists (RFC 2244 section 6.4.1).
 pub fn star_law()
