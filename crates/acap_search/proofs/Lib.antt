@@ -2,6 +2,7 @@ pub mod EqualLemmas
 pub mod ExampleLemmas
 pub mod FreshLemmas
 pub mod NearLemmas
+pub mod OnceLemmas
 pub mod OrderLemmas
 pub mod PlaceLaws
 pub mod SeenLemmas
@@ -11,3 +12,4 @@ pub mod Stars
 pub mod TellingLemmas
 pub mod TupleLemmas
 pub mod WalkLemmas
+pub mod WithheldLemmas

@@ -24,31 +24,31 @@ use Rattle.acap_search.proofs.TupleLemmas.{from_among, tuple_at, tuple_inside}
 
 -- ---- what lists contain
 
-here : {A : Type 0} (x : A) (xs : List A) → Contains (x ∷ xs) x
+pub here : {A : Type 0} (x : A) (xs : List A) → Contains (x ∷ xs) x
 here x xs = (zero, omega arith, refl)
 
-there : {A : Type 0} (x y : A) (xs : List A) → Contains xs y → Contains (x ∷ xs) y
+pub there : {A : Type 0} (x y : A) (xs : List A) → Contains xs y → Contains (x ∷ xs) y
 there x y xs h = (suc h.0, omega (arith, h.1), h.2)
 
-first_or : {A : Type 0} (x y : A) (xs : List A) → Contains (x ∷ xs) y → (x ≡ y) ⊎ Contains xs y
+pub first_or : {A : Type 0} (x y : A) (xs : List A) → Contains (x ∷ xs) y → (x ≡ y) ⊎ Contains xs y
 first_or x y xs (zero, lt, e) = inl e
 first_or x y xs (suc k, lt, e) = let less : k < length xs = omega (arith, lt) in inr (k, less, e)
 
-nowhere : {A : Type 0} {P : Type 0} (x : A) → Contains [] x → P
+pub nowhere : {A : Type 0} {P : Type 0} (x : A) → Contains [] x → P
 nowhere x h = absurd (omega (arith, h.1))
 
-either : {P Q R : Type 0} → P ⊎ Q → (P → R) → (Q → R) → R
+pub either : {P Q R : Type 0} → P ⊎ Q → (P → R) → (Q → R) → R
 either (inl p) f g = f p
 either (inr q) f g = g q
 
-at_first : {A : Type 0} (x y : A) (xs : List A) → x ≡ y → Contains (x ∷ xs) y
+pub at_first : {A : Type 0} (x y : A) (xs : List A) → x ≡ y → Contains (x ∷ xs) y
 at_first x y xs e = subst (λ z. Contains (x ∷ xs) z) e (here x xs)
 
-in_map : {A B : Type 0} (f : A → B) (xs : List A) (x : A) → Contains xs x → Contains (each f xs) (f x)
+pub in_map : {A B : Type 0} (f : A → B) (xs : List A) (x : A) → Contains xs x → Contains (each f xs) (f x)
 in_map f [] x h = nowhere x h
 in_map f (y ∷ ys) x h = either (first_or y x ys h) (λ e. at_first (f y) (f x) (each f ys) (ap f e)) (λ k. there (f y) (f x) (each f ys) (in_map f ys x k))
 
-from_map : {A B : Type 0} (f : A → B) (xs : List A) (z : B) → Contains (each f xs) z → (x : A) × (Contains xs x × (f x ≡ z))
+pub from_map : {A B : Type 0} (f : A → B) (xs : List A) (z : B) → Contains (each f xs) z → (x : A) × (Contains xs x × (f x ≡ z))
 from_map f [] z h = nowhere z h
 from_map f (y ∷ ys) z h = either (first_or (f y) z (each f ys) h) (λ e. (y, (here y ys, e))) (λ k. let r = from_map f ys z k in (r.0, (there y r.0 ys r.1.0, r.1.1)))
 
@@ -60,7 +60,7 @@ in_back : {A : Type 0} (xs ys : List A) (x : A) → Contains ys x → Contains (
 in_back [] ys x h = h
 in_back (z ∷ zs) ys x h = there z x (zs ++ ys) (in_back zs ys x h)
 
-from_both : {A : Type 0} (xs ys : List A) (x : A) → Contains (xs ++ ys) x → Contains xs x ⊎ Contains ys x
+pub from_both : {A : Type 0} (xs ys : List A) (x : A) → Contains (xs ++ ys) x → Contains xs x ⊎ Contains ys x
 from_both [] ys x h = inr h
 from_both (z ∷ zs) ys x h = either (first_or z x (zs ++ ys) h) (λ e. inl (at_first z x zs e)) (λ k. either (from_both zs ys x k) (λ l. inl (there z x zs l)) (λ r. inr r))
 
@@ -68,11 +68,11 @@ in_all : {A B : Type 0} (f : A → List B) (xs : List A) (x : A) (z : B) → Con
 in_all f [] x z h k = nowhere x h
 in_all f (y ∷ ys) x z h k = either (first_or y x ys h) (λ e. in_front (f y) (flat_map f ys) z (subst (λ w. Contains (f w) z) (sym e) k)) (λ l. in_back (f y) (flat_map f ys) z (in_all f ys x z l k))
 
-from_all : {A B : Type 0} (f : A → List B) (xs : List A) (z : B) → Contains (flat_map f xs) z → (x : A) × (Contains xs x × Contains (f x) z)
+pub from_all : {A B : Type 0} (f : A → List B) (xs : List A) (z : B) → Contains (flat_map f xs) z → (x : A) × (Contains xs x × Contains (f x) z)
 from_all f [] z h = nowhere z h
 from_all f (y ∷ ys) z h = either (from_both (f y) (flat_map f ys) z h) (λ k. (y, (here y ys, k))) (λ k. let r = from_all f ys z k in (r.0, (there y r.0 ys r.1.0, r.1.1)))
 
-in_filter : {A : Type 0} (p : A → Bool) (xs : List A) (x : A) → Contains xs x → p x ≡ true → Contains (filter p xs) x
+pub in_filter : {A : Type 0} (p : A → Bool) (xs : List A) (x : A) → Contains xs x → p x ≡ true → Contains (filter p xs) x
 in_filter p [] x h e = nowhere x h
 in_filter p (y ∷ ys) x h e =
     elim (p y) as (λ b. p y ≡ b → Contains (cond b (y ∷ filter p ys) (filter p ys)) x) [
@@ -80,7 +80,7 @@ in_filter p (y ∷ ys) x h e =
       | false ↦ λ t. either (first_or y x ys h) (λ same. absurd (cc (t, e, ap p same))) (λ k. in_filter p ys x k e)
     ] refl
 
-from_filter : {A : Type 0} (p : A → Bool) (xs : List A) (x : A) → Contains (filter p xs) x → Contains xs x × (p x ≡ true)
+pub from_filter : {A : Type 0} (p : A → Bool) (xs : List A) (x : A) → Contains (filter p xs) x → Contains xs x × (p x ≡ true)
 from_filter p [] x h = nowhere x h
 from_filter p (y ∷ ys) x h =
     elim (p y) as (λ b. p y ≡ b → Contains (cond b (y ∷ filter p ys) (filter p ys)) x → Contains (y ∷ ys) x × (p x ≡ true)) [
@@ -99,7 +99,7 @@ module _ {A : Type 0} (lt : A → A → Bool) where
         | false ↦ h
       ]
 
-  from_put : (x : A) (ys : List A) (z : A) → Contains (put_by lt x ys) z → Contains (x ∷ ys) z
+  pub from_put : (x : A) (ys : List A) (z : A) → Contains (put_by lt x ys) z → Contains (x ∷ ys) z
   from_put x [] z h = h
   from_put x (y ∷ ys) z h =
       elim (lt y x) as (λ b. Contains (cond b (y ∷ put_by lt x ys) (x ∷ y ∷ ys)) z → Contains (x ∷ y ∷ ys) z) [
@@ -113,7 +113,7 @@ module _ {A : Type 0} (lt : A → A → Bool) where
   in_sorted [] z h = h
   in_sorted (x ∷ xs) z h = in_put x (sorted_from lt xs) z (either (first_or x z xs h) (λ e. at_first x z (sorted_from lt xs) e) (λ k. there x z (sorted_from lt xs) (in_sorted xs z k)))
 
-  from_sorted : (xs : List A) (z : A) → Contains (sorted_from lt xs) z → Contains xs z
+  pub from_sorted : (xs : List A) (z : A) → Contains (sorted_from lt xs) z → Contains xs z
   from_sorted [] z h = h
   from_sorted (x ∷ xs) z h = either (first_or x z (sorted_from lt xs) (from_put x (sorted_from lt xs) z h)) (λ e. at_first x z xs e) (λ k. there x z xs (from_sorted xs z k))
 
@@ -121,7 +121,7 @@ module _ {A : Type 0} (lt : A → A → Bool) where
   unfolding sorted_by
   in_order xs z h = in_sorted xs z h
 
-  from_order : (xs : List A) (z : A) → Contains (sorted_by lt xs) z → Contains xs z
+  pub from_order : (xs : List A) (z : A) → Contains (sorted_by lt xs) z → Contains xs z
   unfolding sorted_by
   from_order xs z h = from_sorted xs z h
 
@@ -153,7 +153,7 @@ module _ (nothing : NothingLaw) (names : NamesLaw) (records : Stored) (realm : R
       let e : resolved records (chain_at path) path.name (codes "entry") ≡ None = ((nothing.entry records (chain_at path) path.name h).2) (codes "entry") in
       ap (λ (found : Resolution). not (is_nil (cell_at may_read (rights_on records realm user (codes "entry") path.name path.dataset) (λ d. rights_on records realm user (codes "entry") path.name d) found))) e
 
-  named : (path : Path) → is_seen (answers_on records realm user scope.no_inherit path) ≡ true → list_any (octets_eq path.name) (names_on records (chain_at path)) ≡ true
+  pub named : (path : Path) → is_seen (answers_on records realm user scope.no_inherit path) ≡ true → list_any (octets_eq path.name) (names_on records (chain_at path)) ≡ true
   named path seen =
       elim (list_any (λ d. is_some (record_at records d path.name)) (chain_at path)) as (λ b. list_any (λ d. is_some (record_at records d path.name)) (chain_at path) ≡ b → list_any (octets_eq path.name) (names_on records (chain_at path)) ≡ true) [
         | true ↦ λ e. names.names records (chain_at path) path.name ∙ e
@@ -166,7 +166,7 @@ module _ (nothing : NothingLaw) (names : NamesLaw) (records : Stored) (realm : R
       let there_is : Contains (paths_in records scope.no_inherit path.dataset) path = in_map (λ name. record { dataset = path.dataset; name = name }) (names_on records (chain_at path)) path.name name in
       in_order full_path_lt _ path (in_filter _ (paths_of records scope) path (in_all (paths_in records scope.no_inherit) (datasets_of records scope) path.dataset path h there_is) seen)
 
-  only_seen : (path : Path) → Contains (sight_of records realm user scope).paths path → Contains (datasets_of records scope) path.dataset × (is_seen (answers_on records realm user scope.no_inherit path) ≡ true)
+  pub only_seen : (path : Path) → Contains (sight_of records realm user scope).paths path → Contains (datasets_of records scope) path.dataset × (is_seen (answers_on records realm user scope.no_inherit path) ≡ true)
   only_seen path h =
       let kept = from_filter (λ path. is_seen (answers_on records realm user scope.no_inherit path)) (paths_of records scope) path (from_order full_path_lt _ path h) in
       let place = from_all (paths_in records scope.no_inherit) (datasets_of records scope) path kept.0 in

@@ -25,8 +25,9 @@ pub use acap_entries::Row;
 pub use cutting::{Cut, cut_by};
 pub use hit::{Hit, Hits, first_rows};
 pub use laws::{
-    acl_law, fresh_law, key_examples, limit_examples, order_examples, place_law, row_examples,
-    scope_examples, seen_law, sight_examples, sight_law, star_law, tuple_law,
+    acl_law, fresh_law, key_examples, limit_examples, once_law, order_examples, place_law,
+    row_examples, scope_examples, scope_law, seen_law, sight_examples, sight_law, star_law,
+    tuple_law, withheld_law,
 };
 pub use matching::matches;
 pub use query::{Asked, Query, Sought};
