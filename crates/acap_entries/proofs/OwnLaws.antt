@@ -5,6 +5,8 @@ use Rattle.std.proofs.lemmas.List.{length-append}
 use Rattle.std.proofs.lemmas.List.Sums.{suffix_len_is}
 use Rattle.std.proofs.Math.ListN.{take-append-drop}
 use Rattle.std.proofs.Math.Seq.{take-append_seam}
+use Rattle.std.proofs.lemmas.Bool.{and_from}
+use Rattle.std.specs.Cmp.{first_so, second_so}
 use Rattle.std.specs.List.{suffix_len}
 use Rattle.acap_entries.specs.FullPaths.{full_path, IsWellFormed}
 use Rattle.acap_entries.specs.Laws.{OwnEntryLaw}
@@ -15,9 +17,6 @@ use Rattle.acap_entries.proofs.NameLemmas.{closed_behind, closed_again, closed_b
 or_false : (b : Bool) → b || false ≡ b
 or_false true = refl
 or_false false = refl
-
-both_true : (a b : Bool) → a ≡ true → b ≡ true → a && b ≡ true
-both_true a b p q = ap (λ t. t && b) p ∙ q
 
 -- how many octets there are through the last slash
 pub cut : List ℕ → ℕ
@@ -130,14 +129,6 @@ path_whole path = take-append-drop (dataset_len path) path
 
 -- ---- the law
 
-first_true : (a b : Bool) → a && b ≡ true → a ≡ true
-first_true true b e = refl
-first_true false b e = absurd (cc (e))
-
-second_true : (a b : Bool) → a && b ≡ true → b ≡ true
-second_true true b e = e
-second_true false b e = absurd (cc (e))
-
 own_parts : (b : Bool) (x y m n : List ℕ) → cond {A = Option (List ℕ × List ℕ)} b (Some (x, y)) None ≡ Some (m, n) → (b ≡ true) × ((x ≡ m) × (y ≡ n))
 own_parts true x y m n e = let same : ◌≡◌ {A = List ℕ × List ℕ} (x, y) (m, n) = cc in (refl, (ap (λ (p : List ℕ × List ℕ). p.0) same, ap (λ (p : List ℕ × List ℕ). p.1) same))
 own_parts false x y m n e = absurd (cc (e))
@@ -153,9 +144,9 @@ own_is : (d : List ℕ) (p : Path) → own_entry d ≡ Some (p.dataset, p.name) 
 own_is d p e =
     let path = take (length d - 1) d in
     let parts = own_parts (ends_with slash d && ends_with slash (dataset_of path)) (dataset_of path) (name_of path) p.dataset p.name e in
-    let whole : path ++ slash ∷ [] ≡ d = closed_again d (first_true _ _ parts.0) in (
+    let whole : path ++ slash ∷ [] ≡ d = closed_again d (first_so _ _ parts.0) in (
       record {
-        dataset = sym (ap (ends_with slash) parts.1.0) ∙ second_true _ _ parts.0;
+        dataset = sym (ap (ends_with slash) parts.1.0) ∙ second_so _ _ parts.0;
         name = sym (ap (has slash) parts.1.1) ∙ name_plain path;
       },
       (λ i. (sym parts.1.0 i ++ sym parts.1.1 i) ++ slash ∷ []) ∙ (ap (λ path. path ++ slash ∷ []) (path_whole path) ∙ whole),
@@ -174,7 +165,7 @@ is_own p h =
     let ends : ends_with slash (dataset_of path) ≡ true = ap (ends_with slash) (dataset_cut path) ∙ cut_closed path some in
     let same = same_parts (dataset_of path) p.dataset (name_of path) p.name (name_plain path) h.name ends h.dataset (path_whole path) in
     ap (λ t. cond (ends_with slash (path ++ slash ∷ []) && ends_with slash (dataset_of t)) (Some (dataset_of t, name_of t)) None) whole
-    ∙ (ap (λ b. cond b (Some (dataset_of path, name_of path)) None) (both_true _ _ (closed_by_slash path) ends)
+    ∙ (ap (λ b. cond b (Some (dataset_of path, name_of path)) None) (and_from _ _ (closed_by_slash path) ends)
     ∙ (λ i. Some (same.0 i, same.1 i)))
 
 pub own_entry_law : OwnEntryLaw

@@ -10,12 +10,13 @@ use Rattle.acap_search.specs.Fresh.{Sight, is_among, tuple_of}
 use Rattle.acap_search.specs.Keys.{holds}
 use Rattle.acap_search.specs.Laws.{FreshLaw}
 use Rattle.acap_search.specs.Matches.{Match, match_lt, put_by, sorted_from, sorted_by, ordered_by}
-use Rattle.acap_search.specs.Rows.{items_of, stars_of}
+use Rattle.acap_search.specs.Rows.{Names, items_of, stars_of}
 use Rattle.acap_search.specs.Tuples.{match_of}
 use Rattle.acap_search.specs.Walks.{hits_over}
 use Rattle.acap_search.specs.declared.query.Sought.{Sought}
 use Rattle.acap_search.proofs.OrderLemmas.{match_weak}
 use Rattle.acap_search.proofs.SortLemmas.{Rises, sorted_by_rises}
+use Rattle.acap_search.proofs.TupleLemmas.{made_is}
 use Rattle.acap_search.proofs.WalkLemmas.{fresh_is}
 
 -- ---- a sort moves and takes nothing away
@@ -57,18 +58,11 @@ module _ {X : Type 0} (lt : X → X → Bool) (o : IsStrictWeakOrder lt) where
 
 -- ---- rows
 
-untold_if : (b : Bool) (m found : Match) → m.row.items ≡ [] → cond b (Some m) None ≡ Some found → found.row.items ≡ []
-untold_if true m found e h = let same : m ≡ found = cc (h) in ap (λ (m : Match). m.row.items) (sym same) ∙ e
-untold_if false m found e h = absurd (cc (h))
-
-untold_in : (b c : Bool) (m found : Match) → m.row.items ≡ [] → cond b (cond c (Some m) None) None ≡ Some found → found.row.items ≡ []
-untold_in true c m found e h = untold_if c m found e h
-untold_in false c m found e h = absurd (cc (h))
-
 untold : (sight : Sight) (sought : Sought) (path : Path) (found : Match) → sought.returns ≡ None → tuple_of sight sought path ≡ Some found → found.row.items ≡ []
 untold sight sought path found e h =
-    untold_in (is_among sight.paths path) (holds sought.key None (sight.answers path)) (match_of sought path (sight.answers path) (stars_of (sight.answers path).read (sight.attributes path))) found
-    (ap (λ returns. option_map_or (items_of (sight.answers path) (stars_of (sight.answers path).read (sight.attributes path))) returns []) e) h
+    let stars : List ℕ → Names = stars_of (sight.answers path).read (sight.attributes path) in
+    let same = (made_is (is_among sight.paths path) (holds sought.key None (sight.answers path)) (match_of sought path (sight.answers path) stars) found h).1.1 in
+    ap (λ (m : Match). m.row.items) (sym same) ∙ ap (λ returns. option_map_or (items_of (sight.answers path) stars) returns []) e
 
 pub fresh_law : FreshLaw
 fresh_law = record {

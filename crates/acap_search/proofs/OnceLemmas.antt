@@ -1,8 +1,8 @@
 -- What comes once in a sound store, and which datasets a search looks through there.
 use Rattle.std.proofs.Common.{◌≡◌, ◌≢◌, ℕ, suc, ◌+◌, ◌<◌, ◌≤◌, ◌⊎◌, inl, inr, Bool, true, false, not, cond, T, ◌&&◌, ◌||◌, ◌==◌, nat_eq, nat_lt, Option, Some, None, is_some, List, [], ◌∷◌, ◌++◌, length, drop, flat_map, refl, sym, ◌∙◌, ap, subst, arith, length-append, append_assoc, append-nil, map as each}
-use Rattle.std.proofs.lemmas.Bool.{eqb-true, ltb-true, lt-ltb}
+use Rattle.std.proofs.lemmas.Bool.{and_from, eqb-true, lt-ltb, ltb-true, or_parts, or_right}
 use Rattle.std.proofs.lemmas.List.Elements.{filter-append}
-use Rattle.std.specs.Cmp.{tied_itself, unsigned_Decides}
+use Rattle.std.specs.Cmp.{first_so, second_so, tied_itself, unsigned_Decides}
 use Rattle.std.specs.Cmp.Lexicographic.{bytes_decides, nat_list_cmp_total}
 use Rattle.std.specs.FinMap as map
 use Rattle.std.specs.FinMap.{is_sorted, find}
@@ -39,6 +39,8 @@ use Rattle.acap_search.specs.Scopes.{Scope, scope_of, datasets_of, beneath, is_r
 use Rattle.acap_search.specs.Tuples.{name_told, match_of}
 use Rattle.acap_search.specs.declared.query.Sought.{Sought}
 use Rattle.acap_grammar.specs.declared.sort_item.SortItem.{SortItem}
+use Rattle.acap_search.proofs.Stars.{tied_same}
+use Rattle.acap_search.proofs.TupleLemmas.{made_is}
 use Rattle.acap_search.proofs.SeenLemmas.{here, there, first_or, nowhere, either, at_first, in_map, from_map, from_both, from_all, in_filter, from_filter, from_put, from_sorted, from_order, named, only_seen}
 
 -- ---- lists
@@ -132,14 +134,6 @@ once_made f h k (x ∷ xs) apart o =
 
 -- ---- records and names
 
-first_of : (a b : Bool) → (a && b) ≡ true → a ≡ true
-first_of true b e = refl
-first_of false b e = absurd (cc (e))
-
-second_of : (a b : Bool) → (a && b) ≡ true → b ≡ true
-second_of true b e = e
-second_of false b e = absurd (cc (e))
-
 front_of : (a b : Bool) → T (a && b) → T a
 front_of true b p = tt
 front_of false b p = p
@@ -162,11 +156,6 @@ keys_once (e ∷ es) s = (
   keys_once es (back_of _ _ s),
 )
 
-tied : (o : Ordering) → is_eq o ≡ true → o ≡ Equal
-tied Less e = absurd (cc (e))
-tied Equal e = refl
-tied Greater e = absurd (cc (e))
-
 found_in : (es : List (Path × Record)) (x : Path × Record) → T (is_sorted path_cmp es) → Contains es x → find path_cmp x.0 es ≡ Some x.1
 found_in [] x s k = nowhere x k
 found_in (e ∷ es) x s k =
@@ -174,7 +163,7 @@ found_in (e ∷ es) x s k =
     (λ same. ap (λ b. cond b (Some e.1) (find path_cmp x.0 es)) (ap (λ (y : Path × Record). is_eq (path_cmp y.0 e.0)) (sym same) ∙ ap is_eq (tied_itself path_cmp_total e.0)) ∙ ap (λ (y : Path × Record). Some y.1) same)
     (λ l. elim (eq_by_cmp path_cmp x.0 e.0) as (λ b. eq_by_cmp path_cmp x.0 e.0 ≡ b → cond b (Some e.1) (find path_cmp x.0 es) ≡ Some x.1) [
       | true ↦ λ t.
-          let same : x.0 ≡ e.0 = path_same x.0 e.0 (tied _ t) in
+          let same : x.0 ≡ e.0 = path_same x.0 e.0 (tied_same _ t) in
           let lesser : T (is_lt (path_cmp e.0 x.0)) = below_in e.0 es x (front_of _ _ s) l in
           absurd (subst T (ap is_lt (ap (path_cmp e.0) same ∙ tied_itself path_cmp_total e.0)) lesser)
       | false ↦ λ t. found_in es x (back_of _ _ s) l
@@ -185,7 +174,7 @@ in_found [] p r e = absurd (cc (e))
 in_found (x ∷ es) p r h =
     elim (eq_by_cmp path_cmp p x.0) as (λ b. eq_by_cmp path_cmp p x.0 ≡ b → cond b (Some x.1) (find path_cmp p es) ≡ Some r → Contains (x ∷ es) (p, r)) [
       | true ↦ λ t e.
-          let same : x.0 ≡ p = sym (path_same p x.0 (tied _ t)) in
+          let same : x.0 ≡ p = sym (path_same p x.0 (tied_same _ t)) in
           let value : x.1 ≡ r = cc (e) in
           at_first x (p, r) es (λ i. (same i, value i))
       | false ↦ λ t e. there x (p, r) es (in_found es p r e)
@@ -201,20 +190,14 @@ below_name : (name : List ℕ) (names : List (List ℕ)) → is_below name names
 below_name name [] b k = nowhere name k
 below_name name (other ∷ names) b k =
     either (first_or other name names k)
-    (λ e. let lesser : is_lt (octets_cmp name other) ≡ true = first_of _ _ b in cc (lesser, ap is_lt (ap (octets_cmp name) e ∙ tied_itself nat_list_cmp_total name)))
-    (λ l. below_name name names (second_of _ _ b) l)
+    (λ e. let lesser : is_lt (octets_cmp name other) ≡ true = first_so _ _ b in cc (lesser, ap is_lt (ap (octets_cmp name) e ∙ tied_itself nat_list_cmp_total name)))
+    (λ l. below_name name names (second_so _ _ b) l)
 
 names_once : (names : List (List ℕ)) → is_rising names ≡ true → EachOnce names
 names_once [] r = tt
-names_once (name ∷ names) r = (below_name name names (first_of _ _ r), names_once names (second_of _ _ r))
+names_once (name ∷ names) r = (below_name name names (first_so _ _ r), names_once names (second_so _ _ r))
 
 -- ---- datasets
-
--- what the entry of a path makes is that path with a slash behind it
-made_is : (b c : Bool) (x d : List ℕ) → cond b (cond c (Some x) None) None ≡ Some d → (b ≡ true) × ((c ≡ true) × (x ≡ d))
-made_is true true x d e = (refl, (refl, cc (e)))
-made_is true false x d e = absurd (cc (e))
-made_is false c x d e = absurd (cc (e))
 
 left_of : (b : Bool) → (b || false) ≡ true → b ≡ true
 left_of true e = refl
@@ -223,7 +206,7 @@ left_of false e = e
 starts_length : (xs ys : List ℕ) → starts_with nat_eq xs ys ≡ true → length ys ≤ length xs
 starts_length xs [] e = omega arith
 starts_length [] (y ∷ ys) e = absurd (cc (e))
-starts_length (x ∷ xs) (y ∷ ys) e = let less : length ys ≤ length xs = starts_length xs ys (second_of _ _ e) in omega (arith, less)
+starts_length (x ∷ xs) (y ∷ ys) e = let less : length ys ≤ length xs = starts_length xs ys (second_so _ _ e) in omega (arith, less)
 
 module _ (records : Stored) (sound : IsSoundStore records) where
   abbrev lies : List ℕ → Path × Record → Bool
@@ -298,21 +281,6 @@ module _ (records : Stored) (sound : IsSoundStore records) where
 
 -- ---- octets that begin another dataset
 
-left_false : (a b : Bool) → (a || b) ≡ false → a ≡ false
-left_false true b e = absurd (cc (e))
-left_false false b e = refl
-
-right_false : (a b : Bool) → (a || b) ≡ false → b ≡ false
-right_false true b e = absurd (cc (e))
-right_false false b e = e
-
-right_or : (a b : Bool) → b ≡ true → (a || b) ≡ true
-right_or true b e = refl
-right_or false b e = e
-
-both_of : (a b : Bool) → a ≡ true → b ≡ true → (a && b) ≡ true
-both_of a b p q = ap (λ t. t && b) p ∙ q
-
 same_number : (x y : ℕ) → x ≡ y → nat_eq x y ≡ true
 same_number x y e = (unsigned_Decides x y).1 e
 
@@ -323,26 +291,26 @@ some_rest (x ∷ rest) f g = g (λ e. cc (e))
 none_within : (a n rest : List ℕ) → ends_with slash a ≡ true → has slash n ≡ false → (rest ≡ [] → ⊥) → a ++ rest ≡ n ++ slash ∷ [] → ⊥
 none_within [] n rest h plain_name more e = absurd (cc (h))
 none_within (x ∷ []) [] rest h plain_name more e = more (cc (e))
-none_within (x ∷ []) (m ∷ n) rest h plain_name more e = let same : x ≡ m = cc (e) in absurd (cc (sym h ∙ ap (λ v. v == slash) same, left_false (m == slash) (has slash n) plain_name))
+none_within (x ∷ []) (m ∷ n) rest h plain_name more e = let same : x ≡ m = cc (e) in absurd (cc (sym h ∙ ap (λ v. v == slash) same, (or_parts (m == slash) (has slash n) plain_name).0))
 none_within (x ∷ y ∷ a) [] rest h plain_name more e = absurd (cc (e))
-none_within (x ∷ y ∷ a) (m ∷ n) rest h plain_name more e = none_within (y ∷ a) n rest (closed_dropped 1 (x ∷ y ∷ a) (omega arith) h) (right_false (m == slash) (has slash n) plain_name) more (cc (e))
+none_within (x ∷ y ∷ a) (m ∷ n) rest h plain_name more e = none_within (y ∷ a) n rest (closed_dropped 1 (x ∷ y ∷ a) (omega arith) h) (or_parts (m == slash) (has slash n) plain_name).1 more (cc (e))
 
 prefix : (a p n rest : List ℕ) → ends_with slash a ≡ true → has slash n ≡ false → (rest ≡ [] → ⊥) → a ++ rest ≡ p ++ (n ++ slash ∷ []) → (starts_with nat_eq p a ≡ true) × (drop (length a) p ++ (n ++ slash ∷ []) ≡ rest)
 prefix [] p n rest h plain_name more e = absurd (cc (h))
 prefix (x ∷ a) [] n rest h plain_name more e = absurd (none_within (x ∷ a) n rest h plain_name more e)
-prefix (x ∷ []) (z ∷ p) n rest h plain_name more e = let same : x ≡ z = cc (e) in let tails : rest ≡ p ++ (n ++ slash ∷ []) = cc (e) in (both_of _ _ (same_number x z same) refl, sym tails)
+prefix (x ∷ []) (z ∷ p) n rest h plain_name more e = let same : x ≡ z = cc (e) in let tails : rest ≡ p ++ (n ++ slash ∷ []) = cc (e) in (and_from _ _ (same_number x z same) refl, sym tails)
 prefix (x ∷ y ∷ a) (z ∷ p) n rest h plain_name more e =
     let same : x ≡ z = cc (e) in
     let tails : y ∷ (a ++ rest) ≡ p ++ (n ++ slash ∷ []) = cc (e) in
     let r = prefix (y ∷ a) p n rest (closed_dropped 1 (x ∷ y ∷ a) (omega arith) h) plain_name more tails in
-    (both_of _ _ (same_number x z same) r.0, r.1)
+    (and_from _ _ (same_number x z same) r.0, r.1)
 
 starts_split : (xs ys : List ℕ) → starts_with nat_eq xs ys ≡ true → ys ++ drop (length ys) xs ≡ xs
 starts_split xs [] e = refl
 starts_split [] (y ∷ ys) e = absurd (cc (e))
 starts_split (x ∷ xs) (y ∷ ys) e =
-    let same : x ≡ y = sym ((unsigned_Decides y x).0 (first_of (nat_eq y x) (starts_with nat_eq xs ys) e)) in
-    let rest = starts_split xs ys (second_of (nat_eq y x) (starts_with nat_eq xs ys) e) in
+    let same : x ≡ y = sym ((unsigned_Decides y x).0 (first_so (nat_eq y x) (starts_with nat_eq xs ys) e)) in
+    let rest = starts_split xs ys (second_so (nat_eq y x) (starts_with nat_eq xs ys) e) in
     λ i. sym same i ∷ rest i
 
 levels_more : (a b : List ℕ) → levels (a ++ b) ≡ levels a + levels b
@@ -350,7 +318,7 @@ levels_more a b = ap length (filter-append is_slash a b) ∙ length-append (filt
 
 levels_name : (n : List ℕ) → has slash n ≡ false → levels (n ++ slash ∷ []) ≡ 1
 levels_name [] h = refl
-levels_name (x ∷ n) h = ap (λ b. length (cond b (x ∷ filter is_slash (n ++ slash ∷ [])) (filter is_slash (n ++ slash ∷ [])))) (left_false _ _ h) ∙ levels_name n (right_false _ _ h)
+levels_name (x ∷ n) h = ap (λ b. length (cond b (x ∷ filter is_slash (n ++ slash ∷ [])) (filter is_slash (n ++ slash ∷ [])))) ((or_parts _ _ h).0) ∙ levels_name n (or_parts _ _ h).1
 
 reached_within : (depth level : ℕ) → is_reached depth level ≡ true → (depth ≡ 0) ⊎ (level + 1 < depth)
 reached_within depth level =
@@ -361,7 +329,7 @@ reached_within depth level =
 
 within_reached : (depth level : ℕ) → (depth ≡ 0) ⊎ (level + 1 < depth) → is_reached depth level ≡ true
 within_reached depth level (inl e) = ap (λ d. (d == 0) || nat_lt (suc level) d) e
-within_reached depth level (inr less) = right_or (depth == 0) (nat_lt (suc level) depth) (lt-ltb (suc level) depth (omega (arith, less)))
+within_reached depth level (inr less) = or_right (depth == 0) (nat_lt (suc level) depth) (lt-ltb (suc level) depth (omega (arith, less)))
 
 component_named : (name : List ℕ) → is_component_name name ≡ true → name ≢ []
 component_named name h e = let no_name : false ≡ true = ap is_component_name (sym e) ∙ h in cc (no_name)
@@ -371,7 +339,7 @@ not_zero n = elim (suc n == 0) as (λ b. (suc n == 0) ≡ b → b ≡ false) [ t
 
 named_component : (name : List ℕ) → name ≢ [] → has slash name ≡ false → is_component_name name ≡ true
 named_component [] h plain_name = absurd (h refl)
-named_component (x ∷ name) h plain_name = both_of _ _ (ap not (not_zero (length name))) (ap not plain_name)
+named_component (x ∷ name) h plain_name = and_from _ _ (ap not (not_zero (length name))) (ap not plain_name)
 
 module _ (records : Stored) (sound : IsSoundStore records) (scope : Scope) (exists : dataset_exists records scope.dataset ≡ true) (d : List ℕ) where
   beneath_by : (depth : ℕ) → scope.depth ≡ Some depth → Contains (beneath records scope.dataset depth) d → IsBeneath records scope d
@@ -380,7 +348,7 @@ module _ (records : Stored) (sound : IsSoundStore records) (scope : Scope) (exis
       let p : Path = m.0.0 in
       let behind : List ℕ = drop (length scope.dataset) p.dataset in
       let own = owned records sound p m.0.1 d m.1.0 m.1.1.1.1.1 in
-      let makes : makes_dataset m.0.1 ≡ true = first_of _ _ m.1.1.1.1.0 in
+      let makes : makes_dataset m.0.1 ≡ true = first_so _ _ m.1.1.1.1.0 in
       let name : has slash p.name ≡ false = (sound.formed p m.0.1 m.1.0).name in
       record {
         depth = depth;
@@ -391,8 +359,8 @@ module _ (records : Stored) (sound : IsSoundStore records) (scope : Scope) (exis
         deep = deep;
         within = subst (λ n. (depth ≡ 0) ⊎ (n < depth)) (sym (levels_more behind (p.name ++ slash ∷ []) ∙ ap (λ n. levels behind + n) (levels_name p.name name))) (reached_within depth (levels behind) m.1.1.1.0);
         entry = own;
-        named = component_named p.name (second_of _ _ m.1.1.1.1.0);
-        exists = exists_own records sound d p own ∙ right_or _ _ (ap (λ o. option_map_or makes_dataset o false) m.1.0 ∙ makes);
+        named = component_named p.name (second_so _ _ m.1.1.1.1.0);
+        exists = exists_own records sound d p own ∙ or_right _ _ (ap (λ o. option_map_or makes_dataset o false) m.1.0 ∙ makes);
       }
 
   only_beneath : Contains (datasets_of records scope) d → (d ≡ scope.dataset) ⊎ IsBeneath records scope d
@@ -426,7 +394,7 @@ module _ (records : Stored) (sound : IsSoundStore records) (scope : Scope) (exis
       let near : is_reached b.depth (levels behind) ≡ true = within_reached b.depth (levels behind) (subst (λ n. (b.depth ≡ 0) ⊎ (n < b.depth)) count b.within) in
       in_made (reached_by scope.dataset b.depth) (filter (lies records sound scope.dataset) (map.entries records)) (b.own, m.0) d
       (in_filter (lies records sound scope.dataset) (map.entries records) (b.own, m.0) (in_kept records b.own m.0 m.1.0) parts.0)
-      ((λ i. cond (near i) (cond (both_of _ _ m.1.1 (named_component b.own.name b.named own.0.name) i) (Some (full_path b.own ++ slash ∷ [])) None) None) ∙ ap Some own.1)
+      ((λ i. cond (near i) (cond (and_from _ _ m.1.1 (named_component b.own.name b.named own.0.name) i) (Some (full_path b.own ++ slash ∷ [])) None) None) ∙ ap Some own.1)
 
   all_beneath : (d ≡ scope.dataset) ⊎ IsBeneath records scope d → Contains (datasets_of records scope) d
   all_beneath (inl e) = at_first scope.dataset d (option_map_or (beneath records scope.dataset) scope.depth []) (sym e)
@@ -450,11 +418,6 @@ some_any p (x ∷ xs) h = elim (p x) as (λ b. p x ≡ b → (b || list_any p xs
 some_record : (o : Option Record) → is_some o ≡ true → (r : Record) × (o ≡ Some r)
 some_record None h = absurd (cc (h))
 some_record (Some r) h = (r, refl)
-
-found_is : (b c : Bool) (x m : Match) → cond b (cond c (Some x) None) None ≡ Some m → x ≡ m
-found_is true true x m e = cc (e)
-found_is true false x m e = absurd (cc (e))
-found_is false c x m e = absurd (cc (e))
 
 then_equal : (a b : Ordering) → ordering_then a b ≡ Equal → b ≡ Equal
 then_equal Less b e = absurd (cc (e))
@@ -485,7 +448,7 @@ module _ (nothing : NothingLaw) (names : NamesLaw) (records : Stored) (realm : R
 
     found_at : (p : Path) (m : Match) → tuple_of sight sought p ≡ Some m → (m.path ≡ p) × (m.row.name ≡ name_told sought.depth p)
     found_at p m e =
-        let same = found_is (is_among sight.paths p) (holds sought.key None (sight.answers p)) (match_of sought p (sight.answers p) (stars_of (sight.answers p).read (sight.attributes p))) m e in
+        let same = (made_is (is_among sight.paths p) (holds sought.key None (sight.answers p)) (match_of sought p (sight.answers p) (stars_of (sight.answers p).read (sight.attributes p))) m e).1.1 in
         (ap (λ (m : Match). m.path) (sym same), ap (λ (m : Match). m.row.name) (sym same))
 
     same_full : (p q : Path) → Contains sight.paths p → Contains sight.paths q → full_path_cmp p q ≡ Equal → p ≡ q

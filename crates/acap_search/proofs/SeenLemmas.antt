@@ -1,5 +1,6 @@
 -- Of the datasets of a scope exactly the entries that are seen are in sight.
-use Rattle.std.proofs.Common.{◌≡◌, ℕ, zero, suc, ◌<◌, ◌⊎◌, inl, inr, Bool, true, false, not, cond, ◌||◌, Option, Some, None, List, [], ◌∷◌, ◌++◌, length, refl, sym, ◌∙◌, ap, subst, arith, flat_map, codes, map as each}
+use Rattle.std.proofs.Common.{◌≡◌, ℕ, zero, suc, ◌<◌, ◌⊎◌, inl, inr, Bool, true, false, not, cond, Option, Some, None, List, [], ◌∷◌, ◌++◌, length, refl, sym, ◌∙◌, ap, subst, arith, flat_map, codes, map as each}
+use Rattle.std.proofs.lemmas.Bool.{or_parts}
 use Rattle.std.specs.List.{filter, list_any, Contains}
 use Rattle.std.specs.Option.{is_some}
 use Rattle.std.specs.Cmp.Lexicographic.{bytes_decides}
@@ -134,14 +135,10 @@ no_record : (o : Option Record) → is_some o ≡ false → o ≡ None
 no_record None h = refl
 no_record (Some r) h = absurd (cc)
 
-or_false : (a b : Bool) → (a || b) ≡ false → (a ≡ false) × (b ≡ false)
-or_false true b h = absurd (cc)
-or_false false b h = (refl, h)
-
 not_any : {A : Type 0} (p : A → Bool) (xs : List A) (x : A) → list_any p xs ≡ false → Contains xs x → p x ≡ false
 not_any p [] x h k = nowhere x k
 not_any p (y ∷ ys) x h k =
-    let two = or_false (p y) (list_any p ys) h in
+    let two = or_parts (p y) (list_any p ys) h in
     either (first_or y x ys k) (λ e. sym (ap p e) ∙ two.0) (λ l. not_any p ys x two.1 l)
 
 module _ (nothing : NothingLaw) (names : NamesLaw) (records : Stored) (realm : Realm) (user : List ℕ) (scope : Scope) where

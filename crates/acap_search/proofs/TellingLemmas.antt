@@ -1,8 +1,8 @@
 -- What is told of matches that are found in order.
-use Rattle.std.proofs.Common.{◌≡◌, ℕ, zero, suc, Bool, true, false, cond, ◌&&◌, Option, Some, None, List, [], ◌∷◌, ◌++◌, take, length, refl, sym, ◌∙◌, ap, append-nil, flat_map, option_map, map as each}
+use Rattle.std.proofs.Common.{◌≡◌, ℕ, zero, suc, Bool, true, false, cond, Option, Some, None, List, [], ◌∷◌, ◌++◌, take, length, refl, sym, ◌∙◌, ap, append-nil, flat_map, option_map, map as each}
 use Rattle.std.specs.List.{filter_map, cons_option}
 use Rattle.std.specs.Option.{option_map_or, unwrap_or}
-use Rattle.std.specs.Cmp.{tied_itself}
+use Rattle.std.specs.Cmp.{first_so, second_so, tied_itself}
 use Rattle.std.specs.Cmp.Lexicographic.{nat_list_cmp_total}
 use Rattle.std.specs.Ordering.{is_lt, ordering_then, ordering_reverse}
 use Rattle.std.specs.declared.cmp.Ordering.{Ordering}
@@ -80,15 +80,6 @@ not_below Less e = refl
 not_below Equal e = absurd (cc (e))
 not_below Greater e = absurd (cc (e))
 
-first_of : (a b : Bool) → (a && b) ≡ true → a ≡ true
-first_of true b e = refl
-first_of false b e = e
-
-second_of : (a b : Bool) → (a && b) ≡ true → b ≡ true
-second_of true b e = e
-second_of false true e = refl
-second_of false false e = e
-
 module _ (dataset : List ℕ) (f : List ℕ → Option Match) where
   -- a match at a name of the dataset, with no places
   abbrev IsAt : List ℕ → Match → Type 0
@@ -108,16 +99,16 @@ module _ (dataset : List ℕ) (f : List ℕ → Option Match) where
     above n a p [] e = tt
     above n a p (o ∷ names) e =
         elim (f o) as (λ m. AreAt o m → Above match_lt match_weak a (cons_option m (filter_map f names))) [
-          | Some b ↦ λ q. (behind n o a b p q (first_of _ _ e), above n a p names (second_of _ _ e))
-          | None ↦ λ q. above n a p names (second_of _ _ e)
+          | Some b ↦ λ q. (behind n o a b p q (first_so _ _ e), above n a p names (second_so _ _ e))
+          | None ↦ λ q. above n a p names (second_so _ _ e)
         ] (own o)
 
     rises : (names : List (List ℕ)) → is_rising names ≡ true → Rises match_lt match_weak (filter_map f names)
     rises [] e = tt
     rises (n ∷ names) e =
         elim (f n) as (λ m. AreAt n m → Rises match_lt match_weak (cons_option m (filter_map f names))) [
-          | Some a ↦ λ p. (above n a p names (first_of _ _ e), rises names (second_of _ _ e))
-          | None ↦ λ p. rises names (second_of _ _ e)
+          | Some a ↦ λ p. (above n a p names (first_so _ _ e), rises names (second_so _ _ e))
+          | None ↦ λ p. rises names (second_so _ _ e)
         ] (own n)
 
 module _ (records : Stored) (realm : Realm) (user : List ℕ) (sought : Sought) (depth : sought.depth ≡ None) (sort : sought.sort ≡ None) (law : NamesLaw) where

@@ -1,5 +1,6 @@
 -- The tuples of the paths in sight.
-use Rattle.std.proofs.Common.{◌≡◌, zero, suc, Bool, true, false, cond, ◌&&◌, ◌||◌, Option, None, List, [], ◌∷◌, refl, ◌∙◌, ap, arith}
+use Rattle.std.proofs.Common.{◌≡◌, zero, suc, Bool, true, false, cond, ◌&&◌, ◌||◌, Option, Some, None, List, [], ◌∷◌, refl, ◌∙◌, ap, arith}
+use Rattle.std.specs.Cmp.{first_so, second_so}
 use Rattle.std.specs.Cmp.Lexicographic.{bytes_decides}
 use Rattle.std.specs.List.{filter_map, Contains, cons_option}
 use Rattle.std.proofs.lemmas.Map.Views.{Contains-from_any}
@@ -13,18 +14,10 @@ use Rattle.acap_search.specs.declared.query.Sought.{Sought}
 
 -- ---- which paths are among some
 
-first_of : (a b : Bool) → (a && b) ≡ true → a ≡ true
-first_of true b e = refl
-first_of false b e = e
-
-second_of : (a b : Bool) → (a && b) ≡ true → b ≡ true
-second_of true b e = e
-second_of false b e = absurd (cc (e))
-
 pub same_paths : (a b : Path) → same_path a b ≡ true → a ≡ b
 same_paths a b e =
-    let dataset : a.dataset ≡ b.dataset = (bytes_decides a.dataset b.dataset).0 (first_of _ _ e) in
-    let name : a.name ≡ b.name = (bytes_decides a.name b.name).0 (second_of _ _ e) in
+    let dataset : a.dataset ≡ b.dataset = (bytes_decides a.dataset b.dataset).0 (first_so _ _ e) in
+    let name : a.name ≡ b.name = (bytes_decides a.name b.name).0 (second_so _ _ e) in
     λ i. record { dataset = dataset i; name = name i }
 
 pub itself : (p : Path) → same_path p p ≡ true
@@ -61,3 +54,9 @@ tuple_inside sight sought path h = ap (λ b. cond b (tuple_at sight sought path)
 
 pub tuples_are : (sight : Sight) (sought : Sought) → filter_map (tuple_of sight sought) sight.paths ≡ filter_map (tuple_at sight sought) sight.paths
 tuples_are sight sought = filter_map_same (tuple_of sight sought) (tuple_at sight sought) sight.paths (tuple_inside sight sought)
+
+-- what is made where two tests hold, is that, and both do
+pub made_is : {X : Type 0} (b c : Bool) (x y : X) → cond b (cond c (Some x) None) None ≡ Some y → (b ≡ true) × ((c ≡ true) × (x ≡ y))
+made_is true true x y e = (refl, (refl, cc (e)))
+made_is true false x y e = absurd (cc (e))
+made_is false c x y e = absurd (cc (e))

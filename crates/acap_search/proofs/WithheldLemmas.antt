@@ -1,5 +1,6 @@
 -- What may neither be read nor tested is in no sight.
 use Rattle.std.proofs.Common.{◌≡◌, ℕ, ℤ, Bool, true, false, not, cond, ◌&&◌, ◌||◌, nat_eq, Option, Some, None, is_some, List, [], ◌∷◌, ◌++◌, length, drop, codes, flat_map, refl, sym, ◌∙◌, ap, map as each}
+use Rattle.std.proofs.lemmas.Bool.{or_parts}
 use Rattle.std.specs.Cmp.{tied_itself}
 use Rattle.std.specs.Cmp.Lexicographic.{bytes_decides}
 use Rattle.std.specs.FinMap as map
@@ -7,7 +8,6 @@ use Rattle.std.specs.FinMap.Entries.{put, by_order}
 use Rattle.std.specs.List.{filter, filter_map, cons_option, starts_with}
 use Rattle.std.specs.Option.{option_and_then, option_map_or, option_or, unwrap_or}
 use Rattle.std.specs.Ordering.{eq_by_cmp, is_eq}
-use Rattle.std.specs.declared.cmp.Ordering.{Ordering}
 use Rattle.std.specs.declared.cmp.Ordering.TheVariants.{Less, Equal, Greater}
 use Rattle.acap_entries.specs.Datasets.{makes_dataset, dataset_exists}
 use Rattle.acap_entries.specs.FullPaths.{full_path}
@@ -37,6 +37,7 @@ use Rattle.acap_search.specs.Scopes.{Scope, scope_of, datasets_of, beneath, is_r
 use Rattle.acap_search.specs.Sight.{answers_at, cell_at, is_held, is_nil, is_readable, is_seen, may_read, may_test, own_acl, rights_on}
 use Rattle.acap_search.specs.Withheld.{IsOneCellApart, WithheldLaw}
 use Rattle.acap_search.specs.declared.refusal.SearchRefusal.TheVariants as refusal
+use Rattle.acap_search.proofs.Stars.{tied_same}
 use Rattle.acap_search.proofs.TupleLemmas.{same_paths, itself}
 
 -- ---- tests and cells
@@ -44,10 +45,6 @@ use Rattle.acap_search.proofs.TupleLemmas.{same_paths, itself}
 hidden : (b c : Bool) (x y : Cell) → c ≡ false → cond (b && c) x Nil ≡ cond (b && c) y Nil
 hidden true c x y e = ap (λ c. cond c x Nil) e ∙ ap (λ c. cond c y Nil) (sym e)
 hidden false c x y e = refl
-
-right_false : (a b : Bool) → (a || b) ≡ false → b ≡ false
-right_false true b e = absurd (cc (e))
-right_false false b e = e
 
 lies : (cell : Cell) (dataset : List ℕ) → is_nil cell ≡ false → lying cell dataset ≡ Some (cell, dataset)
 lies Nil dataset e = absurd (cc (e))
@@ -191,13 +188,8 @@ module _ (old new : Stored) (path : Path) (attribute : List ℕ) (apart : IsOneC
 
   -- ---- datasets
 
-  tied : (o : Ordering) → is_eq o ≡ true → o ≡ Equal
-  tied Less e = absurd (cc (e))
-  tied Equal e = refl
-  tied Greater e = absurd (cc (e))
-
   tie : (q p : Path) (b : Bool) → eq_by_cmp path_cmp q p ≡ b → b ≡ true → q ≡ p
-  tie q p b e t = path_same q p (tied _ (e ∙ t))
+  tie q p b e t = path_same q p (tied_same _ (e ∙ t))
 
   old_put : old ≡ map.insert old path before
   old_put = map.same_map path_cmp_total path_same _ _ (λ q. sym (map.get-insert path_cmp_total old path before q
@@ -270,7 +262,7 @@ module _ (old new : Stored) (path : Path) (attribute : List ℕ) (apart : IsOneC
     untestable = ap may_test (sym (rights_alike realm user attribute path.name path.dataset)) ∙ withheld
 
     unreadable : may_read (rights_on new realm user attribute path.name path.dataset) ≡ false
-    unreadable = right_false _ _ untestable
+    unreadable = (or_parts _ _ untestable).1
 
     level_alike : (may : Rights → Bool) → may (rights_on new realm user attribute path.name path.dataset) ≡ false → (dataset : List ℕ) (chain : List (List ℕ)) (name a : List ℕ)
         → cell_at may (rights_on old realm user a name dataset) (rights_on old realm user a name) (resolved old chain name a)
@@ -310,6 +302,7 @@ module _ (old new : Stored) (path : Path) (attribute : List ℕ) (apart : IsOneC
 pub withheld_law : ReadingLaw → SightLaw → WithheldLaw
 withheld_law law sight = record {
   sight = λ old new realm user path attribute w. sight_alike old new path attribute w.apart law realm user w.rights;
+  tuples = λ old new realm user path attribute w sought. sight.tuples old new realm realm user user sought (sight_alike old new path attribute w.apart law realm user w.rights (scope_of sought));
   fresh = λ old new realm user path attribute w sought. sight.fresh old new realm realm user user sought (sight_alike old new path attribute w.apart law realm user w.rights (scope_of sought));
   refusal = λ old new realm user path attribute w query.
       let found = sight.fresh old new realm realm user user query.sought (sight_alike old new path attribute w.apart law realm user w.rights (scope_of query.sought)) in

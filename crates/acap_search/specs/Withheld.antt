@@ -7,7 +7,7 @@ use Rattle.acap_entries.specs.declared.cell.Cell.{Cell}
 use Rattle.acap_entries.specs.declared.path.Path.{Path}
 use Rattle.acap_entries.specs.declared.record.Record.{Record}
 use Rattle.acap_rights.specs.declared.realm.Realm.{Realm}
-use Rattle.acap_search.specs.Fresh.{IsSameSight, sight_of, fresh_of, refusal_of}
+use Rattle.acap_search.specs.Fresh.{IsSameSight, sight_of, tuple_of, fresh_of, refusal_of}
 use Rattle.acap_search.specs.Scopes.{Scope, scope_of}
 use Rattle.acap_search.specs.Sight.{is_nil, may_test, rights_on}
 use Rattle.acap_search.specs.declared.query.Query.{Query}
@@ -40,10 +40,12 @@ pub record IsWithheld (old new : Stored) (realm : Realm) (user : List ℕ) (path
   pub apart : IsOneCellApart old new path attribute
   pub rights : may_test (rights_on old realm user attribute path.name path.dataset) ≡ false
 
--- the user sees the same in both, whatever is inherited, finds the same, and is refused the same
+-- the user sees the same in both, whatever is inherited, has the same tuples, by which notices go, finds the same, and is refused the same
 pub record WithheldLaw : Type 0 where
   pub sight : (old new : Stored) (realm : Realm) (user : List ℕ) (path : Path) (attribute : List ℕ) → IsWithheld old new realm user path attribute
       → (scope : Scope) → IsSameSight (sight_of old realm user scope) (sight_of new realm user scope)
+  pub tuples : (old new : Stored) (realm : Realm) (user : List ℕ) (path : Path) (attribute : List ℕ) → IsWithheld old new realm user path attribute
+      → (sought : Sought) (p : Path) → tuple_of (sight_of old realm user (scope_of sought)) sought p ≡ tuple_of (sight_of new realm user (scope_of sought)) sought p
   pub fresh : (old new : Stored) (realm : Realm) (user : List ℕ) (path : Path) (attribute : List ℕ) → IsWithheld old new realm user path attribute
       → (sought : Sought) → fresh_of (sight_of old realm user (scope_of sought)) sought ≡ fresh_of (sight_of new realm user (scope_of sought)) sought
   pub refusal : (old new : Stored) (realm : Realm) (user : List ℕ) (path : Path) (attribute : List ℕ) → IsWithheld old new realm user path attribute
