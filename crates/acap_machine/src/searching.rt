@@ -61,7 +61,10 @@ fn searched_by(
     match tell(alloc, tree, realm, user, &query, limit) {
         Ok(excerpt) => Ok(Said::Searched(found_with(alloc, tree, &query.sought, excerpt))),
         Err(SearchRefusal::RangeHere) => Ok(Said::Refused(Refusal::RangeHere)),
-        Err(SearchRefusal::NoExist) => Ok(Said::Refused(Refusal::NoExist(query.sought.dataset))),
+        Err(SearchRefusal::NoExist) => {
+            let sought = query.sought;
+            Ok(Said::Refused(Refusal::NoExist(sought.dataset)))
+        }
         Err(SearchRefusal::WayTooMany) => Ok(Said::Refused(Refusal::WayTooMany)),
         Err(SearchRefusal::Memory) => Err(Memory),
     }
