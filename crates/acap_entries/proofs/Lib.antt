@@ -20,3 +20,4 @@ pub mod Equalities
 pub mod RecordEquality
 pub mod WordLemmas
 pub mod PlainNames
+pub mod OwnLaws

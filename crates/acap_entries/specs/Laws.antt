@@ -1,7 +1,7 @@
 -- What follows from the definitions alone.
 use Rattle.std.specs.Cmp.{IsTotalOrder}
 use Rattle.std.specs.declared.cmp.Ordering.TheVariants.{Equal}
-use Rattle.std.specs.Prelude.{◌≡◌, ◌≤◌, length, Option, ℕ, ℤ, pos, neg_ℤ, true, false, List, [], ◌∷◌, ◌++◌, Some, None, codes, replicate}
+use Rattle.std.specs.Prelude.{◌≡◌, ◌↔◌, ◌≤◌, length, Option, ℕ, ℤ, pos, neg_ℤ, true, false, List, [], ◌∷◌, ◌++◌, Some, None, codes, replicate}
 use Rattle.std.specs.FinMap as map
 use Rattle.acap_entries.specs.Datasets.{is_dot_list, makes_dataset, dataset_exists}
 use Rattle.acap_entries.specs.Moments.{first_moment, last_moment, IsMoment, moment_after}
@@ -13,7 +13,7 @@ use Rattle.acap_entries.specs.Changes.{IsStoreAfter, store_after}
 use Rattle.acap_entries.specs.Store.{Store, Stored, after_fate}
 use Rattle.acap_entries.specs.Times.{time_of}
 use Rattle.acap_entries.specs.Deletions.{newest_of, others_of, forgotten_of}
-use Rattle.acap_entries.specs.FullPaths.{full_path_cmp, IsWellFormed}
+use Rattle.acap_entries.specs.FullPaths.{full_path, full_path_cmp, IsWellFormed}
 use Rattle.acap_entries.specs.declared.change.Change.{Change}
 use Rattle.acap_entries.specs.declared.deletion.Deletion.{Deletion}
 use Rattle.acap_entries.specs.declared.fate.Fate.{Fate}
@@ -57,6 +57,10 @@ pub record DeletionLaw : Type 0 where
 pub record FullPathLaw : Type 0 where
   pub total : IsTotalOrder full_path_cmp
   pub same : (a b : Path) → IsWellFormed a → IsWellFormed b → full_path_cmp a b ≡ Equal → a ≡ b
+
+-- the own entry of a dataset is the one well-formed path whose octets, with a slash behind them, are the dataset's
+abbrev pub OwnEntryLaw : Type 0
+OwnEntryLaw = (dataset : List ℕ) (p : Path) → (own_entry dataset ≡ Some (p.dataset, p.name)) ↔ (IsWellFormed p × (full_path p ++ slash ∷ [] ≡ dataset))
 
 -- the moment of a change is the clock's where that is later than the last one, else the next, and there is none after the
 -- last of all moments

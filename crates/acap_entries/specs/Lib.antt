@@ -10,6 +10,7 @@ pub mod Moments
 pub mod Names
 pub mod Orders
 pub mod Sorted
+pub mod Sound
 pub mod Stamp
 pub mod Store
 pub mod Times

@@ -6,18 +6,18 @@ use Rattle.acap_grammar.specs.declared.return_item.ReturnItem.{ReturnItem}
 use Rattle.acap_machine.specs.Searching.{number_told, rows_told, rows_if, last_told, found_with, found_of}
 use Rattle.acap_search.specs.Cutting.{cut_of}
 use Rattle.acap_search.specs.Matches.{Match}
-use Rattle.acap_search.specs.declared.query.Query.{Query}
+use Rattle.acap_search.specs.declared.query.Sought.{Sought}
 
 rows_are : (returns : Option (List ReturnItem)) (matches : List Match) (most : ℕ) → rows_if returns (each (λ found. found.row) (take most matches)) ≡ rows_told returns matches most
 rows_are None matches most = refl
 rows_are (Some returns) matches most = refl
 
-pub found_is : (last : ℤ) (query : Query) (limit : Option Limit) (matches : List Match) (rows : List Row) (total : Option ℕ) → rows ≡ each (λ found. found.row) (take (cut_of limit (length matches)).told matches)
-    → total ≡ (cut_of limit (length matches)).total → found_with last query rows total ≡ found_of last query limit matches
-found_is last query limit matches rows total e t =
-    (λ i. found_with last query (e i) (t i))
+pub found_is : (last : ℤ) (sought : Sought) (limit : Option Limit) (matches : List Match) (rows : List Row) (total : Option ℕ) → rows ≡ each (λ found. found.row) (take (cut_of limit (length matches)).told matches)
+    → total ≡ (cut_of limit (length matches)).total → found_with last sought rows total ≡ found_of last sought limit matches
+found_is last sought limit matches rows total e t =
+    (λ i. found_with last sought (e i) (t i))
     ∙ (λ i. record {
-      rows = rows_are query.returns matches (cut_of limit (length matches)).told i;
-      last = last_told query.returns last;
+      rows = rows_are sought.returns matches (cut_of limit (length matches)).told i;
+      last = last_told sought.returns last;
       total = option_map number_told (cut_of limit (length matches)).total;
     })

@@ -38,7 +38,7 @@ use Rattle.acap_machine.specs.declared.fault.Fault.TheVariants as fault
 use Rattle.acap_machine.specs.declared.step.Step.{Step}
 use Rattle.acap_rights.specs.declared.realm.Realm.{Realm}
 use Rattle.acap_search.specs.Matches.{Match}
-use Rattle.acap_search.specs.declared.query.Query.{Query}
+use Rattle.acap_search.specs.declared.query.Sought.{Sought}
 use Rattle.acap_search.specs.declared.refusal.SearchRefusal.TheVariants as refusal
 use Rattle.acap_store.specs.Planning.{planned}
 use Rattle.acap_store.specs.declared.write.Write.TheVariants as write
@@ -57,16 +57,16 @@ two = Some (record { over = 2; most = 1 })
 
 pub record FoundExamples : Type 0 where
   -- without RETURN neither rows nor the last moment; with it both
-  pub untold : (last : ℤ) (q : Query) (matches : List Match) → q.returns ≡ None → found_of last q None matches ≡ record { rows = []; last = None; total = None }
-  pub told : (last : ℤ) (q : Query) (items : List ReturnItem) (a b c : Match) → q.returns ≡ Some items →
+  pub untold : (last : ℤ) (q : Sought) (matches : List Match) → q.returns ≡ None → found_of last q None matches ≡ record { rows = []; last = None; total = None }
+  pub told : (last : ℤ) (q : Sought) (items : List ReturnItem) (a b c : Match) → q.returns ≡ Some items →
       found_of last q None (a ∷ b ∷ c ∷ []) ≡ record { rows = a.row ∷ b.row ∷ c.row ∷ []; last = Some last; total = None }
   -- LIMIT 2 1: two matches are both told, of three the first, and that they are three
-  pub within : (last : ℤ) (q : Query) (items : List ReturnItem) (a b : Match) → q.returns ≡ Some items →
+  pub within : (last : ℤ) (q : Sought) (items : List ReturnItem) (a b : Match) → q.returns ≡ Some items →
       found_of last q two (a ∷ b ∷ []) ≡ record { rows = a.row ∷ b.row ∷ []; last = Some last; total = None }
-  pub beyond : (last : ℤ) (q : Query) (items : List ReturnItem) (a b c : Match) → q.returns ≡ Some items →
+  pub beyond : (last : ℤ) (q : Sought) (items : List ReturnItem) (a b c : Match) → q.returns ≡ Some items →
       found_of last q two (a ∷ b ∷ c ∷ []) ≡ record { rows = a.row ∷ []; last = Some last; total = Some 3 }
   -- their number is told without RETURN too
-  pub counted : (last : ℤ) (q : Query) (a b c : Match) → q.returns ≡ None → found_of last q two (a ∷ b ∷ c ∷ []) ≡ record { rows = []; last = None; total = Some 3 }
+  pub counted : (last : ℤ) (q : Sought) (a b c : Match) → q.returns ≡ None → found_of last q two (a ∷ b ∷ c ∷ []) ≡ record { rows = []; last = None; total = Some 3 }
   -- a number of more than 32 bits is told as the greatest of them
   pub numbers : map number_told (0 ∷ 4_294_967_294 ∷ 4_294_967_295 ∷ 4_294_967_296 ∷ []) ≡ 0 ∷ 4_294_967_294 ∷ 4_294_967_295 ∷ 4_294_967_295 ∷ []
 

@@ -22,6 +22,7 @@ use Rattle.acap_search.specs.Fresh.{fresh_of, sight_of, refusal_of}
 use Rattle.acap_search.specs.Matches.{Match}
 use Rattle.acap_search.specs.Scopes.{scope_of}
 use Rattle.acap_search.specs.declared.query.Query.{Query}
+use Rattle.acap_search.specs.declared.query.Sought.{Sought}
 use Rattle.acap_search.specs.declared.refusal.SearchRefusal.{SearchRefusal}
 use Rattle.acap_search.specs.declared.refusal.SearchRefusal.TheVariants as refusal
 
@@ -41,12 +42,12 @@ last_told None last = None
 last_told (Some returns) last = Some last
 
 -- LIMIT says how many of them, and whether their number is told
-abbrev pub found_of : ℤ → Query → Option Limit → List Match → SearchReply
-found_of last query limit matches =
+abbrev pub found_of : ℤ → Sought → Option Limit → List Match → SearchReply
+found_of last sought limit matches =
     let cut = cut_of limit (length matches) in
     record {
-      rows = rows_told query.returns matches cut.told;
-      last = last_told query.returns last;
+      rows = rows_told sought.returns matches cut.told;
+      last = last_told sought.returns last;
       total = option_map number_told cut.total;
     }
 
@@ -55,10 +56,10 @@ abbrev pub rows_if : Option (List ReturnItem) → List Row → List Row
 rows_if None rows = []
 rows_if (Some returns) rows = rows
 
-abbrev pub found_with : ℤ → Query → List Row → Option ℕ → SearchReply
-found_with last query rows total = record {
-  rows = rows_if query.returns rows;
-  last = last_told query.returns last;
+abbrev pub found_with : ℤ → Sought → List Row → Option ℕ → SearchReply
+found_with last sought rows total = record {
+  rows = rows_if sought.returns rows;
+  last = last_told sought.returns last;
   total = option_map number_told total;
 }
 
@@ -77,11 +78,11 @@ found_unless dataset None found = said.Searched found
 
 -- the matches of a query over a dataset
 abbrev pub matches_of : Store → Realm → List ℕ → Query → List Match
-matches_of s realm user query = fresh_of (sight_of s.records realm user (scope_of query)) query
+matches_of s realm user query = fresh_of (sight_of s.records realm user (scope_of query.sought)) query.sought
 
 unfoldable pub searched_by : Store → Realm → List ℕ → Query → Option Limit → Said
 searched_by s realm user query limit =
-    found_unless query.dataset (refusal_of s.records realm user query) (found_of s.last query limit (matches_of s realm user query))
+    found_unless query.sought.dataset (refusal_of s.records realm user query) (found_of s.last query.sought limit (matches_of s realm user query))
 
 -- contexts aren't served yet: neither is one made, nor is one searched
 abbrev pub unless_kept : Option MakeContext → Said → Said

@@ -6,7 +6,7 @@ ghost use Rattle.acap_search.specs.Asking.{asked_of};
 use acap_entries::{Dataset, Memory, Tree, UserName};
 use acap_grammar::{Key, Limit, Refusal, Rows, Said, Search, SearchModifiers, SearchReply, Target};
 use acap_rights::Realm;
-use acap_search::{Asked, Query, SearchRefusal, Told, tell};
+use acap_search::{Asked, Excerpt, Query, SearchRefusal, Sought, tell};
 use std::alloc::Global;
 
 // How many matches a reply tells.
@@ -27,13 +27,13 @@ fn total_told(total: Option<usize>) -> Option<u32>
 }
 
 // What a reply has of what is told of the matches.
-fn found_with(alloc: Global, tree: &Tree, query: &Query, told: Told) -> SearchReply
-    ensures { result ≡ rule.found_with tree.now.store.last query.now told.rows told.total }
+fn found_with(alloc: Global, tree: &Tree, sought: &Sought, excerpt: Excerpt) -> SearchReply
+    ensures { result ≡ rule.found_with tree.now.store.last sought.now excerpt.rows excerpt.total }
 {
-    let total = total_told(told.total);
-    if query.returns.is_some() {
+    let total = total_told(excerpt.total);
+    if sought.returns.is_some() {
         SearchReply {
-            rows: told.rows,
+            rows: excerpt.rows,
             last: Some(tree.last()),
             total,
         }
@@ -59,9 +59,12 @@ fn searched_by(
     ensures { IfOk result (λ words. words ≡ rule.searched_by tree.now.store realm.now user.now query limit) }
 {
     match tell(alloc, tree, realm, user, &query, limit) {
-        Ok(told) => Ok(Said::Searched(found_with(alloc, tree, &query, told))),
+        Ok(excerpt) => Ok(Said::Searched(found_with(alloc, tree, &query.sought, excerpt))),
         Err(SearchRefusal::RangeHere) => Ok(Said::Refused(Refusal::RangeHere)),
-        Err(SearchRefusal::NoExist) => Ok(Said::Refused(Refusal::NoExist(query.dataset))),
+        Err(SearchRefusal::NoExist) => {
+            let sought = query.sought;
+            Ok(Said::Refused(Refusal::NoExist(sought.dataset)))
+        }
         Err(SearchRefusal::WayTooMany) => Ok(Said::Refused(Refusal::WayTooMany)),
         Err(SearchRefusal::Memory) => Err(Memory),
     }

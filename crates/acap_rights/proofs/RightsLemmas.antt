@@ -1,5 +1,5 @@
 -- The laws of what lists give and take, and of the implicit rights.
-use Rattle.std.proofs.Common.{◌≡◌, ◌≢◌, ℕ, Bool, true, false, not, List, [], ◌∷◌, ◌++◌, length, Some, None, refl, ap, ◌∙◌, arith}
+use Rattle.std.proofs.Common.{◌≡◌, ◌≢◌, ℕ, Bool, true, false, not, List, [], ◌∷◌, ◌++◌, length, Some, None, refl, sym, ap, ◌∙◌, arith}
 use Rattle.std.specs.Prelude.{◌&&◌, ◌||◌, codes, nat_lt, if◌then◌else◌}
 use Rattle.std.specs.Cmp.{second_so}
 use Rattle.std.specs.Option.{option_map_or}
@@ -7,11 +7,11 @@ use Rattle.std.proofs.lemmas.Bool.Decides.{nat_tests}
 use Rattle.std.specs.Cmp.Lexicographic.{bytes_decides}
 use Rattle.std.specs.List.{list_any, list_all}
 use Rattle.std.proofs.lemmas.List.Sorted.{list_any-IsPermutation}
-use Rattle.acap_entries.specs.Names.{tab, minus, has, begins_with, is_user_name}
+use Rattle.acap_entries.specs.Names.{tab, minus, slash, has, begins_with, components, is_user_name}
 use Rattle.acap_entries.specs.Orders.{octets_eq}
 use Rattle.acap_entries.specs.Store.{Stored}
 use Rattle.acap_rights.specs.Deciding.{Target, dataset_in, deciding_list, implicit_rights, rights_of}
-use Rattle.acap_rights.specs.Homes.{is_owner}
+use Rattle.acap_rights.specs.Homes.{home_of, is_owner, third_of}
 use Rattle.acap_rights.specs.Laws.{WhomLaw, NegativeLaw, OrderLaw, AdministratorLaw, OwnerLaw, string_of, common}
 use Rattle.acap_rights.specs.Pairs.{Pair, pair_of, says, gives, takes, given, taken, rights_in, is_identifier, is_letter}
 use Rattle.acap_rights.specs.Realms.{names, is_administrator}
@@ -98,8 +98,46 @@ administers records realm user target h = rw h (elim (is_administrator realm use
   | false ↦ or_all (rights_in realm user (deciding_list records target)).a
 ])
 
+held : (b c : Bool) → (if b then c else false) ≡ true → (b ≡ true) × (c ≡ true)
+held true c e = (refl, e)
+held false c e = absurd (cc (e))
+
+nobody_else : (user dataset : List ℕ) → is_owner user dataset ≡ true → (home_of dataset ≡ Some user) × (is_user_name user ≡ true)
+unfolding is_owner
+nobody_else user dataset h = elim (home_of dataset) as (λ o. option_map_or (λ name. if is_user_name name then octets_eq name user else false) o false ≡ true → (o ≡ Some user) × (is_user_name user ≡ true)) [
+  | None ↦ λ e. absurd (cc (e))
+  | Some name ↦ λ e. let parts = held _ _ e in let same : name ≡ user = (bytes_decides name user).0 parts.1 in (ap Some same, sym (ap is_user_name same) ∙ parts.0)
+] h
+
+third_is : (parts : List (List ℕ)) (name : List ℕ) → third_of parts ≡ Some name → (class : List ℕ) × (others : List (List ℕ)) × (parts ≡ class ∷ codes "user" ∷ name ∷ others)
+third_is [] name h = absurd (cc (h))
+third_is (class ∷ []) name h = absurd (cc (h))
+third_is (class ∷ second ∷ []) name h = absurd (cc (h))
+third_is (class ∷ second ∷ third ∷ others) name given_third = elim (octets_eq second (codes "user")) as (λ b. octets_eq second (codes "user") ≡ b → (if b then Some third else None) ≡ Some name →
+    (class' : List ℕ) × (others' : List (List ℕ)) × (class ∷ second ∷ third ∷ others ≡ class' ∷ codes "user" ∷ name ∷ others')) [
+      | true ↦ λ e h. let user : second ≡ codes "user" = (bytes_decides second (codes "user")).0 e in let same : third ≡ name = cc (h) in (class, others, λ i. class ∷ user i ∷ same i ∷ others)
+      | false ↦ λ e h. absurd (cc (h))
+    ] refl given_third
+
+home : (dataset name : List ℕ) → home_of dataset ≡ Some name → (class : List ℕ) × (others : List (List ℕ)) × (components dataset ≡ class ∷ codes "user" ∷ name ∷ others)
+unfolding home_of
+home dataset name = elim (begins_with slash dataset) as (λ b. (if b then third_of (components dataset) else None) ≡ Some name → (class : List ℕ) × (others : List (List ℕ)) × (components dataset ≡ class ∷ codes "user" ∷ name ∷ others))
+    [ true ↦ λ h. third_is (components dataset) name h | false ↦ λ h. absurd (cc (h)) ]
+
+implied : (realm : Realm) (user dataset : List ℕ) (b : Bool) → is_administrator realm user ≡ false → is_owner user dataset ≡ b
+    → implicit_rights realm user dataset ≡ (if b then record { x = false; r = true; w = false; i = false; a = true } else no_rights)
+unfolding implicit_rights
+implied realm user dataset b e f i = if e i then all_rights else if f i then record { x = false; r = true; w = false; i = false; a = true } else no_rights
+
 pub owner_law : OwnerLaw
-owner_law = record { reads = reads; administers = administers }
+owner_law = record {
+  reads = reads;
+  administers = administers;
+  nobody_else = nobody_else;
+  home = home;
+  no_more = λ realm user dataset e f. implied realm user dataset true e f;
+  no_other = λ realm user dataset e f. implied realm user dataset false e f;
+}
 
 -- ---- whom pairs are about
 

@@ -4,7 +4,7 @@ use Rattle.std.specs.FinMap as map
 use Rattle.std.specs.List.{list_any, list_all}
 use Rattle.std.specs.List.Sorted.{IsPermutation}
 use Rattle.std.specs.Option.{is_some}
-use Rattle.acap_entries.specs.Names.{minus, has, is_user_name}
+use Rattle.acap_entries.specs.Names.{minus, has, components, is_user_name}
 use Rattle.acap_entries.specs.Store.{Stored}
 use Rattle.acap_entries.specs.declared.cell.Cell.{Cell}
 use Rattle.acap_entries.specs.declared.cell.Cell.TheVariants.{Nil, Single, Multi}
@@ -12,7 +12,7 @@ use Rattle.acap_entries.specs.declared.path.Path.{Path}
 use Rattle.acap_entries.specs.declared.record.Record.{Record}
 use Rattle.acap_rights.specs.Deciding.{Target, OfDataset, OfAttribute, OfEntry, dataset_in, attribute_list_name, dataset_list_name, deciding_list, implicit_rights, rights_of}
 use Rattle.acap_rights.specs.Edits.{is_about, without, with_pair}
-use Rattle.acap_rights.specs.Homes.{is_owner, default_list}
+use Rattle.acap_rights.specs.Homes.{home_of, is_owner, default_list}
 use Rattle.acap_rights.specs.Keeping.{target_of_list}
 use Rattle.acap_rights.specs.Pairs.{Pair, IsPair, form_of, pair_of, is_letter, is_acl, given, taken, rights_in}
 use Rattle.acap_rights.specs.Realms.{is_administrator}
@@ -67,10 +67,16 @@ OrderLaw = (realm : Realm) (user : List ℕ) (acl other : List (List ℕ)) → I
 abbrev pub AdministratorLaw : Type 0
 AdministratorLaw = (records : Stored) (realm : Realm) (user : List ℕ) (target : Target) → is_administrator realm user ≡ true → rights_of records realm user target ≡ all_rights
 
--- the owner of a dataset may read and administer it
+-- the owner of a dataset may read and administer it. It is nobody but the user NAME of `/CLASS/user/NAME/`, and the datasets beneath; who
+-- neither is the owner nor an administrator has no right but by a list
 pub record OwnerLaw : Type 0 where
   pub reads : (records : Stored) (realm : Realm) (user : List ℕ) (target : Target) → is_owner user (dataset_in target) ≡ true → (rights_of records realm user target).r ≡ true
   pub administers : (records : Stored) (realm : Realm) (user : List ℕ) (target : Target) → is_owner user (dataset_in target) ≡ true → (rights_of records realm user target).a ≡ true
+  pub nobody_else : (user dataset : List ℕ) → is_owner user dataset ≡ true → (home_of dataset ≡ Some user) × (is_user_name user ≡ true)
+  pub home : (dataset name : List ℕ) → home_of dataset ≡ Some name
+      → (class : List ℕ) × (others : List (List ℕ)) × (components dataset ≡ class ∷ codes "user" ∷ name ∷ others)
+  pub no_more : (realm : Realm) (user dataset : List ℕ) → is_administrator realm user ≡ false → is_owner user dataset ≡ true → implicit_rights realm user dataset ≡ rights_of_letters (codes "ra")
+  pub no_other : (realm : Realm) (user dataset : List ℕ) → is_administrator realm user ≡ false → is_owner user dataset ≡ false → implicit_rights realm user dataset ≡ no_rights
 
 -- where no list is kept: nothing or NIL
 abbrev pub IsNone : Option Cell → Type 0
@@ -112,6 +118,7 @@ pub record KeepingLaw : Type 0 where
   pub of_dataset : (dataset : List ℕ) → target_of_list dataset dataset_list_name ≡ Some (OfDataset dataset)
   pub of_attribute : (dataset attribute : List ℕ) → 0 < length attribute → target_of_list dataset (attribute_list_name attribute) ≡ Some (OfAttribute dataset attribute)
   pub no_attribute : (dataset : List ℕ) → target_of_list dataset (attribute_list_name []) ≡ None
+  pub no_other : (dataset attribute : List ℕ) → attribute ≢ dataset_list_name → ((name : List ℕ) → 0 < length name → attribute ≢ attribute_list_name name) → target_of_list dataset attribute ≡ None
 
 -- the letters of an identifier are set: they stand where its first string stood, or behind all where there was none; nothing else
 -- of it stays, and all strings of others stay in their order. Without an identifier nothing of it stays. A list stays a list

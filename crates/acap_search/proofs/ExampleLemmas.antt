@@ -180,6 +180,8 @@ sight_examples = record {
   two_places = refl;
   not_wanted = refl;
   by_place = refl;
+  unsorted = refl;
+  out_of_sight = refl;
   by_path = refl;
 }
 

@@ -1,6 +1,8 @@
 pub mod EqualLemmas
 pub mod ExampleLemmas
+pub mod FreshLemmas
 pub mod NearLemmas
+pub mod OnceLemmas
 pub mod OrderLemmas
 pub mod PlaceLaws
 pub mod SeenLemmas
@@ -8,4 +10,6 @@ pub mod SightLemmas
 pub mod SortLemmas
 pub mod Stars
 pub mod TellingLemmas
+pub mod TupleLemmas
 pub mod WalkLemmas
+pub mod WithheldLemmas

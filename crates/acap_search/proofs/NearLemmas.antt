@@ -27,7 +27,7 @@ use Rattle.acap_rights.specs.Pairs.{rights_in}
 use Rattle.acap_rights.specs.declared.realm.Realm.{Realm}
 use Rattle.acap_rights.specs.declared.rights.Rights.{Rights}
 use Rattle.acap_search.specs.Near.{own_value, IsPlain, AreKept}
-use Rattle.acap_search.specs.Sight.{may_read, may_test, is_held, cell_at, own_acl, rights_on, answers_at}
+use Rattle.acap_search.specs.Sight.{may_read, may_test, is_held, is_readable, cell_at, rights_on, answers_at}
 
 -- ---- the record
 
@@ -128,10 +128,9 @@ module _ (records : Stored) (realm : Realm) (user dataset : List ℕ) (chain : L
   pub near_test : (answers_at records realm user dataset chain name).test attribute ≡ cond (rights.x || rights.r) value Nil
   near_test = near_cell may_test
 
-  pub near_acl : (answers_at records realm user dataset chain name).acl attribute ≡ cond rights.r (own_acl records dataset name attribute) None
-  near_acl =
-      ap (λ b. cond b (own_acl records dataset name attribute) None)
-      (ap (is_held may_read (rights_in' dataset) rights_in') found ∙ (held_lying may_read rights_in' dataset value ∙ ap (λ rights. rights.r) near_rights))
+  pub near_readable : is_readable records realm user dataset chain name attribute ≡ rights.r
+  near_readable =
+      ap (is_held may_read (rights_in' dataset) rights_in') found ∙ (held_lying may_read rights_in' dataset value ∙ ap (λ rights. rights.r) near_rights)
 
 -- ---- the records of a dataset
 

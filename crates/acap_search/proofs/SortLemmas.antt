@@ -134,6 +134,15 @@ module _ {X : Type 0} (lt : X → X → Bool) (o : IsStrictWeakOrder lt) where
   unfolding sorted_by
   sorted_is xs ys s t = same_sorted ys (sorted_from lt xs) (rises_far ys (sorted_far lt o ys s)) (sorted_rises xs) (λ z. t z ∙ sym (sorted_ties z xs))
 
+  -- what is sorted rises, and what rises stays as it is
+  pub sorted_by_rises : (xs : List X) → Rises (sorted_by lt xs)
+  unfolding sorted_by
+  sorted_by_rises xs = sorted_rises xs
+
+  pub rising_stays : (xs : List X) → Rises xs → sorted_by lt xs ≡ xs
+  unfolding sorted_by
+  rising_stays xs r = sym (same_sorted xs (sorted_from lt xs) r (sorted_rises xs) (λ z. sym (sorted_ties z xs)))
+
   -- lists of the same ties are sorted alike
   pub sorted_alike : (xs ys : List X) → SameTies xs ys → sorted_by lt xs ≡ sorted_by lt ys
   unfolding sorted_by

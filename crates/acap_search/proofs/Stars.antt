@@ -1,5 +1,6 @@
 -- Which attributes a name with `*` lists.
 use Rattle.std.proofs.Common.{◌≡◌, ℕ, zero, suc, ◌<◌, Bool, true, false, not, cond, ◌&&◌, ◌||◌, Option, Some, None, List, [], ◌∷◌, ◌++◌, length, refl, sym, ◌∙◌, ap, arith, nat_eq}
+use Rattle.std.proofs.lemmas.Bool.{or_parts}
 use Rattle.std.specs.List.{list_any, starts_with, Contains}
 use Rattle.std.specs.Option.{is_some, option_and_then}
 use Rattle.std.specs.FinMap as map
@@ -33,17 +34,13 @@ pub record Covers (read : List ℕ → Cell) (names : List (List ℕ)) : Type 0 
 octets_same : IsAntisymmetric octets_cmp
 octets_same = slice_cmp-IsAntisymmetric nat_cmp-IsAntisymmetric
 
-tied_same : (o : Ordering) → is_eq o ≡ true → o ≡ Equal
+pub tied_same : (o : Ordering) → is_eq o ≡ true → o ≡ Equal
 tied_same Less h = absurd (cc)
 tied_same Equal h = refl
 tied_same Greater h = absurd (cc)
 
 same_octets : (a b : List ℕ) → eq_by_cmp octets_cmp a b ≡ true → a ≡ b
 same_octets a b h = octets_same a b (tied_same (octets_cmp a b) h)
-
-or_false : (a b : Bool) → (a || b) ≡ false → (a ≡ false) × (b ≡ false)
-or_false true b h = absurd (cc)
-or_false false b h = (refl, h)
 
 -- whether an attribute is listed, by what is read of it
 abbrev pub is_listed : (List ℕ → Cell) → List ℕ → List ℕ → Bool
@@ -107,17 +104,17 @@ not_in (Some r) attribute h =
 not_on : (records : Stored) (name attribute : List ℕ) (chain : List (List ℕ)) → list_any (eq_by_cmp octets_cmp attribute) (attributes_on records name chain) ≡ false → (dataset : List ℕ) → Contains chain dataset → option_and_then (λ entry. cell_in entry attribute) (record_at records dataset name) ≡ None
 not_on records name attribute [] h dataset k = absurd (omega (arith, k.1))
 not_on records name attribute (d ∷ ds) h dataset (zero, lt, e) =
-    let two = or_false _ _ (sym (list_any-append (eq_by_cmp octets_cmp attribute) (attributes_in (record_at records d name)) (attributes_on records name ds)) ∙ h) in
+    let two = or_parts _ _ (sym (list_any-append (eq_by_cmp octets_cmp attribute) (attributes_in (record_at records d name)) (attributes_on records name ds)) ∙ h) in
     ap (λ x. option_and_then (λ entry. cell_in entry attribute) (record_at records x name)) (sym e) ∙ not_in (record_at records d name) attribute two.0
 not_on records name attribute (d ∷ ds) h dataset (suc i, lt, e) =
     let less : i < length ds = omega (arith, lt) in
-    let two = or_false _ _ (sym (list_any-append (eq_by_cmp octets_cmp attribute) (attributes_in (record_at records d name)) (attributes_on records name ds)) ∙ h) in
+    let two = or_parts _ _ (sym (list_any-append (eq_by_cmp octets_cmp attribute) (attributes_in (record_at records d name)) (attributes_on records name ds)) ∙ h) in
     not_on records name attribute ds two.1 dataset (i, less, e)
 
 resolved_none : NothingLaw → (records : Stored) (chain : List (List ℕ)) (name attribute : List ℕ) → list_any (eq_by_cmp octets_cmp attribute) (attributes_at records name chain) ≡ false → resolved records chain name attribute ≡ None
 resolved_none nothing records chain name attribute h =
-    let first = or_false _ _ h in
-    let second = or_false _ _ first.1 in
+    let first = or_parts _ _ h in
+    let second = or_parts _ _ first.1 in
     nothing.attribute records chain name attribute (texts_ties attribute _ ∙ first.0) (texts_ties attribute _ ∙ second.0) (not_on records name attribute chain second.1)
 
 pub covers : NothingLaw → (records : Stored) (realm : Realm) (user dataset : List ℕ) (chain : List (List ℕ)) (name : List ℕ) → Covers (answers_at records realm user dataset chain name).read (attributes_at records name chain)

@@ -1,8 +1,8 @@
 -- What is told of matches that are found in order.
-use Rattle.std.proofs.Common.{◌≡◌, ℕ, zero, suc, Bool, true, false, cond, ◌&&◌, Option, Some, None, List, [], ◌∷◌, ◌++◌, take, length, refl, sym, ◌∙◌, ap, append-nil, flat_map, option_map, map as each}
+use Rattle.std.proofs.Common.{◌≡◌, ℕ, zero, suc, Bool, true, false, cond, Option, Some, None, List, [], ◌∷◌, ◌++◌, take, length, refl, sym, ◌∙◌, ap, append-nil, flat_map, option_map, map as each}
 use Rattle.std.specs.List.{filter_map, cons_option}
 use Rattle.std.specs.Option.{option_map_or, unwrap_or}
-use Rattle.std.specs.Cmp.{tied_itself}
+use Rattle.std.specs.Cmp.{first_so, second_so, tied_itself}
 use Rattle.std.specs.Cmp.Lexicographic.{nat_list_cmp_total}
 use Rattle.std.specs.Ordering.{is_lt, ordering_then, ordering_reverse}
 use Rattle.std.specs.declared.cmp.Ordering.{Ordering}
@@ -23,14 +23,14 @@ use Rattle.acap_inherit.specs.Merging.{is_below, is_rising}
 use Rattle.acap_rights.specs.declared.realm.Realm.{Realm}
 use Rattle.acap_search.specs.Cutting.{cut_of}
 use Rattle.acap_search.specs.Fresh.{sight_of, fresh_of}
-use Rattle.acap_search.specs.Matches.{Match, match_lt, sorted_by, sorted_from}
+use Rattle.acap_search.specs.Matches.{Match, match_lt, sorted_by}
 use Rattle.acap_search.specs.Places.{places_cmp, places_in}
 use Rattle.acap_search.specs.Scopes.{scope_of, beneath}
 use Rattle.acap_search.specs.Sight.{answers_at}
 use Rattle.acap_search.specs.Walks.{hit_at, hits_in, hits_over}
-use Rattle.acap_search.specs.declared.query.Query.{Query}
+use Rattle.acap_search.specs.declared.query.Sought.{Sought}
 use Rattle.acap_search.proofs.OrderLemmas.{match_weak}
-use Rattle.acap_search.proofs.SortLemmas.{Above, Rises, same_sorted, sorted_rises, sorted_ties}
+use Rattle.acap_search.proofs.SortLemmas.{Above, Rises, rising_stays}
 use Rattle.acap_search.proofs.WalkLemmas.{fresh_is}
 
 -- ---- rows
@@ -80,15 +80,6 @@ not_below Less e = refl
 not_below Equal e = absurd (cc (e))
 not_below Greater e = absurd (cc (e))
 
-first_of : (a b : Bool) → (a && b) ≡ true → a ≡ true
-first_of true b e = refl
-first_of false b e = e
-
-second_of : (a b : Bool) → (a && b) ≡ true → b ≡ true
-second_of true b e = e
-second_of false true e = refl
-second_of false false e = e
-
 module _ (dataset : List ℕ) (f : List ℕ → Option Match) where
   -- a match at a name of the dataset, with no places
   abbrev IsAt : List ℕ → Match → Type 0
@@ -108,50 +99,45 @@ module _ (dataset : List ℕ) (f : List ℕ → Option Match) where
     above n a p [] e = tt
     above n a p (o ∷ names) e =
         elim (f o) as (λ m. AreAt o m → Above match_lt match_weak a (cons_option m (filter_map f names))) [
-          | Some b ↦ λ q. (behind n o a b p q (first_of _ _ e), above n a p names (second_of _ _ e))
-          | None ↦ λ q. above n a p names (second_of _ _ e)
+          | Some b ↦ λ q. (behind n o a b p q (first_so _ _ e), above n a p names (second_so _ _ e))
+          | None ↦ λ q. above n a p names (second_so _ _ e)
         ] (own o)
 
     rises : (names : List (List ℕ)) → is_rising names ≡ true → Rises match_lt match_weak (filter_map f names)
     rises [] e = tt
     rises (n ∷ names) e =
         elim (f n) as (λ m. AreAt n m → Rises match_lt match_weak (cons_option m (filter_map f names))) [
-          | Some a ↦ λ p. (above n a p names (first_of _ _ e), rises names (second_of _ _ e))
-          | None ↦ λ p. rises names (second_of _ _ e)
+          | Some a ↦ λ p. (above n a p names (first_so _ _ e), rises names (second_so _ _ e))
+          | None ↦ λ p. rises names (second_so _ _ e)
         ] (own n)
 
--- what is in order stays so
-in_order : (ms : List Match) → Rises match_lt match_weak ms → sorted_by match_lt ms ≡ ms
-unfolding sorted_by
-in_order ms r = sym (same_sorted match_lt match_weak ms (sorted_from match_lt ms) r (sorted_rises match_lt match_weak ms) (λ z. sym (sorted_ties match_lt match_weak z ms)))
-
-module _ (records : Stored) (realm : Realm) (user : List ℕ) (query : Query) (depth : query.depth ≡ None) (sort : query.sort ≡ None) (law : NamesLaw) where
+module _ (records : Stored) (realm : Realm) (user : List ℕ) (sought : Sought) (depth : sought.depth ≡ None) (sort : sought.sort ≡ None) (law : NamesLaw) where
   abbrev chain : List (List ℕ)
-  chain = chain_of records query.dataset query.no_inherit
+  chain = chain_of records sought.dataset sought.no_inherit
 
   abbrev found_at : List ℕ → Option Match
-  found_at = hit_at records realm user query query.dataset chain
+  found_at = hit_at records realm user sought sought.dataset chain
 
-  made_at : (seen wanted : Bool) (name : List ℕ) (m : Match) → IsAt query.dataset found_at name m → AreAt query.dataset found_at name (cond seen (cond wanted (Some m) None) None)
+  made_at : (seen wanted : Bool) (name : List ℕ) (m : Match) → IsAt sought.dataset found_at name m → AreAt sought.dataset found_at name (cond seen (cond wanted (Some m) None) None)
   made_at true true name m p = p
   made_at true false name m p = tt
   made_at false wanted name m p = tt
 
-  all_at : (name : List ℕ) → AreAt query.dataset found_at name (found_at name)
-  all_at name = made_at _ _ name _ (refl, ap (λ sort. places_in (answers_at records realm user query.dataset chain name).read (unwrap_or sort [])) sort)
+  all_at : (name : List ℕ) → AreAt sought.dataset found_at name (found_at name)
+  all_at name = made_at _ _ name _ (refl, ap (λ sort. places_in (answers_at records realm user sought.dataset chain name).read (unwrap_or sort [])) sort)
 
-  alone : hits_over records realm user query ≡ hits_in records realm user query query.dataset
+  alone : hits_over records realm user sought ≡ hits_in records realm user sought sought.dataset
   alone =
-      ap (λ depth. flat_map (hits_in records realm user query) (query.dataset ∷ option_map_or (beneath records query.dataset) depth [])) depth
-      ∙ append-nil (hits_in records realm user query query.dataset)
+      ap (λ depth. flat_map (hits_in records realm user sought) (sought.dataset ∷ option_map_or (beneath records sought.dataset) depth [])) depth
+      ∙ append-nil (hits_in records realm user sought sought.dataset)
 
-  found_rise : Rises match_lt match_weak (hits_in records realm user query query.dataset)
+  found_rise : Rises match_lt match_weak (hits_in records realm user sought sought.dataset)
   unfolding hits_in
-  found_rise = rises query.dataset found_at all_at (names_on records chain) (law.rising records chain)
+  found_rise = rises sought.dataset found_at all_at (names_on records chain) (law.rising records chain)
 
   -- without DEPTH and SORT the matches of the dataset come in order
-  pub plain_is : hits_in records realm user query query.dataset ≡ fresh_of (sight_of records realm user (scope_of query)) query
-  plain_is = sym (in_order _ found_rise) ∙ (ap (sorted_by match_lt) (sym alone) ∙ fresh_is records realm user query)
+  pub plain_is : hits_in records realm user sought sought.dataset ≡ fresh_of (sight_of records realm user (scope_of sought)) sought
+  plain_is = sym (rising_stays match_lt match_weak _ found_rise) ∙ (ap (sorted_by match_lt) (sym alone) ∙ fresh_is records realm user sought)
 
-  pub plain_count : (rows : List Row) → rows ≡ each row_in (hits_in records realm user query query.dataset) → length rows ≡ length (hits_over records realm user query)
-  plain_count rows e = ap length e ∙ (length-map (hits_in records realm user query query.dataset) row_in ∙ ap length (sym alone))
+  pub plain_count : (rows : List Row) → rows ≡ each row_in (hits_in records realm user sought sought.dataset) → length rows ≡ length (hits_over records realm user sought)
+  plain_count rows e = ap length e ∙ (length-map (hits_in records realm user sought sought.dataset) row_in ∙ ap length (sym alone))

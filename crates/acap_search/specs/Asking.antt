@@ -9,13 +9,15 @@ use Rattle.acap_search.specs.declared.query.Asked.{Asked}
 abbrev pub asked_of : List ℕ → List ℕ → SearchModifiers → Wanted → Asked
 asked_of user dataset modifiers key = record {
   query = record {
-    dataset = for_user user dataset;
-    depth = modifiers.depth;
-    no_inherit = modifiers.no_inherit;
+    sought = record {
+      dataset = for_user user dataset;
+      depth = modifiers.depth;
+      no_inherit = modifiers.no_inherit;
+      key = key;
+      sort = modifiers.sort;
+      returns = modifiers.returns;
+    };
     hard_limit = modifiers.hard_limit;
-    key = key;
-    sort = modifiers.sort;
-    returns = modifiers.returns;
   };
   limit = modifiers.limit;
   make_context = modifiers.make_context;

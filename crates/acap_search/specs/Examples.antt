@@ -38,7 +38,7 @@ use Rattle.acap_rights.specs.Rights.{no_rights, all_rights}
 use Rattle.acap_rights.specs.declared.rights.Rights.{Rights}
 use Rattle.acap_search.specs.Asking.{asked_of}
 use Rattle.acap_search.specs.Cutting.{cut_of}
-use Rattle.acap_search.specs.Fresh.{Sight, sight_of, paths_in, tuple_at, fresh_of, refusal_of, has_range, is_over}
+use Rattle.acap_search.specs.Fresh.{Sight, sight_of, paths_in, tuple_of, fresh_of, refusal_of, has_range, is_over}
 use Rattle.acap_search.specs.Keys.{holds}
 use Rattle.acap_search.specs.Matches.{Match, match_cmp, sorted_from}
 use Rattle.acap_search.specs.Places.{place_in, place_cmp, places_cmp}
@@ -48,6 +48,7 @@ use Rattle.acap_search.specs.Tuples.{name_told, match_of, tuple_for}
 use Rattle.acap_search.specs.declared.cutting.Cut.{Cut}
 use Rattle.acap_search.specs.declared.query.Asked.{Asked}
 use Rattle.acap_search.specs.declared.query.Query.{Query}
+use Rattle.acap_search.specs.declared.query.Sought.{Sought}
 use Rattle.acap_search.specs.declared.refusal.SearchRefusal.TheVariants as refusal
 use Rattle.acap_search.specs.declared.rank.Place.TheVariants.{Behind}
 use Rattle.acap_search.specs.declared.rank.Place.{Place}
@@ -161,31 +162,30 @@ pub record OrderExamples : Type 0 where
 
 -- ---- scopes, names and limits
 
--- a query that sorts by the attribute x
-abbrev pub sorting : Query
+-- a search that sorts by the attribute x
+abbrev pub sorting : Sought
 sorting = record {
   dataset = codes "/d/";
   depth = None;
   no_inherit = false;
-  hard_limit = None;
   key = One test.All;
   sort = Some (record { attribute = x; comparator = ascending Octet } ∷ []);
   returns = None;
 }
 
 -- the same with a modifier
-abbrev pub deep : Option ℕ → Query
+abbrev pub deep : Option ℕ → Sought
 deep depth = record sorting { depth = depth }
 
-abbrev pub not_inheriting : Query
+abbrev pub not_inheriting : Sought
 not_inheriting = record sorting { no_inherit = true }
 
 abbrev pub d : List ℕ
 d = codes "/d/"
 
--- what a user sees of an entry of the dataset /d/ in the scope of a query
-abbrev pub seen_by : Stored → Realm → List ℕ → Query → List ℕ → Answers
-seen_by records realm user query name = (sight_of records realm user (scope_of query)).answers (path_of d name)
+-- what a user sees of an entry of the dataset /d/ in the scope of a search
+abbrev pub seen_by : Stored → Realm → List ℕ → Sought → List ℕ → Answers
+seen_by records realm user sought name = (sight_of records realm user (scope_of sought)).answers (path_of d name)
 
 abbrev pub limit : ℕ → ℕ → Option Limit
 limit over most = Some (record { over = over; most = most })
@@ -208,13 +208,15 @@ modified = record {
 abbrev pub asked_with_all : Asked
 asked_with_all = record {
   query = record {
-    dataset = codes "/option/user/joe/";
-    depth = Some 2;
-    no_inherit = true;
+    sought = record {
+      dataset = codes "/option/user/joe/";
+      depth = Some 2;
+      no_inherit = true;
+      key = One test.All;
+      sort = Some [];
+      returns = Some [];
+    };
     hard_limit = Some 5;
-    key = One test.All;
-    sort = Some [];
-    returns = Some [];
   };
   limit = limit 3 1;
   make_context = Some (record { enumerate = false; notify = true; name = codes "c" });
@@ -265,13 +267,13 @@ pub record LimitExamples : Type 0 where
   pub hard_bound : is_over (Some 3) 3 ≡ false
   pub no_hard_limit : (count : ℕ) → is_over None count ≡ false
   -- the first reason is told, and HARDLIMIT counts the matches
-  pub range_here : (records : Stored) (realm : Realm) (user : List ℕ) (query : Query) → query.key ≡ range → refusal_of records realm user query ≡ Some refusal.RangeHere
-  pub no_dataset : (records : Stored) (realm : Realm) (user : List ℕ) (query : Query) → query.key ≡ One test.All → dataset_exists records query.dataset ≡ false
+  pub range_here : (records : Stored) (realm : Realm) (user : List ℕ) (query : Query) → query.sought.key ≡ range → refusal_of records realm user query ≡ Some refusal.RangeHere
+  pub no_dataset : (records : Stored) (realm : Realm) (user : List ℕ) (query : Query) → query.sought.key ≡ One test.All → dataset_exists records query.sought.dataset ≡ false
       → refusal_of records realm user query ≡ Some refusal.NoExist
-  pub too_many : (records : Stored) (realm : Realm) (user : List ℕ) (query : Query) (a b : Match) → query.key ≡ One test.All → dataset_exists records query.dataset ≡ true → query.hard_limit ≡ Some 1
-      → fresh_of (sight_of records realm user (scope_of query)) query ≡ a ∷ b ∷ [] → refusal_of records realm user query ≡ Some refusal.WayTooMany
-  pub not_too_many : (records : Stored) (realm : Realm) (user : List ℕ) (query : Query) (a b : Match) → query.key ≡ One test.All → dataset_exists records query.dataset ≡ true → query.hard_limit ≡ Some 2
-      → fresh_of (sight_of records realm user (scope_of query)) query ≡ a ∷ b ∷ [] → refusal_of records realm user query ≡ None
+  pub too_many : (records : Stored) (realm : Realm) (user : List ℕ) (query : Query) (a b : Match) → query.sought.key ≡ One test.All → dataset_exists records query.sought.dataset ≡ true → query.hard_limit ≡ Some 1
+      → fresh_of (sight_of records realm user (scope_of query.sought)) query.sought ≡ a ∷ b ∷ [] → refusal_of records realm user query ≡ Some refusal.WayTooMany
+  pub not_too_many : (records : Stored) (realm : Realm) (user : List ℕ) (query : Query) (a b : Match) → query.sought.key ≡ One test.All → dataset_exists records query.sought.dataset ≡ true → query.hard_limit ≡ Some 2
+      → fresh_of (sight_of records realm user (scope_of query.sought)) query.sought ≡ a ∷ b ∷ [] → refusal_of records realm user query ≡ None
 
 -- ---- what is seen and told
 
@@ -325,8 +327,8 @@ two_seen = record {
   attributes = λ path. [];
 }
 
--- a query that sorts by two attributes
-abbrev pub by_both : Query
+-- a search that sorts by two attributes
+abbrev pub by_both : Sought
 by_both = record sorting { sort = Some (record { attribute = x; comparator = ascending Octet } ∷ record { attribute = y; comparator = descending Octet } ∷ []) }
 
 abbrev pub match_at : List ℕ → List ℕ → Match
@@ -369,6 +371,10 @@ pub record SightExamples : Type 0 where
   pub not_wanted : tuple_for (record sorting { key = Not (One test.All) }) None (path_of d e) unnamed no_stars ≡ None
   -- matches are in the order of their places
   pub by_place : each (λ found. found.path) (fresh_of two_seen sorting) ≡ path_of d (codes "b") ∷ path_of d (codes "a") ∷ []
+  -- without SORT they stay in that of their paths
+  pub unsorted : each (λ found. found.path) (fresh_of two_seen (record sorting { sort = None })) ≡ path_of d (codes "a") ∷ path_of d (codes "b") ∷ []
+  -- a path that isn't in sight has no tuple
+  pub out_of_sight : tuple_of two_seen sorting (path_of d (codes "c")) ≡ None
   -- matches with equal places are in the order of their full paths
   pub by_path : match_cmp (match_at (codes "/d/a/") (codes "x")) (match_at (codes "/d/") (codes "b")) ≡ Less
 
@@ -384,11 +390,11 @@ abbrev pub beginning : ReturnItem
 beginning = record { name = name.Beginning x; metadata = metadata.Attribute ∷ metadata.Value ∷ [] }
 
 -- what a search with that in RETURN, and with DEPTH, tells of an entry whose attributes are x and y
-abbrev pub listing : Query
+abbrev pub listing : Sought
 listing = record (deep (Some 1)) { sort = None; returns = Some (beginning ∷ []) }
 
 abbrev pub in_sight : Answers → Sight
-in_sight answers = record { paths = []; answers = λ path. answers; attributes = λ path. x ∷ y ∷ [] }
+in_sight answers = record { paths = path_of d e ∷ []; answers = λ path. answers; attributes = λ path. x ∷ y ∷ [] }
 
 abbrev pub listed : List (List Cell) → Match
 listed attributes = record { path = path_of d e; places = []; row = record { name = codes "/d/e"; items = item.PerAttribute attributes ∷ [] } }
@@ -414,5 +420,5 @@ pub record RowExamples : Type 0 where
       ≡ item.PerAttribute ((Single x ∷ Single (codes "1") ∷ []) ∷ (Single (codes "xy") ∷ Nil ∷ []) ∷ [])
   pub star_of_nothing : (stars : List ℕ → Names) → map.keys (stars (codes "x")) ≡ [] → item_of (reading Nil Nil) stars (name.Beginning (codes "x")) (metadata.Value ∷ []) ≡ item.PerAttribute []
   -- it lists what is read, and not what may be tested alone; and an entry is told under its full path with DEPTH
-  pub star_read : tuple_at (in_sight (reading (Single (codes "1")) (Single (codes "2")))) listing (path_of d e) ≡ Some (listed ((Single x ∷ Single (codes "1") ∷ []) ∷ []))
-  pub star_tested : tuple_at (in_sight (testing (Single (codes "1")) (Single (codes "2")))) listing (path_of d e) ≡ Some (listed [])
+  pub star_read : tuple_of (in_sight (reading (Single (codes "1")) (Single (codes "2")))) listing (path_of d e) ≡ Some (listed ((Single x ∷ Single (codes "1") ∷ []) ∷ []))
+  pub star_tested : tuple_of (in_sight (testing (Single (codes "1")) (Single (codes "2")))) listing (path_of d e) ≡ Some (listed [])

@@ -1,9 +1,10 @@
 -- What a user sees in a scope, and what a search finds there [RFC 2244 sections 3.5, 5.2 and 6.4.1].
-use Rattle.std.specs.Prelude.{◌≡◌, ℕ, Bool, true, false, not, ◌||◌, nat_lt, List, length, flat_map, Option, Some, None, if◌then◌else◌, map as each}
-use Rattle.std.specs.List.{filter, filter_map, Contains}
+use Rattle.std.specs.Prelude.{◌≡◌, ℕ, Bool, true, false, not, ◌&&◌, ◌||◌, nat_lt, List, length, flat_map, Option, Some, None, if◌then◌else◌, map as each}
+use Rattle.std.specs.List.{filter, filter_map, list_any, Contains}
 use Rattle.std.specs.Ordering.{is_lt}
 use Rattle.acap_entries.specs.Datasets.{dataset_exists}
 use Rattle.acap_entries.specs.FullPaths.{full_path_cmp}
+use Rattle.acap_entries.specs.Orders.{octets_eq}
 use Rattle.acap_entries.specs.Store.{Stored}
 use Rattle.acap_entries.specs.declared.path.Path.{Path}
 use Rattle.acap_grammar.specs.Wanted.{Wanted, One, And, Or, Not}
@@ -12,17 +13,18 @@ use Rattle.acap_grammar.specs.declared.test.Test.TheVariants as test
 use Rattle.acap_inherit.specs.Chains.{chain_of}
 use Rattle.acap_inherit.specs.EntryNames.{names_on}
 use Rattle.acap_rights.specs.declared.realm.Realm.{Realm}
-use Rattle.acap_search.specs.Matches.{Match, match_lt, sorted_by}
+use Rattle.acap_search.specs.Matches.{Match, sorted_by, ordered_by}
 use Rattle.acap_search.specs.Rows.{attributes_at, stars_of}
 use Rattle.acap_search.specs.Scopes.{Scope, scope_of, datasets_of}
 use Rattle.acap_search.specs.Sight.{Answers, answers_at, is_seen}
 use Rattle.acap_search.specs.Tuples.{tuple_for}
 use Rattle.acap_search.specs.declared.query.Query.{Query}
+use Rattle.acap_search.specs.declared.query.Sought.{Sought}
 use Rattle.acap_search.specs.declared.refusal.SearchRefusal.{SearchRefusal}
 use Rattle.acap_search.specs.declared.refusal.SearchRefusal.TheVariants as refusal
 
--- all that a search may depend on: the paths of the entries that are seen, the answers about each, and among which attributes
--- of each all are that have a value which is read
+-- all that a search may depend on: the paths of the entries that are seen, the four answers about each, and among which
+-- attributes of each all are that have a value which is read
 pub record Sight : Type 0 where
   pub paths : List Path
   pub answers : Path → Answers
@@ -64,13 +66,24 @@ sight_of records realm user scope = record {
   attributes = λ path. attributes_at records path.name (chain_of records path.dataset scope.no_inherit);
 }
 
--- what a query makes of the entry at a path that is seen
-abbrev pub tuple_at : Sight → Query → Path → Option Match
-tuple_at sight query path = tuple_for query None path (sight.answers path) (stars_of (sight.answers path).read (sight.attributes path))
+-- whether a path is among some
+abbrev pub same_path : Path → Path → Bool
+same_path a b = octets_eq a.dataset b.dataset && octets_eq a.name b.name
 
--- what a search finds: what the query makes of each entry that is seen, in order
-abbrev pub fresh_of : Sight → Query → List Match
-fresh_of sight query = sorted_by match_lt (filter_map (tuple_at sight query) sight.paths)
+abbrev pub is_among : List Path → Path → Bool
+is_among paths path = list_any (same_path path) paths
+
+-- the tuple of a path: what is made of the entry there. Out of the scope, out of sight, and where the key doesn't want it, there
+-- is none
+abbrev pub tuple_of : Sight → Sought → Path → Option Match
+tuple_of sight sought path =
+    if is_among sight.paths path
+    then tuple_for sought None path (sight.answers path) (stars_of (sight.answers path).read (sight.attributes path))
+    else None
+
+-- what a search finds: the tuples of all paths in sight, in order. LIMIT and HARDLIMIT have no part in it
+abbrev pub fresh_of : Sight → Sought → List Match
+fresh_of sight sought = ordered_by sought.sort (filter_map (tuple_of sight sought) sight.paths)
 
 -- ---- refusals
 
@@ -96,7 +109,7 @@ is_over (Some most) count = nat_lt most count
 -- exist, more matches than HARDLIMIT
 abbrev pub refusal_of : Stored → Realm → List ℕ → Query → Option SearchRefusal
 refusal_of records realm user query =
-    if has_range query.key then Some refusal.RangeHere
-    else if not (dataset_exists records query.dataset) then Some refusal.NoExist
-    else if is_over query.hard_limit (length (fresh_of (sight_of records realm user (scope_of query)) query)) then Some refusal.WayTooMany
+    if has_range query.sought.key then Some refusal.RangeHere
+    else if not (dataset_exists records query.sought.dataset) then Some refusal.NoExist
+    else if is_over query.hard_limit (length (fresh_of (sight_of records realm user (scope_of query.sought)) query.sought)) then Some refusal.WayTooMany
     else None

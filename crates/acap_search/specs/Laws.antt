@@ -1,32 +1,54 @@
 -- What follows from the definitions alone [RFC 2244 sections 3.4, 3.5 and 6.4.1].
-use Rattle.std.specs.Prelude.{◌≡◌, ℕ, true, not, ◌&&◌, nat_eq, List, Some, None, if◌then◌else◌}
+use Rattle.std.specs.Prelude.{◌≡◌, ℕ, true, not, ◌&&◌, nat_eq, List, [], Some, None, if◌then◌else◌}
 use Rattle.std.specs.Cmp.{IsTotalOrder}
 use Rattle.std.specs.FinMap as map
-use Rattle.std.specs.List.{starts_with, Contains}
+use Rattle.std.specs.List.{filter_map, starts_with, Contains}
+use Rattle.std.specs.List.Sorted.{IsPermutation, IsSortedBy}
 use Rattle.std.specs.declared.cmp.Ordering.TheVariants.{Less}
 use Rattle.acap_entries.specs.Store.{Stored}
 use Rattle.acap_entries.specs.declared.cell.Cell.TheVariants.{Nil, Single, Multi}
 use Rattle.acap_entries.specs.declared.path.Path.{Path}
+use Rattle.acap_inherit.specs.Chains.{chain_of}
 use Rattle.acap_inherit.specs.Records.{record_at}
 use Rattle.acap_order.specs.Ranks.{comparator_cmp}
 use Rattle.acap_order.specs.declared.comparator.Comparator.{Comparator}
 use Rattle.acap_rights.specs.declared.realm.Realm.{Realm}
-use Rattle.acap_search.specs.Fresh.{answers_on, IsSameSight, sight_of, fresh_of}
-use Rattle.acap_search.specs.Matches.{match_cmp}
+use Rattle.acap_search.specs.Fresh.{Sight, answers_on, IsSameSight, sight_of, tuple_of, fresh_of}
+use Rattle.acap_search.specs.Matches.{Match, match_cmp, match_lt}
 use Rattle.acap_search.specs.Places.{place_in, place_cmp}
 use Rattle.acap_search.specs.Rows.{stars_of, attributes_at}
 use Rattle.acap_search.specs.Scopes.{Scope, scope_of, datasets_of}
 use Rattle.acap_search.specs.Sight.{answers_at, is_nil, is_seen}
-use Rattle.acap_search.specs.declared.query.Query.{Query}
+use Rattle.acap_search.specs.Tuples.{seen_tuple}
+use Rattle.acap_search.specs.declared.query.Sought.{Sought}
 use Rattle.acap_search.specs.declared.rank.Place.TheVariants.{Behind}
 
--- a search finds the same in two stores, in the eyes of two users, where what they see in its scope is the same: rows, places and which
--- entries match depend on nothing that the user may not read or test
-abbrev pub SightLaw : Type 0
-SightLaw =
-    (old new : Stored) (realm other : Realm) (user second : List ℕ) (query : Query)
-    → IsSameSight (sight_of old realm user (scope_of query)) (sight_of new other second (scope_of query))
-    → fresh_of (sight_of old realm user (scope_of query)) query ≡ fresh_of (sight_of new other second (scope_of query)) query
+-- a search finds the same in two stores, in the eyes of two users, where nothing but the four answers about what they see in its scope is
+-- the same: each tuple, and so rows, places and which entries match
+pub record SightLaw : Type 0 where
+  pub tuples : (old new : Stored) (realm other : Realm) (user second : List ℕ) (sought : Sought)
+      → IsSameSight (sight_of old realm user (scope_of sought)) (sight_of new other second (scope_of sought))
+      → (path : Path) → tuple_of (sight_of old realm user (scope_of sought)) sought path ≡ tuple_of (sight_of new other second (scope_of sought)) sought path
+  pub fresh : (old new : Stored) (realm other : Realm) (user second : List ℕ) (sought : Sought)
+      → IsSameSight (sight_of old realm user (scope_of sought)) (sight_of new other second (scope_of sought))
+      → fresh_of (sight_of old realm user (scope_of sought)) sought ≡ fresh_of (sight_of new other second (scope_of sought)) sought
+
+-- a path out of the scope has no tuple, and any other the one that is made of the answers about its entry, if that is seen
+pub record TupleLaw : Type 0 where
+  pub outside : (records : Stored) (realm : Realm) (user : List ℕ) (sought : Sought) (path : Path) → ¬ (Contains (datasets_of records (scope_of sought)) path.dataset)
+      → tuple_of (sight_of records realm user (scope_of sought)) sought path ≡ None
+  pub inside : (records : Stored) (realm : Realm) (user : List ℕ) (sought : Sought) (path : Path) → Contains (datasets_of records (scope_of sought)) path.dataset
+      → tuple_of (sight_of records realm user (scope_of sought)) sought path
+      ≡ seen_tuple sought None path (answers_on records realm user sought.no_inherit path)
+      (stars_of (answers_on records realm user sought.no_inherit path).read (attributes_at records path.name (chain_of records path.dataset sought.no_inherit)))
+
+-- what a search finds is what is matched, each as often, in the order of the places and then of the full paths
+pub record FreshLaw : Type 0 where
+  pub all : (records : Stored) (realm : Realm) (user : List ℕ) (sought : Sought)
+      → IsPermutation (filter_map (tuple_of (sight_of records realm user (scope_of sought)) sought) (sight_of records realm user (scope_of sought)).paths)
+      (fresh_of (sight_of records realm user (scope_of sought)) sought)
+  pub order : (records : Stored) (realm : Realm) (user : List ℕ) (sought : Sought) → IsSortedBy match_lt (fresh_of (sight_of records realm user (scope_of sought)) sought)
+  pub untold : (sight : Sight) (sought : Sought) (path : Path) (found : Match) → sought.returns ≡ None → tuple_of sight sought path ≡ Some found → found.row.items ≡ []
 
 -- of the datasets that a search looks through exactly the entries that are seen are in sight
 pub record SeenLaw : Type 0 where

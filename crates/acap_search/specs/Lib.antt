@@ -6,6 +6,7 @@ pub mod Keys
 pub mod Laws
 pub mod Matches
 pub mod Near
+pub mod Once
 pub mod Places
 pub mod Rows
 pub mod Scopes
@@ -13,3 +14,4 @@ pub mod Shown
 pub mod Sight
 pub mod Tuples
 pub mod Walks
+pub mod Withheld

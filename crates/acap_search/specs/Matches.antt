@@ -1,5 +1,5 @@
 -- What a search finds, and in which order [RFC 2244 section 6.4.1].
-use Rattle.std.specs.Prelude.{Bool, List, [], ◌∷◌, refl, if◌then◌else◌}
+use Rattle.std.specs.Prelude.{Bool, List, [], ◌∷◌, Option, Some, None, refl, if◌then◌else◌}
 use Rattle.std.specs.Coded.{Coded, code_by, coded×, coded_list}
 use Rattle.std.specs.Ordering.{is_lt, ordering_then}
 use Rattle.std.specs.declared.cmp.Ordering.{Ordering}
@@ -8,6 +8,7 @@ use Rattle.acap_entries.specs.declared.path.Path.{Path}
 use Rattle.acap_entries.specs.declared.row.Row.{Row}
 use Rattle.acap_entries.specs.contracts.path.Path as path
 use Rattle.acap_entries.specs.contracts.row.Row as row
+use Rattle.acap_grammar.specs.declared.sort_item.SortItem.{SortItem}
 use Rattle.acap_search.specs.Places.{places_cmp}
 use Rattle.acap_search.specs.declared.rank.Place.{Place}
 use Rattle.acap_search.specs.contracts.rank.Place as place
@@ -36,6 +37,12 @@ sorted_from lt (x ∷ xs) = put_by lt x (sorted_from lt xs)
 
 unfoldable pub sorted_by : {X : Type 0} → (X → X → Bool) → List X → List X
 sorted_by lt xs = sorted_from lt xs
+
+-- matches that come in the order of their paths, or in that of a context: SORT reorders them, and without it they stay as they
+-- come
+abbrev pub ordered_by : Option (List SortItem) → List Match → List Match
+ordered_by None matches = matches
+ordered_by (Some sort) matches = sorted_by match_lt matches
 
 -- how matches are told apart in proofs
 abbrev pub match_code : Coded Match

@@ -11,7 +11,7 @@ use Rattle.acap_rights.specs.Deciding.{OfEntry, rights_of}
 use Rattle.acap_rights.specs.declared.realm.Realm.{Realm}
 use Rattle.acap_rights.specs.declared.rights.Rights.{Rights}
 
--- the four answers about an entry, each for every attribute: all that a search may depend on
+-- the four answers about an entry, each for every attribute: a search depends on nothing but them
 pub record Answers : Type 0 where
   -- its value at the level read, else NIL
   pub read : List ℕ → Cell
@@ -47,6 +47,11 @@ own_acl records dataset name attribute = option_and_then (λ entry. map.get entr
 abbrev pub rights_on : Stored → Realm → List ℕ → List ℕ → List ℕ → List ℕ → Rights
 rights_on records realm user attribute name dataset = rights_of records realm user (OfEntry dataset attribute name)
 
+-- whether what an attribute of the entry of a name resolves to is at the level read, be it NIL
+abbrev pub is_readable : Stored → Realm → List ℕ → List ℕ → List (List ℕ) → List ℕ → List ℕ → Bool
+is_readable records realm user dataset chain name attribute =
+    is_held may_read (rights_on records realm user attribute name dataset) (rights_on records realm user attribute name) (resolved records chain name attribute)
+
 -- the answers about the entry of a name in a dataset that has this chain
 abbrev pub answers_at : Stored → Realm → List ℕ → List ℕ → List (List ℕ) → List ℕ → Answers
 answers_at records realm user dataset chain name =
@@ -54,10 +59,7 @@ answers_at records realm user dataset chain name =
     record {
       read = λ attribute. cell_at may_read (rights_in attribute dataset) (rights_in attribute) (resolved records chain name attribute);
       test = λ attribute. cell_at may_test (rights_in attribute dataset) (rights_in attribute) (resolved records chain name attribute);
-      acl = λ attribute.
-          if is_held may_read (rights_in attribute dataset) (rights_in attribute) (resolved records chain name attribute)
-          then own_acl records dataset name attribute
-          else None;
+      acl = λ attribute. if is_readable records realm user dataset chain name attribute then own_acl records dataset name attribute else None;
       rights = λ attribute. rights_in attribute dataset;
     }
 

@@ -13,23 +13,23 @@ use Rattle.acap_search.specs.Rows.{attributes_at, stars_of}
 use Rattle.acap_search.specs.Scopes.{scope_of, datasets_of, reached_by}
 use Rattle.acap_search.specs.Sight.{answers_at}
 use Rattle.acap_search.specs.Tuples.{seen_tuple}
-use Rattle.acap_search.specs.declared.query.Query.{Query}
+use Rattle.acap_search.specs.declared.query.Sought.{Sought}
 
 -- what is found at a name
-abbrev pub hit_at : Stored → Realm → List ℕ → Query → List ℕ → List (List ℕ) → List ℕ → Option Match
-hit_at records realm user query dataset chain name =
-    seen_tuple query None (record { dataset = dataset; name = name }) (answers_at records realm user dataset chain name)
+abbrev pub hit_at : Stored → Realm → List ℕ → Sought → List ℕ → List (List ℕ) → List ℕ → Option Match
+hit_at records realm user sought dataset chain name =
+    seen_tuple sought None (record { dataset = dataset; name = name }) (answers_at records realm user dataset chain name)
     (stars_of (answers_at records realm user dataset chain name).read (attributes_at records name chain))
 
 -- in a dataset
-unfoldable pub hits_in : Stored → Realm → List ℕ → Query → List ℕ → List Match
-hits_in records realm user query dataset =
-    filter_map (hit_at records realm user query dataset (chain_of records dataset query.no_inherit)) (names_on records (chain_of records dataset query.no_inherit))
+unfoldable pub hits_in : Stored → Realm → List ℕ → Sought → List ℕ → List Match
+hits_in records realm user sought dataset =
+    filter_map (hit_at records realm user sought dataset (chain_of records dataset sought.no_inherit)) (names_on records (chain_of records dataset sought.no_inherit))
 
 -- in the dataset that an entry makes, where it is reached
-unfoldable pub hits_by : Stored → Realm → List ℕ → Query → ℕ → Path × Record → List Match
-hits_by records realm user query depth e = option_map_or (hits_in records realm user query) (reached_by query.dataset depth e) []
+unfoldable pub hits_by : Stored → Realm → List ℕ → Sought → ℕ → Path × Record → List Match
+hits_by records realm user sought depth e = option_map_or (hits_in records realm user sought) (reached_by sought.dataset depth e) []
 
 -- in all datasets of the scope
-abbrev pub hits_over : Stored → Realm → List ℕ → Query → List Match
-hits_over records realm user query = flat_map (hits_in records realm user query) (datasets_of records (scope_of query))
+abbrev pub hits_over : Stored → Realm → List ℕ → Sought → List Match
+hits_over records realm user sought = flat_map (hits_in records realm user sought) (datasets_of records (scope_of sought))

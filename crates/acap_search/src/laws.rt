@@ -1,15 +1,39 @@
 //! What follows from the definitions alone: the contract of each function is the law, and its body names
 //! at most a law of the crates below.
 ghost use Rattle.acap_search.specs.Examples.{KeyExamples, OrderExamples, ScopeExamples, LimitExamples, SightExamples, RowExamples};
-ghost use Rattle.acap_search.specs.Laws.{AclLaw, SeenLaw, SightLaw, StarLaw, PlaceLaw};
+ghost use Rattle.acap_search.specs.Once.{OnceLaw, ScopeLaw};
+ghost use Rattle.acap_search.specs.Withheld.{WithheldLaw};
+ghost use Rattle.acap_search.specs.Laws.{AclLaw, FreshLaw, SeenLaw, SightLaw, StarLaw, PlaceLaw, TupleLaw};
 
-use acap_inherit::{names_law, nothing_law};
+use acap_inherit::{names_law, nothing_law, reading_law};
 
-/// What a search finds depends on nothing but what the user sees (RFC 2244 section 3.5).
+/// What a search finds depends on nothing but the four answers about what the user sees (RFC 2244 section 3.5).
 pub fn sight_law()
     ensures { SightLaw }
 {
     nothing_law();
+}
+
+/// A value on which a user holds neither x nor r makes no difference to what the user sees, finds and is refused (RFC 2244
+/// section 3.5).
+pub fn withheld_law()
+    ensures { WithheldLaw }
+{
+    reading_law();
+    sight_law();
+}
+
+/// Which datasets of a sound store a search looks through, each once (RFC 2244 section 6.4.1).
+pub fn scope_law()
+    ensures { ScopeLaw }
+{}
+
+/// In a sound store what is in sight comes once, each name of what is found does, and matches that tie have one path.
+pub fn once_law()
+    ensures { OnceLaw }
+{
+    nothing_law();
+    names_law();
 }
 
 /// Which entries are in sight (RFC 2244 sections 3.5 and 6.4.1).
@@ -19,6 +43,19 @@ pub fn seen_law()
     nothing_law();
     names_law();
 }
+
+/// Which paths have a tuple, and which one (RFC 2244 section 6.4.1).
+pub fn tuple_law()
+    ensures { TupleLaw }
+{
+    nothing_law();
+    names_law();
+}
+
+/// What a search finds is what is matched, in order (RFC 2244 section 6.4.1).
+pub fn fresh_law()
+    ensures { FreshLaw }
+{}
 
 /// Which attributes a name with `*` lists (RFC 2244 section 6.4.1).
 pub fn star_law()

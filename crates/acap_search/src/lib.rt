@@ -25,16 +25,15 @@ pub use acap_entries::Row;
 pub use cutting::{Cut, cut_by};
 pub use hit::{Hit, Hits, first_rows};
 pub use laws::{
-    acl_law, key_examples, limit_examples, order_examples, place_law, row_examples, scope_examples,
-    seen_law, sight_examples, sight_law, star_law,
+    acl_law, fresh_law, key_examples, limit_examples, once_law, order_examples, place_law,
+    row_examples, scope_examples, scope_law, seen_law, sight_examples, sight_law, star_law,
+    tuple_law, withheld_law,
 };
-pub use looking::{Shown, look, sees};
 pub use matching::matches;
-pub use query::{Asked, Query};
+pub use query::{Asked, Query, Sought};
 pub use rank::{Place, Places, Rank};
 pub use refusal::SearchRefusal;
-pub use rows::items_of;
-pub use searching::fresh;
-pub use telling::{Told, tell};
+pub use searching::{fresh, seek};
+pub use telling::{Excerpt, tell};
 pub use tuples::row_of;
 pub use viewer::Viewer;

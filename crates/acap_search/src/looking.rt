@@ -15,15 +15,15 @@ use acap_rights::{Object, Rights, rights_of};
 
 /// What a user sees of an attribute of an entry, as it is lent: nothing is copied (RFC 2244 section 3.5).
 #[derive(Clone, Copy)]
-pub struct Shown<'a> {
+pub(crate) struct Shown<'a> {
     /// Its value where the user may read it, else none.
-    pub read: Option<Lent<'a>>,
+    pub(crate) read: Option<Lent<'a>>,
     /// Its value where the user may test or read it, else none.
-    pub test: Option<Lent<'a>>,
+    pub(crate) test: Option<Lent<'a>>,
     /// Whether the user may read what it has, be it NIL.
-    pub is_readable: bool,
+    pub(crate) is_readable: bool,
     /// The user's rights on it in the searched dataset.
-    pub rights: Rights,
+    pub(crate) rights: Rights,
 }
 
 // The user's rights on an attribute of an entry, in some dataset.
@@ -81,11 +81,15 @@ pub(crate) fn is_nil(value: Option<Lent<'_>>) -> bool
 }
 
 /// What a user sees of an attribute of an entry. Takes no memory.
-pub fn look<'a, R: Records>(by: &Viewer<'a, R>, name: &'a [u8], attribute: &[u8]) -> Shown<'a>
+pub(crate) fn look<'a, R: Records>(
+    by: &Viewer<'a, R>,
+    name: &'a [u8],
+    attribute: &[u8],
+) -> Shown<'a>
     ensures read { shown.cell_of result.read ≡ (rule.answers_at (R.store by.now.records.now).records by.now.realm.now by.now.user.now by.now.dataset.now by.now.chain name.now).read attribute.now }
     ensures test { shown.cell_of result.test ≡ (rule.answers_at (R.store by.now.records.now).records by.now.realm.now by.now.user.now by.now.dataset.now by.now.chain name.now).test attribute.now }
     ensures rights { result.rights ≡ (rule.answers_at (R.store by.now.records.now).records by.now.realm.now by.now.user.now by.now.dataset.now by.now.chain name.now).rights attribute.now }
-    ensures acl { (if result.is_readable then rule.own_acl (R.store by.now.records.now).records by.now.dataset.now name.now attribute.now else None) ≡ (rule.answers_at (R.store by.now.records.now).records by.now.realm.now by.now.user.now by.now.dataset.now by.now.chain name.now).acl attribute.now }
+    ensures is_readable { result.is_readable ≡ rule.is_readable (R.store by.now.records.now).records by.now.realm.now by.now.user.now by.now.dataset.now by.now.chain name.now attribute.now }
 {
     let rights = rights_on(by, by.dataset.as_slice(), attribute, name);
     match resolve(by.records, &by.chain, name, attribute) {
@@ -107,13 +111,6 @@ pub fn look<'a, R: Records>(by: &Viewer<'a, R>, name: &'a [u8], attribute: &[u8]
             rights,
         },
     }
-}
-
-/// Whether the user sees an entry at all: whether its name may be read. Takes no memory.
-pub fn sees<'a, R: Records>(by: &Viewer<'a, R>, name: &'a [u8]) -> bool
-    ensures { result ≡ rule.is_seen (rule.answers_at (R.store by.now.records.now).records by.now.realm.now by.now.user.now by.now.dataset.now by.now.chain name.now) }
-{
-    look(by, name, b"entry").read.is_some()
 }
 
 // A stored value, as it is lent.
@@ -168,7 +165,7 @@ fn seen_if(value: Option<Lent<'_>>, test: bool) -> Option<Lent<'_>>
 fn shown_by(value: Option<Lent<'_>>, rights: Rights) -> Shown<'_>
     ensures read { shown.cell_of result.read ≡ (if rights.r then shown.cell_of value.entry else Nil) }
     ensures test { shown.cell_of result.test ≡ (if rights.x || rights.r then shown.cell_of value.entry else Nil) }
-    ensures acl { result.is_readable ≡ rights.r }
+    ensures is_readable { result.is_readable ≡ rights.r }
     ensures rights { result.rights ≡ rights }
 {
     Shown {
@@ -184,7 +181,7 @@ pub(crate) fn look_at<'a, R: Records>(spot: &Spot<'a, R>, attribute: &[u8]) -> S
     ensures read { shown.cell_of result.read ≡ (rule.answers_at (R.store spot.now.by.now.records.now).records spot.now.by.now.realm.now spot.now.by.now.user.now spot.now.by.now.dataset.now spot.now.by.now.chain spot.now.name.now).read attribute.now }
     ensures test { shown.cell_of result.test ≡ (rule.answers_at (R.store spot.now.by.now.records.now).records spot.now.by.now.realm.now spot.now.by.now.user.now spot.now.by.now.dataset.now spot.now.by.now.chain spot.now.name.now).test attribute.now }
     ensures rights { result.rights ≡ (rule.answers_at (R.store spot.now.by.now.records.now).records spot.now.by.now.realm.now spot.now.by.now.user.now spot.now.by.now.dataset.now spot.now.by.now.chain spot.now.name.now).rights attribute.now }
-    ensures acl { (if result.is_readable then rule.own_acl (R.store spot.now.by.now.records.now).records spot.now.by.now.dataset.now spot.now.name.now attribute.now else None) ≡ (rule.answers_at (R.store spot.now.by.now.records.now).records spot.now.by.now.realm.now spot.now.by.now.user.now spot.now.by.now.dataset.now spot.now.by.now.chain spot.now.name.now).acl attribute.now }
+    ensures is_readable { result.is_readable ≡ rule.is_readable (R.store spot.now.by.now.records.now).records spot.now.by.now.realm.now spot.now.by.now.user.now spot.now.by.now.dataset.now spot.now.by.now.chain spot.now.name.now attribute.now }
 {
     if let Some(entry) = spot.entry
         && !has_list(entry, attribute)

@@ -6,23 +6,30 @@ use acap_entries::{Copying, Dataset, Memory, UserName};
 use acap_grammar::{Key, Limit, MakeContext, Returns, SearchModifiers, SortItems};
 
 /// What a search over a dataset looks for, and what is told of each match (RFC 2244 section 6.4.1): all that a context keeps of
-/// the SEARCH that made it.
+/// the SEARCH that made it, and all that the list of its matches depends on.
 #[derive(Drop)]
-pub struct Query {
+pub struct Sought {
     /// The dataset, in which no component stands for the user.
     pub dataset: Dataset,
     /// DEPTH: how many levels of datasets are looked through, 0 standing for all; one where it isn't sent.
     pub depth: Option<u32>,
     /// NOINHERIT: nothing is inherited.
     pub no_inherit: bool,
-    /// HARDLIMIT: with more matches than these the search fails.
-    pub hard_limit: Option<u32>,
     /// Which entries are wanted.
     pub key: Key,
     /// SORT: in which order they are told.
     pub sort: Option<SortItems>,
     /// RETURN: what is told of each.
     pub returns: Option<Returns>,
+}
+
+/// A search over a dataset: what it looks for, and when it has found too much (RFC 2244 section 6.4.1).
+#[derive(Drop)]
+pub struct Query {
+    /// What is looked for.
+    pub sought: Sought,
+    /// HARDLIMIT: with more matches than these the search fails.
+    pub hard_limit: Option<u32>,
 }
 
 /// What a SEARCH over a dataset asks for (RFC 2244 section 6.4.1).
@@ -59,13 +66,15 @@ impl Asked {
         } = modifiers;
         Ok(Asked {
             query: Query {
-                dataset,
-                depth,
-                no_inherit,
+                sought: Sought {
+                    dataset,
+                    depth,
+                    no_inherit,
+                    key,
+                    sort,
+                    returns,
+                },
                 hard_limit,
-                key,
-                sort,
-                returns,
             },
             limit,
             make_context,
@@ -73,20 +82,28 @@ impl Asked {
     }
 }
 
-impl Copying for Query {
-    fn copy(&self) -> Result<Query, Memory> {
+impl Copying for Sought {
+    fn copy(&self) -> Result<Sought, Memory> {
         let dataset = self.dataset.copy()?;
         let key = self.key.copy()?;
         let sort = self.sort.copy()?;
         let returns = self.returns.copy()?;
-        Ok(Query {
+        Ok(Sought {
             dataset,
             depth: self.depth,
             no_inherit: self.no_inherit,
-            hard_limit: self.hard_limit,
             key,
             sort,
             returns,
+        })
+    }
+}
+
+impl Copying for Query {
+    fn copy(&self) -> Result<Query, Memory> {
+        Ok(Query {
+            sought: self.sought.copy()?,
+            hard_limit: self.hard_limit,
         })
     }
 }

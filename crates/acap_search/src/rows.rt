@@ -8,7 +8,6 @@ ghost use Rattle.acap_search.specs.Sight as sight;
 
 use crate::looking::{is_nil, look_at, read_at};
 use crate::spot::Spot;
-use crate::viewer::Viewer;
 use acap_entries::{
     Attribute, Cell, CellList, CellLists, Cells, Copying, Item, Items, Memory, Records, Table,
     Value, Values,
@@ -266,17 +265,4 @@ pub(crate) fn items_at<R: Records>(
         items.push(item_of(alloc, spot, asked)?)?;
     }
     Ok(Items::from_vec(items))
-}
-
-/// What a RETURN tells of an entry, by what the user sees of it (RFC 2244 section 6.4.1): an item for each of its items. Fails
-/// only for want of memory.
-pub fn items_of<'a, R: Records>(
-    alloc: Global,
-    by: &Viewer<'a, R>,
-    name: &'a [u8],
-    returns: &[ReturnItem],
-) -> Result<Items, Memory>
-    ensures { IfOk result (λ items. items ≡ rule.items_of (sight.answers_at (R.store by.now.records.now).records by.now.realm.now by.now.user.now by.now.dataset.now by.now.chain name.now) (rule.stars_of (sight.answers_at (R.store by.now.records.now).records by.now.realm.now by.now.user.now by.now.dataset.now by.now.chain name.now).read (rule.attributes_at (R.store by.now.records.now).records name.now by.now.chain)) returns.now) }
-{
-    items_at(alloc, &Spot::far(by, name), returns)
 }

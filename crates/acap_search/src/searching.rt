@@ -16,7 +16,7 @@ use crate::hit::{Hit, Hits};
 use crate::near::Near;
 use crate::ordering::sort_hits;
 use crate::plain::plain_rights;
-use crate::query::Query;
+use crate::query::{Query, Sought};
 use crate::refusal::SearchRefusal;
 use crate::spot::Spot;
 use crate::tuples::hit_at;
@@ -35,7 +35,7 @@ struct Search<'a> {
     tree: &'a Tree,
     realm: &'a Realm,
     user: &'a UserName,
-    query: &'a Query,
+    sought: &'a Sought,
 }
 
 /// Whether a key asks for positions.
@@ -141,11 +141,11 @@ fn add_own_hits<'a>(
     alloc: Global,
     by: &'a Viewer<'a, Tree>,
     rights: Rights,
-    query: &Query,
+    sought: &Sought,
     hits: &mut Vec<Hit>,
 ) -> Result<(), Memory>
     requires { near.IsPlain by.now.records.now.store.records by.now.realm.now by.now.user.now by.now.dataset.now by.now.chain rights }
-    ensures { OnOk result (hits.new.items ≡ hits.old.items ++ filter_map (walks.hit_at by.now.records.now.store.records by.now.realm.now by.now.user.now query.now by.now.dataset.now by.now.chain) (names.names_on by.now.records.now.store.records by.now.chain)) }
+    ensures { OnOk result (hits.new.items ≡ hits.old.items ++ filter_map (walks.hit_at by.now.records.now.store.records by.now.realm.now by.now.user.now sought.now by.now.dataset.now by.now.chain) (names.names_on by.now.records.now.store.records by.now.chain)) }
 {
     for (path, entry) in by.records.entries_of(by.dataset.as_slice()) {
         let spot = Spot {
@@ -154,7 +154,7 @@ fn add_own_hits<'a>(
             entry: Some(entry),
             rights,
         };
-        if let Some(hit) = hit_at(alloc, &spot, query, None)? {
+        if let Some(hit) = hit_at(alloc, &spot, sought, None)? {
             hits.push(hit)?;
         }
     }
@@ -165,10 +165,10 @@ fn add_own_hits<'a>(
 pub(crate) fn add_far_hits(
     alloc: Global,
     by: &Viewer<'_, Tree>,
-    query: &Query,
+    sought: &Sought,
     hits: &mut Vec<Hit>,
 ) -> Result<(), Memory>
-    ensures { OnOk result (hits.new.items ≡ hits.old.items ++ filter_map (walks.hit_at by.now.records.now.store.records by.now.realm.now by.now.user.now query.now by.now.dataset.now by.now.chain) (names.names_on by.now.records.now.store.records by.now.chain)) }
+    ensures { OnOk result (hits.new.items ≡ hits.old.items ++ filter_map (walks.hit_at by.now.records.now.store.records by.now.realm.now by.now.user.now sought.now by.now.dataset.now by.now.chain) (names.names_on by.now.records.now.store.records by.now.chain)) }
 {
     let management = by.records.find(by.dataset.as_slice(), b"");
     for name in names_on(by.records, &by.chain) {
@@ -180,7 +180,7 @@ pub(crate) fn add_far_hits(
             dataset: by.dataset,
             chain: by.chain.again(),
         };
-        if let Some(hit) = hit_at(alloc, &Spot::far(&nearer, name), query, None)? {
+        if let Some(hit) = hit_at(alloc, &Spot::far(&nearer, name), sought, None)? {
             hits.push(hit)?;
         }
     }
@@ -195,18 +195,18 @@ fn add_hits(
     dataset: &Dataset,
     hits: &mut Vec<Hit>,
 ) -> Result<(), Memory>
-    ensures { OnOk result (hits.new.items ≡ hits.old.items ++ walks.hits_in search.now.tree.now.store.records search.now.realm.now search.now.user.now search.now.query.now dataset.now) }
+    ensures { OnOk result (hits.new.items ≡ hits.old.items ++ walks.hits_in search.now.tree.now.store.records search.now.realm.now search.now.user.now search.now.sought.now dataset.now) }
 {
     let by = Viewer {
         records: search.tree,
         realm: search.realm,
         user: search.user,
         dataset,
-        chain: chain(search.tree, dataset, search.query.no_inherit),
+        chain: chain(search.tree, dataset, search.sought.no_inherit),
     };
     match plain_rights(&by) {
-        Some(rights) => add_own_hits(alloc, &by, rights, search.query, hits),
-        None => add_far_hits(alloc, &by, search.query, hits),
+        Some(rights) => add_own_hits(alloc, &by, rights, search.sought, hits),
+        None => add_far_hits(alloc, &by, search.sought, hits),
     }
 }
 
@@ -220,9 +220,9 @@ fn add_reached(
     entry: &Record,
     hits: &mut Vec<Hit>,
 ) -> Result<(), Memory>
-    ensures { OnOk result (hits.new.items ≡ hits.old.items ++ walks.hits_by search.now.tree.now.store.records search.now.realm.now search.now.user.now search.now.query.now depth (path.now, entry.now)) }
+    ensures { OnOk result (hits.new.items ≡ hits.old.items ++ walks.hits_by search.now.tree.now.store.records search.now.realm.now search.now.user.now search.now.sought.now depth (path.now, entry.now)) }
 {
-    match reached_by(alloc, &search.query.dataset, depth, path, entry)? {
+    match reached_by(alloc, &search.sought.dataset, depth, path, entry)? {
         Some(dataset) => add_hits(alloc, search, &dataset, hits),
         None => Ok(()),
     }
@@ -235,12 +235,12 @@ fn add_beneath(
     depth: u32,
     hits: &mut Vec<Hit>,
 ) -> Result<(), Memory>
-    ensures { OnOk result (hits.new.items ≡ hits.old.items ++ flat_map (walks.hits_in search.now.tree.now.store.records search.now.realm.now search.now.user.now search.now.query.now) (scopes.beneath search.now.tree.now.store.records search.now.query.now.dataset depth)) }
+    ensures { OnOk result (hits.new.items ≡ hits.old.items ++ flat_map (walks.hits_in search.now.tree.now.store.records search.now.realm.now search.now.user.now search.now.sought.now) (scopes.beneath search.now.tree.now.store.records search.now.sought.now.dataset depth)) }
 {
     if depth == 1 {
         return Ok(());
     }
-    for (path, entry) in search.tree.entries_beneath(&search.query.dataset) {
+    for (path, entry) in search.tree.entries_beneath(&search.sought.dataset) {
         add_reached(alloc, search, depth, path, entry, hits)?;
     }
     Ok(())
@@ -248,14 +248,36 @@ fn add_beneath(
 
 // What is found, in the order of the store.
 fn hits_of(alloc: Global, search: &Search<'_>) -> Result<Vec<Hit>, Memory>
-    ensures { IfOk result (λ hits. hits.items ≡ walks.hits_over search.now.tree.now.store.records search.now.realm.now search.now.user.now search.now.query.now) }
+    ensures { IfOk result (λ hits. hits.items ≡ walks.hits_over search.now.tree.now.store.records search.now.realm.now search.now.user.now search.now.sought.now) }
 {
     let mut hits = Vec::new(alloc);
-    add_hits(alloc, search, &search.query.dataset, &mut hits)?;
-    if let Some(depth) = search.query.depth {
+    add_hits(alloc, search, &search.sought.dataset, &mut hits)?;
+    if let Some(depth) = search.sought.depth {
         add_beneath(alloc, search, depth, &mut hits)?;
     }
     Ok(hits)
+}
+
+/// All that is sought: every entry that the user sees and the key wants, in order (RFC 2244 section 6.4.1). Nothing is refused, since
+/// a context's list is this one too: RANGE finds nothing. Fails only for want of memory.
+pub fn seek(
+    alloc: Global,
+    tree: &Tree,
+    realm: &Realm,
+    user: &UserName,
+    sought: &Sought,
+) -> Result<Hits, Memory>
+    ensures { IfOk result (λ hits. hits ≡ rule.fresh_of (rule.sight_of tree.now.store.records realm.now user.now (scopes.scope_of sought.now)) sought.now) }
+{
+    let search = Search {
+        tree,
+        realm,
+        user,
+        sought,
+    };
+    let mut hits = hits_of(alloc, &search)?;
+    sort_hits(&mut hits)?;
+    Ok(Hits::from_vec(hits))
 }
 
 /// What a search over a dataset finds: all entries that the user sees and the key wants, in order, whatever LIMIT says (RFC 2244
@@ -268,23 +290,23 @@ pub fn fresh(
     user: &UserName,
     query: &Query,
 ) -> Result<Hits, SearchRefusal>
-    ensures found { IfOk result (λ hits. hits ≡ rule.fresh_of (rule.sight_of tree.now.store.records realm.now user.now (scopes.scope_of query.now)) query.now) }
+    ensures found { IfOk result (λ hits. hits ≡ rule.fresh_of (rule.sight_of tree.now.store.records realm.now user.now (scopes.scope_of query.now.sought)) query.now.sought) }
     ensures ok { OnOk result (rule.refusal_of tree.now.store.records realm.now user.now query.now ≡ None) }
-    ensures range { (result ≡ Err refusal.RangeHere) ↔ IsTrue (rule.has_range query.now.key) }
+    ensures range { (result ≡ Err refusal.RangeHere) ↔ IsTrue (rule.has_range query.now.sought.key) }
     ensures missing { (result ≡ Err refusal.NoExist) ↔ (rule.refusal_of tree.now.store.records realm.now user.now query.now ≡ Some refusal.NoExist) }
     ensures many { result ≡ Err refusal.WayTooMany → rule.refusal_of tree.now.store.records realm.now user.now query.now ≡ Some refusal.WayTooMany }
 {
-    if has_range(&query.key) {
+    if has_range(&query.sought.key) {
         return Err(SearchRefusal::RangeHere);
     }
-    if !tree.dataset_exists(query.dataset.as_slice()) {
+    if !tree.dataset_exists(query.sought.dataset.as_slice()) {
         return Err(SearchRefusal::NoExist);
     }
     let search = Search {
         tree,
         realm,
         user,
-        query,
+        sought: &query.sought,
     };
     let mut hits = hits_of(alloc, &search)?;
     if is_over(query.hard_limit, hits.as_slice().len()) {

@@ -12,7 +12,7 @@ ghost use Rattle.acap_search.specs.declared.refusal.SearchRefusal.TheVariants as
 use crate::cutting::cut_by;
 use crate::hit::{Hits, first_rows};
 use crate::plain::plain_rights;
-use crate::query::Query;
+use crate::query::{Query, Sought};
 use crate::refusal::SearchRefusal;
 use crate::searching::{add_far_hits, fresh, has_range, is_over};
 use crate::spot::Spot;
@@ -26,7 +26,7 @@ use std::alloc::Global;
 
 /// What a SEARCH over a dataset tells of its matches (RFC 2244 section 6.4.1).
 #[derive(Drop)]
-pub struct Told {
+pub struct Excerpt {
     /// The rows of the first of them, as many as LIMIT lets through.
     pub rows: Rows,
     /// How many there are in all, where LIMIT keeps some back.
@@ -46,11 +46,11 @@ fn add_own_rows<'a>(
     alloc: Global,
     by: &'a Viewer<'a, Tree>,
     rights: Rights,
-    query: &Query,
+    sought: &Sought,
     rows: &mut Vec<Row>,
 ) -> Result<(), Memory>
     requires { near.IsPlain by.now.records.now.store.records by.now.realm.now by.now.user.now by.now.dataset.now by.now.chain rights }
-    ensures { OnOk result (rows.new.items ≡ rows.old.items ++ each (λ hit. hit.row) (filter_map (walks.hit_at by.now.records.now.store.records by.now.realm.now by.now.user.now query.now by.now.dataset.now by.now.chain) (names.names_on by.now.records.now.store.records by.now.chain))) }
+    ensures { OnOk result (rows.new.items ≡ rows.old.items ++ each (λ hit. hit.row) (filter_map (walks.hit_at by.now.records.now.store.records by.now.realm.now by.now.user.now sought.now by.now.dataset.now by.now.chain) (names.names_on by.now.records.now.store.records by.now.chain))) }
 {
     for (path, entry) in by.records.entries_of(by.dataset.as_slice()) {
         let spot = Spot {
@@ -59,7 +59,7 @@ fn add_own_rows<'a>(
             entry: Some(entry),
             rights,
         };
-        if let Some(row) = row_at(alloc, &spot, query, None)? {
+        if let Some(row) = row_at(alloc, &spot, sought, None)? {
             rows.push(row)?;
         }
     }
@@ -67,16 +67,16 @@ fn add_own_rows<'a>(
 }
 
 // What is told of what is found in a dataset, in the order of the names there.
-fn rows_by<'a>(alloc: Global, by: &'a Viewer<'a, Tree>, query: &Query) -> Result<Rows, Memory>
-    ensures { IfOk result (λ rows. rows ≡ each (λ hit. hit.row) (filter_map (walks.hit_at by.now.records.now.store.records by.now.realm.now by.now.user.now query.now by.now.dataset.now by.now.chain) (names.names_on by.now.records.now.store.records by.now.chain))) }
+fn rows_by<'a>(alloc: Global, by: &'a Viewer<'a, Tree>, sought: &Sought) -> Result<Rows, Memory>
+    ensures { IfOk result (λ rows. rows ≡ each (λ hit. hit.row) (filter_map (walks.hit_at by.now.records.now.store.records by.now.realm.now by.now.user.now sought.now by.now.dataset.now by.now.chain) (names.names_on by.now.records.now.store.records by.now.chain))) }
 {
     if let Some(rights) = plain_rights(by) {
         let mut rows = Vec::new(alloc);
-        add_own_rows(alloc, by, rights, query, &mut rows)?;
+        add_own_rows(alloc, by, rights, sought, &mut rows)?;
         return Ok(Rows::from_vec(rows));
     }
     let mut hits = Vec::new(alloc);
-    add_far_hits(alloc, by, query, &mut hits)?;
+    add_far_hits(alloc, by, sought, &mut hits)?;
     all_rows(alloc, Hits::from_vec(hits))
 }
 
@@ -87,18 +87,18 @@ fn rows_in(
     tree: &Tree,
     realm: &Realm,
     user: &UserName,
-    query: &Query,
+    sought: &Sought,
 ) -> Result<Rows, Memory>
-    ensures { IfOk result (λ rows. rows ≡ each (λ hit. hit.row) (walks.hits_in tree.now.store.records realm.now user.now query.now query.now.dataset)) }
+    ensures { IfOk result (λ rows. rows ≡ each (λ hit. hit.row) (walks.hits_in tree.now.store.records realm.now user.now sought.now sought.now.dataset)) }
 {
     let by = Viewer {
         records: tree,
         realm,
         user,
-        dataset: &query.dataset,
-        chain: chain(tree, &query.dataset, query.no_inherit),
+        dataset: &sought.dataset,
+        chain: chain(tree, &sought.dataset, sought.no_inherit),
     };
-    rows_by(alloc, &by, query)
+    rows_by(alloc, &by, sought)
 }
 
 // What is told of all matches, where neither DEPTH nor SORT is asked for: they are found in order.
@@ -109,22 +109,22 @@ fn plain_rows(
     user: &UserName,
     query: &Query,
 ) -> Result<Rows, SearchRefusal>
-    requires depth { query.now.depth ≡ None }
-    requires sort { query.now.sort ≡ None }
-    ensures found { IfOk result (λ rows. rows ≡ each (λ hit. hit.row) (rule.fresh_of (rule.sight_of tree.now.store.records realm.now user.now (scopes.scope_of query.now)) query.now)) }
+    requires depth { query.now.sought.depth ≡ None }
+    requires sort { query.now.sought.sort ≡ None }
+    ensures found { IfOk result (λ rows. rows ≡ each (λ hit. hit.row) (rule.fresh_of (rule.sight_of tree.now.store.records realm.now user.now (scopes.scope_of query.now.sought)) query.now.sought)) }
     ensures ok { OnOk result (rule.refusal_of tree.now.store.records realm.now user.now query.now ≡ None) }
-    ensures range { (result ≡ Err refusal.RangeHere) ↔ IsTrue (rule.has_range query.now.key) }
+    ensures range { (result ≡ Err refusal.RangeHere) ↔ IsTrue (rule.has_range query.now.sought.key) }
     ensures missing { (result ≡ Err refusal.NoExist) ↔ (rule.refusal_of tree.now.store.records realm.now user.now query.now ≡ Some refusal.NoExist) }
     ensures many { result ≡ Err refusal.WayTooMany → rule.refusal_of tree.now.store.records realm.now user.now query.now ≡ Some refusal.WayTooMany }
 {
     names_law();
-    if has_range(&query.key) {
+    if has_range(&query.sought.key) {
         return Err(SearchRefusal::RangeHere);
     }
-    if !tree.dataset_exists(query.dataset.as_slice()) {
+    if !tree.dataset_exists(query.sought.dataset.as_slice()) {
         return Err(SearchRefusal::NoExist);
     }
-    let rows = rows_in(alloc, tree, realm, user, query)?;
+    let rows = rows_in(alloc, tree, realm, user, &query.sought)?;
     if is_over(query.hard_limit, rows.len()) {
         return Err(SearchRefusal::WayTooMany);
     }
@@ -139,9 +139,9 @@ fn sorted_rows(
     user: &UserName,
     query: &Query,
 ) -> Result<Rows, SearchRefusal>
-    ensures found { IfOk result (λ rows. rows ≡ each (λ hit. hit.row) (rule.fresh_of (rule.sight_of tree.now.store.records realm.now user.now (scopes.scope_of query.now)) query.now)) }
+    ensures found { IfOk result (λ rows. rows ≡ each (λ hit. hit.row) (rule.fresh_of (rule.sight_of tree.now.store.records realm.now user.now (scopes.scope_of query.now.sought)) query.now.sought)) }
     ensures ok { OnOk result (rule.refusal_of tree.now.store.records realm.now user.now query.now ≡ None) }
-    ensures range { (result ≡ Err refusal.RangeHere) ↔ IsTrue (rule.has_range query.now.key) }
+    ensures range { (result ≡ Err refusal.RangeHere) ↔ IsTrue (rule.has_range query.now.sought.key) }
     ensures missing { (result ≡ Err refusal.NoExist) ↔ (rule.refusal_of tree.now.store.records realm.now user.now query.now ≡ Some refusal.NoExist) }
     ensures many { result ≡ Err refusal.WayTooMany → rule.refusal_of tree.now.store.records realm.now user.now query.now ≡ Some refusal.WayTooMany }
 {
@@ -162,27 +162,27 @@ fn fresh_rows(
     user: &UserName,
     query: &Query,
 ) -> Result<Rows, SearchRefusal>
-    ensures found { IfOk result (λ rows. rows ≡ each (λ hit. hit.row) (rule.fresh_of (rule.sight_of tree.now.store.records realm.now user.now (scopes.scope_of query.now)) query.now)) }
+    ensures found { IfOk result (λ rows. rows ≡ each (λ hit. hit.row) (rule.fresh_of (rule.sight_of tree.now.store.records realm.now user.now (scopes.scope_of query.now.sought)) query.now.sought)) }
     ensures ok { OnOk result (rule.refusal_of tree.now.store.records realm.now user.now query.now ≡ None) }
-    ensures range { (result ≡ Err refusal.RangeHere) ↔ IsTrue (rule.has_range query.now.key) }
+    ensures range { (result ≡ Err refusal.RangeHere) ↔ IsTrue (rule.has_range query.now.sought.key) }
     ensures missing { (result ≡ Err refusal.NoExist) ↔ (rule.refusal_of tree.now.store.records realm.now user.now query.now ≡ Some refusal.NoExist) }
     ensures many { result ≡ Err refusal.WayTooMany → rule.refusal_of tree.now.store.records realm.now user.now query.now ≡ Some refusal.WayTooMany }
 {
-    if query.depth.is_some() || query.sort.is_some() {
+    if query.sought.depth.is_some() || query.sought.sort.is_some() {
         return sorted_rows(alloc, tree, realm, user, query);
     }
     plain_rows(alloc, tree, realm, user, query)
 }
 
 // The first rows, as many as LIMIT lets through.
-fn cut_rows(rows: Rows, limit: Option<Limit>) -> Told
+fn cut_rows(rows: Rows, limit: Option<Limit>) -> Excerpt
     ensures rows { result.rows ≡ take (cutting.cut_of limit (length rows)).told rows }
     ensures total { result.total ≡ (cutting.cut_of limit (length rows)).total }
 {
     let cut = cut_by(limit, rows.len());
     let mut rows = rows.into_vec();
     rows.truncate(cut.told);
-    Told {
+    Excerpt {
         rows: Rows::from_vec(rows),
         total: cut.total,
     }
@@ -197,11 +197,11 @@ pub fn tell(
     user: &UserName,
     query: &Query,
     limit: Option<Limit>,
-) -> Result<Told, SearchRefusal>
-    ensures rows { let matches = rule.fresh_of (rule.sight_of tree.now.store.records realm.now user.now (scopes.scope_of query.now)) query.now in IfOk result (λ told. told.rows ≡ each (λ hit. hit.row) (take (cutting.cut_of limit (length matches)).told matches)) }
-    ensures total { let matches = rule.fresh_of (rule.sight_of tree.now.store.records realm.now user.now (scopes.scope_of query.now)) query.now in IfOk result (λ told. told.total ≡ (cutting.cut_of limit (length matches)).total) }
+) -> Result<Excerpt, SearchRefusal>
+    ensures rows { let matches = rule.fresh_of (rule.sight_of tree.now.store.records realm.now user.now (scopes.scope_of query.now.sought)) query.now.sought in IfOk result (λ excerpt. excerpt.rows ≡ each (λ hit. hit.row) (take (cutting.cut_of limit (length matches)).told matches)) }
+    ensures total { let matches = rule.fresh_of (rule.sight_of tree.now.store.records realm.now user.now (scopes.scope_of query.now.sought)) query.now.sought in IfOk result (λ excerpt. excerpt.total ≡ (cutting.cut_of limit (length matches)).total) }
     ensures ok { OnOk result (rule.refusal_of tree.now.store.records realm.now user.now query.now ≡ None) }
-    ensures range { (result ≡ Err refusal.RangeHere) ↔ IsTrue (rule.has_range query.now.key) }
+    ensures range { (result ≡ Err refusal.RangeHere) ↔ IsTrue (rule.has_range query.now.sought.key) }
     ensures missing { (result ≡ Err refusal.NoExist) ↔ (rule.refusal_of tree.now.store.records realm.now user.now query.now ≡ Some refusal.NoExist) }
     ensures many { result ≡ Err refusal.WayTooMany → rule.refusal_of tree.now.store.records realm.now user.now query.now ≡ Some refusal.WayTooMany }
 {

@@ -14,6 +14,7 @@ use Rattle.acap_entries.specs.Changes.{store_after}
 use Rattle.acap_entries.specs.Datasets.{dataset_exists, is_dot_list}
 use Rattle.acap_entries.specs.Names.{slash, own_entry}
 use Rattle.acap_entries.specs.Orders.{octets_eq, octets_cmp}
+use Rattle.acap_entries.specs.Sound.{IsHoused}
 use Rattle.acap_entries.specs.Store.{Stored, Store, path_cmp, after_fate}
 use Rattle.acap_entries.specs.declared.cell.Cell.{Cell}
 use Rattle.acap_entries.specs.declared.cell.Cell.TheVariants.{Nil, Single, Multi}
@@ -28,7 +29,7 @@ use Rattle.acap_grammar.specs.declared.store_item.StoreItem.{StoreItem}
 use Rattle.acap_inherit.specs.Chains.{chain_within}
 use Rattle.acap_inherit.specs.Resolving.{resolved, by_cell, by_record}
 use Rattle.acap_rights.specs.declared.realm.Realm.{Realm}
-use Rattle.acap_store.specs.DatasetLaws.{DatasetLaw, IsHoused, own_path, way_within, way_to, is_on_way, is_made, is_made_at, gets_subdataset}
+use Rattle.acap_store.specs.DatasetLaws.{DatasetLaw, own_path, way_within, way_to, is_on_way, is_made, is_made_at, gets_subdataset}
 use Rattle.acap_store.specs.Forms.{is_management, is_value, is_nothing, is_of, is_ending, resolved_at}
 use Rattle.acap_store.specs.Invalid.{is_invalid, may_end, may_be_value, may_be_entry, is_dot, lies_beneath, invalid, invalid_in, first_invalid}
 use Rattle.acap_store.specs.Meaning.{meaning}

@@ -1,15 +1,14 @@
 -- Datasets, their own entries and the ways to them.
 use Rattle.std.proofs.Common.{◌≡◌, ℕ, zero, suc, Bool, true, false, not, cond, ◌&&◌, ◌||◌, List, [], ◌∷◌, ◌++◌, length, map, Option, Some, None, refl, sym, ap, ◌∙◌}
-use Rattle.std.specs.Prelude.{take, find, option_map, ◌-◌}
-use Rattle.std.proofs.lemmas.List.{take-append-drop}
+use Rattle.std.specs.Prelude.{find, option_map}
 use Rattle.std.proofs.lemmas.List.Folds.{list_any-append}
 use Rattle.std.proofs.lemmas.Slice.Eq.{bytes_eq-Decides}
 use Rattle.std.specs.List.{list_any}
 use Rattle.std.specs.Option.{option_map_or, option_and_then}
 use Rattle.std.specs.FinMap as table
-use Rattle.acap_entries.proofs.NameLemmas.{closed_again}
+use Rattle.acap_entries.proofs.OwnLaws.{own_entry_law}
 use Rattle.acap_entries.specs.Datasets.{dataset_exists, makes_dataset}
-use Rattle.acap_entries.specs.Names.{slash, ends_with, own_entry, dataset_of, name_of, dataset_len}
+use Rattle.acap_entries.specs.Names.{slash, own_entry, dataset_of}
 use Rattle.acap_entries.specs.Orders.{octets_eq}
 use Rattle.acap_entries.specs.Store.{Stored, path_cmp}
 use Rattle.acap_entries.specs.declared.fate.Fate.{Fate}
@@ -72,26 +71,13 @@ paths_refl p q e = both_true _ _ (octets_refl p.dataset q.dataset (ap (λ (r : P
 
 -- ---- own entries
 
-path_whole : (path : List ℕ) → dataset_of path ++ name_of path ≡ path
-unfolding dataset_of name_of
-path_whole path = take-append-drop (dataset_len path) path
-
 pub append_behind : (xs ys zs : List ℕ) → (xs ++ ys) ++ zs ≡ xs ++ (ys ++ zs)
 append_behind [] ys zs = refl
 append_behind (x ∷ xs) ys zs = ap (λ t. x ∷ t) (append_behind xs ys zs)
 
-own_parts : (b : Bool) (x y : List ℕ) (own : List ℕ × List ℕ) → cond b (Some (x, y)) None ≡ Some own → (b ≡ true) × ((x ≡ own.0) × (y ≡ own.1))
-own_parts true x y own e = let same : (x, y) ≡ own = cc in (refl, (ap (λ p. p.0) same, ap (λ p. p.1) same))
-own_parts false x y own e = cc
-
 -- a dataset is its own entry's path with a slash behind it
 pub own_whole : (d : List ℕ) (own : List ℕ × List ℕ) → own_entry d ≡ Some own → own.0 ++ (own.1 ++ slash ∷ []) ≡ d
-own_whole d own e =
-    let path = take (length d - 1) d in
-    let parts = own_parts (ends_with slash d && ends_with slash (dataset_of path)) (dataset_of path) (name_of path) own e in
-    let whole : path ++ slash ∷ [] ≡ d = closed_again d (first_true _ _ parts.0) in
-    ap (λ t. t ++ (own.1 ++ slash ∷ [])) (sym parts.1.0) ∙ ap (λ t. dataset_of path ++ (t ++ slash ∷ [])) (sym parts.1.1)
-    ∙ sym (append_behind (dataset_of path) (name_of path) (slash ∷ [])) ∙ ap (λ t. t ++ slash ∷ []) (path_whole path) ∙ whole
+own_whole d own e = sym (append_behind own.0 own.1 (slash ∷ [])) ∙ ((own_entry_law d (own_path own)).0 e).1
 
 -- so datasets with the same own entry are the same
 pub own_tie : (d x : List ℕ) (a b : List ℕ × List ℕ) → own_entry d ≡ Some a → own_entry x ≡ Some b → same_path (own_path a) (own_path b) ≡ octets_eq d x

@@ -10,6 +10,7 @@ use Rattle.acap_entries.specs.Changes.{store_after}
 use Rattle.acap_entries.specs.Datasets.{dataset_exists}
 use Rattle.acap_entries.specs.Names.{slash, own_entry}
 use Rattle.acap_entries.specs.Orders.{octets_eq, octets_cmp}
+use Rattle.acap_entries.specs.Sound.{IsHoused}
 use Rattle.acap_entries.specs.Store.{Stored, Store, path_cmp, after_fate}
 use Rattle.acap_entries.specs.declared.change.Change.{Change}
 use Rattle.acap_entries.specs.declared.fate.Fate.TheVariants as fate
@@ -17,7 +18,7 @@ use Rattle.acap_entries.specs.declared.path.Path.{Path}
 use Rattle.acap_entries.specs.declared.record.Record.{Record}
 use Rattle.acap_grammar.specs.declared.store_entry.StoreEntry.{StoreEntry}
 use Rattle.acap_rights.specs.declared.realm.Realm.{Realm}
-use Rattle.acap_store.specs.DatasetLaws.{HousedLaw, IsHoused, own_path, way_within, way_to, is_on_way, is_made, reaches_within, is_absolute}
+use Rattle.acap_store.specs.DatasetLaws.{HousedLaw, own_path, way_within, way_to, is_on_way, is_made, reaches_within, is_absolute}
 use Rattle.acap_store.specs.Laws.{entries_of}
 use Rattle.acap_store.specs.Planning.{planned}
 use Rattle.acap_store.specs.Refusing.{same_path}
@@ -146,12 +147,12 @@ module _ (s : Store) (realm : Realm) (user : List ℕ) (write : Write) (now : �
       ∙ left_or (dataset_exists s.records d || is_on_way entries d) (is_made entries d) (by_root (octets_eq d root) (dataset_exists s.records d) (is_on_way entries d) (root_exists s.records d) e)
 
   -- what a record of afterwards is: what an entry or a step wrote, or what was there before
-  abbrev here : Path → Option StoreEntry → Bool → Option Record
+  abbrev pub here : Path → Option StoreEntry → Bool → Option Record
   here p found stepped_there =
       after_fate (option_or (option_map (λ e. fate_of user (stepped s.records (steps_for s.records entries change.moment) e.path) change.moment e) found)
       (cond stepped_there (Some (step_at s.records change.moment p).1) None)) (table.get s.records p)
 
-  is_here : (p : Path) → table.get after p ≡ here p (find (λ e. same_path p e.path) entries) (list_any (same_path p) (missing_for s.records entries))
+  pub is_here : (p : Path) → table.get after p ≡ here p (find (λ e. same_path p e.path) entries) (list_any (same_path p) (missing_for s.records entries))
   is_here p =
       path_law s realm user write now change made p
       ∙ ap (λ o. after_fate (option_or o (table.find path_cmp p (map (step_at s.records change.moment) (missing_for s.records entries)))) (table.get s.records p))

@@ -9,6 +9,7 @@ pub mod RefusalLemmas
 pub mod ListLemmas
 pub mod RightLemmas
 pub mod RootLemmas
+pub mod SoundLaws
 pub mod Stages
 pub mod StoreLaws
 pub mod TwiceLemmas

@@ -1,108 +1,18 @@
 -- Which ways up end at `/`.
-use Rattle.std.proofs.Common.{◌≡◌, ℕ, zero, suc, ◌+◌, ◌<◌, ◌≤◌, Bool, true, false, not, cond, ◌&&◌, ◌||◌, List, [], ◌∷◌, ◌++◌, length, get_or, Some, None, refl, sym, ap, subst, ◌∙◌, arith}
+use Rattle.std.proofs.Common.{◌≡◌, ℕ, zero, suc, ◌+◌, ◌<◌, ◌≤◌, Bool, true, false, cond, ◌&&◌, ◌||◌, List, [], ◌∷◌, ◌++◌, length, Some, None, refl, ap, ◌∙◌, arith}
 use Rattle.std.specs.Prelude.{take, drop, codes, ◌-◌, ◌==◌}
 use Rattle.std.proofs.lemmas.Bool.{eqb-true}
-use Rattle.std.proofs.lemmas.List.Sums.{suffix_len_is}
-use Rattle.std.specs.List.{suffix_len}
 use Rattle.std.specs.Option.{option_map_or}
 use Rattle.acap_entries.specs.Homes.{for_user, is_home, second_at}
-use Rattle.acap_entries.specs.Names.{slash, is_slash, has, begins_with, ends_with, own_entry, dataset_len, dataset_of, name_of}
+use Rattle.acap_entries.specs.Names.{slash, has, begins_with, ends_with, own_entry, dataset_of, name_of}
 use Rattle.acap_entries.specs.Orders.{octets_eq}
-use Rattle.acap_entries.proofs.NameLemmas.{closed_behind, for_user_closed}
+use Rattle.acap_entries.proofs.NameLemmas.{for_user_closed}
+use Rattle.acap_entries.proofs.OwnLaws.{cut_closed, cut_begins, dataset_cut}
 use Rattle.acap_store.specs.DatasetLaws.{RootLaw, reaches_within, is_absolute}
-use Rattle.acap_store.proofs.DatasetLemmas.{both_true, or_false, octets_refl}
+use Rattle.acap_store.proofs.DatasetLemmas.{both_true, octets_refl}
 use Rattle.acap_store.proofs.WriteLemmas.{parent_shorter}
 
--- how many octets there are through the last slash
-cut : List ℕ → ℕ
-cut [] = 0
-cut (x ∷ xs) = cond (has slash xs) (suc (cut xs)) (cond (x == slash) 1 0)
-
-cut_none : (xs : List ℕ) → has slash xs ≡ false → cut xs ≡ 0
-unfolding cut
-cut_none [] = λ h. refl
-cut_none (x ∷ xs) = elim (x == slash) as (λ b. b || has slash xs ≡ false → cond (has slash xs) (suc (cut xs)) (cond b 1 0) ≡ 0) [
-  | true ↦ λ h. cc
-  | false ↦ λ h. ap (λ b. cond b (suc (cut xs)) 0) h
-]
-
-cut_some : (xs : List ℕ) → has slash xs ≡ true → 0 < cut xs
-unfolding cut
-cut_some [] h = cc
-cut_some (x ∷ xs) h = elim (has slash xs) as (λ b. (x == slash) || b ≡ true → 0 < cond b (suc (cut xs)) (cond (x == slash) 1 0)) [
-  | true ↦ λ g. omega arith
-  | false ↦ λ g. let here : (x == slash) ≡ true = sym (or_false (x == slash)) ∙ g in subst (λ b. 0 < cond b 1 0) (sym here) (omega arith)
-] h
-
-cut_within : (xs : List ℕ) → cut xs ≤ length xs
-unfolding cut
-cut_within [] = omega arith
-cut_within (x ∷ xs) = elim (has slash xs) as (λ b. cond b (suc (cut xs)) (cond (x == slash) 1 0) ≤ suc (length xs)) [
-  | true ↦ omega (arith, cut_within xs)
-  | false ↦ elim (x == slash) as (λ b. cond b 1 0 ≤ suc (length xs)) [ true ↦ omega arith | false ↦ omega arith ]
-]
-
--- behind them there is no slash
-behind : (xs : List ℕ) (k : ℕ) → cut xs ≤ k → k < length xs → not (is_slash (get_or xs k 0)) ≡ true
-unfolding cut
-behind [] k = λ p q. absurd (omega (arith, q))
-behind (x ∷ xs) zero = elim (has slash xs) as (λ b. has slash xs ≡ b → cond b (suc (cut xs)) (cond (x == slash) 1 0) ≤ 0 → 0 < suc (length xs) → not (x == slash) ≡ true) [
-  | true ↦ λ h p q. absurd (omega (arith, p))
-  | false ↦ λ h. elim (x == slash) as (λ b. cond b 1 0 ≤ 0 → 0 < suc (length xs) → not b ≡ true) [
-    | true ↦ λ p q. absurd (omega (arith, p))
-    | false ↦ λ p q. refl
-  ]
-] refl
-behind (x ∷ xs) (suc k) = elim (has slash xs) as (λ b. has slash xs ≡ b → cond b (suc (cut xs)) (cond (x == slash) 1 0) ≤ suc k → suc k < suc (length xs) → not (is_slash (get_or xs k 0)) ≡ true) [
-  | true ↦ λ h p q. behind xs k (omega (arith, p)) (omega (arith, q))
-  | false ↦ λ h p q. let none = cut_none xs h in behind xs k (omega (arith, none)) (omega (arith, q))
-] refl
-
--- and they end in one
-last_later : (x : ℕ) (xs : List ℕ) (n : ℕ) → cut xs ≡ n → 0 < n → not (is_slash (get_or xs (n - 1) 0)) ≡ false → not (is_slash (get_or (x ∷ xs) (suc n - 1) 0)) ≡ false
-last_later x xs zero c p e = absurd (omega (arith, p))
-last_later x xs (suc n) c p e =
-    let one : suc (suc n) - 1 ≡ suc n = omega arith in
-    let less : suc n - 1 ≡ n = omega arith in
-    ap (λ m. not (is_slash (get_or (x ∷ xs) m 0))) one ∙ sym (ap (λ m. not (is_slash (get_or xs m 0))) less) ∙ e
-
-last_is : (xs : List ℕ) → 0 < cut xs → not (is_slash (get_or xs (cut xs - 1) 0)) ≡ false
-unfolding cut
-last_is [] = λ p. absurd (omega (arith, p))
-last_is (x ∷ xs) = elim (has slash xs) as (λ b. has slash xs ≡ b → 0 < cond b (suc (cut xs)) (cond (x == slash) 1 0) → not (is_slash (get_or (x ∷ xs) (cond b (suc (cut xs)) (cond (x == slash) 1 0) - 1) 0)) ≡ false) [
-  | true ↦ λ h p. last_later x xs (cut xs) refl (cut_some xs h) (last_is xs (cut_some xs h))
-  | false ↦ λ h. elim (x == slash) as (λ b. (x == slash) ≡ b → 0 < cond b 1 0 → not (is_slash (get_or (x ∷ xs) (cond b 1 0 - 1) 0)) ≡ false) [
-    | true ↦ λ e p. ap not e
-    | false ↦ λ e p. absurd (omega (arith, p))
-  ] refl
-] refl
-
-cut_is : (xs : List ℕ) → dataset_len xs ≡ cut xs
-cut_is xs =
-    let behind_is : suffix_len (λ octet. not (is_slash octet)) xs ≡ length xs - cut xs = suffix_len_is (λ octet. not (is_slash octet)) xs (cut xs) 0 (cut_within xs) (behind xs) (last_is xs) in
-    let within = cut_within xs in
-    omega (arith, behind_is, within)
-
-cut_closed : (xs : List ℕ) → has slash xs ≡ true → ends_with slash (take (cut xs) xs) ≡ true
-unfolding cut
-cut_closed [] = λ h. cc
-cut_closed (x ∷ xs) = elim (has slash xs) as (λ b. has slash xs ≡ b → (x == slash) || b ≡ true → ends_with slash (take (cond b (suc (cut xs)) (cond (x == slash) 1 0)) (x ∷ xs)) ≡ true) [
-  | true ↦ λ h g. closed_behind (x ∷ []) (take (cut xs) xs) (cut_closed xs h)
-  | false ↦ λ h g. let here : (x == slash) ≡ true = sym (or_false (x == slash)) ∙ g in ap (λ b. ends_with slash (take (cond b 1 0) (x ∷ xs))) here ∙ here
-] refl
-
-cut_begins : (x : ℕ) (xs : List ℕ) → (x == slash) ≡ true → begins_with slash (take (cut (x ∷ xs)) (x ∷ xs)) ≡ true
-unfolding cut
-cut_begins x xs e = elim (has slash xs) as (λ b. begins_with slash (take (cond b (suc (cut xs)) (cond (x == slash) 1 0)) (x ∷ xs)) ≡ true) [
-  | true ↦ e
-  | false ↦ ap (λ b. begins_with slash (take (cond b 1 0) (x ∷ xs))) e ∙ e
-]
-
 -- ---- a dataset that begins and ends with a slash has a parent that does, or is `/`
-
-dataset_cut : (path : List ℕ) → dataset_of path ≡ take (cut path) path
-unfolding dataset_of
-dataset_cut path = ap (λ n. take n path) (cut_is path)
 
 parent : (x y : ℕ) (rest : List ℕ) → (x == slash) ≡ true → ends_with slash (x ∷ y ∷ rest) ≡ true →
     own_entry (x ∷ y ∷ rest) ≡ Some (dataset_of (x ∷ take (length rest) (y ∷ rest)), name_of (x ∷ take (length rest) (y ∷ rest)))
@@ -136,7 +46,7 @@ rooted : (d : List ℕ) → begins_with slash d ≡ true → ends_with slash d �
 rooted d b e = root_within (length d) d (omega arith) b e
 
 -- what a user means begins as what is sent
-meant_begins : (user d : List ℕ) → begins_with slash d ≡ true → begins_with slash (for_user user d) ≡ true
+pub meant_begins : (user d : List ℕ) → begins_with slash d ≡ true → begins_with slash (for_user user d) ≡ true
 unfolding for_user
 meant_begins user [] b = cc
 meant_begins user (x ∷ d) b = elim (is_home (x ∷ d)) as (λ h. begins_with slash (cond h (take (second_at (x ∷ d)) (x ∷ d) ++ codes "user/" ++ user ++ drop (second_at (x ∷ d) + 1) (x ∷ d)) (x ∷ d)) ≡ true) [

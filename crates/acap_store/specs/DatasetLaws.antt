@@ -1,24 +1,26 @@
 -- Which datasets there are after a command [RFC 2244 sections 3.1.1 and 4.1].
-use Rattle.std.specs.Prelude.{◌≡◌, ℕ, zero, suc, ℤ, List, [], ◌∷◌, length, Bool, true, false, ◌||◌, find, Some, None, Ok, codes}
+use Rattle.std.specs.Prelude.{◌≡◌, ℕ, zero, suc, ℤ, List, [], ◌∷◌, length, map, Bool, true, false, not, ◌&&◌, ◌||◌, find, Ok, codes}
 use Rattle.std.specs.List.{list_any, list_all}
 use Rattle.std.specs.Option.{option_map_or}
 use Rattle.std.specs.FinMap as table
 use Rattle.acap_entries.specs.Changes.{store_after}
 use Rattle.acap_entries.specs.Datasets.{dataset_exists}
 use Rattle.acap_entries.specs.Homes.{for_user}
-use Rattle.acap_entries.specs.Names.{slash, begins_with, ends_with, own_entry}
+use Rattle.acap_entries.specs.Names.{slash, has, begins_with, ends_with, own_entry}
 use Rattle.acap_entries.specs.Orders.{octets_eq}
-use Rattle.acap_entries.specs.Store.{Stored, Store}
+use Rattle.acap_entries.specs.Sound.{IsHoused, IsSoundStore}
+use Rattle.acap_entries.specs.Store.{Store}
 use Rattle.acap_entries.specs.declared.change.Change.{Change}
 use Rattle.acap_entries.specs.declared.path.Path.{Path}
-use Rattle.acap_entries.specs.declared.record.Record.{Record}
 use Rattle.acap_grammar.specs.declared.store_entry.StoreEntry.{StoreEntry}
 use Rattle.acap_rights.specs.declared.realm.Realm.{Realm}
 use Rattle.acap_store.specs.Forms.{is_of}
 use Rattle.acap_store.specs.Laws.{entries_of}
+use Rattle.acap_store.specs.Meaning.{target_named, list_path}
 use Rattle.acap_store.specs.Planning.{planned}
 use Rattle.acap_store.specs.Refusing.{same_path}
 use Rattle.acap_store.specs.declared.write.Write.{Write}
+use Rattle.acap_store.specs.declared.write.Write.TheVariants as write
 
 -- the own entry of a dataset, as a path
 abbrev pub own_path : List ℕ × List ℕ → Path
@@ -47,11 +49,6 @@ is_made_at entries p = option_map_or gets_subdataset (find (λ e. same_path p e.
 abbrev pub is_made : List StoreEntry → List ℕ → Bool
 is_made entries dataset = option_map_or (λ own. is_made_at entries (own_path own)) (own_entry dataset) false
 
--- the dataset of each record exists, and a record of an entry that is not present has no `subdataset`
-pub record IsHoused (records : Stored) : Type 0 where
-  pub homes : (p : Path) (entry : Record) → table.get records p ≡ Some entry → dataset_exists records p.dataset ≡ true
-  pub absent : (p : Path) (entry : Record) → table.get records p ≡ Some entry → entry.present ≡ false → table.get entry.cells (codes "subdataset") ≡ None
-
 -- after a command there are the datasets that there were, those on the way to its paths, and those that its items make. No other
 abbrev pub DatasetLaw : Type 0
 DatasetLaw = (s : Store) (realm : Realm) (user : List ℕ) (write : Write) (now : ℤ) (change : Change) → planned s realm user write now ≡ Ok change → IsHoused s.records →
@@ -78,3 +75,21 @@ pub record HousedLaw : Type 0 where
       (dataset : List ℕ) → dataset_exists s.records dataset ≡ true → dataset_exists (store_after change s).records dataset ≡ true
   pub housed : (s : Store) (realm : Realm) (user : List ℕ) (write : Write) (now : ℤ) (change : Change) → planned s realm user write now ≡ Ok change → IsHoused s.records →
       list_all (λ e. is_absolute e.path.dataset) (entries_of s user write) ≡ true → IsHoused (store_after change s).records
+
+-- a path as commands name it: its dataset begins and ends with a slash, and its name has none
+abbrev pub is_formed : Path → Bool
+is_formed p = begins_with slash p.dataset && ends_with slash p.dataset && not (has slash p.name)
+
+-- the paths that a command names, `~` standing where it was sent
+abbrev pub paths_named : Write → List Path
+paths_named (write.Store entries) = map (λ e. e.path) entries
+paths_named (write.SetAcl object identifier letters) = list_path (target_named object.dataset object.attribute object.name) ∷ []
+paths_named (write.DeleteAcl object identifier) = list_path (target_named object.dataset object.attribute object.name) ∷ []
+
+-- the empty store is sound, and so is what commands leave that name such paths; no dataset is taken away
+pub record SoundLaw : Type 0 where
+  pub empty : IsSoundStore table.empty
+  pub stays : (s : Store) (realm : Realm) (user : List ℕ) (write : Write) (now : ℤ) (change : Change) → planned s realm user write now ≡ Ok change → IsSoundStore s.records →
+      (dataset : List ℕ) → dataset_exists s.records dataset ≡ true → dataset_exists (store_after change s).records dataset ≡ true
+  pub sound : (s : Store) (realm : Realm) (user : List ℕ) (write : Write) (now : ℤ) (change : Change) → planned s realm user write now ≡ Ok change → IsSoundStore s.records →
+      list_all is_formed (paths_named write) ≡ true → IsSoundStore (store_after change s).records

@@ -1,5 +1,5 @@
 //! What follows from the definitions alone: each function does nothing, and its contract is the law.
-ghost use Rattle.acap_store.specs.DatasetLaws.{DatasetLaw, HousedLaw, RootLaw};
+ghost use Rattle.acap_store.specs.DatasetLaws.{DatasetLaw, HousedLaw, RootLaw, SoundLaw};
 ghost use Rattle.acap_entries.specs.Store.{Stored};
 ghost use Rattle.acap_store.specs.Examples.{ItemExamples, MeaningExamples, PermissionExamples, LimitExamples, WritingExamples, TellingLaw, StageLaws, ChangeExamples};
 ghost use Rattle.acap_store.specs.Laws.{OrderLaw, PathLaw, KeptLaw, LaterLaw, RoomLaw, StepsLaw};
@@ -88,4 +88,10 @@ pub fn change_examples()
 /// From which datasets the way up ends at `/` (RFC 2244 section 3.1).
 pub fn root_law()
     ensures { RootLaw }
+{}
+
+/// The empty store is sound, and a command whose paths are well formed leaves a sound store sound, with the datasets that it had
+/// (RFC 2244 section 3.1.1).
+pub fn sound_law()
+    ensures { SoundLaw }
 {}

@@ -24,8 +24,8 @@ mod writing;
 pub use deleting::deleted_since;
 pub use laws::{
     change_examples, dataset_law, housed_law, item_examples, kept_law, later_law, limit_examples,
-    meaning_examples, order_law, path_law, permission_examples, room_law, root_law, stage_law,
-    steps_law, telling_law, writing_examples,
+    meaning_examples, order_law, path_law, permission_examples, room_law, root_law, sound_law,
+    stage_law, steps_law, telling_law, writing_examples,
 };
 pub use objects::{lent_object, object_for};
 pub use planning::plan;

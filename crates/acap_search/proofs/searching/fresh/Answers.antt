@@ -15,7 +15,7 @@ pub returns-clause-found : goal.returns-clause-found
 returns-clause-found c =
     c.from_vec.ensures
     ∙ (c.in_ok-sort_hits.ensures
-    ∙ (ap (sorted_by match_lt) c.in_ok-hits.ensures ∙ fresh_is c.args.tree.now.store.records c.args.realm.now c.args.user.now c.args.query.now))
+    ∙ (ap (sorted_by match_lt) c.in_ok-hits.ensures ∙ fresh_is c.args.tree.now.store.records c.args.realm.now c.args.user.now c.args.query.now.sought))
 
 pub returns-clause-ok : goal.returns-clause-ok
 returns-clause-ok c =

@@ -13,7 +13,7 @@ returns-then-is_over-clause-many c e =
 
 pub returns-clause-found : goal.returns-clause-found
 returns-clause-found c =
-    c.in_ok-rows.ensures ∙ ap (map row_in) (plain_is c.args.tree.now.store.records c.args.realm.now c.args.user.now c.args.query.now c.requires.depth c.requires.sort c.names_law.ensures)
+    c.in_ok-rows.ensures ∙ ap (map row_in) (plain_is c.args.tree.now.store.records c.args.realm.now c.args.user.now c.args.query.now.sought c.requires.depth c.requires.sort c.names_law.ensures)
 
 pub returns-clause-ok : goal.returns-clause-ok
 returns-clause-ok c =
