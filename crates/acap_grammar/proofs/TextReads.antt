@@ -11,8 +11,9 @@ use Rattle.acap_lexer.specs.declared.kind.Kind.{Kind}
 use Rattle.acap_lexer.specs.declared.kind.Kind.TheVariants as kind
 use Rattle.acap_lexer.specs.declared.lexed.Lexed.{Lexed}
 use Rattle.acap_lexer.specs.declared.lexed.Lexed.TheVariants.{Line}
+use Rattle.acap_lexer.specs.declared.mode.Mode.{Mode}
 use Rattle.acap_lexer.specs.declared.mode.Mode.TheVariants as mode
-use Rattle.acap_lexer.specs.Held.{next_of}
+use Rattle.acap_lexer.specs.Held.{next_of, answers_from, answers_of}
 use Rattle.acap_lexer.specs.Holding.{Held}
 use Rattle.acap_lexer.specs.Octets.{is_word, is_digit, within}
 use Rattle.acap_lexer.specs.Printing.{escaped, is_printable, may_quote}
@@ -369,6 +370,11 @@ line_answered : (text rest : List ℕ) (tokens : List Token) → progress mode.C
 unfolding next_of
 line_answered text rest tokens p = rw p (ap (λ (left : List ℕ). let x : Lexed × Held = (Line tokens, holding left) in x) (drop-append_seam text rest))
 
+all_answered : (text rest : List ℕ) (tokens : List Token) (modes : List Mode) → progress mode.Command (text ++ rest) ≡ record { waits = 0; item = Some (Line tokens, length text) }
+    → answers_of (mode.Command ∷ modes) (text ++ rest) ≡ Line tokens ∷ answers_of modes rest
+unfolding answers_from
+all_answered text rest tokens modes p = rw p (ap (λ (left : List ℕ). Line tokens ∷ answers_of modes left) (drop-append_seam text rest))
+
 pub spelled_texts : SpelledTexts
 spelled_texts tag rest c h s short =
     let l = spelled_line tag c s in
@@ -389,7 +395,8 @@ spelled_texts tag rest c h s short =
     let whole : spelling.tokens_of tag c ≡ spelling.token kind.Tag tag ∷ drop 1 (spelling.tokens_of tag c) = l.is ∙ ap (λ (ts : List Token). spelling.token kind.Tag tag ∷ ts) (sym behind) in
     let alike : map plain tokens ≡ map plain (spelling.tokens_of tag c) =
     ap (λ (ts : List Token). spelling.token kind.Tag tag ∷ ts) b.alike ∙ sym (ap (λ (ts : List Token). map plain ts) whole) in
-    (tokens, line_answered (line_of tag c) rest tokens (spelling_reads mode.Command (line_of tag c) rest tokens 0 is_spelling), (places_law tokens (spelling.tokens_of tag c) alike).0 ∙ spells_commands tag c s)
+    let read = spelling_reads mode.Command (line_of tag c) rest tokens 0 is_spelling in
+    (tokens, line_answered (line_of tag c) rest tokens read, (λ modes. all_answered (line_of tag c) rest tokens modes read), (places_law tokens (spelling.tokens_of tag c) alike).0 ∙ spells_commands tag c s)
 
 pub reads_texts : ReadsTexts
 reads_texts tag text rest c tokens waits s is_spelling alike =

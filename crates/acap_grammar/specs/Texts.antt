@@ -4,8 +4,9 @@ use Rattle.std.specs.List.{AllByRecursion}
 use Rattle.acap_lexer.specs.declared.kind.Kind.{Kind}
 use Rattle.acap_lexer.specs.declared.kind.Kind.TheVariants as kind
 use Rattle.acap_lexer.specs.declared.lexed.Lexed.TheVariants.{Line}
+use Rattle.acap_lexer.specs.declared.mode.Mode.{Mode}
 use Rattle.acap_lexer.specs.declared.mode.Mode.TheVariants as mode
-use Rattle.acap_lexer.specs.Held.{next_of}
+use Rattle.acap_lexer.specs.Held.{next_of, answers_of}
 use Rattle.acap_lexer.specs.Holding.{Held}
 use Rattle.acap_lexer.specs.Printing.{may_quote}
 use Rattle.acap_lexer.specs.Spelling.{Written, Word, Quoted, Literal, Open, Close, Piece, IsSpelling, IsTag, kind_of, may_part, part_lengths, text_of}
@@ -53,10 +54,11 @@ abbrev pub holding : List ℕ → Held
 holding text = record { text = text; told = 0; fatal = None }
 
 -- Each command that can be sent has that text, whose octets are answered at once, whatever follows, by a line that is
--- read as that command; then what follows is held.
+-- read as that command; then what follows is held, and it is answered as it would be alone.
 abbrev pub SpelledTexts : Type 0
 SpelledTexts = (tag rest : List ℕ) (c : Command) → IsTag tag → IsSendable c → IsShort tag c
-    → (tokens : List Token) × (next_of mode.Command (holding (line_of tag c ++ rest)) ≡ (Line tokens, holding rest)) × (command_of tokens ≡ Ok c)
+    → (tokens : List Token) × (next_of mode.Command (holding (line_of tag c ++ rest)) ≡ (Line tokens, holding rest))
+    × ((modes : List Mode) → answers_of (mode.Command ∷ modes) (line_of tag c ++ rest) ≡ Line tokens ∷ answers_of modes rest) × (command_of tokens ≡ Ok c)
 
 -- So is every other text of these tokens, with strings as literals or between quotes, with or without spaces where either
 -- may be: it is read as that command once the literals that wait have been told to go on.
