@@ -10,6 +10,8 @@ pub(crate) enum Kind<'a> {
     Session(&'a str),
     /// It is a script.
     Script,
+    /// It is what a call of the program with those words reads.
+    Call(&'a str),
 }
 
 impl<'a> Kind<'a> {
@@ -17,7 +19,7 @@ impl<'a> Kind<'a> {
     fn line_end(self) -> &'static [u8] {
         match self {
             Kind::Session(_) => b"\r\n",
-            Kind::Script => b"\n",
+            Kind::Script | Kind::Call(_) => b"\n",
         }
     }
 }
@@ -80,6 +82,10 @@ impl<'a> Reading<'a> {
         }
         if line == "script" {
             self.kind = Some(Kind::Script);
+            return Some(());
+        }
+        if line == "call" || line.starts_with("call ") {
+            self.kind = Some(Kind::Call(line.strip_prefix("call")?));
             return Some(());
         }
         self.read_text(line)

@@ -3,6 +3,7 @@
 use crate::difference::{Lines, first_lines};
 use crate::pieces::{PieceSizes, Pieces};
 use crate::row_file::{Kind, Row};
+use acap_calls::run_call;
 use acap_entries::UserName;
 use acap_session::{ScriptFault, run_pipe, run_script};
 use std::alloc::{AllocError, Global};
@@ -69,11 +70,43 @@ fn played(alloc: Global, script: &[u8], sizes: PieceSizes) -> Result<Vec<u8>, Al
     Ok(text)
 }
 
+// The words of a call, each with a space before it.
+fn words_of(alloc: Global, text: &str) -> Result<Vec<String>, AllocError> {
+    let mut words = Vec::new(alloc);
+    for word in text.split(' ').skip(1) {
+        words.push(String::from_str(alloc, word)?)?;
+    }
+    Ok(words)
+}
+
+// What a call writes, and, behind it, what it tells on standard error, and its status.
+fn called(
+    alloc: Global,
+    words: &str,
+    sent: &[u8],
+    sizes: PieceSizes,
+) -> Result<Vec<u8>, AllocError> {
+    let words = Ok(words_of(alloc, words)?);
+    let mut text = Vec::new(alloc);
+    let mut told = Vec::new(alloc);
+    let reader = &mut Pieces { left: sent, sizes };
+    match run_call(alloc, &words, reader, &mut text, &mut told) {
+        Ok(status) => {
+            text.extend_from_slice(told.as_slice())?;
+            let line = format!(in alloc; "status {status}\n")?;
+            text.extend_from_slice(line.as_bytes())?;
+        }
+        Err(_) => text.extend_from_slice(FAULT)?,
+    }
+    Ok(text)
+}
+
 // What is written for what a row sends, cut so.
 fn answered(alloc: Global, row: &Row, sizes: PieceSizes) -> Result<Vec<u8>, AllocError> {
     match row.kind {
         Kind::Session(user) => said(alloc, user, row.sent.as_slice(), sizes),
         Kind::Script => played(alloc, row.sent.as_slice(), sizes),
+        Kind::Call(words) => called(alloc, words, row.sent.as_slice(), sizes),
     }
 }
 
@@ -81,7 +114,7 @@ fn answered(alloc: Global, row: &Row, sizes: PieceSizes) -> Result<Vec<u8>, Allo
 fn wanted_of(alloc: Global, row: &Row) -> Result<Vec<u8>, AllocError> {
     let mut wanted = match row.kind {
         Kind::Session(_) => Vec::from_slice(alloc, GREETING)?,
-        Kind::Script => Vec::new(alloc),
+        Kind::Script | Kind::Call(_) => Vec::new(alloc),
     };
     wanted.extend_from_slice(row.wanted.as_slice())?;
     Ok(wanted)

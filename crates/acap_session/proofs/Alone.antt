@@ -13,14 +13,9 @@ use Rattle.acap_session.specs.World.{World, Deed, Step, at_open, did, ends, open
 use Rattle.acap_session.specs.declared.next.Next.{Next}
 use Rattle.acap_session.specs.declared.next.Next.TheVariants as next
 use Rattle.acap_session.specs.declared.occasion.Occasion.{Occasion}
+use Rattle.acap_session.proofs.Placing.{placed_there}
 
 -- ---- a place that is set
-
-pub placed_there : (xs : Places) (k : ℕ) (p : Place) → place_at (placed xs k p) k ≡ Some p
-placed_there [] zero p = refl
-placed_there [] (suc k) p = placed_there [] k p
-placed_there (x ∷ xs) zero p = refl
-placed_there (x ∷ xs) (suc k) p = placed_there xs k p
 
 placed_other : (xs : Places) (k j : ℕ) (p : Place) → j ≢ k → place_at (placed xs k p) j ≡ place_at xs j
 placed_other [] zero zero p e = absurd (e refl)

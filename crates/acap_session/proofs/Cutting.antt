@@ -31,7 +31,8 @@ use Rattle.acap_session.specs.declared.stage.Stage.{Stage}
 use Rattle.acap_session.specs.declared.stage.Stage.TheVariants as stage
 use Rattle.acap_session.specs.declared.turn.Turn.{Turn}
 use Rattle.acap_session.specs.declared.turn.Turn.TheVariants as turn
-use Rattle.acap_session.proofs.Alone.{placed_there, place_of}
+use Rattle.acap_session.proofs.Alone.{place_of}
+use Rattle.acap_session.proofs.Placing.{placed_there}
 use Rattle.acap_session.proofs.Turning.{still, closed_is_quiet}
 
 -- ---- the lexer
@@ -85,6 +86,11 @@ next_keeps users nonce clock (stage.LoggingIn tag user) t b some = absurd (some 
 next_keeps users nonce clock stage.Draining t b some = absurd (some refl)
 next_keeps users nonce clock stage.Closed t b some = absurd (some refl)
 
+-- what is next of fewer octets, if it is something, is next of more
+pub next_kept : (users : List User) (nonce : ℕ) (clock : ℤ) (s : Scene) (b : List ℕ) → ((session_next users nonce clock s.talk).0 ≡ next.More → ⊥) → (session_next users nonce clock (hears b s).talk).0 ≡ (session_next users nonce clock s.talk).0
+unfolding session_next
+next_kept users nonce clock s b some = ap (λ (x : Next × Talking). x.0) (next_keeps users nonce clock s.talk.stage s.talk b some)
+
 -- ---- a turn
 
 by_next_keeps : (o : Occasion) (refused : Bool) (s : Scene) (n : Next) (t : Talking) (b : List ℕ)
@@ -95,7 +101,7 @@ by_next_keeps o refused s (next.Say octets) t b = refl
 by_next_keeps o refused s (next.Ask event) t b = refl
 by_next_keeps o refused s (next.Close octets) t b = refl
 
-turn_keeps : (users : List User) (o : Occasion) (refused : Bool) (s : Scene) (b : List ℕ) → went_on (turn_of users o refused s).0 ≡ true
+pub turn_keeps : (users : List User) (o : Occasion) (refused : Bool) (s : Scene) (b : List ℕ) → went_on (turn_of users o refused s).0 ≡ true
     → turn_of users o refused (hears b s) ≡ ((turn_of users o refused s).0, hears b (turn_of users o refused s).1)
 unfolding turn_of session_next
 turn_keeps users o refused s b e =
@@ -104,16 +110,16 @@ turn_keeps users o refused s b e =
     ap (turn_by o refused (hears b s)) (next_keeps users o.nonce o.clock s.talk.stage s.talk b some) ∙ by_next_keeps o refused s x.0 x.1 b
 
 -- one that comes to nothing changes nothing
-nothing_changes : (users : List User) (o : Occasion) (refused : Bool) (s : Scene) (c : Turn) → (turn_of users o refused s).0 ≡ c → went_on c ≡ false → (turn_of users o refused s).1 ≡ s
+pub nothing_changes : (users : List User) (o : Occasion) (refused : Bool) (s : Scene) (c : Turn) → (turn_of users o refused s).0 ≡ c → went_on c ≡ false → (turn_of users o refused s).1 ≡ s
 nothing_changes users o refused s turn.More e f = (still users o s (turn_of users o refused s).1 (record { refused = refused; is = λ i. (sym e i, (turn_of users o refused s).1) })).same
 nothing_changes users o refused s turn.Said e f = absurd cc
 nothing_changes users o refused s turn.Closed e f = absurd cc
 
 -- nothing is next
-abbrev IsStill : List User → Occasion → Scene → Type 0
+abbrev pub IsStill : List User → Occasion → Scene → Type 0
 IsStill users o s = (session_next users o.nonce o.clock s.talk).0 ≡ next.More
 
-still_stays : (users : List User) (o : Occasion) (refused : Bool) (s : Scene) → IsStill users o s → (turn_of users o refused s).1 ≡ s
+pub still_stays : (users : List User) (o : Occasion) (refused : Bool) (s : Scene) → IsStill users o s → (turn_of users o refused s).1 ≡ s
 unfolding turn_of
 still_stays users o refused s e = nothing_changes users o refused s turn.More (ap (λ n. (turn_by o refused s (n, (session_next users o.nonce o.clock s.talk).1)).0) e) refl
 

@@ -2,10 +2,12 @@ pub mod Alone
 pub mod Computing
 pub mod Counting
 pub mod Cutting
+pub mod Opening
 pub mod Performing
 pub mod PipeSteps
 pub mod Piping
 pub mod Placing
+pub mod Refusing
 pub mod ScriptActing
 pub mod ScriptHearing
 pub mod ScriptNumbers

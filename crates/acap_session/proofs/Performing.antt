@@ -10,9 +10,9 @@ use Rattle.acap_machine.specs.declared.event.Event.TheVariants as events
 use Rattle.acap_machine.specs.declared.fault.Fault.{Fault}
 use Rattle.acap_machine.specs.declared.fault.Fault.TheVariants as fault
 use Rattle.acap_session.specs.Saying.{added, heard_of}
-use Rattle.acap_session.specs.Session.{session_next, session_drain, answered, has_seat, drain_in, drain_at, drain_for, is_asked}
+use Rattle.acap_session.specs.Session.{session_next, session_drain, answered, has_seat, has_seat_at, drain_in, drain_at, drain_for, is_asked}
 use Rattle.acap_session.specs.Talking.{Talking}
-use Rattle.acap_session.specs.Turning.{Scene, scene, performed, shown, asked_of, turn_by, turn_of, drain_of, left_at, left_by, turn_from, IsAsked, IsTurn, IsDrain, IsCutFrom, StandsBefore, WasCut, CutInAsking}
+use Rattle.acap_session.specs.Turning.{Scene, scene, performed, shown, asked_of, turn_by, turn_of, drain_of, left_at, left_by, turn_from, is_refused, IsAsked, IsTurn, IsCutFrom, StandsBefore, WasCut, CutInAnswering, CutInAsking, CutInDraining}
 use Rattle.acap_session.specs.declared.heard.Heard.{Heard}
 use Rattle.acap_session.specs.declared.heard.Heard.TheVariants as heard
 use Rattle.acap_session.specs.declared.next.Next.{Next}
@@ -46,26 +46,41 @@ performed_by m o event (Err fault.NotEntered) new ok err same = performs m o eve
 performed_by m o event (Err fault.AlreadyEntered) new ok err same = performs m o event (Err fault.AlreadyEntered) new false (ap outcome_of err) (ap (machine_after m) err ∙ sym same)
 performed_by m o event (Err fault.HistoryFull) new ok err same = absurd err
 
+-- it is refused where memory was
+pub stood : (m : Machine) (o : Occasion) (event : Event) (outcome : Result Reply Fault) (new : Machine) (ok : IfOk outcome (λ reply. step_of m o.seat event o.clock ≡ Ok (reply, new))) (err : IfErr outcome (λ f. IsFault (step_of m o.seat event o.clock) f)) (same : OnErr outcome (new ≡ m))
+    → (performed_by m o event outcome new ok err same).refused ≡ is_refused outcome
+unfolding performed_by performs
+stood m o event (Ok reply) new ok err same = refl
+stood m o event (Err fault.Memory) new ok err same = refl
+stood m o event (Err fault.NotEntered) new ok err same = refl
+stood m o event (Err fault.AlreadyEntered) new ok err same = refl
+stood m o event (Err fault.HistoryFull) new ok err same = absurd err
+
 -- what is said to the answer, put together
-pub asked_by : (o : Occasion) (event : Event) (m step_m new_m : Machine) (t new_t : Talking) (out new_out : List ℕ) (outcome : Result Reply Fault) (h : Heard) (came : Turn) → IsPerformed m o event outcome step_m → h ≡ heard_of (answered t outcome).0 → new_t ≡ (answered t outcome).1 → new_out ≡ added out (answered t outcome).0 → came ≡ turn_from h → new_m ≡ left_at h (has_seat t || is_ok outcome) o step_m
-    → IsAsked o event (scene m t out) came (scene new_m new_t new_out)
-asked_by o event m step_m new_m t new_t out new_out outcome h came p e f g k n =
+pub concluded_by : (o : Occasion) (seated : Bool) (m new_m : Machine) (t new_t : Talking) (out new_out : List ℕ) (outcome : Result Reply Fault) (h : Heard) (came : Turn) → h ≡ heard_of (answered t outcome).0 → new_t ≡ (answered t outcome).1 → new_out ≡ added out (answered t outcome).0 → came ≡ turn_from h → new_m ≡ left_at h seated o m
+    → (came, scene new_m new_t new_out) ≡ shown o seated m out (answered t outcome)
+concluded_by o seated m new_m t new_t out new_out outcome h came e f g k n =
+    let machine_is : new_m ≡ left_at (heard_of (answered t outcome).0) seated o m = n ∙ ap (λ q. left_at q seated o m) e in
+    let came_is : came ≡ turn_from (heard_of (answered t outcome).0) = k ∙ ap turn_from e in
+    λ i. (came_is i, scene (machine_is i) (f i) (g i))
+
+-- a session whose event was performed
+pub asked_by : (o : Occasion) (event : Event) (m step_m : Machine) (t : Talking) (out : List ℕ) (outcome : Result Reply Fault) (seated : Bool) (came : Turn) (new : Scene) (p : IsPerformed m o event outcome step_m) → seated ≡ (has_seat t || is_ok outcome) → (came, new) ≡ shown o seated step_m out (answered t outcome)
+    → (came, new) ≡ asked_of o p.refused m out t event
+asked_by o event m step_m t out outcome seated came new p s e =
     let was = ap (λ b. shown o (has_seat t || b) (machine_after m (performed p.refused m o event)) out (answered t (outcome_of (performed p.refused m o event)))) p.ok_is
     ∙ ap (λ q. shown o (has_seat t || is_ok outcome) q out (answered t (outcome_of (performed p.refused m o event)))) p.machine_is
     ∙ ap (λ r. shown o (has_seat t || is_ok outcome) step_m out (answered t r)) p.outcome_is in
-    let machine_is : new_m ≡ left_at (heard_of (answered t outcome).0) (has_seat t || is_ok outcome) o step_m = n ∙ ap (λ q. left_at q (has_seat t || is_ok outcome) o step_m) e in
-    let came_is : came ≡ turn_from (heard_of (answered t outcome).0) = k ∙ ap turn_from e in
-    let now : (came, scene new_m new_t new_out) ≡ shown o (has_seat t || is_ok outcome) step_m out (answered t outcome) = λ i. (came_is i, scene (machine_is i) (f i) (g i)) in
-    record { refused = p.refused; is = now ∙ sym was }
+    e ∙ ap (λ b. shown o b step_m out (answered t outcome)) s ∙ sym was
 
-pub cut_by : (o : Occasion) (event : Event) (m step_m new_m : Machine) (t new_t : Talking) (out new_out : List ℕ) (outcome : Result Reply Fault) → IsPerformed m o event outcome step_m → new_t.stage ≡ stage.Closed → new_out ≡ out → new_m ≡ left_by (has_seat t || is_ok outcome) o step_m
-    → CutInAsking o event (scene m t out) (scene new_m new_t new_out)
-cut_by o event m step_m new_m t new_t out new_out outcome p c e n = record {
-  closed = c;
-  out_is = e;
+pub cut_by : (o : Occasion) (event : Event) (m step_m : Machine) (t : Talking) (out : List ℕ) (outcome : Result Reply Fault) (seated : Bool) (new : Scene) → IsPerformed m o event outcome step_m → seated ≡ (has_seat t || is_ok outcome) → CutInAnswering seated o (scene step_m t out) new
+    → CutInAsking o event (scene m t out) new
+cut_by o event m step_m t out outcome seated new p s k = record {
+  closed = k.closed;
+  out_is = k.out_is;
   stands = record {
     refused = p.refused;
-    is = n ∙ ap (λ b. left_by (has_seat t || b) o step_m) (sym p.ok_is) ∙ ap (λ q. left_by (has_seat t || is_ok (performed p.refused m o event)) o q) (sym p.machine_is);
+    is = k.machine_is ∙ ap (λ b. left_by b o step_m) s ∙ ap (λ b. left_by (has_seat t || b) o step_m) (sym p.ok_is) ∙ ap (λ q. left_by (has_seat t || is_ok (performed p.refused m o event)) o q) (sym p.machine_is);
   };
 }
 
@@ -171,13 +186,57 @@ pub drain_asks : (t new : Talking) → (drain_in true, new) ≡ session_drain t 
 unfolding session_drain
 drain_asks t new e = drain_awaits t.stage t new e
 
-pub drained_by : (o : Occasion) (s : Scene) (t : Talking) (came : Turn) (new : Scene) → (drain_in true, t) ≡ session_drain s.talk → IsAsked o events.Drain (scene s.machine t s.out) came new → IsDrain o s came new
+-- a drain that was asked for, and what it comes to
+pub drained_by : (o : Occasion) (s : Scene) (t : Talking) (came : Turn) (new : Scene) (refused : Bool) → (drain_in true, t) ≡ session_drain s.talk → refused ≡ false → (came, new) ≡ asked_of o refused s.machine s.out t events.Drain → (came, new) ≡ drain_of o false s
 unfolding drain_of
-drained_by o s t came new e k = record { refused = k.refused; is = k.is ∙ ap (turn_by o k.refused s) e }
+drained_by o s t came new refused e b k = k ∙ ap (λ x. asked_of o x s.machine s.out t events.Drain) b ∙ ap (turn_by o false s) e
 
-pub not_drained : (o : Occasion) (s : Scene) (t : Talking) → (drain_in false, t) ≡ session_drain s.talk → IsDrain o s turn.More (scene s.machine t s.out)
+pub not_drained : (o : Occasion) (s : Scene) (t : Talking) → (drain_in false, t) ≡ session_drain s.talk → (turn.More, scene s.machine t s.out) ≡ drain_of o false s
 unfolding drain_of
-not_drained o s t e = record { refused = false; is = ap (turn_by o false s) e }
+not_drained o s t e = ap (turn_by o false s) e
+
+-- who may ask for it has the seat, and is ready
+record IsReady (t new : Talking) : Type 0 where
+  pub seat : has_seat new ≡ true
+  pub again : record new { stage = stage.Ready } ≡ t
+
+ready_for : (u : Option (List ℕ)) (t new : Talking) → t.stage ≡ stage.Ready → t.user ≡ u → (drain_in true, new) ≡ drain_for u t → IsReady t new
+ready_for None t new r f e = absurd (let k = ap (λ p. p.0) e in cc)
+ready_for (Some user) t new r f e =
+    let n : new ≡ record t { stage = stage.Draining } = ap (λ p. p.1) e in
+    record {
+      seat = ap (λ (q : Talking). has_seat q) n ∙ ap (has_seat_at stage.Draining) f;
+      again = ap (λ (q : Talking). let w : Talking = record q { stage = stage.Ready } in w) n ∙ ap (λ x. let w : Talking = record t { stage = x } in w) (sym r);
+    }
+
+ready_at : (s : Stage) (t new : Talking) → t.stage ≡ s → (drain_in true, new) ≡ drain_at s t → IsReady t new
+ready_at stage.Opening t new r e = absurd (let k = ap (λ p. p.0) e in cc)
+ready_at stage.Entering t new r e = absurd (let k = ap (λ p. p.0) e in cc)
+ready_at stage.Ready t new r e = ready_for t.user t new r refl e
+ready_at (stage.Asked tag) t new r e = absurd (let k = ap (λ p. p.0) e in cc)
+ready_at (stage.Challenged tag challenge) t new r e = absurd (let k = ap (λ p. p.0) e in cc)
+ready_at (stage.LoggingIn tag user) t new r e = absurd (let k = ap (λ p. p.0) e in cc)
+ready_at stage.Draining t new r e = absurd (let k = ap (λ p. p.0) e in cc)
+ready_at stage.Closed t new r e = absurd (let k = ap (λ p. p.0) e in cc)
+
+is_ready : (t new : Talking) → (drain_in true, new) ≡ session_drain t → IsReady t new
+unfolding session_drain
+is_ready t new e = ready_at t.stage t new refl e
+
+-- a drain that was refused memory leaves all as it was
+pub undrained : (s : Scene) (t again : Talking) (m : Machine) (outcome : Result Reply Fault) → (drain_in true, t) ≡ session_drain s.talk → is_refused outcome ≡ true → OnErr outcome (m ≡ s.machine) → again ≡ record t { stage = stage.Ready } → scene m again s.out ≡ s
+undrained s t again m (Ok reply) e r f g = absurd cc
+undrained s t again m (Err x) e r f g = ap (λ n. scene n again s.out) f ∙ ap (λ (q : Talking). scene s.machine q s.out) (g ∙ (is_ready s.talk t e).again)
+
+pub cut_drain : (o : Occasion) (s new : Scene) (step_m : Machine) (t : Talking) (outcome : Result Reply Fault) (seated : Bool) (p : IsPerformed s.machine o events.Drain outcome step_m) → p.refused ≡ false → (drain_in true, t) ≡ session_drain s.talk → seated ≡ (has_seat t || is_ok outcome) → CutInAnswering seated o (scene step_m t s.out) new
+    → CutInDraining o s new
+cut_drain o s new step_m t outcome seated p b e f k = record {
+  asked = sym (ap (λ x. x.0) e);
+  closed = k.closed;
+  out_is = k.out_is;
+  machine_is = k.machine_is ∙ ap (λ x. left_by x o step_m) (f ∙ ap (λ x. x || is_ok outcome) (is_ready s.talk t e).seat)
+      ∙ ap (λ n. left_by true o n) (sym p.machine_is ∙ ap (λ x. machine_after s.machine (performed x s.machine o events.Drain)) b);
+}
 
 -- what was heard asks nothing
 pub not_more : (h : Heard) → h ≡ heard.More → (event : Event) → h ≡ heard.Asks event → ⊥

@@ -1,11 +1,12 @@
 -- What stands at a seat, and what a place set there leaves.
-use Rattle.std.proofs.Common.{◌≡◌, inr, ℕ, zero, suc, ◌<◌, ◌≤◌, Bool, true, false, not, List, [], ◌∷◌, ◌++◌, length, Option, Some, None, Result, Ok, Err, IsSome, IsErr, IsErrAnd, get_or, set, refl, sym, ap, subst, ◌∙◌, arith}
+use Rattle.std.proofs.Common.{◌≡◌, ◌⊎◌, inl, inr, ℕ, zero, suc, ◌<◌, ◌≤◌, Bool, true, false, not, List, [], ◌∷◌, ◌++◌, length, take, Option, Some, None, Result, Ok, Err, IsSome, IsErr, IsErrAnd, get_or, set, refl, sym, ap, subst, ◌∙◌, arith}
+use Rattle.std.proofs.Math.Seq.{take-length}
 use Rattle.std.specs.Option.{is_some}
 use Rattle.acap_session.specs.Places.{Place, Places, place_at, placed, reached, if_open}
-use Rattle.acap_session.specs.Session.{is_closed, session_drain, session_next}
+use Rattle.acap_session.specs.Session.{is_closed, session_next}
 use Rattle.acap_machine.specs.Machine.{Machine}
-use Rattle.acap_session.specs.Turning.{Scene, scene, WasCut, IsTurn, IsDrain, turn_of, drain_of}
-use Rattle.acap_session.specs.World.{World, Deed, said_before, taken_from, output_taken, begun_at, opened_at, HasBegun, WasCutFirst, IsStep, IsCutAt, Makes, Turns, HasTurnedAt, went_on, Feeds, Leaves, Opens, room_of, with_octets, at_open, did, open_at, scene_of, with_scene, takes, ends}
+use Rattle.acap_session.specs.Turning.{Scene, scene, CutInDraining, WasCut, IsTurn, turn_of, drain_of}
+use Rattle.acap_session.specs.World.{World, Deed, said_before, taken_from, output_taken, opened_at, Drains, HasBegun, IsStep, IsCutAt, Turns, HasTurnedAt, went_on, Feeds, Leaves, Opens, room_of, with_octets, at_open, did, open_at, scene_of, with_scene, takes, ends}
 use Rattle.acap_session.specs.World as world
 use Rattle.acap_session.specs.Talking.{Talking, begun}
 use Rattle.acap_session.specs.declared.occasion.Occasion.{Occasion}
@@ -40,6 +41,13 @@ within [] k e = cc
 within (x ∷ xs) zero e = omega arith
 within (x ∷ xs) (suc k) e = let r = within xs k e in omega (arith, r)
 
+-- what stands at a seat where a place is set
+pub placed_there : (xs : Places) (k : ℕ) (p : Place) → place_at (placed xs k p) k ≡ Some p
+placed_there [] zero p = refl
+placed_there [] (suc k) p = placed_there [] k p
+placed_there (x ∷ xs) zero p = refl
+placed_there (x ∷ xs) (suc k) p = placed_there xs k p
+
 -- what is set there stands there
 pub set_is : (xs : Places) (k : ℕ) (p : Place) → k < length xs → set xs k (Some p) ≡ placed xs k p
 set_is [] k p e = absurd (omega (arith, e))
@@ -68,9 +76,9 @@ not_open w k e = none_case (open_at w k) e
 
 -- ---- the steps
 
-pub drain_step : (w : World) (o : Occasion) (place : Place) (came : turned.Turn) (s : Scene) → open_at w o.seat ≡ Some place → IsDrain o (scene_of w place) came s → IsStep o world.Drain w (with_scene w o.seat s)
+drain_step : (w : World) (o : Occasion) (place : Place) (came : turned.Turn) (s : Scene) → open_at w o.seat ≡ Some place → (came, s) ≡ drain_of o false (scene_of w place) → with_scene w o.seat s ≡ did o false world.Drain w
 unfolding did
-drain_step w o place came s e t = record { refused = t.refused; is = ap (λ (p : turned.Turn × Scene). with_scene w o.seat p.1) t.is ∙ sym (ap (λ x. at_open w o.seat (λ s. (drain_of o t.refused s).1) x) e) }
+drain_step w o place came s e t = ap (λ (p : turned.Turn × Scene). with_scene w o.seat p.1) t ∙ sym (ap (λ x. at_open w o.seat (λ s. (drain_of o false s).1) x) e)
 
 pub piece_step : (w : World) (o : Occasion) (octets : List ℕ) (place : Place) → open_at w o.seat ≡ Some place → with_scene w o.seat (takes octets (scene_of w place)) ≡ did o false (world.Piece octets) w
 unfolding did
@@ -114,11 +122,27 @@ turn_made old w v o place x s goes out same e f g h t = subst (λ (y : World). T
 pub turn_cut : (old w v : World) (o : Occasion) (place : Place) (s : Scene) (out : Result Bool WorldFault) → w ≡ old → open_at w o.seat ≡ Some place → v ≡ with_scene w o.seat s → out ≡ Err faults.Memory → WasCut o (scene_of w place) (session_next w.users o.nonce o.clock place.talk) s → Turns o old v out
 turn_cut old w v o place s out same e f g t = subst (λ (y : World). Turns o y v out) same (subst (λ r. Turns o w v r) (sym g) (place, e, record { after = s; cut = t; is = f }))
 
-pub drain_made : (old w v : World) (o : Occasion) (place : Place) (x : turned.Turn) (s : Scene) (out : Result (Unit {0}) WorldFault) (u : Unit {0}) → w ≡ old → open_at w o.seat ≡ Some place → v ≡ with_scene w o.seat s → out ≡ Ok u → IsDrain o (scene_of w place) x s → Makes o world.Drain (λ p. session_drain p.talk) old v out
-drain_made old w v o place x s out u same e f g t = subst (λ (y : World). Makes o world.Drain (λ p. session_drain p.talk) y v out) same (subst (λ r. Makes o world.Drain (λ p. session_drain p.talk) w v r) (sym g) (is_there w o.seat place e, subst (λ z. IsStep o world.Drain w z) (sym f) (drain_step w o place x s e t)))
+pub drain_made : (old w v : World) (o : Occasion) (place : Place) (x : turned.Turn) (s : Scene) (out : Result (Unit {0}) WorldFault) (u : Unit {0}) → w ≡ old → open_at w o.seat ≡ Some place → v ≡ with_scene w o.seat s → out ≡ Ok u → (x, s) ≡ drain_of o false (scene_of w place) → Drains o old v out
+drain_made old w v o place x s out u same e f g t = subst (λ (y : World). Drains o y v out) same (subst (λ r. Drains o w v r) (sym g) (is_there w o.seat place e, f ∙ drain_step w o place x s e t))
 
-pub drain_cut : (old w v : World) (o : Occasion) (place : Place) (s : Scene) (out : Result (Unit {0}) WorldFault) → w ≡ old → open_at w o.seat ≡ Some place → v ≡ with_scene w o.seat s → out ≡ Err faults.Memory → WasCut o (scene_of w place) (session_drain place.talk) s → Makes o world.Drain (λ p. session_drain p.talk) old v out
-drain_cut old w v o place s out same e f g t = subst (λ (y : World). Makes o world.Drain (λ p. session_drain p.talk) y v out) same (subst (λ r. Makes o world.Drain (λ p. session_drain p.talk) w v r) (sym g) (place, e, record { after = s; cut = t; is = f }))
+open_is : (x : Option Place) (place : Place) → if_open x ≡ Some place → x ≡ Some place
+open_is None place e = cc
+open_is (Some p) place e = sym (open_of (Some p) (sym (ap is_some e))) ∙ e
+
+same_placed : (xs : Places) (k : ℕ) (place : Place) → place_at xs k ≡ Some place → placed xs k place ≡ xs
+same_placed [] k place e = absurd cc
+same_placed (x ∷ xs) zero place e = ap (λ y. y ∷ xs) (sym e)
+same_placed (x ∷ xs) (suc k) place e = ap (λ ys. x ∷ ys) (same_placed xs k place e)
+
+same_scene : (w : World) (k : ℕ) (place : Place) → open_at w k ≡ Some place → with_scene w k (scene_of w place) ≡ w
+same_scene w k place e = ap (λ ys. record w { places = ys }) (same_placed w.places k place (open_is (place_at w.places k) place e))
+
+drain_left : (w v : World) (o : Occasion) (place : Place) (s : Scene) → open_at w o.seat ≡ Some place → v ≡ with_scene w o.seat s → (s ≡ scene_of w place) ⊎ CutInDraining o (scene_of w place) s → (v ≡ w) ⊎ IsCutAt o (CutInDraining o (scene_of w place)) w v
+drain_left w v o place s e f (inl k) = inl (f ∙ ap (λ y. with_scene w o.seat y) k ∙ same_scene w o.seat place e)
+drain_left w v o place s e f (inr k) = inr (record { after = s; cut = k; is = f })
+
+pub drain_cut : (old w v : World) (o : Occasion) (place : Place) (s : Scene) (out : Result (Unit {0}) WorldFault) → w ≡ old → open_at w o.seat ≡ Some place → v ≡ with_scene w o.seat s → out ≡ Err faults.Memory → (s ≡ scene_of w place) ⊎ CutInDraining o (scene_of w place) s → Drains o old v out
+drain_cut old w v o place s out same e f g t = subst (λ (y : World). Drains o y v out) same (subst (λ r. Drains o w v r) (sym g) (place, e, drain_left w v o place s e f t))
 
 pub leave_made : (old w v : World) (o : Occasion) (place : Place) (s : Scene) → w ≡ old → open_at w o.seat ≡ Some place → v ≡ with_scene w o.seat s → s ≡ ends o (scene_of w place) → IsSome (open_at old o.seat) × IsStep o world.Leave old v
 leave_made old w v o place s same e f t = subst (λ (y : World). IsSome (open_at y o.seat) × IsStep o world.Leave y v) same (is_there w o.seat place e, record { refused = false; is = f ∙ ap (λ y. with_scene w o.seat y) t ∙ leave_step w o place e })
@@ -216,23 +240,44 @@ now_none w old k b v e g = not_open w k (sym e ∙ g ∙ ap (λ (u : World). is_
 pub stood : (w : World) (xs : Places) (i k : ℕ) (item : Option Place) → xs ≡ reached w.places k → i ≡ k → item ≡ get_or xs i item → item ≡ place_at w.places k
 stood w xs i k item e h g = g ∙ ap (λ ys. get_or ys i item) e ∙ ap (λ n. get_or (reached w.places k) n item) h ∙ reached_there w.places k item
 
-pub open_put : (w : World) (m : Machine) (xs : Places) (i k : ℕ) (x : Option Place) (p : Place) → xs ≡ reached w.places k → i ≡ k → x ≡ Some p → record w { machine = m; places = set xs i x } ≡ with_scene w k (scene m p.talk p.out)
+open_put : (w : World) (m : Machine) (xs : Places) (i k : ℕ) (x : Option Place) (p : Place) → xs ≡ reached w.places k → i ≡ k → x ≡ Some p → record w { machine = m; places = set xs i x } ≡ with_scene w k (scene m p.talk p.out)
 open_put w m xs i k x p e h s = ap (λ ys. record w { machine = m; places = ys }) (ap (λ ys. set ys i x) e ∙ ap (λ n. set (reached w.places k) n x) h ∙ ap (λ y. set (reached w.places k) k y) s ∙ reached_set w.places k p)
 
--- the session of a place that has begun, before its first turn
-pub starts : (w : World) (k : ℕ) (user : Option (List ℕ)) (host : List ℕ) (t : Talking) (x : Option Place) → t ≡ begun host user → host ≡ w.host → x ≡ place_at w.places k → scene w.machine t (said_before x) ≡ scene_of w (begun_at w k user)
+-- a session that opens at a seat, before its first turn
+abbrev pub opening_at : World → ℕ → Option (List ℕ) → Scene
+opening_at w seat user = scene w.machine (begun w.host user) (said_before (place_at w.places seat))
+
+pub starts : (w : World) (k : ℕ) (user : Option (List ℕ)) (host : List ℕ) (t : Talking) (x : Option Place) → t ≡ begun host user → host ≡ w.host → x ≡ place_at w.places k → scene w.machine t (said_before x) ≡ opening_at w k user
 starts w k user host t x e h s = ap (λ y. scene w.machine y (said_before x)) (e ∙ ap (λ y. begun y user) h) ∙ ap (λ y. scene w.machine (begun w.host user) (said_before y)) s
 
-open_step : (w v : World) (o : Occasion) (user : Option (List ℕ)) (came : turned.Turn) (s : Scene) → open_at w o.seat ≡ None → v ≡ with_scene w o.seat s → IsTurn w.users o (scene_of w (begun_at w o.seat user)) came s → IsStep o (world.Open user) w v
+opened : (w : World) (o : Occasion) (user : Option (List ℕ)) → open_at w o.seat ≡ None → did o false (world.Open user) w ≡ with_scene w o.seat (turn_of w.users o false (opening_at w o.seat user)).1
 unfolding did
-open_step w v o user came s e f t = record { refused = t.refused; is = f ∙ ap (λ (p : turned.Turn × Scene). with_scene w o.seat p.1) t.is ∙ sym (ap (λ x. opened_at w o t.refused user x) e) }
+opened w o user e = ap (λ x. opened_at w o false user x) e
 
-pub open_made : (old w v : World) (o : Occasion) (user : Option (List ℕ)) (first : Scene) (x : Option Place) (m : Machine) (out : Result (Unit {0}) WorldFault) (u : Unit {0}) → w ≡ old → open_at w o.seat ≡ None → first ≡ scene_of w (begun_at w o.seat user) → ((p : Place) → x ≡ Some p → v ≡ with_scene w o.seat (scene m p.talk p.out)) → out ≡ Ok u → HasBegun w.users o first x m → Opens o user old v out
-open_made old w v o user first x m out u same e f put g b =
-    let turn = subst (λ (s : Scene). IsTurn w.users o s b.came (scene m b.place.talk b.place.out)) f b.made in
-    subst (λ (y : World). Opens o user y v out) same (subst (λ r. Opens o user w v r) (sym g) (e, open_step w v o user b.came (scene m b.place.talk b.place.out) e (put b.place b.stands) turn))
+stays_open : (w : World) (k : ℕ) (s : Scene) → is_closed s.talk.stage ≡ false → is_some (open_at (with_scene w k s) k) ≡ true
+stays_open w k s e =
+    let p : Place = record { talk = s.talk; out = s.out } in
+    ap (λ x. is_some (if_open x)) (placed_there w.places k p) ∙ open_some p ∙ ap not e
 
-pub open_cut : (old w v : World) (o : Occasion) (user : Option (List ℕ)) (first : Scene) (x : Option Place) (m : Machine) (out : Result (Unit {0}) WorldFault) → w ≡ old → open_at w o.seat ≡ None → first ≡ scene_of w (begun_at w o.seat user) → ((p : Place) → x ≡ Some p → v ≡ with_scene w o.seat (scene m p.talk p.out)) → out ≡ Err faults.Memory → WasCutFirst w.users o first x m → Opens o user old v out
-open_cut old w v o user first x m out same e f put g b =
-    let cut = subst (λ (s : Scene). WasCut o s (session_next w.users o.nonce o.clock s.talk) (scene m b.place.talk b.place.out)) f b.cut in
-    subst (λ (y : World). Opens o user y v out) same (subst (λ r. Opens o user w v r) (sym g) (e, inr (record { after = scene m b.place.talk b.place.out; cut = cut; is = put b.place b.stands })))
+pub open_made : (old w : World) (o : Occasion) (user : Option (List ℕ)) (first : Scene) (xs : Places) (i : ℕ) (x : Option Place) (m : Machine) → w ≡ old → open_at w o.seat ≡ None → first ≡ opening_at w o.seat user → xs ≡ reached w.places o.seat → i ≡ o.seat → HasBegun w.users o first x m
+    → Opens o user old (record w { machine = m; places = set xs i x }) (Ok tt)
+open_made old w o user first xs i x m same e f h n b =
+    let put = open_put w m xs i o.seat x b.place h n b.stands in
+    let s = scene m b.place.talk b.place.out in
+    let made = ap (λ y. with_scene w o.seat y) (b.made ∙ ap (λ y. (turn_of w.users o false y).1) f) ∙ sym (opened w o user e) in
+    subst (λ (y : World). Opens o user y (record w { machine = m; places = set xs i x }) (Ok tt)) same (e, put ∙ made, ap (λ (y : World). is_some (open_at y o.seat)) put ∙ stays_open w o.seat s b.going)
+
+-- and one that doesn't open leaves all as it was
+take_reached : (xs : Places) (k : ℕ) → take (length xs) (reached xs k) ≡ xs
+take_reached [] k = refl
+take_reached (x ∷ xs) zero = ap (λ ys. x ∷ ys) (take-length xs)
+take_reached (x ∷ xs) (suc k) = ap (λ ys. x ∷ ys) (take_reached xs k)
+
+pub unopened : (old w : World) (o : Occasion) (user : Option (List ℕ)) (xs zs : Places) (i n : ℕ) (item x : Option Place) (m : Machine) → w ≡ old → open_at w o.seat ≡ None → xs ≡ reached w.places o.seat → i ≡ o.seat → item ≡ get_or xs i item → x ≡ item → zs ≡ take n (set xs i x) → n ≡ length w.places → m ≡ w.machine
+    → Opens o user old (record w { machine = m; places = zs }) (Err faults.Memory)
+unopened old w o user xs zs i n item x m same e h g f s t k l =
+    let within : i < length xs = subst (λ j. j < length xs) (sym g) (subst (λ (ys : Places). o.seat < length ys) (sym h) (reached_within w.places o.seat)) in
+    let kept = ap (λ y. set xs i y) (s ∙ f) ∙ same_set xs i item within ∙ h in
+    let all : zs ≡ w.places = t ∙ ap (λ ys. take n ys) kept ∙ ap (λ j. take j (reached w.places o.seat)) k ∙ take_reached w.places o.seat in
+    let now : record w { machine = m; places = zs } ≡ w = ap (λ ys. record w { machine = m; places = ys }) all ∙ ap (λ y. record w { machine = y }) l in
+    subst (λ (y : World). Opens o user y (record w { machine = m; places = zs }) (Err faults.Memory)) same (e, now)

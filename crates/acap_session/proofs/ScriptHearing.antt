@@ -1,9 +1,9 @@
 -- Turns at a seat of a world, one after another, and what is offered there.
-use Rattle.std.proofs.Common.{◌≡◌, inl, inr, ℕ, ℤ, zero, suc, ◌+◌, ◌*◌, ◌<◌, ◌≤◌, Bool, true, false, List, [], ◌∷◌, ◌++◌, drop, Option, Some, None, Ok, refl, sym, ap, subst, ◌∙◌, arith}
+use Rattle.std.proofs.Common.{◌≡◌, inl, inr, ℕ, ℤ, ◌+◌, ◌*◌, ◌<◌, ◌≤◌, Bool, true, false, List, [], ◌∷◌, ◌++◌, drop, Option, Some, None, Ok, refl, sym, ap, subst, ◌∙◌, arith}
 use Rattle.std.specs.Option.{is_some}
 use Rattle.acap_lexer.specs.Holding.{Held}
 use Rattle.acap_login.specs.Login.{User}
-use Rattle.acap_session.specs.Places.{Place, Places, place_at, placed, if_open}
+use Rattle.acap_session.specs.Places.{Place, place_at, if_open}
 use Rattle.acap_session.specs.Script.{turns, IsQuiet, IsQuietFor, IsOver, GoesOn, Hears, HasHeard, HasSettled, HasTurned, HasOffered, left_by}
 use Rattle.acap_session.specs.Session.{session_next, next_at, is_closed, is_hearing}
 use Rattle.acap_session.specs.Talking.{Talking}
@@ -16,15 +16,10 @@ use Rattle.acap_session.specs.declared.stage.Stage.{Stage}
 use Rattle.acap_session.specs.declared.stage.Stage.TheVariants as stage
 use Rattle.acap_session.specs.declared.turn.Turn.{Turn}
 use Rattle.acap_session.specs.declared.turn.Turn.TheVariants as turn
+use Rattle.acap_session.proofs.Placing.{placed_there}
 use Rattle.acap_session.proofs.Turning.{turns_left, still, goes_on, held_kept, over, closed_is_quiet, fewer}
 
 -- ---- what stands at a seat after a turn
-
-pub placed_there : (xs : Places) (k : ℕ) (p : Place) → place_at (placed xs k p) k ≡ Some p
-placed_there [] zero p = refl
-placed_there [] (suc k) p = placed_there [] k p
-placed_there (x ∷ xs) zero p = refl
-placed_there (x ∷ xs) (suc k) p = placed_there xs k p
 
 -- the place of a scene
 abbrev pub place_of : Scene → Place

@@ -1,12 +1,17 @@
 -- Laws of the definitions: how a client's octets are cut makes no difference, and a session depends on the others
 -- through the machine's replies alone [RFC 2244 section 2].
-use Rattle.std.specs.Prelude.{◌≡◌, ◌≢◌, ◌⊎◌, ℕ, List, [], ◌∷◌, ◌++◌, ◌==◌, length, map, replicate, flat_map, Bool, true, false, Option, Some, None, option_map, Result, if◌then◌else◌}
+use Rattle.std.specs.Prelude.{◌≡◌, ◌≢◌, ◌⊎◌, ℕ, pos, List, [], ◌∷◌, ◌++◌, ◌==◌, length, map, replicate, flat_map, Bool, true, false, Option, Some, None, option_map, Result, if◌then◌else◌}
+use Rattle.std.specs.List.{list_any}
 use Rattle.std.specs.Option.{option_and_then}
+use Rattle.acap_grammar.specs.Replies.{octets_of}
+use Rattle.acap_grammar.specs.declared.refusal.Refusal.TheVariants as refusals
 use Rattle.acap_grammar.specs.declared.reply.Reply.{Reply}
+use Rattle.acap_grammar.specs.declared.said.Said.TheVariants as said
 use Rattle.acap_login.specs.Login.{User}
 use Rattle.acap_machine.specs.Runs.{outcome_of}
 use Rattle.acap_machine.specs.declared.event.Event.{Event}
 use Rattle.acap_machine.specs.declared.fault.Fault.{Fault}
+use Rattle.acap_session.specs.Piping.{Fed, IsWritten, always, entered, fed, hears}
 use Rattle.acap_session.specs.Places.{Place, place_at, if_open}
 use Rattle.acap_session.specs.Saying.{added}
 use Rattle.acap_session.specs.Script.{IsQuiet}
@@ -18,8 +23,10 @@ use Rattle.acap_session.specs.World.{World, Deed, Step, did, run, open_at, scene
 use Rattle.acap_session.specs.declared.next.Next.{Next}
 use Rattle.acap_session.specs.declared.next.Next.TheVariants as next
 use Rattle.acap_session.specs.declared.occasion.Occasion.{Occasion}
+use Rattle.acap_session.specs.declared.stage.Stage.{Stage}
 use Rattle.acap_session.specs.declared.stage.Stage.TheVariants as stage
 use Rattle.acap_session.specs.declared.turn.Turn.{Turn as Came}
+use Rattle.acap_session.specs.declared.turn.Turn.TheVariants as came
 
 -- ---- how a client's octets are cut
 
@@ -190,3 +197,41 @@ StepAlone = (x : Step) (w : World) →
 abbrev pub AloneLaw : Type 0
 AloneLaw = (seat : ℕ) (steps : List Step) (w : World) →
     place_at (run steps w).places seat ≡ own_run w.users w.host (own_steps seat steps w) (place_at w.places seat)
+
+-- ---- what is written where events are refused memory
+
+-- the tag of the command that a session awaits an answer to
+abbrev pub IsUnder : Option (List ℕ) → Stage → Type 0
+IsUnder tag (stage.Asked other) = other ≡ tag
+IsUnder tag (stage.LoggingIn other user) = other ≡ tag
+IsUnder tag other = ⊥
+
+-- A turn whose event is refused memory says so under the tag of its command, and leaves the machine as it was.
+abbrev pub RefusedTurns : Type 0
+RefusedTurns = (users : List User) (o : Occasion) (s : Scene) (event : Event) (t : Talking) (tag : Option (List ℕ)) →
+    session_next users o.nonce o.clock s.talk ≡ (next.Ask event, t) → IsUnder tag t.stage →
+    turn_of users o true s ≡ (came.Said, record s { talk = record t { stage = stage.Ready }; out = s.out ++ octets_of (record { tag = tag; said = said.Refused refusals.Memory }) })
+
+-- whether the event that a turn asks is refused, if it asks one, before those behind it
+abbrev pub told_first : Bool → Next → List Bool → List Bool
+told_first refused (next.Ask event) more = refused ∷ more
+told_first refused other more = more
+
+-- which of the events that turns ask are refused memory, in their order
+abbrev pub refused_in : List User → List Bool → Scene → List Bool
+refused_in users [] s = []
+refused_in users (refused ∷ more) s = told_first refused (session_next users 0 (pos 0) s.talk).0 (refused_in users more (turn_of users always refused s).1)
+
+-- and those that pieces with their turns ask
+abbrev pub refused_of : List User → List Fed → Scene → List Bool
+refused_of users [] s = []
+refused_of users (x ∷ pieces) s = refused_in users x.1 (hears x.0 s) ++ refused_of users pieces (fed users x s)
+
+-- What is written is determined by what was read and by which of the events were refused memory, in their order; and by
+-- what was read alone where none was.
+pub record WrittenLaw : Type 0 where
+  pub by_refused : (user read a b : List ℕ) (x : IsWritten user read a) (y : IsWritten user read b) →
+      refused_of [] x.pieces (entered user) ≡ refused_of [] y.pieces (entered user) → a ≡ b
+  pub by_none : (user read a b : List ℕ) (x : IsWritten user read a) (y : IsWritten user read b) →
+      list_any (λ refused. refused) (refused_of [] x.pieces (entered user)) ≡ false →
+      list_any (λ refused. refused) (refused_of [] y.pieces (entered user)) ≡ false → a ≡ b

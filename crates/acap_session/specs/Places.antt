@@ -31,6 +31,11 @@ reached [] (suc seat) = None ∷ reached [] seat
 reached (x ∷ xs) zero = x ∷ xs
 reached (x ∷ xs) (suc seat) = x ∷ reached xs seat
 
+-- what stands at a seat, with that said there
+abbrev pub saying : List ℕ → Option Place → Option Place
+saying said None = None
+saying said (Some place) = Some (record place { out = said })
+
 -- a session that is open: one that isn't closed
 abbrev pub if_open : Option Place → Option Place
 if_open None = None

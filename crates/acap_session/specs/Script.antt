@@ -80,7 +80,7 @@ may act.Leave is_open = is_open
 abbrev pub unasked : Occasion → Occasion
 unasked o = record o { nonce = 0 }
 
--- Each is a step of the world, or some. The entering of a user isn't refused memory.
+-- Each is a step of the world, or some. No entering of a user and no drain is refused memory.
 abbrev pub Acts : SeatLine → Occasion → World → World → Type 0
 Acts act.Open o old new = new ≡ did o false (world.Open None) old
 Acts (act.Enter user) o old new = new ≡ did o false (world.Open (Some user)) old
@@ -88,7 +88,7 @@ Acts (act.Send text) o old new = HasHeard o (text ++ crlf) old new
 Acts (act.Raw octets) o old new = HasHeard o octets old new
 Acts (act.Piece octets) o old new = new ≡ did o false (world.Piece octets) old
 Acts act.Turn o old new = IsStep o world.Turn old new
-Acts act.Drain o old new = IsStep (unasked o) world.Drain old new
+Acts act.Drain o old new = new ≡ did (unasked o) false world.Drain old
 Acts act.Leave o old new = new ≡ did (unasked o) false world.Leave old
 
 -- ---- lines

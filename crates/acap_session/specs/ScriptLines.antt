@@ -22,11 +22,6 @@ is_space octet = octet == 32
 abbrev pub cut : List ℕ → Option (List ℕ × List ℕ)
 cut text = option_map (λ place. (take place text, drop (place + 1) text)) (position is_space text)
 
--- a part has an octet or more
-abbrev pub part_in : List ℕ → Option (List ℕ)
-part_in [] = None
-part_in (c ∷ text) = Some (c ∷ text)
-
 -- a user's name
 abbrev pub name_in : List ℕ → Option (List ℕ)
 name_in text = if is_user_name text then Some text else None
@@ -99,9 +94,10 @@ both made None b = None
 abbrev pub parted : (List ℕ → List ℕ → Option ScriptLine) → List ℕ → Option ScriptLine
 parted made text = option_and_then (λ parts. made parts.0 parts.1) (cut text)
 
--- `user NAME SECRET`, `enter K NAME`, `send K TEXT`, `raw K HEX`, `piece K HEX`, behind the word and its SP
+-- `user NAME SECRET`, `enter K NAME`, `send K TEXT`, `raw K HEX`, `piece K HEX`, behind the word and its SP; what is the
+-- rest of a line may be empty
 abbrev pub user_line : List ℕ → Option ScriptLine
-user_line text = parted (λ name secret. both line.User (name_in name) (part_in secret)) text
+user_line text = parted (λ name secret. both line.User (name_in name) (Some secret)) text
 
 abbrev pub enter_line : List ℕ → Option ScriptLine
 enter_line text = parted (λ seat name. both (λ k user. line.At k (act.Enter user)) (seat_in seat) (name_in name)) text
@@ -113,13 +109,13 @@ abbrev pub raw_line : List ℕ → Option ScriptLine
 raw_line text = parted (λ seat digits. both (λ k octets. line.At k (act.Raw octets)) (seat_in seat) (octets_in digits)) text
 
 abbrev pub piece_line : List ℕ → Option ScriptLine
-piece_line text = parted (λ seat digits. both (λ k octets. line.At k (act.Piece octets)) (seat_in seat) (option_and_then octets_in (part_in digits))) text
+piece_line text = parted (λ seat digits. both (λ k octets. line.At k (act.Piece octets)) (seat_in seat) (octets_in digits)) text
 
 -- by the word
 abbrev pub line_by : ScriptWord → List ℕ → Option ScriptLine
 line_by word.User rest = user_line rest
 line_by word.Admin rest = option_map line.Admin (name_in rest)
-line_by word.Host rest = option_map line.Host (part_in rest)
+line_by word.Host rest = Some (line.Host rest)
 line_by word.Clock rest = option_map line.Clock (moment_in rest)
 line_by word.Nonce rest = option_map line.Nonce (nonce_in rest)
 line_by word.Open rest = option_map (λ k. line.At k act.Open) (seat_in rest)

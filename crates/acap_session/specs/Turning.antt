@@ -35,6 +35,11 @@ abbrev pub performed : Bool → Machine → Occasion → Event → Result (Reply
 performed true m o event = Err fault.Memory
 performed false m o event = step_of m o.seat event o.clock
 
+-- whether memory was refused
+abbrev pub is_refused : Result Reply Fault → Bool
+is_refused (Err fault.Memory) = true
+is_refused other = false
+
 -- a session that has its seat leaves it
 abbrev pub left_by : Bool → Occasion → Machine → Machine
 left_by true o m = machine_after m (step_of m o.seat events.Leave o.clock)
@@ -84,15 +89,11 @@ turn_of users o refused s = turn_by o refused s (session_next users o.nonce o.cl
 unfoldable pub drain_of : Occasion → Bool → Scene → Turn × Scene
 drain_of o refused s = turn_by o refused s (session_drain s.talk)
 
--- ---- words of the contracts: some step is refused memory, or none is
+-- ---- words of the contracts: an event is refused memory, or none is
 
 pub record IsTurn (users : List User) (o : Occasion) (old : Scene) (came : Turn) (new : Scene) : Type 0 where
   pub refused : Bool
   pub is : (came, new) ≡ turn_of users o refused old
-
-pub record IsDrain (o : Occasion) (old : Scene) (came : Turn) (new : Scene) : Type 0 where
-  pub refused : Bool
-  pub is : (came, new) ≡ drain_of o refused old
 
 pub record IsAsked (o : Occasion) (event : Event) (old : Scene) (came : Turn) (new : Scene) : Type 0 where
   pub refused : Bool
@@ -119,3 +120,16 @@ pub record CutInAsking (o : Occasion) (event : Event) (old : Scene) (new : Scene
   pub closed : new.talk.stage ≡ stage.Closed
   pub out_is : new.out ≡ old.out
   pub stands : StandsBefore o event old.talk old.machine new.machine
+
+-- In telling what is pending too; the drain stands, where one could be asked for.
+pub record CutInDraining (o : Occasion) (old : Scene) (new : Scene) : Type 0 where
+  pub asked : (session_drain old.talk).0 ≡ next.Ask events.Drain
+  pub closed : new.talk.stage ≡ stage.Closed
+  pub out_is : new.out ≡ old.out
+  pub machine_is : new.machine ≡ left_by true o (machine_after old.machine (step_of old.machine o.seat events.Drain o.clock))
+
+-- a session without a word to its machine's answer: it is closed, and leaves its seat if it has it
+pub record CutInAnswering (seated : Bool) (o : Occasion) (old : Scene) (new : Scene) : Type 0 where
+  pub closed : new.talk.stage ≡ stage.Closed
+  pub out_is : new.out ≡ old.out
+  pub machine_is : new.machine ≡ left_by seated o old.machine

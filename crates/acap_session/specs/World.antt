@@ -6,10 +6,9 @@ use Rattle.acap_login.specs.Login.{User}
 use Rattle.acap_machine.specs.Machine.{Machine, new_machine}
 use Rattle.acap_rights.specs.declared.realm.Realm.{Realm}
 use Rattle.acap_session.specs.Places.{Place, Places, place_at, placed, if_open}
-use Rattle.acap_session.specs.Session.{has_seat, session_next}
+use Rattle.acap_session.specs.Session.{has_seat, is_closed, session_next}
 use Rattle.acap_session.specs.Talking.{Talking, begun}
-use Rattle.acap_session.specs.Turning.{Scene, scene, turn_of, drain_of, left_by, IsTurn, WasCut}
-use Rattle.acap_session.specs.declared.next.Next.{Next}
+use Rattle.acap_session.specs.Turning.{Scene, scene, turn_of, drain_of, left_by, CutInDraining, WasCut}
 use Rattle.acap_session.specs.declared.occasion.Occasion.{Occasion}
 use Rattle.acap_session.specs.declared.stage.Stage.TheVariants as stage
 use Rattle.acap_session.specs.declared.turn.Turn.{Turn as Came}
@@ -112,22 +111,10 @@ pub record IsStep (o : Occasion) (deed : Deed) (old new : World) : Type 0 where
   pub is : new ≡ did o refused deed old
 
 -- The session of a seat was refused memory: it is closed without a word, and all other seats are as they were.
-pub record IsCutAt (o : Occasion) (x : Next × Talking) (place : Place) (old new : World) : Type 0 where
+pub record IsCutAt (o : Occasion) (Cut : Scene → Type 0) (old new : World) : Type 0 where
   pub after : Scene
-  pub cut : WasCut o (scene_of old place) x after
+  pub cut : Cut after
   pub is : new ≡ with_scene old o.seat after
-
--- What a call that makes a step answers and leaves, where that is next for a session. No such call says that a seat is
--- taken.
-abbrev pub Makes : Occasion → Deed → (Place → Next × Talking) → World → World → Result (Unit {0}) WorldFault → Type 0
-Makes o deed next old new (Ok done) = IsSome (open_at old o.seat) × IsStep o deed old new
-Makes o deed next old new (Err faults.NoSeat) = (open_at old o.seat ≡ None) × (new ≡ old)
-Makes o deed next old new (Err faults.Taken) = ⊥
-Makes o deed next old new (Err faults.Memory) = (place : Place) × (open_at old o.seat ≡ Some place) × IsCutAt o (next place) place old new
-
--- what stands at a seat where a session opens, before its first turn
-abbrev pub begun_at : World → ℕ → Option (List ℕ) → Place
-begun_at w seat user = record { talk = begun w.host user; out = said_before (place_at w.places seat) }
 
 -- whether a turn came to anything, so that another may
 abbrev pub went_on : Came → Bool
@@ -143,29 +130,37 @@ pub record HasTurnedAt (o : Occasion) (goes : Bool) (old new : World) : Type 0 w
   pub is : new ≡ did o refused Turn old
   pub came : goes ≡ went_on (turn_of old.users o refused (scene_of old place)).0
 
+-- no such call says that a seat is taken
 abbrev pub Turns : Occasion → World → World → Result Bool WorldFault → Type 0
 Turns o old new (Ok goes) = HasTurnedAt o goes old new
-Turns o old new (Err fault) = Makes o Turn (λ place. session_next old.users o.nonce o.clock place.talk) old new (Err fault)
+Turns o old new (Err faults.NoSeat) = (open_at old o.seat ≡ None) × (new ≡ old)
+Turns o old new (Err faults.Taken) = ⊥
+Turns o old new (Err faults.Memory) = (place : Place) × (open_at old o.seat ≡ Some place)
+    × IsCutAt o (WasCut o (scene_of old place) (session_next old.users o.nonce o.clock place.talk)) old new
 
--- what the opening of a session answers and leaves: where memory is refused nothing was done, or the session is closed
+-- What asking for what is pending answers and leaves, where it isn't refused memory: the drain was made. Where it is,
+-- nothing was done, and the session stays open; or the drain stands, and the session is closed in telling of it.
+abbrev pub Drains : Occasion → World → World → Result (Unit {0}) WorldFault → Type 0
+Drains o old new (Ok done) = IsSome (open_at old o.seat) × (new ≡ did o false Drain old)
+Drains o old new (Err faults.NoSeat) = (open_at old o.seat ≡ None) × (new ≡ old)
+Drains o old new (Err faults.Taken) = ⊥
+Drains o old new (Err faults.Memory) = (place : Place) × (open_at old o.seat ≡ Some place)
+    × ((new ≡ old) ⊎ IsCutAt o (CutInDraining o (scene_of old place)) old new)
+
+-- What the opening of a session answers and leaves: it is open, and nothing was refused memory; where something was,
+-- nothing was done.
 abbrev pub Opens : Occasion → Option (List ℕ) → World → World → Result (Unit {0}) WorldFault → Type 0
-Opens o user old new (Ok done) = (open_at old o.seat ≡ None) × IsStep o (Open user) old new
+Opens o user old new (Ok done) = (open_at old o.seat ≡ None) × (new ≡ did o false (Open user) old) × IsSome (open_at new o.seat)
 Opens o user old new (Err faults.NoSeat) = ⊥
 Opens o user old new (Err faults.Taken) = IsSome (open_at old o.seat) × (new ≡ old)
-Opens o user old new (Err faults.Memory) = (open_at old o.seat ≡ None) × ((new ≡ old) ⊎ IsCutAt o (session_next old.users o.nonce o.clock (begun old.host user)) (begun_at old o.seat user) old new)
+Opens o user old new (Err faults.Memory) = (open_at old o.seat ≡ None) × (new ≡ old)
 
--- a session stands at its seat, and has made its first turn
+-- a session stands at its seat, open, and has made its first turn, in which nothing was refused memory
 pub record HasBegun (users : List User) (o : Occasion) (old : Scene) (standing : Option Place) (m : Machine) : Type 0 where
   pub place : Place
   pub stands : standing ≡ Some place
-  pub came : Came
-  pub made : IsTurn users o old came (scene m place.talk place.out)
-
--- or it was refused memory in its first turn
-pub record WasCutFirst (users : List User) (o : Occasion) (old : Scene) (standing : Option Place) (m : Machine) : Type 0 where
-  pub place : Place
-  pub stands : standing ≡ Some place
-  pub cut : WasCut o old (session_next users o.nonce o.clock old.talk) (scene m place.talk place.out)
+  pub made : scene m place.talk place.out ≡ (turn_of users o false old).1
+  pub going : is_closed place.talk.stage ≡ false
 
 -- what giving octets to a seat's session answers and leaves, whatever the clock shows: it takes as many as it has
 -- room for, or none

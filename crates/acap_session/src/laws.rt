@@ -1,7 +1,7 @@
 //! What follows from the definitions alone: each function does nothing, and its contract is the law.
 ghost use Rattle.acap_session.specs.Examples.{AnswerExamples, HearingExamples, LoginExamples, NextExamples};
 ghost use Rattle.acap_session.specs.PipeSteps.{PipeRuns};
-ghost use Rattle.acap_session.specs.Laws.{PiecesJoin, TurnsKeep, CuttingLaw, JoiningLaw, OthersStay, StepAlone, AloneLaw};
+ghost use Rattle.acap_session.specs.Laws.{PiecesJoin, TurnsKeep, CuttingLaw, JoiningLaw, OthersStay, StepAlone, AloneLaw, RefusedTurns, WrittenLaw};
 
 /// What is said to the machine's answers and faults, also after a login (RFC 2244 sections 3.6, 6.2 and 6.3.1).
 pub fn answer_examples()
@@ -62,4 +62,16 @@ pub fn step_alone()
 /// A session depends on the others through the machine's replies alone (RFC 2244 section 2).
 pub fn alone_law()
     ensures { AloneLaw }
+{}
+
+/// A turn whose event is refused memory says so under the tag of its command, and leaves the machine as it was
+/// (RFC 2244 section 6.2).
+pub fn refused_turns()
+    ensures { RefusedTurns }
+{}
+
+/// What a pipe writes is determined by what it read and by which events were refused memory, and by what it read alone
+/// where none was (RFC 2244 section 2).
+pub fn written_law()
+    ensures { WrittenLaw }
 {}

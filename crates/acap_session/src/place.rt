@@ -1,11 +1,12 @@
 //! The session of a seat, with what was said to its client and isn't taken yet.
 
-ghost use Rattle.std.specs.Prelude.{◌≡◌, ◌++◌, [], IfOk, OnErr, OnOk};
-ghost use Rattle.acap_session.specs.Session.{is_closed, session_drain, session_next};
-ghost use Rattle.acap_session.specs.Turning.{IsDrain, IsTurn, WasCut, left_by, scene};
-ghost use Rattle.acap_session.specs.Places.{reached};
+ghost use Rattle.std.specs.Prelude.{◌≡◌, ◌⊎◌, ◌++◌, [], false, IfOk, OnErr, OnOk};
+ghost use Rattle.acap_session.specs.Session.{is_closed, session_next};
+ghost use Rattle.acap_session.specs.Turning.{CutInDraining, IsTurn, WasCut, drain_of, left_by, scene, turn_of};
+ghost use Rattle.acap_session.specs.Places.{reached, saying};
+ghost use Rattle.acap_session.specs.declared.stage.Stage.TheVariants as stages;
 ghost use Rattle.acap_session.specs.World as world;
-ghost use Rattle.acap_session.specs.World.{HasBegun, WasCutFirst, said_before};
+ghost use Rattle.acap_session.specs.World.{HasBegun, said_before};
 
 use crate::occasion::Occasion;
 use crate::session::Session;
@@ -61,10 +62,30 @@ impl Place {
         turn(&mut self.session, state, users, occasion, &mut self.out)
     }
 
+    /// Makes the first turn of a session, which is open then. Where memory is refused nothing was done but to the session.
+    pub(crate) fn begin(
+        &mut self,
+        state: &mut State,
+        users: &Users,
+        occasion: Occasion,
+    ) -> Result<(), Memory>
+        requires { self.old.talk.stage ≡ stages.Opening }
+        ensures ok { OnOk result (scene state.new.machine self.new.talk self.new.out ≡ (turn_of users.now occasion false (scene state.old.machine self.old.talk self.old.out)).1) }
+        ensures going { OnOk result (is_closed self.new.talk.stage ≡ false) }
+        ensures machine { OnErr result (state.new.machine ≡ state.old.machine) }
+        ensures out { OnErr result (self.new.out ≡ self.old.out) }
+    {
+        let _turn = self.turn(state, users, occasion)?;
+        if self.is_closed() {
+            return Err(Memory);
+        }
+        Ok(())
+    }
+
     /// Asks for what is pending.
     pub(crate) fn drain(&mut self, state: &mut State, occasion: Occasion) -> Result<Turn, Memory>
-        ensures ok { IfOk result (λ turn. IsDrain occasion (scene state.old.machine self.old.talk self.old.out) turn (scene state.new.machine self.new.talk self.new.out)) }
-        ensures err { OnErr result (WasCut occasion (scene state.old.machine self.old.talk self.old.out) (session_drain self.old.talk) (scene state.new.machine self.new.talk self.new.out)) }
+        ensures ok { IfOk result (λ turn. (turn, scene state.new.machine self.new.talk self.new.out) ≡ drain_of occasion false (scene state.old.machine self.old.talk self.old.out)) }
+        ensures err { OnErr result ((scene state.new.machine self.new.talk self.new.out ≡ scene state.old.machine self.old.talk self.old.out) ⊎ CutInDraining occasion (scene state.old.machine self.old.talk self.old.out) (scene state.new.machine self.new.talk self.new.out)) }
     {
         drain(&mut self.session, state, occasion, &mut self.out)
     }
@@ -108,7 +129,28 @@ pub(crate) fn reach(places: &mut Vec<Option<Place>>, seat: Seat) -> Result<(), M
     Ok(())
 }
 
-/// Sets a session at its seat, with what was said there before, and makes its first turn.
+// Takes what was said at a seat.
+fn take_said(alloc: Global, standing: &mut Option<Place>) -> Vec<u8>
+    ensures given { result.items ≡ said_before standing.old }
+    ensures left { standing.new ≡ saying [] standing.old }
+{
+    match standing {
+        Some(before) => before.take(alloc),
+        None => Vec::new(alloc),
+    }
+}
+
+// Gives a seat what was said there.
+fn give_said(standing: &mut Option<Place>, said: Vec<u8>)
+    ensures { standing.new ≡ saying said.items standing.old }
+{
+    if let Some(before) = standing {
+        before.out = said;
+    }
+}
+
+/// Sets a session at its seat, with what was said there before, and makes its first turn. Where memory is refused nothing
+/// was done.
 pub(crate) fn begin(
     alloc: Global,
     standing: &mut Option<Place>,
@@ -117,18 +159,17 @@ pub(crate) fn begin(
     users: &Users,
     occasion: Occasion,
 ) -> Result<(), Memory>
+    requires { session.stage ≡ stages.Opening }
     ensures ok { OnOk result (HasBegun users.now occasion (scene state.old.machine session (said_before standing.old)) standing.new state.new.machine) }
-    ensures err { OnErr result (WasCutFirst users.now occasion (scene state.old.machine session (said_before standing.old)) standing.new state.new.machine) }
+    ensures kept { OnErr result (standing.new ≡ standing.old) }
+    ensures machine { OnErr result (state.new.machine ≡ state.old.machine) }
 {
-    let out = match standing {
-        Some(before) => before.take(alloc),
-        None => Vec::new(alloc),
-    };
+    let out = take_said(alloc, standing);
     let mut place = Place::new(session, out);
-    let turned = place.turn(state, users, occasion);
+    let Ok(()) = place.begin(state, users, occasion) else {
+        give_said(standing, place.take(alloc));
+        return Err(Memory);
+    };
     *standing = Some(place);
-    match turned {
-        Ok(_turn) => Ok(()),
-        Err(Memory) => Err(Memory),
-    }
+    Ok(())
 }

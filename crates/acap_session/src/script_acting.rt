@@ -13,14 +13,11 @@ use crate::seat_line::SeatLine;
 use crate::world::World;
 use acap_entries::{Octets, UserName};
 
-// A session opens, of that user if there is one. Where it doesn't stay open, memory was refused.
+// A session opens, of that user if there is one.
 fn open(world: &mut World, at: &Occasion, user: Option<UserName>) -> Result<(), LineFault>
     ensures { Done (not (is_some (open_at world.old at.now.seat))) (λ done. world.new ≡ did at.now false (deed.Open user) world.old) result }
 {
     world.open(at.seat, user, at.clock, at.nonce)?;
-    if !world.is_open(at.seat) {
-        return Err(LineFault::Memory);
-    }
     Ok(())
 }
 

@@ -31,16 +31,6 @@ fn cut(text: &[u8]) -> Option<(&[u8], &[u8])>
     Some((before, behind))
 }
 
-// A part of one octet or more.
-fn part_in(alloc: Global, text: &[u8]) -> Result<Octets, LineFault>
-    ensures { Reads (rule.part_in text.now) result }
-{
-    if text.is_empty() {
-        return Err(LineFault::Wrong);
-    }
-    Ok(Octets::from_slice(alloc, text)?)
-}
-
 // A user's name.
 fn name_in(alloc: Global, text: &[u8]) -> Result<UserName, LineFault>
     ensures { Reads (rule.name_in text.now) result }
@@ -80,7 +70,7 @@ fn user_line(alloc: Global, text: &[u8]) -> Result<ScriptLine, LineFault>
         return Err(LineFault::Wrong);
     };
     let name = name_in(alloc, name)?;
-    let secret = part_in(alloc, secret)?;
+    let secret = Octets::from_slice(alloc, secret)?;
     Ok(ScriptLine::User(name, secret))
 }
 
@@ -142,9 +132,6 @@ fn piece_line(alloc: Global, text: &[u8]) -> Result<ScriptLine, LineFault>
         return Err(LineFault::Wrong);
     };
     let seat = seated(seat)?;
-    if digits.is_empty() {
-        return Err(LineFault::Wrong);
-    }
     let octets = octets_in(alloc, digits)?;
     Ok(ScriptLine::At(seat, SeatLine::Piece(octets)))
 }
@@ -200,7 +187,7 @@ fn line_by(alloc: Global, word: ScriptWord, rest: &[u8]) -> Result<ScriptLine, L
     match word {
         ScriptWord::User => user_line(alloc, rest),
         ScriptWord::Admin => Ok(ScriptLine::Admin(name_in(alloc, rest)?)),
-        ScriptWord::Host => Ok(ScriptLine::Host(part_in(alloc, rest)?)),
+        ScriptWord::Host => Ok(ScriptLine::Host(Octets::from_slice(alloc, rest)?)),
         ScriptWord::Clock => clock_line(rest),
         ScriptWord::Nonce => nonce_line(rest),
         ScriptWord::Open => Ok(ScriptLine::At(seated(rest)?, SeatLine::Open)),

@@ -241,6 +241,13 @@ impl Session {
         }
     }
 
+    /// What is pending is awaited no longer.
+    pub(crate) fn end_drain(&mut self)
+        ensures { self.new ≡ record self.old { stage = stages.Ready } }
+    {
+        self.stage = Stage::Ready;
+    }
+
     /// Whether its user has its seat in the machine.
     pub(crate) fn has_seat(&self) -> bool
         ensures { result ≡ has_seat self.now }

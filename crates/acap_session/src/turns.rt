@@ -1,16 +1,17 @@
 //! Turns: one session, the machine, and what is said.
 
-ghost use Rattle.std.specs.Prelude.{◌≡◌, ◌||◌, true, IfOk, OnErr};
-ghost use Rattle.acap_session.specs.Session.{is_asked, session_next, session_drain};
-ghost use Rattle.acap_session.specs.Turning.{scene, IsAsked, IsDrain, IsTurn, WasCut, CutInAsking, left_at, left_by, turn_from};
+ghost use Rattle.std.specs.Prelude.{◌≡◌, ◌⊎◌, ◌||◌, false, true, IfOk, OnErr};
+ghost use Rattle.acap_session.specs.Session.{answered, is_asked, session_next};
+ghost use Rattle.acap_session.specs.Turning.{scene, shown, drain_of, is_refused, IsAsked, IsTurn, WasCut, CutInAnswering, CutInAsking, CutInDraining, left_at, left_by, turn_from};
 
 use crate::heard::Heard;
 use crate::occasion::Occasion;
 use crate::session::Session;
 use crate::turn::Turn;
 use acap_entries::Memory;
+use acap_grammar::Reply;
 use acap_login::Users;
-use acap_machine::{Event, State};
+use acap_machine::{Event, Fault, State};
 
 /// A session that has its seat leaves it. Takes no memory.
 pub(crate) fn leave(state: &mut State, occasion: Occasion, has_seat: bool)
@@ -45,6 +46,28 @@ fn finish(state: &mut State, occasion: Occasion, has_seat: bool, heard: &Heard) 
     turn
 }
 
+// What a session says to its machine's answer is added, and where it is over it leaves its seat.
+fn conclude(
+    session: &mut Session,
+    state: &mut State,
+    occasion: Occasion,
+    has_seat: bool,
+    outcome: Result<Reply, Fault>,
+    out: &mut Vec<u8>,
+) -> Result<Turn, Memory>
+    requires { is_asked session.old.stage ≡ true }
+    ensures ok { IfOk result (λ turn. (turn, scene state.new.machine session.new out.new.items) ≡ shown occasion has_seat state.old.machine out.old.items (answered session.old outcome)) }
+    ensures err { OnErr result (CutInAnswering has_seat occasion (scene state.old.machine session.old out.old.items) (scene state.new.machine session.new out.new.items)) }
+{
+    match session.reply(outcome, out) {
+        Ok(heard) => Ok(finish(state, occasion, has_seat, &heard)),
+        Err(Memory) => {
+            leave(state, occasion, has_seat);
+            Err(Memory)
+        }
+    }
+}
+
 // The event that a session asked is performed, and what it says to the answer is added.
 fn perform(
     session: &mut Session,
@@ -60,13 +83,7 @@ fn perform(
     let had_seat = session.has_seat();
     let outcome = state.step(occasion.seat, event, occasion.clock);
     let has_seat = either(had_seat, outcome.is_ok());
-    match session.reply(outcome, out) {
-        Ok(heard) => Ok(finish(state, occasion, has_seat, &heard)),
-        Err(Memory) => {
-            leave(state, occasion, has_seat);
-            Err(Memory)
-        }
-    }
+    conclude(session, state, occasion, has_seat, outcome, out)
 }
 
 // Whether one of them holds.
@@ -104,18 +121,33 @@ pub(crate) fn turn(
     }
 }
 
-/// Asks for what is pending for a session's user, if it may be asked, and adds it.
+// Whether memory was refused.
+fn is_refused(outcome: &Result<Reply, Fault>) -> bool
+    ensures { result ≡ is_refused outcome.now }
+{
+    matches!(outcome, Err(Fault::Memory))
+}
+
+/// Asks for what is pending for a session's user, if it may be asked, and adds it. Where the asking is refused memory
+/// nothing was done; where what it says is, the session is closed.
 pub(crate) fn drain(
     session: &mut Session,
     state: &mut State,
     occasion: Occasion,
     out: &mut Vec<u8>,
 ) -> Result<Turn, Memory>
-    ensures ok { IfOk result (λ turn. IsDrain occasion (scene state.old.machine session.old out.old.items) turn (scene state.new.machine session.new out.new.items)) }
-    ensures err { OnErr result (WasCut occasion (scene state.old.machine session.old out.old.items) (session_drain session.old) (scene state.new.machine session.new out.new.items)) }
+    ensures ok { IfOk result (λ turn. (turn, scene state.new.machine session.new out.new.items) ≡ drain_of occasion false (scene state.old.machine session.old out.old.items)) }
+    ensures err { OnErr result ((scene state.new.machine session.new out.new.items ≡ scene state.old.machine session.old out.old.items) ⊎ CutInDraining occasion (scene state.old.machine session.old out.old.items) (scene state.new.machine session.new out.new.items)) }
 {
     if !session.begin_drain() {
         return Ok(Turn::More);
     }
-    perform(session, state, occasion, Event::Drain, out)
+    let had_seat = session.has_seat();
+    let outcome = state.step(occasion.seat, Event::Drain, occasion.clock);
+    if is_refused(&outcome) {
+        session.end_drain();
+        return Err(Memory);
+    }
+    let has_seat = either(had_seat, outcome.is_ok());
+    conclude(session, state, occasion, has_seat, outcome, out)
 }

@@ -2,9 +2,7 @@
 
 ghost use Rattle.std.specs.Prelude.{◌≡◌, ◌↔◌, ◌<◌, [], length, true, is_some, pos, Some, None, Err, Ok, IfOk, IfErr, OnOk, OnErr, IsSome, IsNone};
 ghost use Rattle.acap_session.specs.Places.{place_at};
-ghost use Rattle.acap_session.specs.Session.{session_drain};
-ghost use Rattle.acap_session.specs.World as world;
-ghost use Rattle.acap_session.specs.World.{Feeds, Leaves, Makes, Opens, Turns, new_world, open_at, output_taken, said_before};
+ghost use Rattle.acap_session.specs.World.{Drains, Feeds, Leaves, Opens, Turns, new_world, open_at, output_taken, said_before};
 ghost use Rattle.acap_session.specs.declared.world_fault.WorldFault.TheVariants as faults;
 
 use crate::occasion::Occasion;
@@ -74,9 +72,8 @@ impl World {
         }
     }
 
-    /// Opens a session at a seat, of that user if there is one, and makes its first turn: it greets, and its user enters.
-    /// `Taken` where one is open there. Where memory is refused nothing was done, or the session is closed, and an event
-    /// that it had asked stands.
+    /// Opens a session at a seat, of that user if there is one, and makes its first turn: its user enters, and it greets.
+    /// `Taken` where one is open there. Where memory is refused nothing was done.
     pub fn open(
         &mut self,
         seat: Seat,
@@ -90,22 +87,24 @@ impl World {
             return Err(WorldFault::Taken);
         }
         let host = self.host.copy()?;
+        let count = self.places.len();
         reach(&mut self.places, seat)?;
         let occasion = Occasion { seat, clock, nonce };
         let index = usize::from(seat.number());
         let session = Session::new(self.alloc, host, user);
         let standing = &mut self.places[index];
-        match begin(
+        let Ok(()) = begin(
             self.alloc,
             standing,
             session,
             &mut self.state,
             &self.users,
             occasion,
-        ) {
-            Ok(()) => Ok(()),
-            Err(Memory) => Err(WorldFault::Memory),
-        }
+        ) else {
+            self.places.truncate(count);
+            return Err(WorldFault::Memory);
+        };
+        Ok(())
     }
 
     /// Gives what was said at a seat and wasn't taken yet, also of a session that is closed, and holds nothing of it
@@ -145,9 +144,10 @@ impl World {
     }
 
     /// Asks for what is pending for the user of a seat's session, if it may be asked, and keeps what is said. `NoSeat`
-    /// where none is open there; where memory is refused to the session it is closed, and the asking stands.
+    /// where none is open there. Where the asking is refused memory nothing was done; where what it says is, the session is
+    /// closed, and the asking stands.
     pub fn drain(&mut self, seat: Seat, clock: Moment) -> Result<(), WorldFault>
-        ensures { Makes (record { seat = seat; clock = clock; nonce = 0 }) world.Drain (λ place. session_drain place.talk) self.old self.new result }
+        ensures { Drains (record { seat = seat; clock = clock; nonce = 0 }) self.old self.new result }
     {
         if !self.is_open(seat) {
             return Err(WorldFault::NoSeat);

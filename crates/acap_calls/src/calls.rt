@@ -1,25 +1,13 @@
 //! What the words of a call ask for.
 
 ghost use Rattle.std.specs.Prelude.{[], ◌∷◌, map, codes, string_bytes};
-ghost use Rattle.acapd.specs.Calls.{IsCall};
+ghost use Rattle.acap_calls.specs.Calls.{IsCall, IsCallOf, words_of};
 
+use crate::call::Call;
 use crate::fault::Fault;
-use acap_entries::{Memory, NameFault, UserName};
+use acap_entries::{NameFault, UserName};
 use std::alloc::Global;
-use std::env::Args;
-
-/// What a call of the program asks for.
-#[derive(Drop)]
-pub(crate) enum Call {
-    /// Nothing that it knows.
-    Nothing,
-    /// One session of a user, between standard input and standard output.
-    Pipe(UserName),
-    /// A script, from standard input, whose sessions are written to standard output.
-    Script,
-    /// It could not be read.
-    Refused(Fault),
-}
+use std::io::ErrorKind;
 
 // What the word behind `pipe` asks for: a session of the user that it names.
 fn pipe_of(alloc: Global, user: &[u8]) -> Call
@@ -70,21 +58,13 @@ fn asked_by(alloc: Global, words: &[String]) -> Call
     }
 }
 
-// The words behind the program's name.
-fn listed(alloc: Global, words: Args) -> Result<Vec<String>, Memory> {
-    let mut words = words;
-    let _program = words.next();
-    let mut listed = Vec::new(alloc);
-    for word in words {
-        listed.push(word)?;
-    }
-    Ok(listed)
-}
-
-/// What the words of a call ask for, of which the first is the program's name.
-pub(crate) fn read_call(alloc: Global, words: Args) -> Call {
-    match listed(alloc, words) {
+/// What the words behind the program's name ask for, or the kind of fault by which they can't be read.
+pub(crate) fn read_call(alloc: Global, words: &Result<Vec<String>, ErrorKind>) -> Call
+    ensures { IsCallOf (words_of words.now) result }
+{
+    match words {
         Ok(words) => asked_by(alloc, words.as_slice()),
-        Err(Memory) => Call::Refused(Fault::Memory),
+        Err(ErrorKind::OutOfMemory) => Call::Refused(Fault::Memory),
+        Err(_) => Call::Nothing,
     }
 }

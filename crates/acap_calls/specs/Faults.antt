@@ -1,11 +1,11 @@
--- The lines in which faults are told.
+-- The lines in which faults and wrong calls are told.
 use Rattle.std.specs.Prelude.{ℕ, List, ◌++◌, codes, decimal}
 use Rattle.acap_session.specs.declared.pipe_fault.PipeFault.{PipeFault}
 use Rattle.acap_session.specs.declared.pipe_fault.PipeFault.TheVariants as pipe
 use Rattle.acap_session.specs.declared.script_fault.ScriptFault.{ScriptFault}
 use Rattle.acap_session.specs.declared.script_fault.ScriptFault.TheVariants as script
-use Rattle.acapd.specs.declared.fault.Fault.{Fault}
-use Rattle.acapd.specs.declared.fault.Fault.TheVariants as fault
+use Rattle.acap_calls.specs.declared.fault.Fault.{Fault}
+use Rattle.acap_calls.specs.declared.fault.Fault.TheVariants as fault
 
 abbrev pub of_pipe : PipeFault → Fault
 of_pipe pipe.Read = fault.Read
@@ -17,6 +17,10 @@ of_script (script.Line n) = fault.Line n
 of_script script.Read = fault.Read
 of_script script.Write = fault.Write
 of_script script.Memory = fault.Memory
+
+-- that of a call with no words or wrong ones
+abbrev pub usage : List ℕ
+usage = codes "usage: acapd pipe USER | script | serve FILE\n"
 
 abbrev pub line_of : Fault → List ℕ
 line_of fault.Read = codes "acapd: cannot read\n"

@@ -17,7 +17,7 @@ pub(crate) enum Fault {
 
 impl From<PipeFault> for Fault {
     ghost use Rattle.std.specs.Prelude.{◌≡◌};
-    ghost use Rattle.acapd.specs.Faults.{of_pipe};
+    ghost use Rattle.acap_calls.specs.Faults.{of_pipe};
 
     ghost from_gives = { λ fault made. made ≡ of_pipe fault };
 
@@ -32,7 +32,7 @@ impl From<PipeFault> for Fault {
 
 impl From<ScriptFault> for Fault {
     ghost use Rattle.std.specs.Prelude.{◌≡◌};
-    ghost use Rattle.acapd.specs.Faults.{of_script};
+    ghost use Rattle.acap_calls.specs.Faults.{of_script};
 
     ghost from_gives = { λ fault made. made ≡ of_script fault };
 

@@ -1,0 +1,17 @@
+//! What a call of the program asks for.
+
+use crate::fault::Fault;
+use acap_entries::UserName;
+
+/// What a call of the program asks for.
+#[derive(Drop)]
+pub(crate) enum Call {
+    /// Nothing that it knows.
+    Nothing,
+    /// One session of a user, between standard input and standard output.
+    Pipe(UserName),
+    /// A script, from standard input, whose sessions are written to standard output.
+    Script,
+    /// It could not be read.
+    Refused(Fault),
+}

@@ -1,0 +1,66 @@
+//! A call of the program, from its words to its status.
+
+ghost use Rattle.std.specs.Prelude.{IfOk};
+ghost use Rattle.acap_calls.specs.Calls.{Calls, DoesPipe, DoesScript, words_of};
+
+use crate::call::Call;
+use crate::calls::read_call;
+use crate::fault::Fault;
+use crate::faults::{refuse, tell};
+use acap_entries::UserName;
+use acap_session::{run_pipe, run_script};
+use std::alloc::Global;
+use std::io::{self, ErrorKind, Read, Write};
+
+/// The status of a normal end.
+const DONE: u8 = 0;
+
+// One session of a user.
+fn pipe<R: Read, W: Write, E: Write>(
+    alloc: Global,
+    user: UserName,
+    reader: &mut R,
+    writer: &mut W,
+    errors: &mut E,
+) -> io::Result<u8>
+    ensures { IfOk result (λ status. DoesPipe user (R.remaining reader.old) (R.remaining reader.new) (W.contents writer.old) (W.contents writer.new) (E.contents errors.old) (E.contents errors.new) status) }
+{
+    match run_pipe(alloc, reader, writer, user) {
+        Ok(()) => Ok(DONE),
+        Err(fault) => tell(Fault::from(fault), errors),
+    }
+}
+
+// A script.
+fn script<R: Read, W: Write, E: Write>(
+    alloc: Global,
+    reader: &mut R,
+    writer: &mut W,
+    errors: &mut E,
+) -> io::Result<u8>
+    ensures { IfOk result (λ status. DoesScript (R.remaining reader.old) (R.remaining reader.new) (W.contents writer.old) (W.contents writer.new) (E.contents errors.old) (E.contents errors.new) status) }
+{
+    match run_script(alloc, reader, writer) {
+        Ok(()) => Ok(DONE),
+        Err(fault) => tell(Fault::from(fault), errors),
+    }
+}
+
+/// Does what the words behind the program's name ask for, and gives the status with which the call ends: 0, or 1 where a
+/// fault is told, or 2 where the words are no call, or can't be read. Fails where that can't be told.
+pub fn run_call<R: Read, W: Write, E: Write>(
+    alloc: Global,
+    words: &Result<Vec<String>, ErrorKind>,
+    reader: &mut R,
+    writer: &mut W,
+    errors: &mut E,
+) -> io::Result<u8>
+    ensures { IfOk result (λ status. Calls (words_of words.now) (R.remaining reader.old) (R.remaining reader.new) (W.contents writer.old) (W.contents writer.new) (E.contents errors.old) (E.contents errors.new) status) }
+{
+    match read_call(alloc, words) {
+        Call::Nothing => refuse(errors),
+        Call::Refused(fault) => tell(fault, errors),
+        Call::Pipe(user) => pipe(alloc, user, reader, writer, errors),
+        Call::Script => script(alloc, reader, writer, errors),
+    }
+}
