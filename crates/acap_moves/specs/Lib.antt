@@ -1,0 +1,3 @@
+pub mod Hits
+pub mod Notices
+pub mod Examples

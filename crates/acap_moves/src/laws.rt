@@ -1,0 +1,18 @@
+//! What holds of any hits, orders and rows: each function does nothing, and its contract is the law.
+ghost use Rattle.acap_moves.specs.Notices.{MixedLaw, NoticeListLaw};
+ghost use Rattle.acap_moves.specs.Examples.{MoveExamples};
+
+/// The lists with the new hits of the first changed names are those made step by step.
+pub fn mixed_law<H>()
+    ensures { MixedLaw H }
+{}
+
+/// The client that holds the rows of the old list and applies the notices holds those of the new one, in a list or by name.
+pub fn notice_list_law<H>()
+    ensures { NoticeListLaw H }
+{}
+
+/// Notices of one change, computed from the definitions alone.
+pub fn move_examples()
+    ensures { MoveExamples }
+{}
