@@ -4,3 +4,6 @@ pub mod ListSteps
 pub mod MapSteps
 pub mod Law
 pub mod Mixed
+pub mod Domain
+pub mod Touched
+pub mod MoveLemmas

@@ -14,7 +14,7 @@ use Rattle.acap_notices.specs.Rows.{is_held, stands_at, has_position}
 use Rattle.acap_notices.specs.Client.{listed_after}
 use Rattle.acap_notices.specs.Holding.{Holding, Listed, holding_after, holding_after_all}
 use Rattle.acap_notices.proofs.RowLemmas.{get-insert, remove-insert}
-use Rattle.acap_moves.specs.Hits.{Name, Shape, IsLawful, put, put_some, rows, spot}
+use Rattle.acap_moves.specs.Hits.{Name, Shape, IsLawful, put, put_some, rank, found, rows, spot}
 use Rattle.acap_moves.specs.Notices.{same_row, listed_notice}
 use Rattle.acap_moves.proofs.Splits.{itself}
 use borrow.Author.Tests.{eqb-true}
@@ -43,11 +43,6 @@ unfolding listed_after
 change_fits rs r s i j e h k = rw (stands_inserted rs s.name r i e h, back i, remove-insert rs i r h, fits j rs k, back j) refl
 
 module _ {H : Type 0} (v : Shape H) where
-  -- how many stand before the hit's place
-  unfoldable pub rank : H → List H → ℕ
-  rank h [] = 0
-  rank h (e ∷ es) = by_order (v.order h e) 0 0 (suc (rank h es))
-
   -- no hit is of the name
   unfoldable pub Absent : Name → List H → Type 0
   Absent p [] = Unit {0}
@@ -62,41 +57,49 @@ module _ {H : Type 0} (v : Shape H) where
     | Greater ↦ (a.0, absent_put p h es n a.1)
   ]
 
-  pub spot_absent : (p : Name) (es : List H) → Absent p es → spot v p es ≡ None
-  unfolding Absent spot
-  spot_absent p [] a = refl
-  spot_absent p (e ∷ es) a = rw (a.0, spot_absent p es a.1) refl
+  pub found_absent : (p : Name) (es : List H) → Absent p es → found v p es ≡ None
+  unfolding Absent found
+  found_absent p [] a = refl
+  found_absent p (e ∷ es) a = rw (a.0, found_absent p es a.1) refl
 
-  spot_first : (p : Name) (h : H) (es : List H) → v.name h ≡ p → spot v p (h ∷ es) ≡ Some (1, h)
-  unfolding spot
-  spot_first p h es e = rw (itself p (v.name h) (sym e)) refl
+  found_first : (p : Name) (h : H) (es : List H) → v.name h ≡ p → found v p (h ∷ es) ≡ Some (0, h)
+  unfolding found
+  found_first p h es e = rw (itself p (v.name h) (sym e)) refl
 
-  spot_later : (p : Name) (x : H) (es : List H) (n : ℕ) (y : H) → octets_eq p (v.name x) ≡ false → spot v p es ≡ Some (n, y) → spot v p (x ∷ es) ≡ Some (n + 1, y)
-  unfolding spot
-  spot_later p x es n y e s = rw (e, s) refl
+  found_later : (p : Name) (x : H) (es : List H) (n : ℕ) (y : H) → octets_eq p (v.name x) ≡ false → found v p es ≡ Some (n, y) → found v p (x ∷ es) ≡ Some (suc n, y)
+  unfolding found
+  found_later p x es n y e s = rw (e, s) refl
 
-  pub spot_put : (p : Name) (h : H) (es : List H) → v.name h ≡ p → Absent p es → spot v p (put v h es) ≡ Some (rank h es + 1, h)
+  pub found_put : (p : Name) (h : H) (es : List H) → v.name h ≡ p → Absent p es → found v p (put v h es) ≡ Some (rank v h es, h)
   unfolding Absent put rank
-  spot_put p h [] e a = spot_first p h [] e
-  spot_put p h (x ∷ es) e a = elim (v.order h x) as (λ r. spot v p (by_order r (h ∷ x ∷ es) (h ∷ x ∷ es) (x ∷ put v h es)) ≡ Some (by_order r 0 0 (suc (rank h es)) + 1, h)) [
-    | Less ↦ spot_first p h (x ∷ es) e
-    | Equal ↦ spot_first p h (x ∷ es) e
-    | Greater ↦ spot_later p x (put v h es) (rank h es + 1) h a.0 (spot_put p h es e a.1) ∙ ap (λ n. Some (n, h)) (omega arith)
+  found_put p h [] e a = found_first p h [] e
+  found_put p h (x ∷ es) e a = elim (v.order h x) as (λ r. found v p (by_order r (h ∷ x ∷ es) (h ∷ x ∷ es) (x ∷ put v h es)) ≡ Some (by_order r 0 0 (suc (rank v h es)), h)) [
+    | Less ↦ found_first p h (x ∷ es) e
+    | Equal ↦ found_first p h (x ∷ es) e
+    | Greater ↦ found_later p x (put v h es) (rank v h es) h a.0 (found_put p h es e a.1)
   ]
 
-  pub rows_put : (h : H) (es : List H) → rows v (put v h es) ≡ insert (rows v es) (rank h es) (v.row h)
+  pub spot_absent : (p : Name) (es : List H) → Absent p es → spot v p es ≡ None
+  unfolding spot
+  spot_absent p es a = rw (found_absent p es a) refl
+
+  pub spot_put : (p : Name) (h : H) (es : List H) → v.name h ≡ p → Absent p es → spot v p (put v h es) ≡ Some (rank v h es + 1, h)
+  unfolding spot
+  spot_put p h es e a = rw (found_put p h es e a) refl
+
+  pub rows_put : (h : H) (es : List H) → rows v (put v h es) ≡ insert (rows v es) (rank v h es) (v.row h)
   unfolding put rank rows
   rows_put h [] = refl
-  rows_put h (x ∷ es) = elim (v.order h x) as (λ r. map v.row (by_order r (h ∷ x ∷ es) (h ∷ x ∷ es) (x ∷ put v h es)) ≡ insert (rows v (x ∷ es)) (by_order r 0 0 (suc (rank h es))) (v.row h)) [
+  rows_put h (x ∷ es) = elim (v.order h x) as (λ r. map v.row (by_order r (h ∷ x ∷ es) (h ∷ x ∷ es) (x ∷ put v h es)) ≡ insert (rows v (x ∷ es)) (by_order r 0 0 (suc (rank v h es))) (v.row h)) [
     | Less ↦ refl
     | Equal ↦ refl
     | Greater ↦ ap (λ t. v.row x ∷ t) (rows_put h es)
   ]
 
-  rank_le : (h : H) (es : List H) → rank h es ≤ length (rows v es)
+  rank_le : (h : H) (es : List H) → rank v h es ≤ length (rows v es)
   unfolding rank rows
   rank_le h [] = omega arith
-  rank_le h (x ∷ es) = elim (v.order h x) as (λ r. by_order r 0 0 (suc (rank h es)) ≤ length (rows v (x ∷ es))) [
+  rank_le h (x ∷ es) = elim (v.order h x) as (λ r. by_order r 0 0 (suc (rank v h es)) ≤ length (rows v (x ∷ es))) [
     | Less ↦ omega arith
     | Equal ↦ omega arith
     | Greater ↦ let e = rank_le h es in omega arith

@@ -14,10 +14,10 @@ use Rattle.acap_notices.specs.Rows.{is_held, RowMap, by_name}
 use Rattle.acap_notices.specs.Client.{mapped_after}
 use Rattle.acap_notices.specs.Holding.{Mapped, holding_after_all}
 use Rattle.acap_notices.proofs.NameLemmas.{get_held, name_insert}
-use Rattle.acap_moves.specs.Hits.{Name, Shape, IsLawful, put, put_some, rows, spot}
+use Rattle.acap_moves.specs.Hits.{Name, Shape, IsLawful, put, put_some, rank, rows, spot}
 use Rattle.acap_moves.specs.Notices.{same_row, plain_notice}
 use Rattle.acap_moves.proofs.Splits.{itself, same_name}
-use Rattle.acap_moves.proofs.ListSteps.{rank, Absent, spot_absent, spot_put, rows_put, held_absent, row_of}
+use Rattle.acap_moves.proofs.ListSteps.{Absent, spot_absent, spot_put, rows_put, held_absent, row_of}
 
 octets_same : IsAntisymmetric octets_cmp
 octets_same = slice_cmp-IsAntisymmetric nat_cmp-IsAntisymmetric

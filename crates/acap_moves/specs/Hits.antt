@@ -1,5 +1,5 @@
 -- The hits of a live search: one for a name at the most, in the order of the search [RFC 2244 sections 3.3 and 6.4].
-use Rattle.std.specs.Prelude.{◌≡◌, ℕ, ◌+◌, Bool, false, ◌||◌, if◌then◌else◌, Option, Some, None, List, [], ◌∷◌, map}
+use Rattle.std.specs.Prelude.{◌≡◌, ℕ, suc, ◌+◌, Bool, false, ◌||◌, if◌then◌else◌, Option, Some, None, List, [], ◌∷◌, map}
 use Rattle.std.specs.declared.cmp.Ordering.{Ordering}
 use Rattle.std.specs.declared.cmp.Ordering.TheVariants.{Less, Equal}
 use Rattle.std.specs.Option.{option_map}
@@ -65,11 +65,19 @@ module _ {H : Type 0} (v : Shape H) where
   unfoldable pub rows : List H → List Row
   rows hits = map v.row hits
 
+  -- how many stand before a hit's place
+  unfoldable pub rank : H → List H → ℕ
+  rank h [] = 0
+  rank h (e ∷ es) = by_order (v.order h e) 0 0 (suc (rank h es))
+
+  -- how many stand before a name's hit, and that hit
+  unfoldable pub found : Name → List H → Option (ℕ × H)
+  found name [] = None
+  found name (h ∷ hs) = if octets_eq name (v.name h) then Some (0, h) else option_map (λ s. (suc s.0, s.1)) (found name hs)
+
   -- where a name stands, from 1, and its hit
   unfoldable pub spot : Name → List H → Option (ℕ × H)
-  spot name [] = None
-  spot name (h ∷ hs) =
-      if octets_eq name (v.name h) then Some (1, h) else option_map (λ s. (s.0 + 1, s.1)) (spot name hs)
+  spot name hits = option_map (λ s. (s.0 + 1, s.1)) (found name hits)
 
   -- each hit has the name that it is the hit of
   pub record IsOfNames (hit : Name → Option H) : Type 0 where

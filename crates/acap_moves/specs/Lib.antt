@@ -1,3 +1,4 @@
 pub mod Hits
 pub mod Notices
+pub mod Moves
 pub mod Examples

@@ -1,4 +1,5 @@
 //! What holds of any hits, orders and rows: each function does nothing, and its contract is the law.
+ghost use Rattle.acap_moves.specs.Moves.{MovesLaw, UndoLaw};
 ghost use Rattle.acap_moves.specs.Notices.{MixedLaw, NoticeListLaw};
 ghost use Rattle.acap_moves.specs.Examples.{MoveExamples};
 
@@ -10,6 +11,17 @@ pub fn mixed_law<H>()
 /// The client that holds the rows of the old list and applies the notices holds those of the new one, in a list or by name.
 pub fn notice_list_law<H>()
     ensures { NoticeListLaw H }
+{}
+
+/// Moving the hits of the touched names one after the other, in ascending order, gives the new list and the notices of the changed
+/// ones, whatever else is touched.
+pub fn moves_law<H>()
+    ensures { MovesLaw H }
+{}
+
+/// Undoing moves from the last to the first gives the list that was.
+pub fn undo_law<H>()
+    ensures { UndoLaw H }
 {}
 
 /// Notices of one change, computed from the definitions alone.

@@ -3,4 +3,4 @@
 
 mod laws;
 
-pub use laws::{mixed_law, move_examples, notice_list_law};
+pub use laws::{mixed_law, move_examples, moves_law, notice_list_law, undo_law};

@@ -1,12 +1,12 @@
 use Rattle.std.proofs.Common.{◌≡◌, true, false, [], ◌∷◌, refl}
 use Rattle.std.specs.Prelude.{codes}
 use Rattle.acap_moves.specs.Examples.{told, other_rank}
-use Rattle.acap_moves.specs.Hits.{is_among, put, put_some, fresh, spot}
+use Rattle.acap_moves.specs.Hits.{is_among, put, put_some, fresh, found, spot}
 use Rattle.acap_moves.specs.Notices.{notices_from}
 use Rattle.acap_moves.proofs.laws.move_examples.Goals as goal
 
 pub returns : goal.returns
-unfolding is_among put put_some fresh spot notices_from
+unfolding is_among put put_some fresh found spot notices_from
 returns c = record {
   with_positions = refl;
   without_positions = refl;
