@@ -7,3 +7,4 @@ pub mod Mixed
 pub mod Domain
 pub mod Touched
 pub mod MoveLemmas
+pub mod FollowingLemmas

@@ -1,4 +1,5 @@
 //! What holds of any hits, orders and rows: each function does nothing, and its contract is the law.
+ghost use Rattle.acap_moves.specs.Following.{FollowingLaw, PendingLaw};
 ghost use Rattle.acap_moves.specs.Moves.{MovesLaw, UndoLaw};
 ghost use Rattle.acap_moves.specs.Notices.{MixedLaw, NoticeListLaw};
 ghost use Rattle.acap_moves.specs.Examples.{MoveExamples};
@@ -22,6 +23,17 @@ pub fn moves_law<H>()
 /// Undoing moves from the last to the first gives the list that was.
 pub fn undo_law<H>()
     ensures { UndoLaw H }
+{}
+
+/// Over any list of changes and tellings, the notices that wait take the list last told to the present one, and the client holds the
+/// list last told.
+pub fn following_law<H>()
+    ensures { FollowingLaw H }
+{}
+
+/// The notices of two changes one after the other are both lists joined.
+pub fn pending_law<H>()
+    ensures { PendingLaw H }
 {}
 
 /// Notices of one change, computed from the definitions alone.

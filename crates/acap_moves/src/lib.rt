@@ -3,4 +3,6 @@
 
 mod laws;
 
-pub use laws::{mixed_law, move_examples, moves_law, notice_list_law, undo_law};
+pub use laws::{
+    following_law, mixed_law, move_examples, moves_law, notice_list_law, pending_law, undo_law,
+};
