@@ -2,5 +2,6 @@ pub mod Rows
 pub mod Places
 pub mod Client
 pub mod Holding
+pub mod Waiting
 pub mod Laws
 pub mod Examples

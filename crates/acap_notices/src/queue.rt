@@ -1,9 +1,15 @@
 //! The notices that wait for a client.
-ghost use Rattle.std.specs.Prelude.{◌≡◌, ◌↔◌, ◌≤◌, ◌==◌, [], ◌∷◌, ◌++◌, Err, OnOk, OnErr, IsTrue, length};
+ghost use Rattle.std.specs.Prelude.{◌≡◌, ◌↔◌, ◌≤◌, ◌+◌, ◌-◌, ◌==◌, [], ◌∷◌, ◌++◌, Err, OnOk, OnErr, IfOk, IsTrue, length};
+ghost use Rattle.std.specs.Cmp.{on_per, on_equiv};
+ghost use Rattle.std.specs.Cmp.Lexicographic.{pointwise, lists_per, lists_equiv};
+ghost use Rattle.acap_notices.specs.Waiting.{HasRoom};
+ghost use Rattle.acap_notices.specs.contracts.notice.NoticePartialEq.TheImpl as notice;
+ghost use Rattle.acap_notices.specs.contracts.notice.NoticePartialEq.TheImpl.Laws as partial;
+ghost use Rattle.acap_notices.specs.contracts.notice.NoticeEq.TheImpl.Laws as total;
 
 use crate::notice::Notice;
 use crate::queue_fault::QueueFault;
-use acap_entries::{Copying, Memory, Sequence};
+use acap_entries::{Memory, Sequence, copy_all};
 use std::alloc::Global;
 use std::marker::Model;
 
@@ -13,38 +19,38 @@ pub type Notices = Sequence<Notice>;
 /// How many notices of one context may wait.
 pub const MOST: usize = 4_096;
 
-/// The notices of one context that wait to be told, the oldest first (RFC 2244 section 3.3).
-#[derive(PartialEq, Eq, Drop)]
+/// The notices of one context that wait to be told, the oldest first, and for how many more there is memory (RFC 2244 section 3.3).
+#[derive(Drop)]
 pub struct Queue {
-    notices: Notices,
+    notices: Vec<Notice>,
 }
 
 impl Model for Queue {
-    ghost use Rattle.std.specs.Prelude.{◌≤◌, List, length};
-    ghost use Rattle.acap_notices.specs.declared.notice.Notice.{Notice};
+    ghost use Rattle.std.specs.Prelude.{◌≤◌, ◌-◌, length, vec_len, vec_capacity};
+    ghost use Rattle.acap_notices.specs.Waiting.{Waiting, waiting_code};
 
-    ghost Value = { List Notice };
+    ghost Value = { Waiting };
 
-    ghost view = { λ q. q.notices };
+    ghost coded = { waiting_code };
 
-    ghost invariant = { λ q. length q.notices ≤ 4_096 };
+    ghost view = { λ q. record { notices = q.notices.items; room = vec_capacity q.notices - vec_len q.notices } };
 
-    ghost inverse = { λ notices. record { notices = notices } };
+    ghost invariant = { λ q. length q.notices.items ≤ 4_096 };
 }
 
 impl Queue {
     /// None waits. Takes no memory.
     pub fn new(alloc: Global) -> Queue
-        ensures { result ≡ [] }
+        ensures { result.notices ≡ [] }
     {
         Queue {
-            notices: Notices::new(alloc),
+            notices: Vec::new(alloc),
         }
     }
 
     /// How many wait: at most `MOST`.
     pub fn len(&self) -> usize
-        ensures count { result ≡ length self.now }
+        ensures count { result ≡ length self.now.notices }
         ensures most { result ≤ MOST }
     {
         self.notices.len()
@@ -52,51 +58,83 @@ impl Queue {
 
     /// Whether none waits.
     pub fn is_empty(&self) -> bool
-        ensures { result ≡ (length self.now == 0) }
+        ensures { result ≡ (length self.now.notices == 0) }
     {
         self.notices.is_empty()
     }
 
     /// The notices that wait, the oldest first.
     pub fn as_slice(&self) -> &[Notice]
-        ensures { result.now ≡ self.now }
+        ensures { result.now ≡ self.now.notices }
     {
         self.notices.as_slice()
     }
 
-    /// Puts a notice behind those that wait. `Full` exactly where `MOST` wait already. At a fault nothing has changed.
+    /// Makes room for so many more, or for as many as may wait. What waits stays, and room never shrinks, also where memory is refused.
+    pub fn reserve(&mut self, more: usize) -> Result<(), Memory>
+        ensures notices { self.new.notices ≡ self.old.notices }
+        ensures grows { self.old.room ≤ self.new.room }
+        ensures room { OnOk result (HasRoom more self.new) }
+    {
+        let free = MOST - self.notices.len();
+        self.notices.reserve(more.min(free))?;
+        Ok(())
+    }
+
+    /// Puts a notice behind those that wait. `Full` exactly where `MOST` wait already. Takes memory only where there is no room. At a fault
+    /// nothing has changed.
     pub fn add(&mut self, notice: Notice) -> Result<(), QueueFault>
-        ensures ok { OnOk result (self.new ≡ self.old ++ notice ∷ []) }
-        ensures full { (result ≡ Err QueueFault.Full) ↔ (length self.old ≡ MOST) }
-        ensures err { OnErr result (self.new ≡ self.old) }
+        ensures ok { OnOk result (self.new.notices ≡ self.old.notices ++ notice ∷ []) }
+        ensures room { self.old.room ≤ self.new.room + 1 }
+        ensures full { (result ≡ Err QueueFault.Full) ↔ (length self.old.notices ≡ MOST) }
+        ensures memory { result ≡ Err QueueFault.Memory → self.old.room ≡ 0 }
+        ensures err { OnErr result (self.new.notices ≡ self.old.notices) }
+        ensures kept { OnErr result (self.old.room ≤ self.new.room) }
     {
         if self.notices.len() == MOST {
             return Err(QueueFault::Full);
         }
-        self.notices.push(notice)?;
-        Ok(())
+        match self.notices.push(notice) {
+            Ok(()) => Ok(()),
+            Err(_) => Err(QueueFault::Memory),
+        }
     }
 
     /// Takes all out that wait, the oldest first. Takes no memory.
     pub fn take(&mut self) -> Notices
-        ensures taken { result ≡ self.old }
-        ensures left { self.new ≡ [] }
+        ensures taken { result ≡ self.old.notices }
+        ensures left { self.new.notices ≡ [] }
     {
-        let none = Notices::new(self.notices.allocator());
-        std::mem::replace(&mut self.notices, none)
+        let none = Vec::new(*self.notices.allocator());
+        Sequence::from_vec(std::mem::replace(&mut self.notices, none))
     }
 
-    /// Whether two of them are equal, as `==` says it. Takes no memory.
+    /// Whether the same notices wait in two of them, as `==` says it. Takes no memory.
     pub fn equals(&self, other: &Queue) -> bool
-        ensures { IsTrue result ↔ (self.now ≡ other.now) }
+        ensures { IsTrue result ↔ (self.now.notices ≡ other.now.notices) }
     {
         *self == *other
     }
-}
 
-impl Copying for Queue {
-    fn copy(&self) -> Result<Queue, Memory> {
-        let notices = self.notices.copy()?;
+    /// One in which the same notices wait. Fails only for want of memory.
+    pub fn copy(&self) -> Result<Queue, Memory>
+        ensures { IfOk result (λ made. made.notices ≡ self.now.notices) }
+    {
+        let notices = copy_all(&self.notices)?;
         Ok(Queue { notices })
     }
+}
+
+impl PartialEq for Queue {
+    ghost eq = { λ a b. pointwise notice.ghosts.eq a.notices b.notices };
+
+    ghost laws = { on_per (λ w. w.notices) (lists_per partial.laws-law) };
+
+    fn eq(&self, other: &Queue) -> bool {
+        self.notices.as_slice() == other.notices.as_slice()
+    }
+}
+
+impl Eq for Queue {
+    ghost laws = { on_equiv (λ w. w.notices) (lists_equiv total.laws-law) };
 }

@@ -1,0 +1,10 @@
+pub mod Putting
+pub mod Splits
+pub mod ListSteps
+pub mod MapSteps
+pub mod Law
+pub mod Mixed
+pub mod Domain
+pub mod Touched
+pub mod MoveLemmas
+pub mod FollowingLemmas

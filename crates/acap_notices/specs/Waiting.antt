@@ -1,0 +1,21 @@
+-- What a queue of notices stands for [RFC 2244 section 3.3].
+use Rattle.std.specs.Prelude.{ℕ, ◌-◌, ◌≤◌, min, List, length, refl}
+use Rattle.std.specs.Coded.{Coded, code_by, coded×, coded_list, coded_ℕ}
+use Rattle.acap_notices.specs.declared.notice.Notice.{Notice}
+use Rattle.acap_notices.specs.contracts.notice.Notice as notice
+
+-- the notices that wait, the oldest first, and for how many more there is memory
+pub record Waiting : Type 0 where
+  pub notices : List Notice
+  pub room : ℕ
+
+-- how many may wait
+abbrev pub most_waiting : ℕ
+most_waiting = 4_096
+
+-- there is room for so many more, or for as many as may still come
+pub record HasRoom (more : ℕ) (w : Waiting) : Type 0 where
+  pub room : min more (most_waiting - length w.notices) ≤ w.room
+
+abbrev pub waiting_code : Coded Waiting
+waiting_code = code_by (List Notice × ℕ) (coded× (coded_list notice.the_row.coded) coded_ℕ) (λ w. (w.notices, w.room)) (λ p. record { notices = p.0; room = p.1 }) (λ _. refl)
