@@ -17,79 +17,86 @@ fn judge(alloc: Global, text: &str) -> Result<Vec<u8>, AllocError> {
     }
 }
 
-// Whether the settings with one text in place of another are judged so.
-fn is_judged(alloc: Global, old: &str, new: &str, wanted: &str) -> bool {
-    match TEXT.replace(alloc, old, new) {
-        Ok(text) => judge(alloc, text.as_str()).is_ok_and(|key| key.as_slice()
-            == wanted.as_bytes()),
+// The settings with one text in place of another.
+fn changed(alloc: Global, old: &[u8], new: &[u8]) -> Result<String, AllocError> {
+    match (str::from_utf8(old), str::from_utf8(new)) {
+        (Ok(old), Ok(new)) => TEXT.replace(alloc, old, new),
+        _ => Err(AllocError),
+    }
+}
+
+// Whether they are judged so.
+fn is_judged(alloc: Global, old: &[u8], new: &[u8], wanted: &[u8]) -> bool {
+    match changed(alloc, old, new) {
+        Ok(text) => judge(alloc, text.as_str()).is_ok_and(|key| key.as_slice() == wanted),
         Err(_) => false,
     }
 }
 
 #[test]
 fn judges_keys(rt: HostRuntime) {
-    let rows = [
-        ("", "", "good"),
-        ("listen = \"127.0.0.1:6740\"\n", "", "listen"),
-        ("\"127.0.0.1:6740\"", "6740", "listen"),
-        ("host = \"localhost\"\n", "", "host"),
-        ("\"localhost\"", "[\"localhost\"]", "host"),
-        ("host", "listen", "no document"),
-        ("workers = 4\n", "", "workers"),
-        ("= 4", "= 0", "workers"),
-        ("= 4", "= 1", "good"),
-        ("= 4", "= 16", "good"),
-        ("= 4", "= 17", "workers"),
-        ("= 4", "= -1", "workers"),
-        ("= 4", "= 4.0", "workers"),
-        ("= 4", "= \"4\"", "workers"),
-        ("= 4", "= true", "workers"),
-        ("= 1000000", "= 0", "turns"),
-        ("= 1000000", "= 1000000000", "good"),
-        ("= 1000000", "= 1000000001", "turns"),
-        ("turns = 1000000\n", "", "turns"),
-        ("= 0", "= 1000000000", "good"),
-        ("= 0", "= 1000000001", "sessions"),
-        ("= 0", "= 1970-01-01", "sessions"),
-        ("sessions = 0\n", "", "sessions"),
-        ("administrators = [\"root\"]\n", "", "administrators"),
-        ("[\"root\"]", "[]", "good"),
-        ("[\"root\"]", "\"root\"", "administrators"),
-        ("[\"root\"]", "[\"root\", 1]", "administrators"),
-        ("[\"root\"]", "[\"anyone\"]", "administrators"),
-        ("[users]\njoe = \"secret\"\n", "", "users"),
-        ("joe = \"secret\"\n", "", "good"),
-        ("joe = \"secret\"", "\"j.o\" = \"\"", "good"),
-        ("joe = \"secret\"", "\"j/o\" = \"\"", "users"),
-        ("joe = \"secret\"", "joe = 1", "users"),
-        ("[users]\njoe =", "users =", "users"),
-        ("[users]", "start = \"commands\"\n[users]", "good"),
-        ("[users]", "start = 1\n[users]", "start"),
-        ("[\"root\"]", "[\"ann\"]\nstart = \"commands\"", "start"),
+    let rows: [(&[u8], &[u8], &[u8]); 46] = [
+        (b"", b"", b"good"),
+        (b"listen = \"127.0.0.1:6740\"\n", b"", b"listen"),
+        (b"\"127.0.0.1:6740\"", b"6740", b"listen"),
+        (b"host = \"localhost\"\n", b"", b"host"),
+        (b"\"localhost\"", b"[\"localhost\"]", b"host"),
+        (b"host", b"listen", b"no document"),
+        (b"workers = 4\n", b"", b"workers"),
+        (b"= 4", b"= 0", b"workers"),
+        (b"= 4", b"= 1", b"good"),
+        (b"= 4", b"= 16", b"good"),
+        (b"= 4", b"= 17", b"workers"),
+        (b"= 4", b"= -1", b"workers"),
+        (b"= 4", b"= 4.0", b"workers"),
+        (b"= 4", b"= \"4\"", b"workers"),
+        (b"= 4", b"= true", b"workers"),
+        (b"= 1000000", b"= 0", b"turns"),
+        (b"= 1000000", b"= 1000000000", b"good"),
+        (b"= 1000000", b"= 1000000001", b"turns"),
+        (b"turns = 1000000\n", b"", b"turns"),
+        (b"= 0", b"= 1000000000", b"good"),
+        (b"= 0", b"= 1000000001", b"sessions"),
+        (b"= 0", b"= 1970-01-01", b"sessions"),
+        (b"sessions = 0\n", b"", b"sessions"),
+        (b"administrators = [\"root\"]\n", b"", b"administrators"),
+        (b"[\"root\"]", b"[]", b"good"),
+        (b"[\"root\"]", b"\"root\"", b"administrators"),
+        (b"[\"root\"]", b"[\"root\", 1]", b"administrators"),
+        (b"[\"root\"]", b"[\"anyone\"]", b"administrators"),
+        (b"[users]\njoe = \"secret\"\n", b"", b"users"),
+        (b"joe = \"secret\"\n", b"", b"good"),
+        (b"joe = \"secret\"", b"\"j.o\" = \"\"", b"good"),
+        (b"joe = \"secret\"", b"\"j/o\" = \"\"", b"users"),
+        (b"joe = \"secret\"", b"joe = 1", b"users"),
+        (b"[users]\njoe =", b"users =", b"users"),
+        (b"[users]", b"start = \"commands\"\n[users]", b"good"),
+        (b"[users]", b"start = 1\n[users]", b"start"),
+        (b"[\"root\"]", b"[\"ann\"]\nstart = \"commands\"", b"start"),
         (
-            "[users]",
-            "[groups]\nstaff = [\"joe\", \"joe\"]\nnone = []\n[users]",
-            "good",
+            b"[users]",
+            b"[groups]\nstaff = [\"joe\", \"joe\"]\nnone = []\n[users]",
+            b"good",
         ),
-        ("[users]", "[groups]\nstaff = \"joe\"\n[users]", "groups"),
+        (b"[users]", b"[groups]\nstaff = \"joe\"\n[users]", b"groups"),
         (
-            "[users]",
-            "[groups]\n\"-staff\" = [\"joe\"]\n[users]",
-            "groups",
+            b"[users]",
+            b"[groups]\n\"-staff\" = [\"joe\"]\n[users]",
+            b"groups",
         ),
-        ("[users]", "[groups]\nstaff = [\"~\"]\n[users]", "groups"),
-        ("[users]", "groups = [\"joe\"]\n[users]", "groups"),
-        ("[users]", "color = 1\n[users]", "color"),
-        ("[users]", "shape = 1\ncolor = 1\n[users]", "color"),
+        (b"[users]", b"[groups]\nstaff = [\"~\"]\n[users]", b"groups"),
+        (b"[users]", b"groups = [\"joe\"]\n[users]", b"groups"),
+        (b"[users]", b"color = 1\n[users]", b"color"),
+        (b"[users]", b"shape = 1\ncolor = 1\n[users]", b"color"),
         (
-            "[users]",
-            "color = 1\n[groups]\nstaff = 1\n[users]",
-            "groups",
+            b"[users]",
+            b"color = 1\n[groups]\nstaff = 1\n[users]",
+            b"groups",
         ),
-        ("[users]", "users", "no document"),
+        (b"[users]", b"users", b"no document"),
     ];
     for (old, new, wanted) in rows {
-        assert!(rt; is_judged(rt.alloc(), old, new, wanted), "{old} {new}");
+        assert!(rt; is_judged(rt.alloc(), old, new, wanted), "{old:?} {new:?}");
     }
 }
 
