@@ -131,17 +131,28 @@ fn next_again(lexer: &mut Lexer) -> Result<Lexed, Memory> {
     }
 }
 
+/// Whether that is next: a line of so many tokens, or else a Plus, or else nothing.
+fn is_next(lexer: &mut Lexer, tokens: usize, plus: bool) -> bool {
+    let lexed = next_again(lexer);
+    match &lexed {
+        Ok(Lexed::Line(line)) => line.len() == tokens,
+        Ok(Lexed::Plus) => plus,
+        Ok(Lexed::More) => tokens == 0 && !plus,
+        _ => false,
+    }
+}
+
 // Whichever allocation is refused: asked again, the lexer goes on as if nothing had been.
 #[test]
 fn goes_on_after_a_refusal(rt: HostRuntime) {
     let mut lexer = Lexer::new(rt.alloc());
     let front = b"A1 STORE (\"/option/~/font\" \"option.value\" {5}\r\n";
     assert!(rt; push_again(&mut lexer, front) == Ok(47));
-    assert!(rt; matches!(next_again(&mut lexer), Ok(Lexed::Plus)));
-    assert!(rt; matches!(next_again(&mut lexer), Ok(Lexed::More)));
+    assert!(rt; is_next(&mut lexer, 0, true));
+    assert!(rt; is_next(&mut lexer, 0, false));
     assert!(rt; push_again(&mut lexer, b"hello)\r\n") == Ok(8));
-    assert!(rt; matches!(next_again(&mut lexer), Ok(Lexed::Line(line)) if line.len() == 7));
-    assert!(rt; matches!(next_again(&mut lexer), Ok(Lexed::More)));
+    assert!(rt; is_next(&mut lexer, 7, false));
+    assert!(rt; is_next(&mut lexer, 0, false));
 }
 
 // Whichever allocation is refused: the whole printed form is there, or nothing of it.

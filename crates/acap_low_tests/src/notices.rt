@@ -38,65 +38,85 @@ fn changed(alloc: Global, from: usize, to: usize, text: Text) -> Result<Notice, 
     Ok(Notice::Change { from, to, row })
 }
 
-// What a client holds of three entries once one has come, one has gone and one was changed.
-fn held(alloc: Global, enumerated: bool) -> Result<Sequence<Row>, HeldFault> {
-    let at = if enumerated {
-        [1, 3, 3, 1]
-    } else {
-        [0, 0, 0, 0]
-    };
+// A client that holds three entries.
+fn client(alloc: Global, enumerated: bool) -> Result<Held, Memory> {
     let given = rows(alloc, &[(b"b", b"2"), (b"d", b"4"), (b"f", b"6")])?;
-    if !is_each_once(given.as_slice()) {
-        return Err(HeldFault::Misfit);
+    if is_each_once(given.as_slice()) {
+        Ok(Held::start(given, enumerated))
+    } else {
+        Ok(Held::start(Sequence::new(alloc), enumerated))
     }
-    let mut held = Held::start(given, enumerated);
-    held.apply(&added(alloc, at[0], (b"a", b"1"))?)?;
-    held.apply(&removed(alloc, at[1], b"d")?)?;
-    held.apply(&changed(alloc, at[2], at[3], (b"f", b"9"))?)?;
-    let mut left = Sequence::new(alloc);
-    for row in held.rows() {
-        left.push(row.copy()?)?;
-    }
-    Ok(left)
 }
 
-// With positions the rows stand in order, without them in any.
-fn holds(alloc: Global) -> Result<bool, HeldFault> {
+// Whether a notice fits, and is applied.
+fn fits(held: &mut Held, notice: Notice) -> bool {
+    held.apply(&notice) == Ok(())
+}
+
+// One entry comes, one goes and one is changed, at these positions.
+fn change(alloc: Global, held: &mut Held, at: [usize; 4]) -> Result<bool, Memory> {
+    let comes = fits(held, added(alloc, at[0], (b"a", b"1"))?);
+    let goes = fits(held, removed(alloc, at[1], b"d")?);
+    let changes = fits(held, changed(alloc, at[2], at[3], (b"f", b"9"))?);
+    Ok(comes && goes && changes)
+}
+
+// With positions the rows stand in order then, without them in any.
+fn holds(alloc: Global, enumerated: bool, at: [usize; 4]) -> Result<bool, Memory> {
+    let mut held = client(alloc, enumerated)?;
+    let fits = change(alloc, &mut held, at)?;
     let wanted = rows(alloc, &[(b"f", b"9"), (b"a", b"1"), (b"b", b"2")])?;
-    let listed = held(alloc, true)?;
-    let mapped = held(alloc, false)?;
+    let in_order = !enumerated || wanted.as_slice() == held.rows();
     let has_all = wanted
         .as_slice()
         .iter()
-        .all(|row| mapped.as_slice().contains(row));
-    Ok(listed == wanted && has_all && mapped.len() == 3)
+        .all(|row| held.rows().contains(row));
+    Ok(fits && in_order && has_all && held.rows().len() == 3)
 }
 
 #[test]
 fn applies_notices(rt: HostRuntime) {
-    assert!(rt; holds(rt.alloc()) == Ok(true));
+    assert!(rt; holds(rt.alloc(), true, [1, 3, 3, 1]) == Ok(true));
+    assert!(rt; holds(rt.alloc(), false, [0, 0, 0, 0]) == Ok(true));
 }
 
-// As many may wait as may, and no more; they are taken as they came.
-fn fills_up(alloc: Global) -> Result<bool, QueueFault> {
-    let mut queue = Queue::new(alloc);
-    for position in 1..=MOST {
-        queue.add(removed(alloc, position, b"a")?)?;
+// As many wait as may.
+fn fill(alloc: Global, queue: &mut Queue) -> Result<bool, Memory> {
+    for position in 1..=4_096usize {
+        if queue.add(removed(alloc, position, b"a")?) != Ok(()) {
+            return Ok(false);
+        }
     }
-    let full = queue.add(removed(alloc, 1, b"a")?) == Err(QueueFault::Full);
-    let same = queue.equals(&queue.copy()?);
-    let taken = queue.take();
+    Ok(queue.len() == MOST)
+}
+
+// No more may wait.
+fn is_full(alloc: Global, queue: &mut Queue) -> Result<bool, Memory> {
+    Ok(queue.add(removed(alloc, 1, b"b")?) == Err(QueueFault::Full))
+}
+
+// The first that waits.
+fn is_first(alloc: Global, queue: &Queue) -> Result<bool, Memory> {
     let first = removed(alloc, 1, b"a")?;
-    let in_order = taken
-        .as_slice()
-        .first()
-        .is_some_and(|notice| notice.equals(&first));
-    Ok(full && same && in_order && taken.len() == 4_096 && queue.is_empty())
+    Ok(
+        queue
+            .as_slice()
+            .first()
+            .is_some_and(|notice| notice.equals(&first)),
+    )
+}
+
+// They are taken as they came, and none is left.
+fn takes_all(alloc: Global) -> Result<bool, Memory> {
+    let mut queue = Queue::new(alloc);
+    let filled = fill(alloc, &mut queue)? && is_full(alloc, &mut queue)?;
+    let in_order = is_first(alloc, &queue)? && queue.equals(&queue.copy()?);
+    Ok(filled && in_order && queue.take().len() == 4_096 && queue.is_empty())
 }
 
 #[test]
 fn waits_in_order(rt: HostRuntime) {
-    assert!(rt; fills_up(rt.alloc()) == Ok(true));
+    assert!(rt; takes_all(rt.alloc()) == Ok(true));
 }
 
 // Whether what is told of a context equals its copy, and nothing else.

@@ -5,7 +5,7 @@ use acap_entries::{
     Paths, Record, Tree, UserName, Value, Writes,
 };
 use acap_grammar::{
-    Key, Metadata, MetadataList, ReturnItem, ReturnName, Returns, SearchModifiers, SortItem,
+    Key, Metadata, MetadataList, ReturnItem, ReturnName, Returns, Rows, SearchModifiers, SortItem,
     SortItems, Test,
 };
 use acap_order::Comparator;
@@ -46,26 +46,55 @@ fn store(alloc: Global) -> Result<Tree, Memory> {
     Ok(tree)
 }
 
-// What joe searches for: all entries by `k`, whose value is told.
-fn query(alloc: Global, joe: &UserName) -> Result<Query, Memory> {
-    let attribute = Attribute::from_slice(alloc, b"k")?;
+// What a RETURN of the value of `k` asks for.
+fn returning(alloc: Global) -> Result<Returns, Memory> {
     let mut metadata = MetadataList::new(alloc);
     metadata.push(Metadata::Value)?;
-    let name = ReturnName::Named(attribute.copy()?);
+    let name = ReturnName::Named(Attribute::from_slice(alloc, b"k")?);
     let mut returns = Returns::new(alloc);
     returns.push(ReturnItem { name, metadata })?;
+    Ok(returns)
+}
+
+// A SORT by `k`.
+fn sorting(alloc: Global) -> Result<SortItems, Memory> {
     let mut sort = SortItems::new(alloc);
     if let Some(comparator) = Comparator::read(b"i;octet") {
+        let attribute = Attribute::from_slice(alloc, b"k")?;
         sort.push(SortItem {
             attribute,
             comparator,
         })?;
     }
+    Ok(sort)
+}
+
+fn user(alloc: Global) -> Result<UserName, Memory> {
+    UserName::from_slice(alloc, b"joe")
+}
+
+// What joe searches for: all entries by `k`, whose value is told.
+fn query(alloc: Global) -> Result<Query, Memory> {
     let mut modifiers = SearchModifiers::none();
-    modifiers.returns = Some(returns);
-    modifiers.sort = Some(sort);
+    modifiers.returns = Some(returning(alloc)?);
+    modifiers.sort = Some(sorting(alloc)?);
     let dataset = Dataset::from_slice(alloc, b"/").map_err(|_| Memory)?;
-    Ok(Asked::new(joe, &dataset, modifiers, Key::one(Test::All))?.query)
+    let asked = Asked::new(&user(alloc)?, &dataset, modifiers, Key::one(Test::All))?;
+    asked.query.copy()
+}
+
+// What is found, as joe sees it.
+fn found(alloc: Global, tree: &Tree, query: &Query) -> Result<Hits, SearchRefusal> {
+    let realm = Realm::new(Vec::new(alloc));
+    let joe = user(alloc)?;
+    fresh(alloc, tree, &realm, &joe, query)
+}
+
+// What is told of it.
+fn told(alloc: Global, tree: &Tree, query: &Query) -> Result<Rows, SearchRefusal> {
+    let realm = Realm::new(Vec::new(alloc));
+    let joe = user(alloc)?;
+    Ok(tell(alloc, tree, &realm, &joe, query, None)?.rows)
 }
 
 // Whether the first of some hits equals the first of others, and comes by that name.
@@ -78,17 +107,19 @@ fn has_first(hits: &Hits, others: &Hits, name: &[u8]) -> bool {
     }
 }
 
+// What is found and copied, and its rows, or the first of them.
+fn keeps_hits(alloc: Global, tree: &Tree, query: &Query) -> Result<bool, SearchRefusal> {
+    let hits = found(alloc, tree, query)?;
+    let copied = hits.copy()?;
+    let is_first = has_first(&hits, &copied, b"b") && hits.len() == 3;
+    Ok(is_first && first_rows(alloc, copied, 1)?.len() == 1)
+}
+
 fn finds_what_it_tells(alloc: Global) -> Result<bool, SearchRefusal> {
     let tree = store(alloc)?;
-    let realm = Realm::new(Vec::new(alloc));
-    let joe = UserName::from_slice(alloc, b"joe")?;
-    let query = query(alloc, &joe)?;
-    let hits = fresh(alloc, &tree, &realm, &joe, &query.copy()?)?;
-    let copied = hits.copy()?;
-    let told = tell(alloc, &tree, &realm, &joe, &query, None)?;
-    let is_first = has_first(&hits, &copied, b"b") && hits.len() == 3;
-    let rows = first_rows(alloc, hits, 3)?;
-    Ok(is_first && rows == told.rows && first_rows(alloc, copied, 1)?.len() == 1)
+    let query = query(alloc)?;
+    let rows = first_rows(alloc, found(alloc, &tree, &query)?, 3)?;
+    Ok(keeps_hits(alloc, &tree, &query)? && rows == told(alloc, &tree, &query)?)
 }
 
 #[test]
