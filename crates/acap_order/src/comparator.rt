@@ -1,3 +1,4 @@
+//! Comparators: how two strings are ordered, and when they are equal (RFC 2244 section 3.4).
 use crate::{casemap, numbers, octets};
 use std::cmp::Ordering;
 
