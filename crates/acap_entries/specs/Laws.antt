@@ -185,6 +185,10 @@ pub record NameExamples : Type 0 where
   pub tabbed : is_user_name (97 ∷ 9 ∷ []) ≡ false
   pub slashed_user : is_user_name (codes "a/b") ≡ false
   pub dotted_user : is_user_name (codes ".joe") ≡ false
+  pub grouped_user : is_user_name (codes "group:x") ≡ false
+  pub unnamed_group : is_user_name (codes "group:") ≡ false
+  pub group_itself : is_user_name (codes "group") ≡ true
+  pub upper_group : is_user_name (codes "Group:x") ≡ true
   pub context : is_context_name (codes "c 1") ≡ true
   pub empty_context : is_context_name [] ≡ false
   pub slashed_context : is_context_name (codes "/c") ≡ false

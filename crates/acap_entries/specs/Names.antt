@@ -1,7 +1,7 @@
 -- The names of datasets, entries, attributes, users and contexts, as lists of octets
 -- [RFC 2244 sections 3.1, 3.1.1, 3.3, 4.1; UTF-8 is that of RFC 3629].
-use Rattle.std.specs.Prelude.{ℕ, ◌+◌, ◌-◌, ◌==◌, Bool, true, false, not, ◌&&◌, nat_le, nat_lt, List, [], ◌∷◌, ◌++◌, length, take, drop, codes, slice_index, Option, Some, None, if◌then◌else◌}
-use Rattle.std.specs.List.{list_any, list_all, slice_split, suffix_len}
+use Rattle.std.specs.Prelude.{ℕ, ◌+◌, ◌-◌, ◌==◌, Bool, true, false, not, ◌&&◌, ◌||◌, nat_le, nat_lt, nat_eq, List, [], ◌∷◌, ◌++◌, length, take, drop, codes, slice_index, Option, Some, None, if◌then◌else◌}
+use Rattle.std.specs.List.{list_any, list_all, slice_split, suffix_len, starts_with}
 use Rattle.std.specs.Str.{is_utf8}
 use Rattle.acap_entries.specs.Orders.{octets_eq}
 
@@ -101,11 +101,22 @@ unfoldable pub is_attribute : List ℕ → Bool
 is_attribute text =
     is_sized 200 text && is_utf8 text && not (has nul text) && not (has star text) && not (has percent text)
 
--- the name of a user: a component of at most 64 octets, without SP and TAB, not beginning `-`, neither `anyone` nor `~`
+-- what stands before a group's name where an access list names its members
+abbrev pub group_prefix : List ℕ
+group_prefix = codes "group:"
+
+-- what stands for other than one user: `anyone`, `~`, and what begins as a group's identifier
+abbrev pub is_reserved : List ℕ → Bool
+is_reserved text = octets_eq text (codes "anyone") || octets_eq text (codes "~") || starts_with nat_eq text group_prefix
+
+-- the name of a user or a group: a component of at most 64 octets, without SP and TAB, not beginning `-`
+unfoldable pub is_identity : List ℕ → Bool
+is_identity text =
+    is_component text && nat_le (length text) 64 && not (has space text) && not (has tab text) && not (begins_with minus text)
+
+-- and not reserved
 unfoldable pub is_user_name : List ℕ → Bool
-is_user_name text =
-    is_component text && nat_le (length text) 64 && not (has space text) && not (has tab text)
-    && not (begins_with minus text) && not (octets_eq text (codes "anyone")) && not (octets_eq text (codes "~"))
+is_user_name text = is_identity text && not (is_reserved text)
 
 -- the name of a context: 1 to 255 octets of UTF-8, not beginning `/`
 unfoldable pub is_context_name : List ℕ → Bool

@@ -191,17 +191,28 @@ fn is_component_without_blanks(octets: &[u8]) -> bool
     }
 }
 
-/// Whether they are the name of a user: a component of at most 64 octets, without SP and TAB, not beginning `-`,
-/// and neither `anyone` nor `~`.
+// Whether they stand for other than one user.
+fn is_reserved(octets: &[u8]) -> bool
+    ensures { result ≡ name.is_reserved octets.now }
+{
+    octets == b"anyone".as_slice() || octets == b"~".as_slice() || octets.starts_with(b"group:")
+}
+
+// Whether they are a component of at most 64 octets, without SP and TAB, not beginning `-`.
+#[tactic(auto, unfolding(crate::specs::Names::is_identity))]
+fn is_identity(octets: &[u8]) -> bool
+    ensures { result ≡ name.is_identity octets.now }
+{
+    octets.len() <= 64 && !begins_with(octets, b'-') && is_component_without_blanks(octets)
+}
+
+/// Whether they are the name of a user: a component of at most 64 octets, without SP and TAB, not beginning `-` or
+/// `group:`, and neither `anyone` nor `~`.
 #[tactic(auto, unfolding(crate::specs::Names::is_user_name))]
 pub fn is_user_name(octets: &[u8]) -> bool
     ensures { result ≡ name.is_user_name octets.now }
 {
-    octets.len() <= 64
-        && !begins_with(octets, b'-')
-        && is_component_without_blanks(octets)
-        && octets != b"anyone".as_slice()
-        && octets != b"~".as_slice()
+    is_identity(octets) && !is_reserved(octets)
 }
 
 /// Whether they are the name of a context: 1 to 255 octets of UTF-8, not beginning `/`.

@@ -119,6 +119,21 @@ fn waits_in_order(rt: HostRuntime) {
     assert!(rt; takes_all(rt.alloc()) == Ok(true));
 }
 
+// Room is made, for no more than may wait, and what waits stays.
+fn makes_room(alloc: Global) -> Result<bool, Memory> {
+    let mut queue = Queue::new(alloc);
+    queue.reserve(2)?;
+    let added = queue.add(removed(alloc, 1, b"a")?) == Ok(());
+    queue.reserve(usize::MAX)?;
+    let first = is_first(alloc, &queue)?;
+    Ok(added && first && queue.len() == 1)
+}
+
+#[test]
+fn reserves(rt: HostRuntime) {
+    assert!(rt; makes_room(rt.alloc()) == Ok(true));
+}
+
 // Whether what is told of a context equals its copy, and nothing else.
 fn is_copied(told: &Told, other: &Told) -> Result<bool, Memory> {
     Ok(told.equals(&told.copy()?) && !told.equals(other))

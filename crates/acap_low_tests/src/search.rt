@@ -85,14 +85,14 @@ fn query(alloc: Global) -> Result<Query, Memory> {
 
 // What is found, as joe sees it.
 fn found(alloc: Global, tree: &Tree, query: &Query) -> Result<Hits, SearchRefusal> {
-    let realm = Realm::new(Vec::new(alloc));
+    let realm = Realm::new(Vec::new(alloc), Vec::new(alloc));
     let joe = user(alloc)?;
     fresh(alloc, tree, &realm, &joe, query)
 }
 
 // What is told of it.
 fn told(alloc: Global, tree: &Tree, query: &Query) -> Result<Rows, SearchRefusal> {
-    let realm = Realm::new(Vec::new(alloc));
+    let realm = Realm::new(Vec::new(alloc), Vec::new(alloc));
     let joe = user(alloc)?;
     Ok(tell(alloc, tree, &realm, &joe, query, None)?.rows)
 }

@@ -2,7 +2,7 @@
 use Rattle.std.proofs.Common.{refl}
 use Rattle.std.specs.Str.{is_utf8, chars}
 use Rattle.std.specs.Char.{encode_utf8}
-use Rattle.acap_entries.specs.Names.{components, is_component, is_user_name}
+use Rattle.acap_entries.specs.Names.{components, is_component, is_identity, is_user_name}
 use Rattle.acap_entries.specs.Homes.{is_home, for_user}
 use Rattle.acap_machine.specs.Examples.{FoundExamples, ServingExamples, SeatLaw}
 use Rattle.acap_machine.specs.Serving.{served}
@@ -21,7 +21,7 @@ found_examples = record {
 }
 
 pub serving_examples : ServingExamples
-unfolding served implicit_rights is_owner home_of is_administrator for_user is_home components is_component is_user_name is_utf8 chars encode_utf8
+unfolding served implicit_rights is_owner home_of is_administrator for_user is_home components is_component is_identity is_user_name is_utf8 chars encode_utf8
 serving_examples = record {
   noop = λ s realm user clock. refl;
   logout = λ s realm user clock. refl;

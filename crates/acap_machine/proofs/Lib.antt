@@ -1,3 +1,4 @@
+pub mod Completing
 pub mod Computing
 pub mod FoundLemmas
 pub mod RunLemmas

@@ -38,7 +38,7 @@ entered_keeps P m seat user None reply new p e =
     subst (λ (r : Reply × Machine). P r.0 r.1) same p
 entered_keeps P m seat user (Some other) reply new p e = cc
 
-by_keeps : (P : Reply → Machine → Type 0) (seated : Option Occupant) (does : List ℕ → Reply × Machine) (reply : Reply) (new : Machine) →
+pub by_keeps : (P : Reply → Machine → Type 0) (seated : Option Occupant) (does : List ℕ → Reply × Machine) (reply : Reply) (new : Machine) →
     ((user : List ℕ) → P (does user).0 (does user).1) → by_user seated does ≡ Ok (reply, new) → P reply new
 by_keeps P None does reply new p e = cc
 by_keeps P (Some occupant) does reply new p e =

@@ -110,10 +110,10 @@ pub record ServingExamples : Type 0 where
   pub contexts : (s : Store) (realm : Realm) (user : List ℕ) (clock : ℤ) →
       map (λ c. served s realm user c clock) unserved ≡ map (λ c. Says (said.Refused refusals.Unserved)) unserved
   -- the owner of a dataset always reads and administers it, and may be given the rest
-  pub owner : (s : Store) (clock : ℤ) → served s (record { administrators = [] }) joe (command.ListRights (whole (codes "/option/~/")) joe) clock
+  pub owner : (s : Store) (clock : ℤ) → served s (record { administrators = []; groups = [] }) joe (command.ListRights (whole (codes "/option/~/")) joe) clock
       ≡ Says (said.RightsList (codes "ra" ∷ codes "x" ∷ codes "w" ∷ codes "i" ∷ []))
   -- an administrator has all
-  pub administrator : (s : Store) (clock : ℤ) → served s (record { administrators = codes "root" ∷ [] }) joe (command.ListRights (whole home) (codes "root")) clock
+  pub administrator : (s : Store) (clock : ℤ) → served s (record { administrators = codes "root" ∷ []; groups = [] }) joe (command.ListRights (whole home) (codes "root")) clock
       ≡ Says (said.RightsList (codes "xrwia" ∷ []))
 
 -- ---- seats

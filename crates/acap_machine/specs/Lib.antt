@@ -1,3 +1,4 @@
+pub mod Completing
 pub mod Examples
 pub mod Laws
 pub mod Machine

@@ -1,5 +1,5 @@
 -- Whole runs of the machine: one step after another.
-use Rattle.std.specs.Prelude.{List, [], ◌∷◌, Result, Ok, Err}
+use Rattle.std.specs.Prelude.{◌≡◌, List, [], ◌∷◌, ◌++◌, Result, Ok, Err}
 use Rattle.acap_grammar.specs.declared.reply.Reply.{Reply}
 use Rattle.acap_machine.specs.Machine.{Machine}
 use Rattle.acap_machine.specs.Stepping.{step_of}
@@ -24,3 +24,11 @@ run_of m [] = ([], m)
 run_of m (step ∷ steps) =
     let rest = run_of (machine_after m (stepped_at m step)) steps in
     (outcome_of (stepped_at m step) ∷ rest.0, rest.1)
+
+-- a run ended before one of its steps: those before it were performed, and it and those behind it were not
+pub record HasStopped (steps : List Step) (old new : Machine) : Type 0 where
+  pub done : List Step
+  pub next : Step
+  pub behind : List Step
+  pub steps_are : steps ≡ done ++ next ∷ behind
+  pub made : new ≡ (run_of old done).1

@@ -1,4 +1,5 @@
 //! What follows from the definitions alone: each function does nothing, and its contract is the law.
+ghost use Rattle.acap_machine.specs.Completing.{CompletingLaw};
 ghost use Rattle.acap_machine.specs.Examples.{FoundExamples, ServingExamples, SeatLaw};
 ghost use Rattle.acap_machine.specs.Laws.{RefusedLaw, OthersLaw, ChangeLaw};
 
@@ -30,4 +31,9 @@ pub fn serving_examples()
 /// Who may enter, ask and leave, and that a fault changes nothing (RFC 2244 section 2).
 pub fn seat_law()
     ensures { SeatLaw }
+{}
+
+/// What the machine says to a command completes it: OK, NO or BAD, and no BYE (RFC 2244 section 6.2).
+pub fn completing_law()
+    ensures { CompletingLaw }
 {}

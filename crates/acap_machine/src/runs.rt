@@ -1,6 +1,6 @@
 //! Whole runs: steps one after the other.
 ghost use Rattle.std.specs.Prelude.{◌≡◌, IfOk, OnErr};
-ghost use Rattle.acap_machine.specs.Runs.{run_of, stepped_at, outcome_of, machine_after};
+ghost use Rattle.acap_machine.specs.Runs.{HasStopped, run_of, stepped_at, outcome_of, machine_after};
 
 use crate::fault::Fault;
 use crate::lists::{Outcomes, Steps};
@@ -24,14 +24,16 @@ fn outcome_at(state: &mut State, step: Step) -> Result<Result<Reply, Fault>, Mem
     }
 }
 
-/// Performs steps one after another and tells what each answered. It ends where memory is refused: the steps before
-/// that have been performed, and the others have not.
+/// Performs steps one after another and tells what each answered. It ends before a step for which memory is refused: the
+/// steps before that one have been performed, and it and those behind it have not.
 pub fn run(alloc: Global, state: &mut State, steps: Steps) -> Result<Outcomes, Memory>
-    ensures { IfOk result (λ outcomes. (outcomes, state.new.machine) ≡ run_of state.old.machine steps) }
+    ensures ok { IfOk result (λ outcomes. (outcomes, state.new.machine) ≡ run_of state.old.machine steps) }
+    ensures err { OnErr result (HasStopped steps state.old.machine state.new.machine) }
 {
-    let mut outcomes = Outcomes::new(alloc);
+    let mut outcomes = Vec::new(alloc);
     for step in steps.into_vec() {
-        outcomes.push(outcome_at(state, step)?)?;
+        outcomes.reserve(1)?;
+        outcomes.push(outcome_at(state, step)?).unwrap();
     }
-    Ok(outcomes)
+    Ok(Outcomes::from_vec(outcomes))
 }

@@ -5,9 +5,10 @@ use Rattle.std.proofs.lemmas.List.{drop_all}
 use Rattle.std.specs.Prelude.{◌||◌, codes, if◌then◌else◌}
 use Rattle.std.specs.List.{list_any}
 use Rattle.acap_entries.specs.Names.{is_user_name}
+use Rattle.acap_entries.specs.Orders.{octets_eq}
 use Rattle.acap_rights.specs.Pairs.{form_of, rights_in, pair_of, is_identifier}
 use Rattle.acap_rights.specs.Homes.{home_of, default_list}
-use Rattle.acap_rights.specs.Realms.{names}
+use Rattle.acap_rights.specs.Realms.{names, names_in_group}
 use Rattle.acap_rights.specs.Rights.{rights_by, union, no_rights, all_rights}
 use Rattle.acap_rights.specs.declared.realm.Realm.{Realm}
 use Rattle.acap_rights.specs.declared.rights.Rights.{Rights}
@@ -67,7 +68,7 @@ owner_list realm user name h =
 
 pub named_all : (realm : Realm) (user : List ℕ) → names realm user (codes "anyone") ≡ true
 unfolding names
-named_all realm user = or_all _
+named_all realm user = ap (λ b. b || names_in_group realm user (codes "anyone")) (or_all (octets_eq (codes "anyone") user))
 
 -- the list for all gives x and r
 pub open_list : (realm : Realm) (user : List ℕ) → rights_in realm user (form_of (record { identifier = codes "anyone"; letters = codes "xr" }) ∷ []) ≡ record { x = true; r = true; w = false; i = false; a = false }

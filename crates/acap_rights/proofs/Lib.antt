@@ -2,8 +2,10 @@ pub mod Cuts
 pub mod DecidingLemmas
 pub mod EditLemmas
 pub mod GrantLemmas
+pub mod GroupLemmas
 pub mod HomeLemmas
 pub mod ListLemmas
 pub mod PairLemmas
+pub mod RealmLemmas
 pub mod RightsLemmas
 pub mod SharingLemmas

@@ -1,12 +1,12 @@
 -- Pairs and the strings that they are.
 use Rattle.std.proofs.Common.{◌≡◌, ℕ, Bool, true, false, not, cond, List, [], ◌∷◌, ◌++◌, length, Option, Some, None, refl, sym, ap, subst, ◌∙◌}
-use Rattle.std.specs.Prelude.{◌&&◌, ◌||◌, nat_lt, codes, if◌then◌else◌}
+use Rattle.std.specs.Prelude.{◌&&◌, ◌||◌, nat_lt, nat_eq, codes, if◌then◌else◌}
 use Rattle.std.specs.Cmp.{first_so, second_so}
-use Rattle.std.specs.List.{slice_split, onto_first, list_any, list_all}
+use Rattle.std.specs.List.{slice_split, onto_first, list_any, list_all, starts_with}
 use Rattle.std.specs.Option.{is_some}
 use Rattle.std.proofs.Math.Bool.{and-false}
 use borrow.Author.Tests.{eqb-true}
-use Rattle.acap_entries.specs.Names.{tab, minus, has, begins_with, is_user_name, is_component}
+use Rattle.acap_entries.specs.Names.{tab, minus, has, begins_with, group_prefix, is_identity, is_user_name, is_component}
 use Rattle.acap_entries.specs.Orders.{octets_eq}
 use Rattle.acap_rights.proofs.HomeLemmas.{not_true}
 use Rattle.acap_rights.specs.Pairs.{Pair, form_of, is_tab, is_letter, is_identifier, pair_in, pair_of, IsPair}
@@ -146,13 +146,26 @@ unsigned [] h = refl
 unsigned (x ∷ xs) h = rw h refl
 
 pub user_unsigned : (name : List ℕ) → is_user_name name ≡ true → begins_with minus name ≡ false
-unfolding is_user_name
-user_unsigned name h = not_true _ (second_so _ _ (first_so _ _ (first_so _ _ h)))
+unfolding is_identity is_user_name
+user_unsigned name h = not_true _ (second_so _ _ (first_so _ _ h))
+
+neither : (a b : Bool) → (a || b) ≡ false → (a ≡ false) × (b ≡ false)
+neither true b h = cc
+neither false b h = (refl, h)
+
+-- neither is it `anyone`, nor a group's identifier
+pub user_someone : (name : List ℕ) → is_user_name name ≡ true → octets_eq name (codes "anyone") ≡ false
+unfolding is_identity is_user_name
+user_someone name h = (neither _ _ (neither _ _ (not_true _ (second_so _ _ h))).0).0
+
+pub user_ungrouped : (name : List ℕ) → is_user_name name ≡ true → starts_with nat_eq name group_prefix ≡ false
+unfolding is_identity is_user_name
+user_ungrouped name h = (neither _ _ (not_true _ (second_so _ _ h))).1
 
 pub user_identifier : (name : List ℕ) → is_user_name name ≡ true → is_identifier name ≡ true
-unfolding is_user_name is_identifier is_component
+unfolding is_identity is_user_name is_identifier is_component
 user_identifier name h =
-    let signed = first_so _ _ (first_so _ _ h) in
+    let signed = first_so _ _ h in
     let tabbed = first_so _ _ signed in
     let component = first_so _ _ (first_so _ _ (first_so _ _ tabbed)) in
     let some : nat_lt 0 (length name) ≡ true = first_so _ _ (first_so _ _ (first_so _ _ (first_so _ _ component))) in

@@ -7,21 +7,21 @@ use Rattle.std.proofs.lemmas.Bool.Decides.{nat_tests}
 use Rattle.std.specs.Cmp.Lexicographic.{bytes_decides}
 use Rattle.std.specs.List.{list_any, list_all}
 use Rattle.std.proofs.lemmas.List.Sorted.{list_any-IsPermutation}
-use Rattle.acap_entries.specs.Names.{tab, minus, slash, has, begins_with, components, is_user_name}
+use Rattle.acap_entries.specs.Names.{tab, minus, slash, has, begins_with, components, group_prefix, is_user_name}
 use Rattle.acap_entries.specs.Orders.{octets_eq}
 use Rattle.acap_entries.specs.Store.{Stored}
 use Rattle.acap_rights.specs.Deciding.{Target, dataset_in, deciding_list, implicit_rights, rights_of}
 use Rattle.acap_rights.specs.Homes.{home_of, is_owner, third_of}
 use Rattle.acap_rights.specs.Laws.{WhomLaw, NegativeLaw, OrderLaw, AdministratorLaw, OwnerLaw, string_of, common}
 use Rattle.acap_rights.specs.Pairs.{Pair, pair_of, says, gives, takes, given, taken, rights_in, is_identifier, is_letter}
-use Rattle.acap_rights.specs.Realms.{names, is_administrator}
+use Rattle.acap_rights.specs.Realms.{names, names_in_group, is_administrator}
 use Rattle.acap_rights.specs.Rights.{rights_by, no_rights, all_rights, less, union}
 use Rattle.acap_rights.specs.declared.realm.Realm.{Realm}
 use Rattle.acap_rights.specs.declared.rights.Rights.{Rights}
 use Rattle.acap_rights.proofs.GrantLemmas.{or_none, or_all, named_all}
 use Rattle.acap_rights.proofs.PairLemmas.{pair_of_form, user_unsigned, user_identifier}
 
-by_letter : (f g : ℕ → Bool) → ((letter : ℕ) → f letter ≡ g letter) → rights_by f ≡ rights_by g
+pub by_letter : (f g : ℕ → Bool) → ((letter : ℕ) → f letter ≡ g letter) → rights_by f ≡ rights_by g
 by_letter f g h = λ i. record { x = h 120 i; r = h 114 i; w = h 119 i; i = h 105 i; a = h 97 i }
 
 -- ---- the order of strings
@@ -45,7 +45,7 @@ blocked g test front back text = elim (test text) as (λ b. test text ≡ b → 
   | false ↦ λ h. elim (g && not (list_any test (front ++ text ∷ back))) as (λ b. (b && false) ≡ false) [ true ↦ refl | false ↦ refl ]
 ] refl
 
-taken_here : (realm : Realm) (user : List ℕ) (front back : List (List ℕ)) (text : List ℕ) → common (rights_in realm user (front ++ text ∷ back)) (taken realm user (text ∷ [])) ≡ no_rights
+pub taken_here : (realm : Realm) (user : List ℕ) (front back : List (List ℕ)) (text : List ℕ) → common (rights_in realm user (front ++ text ∷ back)) (taken realm user (text ∷ [])) ≡ no_rights
 unfolding rights_in
 taken_here realm user front back text =
     let all = front ++ text ∷ back in
@@ -141,7 +141,7 @@ owner_law = record {
 
 -- ---- whom pairs are about
 
-same_text : (text : List ℕ) → octets_eq text text ≡ true
+pub same_text : (text : List ℕ) → octets_eq text text ≡ true
 same_text text = (bytes_decides text text).1 refl
 
 other_text : (one two : List ℕ) → one ≢ two → octets_eq one two ≡ false
@@ -154,9 +154,28 @@ named_self : (realm : Realm) (user : List ℕ) → names realm user user ≡ tru
 unfolding names
 named_self realm user = rw (same_text user) refl
 
-named_other : (realm : Realm) (user identifier : List ℕ) → identifier ≢ user → identifier ≢ codes "anyone" → names realm user identifier ≡ false
+named_other : (realm : Realm) (user identifier : List ℕ) → identifier ≢ user → identifier ≢ codes "anyone" → names_in_group realm user identifier ≡ false → names realm user identifier ≡ false
 unfolding names
-named_other realm user identifier h k = rw (other_text identifier user h, other_text identifier (codes "anyone") k) refl
+named_other realm user identifier h k g = rw (other_text identifier user h, other_text identifier (codes "anyone") k, g) refl
+
+pub named_group : (realm : Realm) (user identifier : List ℕ) → names_in_group realm user identifier ≡ true → names realm user identifier ≡ true
+unfolding names
+named_group realm user identifier g = rw g (or_all _)
+
+-- the identifier of a group, without `-` and with it
+pub group_identifier : (name : List ℕ) → is_user_name name ≡ true → is_identifier (group_prefix ++ name) ≡ true
+unfolding is_identifier
+group_identifier name h =
+    let free : not (has tab name) ≡ true = second_so _ _ (user_identifier name h) in
+    let some : nat_lt 0 (length (group_prefix ++ name)) ≡ true = grind (arith, nat_tests) in
+    rw (some, free) refl
+
+pub group_signed : (name : List ℕ) → is_user_name name ≡ true → is_identifier (minus ∷ group_prefix ++ name) ≡ true
+unfolding is_identifier
+group_signed name h =
+    let free : not (has tab name) ≡ true = second_so _ _ (user_identifier name h) in
+    let some : nat_lt 0 (length (minus ∷ group_prefix ++ name)) ≡ true = grind (arith, nat_tests) in
+    rw (some, free) refl
 
 -- what a single string says of a letter
 one_says : (test : Pair → Bool) (identifier letters : List ℕ) → is_identifier identifier ≡ true → list_all is_letter letters ≡ true → (says test (string_of identifier letters) || false) ≡ test (record { identifier = identifier; letters = letters })
@@ -168,14 +187,14 @@ no_said : (test : Pair → Bool) (pair : Pair) (b : Bool) → test pair ≡ fals
 no_said test pair true h = rw h refl
 no_said test pair false h = refl
 
-none_says : (test : Pair → Bool) (identifier letters : List ℕ) → test (record { identifier = identifier; letters = letters }) ≡ false → (says test (string_of identifier letters) || false) ≡ false
+pub none_says : (test : Pair → Bool) (identifier letters : List ℕ) → test (record { identifier = identifier; letters = letters }) ≡ false → (says test (string_of identifier letters) || false) ≡ false
 none_says test identifier letters h = rw (pair_of_form identifier letters) (no_said test (record { identifier = identifier; letters = letters }) (is_identifier identifier && list_all is_letter letters) h)
 
 and_middle : (x y : Bool) → ((x && false) && y) ≡ false
 and_middle true y = refl
 and_middle false y = refl
 
-signed_identifier : (name : List ℕ) → is_user_name name ≡ true → is_identifier (minus ∷ name) ≡ true
+pub signed_identifier : (name : List ℕ) → is_user_name name ≡ true → is_identifier (minus ∷ name) ≡ true
 unfolding is_identifier
 signed_identifier [] h = let e = user_identifier [] h in cc
 signed_identifier (x ∷ name) h =
@@ -187,13 +206,13 @@ signed_identifier (x ∷ name) h =
 given_one : (realm : Realm) (user identifier letters : List ℕ) (by : ℕ → Bool) → is_identifier identifier ≡ true → list_all is_letter letters ≡ true → ((letter : ℕ) → gives realm user letter (record { identifier = identifier; letters = letters }) ≡ by letter) → given realm user (string_of identifier letters ∷ []) ≡ rights_by by
 given_one realm user identifier letters by h k each = by_letter (λ letter. list_any (says (gives realm user letter)) (string_of identifier letters ∷ [])) by (λ letter. one_says (gives realm user letter) identifier letters h k ∙ each letter)
 
-taken_one : (realm : Realm) (user identifier letters : List ℕ) (by : ℕ → Bool) → is_identifier identifier ≡ true → list_all is_letter letters ≡ true → ((letter : ℕ) → takes realm user letter (record { identifier = identifier; letters = letters }) ≡ by letter) → taken realm user (string_of identifier letters ∷ []) ≡ rights_by by
+pub taken_one : (realm : Realm) (user identifier letters : List ℕ) (by : ℕ → Bool) → is_identifier identifier ≡ true → list_all is_letter letters ≡ true → ((letter : ℕ) → takes realm user letter (record { identifier = identifier; letters = letters }) ≡ by letter) → taken realm user (string_of identifier letters ∷ []) ≡ rights_by by
 taken_one realm user identifier letters by h k each = by_letter (λ letter. list_any (says (takes realm user letter)) (string_of identifier letters ∷ [])) by (λ letter. one_says (takes realm user letter) identifier letters h k ∙ each letter)
 
-given_none : (realm : Realm) (user identifier letters : List ℕ) → ((letter : ℕ) → gives realm user letter (record { identifier = identifier; letters = letters }) ≡ false) → given realm user (string_of identifier letters ∷ []) ≡ no_rights
+pub given_none : (realm : Realm) (user identifier letters : List ℕ) → ((letter : ℕ) → gives realm user letter (record { identifier = identifier; letters = letters }) ≡ false) → given realm user (string_of identifier letters ∷ []) ≡ no_rights
 given_none realm user identifier letters each = by_letter (λ letter. list_any (says (gives realm user letter)) (string_of identifier letters ∷ [])) (λ letter. false) (λ letter. none_says (gives realm user letter) identifier letters (each letter))
 
-taken_none : (realm : Realm) (user identifier letters : List ℕ) → ((letter : ℕ) → takes realm user letter (record { identifier = identifier; letters = letters }) ≡ false) → taken realm user (string_of identifier letters ∷ []) ≡ no_rights
+pub taken_none : (realm : Realm) (user identifier letters : List ℕ) → ((letter : ℕ) → takes realm user letter (record { identifier = identifier; letters = letters }) ≡ false) → taken realm user (string_of identifier letters ∷ []) ≡ no_rights
 taken_none realm user identifier letters each = by_letter (λ letter. list_any (says (takes realm user letter)) (string_of identifier letters ∷ [])) (λ letter. false) (λ letter. none_says (takes realm user letter) identifier letters (each letter))
 
 all_identifier : is_identifier (codes "anyone") ≡ true
@@ -210,6 +229,8 @@ whom_law = record {
   shared = λ realm user letters k. given_one realm user (codes "anyone") letters (λ letter. has letter letters) all_identifier k (λ letter. rw (named_all realm user) refl);
   own_taken = λ realm user letters h k. taken_one realm user (minus ∷ user) letters (λ letter. has letter letters) (signed_identifier user h) k (λ letter. rw (named_self realm user) refl);
   shared_taken = λ realm user letters k. taken_one realm user (codes "-anyone") letters (λ letter. has letter letters) none_identifier k (λ letter. rw (named_all realm user) refl);
-  of_another = λ realm user identifier letters h k. given_none realm user identifier letters (λ letter. rw (named_other realm user identifier h k) (and_middle (not (begins_with minus identifier)) (has letter letters)));
-  taken_from_another = λ realm user identifier letters h k. taken_none realm user (minus ∷ identifier) letters (λ letter. rw (named_other realm user identifier h k) refl);
+  of_group = λ realm user name letters h g k. given_one realm user (group_prefix ++ name) letters (λ letter. has letter letters) (group_identifier name h) k (λ letter. rw (named_group realm user (group_prefix ++ name) g) refl);
+  of_group_taken = λ realm user name letters h g k. taken_one realm user (minus ∷ group_prefix ++ name) letters (λ letter. has letter letters) (group_signed name h) k (λ letter. rw (named_group realm user (group_prefix ++ name) g) refl);
+  of_another = λ realm user identifier letters h k g. given_none realm user identifier letters (λ letter. rw (named_other realm user identifier h k g) (and_middle (not (begins_with minus identifier)) (has letter letters)));
+  taken_from_another = λ realm user identifier letters h k g. taken_none realm user (minus ∷ identifier) letters (λ letter. rw (named_other realm user identifier h k g) refl);
 }

@@ -12,7 +12,7 @@ use Rattle.acap_rights.specs.declared.realm.Realm.{Realm}
 
 -- a realm with one administrator, and a user who is none
 abbrev pub realm : Realm
-realm = record { administrators = codes "root" ∷ [] }
+realm = record { administrators = codes "root" ∷ []; groups = [] }
 
 abbrev pub joe : List ℕ
 joe = codes "joe"
@@ -69,6 +69,40 @@ pub record RightsExamples : Type 0 where
   pub listed_owner : listed (implicit_rights realm joe (codes "/option/user/joe/")) ≡ codes "ra" ∷ codes "x" ∷ codes "w" ∷ codes "i" ∷ []
   pub listed_other : listed (implicit_rights realm (codes "b") (codes "/option/user/joe/")) ≡ [] ∷ codes "x" ∷ codes "r" ∷ codes "w" ∷ codes "i" ∷ codes "a" ∷ []
   pub listed_administrator : listed (implicit_rights realm (codes "root") (codes "/option/")) ≡ codes "xrwia" ∷ []
+
+-- groups: joe is in `staff` and, by the second of that name, twice, and in `ops`; ann is in `ops` alone
+abbrev pub grouped : Realm
+grouped = record {
+  administrators = codes "root" ∷ [];
+  groups = record { name = codes "staff"; members = joe ∷ [] } ∷ record { name = codes "ops"; members = codes "ann" ∷ joe ∷ [] }
+      ∷ record { name = codes "staff"; members = joe ∷ codes "bob" ∷ [] } ∷ record { name = codes "nobody"; members = [] } ∷ [];
+}
+
+abbrev pub implicit_letters : List ℕ → List ℕ → List ℕ
+implicit_letters identifier dataset = letters_of (implicit_rights grouped identifier dataset)
+
+abbrev pub to : List ℕ → List (List ℕ) → List ℕ
+to user acl = letters_of (rights_in grouped user acl)
+
+-- what lists give to who is in groups
+pub record GroupExamples : Type 0 where
+  pub member : to joe (row (codes "group:ops") (codes "rw") ∷ []) ≡ codes "rw"
+  pub second_of_a_name : to (codes "bob") (row (codes "group:staff") (codes "rw") ∷ []) ≡ codes "rw"
+  pub no_member : to (codes "bob") (row (codes "group:ops") (codes "rw") ∷ row (codes "-group:ops") (codes "r") ∷ []) ≡ []
+  pub no_group : to joe (row (codes "group:none") (codes "rw") ∷ []) ≡ []
+  pub empty_group : to joe (row (codes "group:nobody") (codes "rw") ∷ []) ≡ []
+  pub joined : to joe (row (codes "group:staff") (codes "r") ∷ row (codes "group:ops") (codes "w") ∷ row (codes "anyone") (codes "x") ∷ []) ≡ codes "xrw"
+  pub taken_by_another : to joe (row (codes "group:staff") (codes "rw") ∷ row (codes "-group:ops") (codes "w") ∷ []) ≡ codes "r"
+  pub taken_first : to joe (row (codes "-group:ops") (codes "w") ∷ row (codes "group:staff") (codes "rw") ∷ []) ≡ codes "r"
+  pub taken_from_own : to joe (row joe (codes "rw") ∷ row (codes "-group:staff") (codes "w") ∷ []) ≡ codes "r"
+  pub taken_from_one : to joe (row (codes "group:staff") (codes "rw") ∷ row (codes "-joe") (codes "w") ∷ []) ≡ codes "r"
+  pub group_alone : to joe (row (codes "staff") (codes "rw") ∷ row (codes "group:") (codes "rw") ∷ row (codes "Group:staff") (codes "rw") ∷ []) ≡ []
+  pub twice_grouped : to joe (row (codes "group:group:staff") (codes "rw") ∷ []) ≡ []
+  pub of_administrators : implicit_letters (codes "group:root") (codes "/option/site/") ≡ []
+  pub of_owners : implicit_letters (codes "group:joe") (codes "/option/user/joe/") ≡ []
+  pub of_homes : is_owner (codes "group:x") (codes "/option/user/group:x/") ≡ false
+  pub default_of_homes : default_list (codes "/option/user/group:x/") ≡ []
+  pub listed : listed (implicit_rights grouped (codes "group:staff") (codes "/option/user/joe/")) ≡ [] ∷ codes "x" ∷ codes "r" ∷ codes "w" ∷ codes "i" ∷ codes "a" ∷ []
 
 -- whose datasets are whose, and the default lists
 pub record HomeExamples : Type 0 where

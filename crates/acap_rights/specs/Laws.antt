@@ -4,7 +4,7 @@ use Rattle.std.specs.FinMap as map
 use Rattle.std.specs.List.{list_any, list_all}
 use Rattle.std.specs.List.Sorted.{IsPermutation}
 use Rattle.std.specs.Option.{is_some}
-use Rattle.acap_entries.specs.Names.{minus, has, components, is_user_name}
+use Rattle.acap_entries.specs.Names.{minus, has, components, group_prefix, is_user_name}
 use Rattle.acap_entries.specs.Store.{Stored}
 use Rattle.acap_entries.specs.declared.cell.Cell.{Cell}
 use Rattle.acap_entries.specs.declared.cell.Cell.TheVariants.{Nil, Single, Multi}
@@ -15,7 +15,7 @@ use Rattle.acap_rights.specs.Edits.{is_about, without, with_pair}
 use Rattle.acap_rights.specs.Homes.{home_of, is_owner, default_list}
 use Rattle.acap_rights.specs.Keeping.{target_of_list}
 use Rattle.acap_rights.specs.Pairs.{Pair, IsPair, form_of, pair_of, is_letter, is_acl, given, taken, rights_in}
-use Rattle.acap_rights.specs.Realms.{is_administrator}
+use Rattle.acap_rights.specs.Realms.{names_in_group, is_administrator}
 use Rattle.acap_rights.specs.Rights.{rights_by, no_rights, all_rights, less}
 use Rattle.acap_rights.specs.declared.realm.Realm.{Realm}
 use Rattle.acap_rights.specs.declared.rights.Rights.{Rights}
@@ -31,8 +31,8 @@ string_of identifier letters = form_of (record { identifier = identifier; letter
 abbrev pub rights_of_letters : List ℕ → Rights
 rights_of_letters letters = rights_by (λ letter. has letter letters)
 
--- whom the pairs are about: a user's own and those of `anyone` give their letters or, with `-`, take them away; those of others
--- do neither
+-- whom the pairs are about: a user's own, those of `anyone` and those of a group that has the user give their letters or, with `-`,
+-- take them away; those of others do neither
 pub record WhomLaw : Type 0 where
   pub own : (realm : Realm) (user letters : List ℕ) → is_user_name user ≡ true → list_all is_letter letters ≡ true
       → given realm user (string_of user letters ∷ []) ≡ rights_of_letters letters
@@ -42,9 +42,13 @@ pub record WhomLaw : Type 0 where
       → taken realm user (string_of (minus ∷ user) letters ∷ []) ≡ rights_of_letters letters
   pub shared_taken : (realm : Realm) (user letters : List ℕ) → list_all is_letter letters ≡ true
       → taken realm user (string_of (codes "-anyone") letters ∷ []) ≡ rights_of_letters letters
-  pub of_another : (realm : Realm) (user identifier letters : List ℕ) → identifier ≢ user → identifier ≢ codes "anyone"
+  pub of_group : (realm : Realm) (user name letters : List ℕ) → is_user_name name ≡ true → names_in_group realm user (group_prefix ++ name) ≡ true
+      → list_all is_letter letters ≡ true → given realm user (string_of (group_prefix ++ name) letters ∷ []) ≡ rights_of_letters letters
+  pub of_group_taken : (realm : Realm) (user name letters : List ℕ) → is_user_name name ≡ true → names_in_group realm user (group_prefix ++ name) ≡ true
+      → list_all is_letter letters ≡ true → taken realm user (string_of (minus ∷ group_prefix ++ name) letters ∷ []) ≡ rights_of_letters letters
+  pub of_another : (realm : Realm) (user identifier letters : List ℕ) → identifier ≢ user → identifier ≢ codes "anyone" → names_in_group realm user identifier ≡ false
       → given realm user (string_of identifier letters ∷ []) ≡ no_rights
-  pub taken_from_another : (realm : Realm) (user identifier letters : List ℕ) → identifier ≢ user → identifier ≢ codes "anyone"
+  pub taken_from_another : (realm : Realm) (user identifier letters : List ℕ) → identifier ≢ user → identifier ≢ codes "anyone" → names_in_group realm user identifier ≡ false
       → taken realm user (string_of (minus ∷ identifier) letters ∷ []) ≡ no_rights
 
 -- the rights that stand in both

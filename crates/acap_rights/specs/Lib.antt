@@ -1,6 +1,7 @@
 pub mod Deciding
 pub mod Edits
 pub mod Examples
+pub mod Groups
 pub mod Homes
 pub mod Keeping
 pub mod Laws

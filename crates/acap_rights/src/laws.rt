@@ -1,7 +1,8 @@
 //! What follows from the definitions alone: each function does nothing, and its contract is the law.
 ghost use Rattle.acap_rights.specs.Laws.{PairLaw, WhomLaw, NegativeLaw, OrderLaw, AdministratorLaw, OwnerLaw, DecidingLaw, KeepingLaw, EditLaw};
+ghost use Rattle.acap_rights.specs.Groups.{GroupLaw};
 ghost use Rattle.acap_rights.specs.Sharing.{SharedLaw};
-ghost use Rattle.acap_rights.specs.Examples.{PairExamples, RightsExamples, HomeExamples, EditExamples};
+ghost use Rattle.acap_rights.specs.Examples.{PairExamples, RightsExamples, GroupExamples, HomeExamples, EditExamples};
 
 /// What a string of a list says is the pair whose form it is, and nothing where it is no pair's form.
 pub fn pair_law()
@@ -11,6 +12,12 @@ pub fn pair_law()
 /// A user's own pairs and those of `anyone` give their letters or, with `-`, take them away; those of others do neither.
 pub fn whom_law()
     ensures { WhomLaw }
+{}
+
+/// A list over groups gives a user what it gives with each group's string written out for its members, and what a group's negative
+/// string takes from a member is not given by any other.
+pub fn group_law()
+    ensures { GroupLaw }
 {}
 
 /// What a string of the deciding list takes from a user is not given, whatever stands before and behind it, unless it is implicit.
@@ -62,6 +69,11 @@ pub fn pair_examples()
 /// What lists give, the implicit rights, and what is listed of them.
 pub fn rights_examples()
     ensures { RightsExamples }
+{}
+
+/// What lists give to who is in groups.
+pub fn group_examples()
+    ensures { GroupExamples }
 {}
 
 /// Whose datasets are whose, and the default lists.

@@ -8,6 +8,7 @@ mod cutting;
 mod deciding;
 mod forms;
 mod granting;
+mod group;
 mod homes;
 mod keeping;
 mod laws;
@@ -21,12 +22,13 @@ pub use acl::Acl;
 pub use acl_fault::AclFault;
 pub use deciding::decided_list;
 pub use granting::{implicit_rights, rights_of};
+pub use group::{Group, Groups};
 pub use homes::is_owner;
 pub use keeping::{list_attribute, object_of_list};
 pub use laws::{
-    administrator_law, deciding_law, edit_examples, edit_law, home_examples, keeping_law,
-    negative_law, order_law, owner_law, pair_examples, pair_law, rights_examples, shared_law,
-    whom_law,
+    administrator_law, deciding_law, edit_examples, edit_law, group_examples, group_law,
+    home_examples, keeping_law, negative_law, order_law, owner_law, pair_examples, pair_law,
+    rights_examples, shared_law, whom_law,
 };
 pub use object::Object;
 pub use pairs::{is_acl, is_pair};

@@ -1,23 +1,30 @@
 //! Who is who.
-ghost use Rattle.std.specs.Prelude.{◌≡◌, ◌↔◌, IsTrue};
+ghost use Rattle.std.specs.Prelude.{◌≡◌, ◌↔◌, ◌&&◌, IsTrue};
+ghost use Rattle.std.specs.List.{list_any};
+ghost use Rattle.acap_entries.specs.Orders.{octets_eq};
 ghost use Rattle.acap_rights.specs.Realms as rule;
 
+use crate::group::{Group, Groups};
 use acap_entries::{Copying, Memory, Sequence, UserName};
 
-/// Who is who among the users: the administrators, who have all rights (RFC 2244 section 3.5).
+/// Who is who among the users: the administrators, who have all rights, and the groups that access lists may name
+/// (RFC 2244 section 3.5).
 #[derive(PartialEq, Eq, Drop)]
 pub struct Realm {
     /// The administrators.
     pub administrators: Sequence<UserName>,
+    /// The groups.
+    pub groups: Groups,
 }
 
 impl Realm {
-    /// The realm of these administrators. Takes no memory.
-    pub fn new(administrators: Vec<UserName>) -> Realm
-        ensures { result.administrators ≡ administrators.items }
+    /// The realm of these administrators and groups. Takes no memory.
+    pub fn new(administrators: Vec<UserName>, groups: Vec<Group>) -> Realm
+        ensures { result ≡ record { administrators = administrators.items; groups = groups.items } }
     {
         Realm {
             administrators: Sequence::from_vec(administrators),
+            groups: Sequence::from_vec(groups),
         }
     }
 
@@ -26,7 +33,27 @@ impl Realm {
     pub fn names(&self, user: &[u8], identifier: &[u8]) -> bool
         ensures { result ≡ rule.names self.now user.now identifier.now }
     {
-        identifier == user || identifier == b"anyone".as_slice()
+        identifier == user
+            || identifier == b"anyone".as_slice()
+            || self.names_in_group(user, identifier)
+    }
+
+    // Whether an identifier is that of a group that has the user.
+    fn names_in_group(&self, user: &[u8], identifier: &[u8]) -> bool
+        ensures { result ≡ rule.names_in_group self.now user.now identifier.now }
+    {
+        match identifier.strip_prefix(b"group:") {
+            Some(name) => self.has_in_group(user, name),
+            None => false,
+        }
+    }
+
+    // Whether a group of the name has the user.
+    fn has_in_group(&self, user: &[u8], name: &[u8]) -> bool
+        ensures { result ≡ list_any (λ group. octets_eq name.now group.name && rule.has_member user.now group) self.now.groups }
+    {
+        self.groups.as_slice().iter().any(|group| name == group.name.as_slice()
+            && group.has_member(user))
     }
 
     /// Whether the user is an administrator. Takes no memory.
@@ -51,6 +78,10 @@ impl Realm {
 impl Copying for Realm {
     fn copy(&self) -> Result<Realm, Memory> {
         let administrators = self.administrators.copy()?;
-        Ok(Realm { administrators })
+        let groups = self.groups.copy()?;
+        Ok(Realm {
+            administrators,
+            groups,
+        })
     }
 }

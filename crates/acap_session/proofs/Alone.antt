@@ -17,7 +17,7 @@ use Rattle.acap_session.proofs.Placing.{placed_there}
 
 -- ---- a place that is set
 
-placed_other : (xs : Places) (k j : ℕ) (p : Place) → j ≢ k → place_at (placed xs k p) j ≡ place_at xs j
+pub placed_other : (xs : Places) (k j : ℕ) (p : Place) → j ≢ k → place_at (placed xs k p) j ≡ place_at xs j
 placed_other [] zero zero p e = absurd (e refl)
 placed_other [] zero (suc j) p e = refl
 placed_other [] (suc k) zero p e = refl
@@ -40,7 +40,7 @@ some_spoken o refused s (next.Ask event, t) = refl
 some_spoken o refused s (next.Close octets, t) = refl
 
 -- by the session that is open, if one is
-abbrev did_by : Occasion → Bool → Deed → World → Option Place → World
+abbrev pub did_by : Occasion → Bool → Deed → World → Option Place → World
 did_by o refused (world.Open user) w now = opened_at w o refused user now
 did_by o refused (world.Piece octets) w now = at_open w o.seat (takes octets) now
 did_by o refused world.Turn w now = at_open w o.seat (λ s. (turn_of w.users o refused s).1) now

@@ -34,7 +34,7 @@ removed_at s seat x q order.Greater e f = get-insert nat_cmp_total s seat x q �
 same_seats : (s : Seated) (seat : ℕ) (x : Occupant) → get s seat ≡ None → table.remove (table.insert s seat x) seat ≡ s
 same_seats s seat x f = same_map nat_cmp_total nat_cmp-IsAntisymmetric _ _ (λ q. get-remove nat_cmp_total (table.insert s seat x) seat q ∙ removed_at s seat x q (nat_cmp q seat) refl f)
 
-seated : (s : Seated) (seat : ℕ) (x : Occupant) → get (table.insert s seat x) seat ≡ Some x
+pub seated : (s : Seated) (seat : ℕ) (x : Occupant) → get (table.insert s seat x) seat ≡ Some x
 seated s seat x = get-insert nat_cmp_total s seat x seat ∙ ap (λ b. cond b (Some x) (get s seat)) (unsigned_tied seat seat ∙ eq-eqb seat seat refl)
 
 abbrev entered_as : Machine → ℕ → List ℕ → Machine

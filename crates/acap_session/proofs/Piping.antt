@@ -19,6 +19,7 @@ use Rattle.acap_session.specs.declared.occasion.Occasion.{Occasion}
 use Rattle.acap_session.specs.declared.next.Next.TheVariants as next
 use Rattle.acap_session.specs.declared.turn.Turn.{Turn}
 use Rattle.acap_session.specs.declared.turn.Turn.TheVariants as turn
+use Rattle.acap_session.proofs.Sending.{appends_none, appends_then}
 use Rattle.acap_session.proofs.Turning.{still, goes_on, held_kept, over, closed_is_quiet, room_left}
 
 -- ---- turns, one after another
@@ -61,7 +62,7 @@ settled_closed users old mid new a k =
 
 -- ---- pieces, one after another
 
-fed_snoc : (users : List User) (a : List Fed) (x : Fed) (s : Scene) → fed_all users (a ++ x ∷ []) s ≡ fed users x (fed_all users a s)
+pub fed_snoc : (users : List User) (a : List Fed) (x : Fed) (s : Scene) → fed_all users (a ++ x ∷ []) s ≡ fed users x (fed_all users a s)
 fed_snoc users [] x s = refl
 fed_snoc users (y ∷ a) x s = fed_snoc users a x (fed users y s)
 
@@ -69,7 +70,7 @@ pub answered_snoc : (users : List User) (a : List Fed) (x : Fed) (s : Scene) →
 answered_snoc users [] x s h f q = (f, q, tt)
 answered_snoc users (y ∷ a) x s h f q = (h.0, h.1, answered_snoc users a x (fed users y s) h.2 f q)
 
-joined_snoc : (a : List Fed) (x : Fed) → joined (a ++ x ∷ []) ≡ joined a ++ x.0
+pub joined_snoc : (a : List Fed) (x : Fed) → joined (a ++ x ∷ []) ≡ joined a ++ x.0
 joined_snoc [] x = append-nil x.0
 joined_snoc (y ∷ a) x = ap (λ ys. y.0 ++ ys) (joined_snoc a x) ∙ sym (append_assoc y.0 (joined a) x.0)
 
@@ -150,25 +151,25 @@ turn_pre : (users : List User) (xs : List ℕ) (o : Occasion) (refused : Bool) (
 unfolding turn_of
 turn_pre users xs o refused s = let x = session_next users o.nonce o.clock s.talk in turn_pre_by xs o refused s x.0 x.1
 
-turns_pre : (users : List User) (xs : List ℕ) (refused : List Bool) (s : Scene) → turns users refused (prefixed xs s) ≡ prefixed xs (turns users refused s)
+pub turns_pre : (users : List User) (xs : List ℕ) (refused : List Bool) (s : Scene) → turns users refused (prefixed xs s) ≡ prefixed xs (turns users refused s)
 turns_pre users xs [] s = refl
 turns_pre users xs (r ∷ refused) s = ap (λ (k : Turn × Scene). turns users refused k.1) (turn_pre users xs always r s) ∙ turns_pre users xs refused (turn_of users always r s).1
 
 fed_pre : (users : List User) (xs : List ℕ) (x : Fed) (s : Scene) → fed users x (prefixed xs s) ≡ prefixed xs (fed users x s)
 fed_pre users xs x s = turns_pre users xs x.1 (hears x.0 s)
 
-all_pre : (users : List User) (xs : List ℕ) (a : List Fed) (s : Scene) → fed_all users a (prefixed xs s) ≡ prefixed xs (fed_all users a s)
+pub all_pre : (users : List User) (xs : List ℕ) (a : List Fed) (s : Scene) → fed_all users a (prefixed xs s) ≡ prefixed xs (fed_all users a s)
 all_pre users xs [] s = refl
 all_pre users xs (x ∷ a) s = ap (fed_all users a) (fed_pre users xs x s) ∙ all_pre users xs a (fed users x s)
 
-answered_pre : (users : List User) (xs : List ℕ) (a : List Fed) (s : Scene) → AreAnswered users a s → AreAnswered users a (prefixed xs s)
+pub answered_pre : (users : List User) (xs : List ℕ) (a : List Fed) (s : Scene) → AreAnswered users a s → AreAnswered users a (prefixed xs s)
 answered_pre users xs [] s h = tt
 answered_pre users xs (x ∷ a) s h =
     let same = sym (fed_pre users xs x s) in
     (h.0, subst (IsQuiet users) same h.1, subst (AreAnswered users a) same (answered_pre users xs a (fed users x s) h.2))
 
 -- a turn, and turns, behind what was said
-turn_behind : (users : List User) (o : Occasion) (xs : List ℕ) (old new : Scene) (came : Turn) → IsTurn users o old came new → IsTurn users o (prefixed xs old) came (prefixed xs new)
+pub turn_behind : (users : List User) (o : Occasion) (xs : List ℕ) (old new : Scene) (came : Turn) → IsTurn users o old came new → IsTurn users o (prefixed xs old) came (prefixed xs new)
 turn_behind users o xs old new came k = record { refused = k.refused; is = ap (pre xs) k.is ∙ sym (turn_pre users xs o k.refused old) }
 
 settled_behind : (users : List User) (xs : List ℕ) (old new : Scene) → IsSettled users old new → IsSettled users (prefixed xs old) (prefixed xs new)
@@ -176,20 +177,10 @@ settled_behind users xs old new k = record { refused = k.refused; is = ap (prefi
 
 -- ---- what is written, and what waits
 
-pub appends_then : (a b c : Option (List ℕ)) (x y : List ℕ) → Appends a b x → Appends b c y → Appends a c (x ++ y)
-appends_then None b c x y p q = tt
-appends_then (Some u) None c x y p q = absurd p
-appends_then (Some u) (Some v) None x y p q = absurd q
-appends_then (Some u) (Some v) (Some w) x y p q = q ∙ ap (λ (t : List ℕ). t ++ y) p ∙ append_assoc u x y
-
-appends_none : (w : Option (List ℕ)) → Appends w w []
-appends_none None = tt
-appends_none (Some u) = sym (append-nil u)
-
 pub out_none : (w : Option (List ℕ)) (waits : List ℕ) (Holds : List ℕ → Type 0) → Holds waits → IsOut w w waits Holds
 out_none w waits Holds h = record { front = []; sent = appends_none w; is = h }
 
-out_then : (a b c : Option (List ℕ)) (mid waits : List ℕ) (P S Q : List ℕ → Type 0) → IsOut a b mid P → IsOut b c waits S → ((front said : List ℕ) → P (front ++ mid) → S said → Q (front ++ said)) → IsOut a c waits Q
+pub out_then : (a b c : Option (List ℕ)) (mid waits : List ℕ) (P S Q : List ℕ → Type 0) → IsOut a b mid P → IsOut b c waits S → ((front said : List ℕ) → P (front ++ mid) → S said → Q (front ++ said)) → IsOut a c waits Q
 out_then a b c mid waits P S Q p s k = record {
   front = p.front ++ s.front;
   sent = appends_then a b c p.front s.front p.sent s.sent;
@@ -235,15 +226,15 @@ fed_out users piece rest s new a b p all = record { front = p.front; sent = p.se
 
 -- ---- pieces behind pieces
 
-all_append : (users : List User) (a b : List Fed) (s : Scene) → fed_all users (a ++ b) s ≡ fed_all users b (fed_all users a s)
+pub all_append : (users : List User) (a b : List Fed) (s : Scene) → fed_all users (a ++ b) s ≡ fed_all users b (fed_all users a s)
 all_append users [] b s = refl
 all_append users (x ∷ a) b s = all_append users a b (fed users x s)
 
-answered_append : (users : List User) (a b : List Fed) (s : Scene) → AreAnswered users a s → AreAnswered users b (fed_all users a s) → AreAnswered users (a ++ b) s
+pub answered_append : (users : List User) (a b : List Fed) (s : Scene) → AreAnswered users a s → AreAnswered users b (fed_all users a s) → AreAnswered users (a ++ b) s
 answered_append users [] b s h k = k
 answered_append users (x ∷ a) b s h k = (h.0, h.1, answered_append users a b (fed users x s) h.2 k)
 
-joined_append : (a b : List Fed) → joined (a ++ b) ≡ joined a ++ joined b
+pub joined_append : (a b : List Fed) → joined (a ++ b) ≡ joined a ++ joined b
 joined_append [] b = refl
 joined_append (x ∷ a) b = ap (λ ys. x.0 ++ ys) (joined_append a b) ∙ sym (append_assoc x.0 (joined a) (joined b))
 
@@ -336,7 +327,7 @@ refused_closes : (user : List ℕ) → is_closed (turn_of [] always true (begins
 unfolding turn_of session_next opening answered
 refused_closes user = refl
 
-entered_by : (user : List ℕ) (came : Turn) (new : Scene) (refused : Bool) → (came, new) ≡ turn_of [] always refused (begins user) → is_closed new.talk.stage ≡ false → new ≡ entered user
+pub entered_by : (user : List ℕ) (came : Turn) (new : Scene) (refused : Bool) → (came, new) ≡ turn_of [] always refused (begins user) → is_closed new.talk.stage ≡ false → new ≡ entered user
 unfolding entered
 entered_by user came new true e o = absurd (let both : true ≡ false = sym (refused_closes user) ∙ ap (λ k. is_closed k.1.talk.stage) (sym e) ∙ o in cc)
 entered_by user came new false e o = ap (λ k. k.1) e

@@ -1,5 +1,5 @@
 -- Lines of a script, one after another, and what was written so far.
-use Rattle.std.proofs.Common.{◌≡◌, ℕ, ◌+◌, ◌<◌, ◌≤◌, Bool, true, false, ◌||◌, List, [], ◌∷◌, ◌++◌, length, take, drop, Option, Some, None, Result, Ok, Err, IsErr, IsErrAnd, refl, sym, ap, subst, ◌∙◌, append_assoc, arith, slice_index, length-drop, length-append}
+use Rattle.std.proofs.Common.{◌≡◌, inl, inr, ℕ, ◌+◌, ◌<◌, ◌≤◌, Bool, true, false, ◌||◌, List, [], ◌∷◌, ◌++◌, length, take, drop, Option, Some, None, Result, Ok, Err, IsErr, IsErrAnd, refl, sym, ap, subst, ◌∙◌, append_assoc, arith, slice_index, length-drop, length-append}
 use Rattle.std.specs.Io.KnownBytes.{Appends, Consumes, IsAtEnd, Keeps}
 use Rattle.std.specs.List.{list_any}
 use Rattle.std.specs.Option.{is_some}
@@ -7,15 +7,16 @@ use Rattle.std.proofs.lemmas.List.{append-nil, take-append-drop, drop_more}
 use Rattle.acap_session.specs.Places.{place_at}
 use Rattle.acap_session.specs.Script.{Acts, AreDone, IsDone, Speaks, begins, is_wrong, may, world_of}
 use Rattle.acap_session.specs.ScriptOutput.{Shows}
-use Rattle.acap_session.specs.ScriptRun.{is_feed, IsLine, AreLines, ended, HasLines, HasEnded, HasStopped, HasFailed, Runs, HasRunLine, RunsLine, RunsLast, HasRunLines, HasFailedIn, RunsLines}
+use Rattle.acap_session.specs.ScriptRun.{is_feed, IsLine, AreLines, ended, HasLines, HasBegun, HasEnded, HasStopped, HasFailed, Runs, ScriptReads, HasPartLines, HasRunLine, RunsLine, RunsLast, HasRunLines, HasFailedIn, RunsLines}
+use Rattle.acap_session.specs.Streams.{HasGiven, IfTold, SendsFront, Told}
 use Rattle.acap_session.specs.World.{World, open_at, output_taken, said_before}
 use Rattle.acap_session.specs.declared.script.Script.{Script}
 use Rattle.acap_session.specs.declared.script_fault.ScriptFault.{ScriptFault}
 use Rattle.acap_session.specs.declared.script_fault.ScriptFault.TheVariants as faults
 use Rattle.acap_session.specs.declared.seat_line.SeatLine.{SeatLine}
 use Rattle.acap_session.specs.declared.standing.Standing.TheVariants as standing
-use Rattle.acap_session.proofs.Piping.{appends_then}
 use Rattle.acap_session.proofs.ScriptOutput.{flat_snoc}
+use Rattle.acap_session.proofs.Sending.{all_front, appends_none, appends_then, front_then}
 
 -- ---- something is done at a seat
 
@@ -82,10 +83,6 @@ line_append : (a b : List ℕ) → IsLine a → IsLine b → IsLine (a ++ b)
 line_append [] b h k = k
 line_append (x ∷ a) b h k = let q = first_no (is_feed x) (list_any is_feed a) h in either (is_feed x) (list_any is_feed (a ++ b)) q.0 ∙ line_append a b q.1 k
 
-appends_none : (w : Option (List ℕ)) → Appends w w []
-appends_none None = tt
-appends_none (Some xs) = sym (append-nil xs)
-
 -- ---- the lines of a piece
 
 pub record IsRunning (text piece held rest : List ℕ) (number later : ℕ) (s t : Script) (old new : Option (List ℕ)) : Type 0 where
@@ -120,10 +117,27 @@ cut_there : (lines : List (List ℕ)) (text held rest front behind line : List �
 cut_there lines text held rest front behind line e f g =
     e ∙ ap (λ ys. ended lines ++ ys) (ap (λ ys. held ++ ys) f ∙ sym (append_assoc held front (10 ∷ behind)) ∙ ap (λ ys. ys ++ 10 ∷ behind) (sym g))
 
+ended_there : (lines : List (List ℕ)) (text held rest front behind line : List ℕ) → text ≡ ended lines ++ (held ++ rest) → rest ≡ front ++ 10 ∷ behind → line ≡ held ++ front → text ≡ ended (lines ++ line ∷ []) ++ behind
+ended_there lines text held rest front behind line e f g =
+    cut_there lines text held rest front behind line e f g ∙ ap (λ ys. ended lines ++ ys) (sym (append_assoc line (10 ∷ []) behind)) ∙ sym (append_assoc (ended lines) (line ++ 10 ∷ []) behind) ∙ ap (λ ys. ys ++ behind) (sym (flat_snoc (λ l. l ++ 10 ∷ []) lines line))
+
+-- memory was refused behind the lines that were done
+pub lines_cut : (text piece held rest : List ℕ) (number later : ℕ) (s t : Script) (old mid new : Option (List ℕ)) → IsRunning text piece held rest number later s t old mid → new ≡ mid → HasPartLines text s old new
+lines_cut text piece held rest number later s t old mid new a e = record {
+  lines = a.lines;
+  behind = held ++ rest;
+  is = a.is;
+  are_lines = a.are_lines;
+  said = a.said;
+  last = t;
+  done = a.done;
+  sent = subst (λ (w : Option (List ℕ)). SendsFront old w a.said) (sym e) (all_front old mid a.said a.sent);
+}
+
 line_run : (text piece held rest front behind line : List ℕ) (number later : ℕ) (s t u : Script) (old mid new : Option (List ℕ)) → IsRunning text piece held rest number later s t old mid → IsEnded rest front behind → line ≡ held ++ front → HasRunLine line t u mid new → IsRunning text piece [] behind number (later + 1) s u old new
 line_run text piece held rest front behind line number later s t u old mid new a h e k = record {
   lines = a.lines ++ line ∷ [];
-  is = cut_there a.lines text held rest front behind line a.is h.is e ∙ ap (λ ys. ended a.lines ++ ys) (sym (append_assoc line (10 ∷ []) behind)) ∙ sym (append_assoc (ended a.lines) (line ++ 10 ∷ []) behind) ∙ ap (λ ys. ys ++ behind) (sym (flat_snoc (λ l. l ++ 10 ∷ []) a.lines line));
+  is = ended_there a.lines text held rest front behind line a.is h.is e;
   are_lines = lines_append a.lines (line ∷ []) a.are_lines (subst (λ ys. IsLine ys) (sym e) (line_append held front a.held_is h.is_line), tt);
   held_is = refl;
   counted = omega (arith, a.counted, length-append a.lines (line ∷ []));
@@ -156,8 +170,17 @@ line_ran text piece held rest front behind line kept number later s t u old mid 
 line_fails : (text piece held rest front behind line kept : List ℕ) (number later more : ℕ) (s t u : Script) (old mid new : Option (List ℕ)) (fault : ScriptFault) → IsRunning text piece held rest number later s t old mid → IsEnded rest front behind → line ≡ held ++ front → RunsLine line (later + 1) t u mid new (Err fault) → RunsLines text kept number more s u old new (Err fault)
 line_fails text piece held rest front behind line kept number later more s t u old mid new (faults.Line n) a h e k = line_failed text piece held rest front behind line number later n s t old mid new a h e k
 line_fails text piece held rest front behind line kept number later more s t u old mid new faults.Read a h e k = absurd k
-line_fails text piece held rest front behind line kept number later more s t u old mid new faults.Write a h e k = tt
-line_fails text piece held rest front behind line kept number later more s t u old mid new faults.Memory a h e k = tt
+line_fails text piece held rest front behind line kept number later more s t u old mid new faults.Write a h e k = record {
+  lines = a.lines ++ line ∷ [];
+  behind = behind;
+  is = ended_there a.lines text held rest front behind line a.is h.is e;
+  are_lines = lines_append a.lines (line ∷ []) a.are_lines (subst (λ ys. IsLine ys) (sym e) (line_append held front a.held_is h.is_line), tt);
+  said = a.said ++ k.said;
+  last = k.last;
+  done = done_snoc a.lines line s t k.last a.said k.said a.done k.done;
+  sent = front_then old mid new a.said k.said a.sent k.sent;
+}
+line_fails text piece held rest front behind line kept number later more s t u old mid new faults.Memory a h e k = lines_cut text piece held rest number later s t old mid new a k
 
 pub lines_fail : (text piece held rest front behind line kept : List ℕ) (number later more : ℕ) (s t u : Script) (old mid new : Option (List ℕ)) (fault : ScriptFault) (result : Result (Unit {0}) ScriptFault) → IsErr result → IsErrAnd result (λ x. x ≡ fault) → IsRunning text piece held rest number later s t old mid → IsEnded rest front behind → line ≡ held ++ front → RunsLine line (later + 1) t u mid new (Err fault) → RunsLines text kept number more s u old new result
 lines_fail text piece held rest front behind line kept number later more s t u old mid new fault (Ok done) p q a h e k = absurd cc
@@ -249,11 +272,27 @@ piece_failed r0 r r1 w0 w w1 held piece number n s a c h = record {
   sent = appends_then w0 w w1 a.said h.said a.sent h.sent;
 }
 
+piece_cut : (r0 r r1 w0 w w1 : Option (List ℕ)) (held piece : List ℕ) (number : ℕ) (s : Script) → IsReading r0 r w0 w held number s → Consumes r r1 piece → HasPartLines (held ++ piece) s w w1 → HasBegun r0 r1 w0 w1
+piece_cut r0 r r1 w0 w w1 held piece number s a c h = record {
+  read = a.read ++ piece;
+  consumed = consumes_then r0 r r1 a.read piece a.consumed c;
+  lines = a.lines ++ h.lines;
+  behind = h.behind;
+  is = ap (λ ys. ys ++ piece) a.in_lines.is ∙ append_assoc (ended a.lines) held piece ∙ ap (λ ys. ended a.lines ++ ys) h.is ∙ sym (append_assoc (ended a.lines) (ended h.lines) h.behind) ∙ ap (λ ys. ys ++ h.behind) (sym (ended_append a.lines h.lines));
+  are_lines = lines_append a.lines h.lines a.in_lines.are_lines h.are_lines;
+  texts = a.lines ++ h.lines;
+  texts_are = inl refl;
+  written = a.said ++ h.said;
+  last = h.last;
+  done = done_append a.lines h.lines begins s h.last a.said h.said a.done h.done;
+  sent = front_then w0 w w1 a.said h.said a.sent h.sent;
+}
+
 run_fails : (r0 r r1 w0 w w1 : Option (List ℕ)) (held piece kept : List ℕ) (number later : ℕ) (s t : Script) (fault : ScriptFault) → IsReading r0 r w0 w held number s → Consumes r r1 piece → RunsLines (held ++ piece) kept number later s t w w1 (Err fault) → Runs r0 r1 w0 w1 (Err fault)
 run_fails r0 r r1 w0 w w1 held piece kept number later s t (faults.Line n) a c k = piece_failed r0 r r1 w0 w w1 held piece number n s a c k
 run_fails r0 r r1 w0 w w1 held piece kept number later s t faults.Read a c k = absurd k
-run_fails r0 r r1 w0 w w1 held piece kept number later s t faults.Write a c k = tt
-run_fails r0 r r1 w0 w w1 held piece kept number later s t faults.Memory a c k = tt
+run_fails r0 r r1 w0 w w1 held piece kept number later s t faults.Write a c k = piece_cut r0 r r1 w0 w w1 held piece number s a c k
+run_fails r0 r r1 w0 w w1 held piece kept number later s t faults.Memory a c k = piece_cut r0 r r1 w0 w w1 held piece number s a c k
 
 pub pieces_fail : (r0 r r1 w0 w w1 : Option (List ℕ)) (held piece kept : List ℕ) (number later : ℕ) (s t : Script) (fault : ScriptFault) (result : Result (Unit {0}) ScriptFault) → IsErr result → IsErrAnd result (λ x. x ≡ fault) → IsReading r0 r w0 w held number s → Consumes r r1 piece → RunsLines (held ++ piece) kept number later s t w w1 (Err fault) → Runs r0 r1 w0 w1 result
 pieces_fail r0 r r1 w0 w w1 held piece kept number later s t fault (Ok done) p q a c k = absurd cc
@@ -315,5 +354,70 @@ ended_at r0 r r1 w0 w w1 (x ∷ held) number s t (Err (faults.Line n)) a c end k
   sent = subst (λ (q : Option (List ℕ)). Appends w0 q a.said) (sym k.2) a.sent;
 }
 ended_at r0 r r1 w0 w w1 (x ∷ held) number s t (Err faults.Read) a c end k = absurd k
-ended_at r0 r r1 w0 w w1 (x ∷ held) number s t (Err faults.Write) a c end k = tt
-ended_at r0 r r1 w0 w w1 (x ∷ held) number s t (Err faults.Memory) a c end k = tt
+ended_at r0 r r1 w0 w w1 (x ∷ held) number s t (Err faults.Write) a c end k = record {
+  read = a.read;
+  consumed = all_read r0 r r1 a.read a.consumed c;
+  lines = a.lines;
+  behind = x ∷ held;
+  is = a.in_lines.is;
+  are_lines = a.in_lines.are_lines;
+  texts = a.lines ++ (x ∷ held) ∷ [];
+  texts_are = inr (end, a.in_lines.is_line, refl);
+  written = a.said ++ k.said;
+  last = k.last;
+  done = done_snoc a.lines (x ∷ held) begins s k.last a.said k.said a.done k.done;
+  sent = front_then w0 w w1 a.said k.said a.sent k.sent;
+}
+ended_at r0 r r1 w0 w w1 (x ∷ held) number s t (Err faults.Memory) a c end k = record {
+  read = a.read;
+  consumed = all_read r0 r r1 a.read a.consumed c;
+  lines = a.lines;
+  behind = x ∷ held;
+  is = a.in_lines.is;
+  are_lines = a.in_lines.are_lines;
+  texts = a.lines;
+  texts_are = inl refl;
+  written = a.said;
+  last = s;
+  done = a.done;
+  sent = subst (λ (q : Option (List ℕ)). SendsFront w0 q a.said) (sym k) (all_front w0 w a.said a.sent);
+}
+
+-- memory was refused before the first line
+unbegun : (r w : Option (List ℕ)) → HasBegun r r w w
+unbegun r w = record {
+  read = [];
+  consumed = consumes_none r;
+  lines = [];
+  behind = [];
+  is = refl;
+  are_lines = tt;
+  texts = [];
+  texts_are = inl refl;
+  written = [];
+  last = begins;
+  done = (refl, refl);
+  sent = all_front w w [] (appends_none w);
+}
+
+pub unbegun_runs : (r w : Option (List ℕ)) (result : Result (Unit {0}) ScriptFault) → IsErr result → IsErrAnd result (λ x. x ≡ faults.Memory) → Runs r r w w result
+unbegun_runs r w (Ok done) p q = absurd cc
+unbegun_runs r w (Err x) p q = subst (λ y. Runs r r w w (Err y)) (sym q) (unbegun r w)
+
+-- ---- how reading ends
+
+-- no line fails to read
+pub lines_read : (text rest : List ℕ) (number later : ℕ) (s t : Script) (old new : Option (List ℕ)) (fault : ScriptFault) (result : Result (Unit {0}) ScriptFault) (a b : Option Told) → IsErr result → IsErrAnd result (λ x. x ≡ fault) → RunsLines text rest number later s t old new (Err fault) → IfTold HasGiven a b → ScriptReads a b result
+lines_read text rest number later s t old new fault (Ok done) a b p q k g = g
+lines_read text rest number later s t old new faults.Read (Err x) a b p q k g = absurd k
+lines_read text rest number later s t old new (faults.Line n) (Err x) a b p q k g = subst (λ y. ScriptReads a b (Err y)) (sym q) g
+lines_read text rest number later s t old new faults.Write (Err x) a b p q k g = subst (λ y. ScriptReads a b (Err y)) (sym q) g
+lines_read text rest number later s t old new faults.Memory (Err x) a b p q k g = subst (λ y. ScriptReads a b (Err y)) (sym q) g
+
+pub last_read : (text : List ℕ) (number : ℕ) (s t : Script) (old new : Option (List ℕ)) (result : Result (Unit {0}) ScriptFault) (a b : Option Told) → RunsLast text number s t old new result → IfTold HasGiven a b → ScriptReads a b result
+last_read [] number s t old new result a b k g = subst (ScriptReads a b) (sym k.0) g
+last_read (x ∷ text) number s t old new (Ok done) a b k g = g
+last_read (x ∷ text) number s t old new (Err (faults.Line n)) a b k g = g
+last_read (x ∷ text) number s t old new (Err faults.Read) a b k g = absurd k
+last_read (x ∷ text) number s t old new (Err faults.Write) a b k g = g
+last_read (x ∷ text) number s t old new (Err faults.Memory) a b k g = g

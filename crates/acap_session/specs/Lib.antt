@@ -1,3 +1,4 @@
+pub mod Completing
 pub mod Examples
 pub mod Hearing
 pub mod Laws
@@ -9,8 +10,10 @@ pub mod Script
 pub mod ScriptLines
 pub mod ScriptOutput
 pub mod ScriptRun
+pub mod Seating
 pub mod Session
 pub mod Setup
+pub mod Streams
 pub mod Talking
 pub mod Turning
 pub mod World

@@ -7,6 +7,7 @@ use Rattle.acap_login.specs.Login.{User}
 use Rattle.acap_machine.specs.Machine.{Machine, new_machine}
 use Rattle.acap_rights.specs.declared.realm.Realm.{Realm}
 use Rattle.acap_session.specs.Session.{session_next, is_closed, is_hearing}
+use Rattle.acap_session.specs.Streams.{HasEndedReads, HasGiven, IfTold, SendsFront, Told}
 use Rattle.acap_session.specs.Talking.{Talking, begun}
 use Rattle.acap_session.specs.Turning.{Scene, scene, turn_of, IsTurn}
 use Rattle.acap_session.specs.declared.next.Next.TheVariants as next
@@ -17,7 +18,7 @@ use Rattle.acap_session.specs.declared.turn.Turn.{Turn}
 
 -- nobody is an administrator
 abbrev pub without_administrators : Realm
-without_administrators = record { administrators = [] }
+without_administrators = record { administrators = []; groups = [] }
 
 -- the one seat, at the start of 1970; nobody logs in, so that no nonce is told
 abbrev pub always : Occasion
@@ -96,12 +97,33 @@ HasRead user None left old new = Unit {0}
 HasRead user (Some input) None old new = ⊥
 HasRead user (Some input) (Some left) old new = (read : List ℕ) × (written : List ℕ) × (input ≡ read ++ left) × IsWritten user read written × Appends old new written
 
--- by how it ended: nothing is said behind a fault of the writer or of memory
+-- The writer failed, or memory was refused: a front of what is to be written for a front of those octets that the
+-- reader no longer has was written.
+pub record HasPart (user input left : List ℕ) (old new : Option (List ℕ)) : Type 0 where
+  pub read : List ℕ
+  pub unread : List ℕ
+  pub input_is : input ≡ read ++ (unread ++ left)
+  pub written : List ℕ
+  pub made : IsWritten user read written
+  pub sent : SendsFront old new written
+
+abbrev pub HasStarted : List ℕ → Option (List ℕ) → Option (List ℕ) → Option (List ℕ) → Option (List ℕ) → Type 0
+HasStarted user None left old new = Unit {0}
+HasStarted user (Some input) None old new = ⊥
+HasStarted user (Some input) (Some left) old new = HasPart user input left old new
+
+-- by how it ended
 abbrev pub Pipes : List ℕ → Option (List ℕ) → Option (List ℕ) → Option (List ℕ) → Option (List ℕ) → Result (Unit {0}) PipeFault → Type 0
 Pipes user input left old new (Ok done) = HasEnded user input old new
 Pipes user input left old new (Err faults.Read) = HasRead user input left old new
-Pipes user input left old new (Err faults.Write) = ⊤
-Pipes user input left old new (Err faults.Memory) = ⊤
+Pipes user input left old new (Err faults.Write) = HasStarted user input left old new
+Pipes user input left old new (Err faults.Memory) = HasStarted user input left old new
+
+-- It answers that the reader failed only where it did, or where reads came to their bound, and where it did it answers
+-- nothing else.
+abbrev pub PipeReads : Option Told → Option Told → Result (Unit {0}) PipeFault → Type 0
+PipeReads old new (Err faults.Read) = IfTold HasEndedReads old new
+PipeReads old new other = IfTold HasGiven old new
 
 -- ---- words of the contracts of the loops
 
@@ -129,6 +151,22 @@ pub record IsFed (users : List User) (piece : List ℕ) (old new : Scene) : Type
   pub room : HasRoom new.talk
   pub all : is_closed new.talk.stage ≡ false → rest ≡ []
 
+-- a front of what is said when all turns are made that can be made
+pub record Says (users : List User) (old : Scene) (said : List ℕ) : Type 0 where
+  pub refused : List Bool
+  pub more : List ℕ
+  pub quiet : IsQuiet users (turns users refused old)
+  pub is : (turns users refused old).out ≡ said ++ more
+
+-- a front of what is said when parts of a piece were heard, as there was room
+pub record SaysTo (users : List User) (piece : List ℕ) (old : Scene) (said : List ℕ) : Type 0 where
+  pub parts : List Fed
+  pub rest : List ℕ
+  pub more : List ℕ
+  pub joined_is : piece ≡ joined parts ++ rest
+  pub answered : AreAnswered users parts old
+  pub is : (fed_all users parts old).out ≡ said ++ more
+
 -- What is said is written or waits to be. This holds of all of it, of which so much waits, where a front is written by now.
 pub record IsOut (old new : Option (List ℕ)) (waits : List ℕ) (Holds : List ℕ → Type 0) : Type 0 where
   pub front : List ℕ
@@ -146,6 +184,12 @@ pub record HasAnswered (users : List User) (piece : List ℕ) (old new : Option 
   pub said : List ℕ
   pub heard : IsFed users piece (scene m t []) (scene new_m new_t said)
   pub sent : Appends old new said
+
+-- or a front of that
+pub record HasPartlyAnswered (users : List User) (piece : List ℕ) (old new : Option (List ℕ)) (m : Machine) (t : Talking) : Type 0 where
+  pub front : List ℕ
+  pub said : SaysTo users piece (scene m t []) front
+  pub sent : Appends old new front
 
 -- a fault of the writer or of memory
 abbrev pub IsLater : PipeFault → Type 0

@@ -2,6 +2,7 @@
 use Rattle.std.specs.Prelude.{◌≡◌, ◌≢◌, ◌⊎◌, ℕ, pos, List, [], ◌∷◌, ◌++◌, drop, Bool, true, false, not, Option, Some, None, Result, Ok, Err, IsSome, codes}
 use Rattle.std.specs.Option.{is_some}
 use Rattle.acap_grammar.specs.Replies.{crlf}
+use Rattle.acap_rights.specs.declared.realm.Realm.{Realm}
 use Rattle.acap_session.specs.Places.{Place, place_at}
 use Rattle.acap_session.specs.ScriptLines.{line_of}
 use Rattle.acap_session.specs.ScriptOutput.{Shows}
@@ -95,11 +96,14 @@ Acts act.Leave o old new = new ≡ did (unasked o) false world.Leave old
 
 -- before its first line: nobody may log in, the clock shows the start of 1970
 abbrev pub begins : Script
-begins = record { standing = standing.Before (record { users = []; administrators = []; host = codes "localhost" }); clock = pos 0; nonce = 0 }
+begins = record { standing = standing.Before (record { users = []; administrators = []; groups = []; host = codes "localhost" }); clock = pos 0; nonce = 0 }
+
+abbrev pub realm_of : Setup → Realm
+realm_of s = record { administrators = s.administrators; groups = s.groups }
 
 -- the world, which is made of what was set for it where something is first done at a seat
 abbrev pub world_of : Standing → World
-world_of (standing.Before s) = new_world (record { administrators = s.administrators }) s.users s.host
+world_of (standing.Before s) = new_world (realm_of s) s.users s.host
 world_of (standing.Since w) = w
 
 abbrev pub is_before : Standing → Bool
@@ -116,6 +120,10 @@ with_user name secret s = record s { users = s.users ++ (name, secret) ∷ [] }
 abbrev pub with_administrator : List ℕ → Setup → Setup
 with_administrator name s = record s { administrators = s.administrators ++ name ∷ [] }
 
+-- groups of one name are one, so a member comes as a group of its own
+abbrev pub with_member : List ℕ → List ℕ → Setup → Setup
+with_member name member s = record s { groups = s.groups ++ record { name = name; members = member ∷ [] } ∷ [] }
+
 abbrev pub with_host : List ℕ → Setup → Setup
 with_host text s = record s { host = text }
 
@@ -124,6 +132,7 @@ abbrev pub fits : ScriptLine → Standing → Bool
 fits line.Pass s = true
 fits (line.User name secret) s = is_before s
 fits (line.Admin name) s = is_before s
+fits (line.Group name member) s = is_before s
 fits (line.Host text) s = is_before s
 fits (line.Clock moment) s = true
 fits (line.Nonce nonce) s = true
@@ -145,6 +154,7 @@ abbrev pub Does : ScriptLine → Script → List ℕ → Script → Type 0
 Does line.Pass old out new = (out ≡ []) × (new ≡ old)
 Does (line.User name secret) old out new = Sets (with_user name secret) old out new
 Does (line.Admin name) old out new = Sets (with_administrator name) old out new
+Does (line.Group name member) old out new = Sets (with_member name member) old out new
 Does (line.Host text) old out new = Sets (with_host text) old out new
 Does (line.Clock moment) old out new = (out ≡ []) × (new ≡ record old { clock = moment })
 Does (line.Nonce nonce) old out new = (out ≡ []) × (new ≡ record old { nonce = nonce })

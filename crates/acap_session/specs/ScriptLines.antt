@@ -79,6 +79,7 @@ abbrev pub word_of : List ℕ → Option ScriptWord
 word_of text =
     if octets_eq text (codes "user") then Some word.User
     else if octets_eq text (codes "admin") then Some word.Admin
+    else if octets_eq text (codes "group") then Some word.Group
     else if octets_eq text (codes "host") then Some word.Host
     else if octets_eq text (codes "clock") then Some word.Clock
     else if octets_eq text (codes "nonce") then Some word.Nonce
@@ -94,10 +95,13 @@ both made None b = None
 abbrev pub parted : (List ℕ → List ℕ → Option ScriptLine) → List ℕ → Option ScriptLine
 parted made text = option_and_then (λ parts. made parts.0 parts.1) (cut text)
 
--- `user NAME SECRET`, `enter K NAME`, `send K TEXT`, `raw K HEX`, `piece K HEX`, behind the word and its SP; what is the
+-- `user NAME SECRET`, `group NAME USER`, `enter K NAME`, `send K TEXT`, `raw K HEX`, `piece K HEX`, behind the word and its SP; what is the
 -- rest of a line may be empty
 abbrev pub user_line : List ℕ → Option ScriptLine
 user_line text = parted (λ name secret. both line.User (name_in name) (Some secret)) text
+
+abbrev pub group_line : List ℕ → Option ScriptLine
+group_line text = parted (λ name member. both line.Group (name_in name) (name_in member)) text
 
 abbrev pub enter_line : List ℕ → Option ScriptLine
 enter_line text = parted (λ seat name. both (λ k user. line.At k (act.Enter user)) (seat_in seat) (name_in name)) text
@@ -115,6 +119,7 @@ piece_line text = parted (λ seat digits. both (λ k octets. line.At k (act.Piec
 abbrev pub line_by : ScriptWord → List ℕ → Option ScriptLine
 line_by word.User rest = user_line rest
 line_by word.Admin rest = option_map line.Admin (name_in rest)
+line_by word.Group rest = group_line rest
 line_by word.Host rest = Some (line.Host rest)
 line_by word.Clock rest = option_map line.Clock (moment_in rest)
 line_by word.Nonce rest = option_map line.Nonce (nonce_in rest)

@@ -1,8 +1,9 @@
 -- What a script that is read writes, by how it ends.
-use Rattle.std.specs.Prelude.{◌≡◌, ℕ, ◌+◌, ◌==◌, Bool, true, false, List, [], ◌∷◌, ◌++◌, length, flat_map, Option, Result, Ok, Err, ⊤}
+use Rattle.std.specs.Prelude.{◌≡◌, ◌⊎◌, ℕ, ◌+◌, ◌==◌, Bool, true, false, List, [], ◌∷◌, ◌++◌, length, flat_map, Option, Result, Ok, Err}
 use Rattle.std.specs.Io.KnownBytes.{Appends, Consumes, IsAtEnd}
 use Rattle.std.specs.List.{list_any}
 use Rattle.acap_session.specs.Script.{AreDone, IsDone, begins, is_wrong}
+use Rattle.acap_session.specs.Streams.{HasEndedReads, HasGiven, IfTold, SendsFront, Told}
 use Rattle.acap_session.specs.declared.script.Script.{Script}
 use Rattle.acap_session.specs.declared.script_fault.ScriptFault.{ScriptFault}
 use Rattle.acap_session.specs.declared.script_fault.ScriptFault.TheVariants as faults
@@ -85,13 +86,35 @@ pub record HasFailed (number : ℕ) (unread left old new : Option (List ℕ)) : 
   pub is_wrong : is_wrong wrong last ≡ true
   pub sent : Appends old new written
 
--- by how it ended: nothing is said behind a fault of the writer or of memory
+-- the writer failed, or memory was refused: a front of the lines was done, the last one perhaps without an LF, and a front
+-- of what they say was written
+pub record HasBegun (unread left old new : Option (List ℕ)) : Type 0 where
+  pub read : List ℕ
+  pub consumed : Consumes unread left read
+  pub lines : List (List ℕ)
+  pub behind : List ℕ
+  pub is : read ≡ ended lines ++ behind
+  pub are_lines : AreLines lines
+  pub texts : List (List ℕ)
+  pub texts_are : (texts ≡ lines) ⊎ (IsAtEnd left × IsLine behind × (texts ≡ with_last lines behind))
+  pub written : List ℕ
+  pub last : Script
+  pub done : AreDone texts begins written last
+  pub sent : SendsFront old new written
+
+-- by how it ended
 abbrev pub Runs : Option (List ℕ) → Option (List ℕ) → Option (List ℕ) → Option (List ℕ) → Result (Unit {0}) ScriptFault → Type 0
 Runs unread left old new (Ok done) = HasEnded unread left old new
 Runs unread left old new (Err (faults.Line n)) = HasFailed n unread left old new
 Runs unread left old new (Err faults.Read) = HasStopped unread left old new
-Runs unread left old new (Err faults.Write) = ⊤
-Runs unread left old new (Err faults.Memory) = ⊤
+Runs unread left old new (Err faults.Write) = HasBegun unread left old new
+Runs unread left old new (Err faults.Memory) = HasBegun unread left old new
+
+-- It answers that the reader failed only where it did, or where reads came to their bound, and where it did it answers
+-- nothing else.
+abbrev pub ScriptReads : Option Told → Option Told → Result (Unit {0}) ScriptFault → Type 0
+ScriptReads old new (Err faults.Read) = IfTold HasEndedReads old new
+ScriptReads old new other = IfTold HasGiven old new
 
 -- ---- words of the contracts of its parts
 
@@ -101,12 +124,19 @@ pub record HasRunLine (text : List ℕ) (s t : Script) (old new : Option (List �
   pub done : IsDone text s said t
   pub sent : Appends old new said
 
+-- or a front of it
+pub record HasPartLine (text : List ℕ) (s : Script) (old new : Option (List ℕ)) : Type 0 where
+  pub said : List ℕ
+  pub last : Script
+  pub done : IsDone text s said last
+  pub sent : SendsFront old new said
+
 abbrev pub RunsLine : List ℕ → ℕ → Script → Script → Option (List ℕ) → Option (List ℕ) → Result (Unit {0}) ScriptFault → Type 0
 RunsLine text number s t old new (Ok done) = HasRunLine text s t old new
 RunsLine text number s t old new (Err (faults.Line n)) = (n ≡ number) × (is_wrong text s ≡ true) × (new ≡ old)
 RunsLine text number s t old new (Err faults.Read) = ⊥
-RunsLine text number s t old new (Err faults.Write) = ⊤
-RunsLine text number s t old new (Err faults.Memory) = ⊤
+RunsLine text number s t old new (Err faults.Write) = HasPartLine text s old new
+RunsLine text number s t old new (Err faults.Memory) = new ≡ old
 
 -- what stands behind the last LF was done, if there is anything
 abbrev pub RunsLast : List ℕ → ℕ → Script → Script → Option (List ℕ) → Option (List ℕ) → Result (Unit {0}) ScriptFault → Type 0
@@ -137,9 +167,20 @@ pub record HasFailedIn (text : List ℕ) (number n : ℕ) (s : Script) (old new 
   pub is_wrong : is_wrong wrong last ≡ true
   pub sent : Appends old new said
 
+-- or some were done, and a front of what they say was written
+pub record HasPartLines (text : List ℕ) (s : Script) (old new : Option (List ℕ)) : Type 0 where
+  pub lines : List (List ℕ)
+  pub behind : List ℕ
+  pub is : text ≡ ended lines ++ behind
+  pub are_lines : AreLines lines
+  pub said : List ℕ
+  pub last : Script
+  pub done : AreDone lines s said last
+  pub sent : SendsFront old new said
+
 abbrev pub RunsLines : List ℕ → List ℕ → ℕ → ℕ → Script → Script → Option (List ℕ) → Option (List ℕ) → Result (Unit {0}) ScriptFault → Type 0
 RunsLines text rest number later s t old new (Ok done) = HasRunLines text rest number later s t old new
 RunsLines text rest number later s t old new (Err (faults.Line n)) = HasFailedIn text number n s old new
 RunsLines text rest number later s t old new (Err faults.Read) = ⊥
-RunsLines text rest number later s t old new (Err faults.Write) = ⊤
-RunsLines text rest number later s t old new (Err faults.Memory) = ⊤
+RunsLines text rest number later s t old new (Err faults.Write) = HasPartLines text s old new
+RunsLines text rest number later s t old new (Err faults.Memory) = HasPartLines text s old new

@@ -1,4 +1,6 @@
 //! What follows from the definitions alone: each function does nothing, and its contract is the law.
+ghost use Rattle.acap_session.specs.Completing.{CompletionExamples, CompletionForm, CompletionLaw};
+ghost use Rattle.acap_session.specs.Seating.{SeatingLaw};
 ghost use Rattle.acap_session.specs.Examples.{AnswerExamples, HearingExamples, LoginExamples, NextExamples};
 ghost use Rattle.acap_session.specs.PipeSteps.{PipeRuns};
 ghost use Rattle.acap_session.specs.Laws.{PiecesJoin, TurnsKeep, CuttingLaw, JoiningLaw, OthersStay, StepAlone, AloneLaw, RefusedTurns, WrittenLaw};
@@ -74,4 +76,26 @@ pub fn refused_turns()
 /// where none was (RFC 2244 section 2).
 pub fn written_law()
     ensures { WrittenLaw }
+{}
+
+/// A seat has an occupant exactly where its session has entered, so that the machine never answers a session that its
+/// seat is empty or taken (RFC 2244 section 2).
+pub fn seating_law()
+    ensures { SeatingLaw }
+{}
+
+/// Each command that a session hears has one completion, under its tag, in the order of the commands (RFC 2244 sections
+/// 2.2 and 6.2).
+pub fn completion_law()
+    ensures { CompletionLaw }
+{}
+
+/// Which commands are heard, and which replies complete one (RFC 2244 sections 2.2 and 6.2).
+pub fn completion_examples()
+    ensures { CompletionExamples }
+{}
+
+/// The last line of a reply that completes a command is `tag OK ..`, `tag NO ..` or `tag BAD ..` (RFC 2244 section 6.2).
+pub fn completion_form()
+    ensures { CompletionForm }
 {}

@@ -4,11 +4,13 @@
 mod answering;
 mod heard;
 mod hearing;
+mod input;
 pub mod laws;
 mod line_fault;
 mod logging;
 mod next;
 mod occasion;
+mod output;
 mod pipe;
 mod pipe_fault;
 mod place;
@@ -33,11 +35,12 @@ mod turns;
 mod world;
 mod world_fault;
 
+pub use input::{Input, ReadFailed};
 pub use next::Next;
-pub use pipe::run_pipe;
+pub use pipe::{run_pipe, run_pipe_from};
 pub use pipe_fault::PipeFault;
 pub use script_fault::ScriptFault;
-pub use script_run::run_script;
+pub use script_run::{run_script, run_script_from};
 pub use session::Session;
 pub use stage::Stage;
 pub use world::World;

@@ -1,14 +1,17 @@
 //! One session of a user between a reader and a writer.
 
-ghost use Rattle.std.specs.Prelude.{◌≡◌, [], false, IfErr, OnOk};
+ghost use Rattle.std.specs.Prelude.{◌≡◌, ◌++◌, List, [], false, IfErr, OnErr, OnOk};
 ghost use Rattle.std.specs.Io.KnownBytes.{Appends};
 ghost use Rattle.acap_session.specs.Piping as piping;
-ghost use Rattle.acap_session.specs.Piping.{Goes, HasAnswered, HasRoom, HasTurned, IsFed, IsLater, IsOut, IsSettled, Pipes, Serves};
+ghost use Rattle.acap_session.specs.Piping.{Goes, HasAnswered, HasPartlyAnswered, HasRoom, HasTurned, IsFed, IsLater, IsOut, IsSettled, PipeReads, Pipes, Says, SaysTo, Serves};
 ghost use Rattle.acap_session.specs.Session.{is_closed};
+ghost use Rattle.acap_session.specs.Streams.{SendsFront};
 ghost use Rattle.acap_session.specs.declared.pipe_fault.PipeFault.TheVariants as faults;
 ghost use Rattle.acap_session.specs.Turning.{scene};
 
+use crate::input::Input;
 use crate::occasion::Occasion;
+use crate::output::send_all;
 use crate::pipe_fault::PipeFault;
 use crate::session::Session;
 use crate::turn::Turn;
@@ -40,32 +43,33 @@ fn always() -> Occasion
     }
 }
 
-// A realm in which nobody is an administrator.
+// A realm in which nobody is an administrator, and there are no groups.
 fn without_administrators(alloc: Global) -> Realm
     ensures { result ≡ piping.without_administrators }
 {
-    Realm::new(Vec::new(alloc))
+    Realm::new(Vec::new(alloc), Vec::new(alloc))
 }
 
-// Writes all that is to be written, so that whoever waits for it has it.
+// Writes all that waits, so that whoever waits for it has it. Nothing waits then, also where that failed.
 fn send<W: Write>(writer: &mut W, out: &mut Vec<u8>) -> Result<(), PipeFault>
     ensures sent { OnOk result (Appends (W.contents writer.old) (W.contents writer.new) out.old.items) }
-    ensures empty { OnOk result (out.new.items ≡ []) }
+    ensures front { OnErr result (SendsFront (W.contents writer.old) (W.contents writer.new) out.old.items) }
+    ensures empty { out.new.items ≡ [] }
     ensures fault { IfErr result (λ fault. fault ≡ faults.Write) }
 {
-    let Ok(()) = writer.write_all(out) else {
-        return Err(PipeFault::Write);
-    };
-    let Ok(()) = writer.flush() else {
-        return Err(PipeFault::Write);
-    };
+    let sent = send_all(writer, out);
     out.clear();
-    Ok(())
+    match sent {
+        Ok(()) => Ok(()),
+        Err(_) => Err(PipeFault::Write),
+    }
 }
 
 // Writes what waits, where it is much.
 fn ease<W: Write>(writer: &mut W, out: &mut Vec<u8>) -> Result<(), PipeFault>
     ensures said { OnOk result (IsOut (W.contents writer.old) (W.contents writer.new) out.new.items (λ said. said ≡ out.old.items)) }
+    ensures front { OnErr result (SendsFront (W.contents writer.old) (W.contents writer.new) out.old.items) }
+    ensures empty { OnErr result (out.new.items ≡ []) }
     ensures fault { IfErr result (λ fault. fault ≡ faults.Write) }
 {
     if out.len() < MANY {
@@ -84,6 +88,7 @@ fn settle<W: Write>(
 ) -> Result<(), PipeFault>
     requires { Goes session.old }
     ensures ok { OnOk result (IsOut (W.contents writer.old) (W.contents writer.new) out.new.items (λ said. IsSettled users.now (scene state.old.machine session.old out.old.items) (scene state.new.machine session.new said))) }
+    ensures err { OnErr result (IsOut (W.contents writer.old) (W.contents writer.new) out.new.items (Says users.now (scene state.old.machine session.old out.old.items))) }
     ensures fault { IfErr result IsLater }
 {
     'turns: loop {
@@ -106,6 +111,7 @@ fn feed<W: Write>(
 ) -> Result<(), PipeFault>
     requires { HasRoom session.old }
     ensures ok { OnOk result (IsOut (W.contents writer.old) (W.contents writer.new) out.new.items (λ said. IsFed users.now piece.now (scene state.old.machine session.old out.old.items) (scene state.new.machine session.new said))) }
+    ensures err { OnErr result (IsOut (W.contents writer.old) (W.contents writer.new) out.new.items (SaysTo users.now piece.now (scene state.old.machine session.old out.old.items))) }
     ensures fault { IfErr result IsLater }
 {
     let mut rest = piece;
@@ -146,6 +152,7 @@ fn answer<W: Write>(
     requires room { HasRoom session.old }
     requires sent { out.old.items ≡ [] }
     ensures ok { OnOk result (HasAnswered users.now piece.now (W.contents writer.old) (W.contents writer.new) state.old.machine session.old state.new.machine session.new) }
+    ensures err { OnErr result (HasPartlyAnswered users.now piece.now (W.contents writer.old) (W.contents writer.new) state.old.machine session.old) }
     ensures empty { OnOk result (out.new.items ≡ []) }
     ensures fault { IfErr result IsLater }
 {
@@ -160,7 +167,7 @@ fn answer<W: Write>(
 }
 
 // Reads piece by piece, and writes what is said to each before the next is read.
-fn serve<R: Read, W: Write>(
+fn serve<R: Input, W: Write>(
     session: &mut Session,
     state: &mut State,
     users: &Users,
@@ -172,11 +179,12 @@ fn serve<R: Read, W: Write>(
     requires going { is_closed session.old.stage ≡ false }
     requires sent { out.old.items ≡ [] }
     requires nobody { users.now ≡ [] }
-    ensures { Serves (R.remaining reader.old) (R.remaining reader.new) (W.contents writer.old) (W.contents writer.new) state.old.machine session.old result }
+    ensures serves { Serves (R.remaining reader.old) (R.remaining reader.new) (W.contents writer.old) (W.contents writer.new) state.old.machine session.old result }
+    ensures reads { PipeReads (R.told reader.old) (R.told reader.new) result }
 {
     let mut buffer = [0u8; PIECE];
-    'reads: for _ in 0..READS {
-        let Ok(count) = reader.read(&mut buffer) else {
+    'reads: for time in 0..READS {
+        let Ok(count) = reader.read_front(&mut buffer) else {
             return Err(PipeFault::Read);
         };
         if count == 0 {
@@ -193,15 +201,17 @@ fn serve<R: Read, W: Write>(
 
 /// One session of a user between a reader and a writer, with a machine of its own whose clock always shows 0
 /// (RFC 2244 section 2). It writes what it says as soon as the octets for it have come, and ends at a close or at the
-/// end of what is read; a command that isn't whole then is dropped. Where the reader fails, what it gave before is
-/// answered. After a fault of the writer or of memory nothing is said of how much was written.
-pub fn run_pipe<R: Read, W: Write>(
+/// end of what is read; a command that isn't whole then is dropped. Where the reader fails, or has given 1,000,000,000
+/// times, what it gave before is answered. After a fault of the writer or of memory a front of what is to be written is
+/// written.
+pub fn run_pipe_from<R: Input, W: Write>(
     alloc: Global,
     reader: &mut R,
     writer: &mut W,
     user: UserName,
 ) -> Result<(), PipeFault>
-    ensures { Pipes user (R.remaining reader.old) (R.remaining reader.new) (W.contents writer.old) (W.contents writer.new) result }
+    ensures pipes { Pipes user (R.remaining reader.old) (R.remaining reader.new) (W.contents writer.old) (W.contents writer.new) result }
+    ensures reads { PipeReads (R.told reader.old) (R.told reader.new) result }
 {
     let host = Octets::from_slice(alloc, b"localhost")?;
     let users = Users::new(Vec::new(alloc));
@@ -211,4 +221,16 @@ pub fn run_pipe<R: Read, W: Write>(
     enter(&mut session, &mut state, &users, &mut out)?;
     send(writer, &mut out)?;
     serve(&mut session, &mut state, &users, reader, writer, &mut out)
+}
+
+/// The same over a reader of std, which doesn't tell of its failures.
+pub fn run_pipe<R: Read, W: Write>(
+    alloc: Global,
+    reader: &mut R,
+    writer: &mut W,
+    user: UserName,
+) -> Result<(), PipeFault>
+    ensures { Pipes user (R.remaining reader.old) (R.remaining reader.new) (W.contents writer.old) (W.contents writer.new) result }
+{
+    run_pipe_from(alloc, reader, writer, user)
 }

@@ -1,7 +1,7 @@
 //! What a line of a script does, and what it says.
 
 ghost use Rattle.std.specs.Prelude.{◌≡◌, true, Err, IfOk, is_some};
-ghost use Rattle.acap_session.specs.Script.{Does, Done, IsDone, Sets, Speaks, begins, fits, is_before, is_wrong, may, with_administrator, with_host, with_user, world_of};
+ghost use Rattle.acap_session.specs.Script.{Does, Done, IsDone, Sets, Speaks, begins, fits, is_before, is_wrong, may, with_administrator, with_host, with_member, with_user, world_of};
 ghost use Rattle.acap_session.specs.World.{open_at};
 ghost use Rattle.acap_session.specs.declared.line_fault.LineFault.TheVariants as faults;
 
@@ -74,6 +74,22 @@ fn add_administrator(
     Ok(Vec::new(alloc))
 }
 
+// One more is in a group.
+fn add_member(
+    alloc: Global,
+    script: &mut Script,
+    name: UserName,
+    member: UserName,
+) -> Result<Vec<u8>, LineFault>
+    ensures { Done (is_before script.old.standing) (λ out. Sets (with_member name member) script.old out.items script.new) result }
+{
+    let Standing::Before(setup) = &mut script.standing else {
+        return Err(LineFault::Wrong);
+    };
+    setup.add_member(alloc, name, member)?;
+    Ok(Vec::new(alloc))
+}
+
 // That is the name of the host.
 fn set_host(alloc: Global, script: &mut Script, text: Octets) -> Result<Vec<u8>, LineFault>
     ensures { Done (is_before script.old.standing) (λ out. Sets (with_host text) script.old out.items script.new) result }
@@ -115,6 +131,7 @@ fn do_line(alloc: Global, script: &mut Script, line: ScriptLine) -> Result<Vec<u
         ScriptLine::Pass => Ok(Vec::new(alloc)),
         ScriptLine::User(name, secret) => add_user(alloc, script, name, secret),
         ScriptLine::Admin(name) => add_administrator(alloc, script, name),
+        ScriptLine::Group(name, member) => add_member(alloc, script, name, member),
         ScriptLine::Host(text) => set_host(alloc, script, text),
         ScriptLine::Clock(moment) => {
             script.clock = moment;

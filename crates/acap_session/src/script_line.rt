@@ -12,6 +12,8 @@ pub(crate) enum ScriptLine {
     User(UserName, Octets),
     /// An administrator.
     Admin(UserName),
+    /// A group, and who is in it.
+    Group(UserName, UserName),
     /// The name of the host.
     Host(Octets),
     /// What the clock shows from here on.

@@ -74,6 +74,17 @@ fn user_line(alloc: Global, text: &[u8]) -> Result<ScriptLine, LineFault>
     Ok(ScriptLine::User(name, secret))
 }
 
+fn group_line(alloc: Global, text: &[u8]) -> Result<ScriptLine, LineFault>
+    ensures { Reads (rule.group_line text.now) result }
+{
+    let Some((name, member)) = cut(text) else {
+        return Err(LineFault::Wrong);
+    };
+    let name = name_in(alloc, name)?;
+    let member = name_in(alloc, member)?;
+    Ok(ScriptLine::Group(name, member))
+}
+
 fn clock_line(text: &[u8]) -> Result<ScriptLine, LineFault>
     ensures { Reads (option_map line.Clock (rule.moment_in text.now)) result }
 {
@@ -144,6 +155,8 @@ fn word_of(text: &[u8]) -> Option<ScriptWord>
         Some(ScriptWord::User)
     } else if text == b"admin".as_slice() {
         Some(ScriptWord::Admin)
+    } else if text == b"group".as_slice() {
+        Some(ScriptWord::Group)
     } else if text == b"host".as_slice() {
         Some(ScriptWord::Host)
     } else if text == b"clock".as_slice() {
@@ -187,6 +200,7 @@ fn line_by(alloc: Global, word: ScriptWord, rest: &[u8]) -> Result<ScriptLine, L
     match word {
         ScriptWord::User => user_line(alloc, rest),
         ScriptWord::Admin => Ok(ScriptLine::Admin(name_in(alloc, rest)?)),
+        ScriptWord::Group => group_line(alloc, rest),
         ScriptWord::Host => Ok(ScriptLine::Host(Octets::from_slice(alloc, rest)?)),
         ScriptWord::Clock => clock_line(rest),
         ScriptWord::Nonce => nonce_line(rest),

@@ -1,11 +1,14 @@
 //! A script between a reader and a writer.
 
 ghost use Rattle.std.specs.Io.KnownBytes.{Appends};
-ghost use Rattle.std.specs.Prelude.{◌≡◌, ◌++◌, ◌+◌, ◌^◌, ◌<◌, ◌≤◌, length, slice_index, take, IfErr, IfNone, IfSome, OnOk};
-ghost use Rattle.acap_session.specs.ScriptRun.{IsLine, Runs, RunsLast, RunsLine, RunsLines};
+ghost use Rattle.std.specs.Prelude.{◌≡◌, ◌++◌, ◌+◌, ◌^◌, ◌<◌, ◌≤◌, length, slice_index, take, IfErr, IfNone, IfSome, OnErr, OnOk};
+ghost use Rattle.acap_session.specs.ScriptRun.{IsLine, Runs, RunsLast, RunsLine, RunsLines, ScriptReads};
+ghost use Rattle.acap_session.specs.Streams.{SendsFront};
 ghost use Rattle.acap_session.specs.declared.script_fault.ScriptFault.TheVariants as faults;
 
+use crate::input::Input;
 use crate::line_fault::LineFault;
+use crate::output::send_all;
 use crate::script::Script;
 use crate::script_doing::{begin, do_text};
 use crate::script_fault::ScriptFault;
@@ -31,15 +34,13 @@ fn end_of(text: &[u8]) -> Option<usize>
 // Writes all that is to be written, so that whoever waits for it has it.
 fn send<W: Write>(writer: &mut W, out: &[u8]) -> Result<(), ScriptFault>
     ensures sent { OnOk result (Appends (W.contents writer.old) (W.contents writer.new) out.now) }
+    ensures front { OnErr result (SendsFront (W.contents writer.old) (W.contents writer.new) out.now) }
     ensures fault { IfErr result (λ fault. fault ≡ faults.Write) }
 {
-    let Ok(()) = writer.write_all(out) else {
-        return Err(ScriptFault::Write);
-    };
-    let Ok(()) = writer.flush() else {
-        return Err(ScriptFault::Write);
-    };
-    Ok(())
+    match send_all(writer, out) {
+        Ok(()) => Ok(()),
+        Err(_) => Err(ScriptFault::Write),
+    }
 }
 
 // Does the line with that number, and writes what it says.
@@ -108,21 +109,23 @@ fn run_last<W: Write>(
 }
 
 /// Runs the script that is read, over a world of its own, and writes what its sessions say: what a line says is written
-/// before the next line is read. Where the reader fails, the lines that had ended by then are done; where a line is wrong,
-/// those before it. After a fault of the writer or of memory nothing is said of how much was written.
-pub fn run_script<R: Read, W: Write>(
+/// before the next line is read. Where the reader fails, or has given 1,000,000,000 times, the lines that had ended by then
+/// are done; where a line is wrong, those before it. After a fault of the writer or of memory a front of the lines is done,
+/// and a front of what they say is written.
+pub fn run_script_from<R: Input, W: Write>(
     alloc: Global,
     reader: &mut R,
     writer: &mut W,
 ) -> Result<(), ScriptFault>
-    ensures { Runs (R.remaining reader.old) (R.remaining reader.new) (W.contents writer.old) (W.contents writer.new) result }
+    ensures runs { Runs (R.remaining reader.old) (R.remaining reader.new) (W.contents writer.old) (W.contents writer.new) result }
+    ensures reads { ScriptReads (R.told reader.old) (R.told reader.new) result }
 {
     let mut script = begin(alloc)?;
     let mut held = Vec::new(alloc);
     let mut number: u64 = 0;
     let mut buffer = [0u8; 4096];
     'reads: for time in 0..READS {
-        let Ok(count) = reader.read(&mut buffer) else {
+        let Ok(count) = reader.read_front(&mut buffer) else {
             return Err(ScriptFault::Read);
         };
         if count == 0 {
@@ -132,4 +135,15 @@ pub fn run_script<R: Read, W: Write>(
         run_lines(alloc, &mut script, &mut held, &mut number, piece, writer)?;
     }
     Err(ScriptFault::Read)
+}
+
+/// The same over a reader of std, which doesn't tell of its failures.
+pub fn run_script<R: Read, W: Write>(
+    alloc: Global,
+    reader: &mut R,
+    writer: &mut W,
+) -> Result<(), ScriptFault>
+    ensures { Runs (R.remaining reader.old) (R.remaining reader.new) (W.contents writer.old) (W.contents writer.new) result }
+{
+    run_script_from(alloc, reader, writer)
 }

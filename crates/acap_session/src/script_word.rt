@@ -7,6 +7,8 @@ pub(crate) enum ScriptWord {
     User,
     /// `admin`.
     Admin,
+    /// `group`.
+    Group,
     /// `host`.
     Host,
     /// `clock`.

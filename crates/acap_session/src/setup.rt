@@ -1,20 +1,22 @@
 //! What a script sets for its world.
 
 ghost use Rattle.std.specs.Prelude.{◌≡◌, ◌++◌, ◌∷◌, [], OnOk};
+ghost use Rattle.acap_session.specs.Script.{realm_of};
 ghost use Rattle.acap_session.specs.World.{new_world};
 
 use crate::world::World;
-use acap_entries::{Memory, Octets, UserName};
+use acap_entries::{Memory, Octets, Sequence, UserName};
 use acap_login::Users;
-use acap_rights::Realm;
+use acap_rights::{Group, Realm};
 use std::alloc::Global;
 use std::marker::Model;
 
-/// What a script sets for its world: who may log in, who has all rights, and the name of the host.
+/// What a script sets for its world: who may log in, who has all rights, who is in which group, and the name of the host.
 #[derive(Drop)]
 pub(crate) struct Setup {
     users: Vec<(UserName, Vec<u8>)>,
     administrators: Vec<UserName>,
+    groups: Vec<Group>,
     host: Octets,
 }
 
@@ -24,17 +26,18 @@ impl Model for Setup {
 
     ghost Value = { Seen };
 
-    ghost view = { λ s. record { users = map (λ entry. (entry.0, entry.1.items)) s.users.items; administrators = s.administrators.items; host = s.host } };
+    ghost view = { λ s. record { users = map (λ entry. (entry.0, entry.1.items)) s.users.items; administrators = s.administrators.items; groups = s.groups.items; host = s.host } };
 }
 
 impl Setup {
-    /// Nobody may log in, and nobody has all rights. Takes no memory.
+    /// Nobody may log in, nobody has all rights, and there are no groups. Takes no memory.
     pub(crate) fn new(alloc: Global, host: Octets) -> Setup
-        ensures { result ≡ record { users = []; administrators = []; host = host } }
+        ensures { result ≡ record { users = []; administrators = []; groups = []; host = host } }
     {
         Setup {
             users: Vec::new(alloc),
             administrators: Vec::new(alloc),
+            groups: Vec::new(alloc),
             host,
         }
     }
@@ -55,6 +58,21 @@ impl Setup {
         Ok(())
     }
 
+    /// One more is in a group.
+    pub(crate) fn add_member(
+        &mut self,
+        alloc: Global,
+        name: UserName,
+        member: UserName,
+    ) -> Result<(), Memory>
+        ensures { OnOk result (self.new ≡ record self.old { groups = self.old.groups ++ record { name = name; members = member ∷ [] } ∷ [] }) }
+    {
+        let mut members = Sequence::new(alloc);
+        members.push(member)?;
+        self.groups.push(Group { name, members })?;
+        Ok(())
+    }
+
     /// That is the name of the host. Takes no memory.
     pub(crate) fn set_host(&mut self, host: Octets)
         ensures { self.new ≡ record self.old { host = host } }
@@ -64,13 +82,19 @@ impl Setup {
 
     /// The world of what was set. Takes no memory.
     pub(crate) fn into_world(self, alloc: Global) -> World
-        ensures { result ≡ new_world (record { administrators = self.administrators }) self.users self.host }
+        ensures { result ≡ new_world (realm_of self) self.users self.host }
     {
         let Setup {
             users,
             administrators,
+            groups,
             host,
         } = self;
-        World::new(alloc, Realm::new(administrators), Users::new(users), host)
+        World::new(
+            alloc,
+            Realm::new(administrators, groups),
+            Users::new(users),
+            host,
+        )
     }
 }

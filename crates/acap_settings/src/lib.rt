@@ -3,11 +3,9 @@
 
 mod bad_key;
 mod fault;
-mod group;
 mod judging;
 mod settings;
 mod taking;
 
 pub use fault::SettingsFault;
-pub use group::{Group, Groups};
 pub use settings::Settings;

@@ -3,10 +3,10 @@ ghost use Rattle.std.specs.Prelude.{◌≡◌, ◌⊎◌, Some, None, IfOk, IfEr
 
 use crate::bad_key::bad_key;
 use crate::fault::SettingsFault;
-use crate::group::Groups;
 use crate::taking::{administrators_at, groups_at, number_at, start_at, text_at, users_at};
 use acap_entries::{Memory, Octets, Sequence, UserName};
 use acap_login::Users;
+use acap_rights::Groups;
 use std::alloc::Global;
 use toml::Table;
 

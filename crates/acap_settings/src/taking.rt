@@ -7,10 +7,10 @@ ghost use Rattle.acap_settings.specs.Members.{lent, member_at, seen};
 ghost use Rattle.toml.specs.Data.{string, integer};
 ghost use Rattle.toml.specs.View.{table_view, view};
 
-use crate::group::{Group, Groups};
 use crate::judging::value_at;
 use acap_entries::{Memory, Octets, Sequence, UserName};
 use acap_login::Users;
+use acap_rights::{Group, Groups};
 use std::alloc::Global;
 use toml::{Table, Value};
 

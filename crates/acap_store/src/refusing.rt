@@ -31,8 +31,7 @@ fn ascend(entries: &[StoreEntry]) -> bool
     true
 }
 
-// Whether two entries have one path. Where paths ascend none does; else each is sought by halving among those behind it,
-// from the last on.
+// Whether two entries have one path. Where paths ascend, none have. Else each is sought by halving among those before it.
 fn has_twice(alloc: Global, entries: &[StoreEntry]) -> Result<bool, Memory>
     ensures { IfOk result (λ found. found ≡ rule.has_twice entries.now) }
 {

@@ -118,7 +118,7 @@ fn first_wrong(alloc: Global, state: &mut State, lines: &[Line]) -> Option<&'sta
 
 // An empty machine without administrators.
 fn empty(alloc: Global) -> State {
-    State::new(alloc, Realm::new(Vec::new(alloc)))
+    State::new(alloc, Realm::new(Vec::new(alloc), Vec::new(alloc)))
 }
 
 // Two users, each with a `~` of their own, at clocks that differ.

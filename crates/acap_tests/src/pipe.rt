@@ -1,7 +1,7 @@
-//! Tests of sessions whose reader or writer fails, and of one where an allocation is refused.
+//! Tests of sessions whose reader or writer fails, also where the reader tells it, and of one where an allocation is refused.
 
 use acap_entries::{NameFault, UserName};
-use acap_session::{PipeFault, run_pipe};
+use acap_session::{Input, PipeFault, ReadFailed, run_pipe, run_pipe_from};
 use std::alloc::Global;
 use std::io::{self, Read, Write};
 
@@ -34,6 +34,36 @@ impl<'a> Read for Pieces<'a> {
         };
         self.first = 0;
         let count = size.min(self.left.len()).min(buf.len());
+        let (front, back) = self.left.split_at(count);
+        buf[..count].copy_from_slice(front);
+        self.left = back;
+        Ok(count)
+    }
+}
+
+/// A reader of octets in memory that tells how often it was asked and failed, and fails at one read.
+#[derive(Drop)]
+struct Counted<'a> {
+    left: &'a [u8],
+    fails_at: u64,
+    reads: u64,
+    failures: u64,
+}
+
+impl<'a> Input for Counted<'a> {
+    ghost use Rattle.std.specs.Prelude.{Some};
+
+    ghost remaining = { λ r. Some r.left.now };
+
+    ghost told = { λ r. Some (record { reads = r.reads; failures = r.failures }) };
+
+    fn read_front(&mut self, buf: &mut [u8]) -> Result<usize, ReadFailed> {
+        self.reads = self.reads.saturating_add(1);
+        if self.reads == self.fails_at {
+            self.failures = self.failures.saturating_add(1);
+            return Err(ReadFailed);
+        }
+        let count = self.left.len().min(buf.len());
         let (front, back) = self.left.split_at(count);
         buf[..count].copy_from_slice(front);
         self.left = back;
@@ -141,6 +171,28 @@ fn ends_where_a_writer_fails(rt: HostRuntime) {
         let (done, text) = session(alloc, pieces, writes);
         assert!(rt; done == Err(PipeFault::Write) || text == whole);
         assert!(rt; begins(whole.as_slice(), text.as_slice()));
+    }
+}
+
+#[test]
+fn tells_a_failed_read(rt: HostRuntime) {
+    let alloc = rt.alloc();
+    for fails_at in 1..4 {
+        let mut reader = Counted {
+            left: STORES,
+            fails_at,
+            reads: 0,
+            failures: 0,
+        };
+        let mut sink = Sink {
+            text: Vec::new(alloc),
+            writes: MANY,
+        };
+        if let Ok(user) = UserName::read(alloc, b"joe") {
+            let done = run_pipe_from(alloc, &mut reader, &mut sink, user);
+            assert!(rt; done == Err(PipeFault::Read) || reader.failures == 0);
+            assert!(rt; done == Ok(()) || reader.failures == 1);
+        }
     }
 }
 

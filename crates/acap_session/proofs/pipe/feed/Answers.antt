@@ -1,7 +1,9 @@
 use Rattle.std.proofs.Common.{◌≡◌, ◌-◌, sym, subst, ◌∙◌, arith, length, true, false}
 use Rattle.acap_lexer.specs.Holding.{held_limit}
+use Rattle.acap_session.specs.Piping.{IsOut, Says}
 use Rattle.acap_session.specs.Talking.{Talking}
 use Rattle.acap_session.specs.Turning.{scene}
+use Rattle.acap_session.proofs.PipeFronts.{on_err, part_cut}
 use Rattle.acap_session.proofs.Piping.{IsPartly, SettledOut, out_none, parts_out, fed_out, partly_none, fits_room, shrinks, some_octets, none_left}
 use Rattle.acap_session.proofs.pipe.feed.Goals as goal
 
@@ -31,3 +33,11 @@ returns-after-parts-clause-ok g c =
 pub returns-else-not-is_closed-clause-ok : goal.returns-else-not-is_closed-clause-ok
 returns-else-not-is_closed-clause-ok g c =
     fed_out c.args.users.now c.args.piece.now c.parts.rest.now _ (scene c.parts.state.machine c.parts.session c.parts.out.items) _ _ c.parts.invariant (λ o. absurd (let both : true ≡ false = c.if-not-is_closed.ensures ∙ o in cc))
+
+pub returns-in_err-settle-clause-err : goal.returns-in_err-settle-clause-err
+returns-in_err-settle-clause-err g c =
+    let going = sym c.is_closed.ensures ∙ c.if-not-is_closed.true in
+    on_err c.from_residual-in_err-settle.result (part_cut c.args.users.now c.args.piece.now c.parts.rest.now c.split_at.result.1.now c.settle.new.out.items c.in_ok-taken.taken _ (scene c.parts.state.machine c.parts.session c.parts.out.items) _ _ _ c.parts.invariant
+    (fits_room c.parts.rest.now c.in_ok-taken.taken c.parts.session going c.parts.invariant.is.room c.in_ok-taken.ensures.taken)
+    c.split_at.ensures.back
+    (subst (λ (t : Talking). IsOut (g.W.Write.contents c.parts.writer) (g.W.Write.contents c.settle.new.writer) c.settle.new.out.items (Says c.args.users.now (scene c.parts.state.machine t c.parts.out.items))) c.in_ok-taken.ensures.held c.in_err-settle.ensures.err))

@@ -1,5 +1,5 @@
-use Rattle.std.proofs.Common.{◌+◌, ◌∙◌, arith}
-use Rattle.acap_session.proofs.ScriptRunning.{none_run, ends_at, line_ran, lines_fail, all_run}
+use Rattle.std.proofs.Common.{◌+◌, refl, ◌∙◌, arith}
+use Rattle.acap_session.proofs.ScriptRunning.{none_run, ends_at, line_ran, lines_cut, lines_fail, all_run}
 use Rattle.acap_session.proofs.script_run.run_lines.Goals as goal
 
 pub lines-init : goal.lines-init
@@ -23,3 +23,6 @@ returns-clause-ran g c = all_run _ c.args.piece.now c.lines.held.items c.lines.r
 
 pub returns-clause-count : goal.returns-clause-count
 returns-clause-count g c = omega (arith, c.lines.invariant.bound)
+
+pub returns-in_default-extend_from_slice-clause-ran : goal.returns-in_default-extend_from_slice-clause-ran
+returns-in_default-extend_from_slice-clause-ran g c = lines_cut _ c.args.piece.now c.lines.held.items c.lines.rest.now c.args.number.now c.lines.number c.args.script.now c.lines.script _ _ _ c.lines.invariant refl

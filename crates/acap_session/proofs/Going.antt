@@ -1,0 +1,284 @@
+-- What is next completes the command in hand, or the machine is asked for its answer.
+use Rattle.std.proofs.Common.{◌≡◌, inl, inr, ℕ, ℤ, Bool, true, false, if◌then◌else◌, List, [], ◌∷◌, ◌++◌, Option, Some, None, Result, Ok, Err, refl, sym, ap, subst, ◌∙◌}
+use Rattle.std.specs.Prelude.{codes, IsSome, option_map}
+use Rattle.std.specs.Str.{bytes_eq, str_eq_ignore_ascii_case, is_utf8, chars}
+use Rattle.std.specs.Char.{encode_utf8}
+use Rattle.std.proofs.lemmas.List.{append-nil}
+use Rattle.acap_lexer.specs.Held.{fatal_of, next_of}
+use Rattle.acap_lexer.specs.Holding.{Held}
+use Rattle.acap_lexer.specs.Octets.{is_escaped}
+use Rattle.acap_lexer.specs.Printing.{printed, quoted, may_quote, is_printable}
+use Rattle.acap_lexer.specs.Token.{Token}
+use Rattle.acap_lexer.specs.declared.fault.LexFault.{LexFault}
+use Rattle.acap_lexer.specs.declared.fault.LexFault.TheVariants as lexical
+use Rattle.acap_lexer.specs.declared.kind.Kind.{Kind}
+use Rattle.acap_lexer.specs.declared.kind.Kind.TheVariants as kind
+use Rattle.acap_lexer.specs.declared.lexed.Lexed.{Lexed}
+use Rattle.acap_lexer.specs.declared.lexed.Lexed.TheVariants as lexed
+use Rattle.acap_lexer.specs.declared.mode.Mode.{Mode}
+use Rattle.acap_lexer.specs.declared.mode.Mode.TheVariants as mode
+use Rattle.acap_lexer.proofs.Asking.{next_cases}
+use Rattle.acap_login.specs.Login.{User}
+use Rattle.acap_grammar.specs.Grammar.{command_of}
+use Rattle.acap_grammar.specs.Refusals.{of_grammar, of_lexical}
+use Rattle.acap_grammar.specs.Replies.{octets_of, said_form, challenge_form}
+use Rattle.acap_grammar.specs.declared.command.Command.{Command}
+use Rattle.acap_grammar.specs.declared.command.Command.TheVariants as command
+use Rattle.acap_grammar.specs.declared.grammar_fault.GrammarFault.{GrammarFault}
+use Rattle.acap_grammar.specs.declared.grammar_fault.GrammarFault.TheVariants as fault
+use Rattle.acap_grammar.specs.declared.refusal.Refusal.TheVariants as refusals
+use Rattle.acap_grammar.specs.declared.reply.Reply.{Reply}
+use Rattle.acap_grammar.specs.declared.said.Said.TheVariants as said
+use Rattle.acap_machine.specs.Completing.{completes}
+use Rattle.acap_machine.specs.Seats.{seated_as}
+use Rattle.acap_machine.specs.declared.event.Event.{Event}
+use Rattle.acap_machine.specs.declared.event.Event.TheVariants as event
+use Rattle.acap_machine.specs.declared.occupant.Occupant.{Occupant}
+use Rattle.acap_session.specs.Completing.{tags, called_wrong, called, called_at, completed_by, going_on, IsLeft, AreCompleted}
+use Rattle.acap_session.specs.Hearing.{heard, heard_line, heard_command, heard_answer, answer_line, answer_token, asks, authenticated, logs_in, mechanism_name, opening, ready_line, refusal_of, tag_of, who}
+use Rattle.acap_session.specs.Session.{next_at, drain_at, drain_for}
+use Rattle.acap_session.specs.Talking.{Talking}
+use Rattle.acap_session.specs.declared.next.Next.{Next}
+use Rattle.acap_session.specs.declared.next.Next.TheVariants as next
+use Rattle.acap_session.specs.declared.stage.Stage.{Stage}
+use Rattle.acap_session.specs.declared.stage.Stage.TheVariants as stage
+
+-- ---- how a session stands between turns
+
+-- with who has its seat
+abbrev pub At : Stage → Option (List ℕ) → Option Occupant → Type 0
+At stage.Ready user seated = seated ≡ option_map seated_as user
+At (stage.Challenged tag challenge) user seated = (user ≡ None) × (seated ≡ None)
+At stage.Closed user seated = seated ≡ None
+At other user seated = ⊥
+
+abbrev pub IsOpen : Stage → Option (List ℕ) → Type 0
+IsOpen stage.Ready user = Unit {0}
+IsOpen (stage.Challenged tag challenge) user = user ≡ None
+IsOpen other user = ⊥
+
+pub at_open : (x : Stage) (user : Option (List ℕ)) (seated : Option Occupant) → IsOpen x user → seated ≡ option_map seated_as user → At x user seated
+at_open stage.Ready user seated o e = e
+at_open (stage.Challenged tag challenge) user seated o e = (o, e ∙ ap (option_map seated_as) o)
+at_open stage.Opening user seated o e = o
+at_open stage.Entering user seated o e = o
+at_open (stage.Asked tag) user seated o e = o
+at_open (stage.LoggingIn tag name) user seated o e = o
+at_open stage.Draining user seated o e = o
+at_open stage.Closed user seated o e = absurd o
+
+pub left_open : (fatal : Option LexFault) (x : Stage) (user : Option (List ℕ)) (left : List (List ℕ)) → IsOpen x user → left ≡ going_on x → IsLeft fatal x left
+left_open fatal stage.Ready user left o e = e
+left_open fatal (stage.Challenged tag challenge) user left o e = e
+left_open fatal stage.Opening user left o e = e
+left_open fatal stage.Entering user left o e = e
+left_open fatal (stage.Asked tag) user left o e = e
+left_open fatal (stage.LoggingIn tag name) user left o e = e
+left_open fatal stage.Draining user left o e = e
+left_open fatal stage.Closed user left o e = absurd o
+
+-- ---- what is next, of commands in hand
+
+-- the machine is asked by who may ask it
+abbrev pub Asks : List (List ℕ) → Option (List ℕ) → Option Occupant → Event → Stage → Type 0
+Asks b user seated e (stage.Asked tag) = (b ≡ tags tag) × ((name : List ℕ) × (user ≡ Some name) × (seated ≡ Some (seated_as name))) × ((c : Command) × (e ≡ event.Command c))
+Asks b user seated e (stage.LoggingIn tag name) = (b ≡ tags tag) × (user ≡ None) × (seated ≡ None) × (e ≡ event.Enter name)
+Asks b user seated e stage.Entering = (b ≡ []) × ((name : List ℕ) × (user ≡ Some name) × (seated ≡ None) × (e ≡ event.Enter name))
+Asks b user seated e stage.Draining = (b ≡ []) × ((name : List ℕ) × (user ≡ Some name) × (seated ≡ Some (seated_as name))) × (e ≡ event.Drain)
+Asks b user seated e other = ⊥
+
+abbrev pub Goes : List (List ℕ) → Option (List ℕ) → Option Occupant → Option LexFault → Next → Stage → Type 0
+Goes b user seated fatal next.More x = IsOpen x user × (b ≡ going_on x) × (seated ≡ option_map seated_as user)
+Goes b user seated fatal (next.Say octets) x = IsOpen x user × AreCompleted b octets fatal x × (seated ≡ option_map seated_as user)
+Goes b user seated fatal (next.Ask e) x = Asks b user seated e x
+Goes b user seated fatal (next.Close octets) x = (x ≡ stage.Closed) × AreCompleted b octets fatal x
+
+-- one reply, which completes the command in hand
+pub one : (b : List (List ℕ)) (r : Reply) (fatal : Option LexFault) (x : Stage) → b ≡ completed_by r → IsLeft fatal x [] → AreCompleted b (octets_of r) fatal x
+one b r fatal x e left =
+    record { replies = r ∷ []; left = []; said_is = sym (append-nil (octets_of r)); in_order = e ∙ sym (append-nil (completed_by r)) ∙ sym (append-nil (completed_by r ++ [])); left_is = left }
+
+-- one reply, which completes none
+pub waits : (b : List (List ℕ)) (r : Reply) (fatal : Option LexFault) (x : Stage) → completed_by r ≡ [] → IsLeft fatal x b → AreCompleted b (octets_of r) fatal x
+waits b r fatal x e left =
+    record { replies = r ∷ []; left = b; said_is = sym (append-nil (octets_of r)); in_order = sym (ap (λ xs. (xs ++ []) ++ b) e); left_is = left }
+
+pub silent : (b : List (List ℕ)) (fatal : Option LexFault) (x : Stage) → IsLeft fatal x b → AreCompleted b [] fatal x
+silent b fatal x left = record { replies = []; left = b; said_is = refl; in_order = refl; left_is = left }
+
+-- ---- a command is heard
+
+ready_octets : ready_line ≡ octets_of (record { tag = None; said = said.Challenge (codes "Ready") })
+unfolding octets_of said_form challenge_form printed quoted may_quote is_printable is_escaped is_utf8 chars encode_utf8
+ready_octets = refl
+
+pub continues : (b : List (List ℕ)) (fatal : Option LexFault) (x : Stage) → IsLeft fatal x b → AreCompleted b ready_line fatal x
+continues b fatal x left = subst (λ o. AreCompleted b o fatal x) (sym ready_octets) (waits b (record { tag = None; said = said.Challenge (codes "Ready") }) fatal x refl left)
+
+grammar_completes : (f : GrammarFault) → completes (said.Refused (of_grammar f)) ≡ true
+grammar_completes fault.UnknownCommand = refl
+grammar_completes fault.Arguments = refl
+grammar_completes fault.NotPermittedTwice = refl
+grammar_completes fault.BadName = refl
+grammar_completes fault.BadTime = refl
+grammar_completes fault.BadComparator = refl
+grammar_completes fault.TooDeep = refl
+grammar_completes fault.TooMany = refl
+
+wrong_completes : (f : LexFault) (tag : Option (List ℕ)) → called_wrong f tag ≡ completed_by (record { tag = tag; said = said.Refused (of_lexical f) })
+wrong_completes lexical.BadTag tag = refl
+wrong_completes lexical.BadToken tag = refl
+wrong_completes lexical.BadLiteral tag = refl
+wrong_completes lexical.CommandTooLong tag = refl
+wrong_completes lexical.LineTooLong tag = refl
+
+under_none : (f : LexFault) → completed_by (record { tag = None; said = said.Refused (of_lexical f) }) ≡ []
+under_none lexical.BadTag = refl
+under_none lexical.BadToken = refl
+under_none lexical.BadLiteral = refl
+under_none lexical.CommandTooLong = refl
+under_none lexical.LineTooLong = refl
+
+pub ended : (tag : Option (List ℕ)) (r : Reply) (s : Bool) → s ≡ true → tags tag ≡ (if s then tags tag else [])
+ended tag r s e = sym (ap (λ b. if b then tags tag else []) e)
+
+-- by the user, and who has the seat
+abbrev GoesTo : List (List ℕ) → Option (List ℕ) → Option Occupant → Option LexFault → Next × Stage → Type 0
+GoesTo b user seated fatal x = Goes b user seated fatal x.0 x.1
+
+if_goes : (b : List (List ℕ)) (user : Option (List ℕ)) (seated : Option Occupant) (fatal : Option LexFault) (c : Bool) (x y : Next × Stage) →
+    GoesTo b user seated fatal x → GoesTo b user seated fatal y → GoesTo b user seated fatal (if c then x else y)
+if_goes b user seated fatal true x y p q = p
+if_goes b user seated fatal false x y p q = q
+
+authenticated_goes : (host : List ℕ) (user : Option (List ℕ)) (nonce : ℕ) (clock : ℤ) (tag : Option (List ℕ)) (m : List ℕ) (seated : Option Occupant) (fatal : Option LexFault) →
+    seated ≡ option_map seated_as user → GoesTo (tags tag) user seated fatal (authenticated host user nonce clock tag m)
+authenticated_goes host (Some user) nonce clock tag m seated fatal e = (tt, one _ _ fatal stage.Ready refl refl, e)
+authenticated_goes host None nonce clock tag m seated fatal e =
+    if_goes (tags tag) None seated fatal (str_eq_ignore_ascii_case m mechanism_name) _ _ (refl, waits _ _ fatal _ refl refl, e) (tt, one _ _ fatal stage.Ready refl refl, e)
+
+asks_goes : (user tag : Option (List ℕ)) (c : Command) (seated : Option Occupant) (fatal : Option LexFault) →
+    seated ≡ option_map seated_as user → GoesTo (tags tag) user seated fatal (asks user tag c)
+asks_goes None tag c seated fatal e = (tt, one _ _ fatal stage.Ready refl refl, e)
+asks_goes (Some user) tag c seated fatal e = (refl, (user, refl, e), (c, refl))
+
+command_goes : (host : List ℕ) (user : Option (List ℕ)) (nonce : ℕ) (clock : ℤ) (tag : Option (List ℕ)) (c : Command) (seated : Option Occupant) (fatal : Option LexFault) →
+    seated ≡ option_map seated_as user → GoesTo (tags tag) user seated fatal (heard_command host user nonce clock tag c)
+unfolding heard_command
+command_goes host user nonce clock tag command.Noop seated fatal e = (tt, one _ _ fatal stage.Ready refl refl, e)
+command_goes host user nonce clock tag command.Logout seated fatal e = (refl, one _ _ fatal stage.Closed refl (inl refl))
+command_goes host user nonce clock tag (command.Authenticate m) seated fatal e = authenticated_goes host user nonce clock tag m seated fatal e
+command_goes host user nonce clock tag (command.Store entries) seated fatal e = asks_goes user tag (command.Store entries) seated fatal e
+command_goes host user nonce clock tag (command.Search wanted) seated fatal e = asks_goes user tag (command.Search wanted) seated fatal e
+command_goes host user nonce clock tag (command.SetAcl object identifier rights) seated fatal e = asks_goes user tag (command.SetAcl object identifier rights) seated fatal e
+command_goes host user nonce clock tag (command.DeleteAcl object identifier) seated fatal e = asks_goes user tag (command.DeleteAcl object identifier) seated fatal e
+command_goes host user nonce clock tag (command.MyRights object) seated fatal e = asks_goes user tag (command.MyRights object) seated fatal e
+command_goes host user nonce clock tag (command.ListRights object identifier) seated fatal e = asks_goes user tag (command.ListRights object identifier) seated fatal e
+command_goes host user nonce clock tag (command.DeletedSince dataset since) seated fatal e = asks_goes user tag (command.DeletedSince dataset since) seated fatal e
+command_goes host user nonce clock tag (command.FreeContext name) seated fatal e = asks_goes user tag (command.FreeContext name) seated fatal e
+command_goes host user nonce clock tag (command.UpdateContext names) seated fatal e = asks_goes user tag (command.UpdateContext names) seated fatal e
+
+line_goes : (host : List ℕ) (user : Option (List ℕ)) (nonce : ℕ) (clock : ℤ) (tag : Option (List ℕ)) (r : Result Command GrammarFault) (seated : Option Occupant) (fatal : Option LexFault) →
+    seated ≡ option_map seated_as user → GoesTo (tags tag) user seated fatal (heard_line host user nonce clock tag r)
+line_goes host user nonce clock tag (Ok c) seated fatal e = command_goes host user nonce clock tag c seated fatal e
+line_goes host user nonce clock tag (Err f) seated fatal e =
+    let r : Reply = record { tag = tag; said = said.Refused (of_grammar f) } in
+    (tt, one _ r fatal stage.Ready (ended tag r (completes r.said) (grammar_completes f)) refl, e)
+
+pub heard_goes : (host : List ℕ) (user : Option (List ℕ)) (nonce : ℕ) (clock : ℤ) (x : Lexed) (seated : Option Occupant) (fatal : Option LexFault) →
+    seated ≡ option_map seated_as user → GoesTo (called x) user seated fatal (heard host user nonce clock x)
+unfolding heard
+heard_goes host user nonce clock lexed.More seated fatal e = (tt, refl, e)
+heard_goes host user nonce clock lexed.Plus seated fatal e = (tt, continues [] fatal stage.Ready refl, e)
+heard_goes host user nonce clock (lexed.Line tokens) seated fatal e = line_goes host user nonce clock (tag_of tokens) (command_of tokens) seated fatal e
+heard_goes host user nonce clock (lexed.Bad f tag) seated fatal e =
+    (tt, one _ (record { tag = tag; said = said.Refused (of_lexical f) }) fatal stage.Ready (wrong_completes f tag) refl, e)
+heard_goes host user nonce clock (lexed.Fatal f) seated fatal e =
+    (refl, waits [] (record { tag = None; said = said.Refused (of_lexical f) }) fatal stage.Closed (under_none f) (inl refl))
+
+-- ---- an answer to a challenge is heard
+
+nobody : (seated : Option Occupant) (user : Option (List ℕ)) → user ≡ None → seated ≡ None → seated ≡ option_map seated_as user
+nobody seated user p e = e ∙ sym (ap (option_map seated_as) p)
+
+logs_goes : (user : Option (List ℕ)) (tag : Option (List ℕ)) (name : Option (List ℕ)) (seated : Option Occupant) (fatal : Option LexFault) →
+    user ≡ None → seated ≡ None → GoesTo (tags tag) user seated fatal (logs_in tag name)
+logs_goes user tag None seated fatal p e = (tt, one _ _ fatal stage.Ready refl refl, nobody seated user p e)
+logs_goes user tag (Some name) seated fatal p e = (refl, p, e, refl)
+
+word_completes : (b : Bool) (tag : Option (List ℕ)) → tags tag ≡ completed_by (record { tag = tag; said = said.Refused (if b then refusals.Cancelled else refusals.Arguments) })
+word_completes true tag = refl
+word_completes false tag = refl
+
+token_goes : (users : List User) (user tag : Option (List ℕ)) (challenge : List ℕ) (k : Kind) (text : List ℕ) (seated : Option Occupant) (fatal : Option LexFault) →
+    user ≡ None → seated ≡ None → GoesTo (tags tag) user seated fatal (answer_token users tag challenge k text)
+token_goes users user tag challenge kind.Quoted text seated fatal p e = logs_goes user tag (who users challenge text) seated fatal p e
+token_goes users user tag challenge kind.Literal text seated fatal p e = logs_goes user tag (who users challenge text) seated fatal p e
+token_goes users user tag challenge kind.Word text seated fatal p e =
+    (tt, one _ (record { tag = tag; said = said.Refused (refusal_of kind.Word text) }) fatal stage.Ready (word_completes (bytes_eq text (codes "*")) tag) refl, nobody seated user p e)
+token_goes users user tag challenge kind.Tag text seated fatal p e = (tt, one _ _ fatal stage.Ready refl refl, nobody seated user p e)
+token_goes users user tag challenge kind.Open text seated fatal p e = (tt, one _ _ fatal stage.Ready refl refl, nobody seated user p e)
+token_goes users user tag challenge kind.Close text seated fatal p e = (tt, one _ _ fatal stage.Ready refl refl, nobody seated user p e)
+
+answer_goes : (users : List User) (user tag : Option (List ℕ)) (challenge : List ℕ) (tokens : List Token) (seated : Option Occupant) (fatal : Option LexFault) →
+    user ≡ None → seated ≡ None → GoesTo (tags tag) user seated fatal (answer_line users tag challenge tokens)
+answer_goes users user tag challenge [] seated fatal p e = (tt, one _ _ fatal stage.Ready refl refl, nobody seated user p e)
+answer_goes users user tag challenge (token ∷ []) seated fatal p e = token_goes users user tag challenge token.kind token.value seated fatal p e
+answer_goes users user tag challenge (token ∷ other ∷ tokens) seated fatal p e = (tt, one _ _ fatal stage.Ready refl refl, nobody seated user p e)
+
+challenged_goes : (users : List User) (user tag : Option (List ℕ)) (challenge : List ℕ) (x : Lexed) (seated : Option Occupant) (fatal : Option LexFault) →
+    ((f : LexFault) → x ≡ lexed.Fatal f → IsSome fatal) → user ≡ None → seated ≡ None → GoesTo (tags tag) user seated fatal (heard_answer users tag challenge x)
+unfolding heard_answer
+challenged_goes users user tag challenge lexed.More seated fatal f p e = (p, refl, nobody seated user p e)
+challenged_goes users user tag challenge lexed.Plus seated fatal f p e = (p, continues _ fatal _ refl, nobody seated user p e)
+challenged_goes users user tag challenge (lexed.Line tokens) seated fatal f p e = answer_goes users user tag challenge tokens seated fatal p e
+challenged_goes users user tag challenge (lexed.Bad g other) seated fatal f p e = (tt, one _ _ fatal stage.Ready refl refl, nobody seated user p e)
+challenged_goes users user tag challenge (lexed.Fatal g) seated fatal f p e =
+    (refl, waits _ (record { tag = None; said = said.Refused (of_lexical g) }) fatal stage.Closed (under_none g) (inr (f g refl, (tag, refl))))
+
+-- a fatal fault is kept
+fatal_by : (m : Mode) (h : Held) (o : Option LexFault) (f : LexFault) → h.fatal ≡ o → (next_of m h).0 ≡ lexed.Fatal f → IsSome (next_of m h).1.fatal
+unfolding next_of
+fatal_by m h (Some g) f e k = rw e refl
+fatal_by m h None f e k = elim (next_cases m h e) [
+  | inl c ↦ absurd (let same : lexed.Plus ≡ lexed.Fatal f = sym (ap (λ (r : Lexed × Held). r.0) c.is) ∙ k in cc)
+  | inr (inl l) ↦ absurd (let same : lexed.More ≡ lexed.Fatal f = sym (ap (λ (r : Lexed × Held). r.0) l.is) ∙ k in cc)
+  | inr (inr x) ↦ subst (λ (r : Lexed × Held). IsSome r.1.fatal) (sym x.is) (subst (λ y. IsSome (fatal_of y)) (sym k ∙ ap (λ (r : Lexed × Held). r.0) x.is) refl)
+]
+
+-- ---- what is next
+
+pub next_goes : (users : List User) (nonce : ℕ) (clock : ℤ) (x : Stage) (t : Talking) (seated : Option Occupant) → At x t.user seated → (x ≡ stage.Closed → ⊥) →
+    Goes (going_on x ++ called_at x t.held) (next_at users nonce clock x t).1.user seated (next_at users nonce clock x t).1.held.fatal (next_at users nonce clock x t).0 (next_at users nonce clock x t).1.stage
+next_goes users nonce clock stage.Ready t seated e o = heard_goes t.host t.user nonce clock (next_of mode.Command t.held).0 seated _ e
+next_goes users nonce clock (stage.Challenged tag challenge) t seated e o =
+    subst (λ b. Goes b t.user seated (next_of mode.Answer t.held).1.fatal (heard_answer users tag challenge (next_of mode.Answer t.held).0).0 (heard_answer users tag challenge (next_of mode.Answer t.held).0).1)
+    (sym (append-nil (tags tag)))
+    (challenged_goes users t.user tag challenge (next_of mode.Answer t.held).0 seated (next_of mode.Answer t.held).1.fatal (λ f k. fatal_by mode.Answer t.held t.held.fatal f refl k) e.0 e.1)
+next_goes users nonce clock stage.Opening t seated e o = absurd e
+next_goes users nonce clock stage.Entering t seated e o = absurd e
+next_goes users nonce clock (stage.Asked tag) t seated e o = absurd e
+next_goes users nonce clock (stage.LoggingIn tag user) t seated e o = absurd e
+next_goes users nonce clock stage.Draining t seated e o = absurd e
+next_goes users nonce clock stage.Closed t seated e o = absurd (o refl)
+
+pub opening_goes : (user : Option (List ℕ)) (seated : Option Occupant) (fatal : Option LexFault) → seated ≡ None → GoesTo [] user seated fatal (opening user)
+unfolding opening
+opening_goes None seated fatal e = (tt, waits [] _ fatal stage.Ready refl refl, e)
+opening_goes (Some user) seated fatal e = (refl, (user, refl, e, refl))
+
+drain_by : (user : Option (List ℕ)) (t : Talking) (seated : Option Occupant) → t.user ≡ user → t.stage ≡ stage.Ready → seated ≡ option_map seated_as user →
+    Goes [] (drain_for user t).1.user seated (drain_for user t).1.held.fatal (drain_for user t).0 (drain_for user t).1.stage
+drain_by None t seated u s e = subst (λ k. Goes [] t.user seated t.held.fatal next.More k) (sym s) (tt, refl, e ∙ sym (ap (option_map seated_as) u))
+drain_by (Some user) t seated u s e = (refl, (user, u, e), refl)
+
+pub drain_goes : (x : Stage) (t : Talking) (seated : Option Occupant) → t.stage ≡ x → At x t.user seated → (x ≡ stage.Closed → ⊥) →
+    Goes (going_on x) (drain_at x t).1.user seated (drain_at x t).1.held.fatal (drain_at x t).0 (drain_at x t).1.stage
+drain_goes stage.Ready t seated s e o = drain_by t.user t seated refl s e
+drain_goes (stage.Challenged tag challenge) t seated s e o = subst (λ k. Goes (tags tag) t.user seated t.held.fatal next.More k) (sym s) (e.0, refl, nobody seated t.user e.0 e.1)
+drain_goes stage.Opening t seated s e o = absurd e
+drain_goes stage.Entering t seated s e o = absurd e
+drain_goes (stage.Asked tag) t seated s e o = absurd e
+drain_goes (stage.LoggingIn tag user) t seated s e o = absurd e
+drain_goes stage.Draining t seated s e o = absurd e
+drain_goes stage.Closed t seated s e o = absurd (o refl)

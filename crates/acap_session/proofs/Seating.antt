@@ -1,0 +1,255 @@
+-- Who has a seat after a step, and what the step says.
+use Rattle.std.proofs.Common.{◌≡◌, ◌⊎◌, inl, inr, ℕ, ℤ, ◌==◌, ◌||◌, Bool, true, false, is_ok, cond, List, [], ◌++◌, Option, Some, None, Result, Ok, Err, refl, sym, ap, subst, ◌∙◌, eq-eqb}
+use Rattle.std.specs.Prelude.{option_map}
+use Rattle.std.specs.Cmp.{nat_cmp_total, unsigned_tied}
+use Rattle.std.specs.FinMap as table
+use Rattle.std.specs.FinMap.{get-remove}
+use Rattle.std.proofs.lemmas.List.{append-nil}
+use Rattle.acap_grammar.specs.declared.command.Command.{Command}
+use Rattle.acap_grammar.specs.declared.refusal.Refusal.TheVariants as refusals
+use Rattle.acap_grammar.specs.declared.reply.Reply.{Reply}
+use Rattle.acap_grammar.specs.declared.said.Said.TheVariants as said
+use Rattle.acap_grammar.specs.declared.verb.Verb.TheVariants as verb
+use Rattle.acap_machine.specs.Completing.{completes}
+use Rattle.acap_machine.specs.Machine.{Machine}
+use Rattle.acap_machine.specs.Runs.{machine_after, outcome_of}
+use Rattle.acap_machine.specs.Seats.{seated_as}
+use Rattle.acap_machine.specs.Serving.{served}
+use Rattle.acap_machine.specs.Stepping.{answered as machine_answered, by_user, entered, plain, step_of}
+use Rattle.acap_machine.specs.declared.answer.Answer.{Answer}
+use Rattle.acap_machine.specs.declared.answer.Answer.TheVariants.{Says, Changes}
+use Rattle.acap_machine.specs.declared.event.Event.{Event}
+use Rattle.acap_machine.specs.declared.event.Event.TheVariants as event
+use Rattle.acap_machine.specs.declared.fault.Fault.{Fault}
+use Rattle.acap_machine.specs.declared.fault.Fault.TheVariants as fault
+use Rattle.acap_machine.specs.declared.occupant.Occupant.{Occupant}
+use Rattle.acap_machine.proofs.Completing.{completing}
+use Rattle.acap_machine.proofs.StepLaws.{others}
+use Rattle.acap_session.specs.Completing.{completed_by, AreCompleted}
+use Rattle.acap_session.specs.Session.{answered, answer_said, answer_user, comes_to, has_seat, has_seat_at}
+use Rattle.acap_session.specs.Talking.{Talking}
+use Rattle.acap_session.specs.Turning.{Scene, left_by, performed, shown, turn_by}
+use Rattle.acap_session.specs.declared.next.Next.{Next}
+use Rattle.acap_session.specs.declared.next.Next.TheVariants as next
+use Rattle.acap_session.specs.declared.occasion.Occasion.{Occasion}
+use Rattle.acap_session.specs.declared.stage.Stage.{Stage}
+use Rattle.acap_session.specs.declared.stage.Stage.TheVariants as stage
+use Rattle.acap_session.proofs.Going.{At, Asks, Goes, at_open, left_open, one, waits, silent, ended}
+use Rattle.acap_session.proofs.Opening.{seated}
+
+-- ---- the other seats
+
+abbrev pub SameElse : ℕ → Machine → Machine → Type 0
+SameElse seat m n = (q : ℕ) → (q == seat) ≡ false → table.get n.seats q ≡ table.get m.seats q
+
+after_else : (m : Machine) (seat : ℕ) (e : Event) (clock : ℤ) (r : Result (Reply × Machine) Fault) → step_of m seat e clock ≡ r → SameElse seat m (machine_after m r)
+after_else m seat e clock (Ok x) k q apart = others.seats m seat e clock x.0 x.1 k q apart
+after_else m seat e clock (Err f) k q apart = refl
+
+pub performed_else : (refused : Bool) (m : Machine) (o : Occasion) (e : Event) → SameElse o.seat m (machine_after m (performed refused m o e))
+performed_else true m o e q apart = refl
+performed_else false m o e q apart = after_else m o.seat e o.clock (step_of m o.seat e o.clock) refl q apart
+
+pub left_else : (has : Bool) (o : Occasion) (m : Machine) → SameElse o.seat m (left_by has o m)
+left_else true o m q apart = after_else m o.seat event.Leave o.clock (step_of m o.seat event.Leave o.clock) refl q apart
+left_else false o m q apart = refl
+
+-- ---- a seat that is left
+
+leave_by : (m : Machine) (seat : ℕ) (x : Option Occupant) → table.get m.seats seat ≡ x →
+    table.get (machine_after m (by_user x (λ user. (plain said.Left, record m { seats = table.remove m.seats seat })))).seats seat ≡ None
+leave_by m seat None e = e
+leave_by m seat (Some x) e = get-remove nat_cmp_total m.seats seat seat ∙ ap (λ b. cond b None (table.get m.seats seat)) (unsigned_tied seat seat ∙ eq-eqb seat seat refl)
+
+pub left_empty : (has : Bool) (o : Occasion) (m : Machine) → (has ≡ false → table.get m.seats o.seat ≡ None) → table.get (left_by has o m).seats o.seat ≡ None
+left_empty true o m e = leave_by m o.seat (table.get m.seats o.seat) refl
+left_empty false o m e = e refl
+
+pub unseated : (x : Stage) (user : Option (List ℕ)) (has : Option Occupant) → At x user has → has_seat_at x user ≡ false → has ≡ None
+unseated stage.Ready None has e f = e
+unseated stage.Ready (Some user) has e f = cc
+unseated (stage.Challenged tag challenge) user has e f = e.1
+unseated stage.Closed user has e f = e
+unseated stage.Opening user has e f = absurd e
+unseated stage.Entering user has e f = absurd e
+unseated (stage.Asked tag) user has e f = absurd e
+unseated (stage.LoggingIn tag name) user has e f = absurd e
+unseated stage.Draining user has e f = absurd e
+
+-- ---- what the machine answers where the seat is as the session says
+
+-- memory was refused; or it answers so, and this user has the seat then
+record Answers (m : Machine) (seat : ℕ) (name : List ℕ) (Fits : Reply → Type 0) (r : Result (Reply × Machine) Fault) : Type 0 where
+  reply : Reply
+  new : Machine
+  is : r ≡ Ok (reply, new)
+  fits : Fits reply
+  has : table.get new.seats seat ≡ Some (seated_as name)
+
+abbrev MayAnswer : Machine → ℕ → List ℕ → (Reply → Type 0) → Result (Reply × Machine) Fault → Type 0
+MayAnswer m seat name Fits r = (r ≡ Err fault.Memory) ⊎ Answers m seat name Fits r
+
+same_answered : (m : Machine) (answer : Answer) → (machine_answered m answer).1.seats ≡ m.seats
+same_answered m (Says words) = refl
+same_answered m (Changes done change) = refl
+
+command_by : (m : Machine) (o : Occasion) (c : Command) (name : List ℕ) (x : Option Occupant) → table.get m.seats o.seat ≡ x → x ≡ Some (seated_as name) →
+    Answers m o.seat name (λ r. completes r.said ≡ true) (by_user x (λ user. machine_answered m (served m.store m.realm user c o.clock)))
+command_by m o c name None e f = absurd cc
+command_by m o c name (Some x) e f =
+    let y = machine_answered m (served m.store m.realm x.user c o.clock) in
+    record {
+      reply = y.0;
+      new = y.1;
+      is = refl;
+      fits = completing m o.seat c o.clock y.0 y.1 (ap (λ z. by_user z (λ user. machine_answered m (served m.store m.realm user c o.clock))) e);
+      has = ap (λ s. table.get s o.seat) (same_answered m (served m.store m.realm x.user c o.clock)) ∙ e ∙ f;
+    }
+
+asks_command : (refused : Bool) (m : Machine) (o : Occasion) (c : Command) (name : List ℕ) → table.get m.seats o.seat ≡ Some (seated_as name) →
+    MayAnswer m o.seat name (λ r. completes r.said ≡ true) (performed refused m o (event.Command c))
+asks_command true m o c name e = inl refl
+asks_command false m o c name e = inr (command_by m o c name (table.get m.seats o.seat) refl e)
+
+drain_by : (m : Machine) (o : Occasion) (name : List ℕ) (x : Option Occupant) → table.get m.seats o.seat ≡ x → x ≡ Some (seated_as name) →
+    Answers m o.seat name (λ r. r.said ≡ said.Drained) (by_user x (λ user. (plain said.Drained, m)))
+drain_by m o name None e f = absurd cc
+drain_by m o name (Some x) e f = record { reply = plain said.Drained; new = m; is = refl; fits = refl; has = e ∙ f }
+
+asks_drain : (refused : Bool) (m : Machine) (o : Occasion) (name : List ℕ) → table.get m.seats o.seat ≡ Some (seated_as name) →
+    MayAnswer m o.seat name (λ r. r.said ≡ said.Drained) (performed refused m o event.Drain)
+asks_drain true m o name e = inl refl
+asks_drain false m o name e = inr (drain_by m o name (table.get m.seats o.seat) refl e)
+
+enter_by : (m : Machine) (seat : ℕ) (name : List ℕ) (x : Option Occupant) → x ≡ None → Answers m seat name (λ r. r.said ≡ said.Greeting) (entered m seat name x)
+enter_by m seat name None e = record { reply = plain said.Greeting; new = record m { seats = table.insert m.seats seat (seated_as name) }; is = refl; fits = refl; has = seated m.seats seat (seated_as name) }
+enter_by m seat name (Some x) e = absurd cc
+
+asks_entry : (refused : Bool) (m : Machine) (o : Occasion) (name : List ℕ) → table.get m.seats o.seat ≡ None →
+    MayAnswer m o.seat name (λ r. r.said ≡ said.Greeting) (performed refused m o (event.Enter name))
+asks_entry true m o name e = inl refl
+asks_entry false m o name e = inr (enter_by m o.seat name (table.get m.seats o.seat) e)
+
+-- ---- what the session makes of it
+
+-- how a session stands at its seat then, and what it said of commands in hand
+pub record Made (b : List (List ℕ)) (seat : ℕ) (out : List ℕ) (new : Scene) : Type 0 where
+  pub at : At new.talk.stage new.talk.user (table.get new.machine.seats seat)
+  pub said : List ℕ
+  pub out_is : new.out ≡ out ++ said
+  pub completed : AreCompleted b said new.talk.held.fatal new.talk.stage
+
+abbrev Tells : List (List ℕ) → Occasion → Machine → List ℕ → Talking → Stage → Result (Reply × Machine) Fault → Type 0
+Tells b o m out t x r =
+    Made b o.seat out (shown o (has_seat_at x t.user || is_ok r) (machine_after m r) out (comes_to (record t { user = answer_user x t.user (outcome_of r) }) (answer_said x (outcome_of r)))).1
+
+tells_of : (b : List (List ℕ)) (o : Occasion) (m : Machine) (out : List ℕ) (t : Talking) (x : Stage) (name : List ℕ) (Fits : Reply → Type 0) (r : Result (Reply × Machine) Fault) →
+    Tells b o m out t x (Err fault.Memory) → ((reply : Reply) (new : Machine) → Fits reply → table.get new.seats o.seat ≡ Some (seated_as name) → Tells b o m out t x (Ok (reply, new))) →
+    MayAnswer m o.seat name Fits r → Tells b o m out t x r
+tells_of b o m out t x name Fits r refused good (inl e) = subst (λ y. Tells b o m out t x y) (sym e) refused
+tells_of b o m out t x name Fits r refused good (inr a) = subst (λ y. Tells b o m out t x y) (sym a.is) (good a.reply a.new a.fits a.has)
+
+asked_made : (b : List (List ℕ)) (o : Occasion) (refused : Bool) (m : Machine) (out : List ℕ) (t : Talking) (e : Event) (x : Stage) → Asks b t.user (table.get m.seats o.seat) e x → Tells b o m out t x (performed refused m o e)
+asked_made b o refused m out t e (stage.Asked tag) (b_is, (name, u, has), (c, e_is)) =
+    tells_of b o m out t (stage.Asked tag) name (λ r. completes r.said ≡ true) (performed refused m o e)
+    (record { at = has ∙ sym (ap (option_map seated_as) u); said = _; out_is = refl; completed = one b (record { tag = tag; said = said.Refused refusals.Memory }) t.held.fatal stage.Ready b_is refl })
+    (λ reply new fits is. record {
+      at = is ∙ sym (ap (option_map seated_as) u);
+      said = _;
+      out_is = refl;
+      completed = one b (record { tag = tag; said = reply.said }) t.held.fatal stage.Ready (b_is ∙ ended tag (record { tag = tag; said = reply.said }) (completes reply.said) fits) refl;
+    })
+    (subst (λ y. MayAnswer m o.seat name (λ r. completes r.said ≡ true) (performed refused m o y)) (sym e_is) (asks_command refused m o c name has))
+asked_made b o refused m out t e (stage.LoggingIn tag name) (b_is, u, has, e_is) =
+    tells_of b o m out t (stage.LoggingIn tag name) name (λ r. r.said ≡ said.Greeting) (performed refused m o e)
+    (record { at = has ∙ sym (ap (option_map seated_as) u); said = _; out_is = refl; completed = one b (record { tag = tag; said = said.Refused refusals.Memory }) t.held.fatal stage.Ready b_is refl })
+    (λ reply new fits is. record { at = is; said = _; out_is = refl; completed = one b (record { tag = tag; said = said.Done verb.Authenticate }) t.held.fatal stage.Ready b_is refl })
+    (subst (λ y. MayAnswer m o.seat name (λ r. r.said ≡ said.Greeting) (performed refused m o y)) (sym e_is) (asks_entry refused m o name has))
+asked_made b o refused m out t e stage.Entering (b_is, (name, u, has, e_is)) =
+    tells_of b o m out t stage.Entering name (λ r. r.said ≡ said.Greeting) (performed refused m o e)
+    (record { at = has; said = []; out_is = refl; completed = silent b t.held.fatal stage.Closed (inl b_is) })
+    (λ reply new fits is. record {
+      at = is ∙ sym (ap (option_map seated_as) u);
+      said = _;
+      out_is = refl;
+      completed = waits b (record { tag = None; said = reply.said }) t.held.fatal stage.Ready (ap (λ w. completed_by (record { tag = None; said = w })) fits) b_is;
+    })
+    (subst (λ y. MayAnswer m o.seat name (λ r. r.said ≡ said.Greeting) (performed refused m o y)) (sym e_is) (asks_entry refused m o name has))
+asked_made b o refused m out t e stage.Draining (b_is, (name, u, has), e_is) =
+    tells_of b o m out t stage.Draining name (λ r. r.said ≡ said.Drained) (performed refused m o e)
+    (record { at = has ∙ sym (ap (option_map seated_as) u); said = []; out_is = refl; completed = silent b t.held.fatal stage.Ready b_is })
+    (λ reply new fits is. record {
+      at = is ∙ sym (ap (option_map seated_as) u);
+      said = _;
+      out_is = refl;
+      completed = waits b (record { tag = None; said = reply.said }) t.held.fatal stage.Ready (ap (λ w. completed_by (record { tag = None; said = w })) fits) b_is;
+    })
+    (subst (λ y. MayAnswer m o.seat name (λ r. r.said ≡ said.Drained) (performed refused m o y)) (sym e_is) (asks_drain refused m o name has))
+asked_made b o refused m out t e stage.Opening a = absurd a
+asked_made b o refused m out t e stage.Ready a = absurd a
+asked_made b o refused m out t e (stage.Challenged tag challenge) a = absurd a
+asked_made b o refused m out t e stage.Closed a = absurd a
+
+-- ---- a turn or a drain, by what is next
+
+pub made : (b : List (List ℕ)) (o : Occasion) (refused : Bool) (s : Scene) (n : Next) (t : Talking) →
+    (has_seat s.talk ≡ false → table.get s.machine.seats o.seat ≡ None) → Goes b t.user (table.get s.machine.seats o.seat) t.held.fatal n t.stage →
+    Made b o.seat s.out (turn_by o refused s (n, t)).1
+unfolding answered
+made b o refused s next.More t free g = record {
+  at = at_open t.stage t.user (table.get s.machine.seats o.seat) g.0 g.2;
+  said = [];
+  out_is = sym (append-nil s.out);
+  completed = silent b t.held.fatal t.stage (left_open t.held.fatal t.stage t.user b g.0 g.1);
+}
+made b o refused s (next.Say octets) t free g = record { at = at_open t.stage t.user (table.get s.machine.seats o.seat) g.0 g.2; said = octets; out_is = refl; completed = g.1 }
+made b o refused s (next.Ask e) t free g = asked_made b o refused s.machine s.out t e t.stage g
+made b o refused s (next.Close octets) t free g = record {
+  at = subst (λ x. At x t.user (table.get (left_by (has_seat s.talk) o s.machine).seats o.seat)) (sym g.0) (left_empty (has_seat s.talk) o s.machine free);
+  said = octets;
+  out_is = refl;
+  completed = g.1;
+}
+
+shown_else : (o : Occasion) (has : Bool) (m : Machine) (out : List ℕ) (n : Next) (t : Talking) → SameElse o.seat m (shown o has m out (n, t)).1.machine
+shown_else o has m out next.More t q apart = refl
+shown_else o has m out (next.Say octets) t q apart = refl
+shown_else o has m out (next.Ask e) t q apart = refl
+shown_else o has m out (next.Close octets) t q apart = left_else has o m q apart
+
+pub made_else : (o : Occasion) (refused : Bool) (s : Scene) (n : Next) (t : Talking) → SameElse o.seat s.machine (turn_by o refused s (n, t)).1.machine
+made_else o refused s next.More t q apart = refl
+made_else o refused s (next.Say octets) t q apart = refl
+made_else o refused s (next.Ask e) t q apart =
+    let r = performed refused s.machine o e in
+    let x = answered t (outcome_of r) in
+    shown_else o (has_seat t || is_ok r) (machine_after s.machine r) s.out x.0 x.1 q apart ∙ performed_else refused s.machine o e q apart
+made_else o refused s (next.Close octets) t q apart = left_else (has_seat s.talk) o s.machine q apart
+
+-- ---- no seat is answered to be empty or taken
+
+abbrev pub IsPlaced : Option (Result Reply Fault) → Type 0
+IsPlaced None = Unit {0}
+IsPlaced (Some (Ok reply)) = Unit {0}
+IsPlaced (Some (Err fault.Memory)) = Unit {0}
+IsPlaced (Some (Err fault.NotEntered)) = ⊥
+IsPlaced (Some (Err fault.AlreadyEntered)) = ⊥
+IsPlaced (Some (Err fault.HistoryFull)) = Unit {0}
+
+may_be : (m : Machine) (seat : ℕ) (name : List ℕ) (Fits : Reply → Type 0) (r : Result (Reply × Machine) Fault) → MayAnswer m seat name Fits r → IsPlaced (Some (outcome_of r))
+may_be m seat name Fits r (inl e) = subst (λ y. IsPlaced (Some (outcome_of y))) (sym e) tt
+may_be m seat name Fits r (inr a) = subst (λ y. IsPlaced (Some (outcome_of y))) (sym a.is) tt
+
+pub asks_placed : (b : List (List ℕ)) (user : Option (List ℕ)) (refused : Bool) (m : Machine) (o : Occasion) (e : Event) (x : Stage) → Asks b user (table.get m.seats o.seat) e x → IsPlaced (Some (outcome_of (performed refused m o e)))
+asks_placed b user refused m o e (stage.Asked tag) (b_is, (name, u, has), (c, e_is)) =
+    subst (λ y. IsPlaced (Some (outcome_of (performed refused m o y)))) (sym e_is) (may_be m o.seat name _ _ (asks_command refused m o c name has))
+asks_placed b user refused m o e (stage.LoggingIn tag name) (b_is, u, has, e_is) =
+    subst (λ y. IsPlaced (Some (outcome_of (performed refused m o y)))) (sym e_is) (may_be m o.seat name _ _ (asks_entry refused m o name has))
+asks_placed b user refused m o e stage.Entering (b_is, (name, u, has, e_is)) =
+    subst (λ y. IsPlaced (Some (outcome_of (performed refused m o y)))) (sym e_is) (may_be m o.seat name _ _ (asks_entry refused m o name has))
+asks_placed b user refused m o e stage.Draining (b_is, (name, u, has), e_is) =
+    subst (λ y. IsPlaced (Some (outcome_of (performed refused m o y)))) (sym e_is) (may_be m o.seat name _ _ (asks_drain refused m o name has))
+asks_placed b user refused m o e stage.Opening a = absurd a
+asks_placed b user refused m o e stage.Ready a = absurd a
+asks_placed b user refused m o e (stage.Challenged tag challenge) a = absurd a
+asks_placed b user refused m o e stage.Closed a = absurd a

@@ -1,9 +1,0 @@
-use Rattle.std.proofs.Common.{◌≤◌, ◌*◌}
-use Rattle.acap_session.proofs.ScriptRunning.{IsReading}
-use Rattle.acap_session.proofs.script_run.run_script.Given as goal
-
-abbrev pub invariant-reads : goal.invariant-reads
-invariant-reads g l = record {
-  so_far : IsReading (g.R.Read.remaining l.fn.reader) (g.R.Read.remaining l.reader) (g.W.Write.contents l.fn.writer) (g.W.Write.contents l.writer) l.held.items l.number l.script;
-  bound : l.number ≤ 4096 * l.time;
-}

@@ -1,0 +1,197 @@
+-- Completions: each command gets one, under its tag, in the order of the commands [RFC 2244 sections 2.2 and 6.2].
+use Rattle.std.specs.Prelude.{◌≡◌, ◌⊎◌, ◌==◌, ◌||◌, ℕ, List, [], ◌∷◌, ◌++◌, flat_map, replicate, codes, Bool, true, false, not, Option, Some, None, IsSome, option_map, if◌then◌else◌}
+use Rattle.std.specs.List.{list_all}
+use Rattle.acap_lexer.specs.Held.{next_of}
+use Rattle.acap_lexer.specs.Holding.{Held}
+use Rattle.acap_lexer.specs.declared.fault.LexFault.{LexFault}
+use Rattle.acap_lexer.specs.declared.fault.LexFault.TheVariants as lexical
+use Rattle.acap_lexer.specs.declared.lexed.Lexed.{Lexed}
+use Rattle.acap_lexer.specs.declared.lexed.Lexed.TheVariants as lexed
+use Rattle.acap_lexer.specs.declared.mode.Mode.TheVariants as mode
+use Rattle.acap_login.specs.Login.{User}
+use Rattle.acap_grammar.specs.Refusals.{status_of}
+use Rattle.acap_grammar.specs.Replies.{crlf, greeting, octets_of, tag_of as spelled_tag}
+use Rattle.acap_grammar.specs.declared.refusal.Refusal.TheVariants as refusals
+use Rattle.acap_grammar.specs.declared.reply.Reply.{Reply}
+use Rattle.acap_grammar.specs.declared.said.Said.{Said}
+use Rattle.acap_grammar.specs.declared.said.Said.TheVariants as said
+use Rattle.acap_grammar.specs.declared.status.Status.{Status}
+use Rattle.acap_grammar.specs.declared.status.Status.TheVariants as status
+use Rattle.acap_grammar.specs.declared.verb.Verb.TheVariants as verb
+use Rattle.acap_machine.specs.Completing.{completes}
+use Rattle.acap_rights.specs.declared.realm.Realm.{Realm}
+use Rattle.acap_session.specs.Hearing.{tag_of}
+use Rattle.acap_session.specs.PipeSteps.{step_of}
+use Rattle.acap_session.specs.Piping.{without_administrators}
+use Rattle.acap_session.specs.Places.{Place, place_at}
+use Rattle.acap_session.specs.World as world
+use Rattle.acap_session.specs.World.{World, Deed, Step, did, new_world, open_at, run}
+use Rattle.acap_session.specs.declared.stage.Stage.{Stage}
+use Rattle.acap_session.specs.declared.stage.Stage.TheVariants as stage
+
+-- the tag, if there is one
+abbrev pub tags : Option (List ℕ) → List (List ℕ)
+tags None = []
+tags (Some tag) = tag ∷ []
+
+-- ---- which commands are heard, by their tags
+
+-- a line that can't be read is a command under its tag; one that is too long ends the session
+abbrev pub called_wrong : LexFault → Option (List ℕ) → List (List ℕ)
+called_wrong lexical.BadTag tag = tags tag
+called_wrong lexical.BadToken tag = tags tag
+called_wrong lexical.BadLiteral tag = tags tag
+called_wrong lexical.CommandTooLong tag = []
+called_wrong lexical.LineTooLong tag = []
+
+abbrev pub called : Lexed → List (List ℕ)
+called lexed.More = []
+called lexed.Plus = []
+called (lexed.Line tokens) = tags (tag_of tokens)
+called (lexed.Bad fault tag) = called_wrong fault tag
+called (lexed.Fatal fault) = []
+
+-- the client's answer to a challenge is no command
+abbrev pub called_at : Stage → Held → List (List ℕ)
+called_at stage.Ready held = called (next_of mode.Command held).0
+called_at other held = []
+
+-- what is heard where the session of a seat makes a turn
+abbrev pub called_by : Deed → Option Place → List (List ℕ)
+called_by world.Turn (Some place) = called_at place.talk.stage place.talk.held
+called_by deed now = []
+
+abbrev pub called_in : ℕ → Step → World → List (List ℕ)
+called_in seat x w = if x.occasion.seat == seat then called_by x.deed (open_at w seat) else []
+
+-- the tags of all commands that a seat's session hears in a run
+abbrev pub all_called : ℕ → List Step → World → List (List ℕ)
+all_called seat [] w = []
+all_called seat (x ∷ xs) w = called_in seat x w ++ all_called seat xs (did x.occasion x.refused x.deed w)
+
+-- ---- which are completed
+
+-- the tag of a reply whose last line is an OK, NO or BAD under a tag: a line under `*` completes no command
+abbrev pub completed_by : Reply → List (List ℕ)
+completed_by reply = if completes reply.said then tags reply.tag else []
+
+abbrev pub completed : List Reply → List (List ℕ)
+completed replies = flat_map completed_by replies
+
+-- a login goes on: its command is completed behind the client's answer
+abbrev pub going_on : Stage → List (List ℕ)
+going_on (stage.Challenged tag challenge) = tags tag
+going_on other = []
+
+-- What is left without a completion: a login that goes on; and where a session was closed nothing, or the login whose
+-- answer could not be read, as the input was too long.
+abbrev pub IsLeft : Option LexFault → Stage → List (List ℕ) → Type 0
+IsLeft fatal stage.Closed left = (left ≡ []) ⊎ (IsSome fatal × ((tag : Option (List ℕ)) × (left ≡ tags tag)))
+IsLeft fatal other left = left ≡ going_on other
+
+-- What was said is replies, as they are printed. The completions among them are those of the commands, each once and in
+-- their order, up to what is left.
+pub record AreCompleted (commands : List (List ℕ)) (said : List ℕ) (fatal : Option LexFault) (at : Stage) : Type 0 where
+  pub replies : List Reply
+  pub left : List (List ℕ)
+  pub said_is : said ≡ flat_map octets_of replies
+  pub in_order : commands ≡ completed replies ++ left
+  pub left_is : IsLeft fatal at left
+
+-- ---- the law
+
+-- what goes on with a session that is open: it takes octets, makes turns and drains
+abbrev pub goes_on : Deed → Bool
+goes_on (world.Open user) = false
+goes_on (world.Piece octets) = true
+goes_on world.Turn = true
+goes_on world.Drain = true
+goes_on world.Leave = false
+
+-- in these steps a seat's session neither opens nor is ended by its client
+abbrev pub all_go_on : ℕ → List Step → Bool
+all_go_on seat steps = list_all (λ x. not (x.occasion.seat == seat) || goes_on x.deed) steps
+
+-- what a session has said since it stood so, and how it stands then
+pub record HasCompleted (commands : List (List ℕ)) (old : Place) (standing : Option Place) : Type 0 where
+  pub now : Place
+  pub said : List ℕ
+  pub stands : standing ≡ Some now
+  pub out_is : now.out ≡ old.out ++ said
+  pub made : AreCompleted commands said now.talk.held.fatal now.talk.stage
+
+-- Whatever the other sessions do between: of the login that goes on, if one does, and the commands that a session then
+-- hears each has its completion in what it says.
+abbrev pub CompletionLaw : Type 0
+CompletionLaw = (realm : Realm) (users : List User) (host : List ℕ) (before steps : List Step) (seat : ℕ) (old : Place) →
+    let w = run before (new_world realm users host) in
+    open_at w seat ≡ Some old → all_go_on seat steps ≡ true →
+    HasCompleted (going_on old.talk.stage ++ all_called seat steps w) old (place_at (run steps w).places seat)
+
+-- ---- how a completion is printed
+
+-- how a completion begins behind its tag
+abbrev pub status_word : Status → List ℕ
+status_word status.No = codes "NO"
+status_word status.Bad = codes "BAD"
+status_word status.Bye = codes "BYE"
+
+abbrev pub word_of : Said → List ℕ
+word_of (said.Refused refusal) = status_word (status_of refusal)
+word_of other = codes "OK"
+
+-- the last line of a reply that completes a command is `tag OK ..`, `tag NO ..` or `tag BAD ..`
+pub record EndsIn (reply : Reply) : Type 0 where
+  pub lines : List ℕ
+  pub text : List ℕ
+  pub is : octets_of reply ≡ lines ++ (spelled_tag reply.tag ++ (codes " " ++ (word_of reply.said ++ (codes " " ++ (text ++ crlf)))))
+
+abbrev pub CompletionForm : Type 0
+CompletionForm = (reply : Reply) → completes reply.said ≡ true → EndsIn reply
+
+-- ---- examples
+
+-- the world in which nobody sits, and may log in, with some pieces and turns of a session at seat 0
+abbrev pub empty_world : World
+empty_world = new_world without_administrators [] (codes "localhost")
+
+abbrev pub opening_step : Step
+opening_step = step_of (world.Open None) false
+
+abbrev pub some_turns : ℕ → List Step
+some_turns n = replicate n (step_of world.Turn false)
+
+abbrev pub given : List ℕ → ℕ → List Step
+given octets n = step_of (world.Piece octets) false ∷ some_turns n
+
+-- the commands that are heard there, and what is said
+abbrev pub heard_there : List Step → List (List ℕ)
+heard_there steps = all_called 0 steps (run (opening_step ∷ []) empty_world)
+
+abbrev pub said_there : List Step → Option (List ℕ)
+said_there steps = option_map (λ place. place.out) (place_at (run (opening_step ∷ steps) empty_world).places 0)
+
+abbrev pub lines_of : List (List ℕ) → Option (List ℕ)
+lines_of lines = Some (greeting ++ flat_map (λ line. line ++ crlf) lines)
+
+abbrev pub under : Option (List ℕ) → Said → Reply
+under tag words = record { tag = tag; said = words }
+
+abbrev pub a1 : Option (List ℕ)
+a1 = Some (codes "A1")
+
+pub record CompletionExamples : Type 0 where
+  -- two commands of one piece; the second is completed behind its BYE
+  pub two : heard_there (given (codes "A1 NOOP\r\nA2 LOGOUT\r\n") 2) ≡ codes "A1" ∷ codes "A2" ∷ []
+  pub two_said : said_there (given (codes "A1 NOOP\r\nA2 LOGOUT\r\n") 2) ≡ lines_of (codes "A1 OK \"NOOP done\"" ∷ codes "* BYE \"Good bye\"" ∷ codes "A2 OK \"LOGOUT done\"" ∷ [])
+  -- a command that isn't whole is none; a line that can't be read is one under its tag, and none without a tag
+  pub unfinished : heard_there (given (codes "A1 NOOP\r\nA2 NO") 2) ≡ codes "A1" ∷ []
+  pub wrong : heard_there (given (codes "A1 \"NOOP\r\n+ NOOP\r\n") 2) ≡ codes "A1" ∷ []
+  pub wrong_said : said_there (given (codes "A1 \"NOOP\r\n+ NOOP\r\n") 2) ≡ lines_of (codes "A1 BAD \"Bad token\"" ∷ codes "* BAD \"Bad tag\"" ∷ [])
+  -- a login is completed behind the line that answers its challenge, which is no command
+  pub login : heard_there (given (codes "A1 AUTHENTICATE \"CRAM-MD5\"\r\n*\r\nA2 NOOP\r\n") 3) ≡ codes "A1" ∷ codes "A2" ∷ []
+  pub login_said : said_there (given (codes "A1 AUTHENTICATE \"CRAM-MD5\"\r\n*\r\nA2 NOOP\r\n") 3)
+      ≡ lines_of (codes "+ \"<0.0@localhost>\"" ∷ codes "A1 BAD \"Login cancelled\"" ∷ codes "A2 OK \"NOOP done\"" ∷ [])
+  -- what is said under `*` completes nothing, nor does a challenge
+  pub completions : completed (under None said.Greeting ∷ under a1 (said.Done verb.Noop) ∷ under a1 (said.Challenge []) ∷ under None (said.Refused refusals.BadTag)
+      ∷ under a1 (said.Refused refusals.Memory) ∷ under None (said.Refused refusals.LineTooLong) ∷ under a1 said.GoodBye ∷ under None said.Drained ∷ []) ≡ codes "A1" ∷ codes "A1" ∷ codes "A1" ∷ []
