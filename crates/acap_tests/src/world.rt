@@ -27,7 +27,12 @@ const NONCE: u64 = 1896;
 fn world(alloc: Global) -> Result<World, Memory> {
     let host = Octets::from_slice(alloc, b"localhost")?;
     let users = Users::new(Vec::new(alloc));
-    Ok(World::new(alloc, Realm::new(Vec::new(alloc), Vec::new(alloc)), users, host))
+    Ok(World::new(
+        alloc,
+        Realm::new(Vec::new(alloc), Vec::new(alloc)),
+        users,
+        host,
+    ))
 }
 
 /// A session of a user begins at a seat.
