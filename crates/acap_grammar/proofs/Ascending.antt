@@ -16,10 +16,11 @@ use Rattle.acap_entries.specs.Orders.{octets_cmp}
 use Rattle.acap_entries.specs.Store.{path_cmp}
 use Rattle.acap_entries.specs.declared.path.Path.{Path}
 use Rattle.acap_grammar.specs.Ascending.{item_cmp, last_cmp, Ascends}
-use Rattle.acap_grammar.specs.Storing.{has_path, has_attribute, has_item, same_metadata}
-use Rattle.acap_grammar.specs.declared.store_entry.StoreEntry.{StoreEntry}
-use Rattle.acap_grammar.specs.declared.store_item.StoreItem.{StoreItem}
-use Rattle.acap_grammar.specs.declared.store_metadata.StoreMetadata.{StoreMetadata}
+use Rattle.acap_commands.specs.EntryOrder.{has_path}
+use Rattle.acap_grammar.specs.Storing.{has_attribute, has_item, same_metadata}
+use Rattle.acap_commands.specs.declared.store_entry.StoreEntry.{StoreEntry}
+use Rattle.acap_commands.specs.declared.store_item.StoreItem.{StoreItem}
+use Rattle.acap_commands.specs.declared.store_metadata.StoreMetadata.{StoreMetadata}
 
 -- ---- the last item
 

@@ -11,7 +11,8 @@ use Rattle.acap_entries.specs.Times.{is_civil, is_time, time_of}
 use Rattle.acap_grammar.specs.Several.{several, some_of, enclosed}
 use Rattle.acap_grammar.specs.Marks.{ends, starts, behind, string_at, word_at, behind_word}
 use Rattle.acap_grammar.specs.Arguments.{path_named, attribute_named, dataset_named, context_named, entry_named, target_named, named_at, number_at, comparator_for, entry_part, attribute_part, object_at}
-use Rattle.acap_grammar.specs.Storing.{has_path, has_attribute, has_item, strings_at, plain_at, given_at, gift_at, gifts_at, item_at, items_at, conditioned, condition_at, no_condition, conditions_at, path_at, entry_at, entries_at}
+use Rattle.acap_commands.specs.EntryOrder.{has_path}
+use Rattle.acap_grammar.specs.Storing.{has_attribute, has_item, strings_at, plain_at, given_at, gift_at, gifts_at, item_at, items_at, conditioned, condition_at, no_condition, conditions_at, path_at, entry_at, entries_at}
 use Rattle.acap_grammar.specs.Keys.{value_part, meets_at, range_at, key_at, key_behind}
 use Rattle.acap_grammar.specs.Searching.{return_named, metadata_at, metadata_part, return_at, returns_at, sort_at, sorts_at, limit_at, flag_at, make_context_at, modified, modifier_at, no_modifier, modifiers_at, search_at}
 use Rattle.acap_grammar.specs.Grammar.{set_acl_at, delete_acl_at, list_rights_at, deleted_since_at, context_at, contexts_at, arguments_at, command_of}

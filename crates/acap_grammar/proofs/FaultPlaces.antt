@@ -3,23 +3,25 @@ use Rattle.std.proofs.Common.{◌≡◌, ℕ, zero, suc, ◌+◌, ◌-◌, ◌<�
 use Rattle.std.specs.Prelude.{codes, option_map, if◌then◌else◌}
 use Rattle.acap_lexer.specs.Token.{Token}
 use Rattle.acap_order.specs.declared.comparator.Comparator.{Comparator}
-use Rattle.acap_grammar.specs.declared.command.Command.{Command}
+use Rattle.acap_commands.specs.EntryOrder as entry_order
+use Rattle.acap_commands.specs.Modifiers as modifiers
+use Rattle.acap_commands.specs.declared.command.Command.{Command}
 use Rattle.acap_grammar.specs.declared.grammar_fault.GrammarFault.{GrammarFault}
 use Rattle.acap_grammar.specs.declared.grammar_fault.GrammarFault.TheVariants as fault
-use Rattle.acap_grammar.specs.declared.make_context.MakeContext.{MakeContext}
-use Rattle.acap_grammar.specs.declared.relation.Relation.{Relation}
-use Rattle.acap_grammar.specs.declared.relation.Relation.TheVariants as relation
-use Rattle.acap_grammar.specs.declared.return_item.ReturnItem.{ReturnItem}
-use Rattle.acap_grammar.specs.declared.return_name.ReturnName.{ReturnName}
-use Rattle.acap_grammar.specs.declared.search_modifiers.SearchModifiers.{SearchModifiers}
+use Rattle.acap_commands.specs.declared.make_context.MakeContext.{MakeContext}
+use Rattle.acap_commands.specs.declared.relation.Relation.{Relation}
+use Rattle.acap_commands.specs.declared.relation.Relation.TheVariants as relation
+use Rattle.acap_commands.specs.declared.return_item.ReturnItem.{ReturnItem}
+use Rattle.acap_commands.specs.declared.return_name.ReturnName.{ReturnName}
+use Rattle.acap_commands.specs.declared.search_modifiers.SearchModifiers.{SearchModifiers}
 use Rattle.acap_grammar.specs.declared.searching.Scope.{Scope}
-use Rattle.acap_grammar.specs.declared.store_entry.StoreEntry.{StoreEntry}
-use Rattle.acap_grammar.specs.declared.store_item.StoreItem.{StoreItem}
-use Rattle.acap_grammar.specs.declared.store_modifiers.StoreModifiers.{StoreModifiers}
+use Rattle.acap_commands.specs.declared.store_entry.StoreEntry.{StoreEntry}
+use Rattle.acap_commands.specs.declared.store_item.StoreItem.{StoreItem}
+use Rattle.acap_commands.specs.declared.store_modifiers.StoreModifiers.{StoreModifiers}
 use Rattle.acap_grammar.specs.declared.storing.Gifts.{Gifts}
-use Rattle.acap_grammar.specs.declared.target.Target.{Target}
-use Rattle.acap_grammar.specs.declared.verb.Verb.{Verb}
-use Rattle.acap_grammar.specs.declared.verb.Verb.TheVariants as verb
+use Rattle.acap_commands.specs.declared.target.Target.{Target}
+use Rattle.acap_commands.specs.declared.verb.Verb.{Verb}
+use Rattle.acap_commands.specs.declared.verb.Verb.TheVariants as verb
 use Rattle.acap_grammar.specs.declared.words.KeyWord.{KeyWord}
 use Rattle.acap_grammar.specs.declared.words.KeyWord.TheVariants as key_word
 use Rattle.acap_grammar.specs.declared.words.SearchWord.{SearchWord}
@@ -34,7 +36,7 @@ use Rattle.acap_grammar.specs.Marks as mark
 use Rattle.acap_grammar.specs.Outcome.{◌>>=◌, Fault, Read, refused, judged}
 use Rattle.acap_grammar.specs.Searching as searching
 use Rattle.acap_grammar.specs.Storing as storing
-use Rattle.acap_grammar.specs.Wanted.{Wanted}
+use Rattle.acap_commands.specs.Wanted.{Wanted}
 use Rattle.acap_grammar.proofs.Looking.{left_in, Front, Looks, At, Stops, Goes, bind, value, begins, by_token, behind_first, stops_there, past_first, choose, starting, ending, named, string, new_name, behind, worded, judged_first, worded_first, flagged, items, some_items, enclosed_items}
 
 -- ---- numbers and objects
@@ -131,11 +133,11 @@ condition seen = worded storing.store_words (storing.condition_by seen) (λ ts. 
 
 conditions : Looks storing.conditions_at
 unfolding storing.conditions_at storing.no_condition mark.word_at
-conditions = items storing.no_condition storing.no_condition storing.condition_at (worded_first storing.store_words) (worded_first storing.store_words) (inl refl) condition 3 storing.unconditional
+conditions = items storing.no_condition storing.no_condition storing.condition_at (worded_first storing.store_words) (worded_first storing.store_words) (inl refl) condition 3 modifiers.unconditional
 
 new_path : (seen : List StoreEntry) → Looks (storing.path_at seen)
 unfolding storing.path_at
-new_path seen = new_name argument.path_named (λ p. storing.has_path p seen) (λ p ts. Ok (p, ts)) (λ p. value p)
+new_path seen = new_name argument.path_named (λ p. entry_order.has_path p seen) (λ p ts. Ok (p, ts)) (λ p. value p)
 
 store_entry : (seen : List StoreEntry) → Looks (storing.entry_at seen)
 unfolding storing.entry_at

@@ -17,10 +17,10 @@ use Rattle.acap_entries.specs.Names.{is_slash, slash, dot, star, percent, nul, h
 use Rattle.acap_entries.specs.declared.path.Path.{Path}
 use Rattle.acap_entries.proofs.NameLemmas.{closed_by_slash, part_count, path_has_dataset, same_parts, taken_closed}
 use Rattle.acap_grammar.specs.declared.grammar_fault.GrammarFault.{GrammarFault}
-use Rattle.acap_grammar.specs.declared.return_name.ReturnName.{ReturnName}
-use Rattle.acap_grammar.specs.declared.return_name.ReturnName.TheVariants as name
-use Rattle.acap_grammar.specs.declared.target.Target.{Target}
-use Rattle.acap_grammar.specs.declared.target.Target.TheVariants as target
+use Rattle.acap_commands.specs.declared.return_name.ReturnName.{ReturnName}
+use Rattle.acap_commands.specs.declared.return_name.ReturnName.TheVariants as name
+use Rattle.acap_commands.specs.declared.target.Target.{Target}
+use Rattle.acap_commands.specs.declared.target.Target.TheVariants as target
 use Rattle.acap_grammar.specs.Arguments.{if_named, path_named, dataset_named, entry_named, attribute_named, context_named, target_named}
 use Rattle.acap_grammar.specs.Formed.{Lacks, BeginsOther, IsComponent, closed_each, IsMadeOf, IsFormed, IsFormedDataset, IsFormedAttribute, IsFormedContext, IsFormedReturn, IsFormedTarget, NamesLaw}
 use Rattle.acap_grammar.specs.Outcome.{◌>>=◌}

@@ -6,7 +6,7 @@ use Rattle.acap_grammar.specs.declared.words.KeyWord.TheVariants as key_word
 use Rattle.acap_grammar.specs.Outcome.{Refuses}
 use Rattle.acap_grammar.specs.Marks.{word_at}
 use Rattle.acap_grammar.specs.Keys.{key_words, key_at, key_behind}
-use Rattle.acap_grammar.specs.Wanted.{Wanted}
+use Rattle.acap_commands.specs.Wanted.{Wanted}
 
 pub and_fails : (e : GrammarError) (levels : ℕ) (tokens rest left : List Token) (first : Wanted) → word_at key_words tokens ≡ Some (key_word.And, rest) → key_at levels rest ≡ Ok (first, left) → Refuses e (key_at levels left) → Refuses e (key_at (suc levels) tokens)
 unfolding key_at key_behind

@@ -10,11 +10,7 @@ pub mod KeySteps
 pub mod Looking
 pub mod FaultPlaces
 pub mod Computing
-pub mod Exact
-pub mod ReplyEquality
-pub mod CommandEquality
 pub mod Ascending
-pub mod OrderLemmas
 pub mod PlainReads
 pub mod Yielding
 pub mod NamedReads

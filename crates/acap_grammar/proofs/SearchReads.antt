@@ -11,31 +11,32 @@ use Rattle.acap_order.specs.declared.comparator.Comparator.{Comparator}
 use Rattle.acap_order.specs.declared.comparator.Direction.{Direction}
 use Rattle.acap_order.specs.declared.comparator.Direction.TheVariants as direction
 use Rattle.acap_entries.proofs.TimeLaws.{time_law}
-use Rattle.acap_grammar.specs.declared.limit.Limit.{Limit}
-use Rattle.acap_grammar.specs.declared.make_context.MakeContext.{MakeContext}
-use Rattle.acap_grammar.specs.declared.metadata.Metadata.{Metadata}
-use Rattle.acap_grammar.specs.declared.metadata.Metadata.TheVariants as metadata
-use Rattle.acap_grammar.specs.declared.relation.Relation.{Relation}
-use Rattle.acap_grammar.specs.declared.relation.Relation.TheVariants as relation
-use Rattle.acap_grammar.specs.declared.return_item.ReturnItem.{ReturnItem}
-use Rattle.acap_grammar.specs.declared.return_name.ReturnName.{ReturnName}
-use Rattle.acap_grammar.specs.declared.return_name.ReturnName.TheVariants as name
-use Rattle.acap_grammar.specs.declared.search.Search.{Search}
-use Rattle.acap_grammar.specs.declared.search_modifiers.SearchModifiers.{SearchModifiers}
+use Rattle.acap_commands.specs.declared.limit.Limit.{Limit}
+use Rattle.acap_commands.specs.declared.make_context.MakeContext.{MakeContext}
+use Rattle.acap_commands.specs.declared.metadata.Metadata.{Metadata}
+use Rattle.acap_commands.specs.declared.metadata.Metadata.TheVariants as metadata
+use Rattle.acap_commands.specs.declared.relation.Relation.{Relation}
+use Rattle.acap_commands.specs.declared.relation.Relation.TheVariants as relation
+use Rattle.acap_commands.specs.declared.return_item.ReturnItem.{ReturnItem}
+use Rattle.acap_commands.specs.declared.return_name.ReturnName.{ReturnName}
+use Rattle.acap_commands.specs.declared.return_name.ReturnName.TheVariants as name
+use Rattle.acap_commands.specs.declared.search.Search.{Search}
+use Rattle.acap_commands.specs.declared.search_modifiers.SearchModifiers.{SearchModifiers}
 use Rattle.acap_grammar.specs.declared.searching.Scope.{Scope}
-use Rattle.acap_grammar.specs.declared.sort_item.SortItem.{SortItem}
-use Rattle.acap_grammar.specs.declared.target.Target.{Target}
-use Rattle.acap_grammar.specs.declared.target.Target.TheVariants as target
-use Rattle.acap_grammar.specs.declared.test.Test.{Test}
-use Rattle.acap_grammar.specs.declared.test.Test.TheVariants as test
+use Rattle.acap_commands.specs.declared.sort_item.SortItem.{SortItem}
+use Rattle.acap_commands.specs.declared.target.Target.{Target}
+use Rattle.acap_commands.specs.declared.target.Target.TheVariants as target
+use Rattle.acap_commands.specs.declared.test.Test.{Test}
+use Rattle.acap_commands.specs.declared.test.Test.TheVariants as test
 use Rattle.acap_grammar.specs.Several.{several}
 use Rattle.acap_grammar.specs.Marks.{is_string, is_open, is_close, starts, behind, string_at, word_at, behind_word}
 use Rattle.acap_grammar.specs.Arguments.{comparator_for, named_at, is_of_texts}
 use Rattle.acap_grammar.specs.Keys.{value_part, meets_at, range_at, key_at, key_behind}
-use Rattle.acap_grammar.specs.Searching.{is_context, metadata_at, default_metadata, metadata_part, return_at, returns_at, sort_at, sorts_at, limit_at, flag_at, make_context_at, unmodified, modified, modifier_at, no_modifier, modifiers_at, search_at}
+use Rattle.acap_commands.specs.Modifiers.{unmodified}
+use Rattle.acap_grammar.specs.Searching.{is_context, metadata_at, default_metadata, metadata_part, return_at, returns_at, sort_at, sorts_at, limit_at, flag_at, make_context_at, modified, modifier_at, no_modifier, modifiers_at, search_at}
 use Rattle.acap_grammar.specs.Sendable.{Each, OneTo, IsNumber, IsAttribute, IsLimit, IsContext, IsReturn, AreReturns, AreSorts, AreModifiers, Fits, IsTest, IsKey, levels, IsSearch}
 use Rattle.acap_grammar.specs.Spelling.{string, opened, shut, each, if_there, flag, word, number, time, comparator_name, comparator, told, is_left_out, return_item, sort_item, depth, hard_limit, limit, make_context, returns, sort, modifiers, test_tokens, key, search_tokens}
-use Rattle.acap_grammar.specs.Wanted.{Wanted, One, And, Or, Not}
+use Rattle.acap_commands.specs.Wanted.{Wanted, One, And, Or, Not}
 use Rattle.acap_grammar.proofs.NumberReads.{number_reads}
 use Rattle.acap_grammar.proofs.ListReads.{ReadsEach, one_more, no_more, list_reads, enclosed_read}
 

@@ -16,31 +16,33 @@ use Rattle.acap_entries.specs.Moments.{IsMoment}
 use Rattle.acap_entries.specs.Names.{is_path, dataset_of, name_of, dataset_len, is_attribute, is_context_name, is_entry_name}
 use Rattle.acap_entries.specs.Times.{time_of}
 use Rattle.acap_entries.specs.declared.path.Path.{Path}
-use Rattle.acap_grammar.specs.declared.command.Command.{Command}
-use Rattle.acap_grammar.specs.declared.command.Command.TheVariants as command
+use Rattle.acap_commands.specs.EntryOrder as entry_order
+use Rattle.acap_commands.specs.Modifiers as modifiers
+use Rattle.acap_commands.specs.declared.command.Command.{Command}
+use Rattle.acap_commands.specs.declared.command.Command.TheVariants as command
 use Rattle.acap_grammar.specs.declared.grammar_fault.GrammarFault.{GrammarFault}
 use Rattle.acap_grammar.specs.declared.grammar_fault.GrammarFault.TheVariants as fault
-use Rattle.acap_grammar.specs.declared.metadata.Metadata.{Metadata}
-use Rattle.acap_grammar.specs.declared.relation.Relation.{Relation}
-use Rattle.acap_grammar.specs.declared.relation.Relation.TheVariants as relation
-use Rattle.acap_grammar.specs.declared.return_item.ReturnItem.{ReturnItem}
-use Rattle.acap_grammar.specs.declared.return_name.ReturnName.{ReturnName}
-use Rattle.acap_grammar.specs.declared.return_name.ReturnName.TheVariants as name
-use Rattle.acap_grammar.specs.declared.search_modifiers.SearchModifiers.{SearchModifiers}
+use Rattle.acap_commands.specs.declared.metadata.Metadata.{Metadata}
+use Rattle.acap_commands.specs.declared.relation.Relation.{Relation}
+use Rattle.acap_commands.specs.declared.relation.Relation.TheVariants as relation
+use Rattle.acap_commands.specs.declared.return_item.ReturnItem.{ReturnItem}
+use Rattle.acap_commands.specs.declared.return_name.ReturnName.{ReturnName}
+use Rattle.acap_commands.specs.declared.return_name.ReturnName.TheVariants as name
+use Rattle.acap_commands.specs.declared.search_modifiers.SearchModifiers.{SearchModifiers}
 use Rattle.acap_grammar.specs.declared.searching.Scope.{Scope}
-use Rattle.acap_grammar.specs.declared.sort_item.SortItem.{SortItem}
-use Rattle.acap_grammar.specs.declared.store_entry.StoreEntry.{StoreEntry}
-use Rattle.acap_grammar.specs.declared.store_item.StoreItem.{StoreItem}
-use Rattle.acap_grammar.specs.declared.store_metadata.StoreMetadata.{StoreMetadata}
-use Rattle.acap_grammar.specs.declared.store_metadata.StoreMetadata.TheVariants as stored
-use Rattle.acap_grammar.specs.declared.store_modifiers.StoreModifiers.{StoreModifiers}
+use Rattle.acap_commands.specs.declared.sort_item.SortItem.{SortItem}
+use Rattle.acap_commands.specs.declared.store_entry.StoreEntry.{StoreEntry}
+use Rattle.acap_commands.specs.declared.store_item.StoreItem.{StoreItem}
+use Rattle.acap_commands.specs.declared.store_metadata.StoreMetadata.{StoreMetadata}
+use Rattle.acap_commands.specs.declared.store_metadata.StoreMetadata.TheVariants as stored
+use Rattle.acap_commands.specs.declared.store_modifiers.StoreModifiers.{StoreModifiers}
 use Rattle.acap_grammar.specs.declared.storing.Gifts.{Gifts}
-use Rattle.acap_grammar.specs.declared.target.Target.{Target}
-use Rattle.acap_grammar.specs.declared.target.Target.TheVariants as target
-use Rattle.acap_grammar.specs.declared.test.Test.{Test}
-use Rattle.acap_grammar.specs.declared.test.Test.TheVariants as test
-use Rattle.acap_grammar.specs.declared.verb.Verb.{Verb}
-use Rattle.acap_grammar.specs.declared.verb.Verb.TheVariants as verb
+use Rattle.acap_commands.specs.declared.target.Target.{Target}
+use Rattle.acap_commands.specs.declared.target.Target.TheVariants as target
+use Rattle.acap_commands.specs.declared.test.Test.{Test}
+use Rattle.acap_commands.specs.declared.test.Test.TheVariants as test
+use Rattle.acap_commands.specs.declared.verb.Verb.{Verb}
+use Rattle.acap_commands.specs.declared.verb.Verb.TheVariants as verb
 use Rattle.acap_grammar.specs.declared.words.KeyWord.{KeyWord}
 use Rattle.acap_grammar.specs.declared.words.KeyWord.TheVariants as key_word
 use Rattle.acap_grammar.specs.declared.words.SearchWord.{SearchWord}
@@ -57,7 +59,7 @@ use Rattle.acap_grammar.specs.Sendable.{Names, IsNumber, Each, OneTo, InCase, Is
 use Rattle.acap_grammar.specs.Several.{several, some_of, enclosed}
 use Rattle.acap_grammar.specs.Spelling.{target_text}
 use Rattle.acap_grammar.specs.Storing as storing
-use Rattle.acap_grammar.specs.Wanted.{Wanted, One, And, Or, Not}
+use Rattle.acap_commands.specs.Wanted.{Wanted, One, And, Or, Not}
 use Rattle.acap_grammar.proofs.FormedNames.{dataset_back, returned_is, target_is}
 use Rattle.acap_grammar.proofs.NamedReads.{moment_of_time}
 use Rattle.acap_grammar.proofs.Yielding.{Yields, bind, any, value, choose, behind, IsNamed, named, past_once, new_name, worded, no_fault, next_item, no_item, kept, AddsOne, list_items, some_items, enclosed_items}
@@ -368,14 +370,14 @@ condition m h =
 
 conditions : Yields storing.conditions_at SinceMoment
 unfolding storing.conditions_at
-conditions = kept SinceMoment storing.no_condition storing.no_condition storing.condition_at condition 3 storing.unconditional tt
+conditions = kept SinceMoment storing.no_condition storing.no_condition storing.condition_at condition 3 modifiers.unconditional tt
 
 abbrev IsNewPath : List StoreEntry → Path → Type 0
-IsNewPath seen p = Names argument.path_named (p.dataset ++ p.name) p × (storing.has_path p seen ≡ false)
+IsNewPath seen p = Names argument.path_named (p.dataset ++ p.name) p × (entry_order.has_path p seen ≡ false)
 
 new_path : (seen : List StoreEntry) → Yields (storing.path_at seen) (IsNewPath seen)
 unfolding storing.path_at
-new_path seen = new_name (IsNewPath seen) argument.path_named (λ p. storing.has_path p seen) (λ p ts. Ok (p, ts)) (λ p h new. value (IsNewPath seen) p (path_is p h, new))
+new_path seen = new_name (IsNewPath seen) argument.path_named (λ p. entry_order.has_path p seen) (λ p ts. Ok (p, ts)) (λ p h new. value (IsNewPath seen) p (path_is p h, new))
 
 store_entry : (seen : List StoreEntry) → Yields (storing.entry_at seen) (AddsOne IsEntry seen)
 unfolding storing.entry_at
@@ -561,7 +563,7 @@ modifier of s k = worded (IsScope of) searching.search_words (searching.modifier
       let over : searching.is_context of && searching.is_of_datasets w ≡ false = subst (λ (t : Target). searching.is_context t && searching.is_of_datasets w ≡ false) k.target_is m.0 in
       (bind (FitModifiers of) (IsScope of) (searching.modified s.modifiers w) _ (modified of s.modifiers w k.fit over) (λ n h. value (IsScope of) (record s { modifiers = n }) (record { target_is = k.target_is; fit = h }))).gives rest y m.1
 
-unmodified_fits : (of : Target) → Fits of searching.unmodified
+unmodified_fits : (of : Target) → Fits of modifiers.unmodified
 unmodified_fits (target.Dataset d) = tt
 unmodified_fits (target.Context c) = (refl, refl, refl)
 

@@ -2,8 +2,8 @@
 use Rattle.std.proofs.Common.{◌≡◌, ℕ, true, List, [], Option, Some, None, Ok, refl}
 use Rattle.acap_lexer.specs.Token.{Token}
 use Rattle.acap_entries.proofs.TimeLaws.{time_law}
-use Rattle.acap_grammar.specs.declared.command.Command.TheVariants as command
-use Rattle.acap_grammar.specs.declared.object.Object.{Object}
+use Rattle.acap_commands.specs.declared.command.Command.TheVariants as command
+use Rattle.acap_commands.specs.declared.object.Object.{Object}
 use Rattle.acap_grammar.specs.Marks.{is_string, ends, starts, behind, string_at, word_at}
 use Rattle.acap_grammar.specs.Arguments.{context_named, named_at, entry_part, attribute_part, object_at}
 use Rattle.acap_grammar.specs.Grammar.{set_acl_at, delete_acl_at, list_rights_at, deleted_since_at, context_at, contexts_at, arguments_at, command_of}

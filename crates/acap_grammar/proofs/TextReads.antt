@@ -23,27 +23,27 @@ use Rattle.acap_lexer.specs.Token.{Token}
 use Rattle.acap_lexer.proofs.SpelledLines.{spelling_reads}
 use Rattle.acap_lexer.proofs.SpelledTokens.{number_same}
 use Rattle.acap_entries.specs.declared.cell.Cell.TheVariants as cell
-use Rattle.acap_grammar.specs.declared.command.Command.{Command}
-use Rattle.acap_grammar.specs.declared.command.Command.TheVariants as command
-use Rattle.acap_grammar.specs.declared.given.Given.{Given}
-use Rattle.acap_grammar.specs.declared.given.Given.TheVariants as given
-use Rattle.acap_grammar.specs.declared.limit.Limit.{Limit}
-use Rattle.acap_grammar.specs.declared.make_context.MakeContext.{MakeContext}
-use Rattle.acap_grammar.specs.declared.metadata.Metadata.{Metadata}
-use Rattle.acap_grammar.specs.declared.object.Object.{Object}
-use Rattle.acap_grammar.specs.declared.relation.Relation.TheVariants as relation
-use Rattle.acap_grammar.specs.declared.return_item.ReturnItem.{ReturnItem}
-use Rattle.acap_grammar.specs.declared.search_modifiers.SearchModifiers.{SearchModifiers}
-use Rattle.acap_grammar.specs.declared.sort_item.SortItem.{SortItem}
-use Rattle.acap_grammar.specs.declared.store_entry.StoreEntry.{StoreEntry}
-use Rattle.acap_grammar.specs.declared.store_item.StoreItem.{StoreItem}
-use Rattle.acap_grammar.specs.declared.test.Test.{Test}
-use Rattle.acap_grammar.specs.declared.test.Test.TheVariants as test
+use Rattle.acap_commands.specs.declared.command.Command.{Command}
+use Rattle.acap_commands.specs.declared.command.Command.TheVariants as command
+use Rattle.acap_commands.specs.declared.given.Given.{Given}
+use Rattle.acap_commands.specs.declared.given.Given.TheVariants as given
+use Rattle.acap_commands.specs.declared.limit.Limit.{Limit}
+use Rattle.acap_commands.specs.declared.make_context.MakeContext.{MakeContext}
+use Rattle.acap_commands.specs.declared.metadata.Metadata.{Metadata}
+use Rattle.acap_commands.specs.declared.object.Object.{Object}
+use Rattle.acap_commands.specs.declared.relation.Relation.TheVariants as relation
+use Rattle.acap_commands.specs.declared.return_item.ReturnItem.{ReturnItem}
+use Rattle.acap_commands.specs.declared.search_modifiers.SearchModifiers.{SearchModifiers}
+use Rattle.acap_commands.specs.declared.sort_item.SortItem.{SortItem}
+use Rattle.acap_commands.specs.declared.store_entry.StoreEntry.{StoreEntry}
+use Rattle.acap_commands.specs.declared.store_item.StoreItem.{StoreItem}
+use Rattle.acap_commands.specs.declared.test.Test.{Test}
+use Rattle.acap_commands.specs.declared.test.Test.TheVariants as test
 use Rattle.acap_grammar.specs.Alike.{plain_kind, plain}
 use Rattle.acap_grammar.specs.Sendable.{IsNumber, IsLimit, AreModifiers, IsTest, IsKey, IsSendable}
 use Rattle.acap_grammar.specs.Spelling as spelling
 use Rattle.acap_grammar.specs.Texts.{written_string, written, pieces_behind, pieces_of, line_of, holding, SpelledTexts, ReadsTexts}
-use Rattle.acap_grammar.specs.Wanted.{Wanted, One, And, Or, Not}
+use Rattle.acap_commands.specs.Wanted.{Wanted, One, And, Or, Not}
 use Rattle.acap_grammar.proofs.NumberReads.{numerals}
 use Rattle.acap_grammar.proofs.PlainReads.{places_law}
 use Rattle.acap_grammar.proofs.SpellingReads.{spells_commands}

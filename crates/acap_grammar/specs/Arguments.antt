@@ -12,11 +12,11 @@ use Rattle.acap_entries.specs.Times.{time_of}
 use Rattle.acap_entries.specs.declared.path.Path.{Path}
 use Rattle.acap_grammar.specs.declared.grammar_fault.GrammarFault.{GrammarFault}
 use Rattle.acap_grammar.specs.declared.grammar_fault.GrammarFault.TheVariants as fault
-use Rattle.acap_grammar.specs.declared.object.Object.{Object}
-use Rattle.acap_grammar.specs.declared.relation.Relation.{Relation}
-use Rattle.acap_grammar.specs.declared.relation.Relation.TheVariants as relation
-use Rattle.acap_grammar.specs.declared.target.Target.{Target}
-use Rattle.acap_grammar.specs.declared.target.Target.TheVariants as target
+use Rattle.acap_commands.specs.declared.object.Object.{Object}
+use Rattle.acap_commands.specs.declared.relation.Relation.{Relation}
+use Rattle.acap_commands.specs.declared.relation.Relation.TheVariants as relation
+use Rattle.acap_commands.specs.declared.target.Target.{Target}
+use Rattle.acap_commands.specs.declared.target.Target.TheVariants as target
 use Rattle.acap_grammar.specs.Outcome.{◌>>=◌, Read, refused, judged}
 use Rattle.acap_grammar.specs.Marks.{is_word, is_open, is_close, starts, behind, string_at}
 

@@ -3,16 +3,16 @@ use Rattle.std.specs.Prelude.{ℕ, zero, suc, List, [], ◌∷◌, codes, Option
 use Rattle.acap_lexer.specs.Token.{Token}
 use Rattle.acap_order.specs.declared.comparator.Comparator.{Comparator}
 use Rattle.acap_grammar.specs.declared.grammar_fault.GrammarFault.TheVariants as fault
-use Rattle.acap_grammar.specs.declared.relation.Relation.{Relation}
-use Rattle.acap_grammar.specs.declared.relation.Relation.TheVariants as relation
-use Rattle.acap_grammar.specs.declared.test.Test.{Test}
-use Rattle.acap_grammar.specs.declared.test.Test.TheVariants as test
+use Rattle.acap_commands.specs.declared.relation.Relation.{Relation}
+use Rattle.acap_commands.specs.declared.relation.Relation.TheVariants as relation
+use Rattle.acap_commands.specs.declared.test.Test.{Test}
+use Rattle.acap_commands.specs.declared.test.Test.TheVariants as test
 use Rattle.acap_grammar.specs.declared.words.KeyWord.{KeyWord}
 use Rattle.acap_grammar.specs.declared.words.KeyWord.TheVariants as key_word
 use Rattle.acap_grammar.specs.Outcome.{◌>>=◌, Read, refused}
 use Rattle.acap_grammar.specs.Marks.{ends, string_at, behind_word, word_at}
 use Rattle.acap_grammar.specs.Arguments.{attribute_named, named_at, number_at, time_named, comparator_for}
-use Rattle.acap_grammar.specs.Wanted.{Wanted, One, And, Or, Not}
+use Rattle.acap_commands.specs.Wanted.{Wanted, One, And, Or, Not}
 
 abbrev pub key_words : List (List ℕ × KeyWord)
 key_words =

@@ -7,30 +7,30 @@ use Rattle.acap_entries.specs.declared.cell.Cell.TheVariants as cell
 use Rattle.acap_entries.specs.declared.item.Item.{Item}
 use Rattle.acap_entries.specs.declared.item.Item.TheVariants as item
 use Rattle.acap_entries.specs.declared.row.Row.{Row}
-use Rattle.acap_grammar.specs.declared.command.Command.{Command}
-use Rattle.acap_grammar.specs.declared.command.Command.TheVariants as command
-use Rattle.acap_grammar.specs.declared.given.Given.TheVariants as given
+use Rattle.acap_commands.specs.declared.command.Command.{Command}
+use Rattle.acap_commands.specs.declared.command.Command.TheVariants as command
+use Rattle.acap_commands.specs.declared.given.Given.TheVariants as given
 use Rattle.acap_grammar.specs.declared.grammar_fault.GrammarFault.{GrammarFault}
 use Rattle.acap_grammar.specs.declared.grammar_fault.GrammarFault.TheVariants as fault
-use Rattle.acap_grammar.specs.declared.metadata.Metadata.TheVariants as metadata
-use Rattle.acap_grammar.specs.declared.reply.Reply.{Reply}
-use Rattle.acap_grammar.specs.declared.refusal.Refusal.{Refusal}
-use Rattle.acap_grammar.specs.declared.refusal.Refusal.TheVariants as refusal
-use Rattle.acap_grammar.specs.declared.return_item.ReturnItem.{ReturnItem}
-use Rattle.acap_grammar.specs.declared.return_name.ReturnName.TheVariants as name
-use Rattle.acap_grammar.specs.declared.said.Said.{Said}
-use Rattle.acap_grammar.specs.declared.said.Said.TheVariants as said
-use Rattle.acap_grammar.specs.declared.store_metadata.StoreMetadata.TheVariants as stored
-use Rattle.acap_grammar.specs.declared.target.Target.TheVariants as target
-use Rattle.acap_grammar.specs.declared.test.Test.TheVariants as test
-use Rattle.acap_grammar.specs.declared.verb.Verb.TheVariants as verb
+use Rattle.acap_commands.specs.declared.metadata.Metadata.TheVariants as metadata
+use Rattle.acap_commands.specs.declared.reply.Reply.{Reply}
+use Rattle.acap_commands.specs.declared.refusal.Refusal.{Refusal}
+use Rattle.acap_commands.specs.declared.refusal.Refusal.TheVariants as refusal
+use Rattle.acap_commands.specs.declared.return_item.ReturnItem.{ReturnItem}
+use Rattle.acap_commands.specs.declared.return_name.ReturnName.TheVariants as name
+use Rattle.acap_commands.specs.declared.said.Said.{Said}
+use Rattle.acap_commands.specs.declared.said.Said.TheVariants as said
+use Rattle.acap_commands.specs.declared.store_metadata.StoreMetadata.TheVariants as stored
+use Rattle.acap_commands.specs.declared.target.Target.TheVariants as target
+use Rattle.acap_commands.specs.declared.test.Test.TheVariants as test
+use Rattle.acap_commands.specs.declared.verb.Verb.TheVariants as verb
 use Rattle.acap_grammar.specs.Grammar.{command_at, command_of}
 use Rattle.acap_grammar.specs.Outcome.{Fault}
 use Rattle.acap_grammar.specs.Replies.{octets_of, crlf}
-use Rattle.acap_grammar.specs.Searching.{unmodified}
+use Rattle.acap_commands.specs.Modifiers.{unmodified}
 use Rattle.acap_grammar.specs.Sendable.{IsSendable}
-use Rattle.acap_grammar.specs.Storing.{unconditional}
-use Rattle.acap_grammar.specs.Wanted.{One}
+use Rattle.acap_commands.specs.Modifiers.{unconditional}
+use Rattle.acap_commands.specs.Wanted.{One}
 
 -- the first fault from the left of a line that is no command
 abbrev pub fault_in : Result Command GrammarFault → Option GrammarFault

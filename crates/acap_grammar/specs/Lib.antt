@@ -1,14 +1,12 @@
 pub mod Arguments
 pub mod Ascending
-pub mod EntryOrder
+pub mod Gathering
 pub mod Grammar
 pub mod Keys
 pub mod Laws
 pub mod Examples
 pub mod Marks
-pub mod Nodes
 pub mod Outcome
-pub mod Plain
 pub mod Refusals
 pub mod Replies
 pub mod Searching
@@ -16,7 +14,6 @@ pub mod Sendable
 pub mod Several
 pub mod Spelling
 pub mod Storing
-pub mod Wanted
 pub mod Alike
 pub mod Texts
 pub mod Formed

@@ -6,11 +6,11 @@ use Rattle.acap_lexer.specs.Printing.{printed}
 use Rattle.acap_entries.specs.declared.path.Path.{Path}
 use Rattle.acap_grammar.specs.declared.grammar_fault.GrammarFault.{GrammarFault}
 use Rattle.acap_grammar.specs.declared.grammar_fault.GrammarFault.TheVariants as fault
-use Rattle.acap_grammar.specs.declared.object.Object.{Object}
-use Rattle.acap_grammar.specs.declared.refusal.Refusal.{Refusal}
-use Rattle.acap_grammar.specs.declared.refusal.Refusal.TheVariants as refusal
-use Rattle.acap_grammar.specs.declared.status.Status.{Status}
-use Rattle.acap_grammar.specs.declared.status.Status.TheVariants as status
+use Rattle.acap_commands.specs.declared.object.Object.{Object}
+use Rattle.acap_commands.specs.declared.refusal.Refusal.{Refusal}
+use Rattle.acap_commands.specs.declared.refusal.Refusal.TheVariants as refusal
+use Rattle.acap_commands.specs.declared.status.Status.{Status}
+use Rattle.acap_commands.specs.declared.status.Status.TheVariants as status
 
 -- the refusal of a line with this lexical fault
 abbrev pub of_lexical : LexFault → Refusal
@@ -30,29 +30,6 @@ of_grammar fault.BadTime = refusal.BadTime
 of_grammar fault.BadComparator = refusal.BadComparator
 of_grammar fault.TooDeep = refusal.TooDeep
 of_grammar fault.TooMany = refusal.TooMany
-
--- NO where the command failed, BAD where it can't be one, BYE where the session is closed
-abbrev pub status_of : Refusal → Status
-status_of refusal.BadTag = status.Bad
-status_of refusal.BadToken = status.Bad
-status_of refusal.BadLiteral = status.Bad
-status_of refusal.CommandTooLong = status.Bye
-status_of refusal.LineTooLong = status.Bye
-status_of refusal.UnknownCommand = status.Bad
-status_of refusal.Arguments = status.Bad
-status_of refusal.NotPermittedTwice = status.Bad
-status_of refusal.BadName = status.Bad
-status_of refusal.BadTime = status.Bad
-status_of refusal.BadComparator = status.Bad
-status_of refusal.TooDeep = status.Bad
-status_of refusal.TooMany = status.Bad
-status_of refusal.NotLoggedIn = status.Bad
-status_of refusal.LoggedIn = status.Bad
-status_of refusal.Cancelled = status.Bad
-status_of refusal.RangeHere = status.Bad
-status_of refusal.TooManySessions = status.Bye
-status_of refusal.Unserved = status.Bad
-status_of _ = status.No
 
 abbrev pub text_of : Refusal → List ℕ
 text_of refusal.BadTag = codes "Bad tag"

@@ -7,16 +7,17 @@ use Rattle.acap_entries.specs.declared.cell.Cell.TheVariants as cell
 use Rattle.acap_entries.specs.declared.item.Item.{Item}
 use Rattle.acap_entries.specs.declared.item.Item.TheVariants as item
 use Rattle.acap_entries.specs.declared.row.Row.{Row}
-use Rattle.acap_grammar.specs.declared.search_reply.SearchReply.{SearchReply}
-use Rattle.acap_grammar.specs.declared.refusal.Refusal.{Refusal}
-use Rattle.acap_grammar.specs.declared.reply.Reply.{Reply}
-use Rattle.acap_grammar.specs.declared.said.Said.{Said}
-use Rattle.acap_grammar.specs.declared.said.Said.TheVariants as said
-use Rattle.acap_grammar.specs.declared.status.Status.{Status}
-use Rattle.acap_grammar.specs.declared.status.Status.TheVariants as status
-use Rattle.acap_grammar.specs.declared.verb.Verb.{Verb}
-use Rattle.acap_grammar.specs.declared.verb.Verb.TheVariants as verb
-use Rattle.acap_grammar.specs.Refusals.{status_of, code_of, text_of}
+use Rattle.acap_commands.specs.declared.search_reply.SearchReply.{SearchReply}
+use Rattle.acap_commands.specs.declared.refusal.Refusal.{Refusal}
+use Rattle.acap_commands.specs.declared.reply.Reply.{Reply}
+use Rattle.acap_commands.specs.declared.said.Said.{Said}
+use Rattle.acap_commands.specs.declared.said.Said.TheVariants as said
+use Rattle.acap_commands.specs.declared.status.Status.{Status}
+use Rattle.acap_commands.specs.declared.status.Status.TheVariants as status
+use Rattle.acap_commands.specs.declared.verb.Verb.{Verb}
+use Rattle.acap_commands.specs.declared.verb.Verb.TheVariants as verb
+use Rattle.acap_commands.specs.Statuses.{status_of}
+use Rattle.acap_grammar.specs.Refusals.{code_of, text_of}
 
 -- where a line ends: CR LF
 abbrev pub crlf : List ℕ

@@ -4,19 +4,20 @@ use Rattle.acap_lexer.specs.Token.{Token}
 use Rattle.acap_entries.specs.Names.{is_attribute, ends_with, star}
 use Rattle.acap_grammar.specs.declared.grammar_fault.GrammarFault.{GrammarFault}
 use Rattle.acap_grammar.specs.declared.grammar_fault.GrammarFault.TheVariants as fault
-use Rattle.acap_grammar.specs.declared.limit.Limit.{Limit}
-use Rattle.acap_grammar.specs.declared.make_context.MakeContext.{MakeContext}
-use Rattle.acap_grammar.specs.declared.metadata.Metadata.{Metadata}
-use Rattle.acap_grammar.specs.declared.metadata.Metadata.TheVariants as metadata
-use Rattle.acap_grammar.specs.declared.return_item.ReturnItem.{ReturnItem}
-use Rattle.acap_grammar.specs.declared.return_name.ReturnName.{ReturnName}
-use Rattle.acap_grammar.specs.declared.return_name.ReturnName.TheVariants as name
-use Rattle.acap_grammar.specs.declared.search.Search.{Search}
+use Rattle.acap_commands.specs.declared.limit.Limit.{Limit}
+use Rattle.acap_commands.specs.declared.make_context.MakeContext.{MakeContext}
+use Rattle.acap_commands.specs.declared.metadata.Metadata.{Metadata}
+use Rattle.acap_commands.specs.declared.metadata.Metadata.TheVariants as metadata
+use Rattle.acap_commands.specs.declared.return_item.ReturnItem.{ReturnItem}
+use Rattle.acap_commands.specs.declared.return_name.ReturnName.{ReturnName}
+use Rattle.acap_commands.specs.declared.return_name.ReturnName.TheVariants as name
+use Rattle.acap_commands.specs.declared.search.Search.{Search}
 use Rattle.acap_grammar.specs.declared.searching.Scope.{Scope}
-use Rattle.acap_grammar.specs.declared.search_modifiers.SearchModifiers.{SearchModifiers}
-use Rattle.acap_grammar.specs.declared.sort_item.SortItem.{SortItem}
-use Rattle.acap_grammar.specs.declared.target.Target.{Target}
-use Rattle.acap_grammar.specs.declared.target.Target.TheVariants as target
+use Rattle.acap_commands.specs.Modifiers.{unmodified}
+use Rattle.acap_commands.specs.declared.search_modifiers.SearchModifiers.{SearchModifiers}
+use Rattle.acap_commands.specs.declared.sort_item.SortItem.{SortItem}
+use Rattle.acap_commands.specs.declared.target.Target.{Target}
+use Rattle.acap_commands.specs.declared.target.Target.TheVariants as target
 use Rattle.acap_grammar.specs.declared.words.SearchWord.{SearchWord}
 use Rattle.acap_grammar.specs.declared.words.SearchWord.TheVariants as search_word
 use Rattle.acap_grammar.specs.Outcome.{◌>>=◌, Read, refused, judged}
@@ -117,10 +118,6 @@ search_words =
     (codes "DEPTH", search_word.Depth) ∷ (codes "HARDLIMIT", search_word.HardLimit) ∷ (codes "LIMIT", search_word.Limit)
     ∷ (codes "MAKECONTEXT", search_word.MakeContext) ∷ (codes "NOINHERIT", search_word.NoInherit) ∷ (codes "RETURN", search_word.Return)
     ∷ (codes "SORT", search_word.Sort) ∷ []
-
-abbrev pub unmodified : SearchModifiers
-unmodified =
-    record { depth = None; hard_limit = None; limit = None; make_context = None; no_inherit = false; returns = None; sort = None }
 
 -- whether that modifier stands among those before
 abbrev pub has_modifier : SearchModifiers → SearchWord → Bool

@@ -5,28 +5,29 @@ use Rattle.std.specs.Str.{bytes_eq}
 use Rattle.acap_lexer.specs.Token.{Token}
 use Rattle.acap_order.specs.Ranks.{is_numeric}
 use Rattle.acap_entries.specs.Moments.{IsMoment}
-use Rattle.acap_grammar.specs.declared.command.Command.{Command}
-use Rattle.acap_grammar.specs.declared.command.Command.TheVariants as command
+use Rattle.acap_commands.specs.declared.command.Command.{Command}
+use Rattle.acap_commands.specs.declared.command.Command.TheVariants as command
 use Rattle.acap_grammar.specs.declared.grammar_fault.GrammarFault.{GrammarFault}
-use Rattle.acap_grammar.specs.declared.limit.Limit.{Limit}
-use Rattle.acap_grammar.specs.declared.make_context.MakeContext.{MakeContext}
-use Rattle.acap_grammar.specs.declared.object.Object.{Object}
-use Rattle.acap_grammar.specs.declared.return_item.ReturnItem.{ReturnItem}
-use Rattle.acap_grammar.specs.declared.search.Search.{Search}
-use Rattle.acap_grammar.specs.declared.search_modifiers.SearchModifiers.{SearchModifiers}
-use Rattle.acap_grammar.specs.declared.sort_item.SortItem.{SortItem}
-use Rattle.acap_grammar.specs.declared.store_entry.StoreEntry.{StoreEntry}
-use Rattle.acap_grammar.specs.declared.store_item.StoreItem.{StoreItem}
-use Rattle.acap_grammar.specs.declared.target.Target.{Target}
-use Rattle.acap_grammar.specs.declared.target.Target.TheVariants as target
-use Rattle.acap_grammar.specs.declared.test.Test.{Test}
-use Rattle.acap_grammar.specs.declared.test.Test.TheVariants as test
+use Rattle.acap_commands.specs.declared.limit.Limit.{Limit}
+use Rattle.acap_commands.specs.declared.make_context.MakeContext.{MakeContext}
+use Rattle.acap_commands.specs.declared.object.Object.{Object}
+use Rattle.acap_commands.specs.declared.return_item.ReturnItem.{ReturnItem}
+use Rattle.acap_commands.specs.declared.search.Search.{Search}
+use Rattle.acap_commands.specs.declared.search_modifiers.SearchModifiers.{SearchModifiers}
+use Rattle.acap_commands.specs.declared.sort_item.SortItem.{SortItem}
+use Rattle.acap_commands.specs.declared.store_entry.StoreEntry.{StoreEntry}
+use Rattle.acap_commands.specs.declared.store_item.StoreItem.{StoreItem}
+use Rattle.acap_commands.specs.declared.target.Target.{Target}
+use Rattle.acap_commands.specs.declared.target.Target.TheVariants as target
+use Rattle.acap_commands.specs.declared.test.Test.{Test}
+use Rattle.acap_commands.specs.declared.test.Test.TheVariants as test
 use Rattle.acap_grammar.specs.Arguments.{attribute_named, context_named, dataset_named, entry_named, path_named, target_named, is_of_texts}
 use Rattle.acap_grammar.specs.Grammar.{command_of}
 use Rattle.acap_grammar.specs.Searching.{return_named}
 use Rattle.acap_grammar.specs.Spelling.{dataset_text, return_text, target_text, tokens_of}
-use Rattle.acap_grammar.specs.Storing.{has_path, has_attribute, same_metadata}
-use Rattle.acap_grammar.specs.Wanted.{Wanted, One, And, Or, Not}
+use Rattle.acap_commands.specs.EntryOrder.{has_path}
+use Rattle.acap_grammar.specs.Storing.{has_attribute, same_metadata}
+use Rattle.acap_commands.specs.Wanted.{Wanted, One, And, Or, Not}
 
 -- ---- in general
 

@@ -5,15 +5,17 @@ use Rattle.std.specs.Str.{bytes_eq}
 use Rattle.acap_lexer.specs.Token.{Token}
 use Rattle.acap_entries.specs.declared.cell.Cell.TheVariants as cell
 use Rattle.acap_entries.specs.declared.path.Path.{Path}
-use Rattle.acap_grammar.specs.declared.given.Given.{Given}
-use Rattle.acap_grammar.specs.declared.given.Given.TheVariants as given
+use Rattle.acap_commands.specs.EntryOrder.{has_path}
+use Rattle.acap_commands.specs.Modifiers.{unconditional}
+use Rattle.acap_commands.specs.declared.given.Given.{Given}
+use Rattle.acap_commands.specs.declared.given.Given.TheVariants as given
 use Rattle.acap_grammar.specs.declared.grammar_fault.GrammarFault.{GrammarFault}
 use Rattle.acap_grammar.specs.declared.grammar_fault.GrammarFault.TheVariants as fault
-use Rattle.acap_grammar.specs.declared.store_entry.StoreEntry.{StoreEntry}
-use Rattle.acap_grammar.specs.declared.store_item.StoreItem.{StoreItem}
-use Rattle.acap_grammar.specs.declared.store_metadata.StoreMetadata.{StoreMetadata}
-use Rattle.acap_grammar.specs.declared.store_metadata.StoreMetadata.TheVariants as metadata
-use Rattle.acap_grammar.specs.declared.store_modifiers.StoreModifiers.{StoreModifiers}
+use Rattle.acap_commands.specs.declared.store_entry.StoreEntry.{StoreEntry}
+use Rattle.acap_commands.specs.declared.store_item.StoreItem.{StoreItem}
+use Rattle.acap_commands.specs.declared.store_metadata.StoreMetadata.{StoreMetadata}
+use Rattle.acap_commands.specs.declared.store_metadata.StoreMetadata.TheVariants as metadata
+use Rattle.acap_commands.specs.declared.store_modifiers.StoreModifiers.{StoreModifiers}
 use Rattle.acap_grammar.specs.declared.storing.Gifts.{Gifts}
 use Rattle.acap_grammar.specs.declared.words.StoreWord.{StoreWord}
 use Rattle.acap_grammar.specs.declared.words.StoreWord.TheVariants as store_word
@@ -28,10 +30,7 @@ use Rattle.acap_grammar.specs.Arguments.{or_fault, path_named, attribute_named, 
 abbrev pub once : Bool → Result (Unit {0}) GrammarFault
 once stood = if stood then Err fault.NotPermittedTwice else Ok tt
 
--- whether an entry with this path, an item with this attribute, or one with the same metadata, stands among those before
-unfoldable pub has_path : Path → List StoreEntry → Bool
-has_path path seen = list_any (λ e. bytes_eq e.path.dataset path.dataset && bytes_eq e.path.name path.name) seen
-
+-- whether an item with this attribute, or one with the same metadata, stands among those before
 unfoldable pub has_attribute : List ℕ → List StoreItem → Bool
 has_attribute attribute seen = list_any (λ i. bytes_eq i.attribute attribute) seen
 
@@ -103,9 +102,6 @@ unfoldable pub items_at : List Token → Read (List StoreItem)
 items_at tokens = some_of (starts is_close) (starts is_string) item_at 256 [] tokens
 
 -- ---- modifiers
-
-abbrev pub unconditional : StoreModifiers
-unconditional = record { no_create = false; unchanged_since = None }
 
 abbrev pub store_words : List (List ℕ × StoreWord)
 store_words = (codes "NOCREATE", store_word.NoCreate) ∷ (codes "UNCHANGEDSINCE", store_word.UnchangedSince) ∷ []

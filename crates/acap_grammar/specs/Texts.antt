@@ -12,7 +12,7 @@ use Rattle.acap_lexer.specs.Printing.{may_quote}
 use Rattle.acap_lexer.specs.Spelling.{Written, Word, Quoted, Literal, Open, Close, Piece, IsSpelling, IsTag, kind_of, may_part, part_lengths, text_of}
 use Rattle.acap_lexer.specs.Stream.{progress}
 use Rattle.acap_lexer.specs.Token.{Token}
-use Rattle.acap_grammar.specs.declared.command.Command.{Command}
+use Rattle.acap_commands.specs.declared.command.Command.{Command}
 use Rattle.acap_grammar.specs.Alike.{Alike}
 use Rattle.acap_grammar.specs.Grammar.{command_of}
 use Rattle.acap_grammar.specs.Sendable.{IsSendable}

@@ -11,9 +11,7 @@ ghost use Rattle.acap_grammar.specs.Arguments as argument;
 use crate::descent::{Piece, behind_close, behind_open, closes, peek, string_at};
 use crate::grammar_error::GrammarError;
 use crate::grammar_fault::GrammarFault;
-use crate::object::Object;
-use crate::relation::Relation;
-use crate::target::Target;
+use acap_commands::{Object, Relation, Target};
 use acap_entries::{
     Attribute, ContextName, Dataset, EntryName, Memory, Moment, NameFault, Path, Value,
     begins_with, is_entry_name, is_path, read_time,

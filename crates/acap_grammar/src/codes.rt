@@ -4,8 +4,7 @@ ghost use Rattle.std.specs.Prelude.{◌≡◌, ◌++◌, ◌∷◌, OnOk, codes}
 ghost use Rattle.acap_lexer.specs.Printing.{printed, Grows};
 ghost use Rattle.acap_grammar.specs.Refusals.{object_end, object_form, path_form, code_of};
 
-use crate::object::Object;
-use crate::refusal::Refusal;
+use acap_commands::{Object, Refusal};
 use crate::strings::{append_path, append_string};
 use acap_entries::{Attribute, Dataset, EntryName, Memory, Path};
 

@@ -4,14 +4,10 @@ ghost use Rattle.std.specs.Str.{bytes_eq};
 ghost use Rattle.acap_entries.specs.Orders.{octets_cmp};
 ghost use Rattle.acap_entries.specs.Store.{path_cmp};
 ghost use Rattle.acap_grammar.specs.Ascending.{last_cmp};
-ghost use Rattle.acap_grammar.specs.EntryOrder.{Orders};
+ghost use Rattle.acap_commands.specs.EntryOrder.{Orders};
 ghost use Rattle.acap_grammar.specs.Storing as storing;
 
-use crate::entry_order::EntryOrder;
-use crate::lists::{Entries, StoreItems};
-use crate::store_entry::StoreEntry;
-use crate::store_item::StoreItem;
-use crate::store_metadata::StoreMetadata;
+use acap_commands::{Entries, EntryOrder, StoreEntry, StoreItem, StoreItems, StoreMetadata};
 use acap_entries::{Attribute, Memory, Path};
 use std::alloc::Global;
 use std::cmp::Ordering;
@@ -28,8 +24,8 @@ pub(crate) struct GatheredEntries {
 
 impl Model for GatheredEntries {
     ghost use Rattle.std.specs.Prelude.{List};
-    ghost use Rattle.acap_grammar.specs.EntryOrder.{Gathered};
-    ghost use Rattle.acap_grammar.specs.declared.store_entry.StoreEntry.{StoreEntry};
+    ghost use Rattle.acap_grammar.specs.Gathering.{Gathered};
+    ghost use Rattle.acap_commands.specs.declared.store_entry.StoreEntry.{StoreEntry};
 
     ghost Value = { List StoreEntry };
 
@@ -132,7 +128,7 @@ impl Model for GatheredItems {
     ghost use Rattle.std.specs.Prelude.{List};
     ghost use Rattle.acap_entries.specs.Orders.{octets_cmp};
     ghost use Rattle.acap_grammar.specs.Ascending.{Ascends};
-    ghost use Rattle.acap_grammar.specs.declared.store_item.StoreItem.{StoreItem};
+    ghost use Rattle.acap_commands.specs.declared.store_item.StoreItem.{StoreItem};
 
     ghost Value = { List StoreItem };
 

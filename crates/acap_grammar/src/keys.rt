@@ -3,7 +3,7 @@
 ghost use Rattle.std.specs.Prelude.{◌≡◌, drop, codes, if◌then◌else◌};
 ghost use Rattle.acap_grammar.specs.Outcome.{Reads};
 ghost use Rattle.acap_grammar.specs.Marks.{behind_word as behind_word_of, ends as ends_tokens};
-ghost use Rattle.acap_grammar.specs.Wanted.{One};
+ghost use Rattle.acap_commands.specs.Wanted.{One};
 ghost use Rattle.acap_grammar.specs.declared.grammar_fault.GrammarFault.TheVariants as fault;
 ghost use Rattle.acap_grammar.specs.Keys as keys;
 
@@ -11,9 +11,7 @@ use crate::arguments::{attribute_at, comparator_for_at, number_at, time_at, valu
 use crate::descent::{behind_word, ends};
 use crate::grammar_error::GrammarError;
 use crate::grammar_fault::GrammarFault;
-use crate::key::Key;
-use crate::relation::Relation;
-use crate::test::Test;
+use acap_commands::{Key, Relation, Test};
 use crate::words::{KeyWord, word_at};
 use acap_entries::Attribute;
 use acap_lexer::Tokens;

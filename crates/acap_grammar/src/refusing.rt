@@ -1,24 +1,22 @@
 //! How refusals are told, and which faults they are.
 
 ghost use Rattle.std.specs.Prelude.{◌≡◌};
-ghost use Rattle.acap_grammar.specs.Refusals.{of_lexical, of_grammar, status_of, text_of};
+ghost use Rattle.acap_grammar.specs.Refusals.{of_lexical, of_grammar, text_of};
 
 use crate::grammar_fault::GrammarFault;
-use crate::refusal::Refusal;
-use crate::status::Status;
+use acap_commands::Refusal;
 use acap_lexer::LexFault;
 
-impl From<LexFault> for Refusal {
-    ghost from_gives = { λ fault refusal. refusal ≡ of_lexical fault };
-
-    fn from(fault: LexFault) -> Refusal {
-        match fault {
-            LexFault::BadTag => Refusal::BadTag,
-            LexFault::BadToken => Refusal::BadToken,
-            LexFault::BadLiteral => Refusal::BadLiteral,
-            LexFault::CommandTooLong => Refusal::CommandTooLong,
-            LexFault::LineTooLong => Refusal::LineTooLong,
-        }
+/// The refusal of a line with this lexical fault (RFC 2244 section 2.2). A function, since neither type stands in this crate.
+pub fn lexical_refusal(fault: LexFault) -> Refusal
+    ensures { result ≡ of_lexical fault }
+{
+    match fault {
+        LexFault::BadTag => Refusal::BadTag,
+        LexFault::BadToken => Refusal::BadToken,
+        LexFault::BadLiteral => Refusal::BadLiteral,
+        LexFault::CommandTooLong => Refusal::CommandTooLong,
+        LexFault::LineTooLong => Refusal::LineTooLong,
     }
 }
 
@@ -35,36 +33,6 @@ impl From<GrammarFault> for Refusal {
             GrammarFault::BadComparator => Refusal::BadComparator,
             GrammarFault::TooDeep => Refusal::TooDeep,
             GrammarFault::TooMany => Refusal::TooMany,
-        }
-    }
-}
-
-impl Refusal {
-    /// Whether it is told as NO, BAD or BYE (RFC 2244 section 6.2). A session that says BYE is closed.
-    pub fn status(&self) -> Status
-        ensures { result ≡ status_of self.now }
-    {
-        match self {
-            Refusal::CommandTooLong | Refusal::LineTooLong | Refusal::TooManySessions => {
-                Status::Bye
-            }
-            Refusal::BadTag
-            | Refusal::BadToken
-            | Refusal::BadLiteral
-            | Refusal::UnknownCommand
-            | Refusal::Arguments
-            | Refusal::NotPermittedTwice
-            | Refusal::BadName
-            | Refusal::BadTime
-            | Refusal::BadComparator
-            | Refusal::TooDeep
-            | Refusal::TooMany
-            | Refusal::NotLoggedIn
-            | Refusal::LoggedIn
-            | Refusal::Cancelled
-            | Refusal::RangeHere
-            | Refusal::Unserved => Status::Bad,
-            _ => Status::No,
         }
     }
 }

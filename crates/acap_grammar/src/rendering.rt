@@ -6,14 +6,9 @@ ghost use Rattle.acap_grammar.specs.Replies.{row_form, rows_form, last_form, don
 
 use crate::codes::append_code;
 use crate::data::append_items;
-use crate::refusal::Refusal;
+use acap_commands::{Refusal, Reply, Said, SearchReply, Status, Verb};
 use crate::refusing::text_of;
-use crate::reply::Reply;
-use crate::said::Said;
-use crate::search_reply::SearchReply;
-use crate::status::Status;
 use crate::strings::{append_spaced, append_string};
-use crate::verb::Verb;
 use acap_entries::{Memory, Moment, Octets, Row, Value, stamp};
 
 #[tactic(auto, unfolding(crate::specs::Replies::row_form))]

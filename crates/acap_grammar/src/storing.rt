@@ -11,15 +11,10 @@ use crate::descent::{
     Piece, behind_close, behind_open, closes, ends, opens, peek, starts_string, string_at,
 };
 use crate::gathered::{GatheredEntries, GatheredItems};
-use crate::given::Given;
+use acap_commands::{Entries, Given, StoreEntry, StoreItem, StoreItems, StoreMetadata, StoreModifiers};
 use crate::grammar_error::GrammarError;
 use crate::grammar_fault::GrammarFault;
-use crate::lists::{Entries, StoreItems};
 use crate::several::{Gather, enclosed, some_of};
-use crate::store_entry::StoreEntry;
-use crate::store_item::StoreItem;
-use crate::store_metadata::StoreMetadata;
-use crate::store_modifiers::StoreModifiers;
 use crate::words::{StoreWord, word_at};
 use acap_entries::{Attribute, Cell, Copying, Memory, Path, Value, Values};
 use acap_lexer::{Kind, Tokens};

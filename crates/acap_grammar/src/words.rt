@@ -4,9 +4,7 @@ ghost use Rattle.std.specs.Prelude.{◌≡◌, ℕ, List, drop, option_map};
 ghost use Rattle.acap_grammar.specs.Marks.{word_in, word_at};
 
 use crate::descent::{Piece, peek};
-use crate::given::Given;
-use crate::relation::Relation;
-use crate::verb::Verb;
+use acap_commands::{Given, Relation, Verb};
 use acap_entries::Cell;
 use acap_lexer::{Kind, Tokens};
 

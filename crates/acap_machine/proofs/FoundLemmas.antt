@@ -1,8 +1,8 @@
 -- What a reply has of the matches, by what is told of them.
 use Rattle.std.proofs.Common.{◌≡◌, ℕ, ℤ, Option, Some, None, List, take, length, refl, ◌∙◌, option_map, map as each}
 use Rattle.acap_entries.specs.declared.row.Row.{Row}
-use Rattle.acap_grammar.specs.declared.limit.Limit.{Limit}
-use Rattle.acap_grammar.specs.declared.return_item.ReturnItem.{ReturnItem}
+use Rattle.acap_commands.specs.declared.limit.Limit.{Limit}
+use Rattle.acap_commands.specs.declared.return_item.ReturnItem.{ReturnItem}
 use Rattle.acap_machine.specs.Searching.{number_told, rows_told, rows_if, last_told, found_with, found_of}
 use Rattle.acap_search.specs.Cutting.{cut_of}
 use Rattle.acap_search.specs.Matches.{Match}

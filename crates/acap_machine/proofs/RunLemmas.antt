@@ -3,8 +3,8 @@ use Rattle.std.proofs.Common.{◌≡◌, List, [], ◌∷◌, ◌++◌, Result, 
 use Rattle.std.proofs.lemmas.List.{append_assoc}
 use Rattle.acap_machine.specs.Machine.{Machine}
 use Rattle.acap_machine.specs.Runs.{HasStopped, run_of, stepped_at, outcome_of, machine_after}
-use Rattle.acap_grammar.specs.declared.reply.Reply.{Reply}
-use Rattle.acap_machine.specs.declared.fault.Fault.{Fault}
+use Rattle.acap_commands.specs.declared.reply.Reply.{Reply}
+use Rattle.acap_commands.specs.declared.fault.Fault.{Fault}
 use Rattle.acap_machine.specs.declared.step.Step.{Step}
 
 run_push : (m : Machine) (steps : List Step) (step : Step) → run_of m (steps ++ step ∷ []) ≡ ((run_of m steps).0 ++ outcome_of (stepped_at (run_of m steps).1 step) ∷ [], machine_after (run_of m steps).1 (stepped_at (run_of m steps).1 step))

@@ -5,12 +5,12 @@ use Rattle.std.specs.FinMap.{get, get-insert, get-remove}
 use Rattle.std.specs.FinMap as table
 use Rattle.acap_entries.specs.Store.{Store}
 use Rattle.acap_entries.specs.declared.change.Change.{Change}
-use Rattle.acap_grammar.specs.declared.command.Command.{Command}
-use Rattle.acap_grammar.specs.declared.command.Command.TheVariants as command
-use Rattle.acap_grammar.specs.declared.refusal.Refusal.{Refusal}
-use Rattle.acap_grammar.specs.declared.reply.Reply.{Reply}
-use Rattle.acap_grammar.specs.declared.said.Said.TheVariants as said
-use Rattle.acap_grammar.specs.declared.verb.Verb.{Verb}
+use Rattle.acap_commands.specs.declared.command.Command.{Command}
+use Rattle.acap_commands.specs.declared.command.Command.TheVariants as command
+use Rattle.acap_commands.specs.declared.refusal.Refusal.{Refusal}
+use Rattle.acap_commands.specs.declared.reply.Reply.{Reply}
+use Rattle.acap_commands.specs.declared.said.Said.TheVariants as said
+use Rattle.acap_commands.specs.declared.verb.Verb.{Verb}
 use Rattle.acap_machine.specs.Laws.{RefusedLaw, OthersLaw, ChangeLaw}
 use Rattle.acap_machine.specs.Machine.{Machine}
 use Rattle.acap_machine.specs.Seats.{seated_as}
@@ -18,8 +18,8 @@ use Rattle.acap_machine.specs.Serving.{served, changes_or}
 use Rattle.acap_machine.specs.Stepping.{step_of, plain, entered, answered, by_user}
 use Rattle.acap_machine.specs.declared.answer.Answer.{Answer}
 use Rattle.acap_machine.specs.declared.answer.Answer.TheVariants.{Says, Changes}
-use Rattle.acap_machine.specs.declared.event.Event.{Event}
-use Rattle.acap_machine.specs.declared.event.Event.TheVariants as event
+use Rattle.acap_commands.specs.declared.event.Event.{Event}
+use Rattle.acap_commands.specs.declared.event.Event.TheVariants as event
 use Rattle.acap_machine.specs.declared.occupant.Occupant.{Occupant}
 use Rattle.acap_rights.specs.declared.realm.Realm.{Realm}
 use Rattle.acap_store.proofs.StoreLaws.{later_law}

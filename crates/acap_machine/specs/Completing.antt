@@ -1,15 +1,15 @@
 -- Which words complete a command [RFC 2244 section 6.2].
 use Rattle.std.specs.Prelude.{◌≡◌, ℕ, ℤ, Bool, true, false, Ok}
-use Rattle.acap_grammar.specs.Refusals.{status_of}
-use Rattle.acap_grammar.specs.declared.command.Command.{Command}
-use Rattle.acap_grammar.specs.declared.reply.Reply.{Reply}
-use Rattle.acap_grammar.specs.declared.said.Said.{Said}
-use Rattle.acap_grammar.specs.declared.said.Said.TheVariants as said
-use Rattle.acap_grammar.specs.declared.status.Status.{Status}
-use Rattle.acap_grammar.specs.declared.status.Status.TheVariants as status
+use Rattle.acap_commands.specs.Statuses.{status_of}
+use Rattle.acap_commands.specs.declared.command.Command.{Command}
+use Rattle.acap_commands.specs.declared.reply.Reply.{Reply}
+use Rattle.acap_commands.specs.declared.said.Said.{Said}
+use Rattle.acap_commands.specs.declared.said.Said.TheVariants as said
+use Rattle.acap_commands.specs.declared.status.Status.{Status}
+use Rattle.acap_commands.specs.declared.status.Status.TheVariants as status
 use Rattle.acap_machine.specs.Machine.{Machine}
 use Rattle.acap_machine.specs.Stepping.{step_of}
-use Rattle.acap_machine.specs.declared.event.Event.TheVariants as event
+use Rattle.acap_commands.specs.declared.event.Event.TheVariants as event
 
 -- NO and BAD answer a command; a BYE answers none
 abbrev pub is_answer : Status → Bool

@@ -5,26 +5,26 @@ use Rattle.std.specs.FinMap as table
 use Rattle.acap_entries.specs.Changes.{store_after}
 use Rattle.acap_entries.specs.Store.{Store}
 use Rattle.acap_entries.specs.declared.change.Change.{Change}
-use Rattle.acap_grammar.specs.Searching.{unmodified}
-use Rattle.acap_grammar.specs.Wanted as key
-use Rattle.acap_grammar.specs.declared.command.Command.{Command}
-use Rattle.acap_grammar.specs.declared.command.Command.TheVariants as command
-use Rattle.acap_grammar.specs.declared.search_reply.SearchReply.{SearchReply}
-use Rattle.acap_grammar.specs.declared.limit.Limit.{Limit}
-use Rattle.acap_grammar.specs.declared.object.Object.{Object}
-use Rattle.acap_grammar.specs.declared.refusal.Refusal.{Refusal}
-use Rattle.acap_grammar.specs.declared.refusal.Refusal.TheVariants as refusals
-use Rattle.acap_grammar.specs.declared.reply.Reply.{Reply}
-use Rattle.acap_grammar.specs.declared.return_item.ReturnItem.{ReturnItem}
-use Rattle.acap_grammar.specs.declared.said.Said.{Said}
-use Rattle.acap_grammar.specs.declared.said.Said.TheVariants as said
-use Rattle.acap_grammar.specs.declared.search.Search.{Search}
-use Rattle.acap_grammar.specs.declared.search_modifiers.SearchModifiers.{SearchModifiers}
-use Rattle.acap_grammar.specs.declared.store_entry.StoreEntry.{StoreEntry}
-use Rattle.acap_grammar.specs.declared.target.Target.TheVariants as target
-use Rattle.acap_grammar.specs.declared.test.Test.TheVariants as test
-use Rattle.acap_grammar.specs.declared.verb.Verb.{Verb}
-use Rattle.acap_grammar.specs.declared.verb.Verb.TheVariants as verb
+use Rattle.acap_commands.specs.Modifiers.{unmodified}
+use Rattle.acap_commands.specs.Wanted as key
+use Rattle.acap_commands.specs.declared.command.Command.{Command}
+use Rattle.acap_commands.specs.declared.command.Command.TheVariants as command
+use Rattle.acap_commands.specs.declared.search_reply.SearchReply.{SearchReply}
+use Rattle.acap_commands.specs.declared.limit.Limit.{Limit}
+use Rattle.acap_commands.specs.declared.object.Object.{Object}
+use Rattle.acap_commands.specs.declared.refusal.Refusal.{Refusal}
+use Rattle.acap_commands.specs.declared.refusal.Refusal.TheVariants as refusals
+use Rattle.acap_commands.specs.declared.reply.Reply.{Reply}
+use Rattle.acap_commands.specs.declared.return_item.ReturnItem.{ReturnItem}
+use Rattle.acap_commands.specs.declared.said.Said.{Said}
+use Rattle.acap_commands.specs.declared.said.Said.TheVariants as said
+use Rattle.acap_commands.specs.declared.search.Search.{Search}
+use Rattle.acap_commands.specs.declared.search_modifiers.SearchModifiers.{SearchModifiers}
+use Rattle.acap_commands.specs.declared.store_entry.StoreEntry.{StoreEntry}
+use Rattle.acap_commands.specs.declared.target.Target.TheVariants as target
+use Rattle.acap_commands.specs.declared.test.Test.TheVariants as test
+use Rattle.acap_commands.specs.declared.verb.Verb.{Verb}
+use Rattle.acap_commands.specs.declared.verb.Verb.TheVariants as verb
 use Rattle.acap_machine.specs.Machine.{Machine}
 use Rattle.acap_machine.specs.Runs.{outcome_of, machine_after, stepped_at, run_of}
 use Rattle.acap_machine.specs.Searching.{number_told, found_of, found_unless, searched}
@@ -32,9 +32,9 @@ use Rattle.acap_machine.specs.Seats.{seated_as}
 use Rattle.acap_machine.specs.Serving.{served}
 use Rattle.acap_machine.specs.Stepping.{step_of, plain, IsFault}
 use Rattle.acap_machine.specs.declared.answer.Answer.TheVariants.{Says, Changes}
-use Rattle.acap_machine.specs.declared.event.Event.TheVariants as event
-use Rattle.acap_machine.specs.declared.fault.Fault.{Fault}
-use Rattle.acap_machine.specs.declared.fault.Fault.TheVariants as fault
+use Rattle.acap_commands.specs.declared.event.Event.TheVariants as event
+use Rattle.acap_commands.specs.declared.fault.Fault.{Fault}
+use Rattle.acap_commands.specs.declared.fault.Fault.TheVariants as fault
 use Rattle.acap_machine.specs.declared.step.Step.{Step}
 use Rattle.acap_rights.specs.declared.realm.Realm.{Realm}
 use Rattle.acap_search.specs.Matches.{Match}

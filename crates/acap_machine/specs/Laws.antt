@@ -4,16 +4,16 @@ use Rattle.std.specs.FinMap as table
 use Rattle.acap_entries.specs.Changes.{store_after}
 use Rattle.acap_entries.specs.Store.{Store}
 use Rattle.acap_entries.specs.declared.change.Change.{Change}
-use Rattle.acap_grammar.specs.declared.command.Command.{Command}
-use Rattle.acap_grammar.specs.declared.refusal.Refusal.{Refusal}
-use Rattle.acap_grammar.specs.declared.reply.Reply.{Reply}
-use Rattle.acap_grammar.specs.declared.said.Said.TheVariants as said
-use Rattle.acap_grammar.specs.declared.verb.Verb.{Verb}
+use Rattle.acap_commands.specs.declared.command.Command.{Command}
+use Rattle.acap_commands.specs.declared.refusal.Refusal.{Refusal}
+use Rattle.acap_commands.specs.declared.reply.Reply.{Reply}
+use Rattle.acap_commands.specs.declared.said.Said.TheVariants as said
+use Rattle.acap_commands.specs.declared.verb.Verb.{Verb}
 use Rattle.acap_machine.specs.Machine.{Machine}
 use Rattle.acap_machine.specs.Serving.{served}
 use Rattle.acap_machine.specs.Stepping.{step_of}
 use Rattle.acap_machine.specs.declared.answer.Answer.TheVariants.{Changes}
-use Rattle.acap_machine.specs.declared.event.Event.{Event}
+use Rattle.acap_commands.specs.declared.event.Event.{Event}
 use Rattle.acap_rights.specs.declared.realm.Realm.{Realm}
 use Rattle.acap_store.specs.Planning.{planned}
 use Rattle.acap_store.specs.declared.write.Write.{Write}

@@ -1,9 +1,9 @@
 -- Whole runs of the machine: one step after another.
 use Rattle.std.specs.Prelude.{◌≡◌, List, [], ◌∷◌, ◌++◌, Result, Ok, Err}
-use Rattle.acap_grammar.specs.declared.reply.Reply.{Reply}
+use Rattle.acap_commands.specs.declared.reply.Reply.{Reply}
 use Rattle.acap_machine.specs.Machine.{Machine}
 use Rattle.acap_machine.specs.Stepping.{step_of}
-use Rattle.acap_machine.specs.declared.fault.Fault.{Fault}
+use Rattle.acap_commands.specs.declared.fault.Fault.{Fault}
 use Rattle.acap_machine.specs.declared.step.Step.{Step}
 
 -- what a step answers, and the machine after it: a fault leaves it as it was

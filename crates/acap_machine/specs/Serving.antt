@@ -3,15 +3,15 @@ use Rattle.std.specs.Prelude.{ℕ, ℤ, List, Bool, true, false, Result, Ok, Err
 use Rattle.acap_entries.specs.Homes.{for_user}
 use Rattle.acap_entries.specs.Store.{Store}
 use Rattle.acap_entries.specs.declared.change.Change.{Change}
-use Rattle.acap_grammar.specs.declared.command.Command.{Command}
-use Rattle.acap_grammar.specs.declared.command.Command.TheVariants as command
-use Rattle.acap_grammar.specs.declared.object.Object.{Object}
-use Rattle.acap_grammar.specs.declared.refusal.Refusal.{Refusal}
-use Rattle.acap_grammar.specs.declared.refusal.Refusal.TheVariants as refusals
-use Rattle.acap_grammar.specs.declared.said.Said.{Said}
-use Rattle.acap_grammar.specs.declared.said.Said.TheVariants as said
-use Rattle.acap_grammar.specs.declared.verb.Verb.{Verb}
-use Rattle.acap_grammar.specs.declared.verb.Verb.TheVariants as verb
+use Rattle.acap_commands.specs.declared.command.Command.{Command}
+use Rattle.acap_commands.specs.declared.command.Command.TheVariants as command
+use Rattle.acap_commands.specs.declared.object.Object.{Object}
+use Rattle.acap_commands.specs.declared.refusal.Refusal.{Refusal}
+use Rattle.acap_commands.specs.declared.refusal.Refusal.TheVariants as refusals
+use Rattle.acap_commands.specs.declared.said.Said.{Said}
+use Rattle.acap_commands.specs.declared.said.Said.TheVariants as said
+use Rattle.acap_commands.specs.declared.verb.Verb.{Verb}
+use Rattle.acap_commands.specs.declared.verb.Verb.TheVariants as verb
 use Rattle.acap_machine.specs.Searching.{searched}
 use Rattle.acap_machine.specs.declared.answer.Answer.{Answer}
 use Rattle.acap_machine.specs.declared.answer.Answer.TheVariants.{Says, Changes}

@@ -2,8 +2,6 @@
 #![tactic(auto)]
 
 mod answer;
-pub mod event;
-pub mod fault;
 pub mod laws;
 pub mod lists;
 pub mod occupant;
@@ -13,8 +11,7 @@ mod serving;
 pub mod state;
 pub mod step;
 
-pub use event::Event;
-pub use fault::Fault;
+pub use acap_commands::{Event, Fault};
 pub use lists::{Outcomes, Steps};
 pub use occupant::Occupant;
 pub use runs::run;

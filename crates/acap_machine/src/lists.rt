@@ -1,9 +1,8 @@
 //! The lists of which runs are made.
 
-use crate::fault::Fault;
+use acap_commands::{Fault, Reply};
 use crate::step::Step;
 use acap_entries::Sequence;
-use acap_grammar::Reply;
 
 /// Steps of a machine, in their order.
 pub type Steps = Sequence<Step>;

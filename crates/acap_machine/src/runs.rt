@@ -2,12 +2,11 @@
 ghost use Rattle.std.specs.Prelude.{◌≡◌, IfOk, OnErr};
 ghost use Rattle.acap_machine.specs.Runs.{HasStopped, run_of, stepped_at, outcome_of, machine_after};
 
-use crate::fault::Fault;
+use acap_commands::{Fault, Reply};
 use crate::lists::{Outcomes, Steps};
 use crate::state::State;
 use crate::step::Step;
 use acap_entries::Memory;
-use acap_grammar::Reply;
 use std::alloc::Global;
 
 // Performs one step and tells what it answered.

@@ -1,12 +1,12 @@
 //! What a command of a user comes to.
 ghost use Rattle.std.specs.Prelude.{◌≡◌, false, IfOk, OnOk};
-ghost use Rattle.acap_grammar.specs.declared.said.Said.TheVariants as saying;
+ghost use Rattle.acap_commands.specs.declared.said.Said.TheVariants as saying;
 ghost use Rattle.acap_machine.specs.Serving as rule;
 
 use crate::answer::Answer;
 use crate::searching::searched;
 use acap_entries::{Dataset, Memory, Moment, Tree, UserName};
-use acap_grammar::{Command, Object, Refusal, Said, Verb};
+use acap_commands::{Command, Object, Refusal, Said, Verb};
 use acap_rights::{Realm, implicit_rights, rights_of};
 use acap_store::{Write, deleted_since, lent_object, object_for, plan};
 use std::alloc::Global;

@@ -4,12 +4,10 @@ ghost use Rattle.std.specs.FinMap as table;
 ghost use Rattle.acap_machine.specs.Machine.{new_machine};
 
 use crate::answer::Answer;
-use crate::event::Event;
-use crate::fault::Fault;
+use acap_commands::{Command, Event, Fault, Reply, Said, Verb};
 use crate::occupant::Occupant;
 use crate::serving::served;
 use acap_entries::{Change, Copying, Memory, Moment, Seat, Seats, Tree, UserName};
-use acap_grammar::{Command, Reply, Said, Verb};
 use acap_rights::Realm;
 use std::alloc::Global;
 use std::marker::Model;
@@ -35,8 +33,8 @@ impl Model for State {
 
 impl State {
     ghost use Rattle.acap_machine.specs.Stepping.{step_of, entered, changed, IsFault};
-    ghost use Rattle.acap_machine.specs.declared.fault.Fault.TheVariants as faults;
-    ghost use Rattle.acap_machine.specs.declared.event.Event.TheVariants as events;
+    ghost use Rattle.acap_commands.specs.declared.fault.Fault.TheVariants as faults;
+    ghost use Rattle.acap_commands.specs.declared.event.Event.TheVariants as events;
 
     /// The empty machine of a realm: an empty store, and nobody in any seat. Takes no memory.
     pub fn new(alloc: Global, realm: Realm) -> State

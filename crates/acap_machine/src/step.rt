@@ -1,7 +1,7 @@
 //! One event at a seat.
 ghost use Rattle.std.specs.Prelude.{◌≡◌, ◌↔◌, IsTrue};
 
-use crate::event::Event;
+use acap_commands::Event;
 use acap_entries::{Copying, Memory, Moment, Seat};
 
 /// One event at a seat, and the moment that the clock shows.

@@ -38,7 +38,7 @@ use Rattle.acap_search.specs.Rows.{stars_of}
 use Rattle.acap_search.specs.Scopes.{Scope, scope_of, datasets_of, beneath, is_reached, levels, is_component_name, reached_by}
 use Rattle.acap_search.specs.Tuples.{name_told, match_of}
 use Rattle.acap_search.specs.declared.query.Sought.{Sought}
-use Rattle.acap_grammar.specs.declared.sort_item.SortItem.{SortItem}
+use Rattle.acap_commands.specs.declared.sort_item.SortItem.{SortItem}
 use Rattle.acap_search.proofs.Stars.{tied_same}
 use Rattle.acap_search.proofs.TupleLemmas.{made_is}
 use Rattle.acap_search.proofs.SeenLemmas.{here, there, first_or, nowhere, either, at_first, in_map, from_map, from_both, from_all, in_filter, from_filter, from_put, from_sorted, from_order, named, only_seen}

@@ -1,8 +1,8 @@
 -- What a SEARCH over a dataset asks for [RFC 2244 sections 4.1 and 6.4.1].
 use Rattle.std.specs.Prelude.{ℕ, List}
 use Rattle.acap_entries.specs.Homes.{for_user}
-use Rattle.acap_grammar.specs.Wanted.{Wanted}
-use Rattle.acap_grammar.specs.declared.search_modifiers.SearchModifiers.{SearchModifiers}
+use Rattle.acap_commands.specs.Wanted.{Wanted}
+use Rattle.acap_commands.specs.declared.search_modifiers.SearchModifiers.{SearchModifiers}
 use Rattle.acap_search.specs.declared.query.Asked.{Asked}
 
 -- its query, in the dataset that the user means, how many matches are told, and which context is made

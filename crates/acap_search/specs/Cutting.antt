@@ -1,6 +1,6 @@
 -- How many of the matches a SEARCH tells [RFC 2244 section 6.4.1].
 use Rattle.std.specs.Prelude.{ℕ, min, nat_lt, Option, Some, None, if◌then◌else◌}
-use Rattle.acap_grammar.specs.declared.limit.Limit.{Limit}
+use Rattle.acap_commands.specs.declared.limit.Limit.{Limit}
 use Rattle.acap_search.specs.declared.cutting.Cut.{Cut}
 
 -- with more matches than the first number of LIMIT so many as the second number says, and the total is told

@@ -7,9 +7,9 @@ use Rattle.acap_entries.specs.FullPaths.{full_path_cmp}
 use Rattle.acap_entries.specs.Orders.{octets_eq}
 use Rattle.acap_entries.specs.Store.{Stored}
 use Rattle.acap_entries.specs.declared.path.Path.{Path}
-use Rattle.acap_grammar.specs.Wanted.{Wanted, One, And, Or, Not}
-use Rattle.acap_grammar.specs.declared.test.Test.{Test}
-use Rattle.acap_grammar.specs.declared.test.Test.TheVariants as test
+use Rattle.acap_commands.specs.Wanted.{Wanted, One, And, Or, Not}
+use Rattle.acap_commands.specs.declared.test.Test.{Test}
+use Rattle.acap_commands.specs.declared.test.Test.TheVariants as test
 use Rattle.acap_inherit.specs.Chains.{chain_of}
 use Rattle.acap_inherit.specs.EntryNames.{names_on}
 use Rattle.acap_rights.specs.declared.realm.Realm.{Realm}

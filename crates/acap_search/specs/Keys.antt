@@ -5,11 +5,11 @@ use Rattle.std.specs.Option.{option_map_or}
 use Rattle.std.specs.Ordering.{is_ge, is_gt}
 use Rattle.acap_entries.specs.declared.cell.Cell.{Cell}
 use Rattle.acap_entries.specs.declared.cell.Cell.TheVariants.{Nil, Single, Multi}
-use Rattle.acap_grammar.specs.Wanted.{Wanted, One, And, Or, Not}
-use Rattle.acap_grammar.specs.declared.relation.Relation.{Relation}
-use Rattle.acap_grammar.specs.declared.relation.Relation.TheVariants as relation
-use Rattle.acap_grammar.specs.declared.test.Test.{Test}
-use Rattle.acap_grammar.specs.declared.test.Test.TheVariants as test
+use Rattle.acap_commands.specs.Wanted.{Wanted, One, And, Or, Not}
+use Rattle.acap_commands.specs.declared.relation.Relation.{Relation}
+use Rattle.acap_commands.specs.declared.relation.Relation.TheVariants as relation
+use Rattle.acap_commands.specs.declared.test.Test.{Test}
+use Rattle.acap_commands.specs.declared.test.Test.TheVariants as test
 use Rattle.acap_order.specs.declared.comparator.Collation.{Collation}
 use Rattle.acap_order.specs.declared.comparator.Collation.TheVariants.{Octet, AsciiCasemap, AsciiNumeric}
 use Rattle.acap_order.specs.declared.comparator.Comparator.{Comparator}

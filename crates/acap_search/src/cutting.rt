@@ -2,7 +2,7 @@
 ghost use Rattle.std.specs.Prelude.{◌≡◌};
 ghost use Rattle.acap_search.specs.Cutting as rule;
 
-use acap_grammar::Limit;
+use acap_commands::Limit;
 
 /// How many of the matches of a SEARCH are told (RFC 2244 section 6.4.1).
 #[derive(Clone, Copy, PartialEq, Eq)]

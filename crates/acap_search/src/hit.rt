@@ -3,7 +3,7 @@ ghost use Rattle.std.specs.Prelude.{◌≡◌, ◌↔◌, IsTrue, IfOk, take, ma
 
 use crate::rank::Places;
 use acap_entries::{Copying, Memory, Path, Row, Sequence};
-use acap_grammar::Rows;
+use acap_commands::Rows;
 use std::alloc::Global;
 use std::marker::Model;
 

@@ -12,7 +12,7 @@ use crate::looking::look_at;
 use crate::rank::{Place, Places, Rank};
 use crate::spot::Spot;
 use acap_entries::{Memory, Octets, Records, Value};
-use acap_grammar::SortItem;
+use acap_commands::SortItem;
 use acap_inherit::Lent;
 use acap_order::{Collation, Comparator, Direction};
 use std::alloc::Global;

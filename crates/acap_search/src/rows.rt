@@ -12,7 +12,7 @@ use acap_entries::{
     Attribute, Cell, CellList, CellLists, Cells, Copying, Item, Items, Memory, Records, Table,
     Value, Values,
 };
-use acap_grammar::{Metadata, ReturnItem, ReturnName};
+use acap_commands::{Metadata, ReturnItem, ReturnName};
 use acap_inherit::Lent;
 use std::alloc::Global;
 

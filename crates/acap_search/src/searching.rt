@@ -24,7 +24,7 @@ use crate::viewer::Viewer;
 use acap_entries::{
     Dataset, Memory, NameFault, Path, Record, Records, Tree, UserName, makes_dataset,
 };
-use acap_grammar::{Key, Node, Test};
+use acap_commands::{Key, Node, Test};
 use acap_inherit::{chain, names_on};
 use acap_rights::{Realm, Rights};
 use std::alloc::Global;

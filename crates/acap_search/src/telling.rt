@@ -19,7 +19,7 @@ use crate::spot::Spot;
 use crate::tuples::row_at;
 use crate::viewer::Viewer;
 use acap_entries::{Memory, Row, Tree, UserName};
-use acap_grammar::{Limit, Rows};
+use acap_commands::{Limit, Rows};
 use acap_inherit::{chain, names_law};
 use acap_rights::{Realm, Rights};
 use std::alloc::Global;

@@ -16,17 +16,18 @@ use Rattle.acap_entries.specs.Names.{is_context_name}
 use Rattle.acap_grammar.specs.Arguments.{context_named, named_at}
 use Rattle.acap_grammar.specs.Grammar.{arguments_at, command_of}
 use Rattle.acap_grammar.specs.Marks.{ends, string_at, word_at}
-use Rattle.acap_grammar.specs.Refusals.{code_of, status_of, text_of}
+use Rattle.acap_commands.specs.Statuses.{status_of}
+use Rattle.acap_grammar.specs.Refusals.{code_of, text_of}
 use Rattle.acap_grammar.specs.Replies.{challenge_form, crlf, deleted_form, deleted_names_form, done_form, done_of, found_form, last_form, refused_form, rights_form, rights_list_form, rows_form, good_bye_form, said_form, searched_form, spaced, status_form, octets_of, tag_of as spelled_tag, total_form}
-use Rattle.acap_grammar.specs.declared.refusal.Refusal.{Refusal}
-use Rattle.acap_grammar.specs.declared.reply.Reply.{Reply}
-use Rattle.acap_grammar.specs.declared.said.Said.{Said}
-use Rattle.acap_grammar.specs.declared.said.Said.TheVariants as said
-use Rattle.acap_grammar.specs.declared.search_reply.SearchReply.{SearchReply}
-use Rattle.acap_grammar.specs.declared.status.Status.{Status}
-use Rattle.acap_grammar.specs.declared.status.Status.TheVariants as status
-use Rattle.acap_grammar.specs.declared.verb.Verb.{Verb}
-use Rattle.acap_grammar.specs.declared.verb.Verb.TheVariants as verb
+use Rattle.acap_commands.specs.declared.refusal.Refusal.{Refusal}
+use Rattle.acap_commands.specs.declared.reply.Reply.{Reply}
+use Rattle.acap_commands.specs.declared.said.Said.{Said}
+use Rattle.acap_commands.specs.declared.said.Said.TheVariants as said
+use Rattle.acap_commands.specs.declared.search_reply.SearchReply.{SearchReply}
+use Rattle.acap_commands.specs.declared.status.Status.{Status}
+use Rattle.acap_commands.specs.declared.status.Status.TheVariants as status
+use Rattle.acap_commands.specs.declared.verb.Verb.{Verb}
+use Rattle.acap_commands.specs.declared.verb.Verb.TheVariants as verb
 use Rattle.acap_machine.specs.Completing.{completes, is_answer}
 use Rattle.acap_session.specs.Completing.{CompletionExamples, CompletionForm, EndsIn, status_word, word_of}
 use Rattle.acap_session.specs.Hearing.{heard, heard_command, heard_answer, opening}

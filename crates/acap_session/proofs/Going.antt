@@ -22,17 +22,17 @@ use Rattle.acap_login.specs.Login.{User}
 use Rattle.acap_grammar.specs.Grammar.{command_of}
 use Rattle.acap_grammar.specs.Refusals.{of_grammar, of_lexical}
 use Rattle.acap_grammar.specs.Replies.{octets_of, said_form, challenge_form}
-use Rattle.acap_grammar.specs.declared.command.Command.{Command}
-use Rattle.acap_grammar.specs.declared.command.Command.TheVariants as command
+use Rattle.acap_commands.specs.declared.command.Command.{Command}
+use Rattle.acap_commands.specs.declared.command.Command.TheVariants as command
 use Rattle.acap_grammar.specs.declared.grammar_fault.GrammarFault.{GrammarFault}
 use Rattle.acap_grammar.specs.declared.grammar_fault.GrammarFault.TheVariants as fault
-use Rattle.acap_grammar.specs.declared.refusal.Refusal.TheVariants as refusals
-use Rattle.acap_grammar.specs.declared.reply.Reply.{Reply}
-use Rattle.acap_grammar.specs.declared.said.Said.TheVariants as said
+use Rattle.acap_commands.specs.declared.refusal.Refusal.TheVariants as refusals
+use Rattle.acap_commands.specs.declared.reply.Reply.{Reply}
+use Rattle.acap_commands.specs.declared.said.Said.TheVariants as said
 use Rattle.acap_machine.specs.Completing.{completes}
 use Rattle.acap_machine.specs.Seats.{seated_as}
-use Rattle.acap_machine.specs.declared.event.Event.{Event}
-use Rattle.acap_machine.specs.declared.event.Event.TheVariants as event
+use Rattle.acap_commands.specs.declared.event.Event.{Event}
+use Rattle.acap_commands.specs.declared.event.Event.TheVariants as event
 use Rattle.acap_machine.specs.declared.occupant.Occupant.{Occupant}
 use Rattle.acap_session.specs.Completing.{tags, called_wrong, called, called_at, completed_by, going_on, IsLeft, AreCompleted}
 use Rattle.acap_session.specs.Hearing.{heard, heard_line, heard_command, heard_answer, answer_line, answer_token, asks, authenticated, logs_in, mechanism_name, opening, ready_line, refusal_of, tag_of, who}

@@ -7,15 +7,15 @@ use Rattle.std.specs.Ordering.{nat_cmp, is_eq}
 use Rattle.std.specs.declared.cmp.Ordering.{Ordering}
 use Rattle.std.specs.declared.cmp.Ordering.TheVariants as order
 use Rattle.acap_login.specs.Login.{User}
-use Rattle.acap_grammar.specs.declared.reply.Reply.{Reply}
+use Rattle.acap_commands.specs.declared.reply.Reply.{Reply}
 use Rattle.acap_machine.specs.Machine.{Machine}
 use Rattle.acap_machine.specs.Runs.{outcome_of, machine_after}
 use Rattle.acap_machine.specs.Seats.{Seated, seated_as}
 use Rattle.acap_machine.specs.Stepping.{entered, by_user, plain}
-use Rattle.acap_machine.specs.declared.event.Event.TheVariants as events
-use Rattle.acap_machine.specs.declared.fault.Fault.{Fault}
+use Rattle.acap_commands.specs.declared.event.Event.TheVariants as events
+use Rattle.acap_commands.specs.declared.fault.Fault.{Fault}
 use Rattle.acap_machine.specs.declared.occupant.Occupant.{Occupant}
-use Rattle.acap_grammar.specs.declared.said.Said.TheVariants as said
+use Rattle.acap_commands.specs.declared.said.Said.TheVariants as said
 use Rattle.acap_session.specs.Hearing.{opening}
 use Rattle.acap_session.specs.Session.{session_next, next_at, answered, has_seat, has_seat_at, is_closed, comes_to}
 use Rattle.acap_session.specs.Talking.{Talking}

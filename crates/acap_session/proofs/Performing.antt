@@ -1,14 +1,14 @@
 -- What the calls of a turn come to, put together.
 use Rattle.std.proofs.Common.{◌≡◌, inl, inr, ℕ, ℤ, Bool, true, false, ◌||◌, is_ok, List, Option, Some, None, Result, Ok, Err, IfOk, IfErr, OnErr, refl, sym, ap, subst, ◌∙◌}
 use Rattle.acap_login.specs.Login.{User}
-use Rattle.acap_grammar.specs.declared.reply.Reply.{Reply}
+use Rattle.acap_commands.specs.declared.reply.Reply.{Reply}
 use Rattle.acap_machine.specs.Machine.{Machine}
 use Rattle.acap_machine.specs.Runs.{outcome_of, machine_after}
 use Rattle.acap_machine.specs.Stepping.{step_of, IsFault}
-use Rattle.acap_machine.specs.declared.event.Event.{Event}
-use Rattle.acap_machine.specs.declared.event.Event.TheVariants as events
-use Rattle.acap_machine.specs.declared.fault.Fault.{Fault}
-use Rattle.acap_machine.specs.declared.fault.Fault.TheVariants as fault
+use Rattle.acap_commands.specs.declared.event.Event.{Event}
+use Rattle.acap_commands.specs.declared.event.Event.TheVariants as events
+use Rattle.acap_commands.specs.declared.fault.Fault.{Fault}
+use Rattle.acap_commands.specs.declared.fault.Fault.TheVariants as fault
 use Rattle.acap_session.specs.Saying.{added, heard_of}
 use Rattle.acap_session.specs.Session.{session_next, session_drain, answered, has_seat, has_seat_at, drain_in, drain_at, drain_for, is_asked}
 use Rattle.acap_session.specs.Talking.{Talking}

@@ -7,8 +7,8 @@ use Rattle.std.specs.Prelude.{codes}
 use Rattle.std.proofs.lemmas.List.{append-nil}
 use Rattle.acap_login.specs.Login.{User}
 use Rattle.acap_grammar.specs.Replies.{octets_of}
-use Rattle.acap_grammar.specs.declared.refusal.Refusal.TheVariants as refusals
-use Rattle.acap_grammar.specs.declared.said.Said.TheVariants as said
+use Rattle.acap_commands.specs.declared.refusal.Refusal.TheVariants as refusals
+use Rattle.acap_commands.specs.declared.said.Said.TheVariants as said
 use Rattle.acap_lexer.specs.Held.{next_of}
 use Rattle.acap_lexer.specs.Stream.{end_of, part_end, progress, progress_from, progress_within, step_of}
 use Rattle.acap_lexer.specs.declared.lexed.Lexed.TheVariants as lexed
@@ -16,7 +16,7 @@ use Rattle.acap_lexer.specs.declared.mode.Mode.TheVariants as mode
 use Rattle.acap_machine.specs.Machine.{Machine, new_machine}
 use Rattle.acap_machine.specs.Runs.{machine_after, outcome_of}
 use Rattle.acap_machine.specs.Stepping.{entered as seating}
-use Rattle.acap_machine.specs.declared.fault.Fault.TheVariants as fault
+use Rattle.acap_commands.specs.declared.fault.Fault.TheVariants as fault
 use Rattle.acap_machine.specs.declared.occupant.Occupant.{Occupant}
 use Rattle.acap_session.specs.Hearing.{heard, opening}
 use Rattle.acap_session.specs.Laws.{IsUnder, RefusedTurns, WrittenLaw, told_first, refused_in, refused_of}

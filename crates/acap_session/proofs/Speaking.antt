@@ -14,12 +14,12 @@ use Rattle.acap_lexer.specs.declared.mode.Mode.TheVariants as mode
 use Rattle.acap_lexer.proofs.Asking.{more_cases}
 use Rattle.acap_login.specs.Login.{User}
 use Rattle.acap_grammar.specs.Grammar.{command_of}
-use Rattle.acap_grammar.specs.declared.command.Command.{Command}
-use Rattle.acap_grammar.specs.declared.command.Command.TheVariants as command
+use Rattle.acap_commands.specs.declared.command.Command.{Command}
+use Rattle.acap_commands.specs.declared.command.Command.TheVariants as command
 use Rattle.acap_grammar.specs.declared.grammar_fault.GrammarFault.{GrammarFault}
-use Rattle.acap_grammar.specs.declared.reply.Reply.{Reply}
-use Rattle.acap_machine.specs.declared.fault.Fault.{Fault}
-use Rattle.acap_machine.specs.declared.fault.Fault.TheVariants as fault
+use Rattle.acap_commands.specs.declared.reply.Reply.{Reply}
+use Rattle.acap_commands.specs.declared.fault.Fault.{Fault}
+use Rattle.acap_commands.specs.declared.fault.Fault.TheVariants as fault
 use Rattle.acap_session.specs.Hearing.{heard, heard_line, heard_command, heard_answer, answer_line, answer_token, authenticated, mechanism_name, logs_in, who, asks, opening, tag_of, ready_line}
 use Rattle.acap_session.specs.Session.{session_next, next_at, answer_said, is_asked, is_hearing, Awaits}
 use Rattle.acap_session.specs.Saying.{heard_of, next_of as told}

@@ -10,9 +10,9 @@ use Rattle.acap_lexer.specs.declared.mode.Mode.TheVariants as mode
 use Rattle.acap_lexer.proofs.Asking.{more_cases}
 use Rattle.acap_lexer.proofs.ProgressLaws.{leaves_room}
 use Rattle.acap_login.specs.Login.{User}
-use Rattle.acap_grammar.specs.declared.reply.Reply.{Reply}
+use Rattle.acap_commands.specs.declared.reply.Reply.{Reply}
 use Rattle.acap_machine.specs.Runs.{outcome_of}
-use Rattle.acap_machine.specs.declared.fault.Fault.{Fault}
+use Rattle.acap_commands.specs.declared.fault.Fault.{Fault}
 use Rattle.acap_session.specs.Hearing.{heard, heard_answer}
 use Rattle.acap_session.specs.Session.{session_next, next_at, answered, is_asked, is_closed, is_hearing}
 use Rattle.acap_session.specs.Talking.{Talking}

@@ -9,15 +9,15 @@ use Rattle.acap_lexer.specs.declared.lexed.Lexed.{Lexed}
 use Rattle.acap_lexer.specs.declared.lexed.Lexed.TheVariants as lexed
 use Rattle.acap_lexer.specs.declared.mode.Mode.TheVariants as mode
 use Rattle.acap_login.specs.Login.{User}
-use Rattle.acap_grammar.specs.Refusals.{status_of}
+use Rattle.acap_commands.specs.Statuses.{status_of}
 use Rattle.acap_grammar.specs.Replies.{crlf, greeting, octets_of, tag_of as spelled_tag}
-use Rattle.acap_grammar.specs.declared.refusal.Refusal.TheVariants as refusals
-use Rattle.acap_grammar.specs.declared.reply.Reply.{Reply}
-use Rattle.acap_grammar.specs.declared.said.Said.{Said}
-use Rattle.acap_grammar.specs.declared.said.Said.TheVariants as said
-use Rattle.acap_grammar.specs.declared.status.Status.{Status}
-use Rattle.acap_grammar.specs.declared.status.Status.TheVariants as status
-use Rattle.acap_grammar.specs.declared.verb.Verb.TheVariants as verb
+use Rattle.acap_commands.specs.declared.refusal.Refusal.TheVariants as refusals
+use Rattle.acap_commands.specs.declared.reply.Reply.{Reply}
+use Rattle.acap_commands.specs.declared.said.Said.{Said}
+use Rattle.acap_commands.specs.declared.said.Said.TheVariants as said
+use Rattle.acap_commands.specs.declared.status.Status.{Status}
+use Rattle.acap_commands.specs.declared.status.Status.TheVariants as status
+use Rattle.acap_commands.specs.declared.verb.Verb.TheVariants as verb
 use Rattle.acap_machine.specs.Completing.{completes}
 use Rattle.acap_rights.specs.declared.realm.Realm.{Realm}
 use Rattle.acap_session.specs.Hearing.{tag_of}

@@ -12,15 +12,15 @@ use Rattle.acap_login.specs.Login.{User, challenge_of, accepted, name_at}
 use Rattle.acap_grammar.specs.Grammar.{command_of}
 use Rattle.acap_grammar.specs.Refusals.{of_lexical, of_grammar}
 use Rattle.acap_grammar.specs.Replies.{octets_of, crlf}
-use Rattle.acap_grammar.specs.declared.command.Command.{Command}
-use Rattle.acap_grammar.specs.declared.command.Command.TheVariants as command
+use Rattle.acap_commands.specs.declared.command.Command.{Command}
+use Rattle.acap_commands.specs.declared.command.Command.TheVariants as command
 use Rattle.acap_grammar.specs.declared.grammar_fault.GrammarFault.{GrammarFault}
-use Rattle.acap_grammar.specs.declared.refusal.Refusal.{Refusal}
-use Rattle.acap_grammar.specs.declared.refusal.Refusal.TheVariants as refusals
-use Rattle.acap_grammar.specs.declared.said.Said.{Said}
-use Rattle.acap_grammar.specs.declared.said.Said.TheVariants as said
-use Rattle.acap_grammar.specs.declared.verb.Verb.TheVariants as verb
-use Rattle.acap_machine.specs.declared.event.Event.TheVariants as event
+use Rattle.acap_commands.specs.declared.refusal.Refusal.{Refusal}
+use Rattle.acap_commands.specs.declared.refusal.Refusal.TheVariants as refusals
+use Rattle.acap_commands.specs.declared.said.Said.{Said}
+use Rattle.acap_commands.specs.declared.said.Said.TheVariants as said
+use Rattle.acap_commands.specs.declared.verb.Verb.TheVariants as verb
+use Rattle.acap_commands.specs.declared.event.Event.TheVariants as event
 use Rattle.acap_session.specs.declared.next.Next.{Next}
 use Rattle.acap_session.specs.declared.next.Next.TheVariants as next
 use Rattle.acap_session.specs.declared.stage.Stage.{Stage}

@@ -4,13 +4,13 @@ use Rattle.std.specs.Prelude.{◌≡◌, ◌≢◌, ◌⊎◌, ℕ, pos, List, [
 use Rattle.std.specs.List.{list_any}
 use Rattle.std.specs.Option.{option_and_then}
 use Rattle.acap_grammar.specs.Replies.{octets_of}
-use Rattle.acap_grammar.specs.declared.refusal.Refusal.TheVariants as refusals
-use Rattle.acap_grammar.specs.declared.reply.Reply.{Reply}
-use Rattle.acap_grammar.specs.declared.said.Said.TheVariants as said
+use Rattle.acap_commands.specs.declared.refusal.Refusal.TheVariants as refusals
+use Rattle.acap_commands.specs.declared.reply.Reply.{Reply}
+use Rattle.acap_commands.specs.declared.said.Said.TheVariants as said
 use Rattle.acap_login.specs.Login.{User}
 use Rattle.acap_machine.specs.Runs.{outcome_of}
-use Rattle.acap_machine.specs.declared.event.Event.{Event}
-use Rattle.acap_machine.specs.declared.fault.Fault.{Fault}
+use Rattle.acap_commands.specs.declared.event.Event.{Event}
+use Rattle.acap_commands.specs.declared.fault.Fault.{Fault}
 use Rattle.acap_session.specs.Piping.{Fed, IsWritten, always, entered, fed, hears}
 use Rattle.acap_session.specs.Places.{Place, place_at, if_open}
 use Rattle.acap_session.specs.Saying.{added}

@@ -3,7 +3,7 @@ use Rattle.std.specs.Prelude.{◌≡◌, ◌≢◌, ℕ, List, Option, Some, Non
 use Rattle.std.specs.FinMap as table
 use Rattle.acap_login.specs.Login.{User}
 use Rattle.acap_machine.specs.Seats.{seated_as}
-use Rattle.acap_machine.specs.declared.fault.Fault.TheVariants as fault
+use Rattle.acap_commands.specs.declared.fault.Fault.TheVariants as fault
 use Rattle.acap_machine.specs.declared.occupant.Occupant.{Occupant}
 use Rattle.acap_rights.specs.declared.realm.Realm.{Realm}
 use Rattle.acap_session.specs.Laws.{reply_of}

@@ -1,14 +1,14 @@
 -- One session and the machine: what a turn, a drain and an end make of them [RFC 2244 section 2].
 use Rattle.std.specs.Prelude.{◌≡◌, ◌⊎◌, ℕ, List, Bool, true, false, ◌||◌, is_ok, Result, Err}
 use Rattle.acap_login.specs.Login.{User}
-use Rattle.acap_grammar.specs.declared.reply.Reply.{Reply}
+use Rattle.acap_commands.specs.declared.reply.Reply.{Reply}
 use Rattle.acap_machine.specs.Machine.{Machine}
 use Rattle.acap_machine.specs.Runs.{outcome_of, machine_after}
 use Rattle.acap_machine.specs.Stepping.{step_of}
-use Rattle.acap_machine.specs.declared.event.Event.{Event}
-use Rattle.acap_machine.specs.declared.event.Event.TheVariants as events
-use Rattle.acap_machine.specs.declared.fault.Fault.{Fault}
-use Rattle.acap_machine.specs.declared.fault.Fault.TheVariants as fault
+use Rattle.acap_commands.specs.declared.event.Event.{Event}
+use Rattle.acap_commands.specs.declared.event.Event.TheVariants as events
+use Rattle.acap_commands.specs.declared.fault.Fault.{Fault}
+use Rattle.acap_commands.specs.declared.fault.Fault.TheVariants as fault
 use Rattle.acap_session.specs.Saying.{added, heard_of}
 use Rattle.acap_session.specs.Session.{session_next, session_drain, answered, has_seat}
 use Rattle.acap_session.specs.Talking.{Talking}

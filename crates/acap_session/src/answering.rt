@@ -8,8 +8,7 @@ use crate::heard::Heard;
 use crate::hearing::says;
 use crate::stage::Stage;
 use acap_entries::{Memory, Octets, UserName};
-use acap_grammar::{Refusal, Reply, Said, Verb};
-use acap_machine::Fault;
+use acap_commands::{Fault, Refusal, Reply, Said, Verb};
 
 // The machine's answer to a command is said under its tag.
 fn replied(

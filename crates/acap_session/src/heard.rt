@@ -1,6 +1,6 @@
 //! What comes of what a session hears, beside the octets that it says.
 
-use acap_machine::Event;
+use acap_commands::Event;
 
 /// What comes of what a session hears, where the octets that it says go to a vector that is lent.
 #[derive(Drop)]

@@ -12,10 +12,10 @@ ghost use Rattle.acap_session.specs.declared.stage.Stage.TheVariants as stages;
 use crate::heard::Heard;
 use crate::stage::Stage;
 use acap_entries::{Copying, Memory, Moment, Octets, UserName, Value};
-use acap_grammar::{Command, GrammarError, Refusal, Reply, Said, Verb, parse, render};
+use acap_commands::{Command, Event, Refusal, Reply, Said, Verb};
+use acap_grammar::{GrammarError, lexical_refusal, parse, render};
 use acap_lexer::{Lexed, Tag, Tokens};
 use acap_login::challenge;
-use acap_machine::Event;
 use std::alloc::Global;
 
 /// Words are said under a tag, and the session is ready again. Where memory is refused its stage stays, as in each call below.
@@ -253,9 +253,9 @@ pub(crate) fn heard(
         Lexed::Line(tokens) => heard_line(alloc, host, user, nonce, clock, tokens, stage, out),
         Lexed::Bad(fault, tag) => {
             let tag = copied(alloc, tag)?;
-            says(tag, Said::Refused(Refusal::from(*fault)), stage, out)
+            says(tag, Said::Refused(lexical_refusal(*fault)), stage, out)
         }
-        Lexed::Fatal(fault) => closes(None, Said::Refused(Refusal::from(*fault)), stage, out),
+        Lexed::Fatal(fault) => closes(None, Said::Refused(lexical_refusal(*fault)), stage, out),
     }
 }
 

@@ -8,10 +8,9 @@ use crate::heard::Heard;
 use crate::hearing::{closes, continues, says};
 use crate::stage::Stage;
 use acap_entries::{Copying, Memory, Octets, UserName};
-use acap_grammar::{Refusal, Said};
+use acap_commands::{Event, Refusal, Said};
 use acap_lexer::{Kind, Lexed, Tokens};
 use acap_login::{Users, check};
-use acap_machine::Event;
 
 // Whom an answer logs in.
 fn who(users: &Users, challenge: &Octets, answer: &[u8]) -> Result<Option<UserName>, Memory>
@@ -139,6 +138,6 @@ pub(crate) fn heard_answer(
         }
         Lexed::Line(tokens) => answer_line(users, tag, &challenge, tokens, stage, out),
         Lexed::Bad(_, _) => says(tag, Said::Refused(Refusal::Arguments), stage, out),
-        Lexed::Fatal(fault) => closes(None, Said::Refused(Refusal::from(*fault)), stage, out),
+        Lexed::Fatal(fault) => closes(None, Said::Refused(lexical_refusal(*fault)), stage, out),
     }
 }

@@ -1,7 +1,7 @@
 //! What a session does next.
 
 use acap_entries::Octets;
-use acap_machine::Event;
+use acap_commands::Event;
 
 /// What a session does next.
 #[derive(Drop)]

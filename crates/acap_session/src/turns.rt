@@ -9,9 +9,9 @@ use crate::occasion::Occasion;
 use crate::session::Session;
 use crate::turn::Turn;
 use acap_entries::Memory;
-use acap_grammar::Reply;
+use acap_commands::{Event, Fault, Reply};
 use acap_login::Users;
-use acap_machine::{Event, Fault, State};
+use acap_machine::State;
 
 /// A session that has its seat leaves it. Takes no memory.
 pub(crate) fn leave(state: &mut State, occasion: Occasion, has_seat: bool)

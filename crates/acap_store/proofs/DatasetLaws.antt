@@ -21,11 +21,11 @@ use Rattle.acap_entries.specs.declared.cell.Cell.TheVariants.{Nil, Single, Multi
 use Rattle.acap_entries.specs.declared.fate.Fate.TheVariants as fate
 use Rattle.acap_entries.specs.declared.path.Path.{Path}
 use Rattle.acap_entries.specs.declared.record.Record.{Record}
-use Rattle.acap_grammar.specs.declared.given.Given.{Given}
-use Rattle.acap_grammar.specs.declared.given.Given.TheVariants.{Put, Default}
-use Rattle.acap_grammar.specs.declared.refusal.Refusal.{Refusal}
-use Rattle.acap_grammar.specs.declared.store_entry.StoreEntry.{StoreEntry}
-use Rattle.acap_grammar.specs.declared.store_item.StoreItem.{StoreItem}
+use Rattle.acap_commands.specs.declared.given.Given.{Given}
+use Rattle.acap_commands.specs.declared.given.Given.TheVariants.{Put, Default}
+use Rattle.acap_commands.specs.declared.refusal.Refusal.{Refusal}
+use Rattle.acap_commands.specs.declared.store_entry.StoreEntry.{StoreEntry}
+use Rattle.acap_commands.specs.declared.store_item.StoreItem.{StoreItem}
 use Rattle.acap_inherit.specs.Chains.{chain_within}
 use Rattle.acap_inherit.specs.Resolving.{resolved, by_cell, by_record}
 use Rattle.acap_rights.specs.declared.realm.Realm.{Realm}
@@ -37,7 +37,7 @@ use Rattle.acap_store.specs.Planning.{refusals_of, refusals_by_room, written_at}
 use Rattle.acap_store.specs.Refusing.{same_path, refused_if, has_twice, no_exist, modified}
 use Rattle.acap_store.specs.Permission.{permission}
 use Rattle.acap_store.specs.Limits.{gives_large}
-use Rattle.acap_grammar.specs.declared.refusal.Refusal.TheVariants as refusal
+use Rattle.acap_commands.specs.declared.refusal.Refusal.TheVariants as refusal
 use Rattle.acap_store.specs.Writing.{Celled, with_value, with_values, with_named, with_given, kept_as, cells_of, given_record, fate_of, entry_at, steps_for, step_at, stepped, missing_for, missing_to, missing_within, own_if_missing, deletes, ends, written_for}
 use Rattle.acap_store.specs.declared.meant.Meant.{Meant}
 use Rattle.acap_store.proofs.DatasetLemmas.{first_true, second_true, both_true, not_true, or_false, and_false, octets_same, octets_refl, paths_same, own_whole, append_behind, makes_at, exists_by, exists_without, missing_is, found_as, found_has, not_found_none, some_found}

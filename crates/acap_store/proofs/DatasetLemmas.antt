@@ -14,7 +14,7 @@ use Rattle.acap_entries.specs.Store.{Stored, path_cmp}
 use Rattle.acap_entries.specs.declared.fate.Fate.{Fate}
 use Rattle.acap_entries.specs.declared.path.Path.{Path}
 use Rattle.acap_entries.specs.declared.record.Record.{Record}
-use Rattle.acap_grammar.specs.declared.store_entry.StoreEntry.{StoreEntry}
+use Rattle.acap_commands.specs.declared.store_entry.StoreEntry.{StoreEntry}
 use Rattle.acap_store.specs.DatasetLaws.{own_path, way_within, way_to, is_on_way}
 use Rattle.acap_store.specs.Refusing.{same_path}
 use Rattle.acap_store.specs.Writing.{missing_within, missing_to, missing_for, own_if_missing}

@@ -16,7 +16,7 @@ use Rattle.acap_entries.specs.declared.change.Change.{Change}
 use Rattle.acap_entries.specs.declared.fate.Fate.TheVariants as fate
 use Rattle.acap_entries.specs.declared.path.Path.{Path}
 use Rattle.acap_entries.specs.declared.record.Record.{Record}
-use Rattle.acap_grammar.specs.declared.store_entry.StoreEntry.{StoreEntry}
+use Rattle.acap_commands.specs.declared.store_entry.StoreEntry.{StoreEntry}
 use Rattle.acap_rights.specs.declared.realm.Realm.{Realm}
 use Rattle.acap_store.specs.DatasetLaws.{HousedLaw, own_path, way_within, way_to, is_on_way, is_made, reaches_within, is_absolute}
 use Rattle.acap_store.specs.Laws.{entries_of}

@@ -17,8 +17,8 @@ use Rattle.acap_entries.specs.Store.{Stored, Store, path_cmp}
 use Rattle.acap_entries.specs.declared.change.Change.{Change}
 use Rattle.acap_entries.specs.declared.path.Path.{Path}
 use Rattle.acap_entries.specs.declared.record.Record.{Record}
-use Rattle.acap_grammar.specs.declared.object.Object.{Object}
-use Rattle.acap_grammar.specs.declared.store_entry.StoreEntry.{StoreEntry}
+use Rattle.acap_commands.specs.declared.object.Object.{Object}
+use Rattle.acap_commands.specs.declared.store_entry.StoreEntry.{StoreEntry}
 use Rattle.acap_rights.specs.declared.realm.Realm.{Realm}
 use Rattle.acap_store.specs.DatasetLaws.{SoundLaw, own_path, is_absolute, is_formed, paths_named}
 use Rattle.acap_store.specs.Laws.{entries_of}

@@ -7,7 +7,7 @@ use Rattle.acap_entries.proofs.StoreLemmas.{path_cmp_total}
 use Rattle.acap_entries.specs.Store.{Stored, Written, path_cmp}
 use Rattle.acap_entries.specs.declared.fate.Fate.{Fate}
 use Rattle.acap_entries.specs.declared.path.Path.{Path}
-use Rattle.acap_grammar.specs.declared.store_entry.StoreEntry.{StoreEntry}
+use Rattle.acap_commands.specs.declared.store_entry.StoreEntry.{StoreEntry}
 use Rattle.acap_store.specs.Writing.{put_all, missing_to, missing_for}
 use Rattle.acap_store.proofs.DatasetLemmas.{paths_same}
 use Rattle.acap_store.proofs.StoreLaws.{path_tie}

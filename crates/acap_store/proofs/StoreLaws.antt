@@ -17,9 +17,9 @@ use Rattle.acap_entries.specs.declared.change.Change.{Change}
 use Rattle.acap_entries.specs.declared.path.Path.{Path}
 use Rattle.acap_entries.specs.declared.fate.Fate.{Fate}
 use Rattle.acap_entries.proofs.StoreLemmas.{path_cmp_total}
-use Rattle.acap_grammar.specs.declared.refusal.Refusal.{Refusal}
-use Rattle.acap_grammar.specs.declared.refusal.Refusal.TheVariants as refusal
-use Rattle.acap_grammar.specs.declared.store_entry.StoreEntry.{StoreEntry}
+use Rattle.acap_commands.specs.declared.refusal.Refusal.{Refusal}
+use Rattle.acap_commands.specs.declared.refusal.Refusal.TheVariants as refusal
+use Rattle.acap_commands.specs.declared.store_entry.StoreEntry.{StoreEntry}
 use Rattle.acap_rights.specs.declared.realm.Realm.{Realm}
 use Rattle.acap_store.specs.Laws.{OrderLaw, IsFirst, PathLaw, KeptLaw, LaterLaw, refusals, entries_of}
 use Rattle.acap_store.specs.Limits.{gives_large, is_too_much}

@@ -9,8 +9,8 @@ use Rattle.acap_entries.specs.Store.{path_cmp}
 use Rattle.acap_entries.specs.declared.path.Path.{Path}
 use Rattle.acap_entries.proofs.StoreLemmas.{path_cmp_total}
 use Rattle.acap_entries.proofs.SortedLemmas.{first, second, is_less, rises_behind}
-use Rattle.acap_grammar.specs.Storing.{has_path}
-use Rattle.acap_grammar.specs.declared.store_entry.StoreEntry.{StoreEntry}
+use Rattle.acap_commands.specs.EntryOrder.{has_path}
+use Rattle.acap_commands.specs.declared.store_entry.StoreEntry.{StoreEntry}
 use Rattle.acap_store.specs.Refusing.{same_path, has_twice}
 use Rattle.acap_store.specs.Rising.{keyed, rising}
 use Rattle.acap_store.proofs.DatasetLemmas.{iff_bool, paths_same, paths_refl, or_false}

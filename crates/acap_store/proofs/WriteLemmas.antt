@@ -14,8 +14,8 @@ use Rattle.acap_entries.specs.Names.{own_entry, dataset_of, name_of, dataset_len
 use Rattle.acap_entries.specs.Store.{Stored, Written, after_fate, after_writes}
 use Rattle.acap_entries.specs.declared.path.Path.{Path}
 use Rattle.acap_entries.specs.declared.fate.Fate.{Fate}
-use Rattle.acap_grammar.specs.declared.store_entry.StoreEntry.{StoreEntry}
-use Rattle.acap_grammar.specs.declared.store_item.StoreItem.{StoreItem}
+use Rattle.acap_commands.specs.declared.store_entry.StoreEntry.{StoreEntry}
+use Rattle.acap_commands.specs.declared.store_item.StoreItem.{StoreItem}
 use Rattle.acap_store.specs.Writing.{Celled, Listed, put_all, with_value, with_values, with_list, with_lists, missing_within, missing_to, missing_for, own_if_missing}
 
 pub put_all_append : (front back : List (Path × Fate)) (w : Written) → put_all (front ++ back) w ≡ put_all front (put_all back w)

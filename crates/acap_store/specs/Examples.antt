@@ -13,16 +13,16 @@ use Rattle.acap_entries.specs.declared.fate.Fate.{Fate}
 use Rattle.acap_entries.specs.declared.fate.Fate.TheVariants as fate
 use Rattle.acap_entries.specs.declared.path.Path.{Path}
 use Rattle.acap_entries.specs.declared.record.Record.{Record}
-use Rattle.acap_grammar.specs.declared.given.Given.{Given}
-use Rattle.acap_grammar.specs.declared.given.Given.TheVariants.{Put, Default}
-use Rattle.acap_grammar.specs.declared.object.Object.{Object}
-use Rattle.acap_grammar.specs.declared.refusal.Refusal.{Refusal}
-use Rattle.acap_grammar.specs.declared.refusal.Refusal.TheVariants as refusals
-use Rattle.acap_grammar.specs.declared.store_entry.StoreEntry.{StoreEntry}
-use Rattle.acap_grammar.specs.declared.store_item.StoreItem.{StoreItem}
-use Rattle.acap_grammar.specs.declared.store_metadata.StoreMetadata.TheVariants as metadata
-use Rattle.acap_grammar.specs.declared.store_modifiers.StoreModifiers.{StoreModifiers}
-use Rattle.acap_grammar.specs.Storing.{unconditional}
+use Rattle.acap_commands.specs.declared.given.Given.{Given}
+use Rattle.acap_commands.specs.declared.given.Given.TheVariants.{Put, Default}
+use Rattle.acap_commands.specs.declared.object.Object.{Object}
+use Rattle.acap_commands.specs.declared.refusal.Refusal.{Refusal}
+use Rattle.acap_commands.specs.declared.refusal.Refusal.TheVariants as refusals
+use Rattle.acap_commands.specs.declared.store_entry.StoreEntry.{StoreEntry}
+use Rattle.acap_commands.specs.declared.store_item.StoreItem.{StoreItem}
+use Rattle.acap_commands.specs.declared.store_metadata.StoreMetadata.TheVariants as metadata
+use Rattle.acap_commands.specs.declared.store_modifiers.StoreModifiers.{StoreModifiers}
+use Rattle.acap_commands.specs.Modifiers.{unconditional}
 use Rattle.acap_rights.specs.Deciding.{Target, OfDataset, OfAttribute, OfEntry, deciding_list, rights_of}
 use Rattle.acap_rights.specs.Edits.{with_pair, without}
 use Rattle.acap_rights.specs.Pairs.{form_of}

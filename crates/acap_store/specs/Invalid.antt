@@ -8,12 +8,12 @@ use Rattle.acap_entries.specs.Orders.{octets_eq}
 use Rattle.acap_entries.specs.Store.{Stored}
 use Rattle.acap_entries.specs.declared.cell.Cell.TheVariants.{Nil, Single, Multi}
 use Rattle.acap_entries.specs.declared.path.Path.{Path}
-use Rattle.acap_grammar.specs.declared.given.Given.{Given}
-use Rattle.acap_grammar.specs.declared.given.Given.TheVariants.{Put, Default}
-use Rattle.acap_grammar.specs.declared.refusal.Refusal.{Refusal}
-use Rattle.acap_grammar.specs.declared.refusal.Refusal.TheVariants as refusals
-use Rattle.acap_grammar.specs.declared.store_entry.StoreEntry.{StoreEntry}
-use Rattle.acap_grammar.specs.declared.store_item.StoreItem.{StoreItem}
+use Rattle.acap_commands.specs.declared.given.Given.{Given}
+use Rattle.acap_commands.specs.declared.given.Given.TheVariants.{Put, Default}
+use Rattle.acap_commands.specs.declared.refusal.Refusal.{Refusal}
+use Rattle.acap_commands.specs.declared.refusal.Refusal.TheVariants as refusals
+use Rattle.acap_commands.specs.declared.store_entry.StoreEntry.{StoreEntry}
+use Rattle.acap_commands.specs.declared.store_item.StoreItem.{StoreItem}
 use Rattle.acap_rights.specs.Pairs.{is_acl}
 use Rattle.acap_store.specs.Forms.{is_management, is_value, is_nothing, resolved_at}
 use Rattle.acap_store.specs.Permission.{list_target}

@@ -3,11 +3,11 @@ use Rattle.std.specs.Prelude.{ℕ, List, [], ◌∷◌, Bool, not, ◌&&◌, ◌
 use Rattle.std.specs.Option.{option_or, unwrap_or}
 use Rattle.acap_entries.specs.Store.{Stored}
 use Rattle.acap_entries.specs.declared.path.Path.{Path}
-use Rattle.acap_grammar.specs.declared.object.Object.{Object}
-use Rattle.acap_grammar.specs.declared.refusal.Refusal.{Refusal}
-use Rattle.acap_grammar.specs.declared.refusal.Refusal.TheVariants as refusals
-use Rattle.acap_grammar.specs.declared.store_entry.StoreEntry.{StoreEntry}
-use Rattle.acap_grammar.specs.declared.store_item.StoreItem.{StoreItem}
+use Rattle.acap_commands.specs.declared.object.Object.{Object}
+use Rattle.acap_commands.specs.declared.refusal.Refusal.{Refusal}
+use Rattle.acap_commands.specs.declared.refusal.Refusal.TheVariants as refusals
+use Rattle.acap_commands.specs.declared.store_entry.StoreEntry.{StoreEntry}
+use Rattle.acap_commands.specs.declared.store_item.StoreItem.{StoreItem}
 use Rattle.acap_rights.specs.Deciding.{Target, OfDataset, OfAttribute, OfEntry, rights_of}
 use Rattle.acap_rights.specs.Keeping.{target_of_list}
 use Rattle.acap_rights.specs.declared.realm.Realm.{Realm}

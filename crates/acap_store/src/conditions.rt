@@ -5,7 +5,7 @@ ghost use Rattle.acap_store.specs.Refusing as rule;
 
 use crate::forms::exists_at;
 use acap_entries::{Boxed, Copying, Memory, Moment, Path, Tree};
-use acap_grammar::{Refusal, StoreEntry};
+use acap_commands::{Refusal, StoreEntry};
 use acap_inherit::{chain, modtime};
 use std::alloc::Global;
 

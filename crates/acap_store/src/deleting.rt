@@ -12,7 +12,7 @@ use acap_entries::{
     Attribute, Cell, Cells, Copying, Dataset, Deletion, Memory, Moment, Paths, Tree, UserName,
     Value, Values, Writes,
 };
-use acap_grammar::{Refusal, StoreEntry};
+use acap_commands::{Refusal, StoreEntry};
 use acap_rights::{Object, Realm, rights_of};
 use std::alloc::Global;
 

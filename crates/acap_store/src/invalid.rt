@@ -9,7 +9,7 @@ use crate::forms::{is_management, is_nothing, is_value};
 use crate::meant::Meant;
 use crate::permission::is_list;
 use acap_entries::{Boxed, Cell, Copying, Memory, Tree, is_dataset_argument};
-use acap_grammar::{Given, Refusal, StoreEntry, StoreItem};
+use acap_commands::{Given, Refusal, StoreEntry, StoreItem};
 use acap_rights::is_acl;
 use std::alloc::Global;
 

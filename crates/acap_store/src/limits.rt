@@ -6,7 +6,7 @@ ghost use Rattle.acap_store.specs.Limits as limits;
 ghost use Rattle.acap_store.specs.Counting as counting;
 
 use acap_entries::{Cell, Fate, Path, Tree, Value, Writes};
-use acap_grammar::{Given, StoreEntry};
+use acap_commands::{Given, StoreEntry};
 
 /// How many octets a string may have.
 const STRING: usize = 65_536;

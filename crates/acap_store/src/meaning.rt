@@ -1,6 +1,6 @@
 //! What the commands mean: the entries that they store.
 ghost use Rattle.std.specs.Prelude.{◌≡◌, ◌∷◌, [], IfOk};
-ghost use Rattle.acap_grammar.specs.declared.store_metadata.StoreMetadata.TheVariants as metadata;
+ghost use Rattle.acap_commands.specs.declared.store_metadata.StoreMetadata.TheVariants as metadata;
 ghost use Rattle.acap_rights.specs.Deciding as decided;
 ghost use Rattle.acap_rights.specs.Edits as edit;
 ghost use Rattle.acap_store.specs.Meaning as rule;
@@ -11,9 +11,7 @@ use crate::write::Write;
 use acap_entries::{
     Attribute, Cell, Copying, Dataset, EntryName, Memory, Path, Tree, UserName, Value,
 };
-use acap_grammar::{
-    Entries, Given, Object, StoreEntry, StoreItem, StoreItems, StoreMetadata, StoreModifiers,
-};
+use acap_commands::{Entries, Given, Object, StoreEntry, StoreItem, StoreItems, StoreMetadata, StoreModifiers};
 use acap_rights::{Acl, decided_list, list_attribute};
 use std::alloc::Global;
 

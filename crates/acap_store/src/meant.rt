@@ -1,6 +1,6 @@
 //! What a command stores.
 
-use acap_grammar::Entries;
+use acap_commands::Entries;
 
 /// What a command stores, `~` being replaced.
 #[derive(Drop)]

@@ -9,7 +9,7 @@ use crate::records::{acls_of, cells_of, renewed};
 use acap_entries::{
     Attribute, Boxed, Cell, Fate, Memory, Moment, Path, Tree, Value, Values, Writes, own_entry_of,
 };
-use acap_grammar::StoreEntry;
+use acap_commands::StoreEntry;
 use std::alloc::Global;
 
 // The list of the one string `.`.

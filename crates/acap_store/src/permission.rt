@@ -8,7 +8,7 @@ ghost use Rattle.acap_store.specs.Sharing.{HasNoLists, AreShared};
 
 use crate::forms::{exists_at, is_management, is_nil_at, is_value};
 use acap_entries::{Attribute, Boxed, Copying, EntryName, Memory, Path, Tree, UserName};
-use acap_grammar::{Refusal, StoreEntry, StoreItem};
+use acap_commands::{Refusal, StoreEntry, StoreItem};
 use acap_rights::{Object, Realm, Rights, object_of_list, rights_of, shared_rights};
 use std::alloc::Global;
 
@@ -182,7 +182,7 @@ fn denied_in<'a>(
 }
 
 // The object as a refusal names it.
-fn named(alloc: Global, path: &Path, object: &Object<'_>) -> Result<acap_grammar::Object, Memory>
+fn named(alloc: Global, path: &Path, object: &Object<'_>) -> Result<acap_commands::Object, Memory>
     requires { decided.dataset_in (decided.target_of object.now) ≡ path.now.dataset }
     ensures { IfOk result (λ made. made ≡ rule.object_of (decided.target_of object.now)) }
 {
@@ -202,7 +202,7 @@ fn named(alloc: Global, path: &Path, object: &Object<'_>) -> Result<acap_grammar
             (Some(attribute), Some(EntryName::from_slice(alloc, name)?))
         }
     };
-    Ok(acap_grammar::Object {
+    Ok(acap_commands::Object {
         dataset,
         attribute,
         name,

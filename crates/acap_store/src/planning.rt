@@ -13,7 +13,7 @@ use crate::refusing::refusal_of;
 use crate::write::Write;
 use crate::writing::written_for;
 use acap_entries::{Change, Memory, Moment, Tree, UserName};
-use acap_grammar::{Entries, Refusal};
+use acap_commands::{Entries, Refusal};
 use acap_rights::Realm;
 use std::alloc::Global;
 

@@ -10,7 +10,7 @@ use acap_entries::{
     Acls, Attribute, Cell, Cells, Copying, Dataset, Memory, Moment, NameFault, Path, Record,
     UserName, Value,
 };
-use acap_grammar::{Given, StoreItem};
+use acap_commands::{Given, StoreItem};
 use std::alloc::Global;
 
 /// The cells of what a path had.

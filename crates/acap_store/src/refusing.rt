@@ -10,7 +10,7 @@ use crate::invalid::invalid;
 use crate::meant::Meant;
 use crate::permission::{Asker, permission};
 use acap_entries::{Memory, Tree};
-use acap_grammar::{EntryOrder, Refusal, StoreEntry};
+use acap_commands::{EntryOrder, Refusal, StoreEntry};
 use std::alloc::Global;
 use std::cmp::Ordering;
 

@@ -11,7 +11,7 @@ use crate::records::{acls_of, cells_of, deleted_record, give_item, renewed};
 use acap_entries::{
     Acls, Boxed, Cell, Cells, Fate, Memory, Moment, Path, Record, Tree, UserName, Writes,
 };
-use acap_grammar::{Entries, Given, StoreEntry, StoreItem, StoreItems};
+use acap_commands::{Entries, Given, StoreEntry, StoreItem, StoreItems};
 use std::alloc::Global;
 
 // Whether NIL is given.

@@ -2,9 +2,10 @@
 ghost use Rattle.std.specs.Prelude.{◌<◌};
 
 use acap_entries::{Copying, Memory, Moment, Seat, UserName};
-use acap_grammar::{Command, GrammarError, Reply, parse, render};
+use acap_commands::{Command, Event, Fault, Reply};
+use acap_grammar::{GrammarError, parse, render};
 use acap_lexer::{Lexed, Lexer, Mode};
-use acap_machine::{Event, Fault, Outcomes, State, Step, Steps, run};
+use acap_machine::{Outcomes, State, Step, Steps, run};
 use acap_rights::Realm;
 use std::alloc::Global;
 

@@ -6,7 +6,8 @@ use Rattle.acap_entries.specs.Names.{is_path, is_attribute, is_dataset_argument,
 use Rattle.acap_grammar.specs.Several.{several, some_of, enclosed}
 use Rattle.acap_grammar.specs.Marks.{ends, starts, behind, string_at, word_at}
 use Rattle.acap_grammar.specs.Arguments.{path_named, attribute_named, dataset_named, entry_named, target_named, named_at, number_at, entry_part, attribute_part, object_at}
-use Rattle.acap_grammar.specs.Storing.{has_path, has_attribute, plain_at, gifts_at, item_at, items_at, condition_at, no_condition, conditions_at, path_at, entry_at, entries_at}
+use Rattle.acap_commands.specs.EntryOrder.{has_path}
+use Rattle.acap_grammar.specs.Storing.{has_attribute, plain_at, gifts_at, item_at, items_at, condition_at, no_condition, conditions_at, path_at, entry_at, entries_at}
 use Rattle.acap_grammar.specs.Keys.{key_at, key_behind}
 use Rattle.acap_grammar.specs.Searching.{return_named, metadata_part, return_at, returns_at, sort_at, sorts_at, modified, modifier_at, no_modifier, modifiers_at, search_at}
 use Rattle.acap_grammar.specs.Grammar.{delete_acl_at, arguments_at, command_of}

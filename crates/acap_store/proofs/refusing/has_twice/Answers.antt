@@ -1,7 +1,7 @@
 use Rattle.std.proofs.Common.{◌≡◌, true, false, sym, ap, ◌∙◌, ◌++◌, ◌∷◌, [], take, drop, get_or, subst, ◌+◌}
 use Rattle.std.proofs.lemmas.List.{take-append-drop}
-use Rattle.acap_grammar.specs.EntryOrder.{Orders}
-use Rattle.acap_grammar.specs.Storing.{has_path}
+use Rattle.acap_commands.specs.EntryOrder.{Orders}
+use Rattle.acap_commands.specs.EntryOrder.{has_path}
 use Rattle.acap_store.specs.Refusing as rule
 use Rattle.acap_store.proofs.TwiceLemmas.{of_rising, once_more, twice_at, taken, not_false, not_true}
 use Rattle.acap_store.proofs.refusing.has_twice.Goals as goal

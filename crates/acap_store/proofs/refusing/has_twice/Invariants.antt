@@ -1,5 +1,5 @@
 use Rattle.std.proofs.Common.{◌≡◌, false, take}
-use Rattle.acap_grammar.specs.EntryOrder.{Orders}
+use Rattle.acap_commands.specs.EntryOrder.{Orders}
 use Rattle.acap_store.specs.Refusing as rule
 use Rattle.acap_store.proofs.refusing.has_twice.Given as goal
 

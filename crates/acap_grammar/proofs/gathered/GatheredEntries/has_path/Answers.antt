@@ -1,6 +1,6 @@
 use Rattle.std.proofs.Common.{◌≡◌, true, not, refl, sym, ap, ◌∙◌, subst}
 use Rattle.std.specs.Ordering.{is_lt}
-use Rattle.acap_grammar.specs.EntryOrder.{Gathered}
+use Rattle.acap_grammar.specs.Gathering.{Gathered}
 use Rattle.acap_grammar.proofs.Ascending.{no_path}
 use Rattle.acap_grammar.proofs.gathered.GatheredEntries.has_path.Goals as goal
 

@@ -1,0 +1,4 @@
+pub mod Exact
+pub mod ReplyEquality
+pub mod CommandEquality
+pub mod OrderLemmas

@@ -1,0 +1,6 @@
+pub mod EntryOrder
+pub mod Modifiers
+pub mod Nodes
+pub mod Plain
+pub mod Statuses
+pub mod Wanted

@@ -1,0 +1,168 @@
+//! Why a command is refused.
+ghost use Rattle.std.specs.Prelude.{◌≡◌, ◌↔◌, IsTrue};
+ghost use Rattle.acap_commands.specs.Plain.{is_plain};
+ghost use Rattle.acap_commands.specs.Statuses.{status_of};
+
+use crate::object::Object;
+use crate::status::Status;
+use acap_entries::{Attribute, Boxed, Copying, Dataset, Memory, Path};
+
+/// Why a command, or a connection, is refused (RFC 2244 sections 3.6 and 6.2).
+#[derive(PartialEq, Eq, Drop)]
+pub enum Refusal {
+    /// No tag begins the command.
+    BadTag,
+    /// An octet that may not stand there.
+    BadToken,
+    /// A `{` that begins no literal.
+    BadLiteral,
+    /// The command would have more than 262,144 octets; the session is closed.
+    CommandTooLong,
+    /// A part of more than 8,192 octets; the session is closed.
+    LineTooLong,
+    /// No verb, or none that is known.
+    UnknownCommand,
+    /// Another shape than the verb's.
+    Arguments,
+    /// What may stand once stands again.
+    NotPermittedTwice,
+    /// A string that is no such name.
+    BadName,
+    /// A string that is no time.
+    BadTime,
+    /// A string that is no comparator.
+    BadComparator,
+    /// A key of more than 32 levels.
+    TooDeep,
+    /// More items than may stand in one list.
+    TooMany,
+    /// Nobody is logged in.
+    NotLoggedIn,
+    /// A user is logged in already.
+    LoggedIn,
+    /// The client gave the login up.
+    Cancelled,
+    /// The mechanism isn't offered.
+    NoMechanism,
+    /// The answer to the challenge isn't the user's.
+    LoginFailed,
+    /// The rights on the object are missing. What is long stands in a box, so that a refusal is short.
+    Permission(Boxed<Object>),
+    /// The dataset doesn't exist.
+    NoExist(Dataset),
+    /// The entry was changed later than the client says.
+    Modified(Boxed<Path>),
+    /// The attribute of the entry may not have this value.
+    Invalid(Boxed<Path>, Attribute),
+    /// A limit of the store was reached.
+    Limit,
+    /// No later moment can be told.
+    ClockEnd,
+    /// RANGE where no enumerated context is searched.
+    RangeHere,
+    /// The time is before what is remembered.
+    TooOld,
+    /// More matches than the hard limit.
+    WayTooMany,
+    /// The session has as many contexts as it may.
+    TryFreeContext,
+    /// The session has no context of this name.
+    NoContext,
+    /// The context was freed.
+    FreedContext,
+    /// The context isn't kept up to date.
+    NotNotify,
+    /// Memory was refused.
+    Memory,
+    /// The history holds as many events as it may.
+    HistoryFull,
+    /// There are as many sessions as there may be; this one is closed.
+    TooManySessions,
+    /// What is asked for isn't served.
+    Unserved,
+}
+
+impl Refusal {
+    /// Whether it is told as NO, BAD or BYE (RFC 2244 section 6.2). A session that says BYE is closed.
+    pub fn status(&self) -> Status
+        ensures { result ≡ status_of self.now }
+    {
+        match self {
+            Refusal::CommandTooLong | Refusal::LineTooLong | Refusal::TooManySessions => {
+                Status::Bye
+            }
+            Refusal::BadTag
+            | Refusal::BadToken
+            | Refusal::BadLiteral
+            | Refusal::UnknownCommand
+            | Refusal::Arguments
+            | Refusal::NotPermittedTwice
+            | Refusal::BadName
+            | Refusal::BadTime
+            | Refusal::BadComparator
+            | Refusal::TooDeep
+            | Refusal::TooMany
+            | Refusal::NotLoggedIn
+            | Refusal::LoggedIn
+            | Refusal::Cancelled
+            | Refusal::RangeHere
+            | Refusal::Unserved => Status::Bad,
+            _ => Status::No,
+        }
+    }
+}
+
+impl Copying for Refusal {
+    fn copy(&self) -> Result<Refusal, Memory> {
+        match self {
+            Refusal::Permission(object) => Ok(Refusal::Permission(object.copy()?)),
+            Refusal::NoExist(dataset) => Ok(Refusal::NoExist(dataset.copy()?)),
+            Refusal::Modified(path) => Ok(Refusal::Modified(path.copy()?)),
+            Refusal::Invalid(path, attribute) => {
+                let path = path.copy()?;
+                Ok(Refusal::Invalid(path, attribute.copy()?))
+            }
+            _ => Ok(plain(self)),
+        }
+    }
+}
+
+// A refusal that names nothing, once more.
+fn plain(refusal: &Refusal) -> Refusal
+    requires { IsTrue (is_plain refusal.now) }
+    ensures { result ≡ refusal.now }
+{
+    match refusal {
+        Refusal::BadTag => Refusal::BadTag,
+        Refusal::BadToken => Refusal::BadToken,
+        Refusal::BadLiteral => Refusal::BadLiteral,
+        Refusal::CommandTooLong => Refusal::CommandTooLong,
+        Refusal::LineTooLong => Refusal::LineTooLong,
+        Refusal::UnknownCommand => Refusal::UnknownCommand,
+        Refusal::Arguments => Refusal::Arguments,
+        Refusal::NotPermittedTwice => Refusal::NotPermittedTwice,
+        Refusal::BadName => Refusal::BadName,
+        Refusal::BadTime => Refusal::BadTime,
+        Refusal::BadComparator => Refusal::BadComparator,
+        Refusal::TooDeep => Refusal::TooDeep,
+        Refusal::TooMany => Refusal::TooMany,
+        Refusal::NotLoggedIn => Refusal::NotLoggedIn,
+        Refusal::LoggedIn => Refusal::LoggedIn,
+        Refusal::Cancelled => Refusal::Cancelled,
+        Refusal::NoMechanism => Refusal::NoMechanism,
+        Refusal::LoginFailed => Refusal::LoginFailed,
+        Refusal::Limit => Refusal::Limit,
+        Refusal::ClockEnd => Refusal::ClockEnd,
+        Refusal::RangeHere => Refusal::RangeHere,
+        Refusal::TooOld => Refusal::TooOld,
+        Refusal::WayTooMany => Refusal::WayTooMany,
+        Refusal::TryFreeContext => Refusal::TryFreeContext,
+        Refusal::NoContext => Refusal::NoContext,
+        Refusal::FreedContext => Refusal::FreedContext,
+        Refusal::NotNotify => Refusal::NotNotify,
+        Refusal::Memory => Refusal::Memory,
+        Refusal::HistoryFull => Refusal::HistoryFull,
+        Refusal::TooManySessions => Refusal::TooManySessions,
+        _ => Refusal::Unserved,
+    }
+}

@@ -1,0 +1,23 @@
+//! One item of a RETURN.
+ghost use Rattle.std.specs.Prelude.{◌≡◌, ◌↔◌, IsTrue};
+
+use crate::lists::MetadataList;
+use crate::return_name::ReturnName;
+use acap_entries::{Copying, Memory};
+
+/// An item of RETURN (RFC 2244 section 6.4.1).
+#[derive(PartialEq, Eq, Drop)]
+pub struct ReturnItem {
+    /// Of which attributes it tells.
+    pub name: ReturnName,
+    /// What it tells of each, at least one thing.
+    pub metadata: MetadataList,
+}
+
+impl Copying for ReturnItem {
+    fn copy(&self) -> Result<ReturnItem, Memory> {
+        let name = self.name.copy()?;
+        let metadata = self.metadata.copy()?;
+        Ok(ReturnItem { name, metadata })
+    }
+}

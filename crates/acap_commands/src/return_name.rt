@@ -1,0 +1,22 @@
+//! The attributes that an item of RETURN names.
+ghost use Rattle.std.specs.Prelude.{◌≡◌, ◌↔◌, IsTrue};
+
+use acap_entries::{Attribute, Copying, Memory, Value};
+
+/// Of which attributes an item of RETURN tells (RFC 2244 section 6.4.1).
+#[derive(PartialEq, Eq, Drop)]
+pub enum ReturnName {
+    /// The attribute of this name.
+    Named(Attribute),
+    /// A name with `*` at its end: those attributes whose names begin with what stands before it.
+    Beginning(Value),
+}
+
+impl Copying for ReturnName {
+    fn copy(&self) -> Result<ReturnName, Memory> {
+        match self {
+            ReturnName::Named(attribute) => Ok(ReturnName::Named(attribute.copy()?)),
+            ReturnName::Beginning(front) => Ok(ReturnName::Beginning(front.copy()?)),
+        }
+    }
+}

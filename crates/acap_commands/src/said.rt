@@ -1,0 +1,52 @@
+//! What is said to a client.
+ghost use Rattle.std.specs.Prelude.{◌≡◌, ◌↔◌, IsTrue};
+
+use crate::refusal::Refusal;
+use crate::search_reply::SearchReply;
+use crate::verb::Verb;
+use acap_entries::{Copying, Memory, Octets, Value, Values};
+
+/// What is said to a client (RFC 2244 section 6.2).
+#[derive(PartialEq, Eq, Drop)]
+pub enum Said {
+    /// The greeting that begins a session.
+    Greeting,
+    /// Nothing: the session has left.
+    Left,
+    /// Nothing: no notices were pending.
+    Drained,
+    /// The command with this verb is done.
+    Done(Verb),
+    /// A SEARCH is done, and this is told.
+    Searched(SearchReply),
+    /// A DELETEDSINCE is done, and the entries with these names were deleted (section 6.6.2).
+    Deleted(Values),
+    /// A MYRIGHTS is done, and the user has these rights (section 6.7).
+    Rights(Value),
+    /// A LISTRIGHTS is done: what the identifier always has, and then each other right apart (section 6.7).
+    RightsList(Values),
+    /// A login goes on with this challenge (section 6.3.1; RFC 2195 section 2).
+    Challenge(Octets),
+    /// A LOGOUT is done, and the session is closed.
+    GoodBye,
+    /// The command, or the connection, is refused.
+    Refused(Refusal),
+}
+
+impl Copying for Said {
+    fn copy(&self) -> Result<Said, Memory> {
+        match self {
+            Said::Greeting => Ok(Said::Greeting),
+            Said::Left => Ok(Said::Left),
+            Said::Drained => Ok(Said::Drained),
+            Said::Done(verb) => Ok(Said::Done(*verb)),
+            Said::Searched(found) => Ok(Said::Searched(found.copy()?)),
+            Said::Deleted(names) => Ok(Said::Deleted(names.copy()?)),
+            Said::Rights(rights) => Ok(Said::Rights(rights.copy()?)),
+            Said::RightsList(rights) => Ok(Said::RightsList(rights.copy()?)),
+            Said::Challenge(octets) => Ok(Said::Challenge(octets.copy()?)),
+            Said::GoodBye => Ok(Said::GoodBye),
+            Said::Refused(refusal) => Ok(Said::Refused(refusal.copy()?)),
+        }
+    }
+}

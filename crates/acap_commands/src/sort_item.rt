@@ -1,0 +1,24 @@
+//! One item of a SORT.
+ghost use Rattle.std.specs.Prelude.{◌≡◌, ◌↔◌, IsTrue};
+
+use acap_entries::{Attribute, Copying, Memory};
+use acap_order::Comparator;
+
+/// An item of SORT (RFC 2244 section 6.4.1).
+#[derive(PartialEq, Eq, Drop)]
+pub struct SortItem {
+    /// The attribute whose values order the entries.
+    pub attribute: Attribute,
+    /// How they do.
+    pub comparator: Comparator,
+}
+
+impl Copying for SortItem {
+    fn copy(&self) -> Result<SortItem, Memory> {
+        let attribute = self.attribute.copy()?;
+        Ok(SortItem {
+            attribute,
+            comparator: self.comparator,
+        })
+    }
+}

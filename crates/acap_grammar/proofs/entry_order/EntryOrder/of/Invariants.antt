@@ -1,6 +1,0 @@
-use Rattle.std.proofs.Common.{take}
-use Rattle.acap_grammar.specs.EntryOrder.{Orders}
-use Rattle.acap_grammar.proofs.entry_order.EntryOrder.of.Given as goal
-
-abbrev pub invariant-loop-at : goal.invariant-loop-at
-invariant-loop-at l = Orders l.order (take l.at l.entries)
