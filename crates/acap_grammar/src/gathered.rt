@@ -4,7 +4,7 @@ ghost use Rattle.std.specs.Str.{bytes_eq};
 ghost use Rattle.acap_entries.specs.Orders.{octets_cmp};
 ghost use Rattle.acap_entries.specs.Store.{path_cmp};
 ghost use Rattle.acap_grammar.specs.Ascending.{last_cmp};
-ghost use Rattle.acap_commands.specs.EntryOrder.{Orders};
+ghost use Rattle.acap_commands.specs.EntryOrder.{Orders, has_path};
 ghost use Rattle.acap_grammar.specs.Storing as storing;
 
 use acap_commands::{Entries, EntryOrder, StoreEntry, StoreItem, StoreItems, StoreMetadata};
@@ -53,9 +53,9 @@ fn is_same_path(a: &Path, b: &Path) -> bool
     a.name.as_slice() == b.name.as_slice() && a.dataset.as_slice() == b.dataset.as_slice()
 }
 
-#[tactic(auto, unfolding(crate::specs::Storing::has_path))]
+#[tactic(auto, unfolding(acap_commands::specs::EntryOrder::has_path))]
 fn has_path(path: &Path, seen: &[StoreEntry]) -> bool
-    ensures { result ≡ storing.has_path path.now seen.now }
+    ensures { result ≡ has_path path.now seen.now }
 {
     seen.iter().any(|e| is_same_path(&e.path, path))
 }
@@ -82,7 +82,7 @@ impl GatheredEntries {
 
     /// Whether an entry with this path is among them. Takes no memory.
     pub(crate) fn has_path(&self, path: &Path) -> bool
-        ensures { result ≡ storing.has_path path.now self.now }
+        ensures { result ≡ has_path path.now self.now }
     {
         let seen = self.entries.as_slice();
         match &self.order {
