@@ -2,7 +2,7 @@
 use Rattle.std.proofs.Common.{◌≡◌, ℕ, suc, ◌+◌, ◌-◌, ◌*◌, ◌<◌, ◌≤◌, false, List, [], ◌∷◌, length, drop, None, refl, sym, ap, ◌∙◌, arith, leb, slice_index, drop-cons}
 use Rattle.std.specs.Prelude.{fold}
 use Rattle.std.proofs.lemmas.Bool.{lt-leb}
-use Rattle.acap_session.specs.ScriptLines.{number_of, at_most}
+use Rattle.acap_script.specs.Lines.{number_of, at_most}
 
 -- the number of digits behind those that write a number
 abbrev pub number_from : ℕ → List ℕ → ℕ

@@ -5,13 +5,13 @@ use Rattle.hex.specs.Hex.{decode_of}
 use Rattle.hex.specs.declared.error.FromHexError.{FromHexError}
 use Rattle.acap_entries.specs.Names.{is_user_name}
 use Rattle.acap_entries.specs.Orders.{octets_eq}
-use Rattle.acap_session.specs.declared.line_fault.LineFault.{LineFault}
-use Rattle.acap_session.specs.declared.line_fault.LineFault.TheVariants as faults
-use Rattle.acap_session.specs.declared.script_line.ScriptLine.{ScriptLine}
-use Rattle.acap_session.specs.declared.script_line.ScriptLine.TheVariants as line
-use Rattle.acap_session.specs.declared.seat_line.SeatLine.TheVariants as act
-use Rattle.acap_session.specs.declared.script_word.ScriptWord.{ScriptWord}
-use Rattle.acap_session.specs.declared.script_word.ScriptWord.TheVariants as word
+use Rattle.acap_script.specs.declared.line_fault.LineFault.{LineFault}
+use Rattle.acap_script.specs.declared.line_fault.LineFault.TheVariants as faults
+use Rattle.acap_script.specs.declared.script_line.ScriptLine.{ScriptLine}
+use Rattle.acap_script.specs.declared.script_line.ScriptLine.TheVariants as line
+use Rattle.acap_script.specs.declared.seat_line.SeatLine.TheVariants as act
+use Rattle.acap_script.specs.declared.script_word.ScriptWord.{ScriptWord}
+use Rattle.acap_script.specs.declared.script_word.ScriptWord.TheVariants as word
 
 -- ---- parts
 

@@ -2,7 +2,7 @@
 
 ghost use Rattle.std.specs.Prelude.{◌≡◌, ◌≤◌, IfSome};
 ghost use Rattle.std.specs.List.{list_all};
-ghost use Rattle.acap_session.specs.ScriptLines as rule;
+ghost use Rattle.acap_script.specs.Lines as rule;
 
 use acap_entries::{Moment, Seat};
 

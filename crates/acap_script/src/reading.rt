@@ -1,13 +1,13 @@
 //! Reading the lines of a script.
 
 ghost use Rattle.std.specs.Prelude.{◌≡◌, ◌<◌, length, position, option_map, IfSome};
-ghost use Rattle.acap_session.specs.ScriptLines as rule;
-ghost use Rattle.acap_session.specs.ScriptLines.{Reads};
-ghost use Rattle.acap_session.specs.declared.script_line.ScriptLine.TheVariants as line;
+ghost use Rattle.acap_script.specs.Lines as rule;
+ghost use Rattle.acap_script.specs.Lines.{Reads};
+ghost use Rattle.acap_script.specs.declared.script_line.ScriptLine.TheVariants as line;
 
 use crate::line_fault::LineFault;
 use crate::script_line::ScriptLine;
-use crate::script_numbers::{moment_in, nonce_in, seat_in};
+use crate::numbers::{moment_in, nonce_in, seat_in};
 use crate::script_word::ScriptWord;
 use crate::seat_line::SeatLine;
 use acap_entries::{NameFault, Octets, Seat, UserName};
@@ -226,8 +226,8 @@ fn is_passed(text: &[u8]) -> bool
 }
 
 /// What the text of a line says. `Wrong` where it says nothing.
-#[tactic(auto, unfolding(crate::specs::ScriptLines::line_of))]
-pub(crate) fn read_line(alloc: Global, text: &[u8]) -> Result<ScriptLine, LineFault>
+#[tactic(auto, unfolding(crate::specs::Lines::line_of))]
+pub fn read_line(alloc: Global, text: &[u8]) -> Result<ScriptLine, LineFault>
     ensures { Reads (rule.line_of text.now) result }
 {
     if is_passed(text) {

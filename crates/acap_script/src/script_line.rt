@@ -5,7 +5,7 @@ use acap_entries::{Moment, Octets, Seat, UserName};
 
 /// A line of a script.
 #[derive(Drop)]
-pub(crate) enum ScriptLine {
+pub enum ScriptLine {
     /// Nothing, or a remark.
     Pass,
     /// Who may log in, and the secret.

@@ -4,7 +4,7 @@ use acap_entries::{Octets, UserName};
 
 /// What a line of a script does at a seat.
 #[derive(Drop)]
-pub(crate) enum SeatLine {
+pub enum SeatLine {
     /// A session opens, of nobody yet.
     Open,
     /// A session of a user opens.

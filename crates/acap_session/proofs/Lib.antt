@@ -14,7 +14,6 @@ pub mod Reading
 pub mod Refusing
 pub mod ScriptActing
 pub mod ScriptHearing
-pub mod ScriptNumbers
 pub mod ScriptOutput
 pub mod ScriptRunning
 pub mod Seating

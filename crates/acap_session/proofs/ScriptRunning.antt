@@ -13,7 +13,7 @@ use Rattle.acap_session.specs.World.{World, open_at, output_taken, said_before}
 use Rattle.acap_session.specs.declared.script.Script.{Script}
 use Rattle.acap_session.specs.declared.script_fault.ScriptFault.{ScriptFault}
 use Rattle.acap_session.specs.declared.script_fault.ScriptFault.TheVariants as faults
-use Rattle.acap_session.specs.declared.seat_line.SeatLine.{SeatLine}
+use Rattle.acap_script.specs.declared.seat_line.SeatLine.{SeatLine}
 use Rattle.acap_session.specs.declared.standing.Standing.TheVariants as standing
 use Rattle.acap_session.proofs.ScriptOutput.{flat_snoc}
 use Rattle.acap_session.proofs.Sending.{all_front, appends_none, appends_then, front_then}

@@ -7,7 +7,6 @@ pub mod Piping
 pub mod Places
 pub mod Saying
 pub mod Script
-pub mod ScriptLines
 pub mod ScriptOutput
 pub mod ScriptRun
 pub mod Seating

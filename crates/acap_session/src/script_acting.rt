@@ -4,12 +4,12 @@ ghost use Rattle.std.specs.Prelude.{◌≡◌, false, is_some, not};
 ghost use Rattle.acap_session.specs.Script.{Acts, Done, may};
 ghost use Rattle.acap_session.specs.World as deed;
 ghost use Rattle.acap_session.specs.World.{did, open_at};
-ghost use Rattle.acap_session.specs.declared.seat_line.SeatLine.TheVariants as act;
+ghost use Rattle.acap_script.specs.declared.seat_line.SeatLine.TheVariants as act;
 
-use crate::line_fault::LineFault;
+use acap_script::LineFault;
 use crate::occasion::Occasion;
 use crate::script_hearing::hear;
-use crate::seat_line::SeatLine;
+use acap_script::SeatLine;
 use crate::world::World;
 use acap_entries::{Octets, UserName};
 

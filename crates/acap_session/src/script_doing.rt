@@ -3,16 +3,16 @@
 ghost use Rattle.std.specs.Prelude.{◌≡◌, true, Err, IfOk, is_some};
 ghost use Rattle.acap_session.specs.Script.{Does, Done, IsDone, Sets, Speaks, begins, fits, is_before, is_wrong, may, with_administrator, with_host, with_member, with_user, world_of};
 ghost use Rattle.acap_session.specs.World.{open_at};
-ghost use Rattle.acap_session.specs.declared.line_fault.LineFault.TheVariants as faults;
+ghost use Rattle.acap_script.specs.declared.line_fault.LineFault.TheVariants as faults;
 
-use crate::line_fault::LineFault;
+use acap_script::LineFault;
 use crate::occasion::Occasion;
 use crate::script::Script;
 use crate::script_acting::do_at;
-use crate::script_line::ScriptLine;
+use acap_script::ScriptLine;
 use crate::script_output::shown;
-use crate::script_reading::read_line;
-use crate::seat_line::SeatLine;
+use acap_script::read_line;
+use acap_script::SeatLine;
 use crate::setup::Setup;
 use crate::standing::Standing;
 use crate::world::World;

@@ -4,7 +4,7 @@ ghost use Rattle.std.specs.Prelude.{◌≡◌, ◌≤◌, length, drop, is_some,
 ghost use Rattle.acap_session.specs.Script.{Done, HasHeard, HasOffered, HasSettled, HasTurned};
 ghost use Rattle.acap_session.specs.World.{open_at};
 
-use crate::line_fault::LineFault;
+use acap_script::LineFault;
 use crate::occasion::Occasion;
 use crate::world::World;
 use crate::world_fault::WorldFault;

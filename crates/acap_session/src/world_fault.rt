@@ -1,6 +1,7 @@
 //! Why a step of the world can't be made.
 
 use acap_entries::Memory;
+use acap_script::LineFault;
 
 /// Why a step of the world can't be made.
 #[derive(Clone, Copy, PartialEq, Eq)]
@@ -21,5 +22,19 @@ impl From<Memory> for WorldFault {
 
     fn from(_memory: Memory) -> WorldFault {
         WorldFault::Memory
+    }
+}
+
+impl From<WorldFault> for LineFault {
+    ghost use Rattle.std.specs.Prelude.{◌≡◌};
+    ghost use Rattle.acap_script.specs.Script.{fault_of};
+
+    ghost from_gives = { λ fault made. made ≡ fault_of fault };
+
+    fn from(fault: WorldFault) -> LineFault {
+        match fault {
+            WorldFault::NoSeat | WorldFault::Taken => LineFault::Wrong,
+            WorldFault::Memory => LineFault::Memory,
+        }
     }
 }

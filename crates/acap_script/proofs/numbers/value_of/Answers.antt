@@ -1,6 +1,6 @@
 use Rattle.std.proofs.Common.{◌<◌, ◌+◌, ◌-◌, ◌*◌, arith, slice_index}
-use Rattle.acap_session.proofs.ScriptNumbers.{too_large}
-use Rattle.acap_session.proofs.script_numbers.value_of.Goals as goal
+use Rattle.acap_script.proofs.NumberLemmas.{too_large}
+use Rattle.acap_script.proofs.numbers.value_of.Goals as goal
 
 pub returns-then-next-from-clause-value : goal.returns-then-next-from-clause-value
 returns-then-next-from-clause-value c =
