@@ -4,7 +4,7 @@ use Rattle.std.specs.Prelude.{codes, option_map, if◌then◌else◌}
 use Rattle.acap_lexer.specs.Token.{Token}
 use Rattle.acap_order.specs.declared.comparator.Comparator.{Comparator}
 use Rattle.acap_commands.specs.EntryOrder as entry_order
-use Rattle.acap_commands.specs.Modifiers as modifiers
+use Rattle.acap_commands.specs.Modifiers as plain_modifiers
 use Rattle.acap_commands.specs.declared.command.Command.{Command}
 use Rattle.acap_grammar.specs.declared.grammar_fault.GrammarFault.{GrammarFault}
 use Rattle.acap_grammar.specs.declared.grammar_fault.GrammarFault.TheVariants as fault
@@ -133,7 +133,7 @@ condition seen = worded storing.store_words (storing.condition_by seen) (λ ts. 
 
 conditions : Looks storing.conditions_at
 unfolding storing.conditions_at storing.no_condition mark.word_at
-conditions = items storing.no_condition storing.no_condition storing.condition_at (worded_first storing.store_words) (worded_first storing.store_words) (inl refl) condition 3 modifiers.unconditional
+conditions = items storing.no_condition storing.no_condition storing.condition_at (worded_first storing.store_words) (worded_first storing.store_words) (inl refl) condition 3 plain_modifiers.unconditional
 
 new_path : (seen : List StoreEntry) → Looks (storing.path_at seen)
 unfolding storing.path_at

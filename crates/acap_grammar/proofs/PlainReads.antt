@@ -8,7 +8,7 @@ use Rattle.acap_lexer.specs.declared.kind.Kind.TheVariants as kind
 use Rattle.acap_lexer.specs.Token.{Token}
 use Rattle.acap_order.specs.declared.comparator.Comparator.{Comparator}
 use Rattle.acap_commands.specs.EntryOrder as entry_order
-use Rattle.acap_commands.specs.Modifiers as modifiers
+use Rattle.acap_commands.specs.Modifiers as plain_modifiers
 use Rattle.acap_commands.specs.declared.command.Command.{Command}
 use Rattle.acap_grammar.specs.declared.grammar_fault.GrammarFault.{GrammarFault}
 use Rattle.acap_grammar.specs.declared.grammar_fault.GrammarFault.TheVariants as fault
@@ -319,7 +319,7 @@ condition seen =
 
 conditions : Blind storing.conditions_at
 unfolding storing.conditions_at storing.no_condition
-conditions = items storing.no_condition storing.no_condition storing.condition_at (worded_first storing.store_words) (worded_first storing.store_words) condition 3 modifiers.unconditional
+conditions = items storing.no_condition storing.no_condition storing.condition_at (worded_first storing.store_words) (worded_first storing.store_words) condition 3 plain_modifiers.unconditional
 
 new_path : (seen : List StoreEntry) → Blind (storing.path_at seen)
 unfolding storing.path_at

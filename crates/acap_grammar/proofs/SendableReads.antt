@@ -17,7 +17,7 @@ use Rattle.acap_entries.specs.Names.{is_path, dataset_of, name_of, dataset_len, 
 use Rattle.acap_entries.specs.Times.{time_of}
 use Rattle.acap_entries.specs.declared.path.Path.{Path}
 use Rattle.acap_commands.specs.EntryOrder as entry_order
-use Rattle.acap_commands.specs.Modifiers as modifiers
+use Rattle.acap_commands.specs.Modifiers as plain_modifiers
 use Rattle.acap_commands.specs.declared.command.Command.{Command}
 use Rattle.acap_commands.specs.declared.command.Command.TheVariants as command
 use Rattle.acap_grammar.specs.declared.grammar_fault.GrammarFault.{GrammarFault}
@@ -370,7 +370,7 @@ condition m h =
 
 conditions : Yields storing.conditions_at SinceMoment
 unfolding storing.conditions_at
-conditions = kept SinceMoment storing.no_condition storing.no_condition storing.condition_at condition 3 modifiers.unconditional tt
+conditions = kept SinceMoment storing.no_condition storing.no_condition storing.condition_at condition 3 plain_modifiers.unconditional tt
 
 abbrev IsNewPath : List StoreEntry → Path → Type 0
 IsNewPath seen p = Names argument.path_named (p.dataset ++ p.name) p × (entry_order.has_path p seen ≡ false)
@@ -563,7 +563,7 @@ modifier of s k = worded (IsScope of) searching.search_words (searching.modifier
       let over : searching.is_context of && searching.is_of_datasets w ≡ false = subst (λ (t : Target). searching.is_context t && searching.is_of_datasets w ≡ false) k.target_is m.0 in
       (bind (FitModifiers of) (IsScope of) (searching.modified s.modifiers w) _ (modified of s.modifiers w k.fit over) (λ n h. value (IsScope of) (record s { modifiers = n }) (record { target_is = k.target_is; fit = h }))).gives rest y m.1
 
-unmodified_fits : (of : Target) → Fits of modifiers.unmodified
+unmodified_fits : (of : Target) → Fits of plain_modifiers.unmodified
 unmodified_fits (target.Dataset d) = tt
 unmodified_fits (target.Context c) = (refl, refl, refl)
 

@@ -5,13 +5,13 @@ use Rattle.std.proofs.lemmas.Bool.{eqb-true, eqb-false}
 use Rattle.acap_machine.specs.Runs.{outcome_of}
 use Rattle.acap_session.specs.Laws.{OwnStep, next_in, answered_by, spoken, own_by, own, own_run, event_in, reply_of, own_of, own_steps, OthersStay, StepAlone, AloneLaw}
 use Rattle.acap_session.specs.Places.{Place, Places, place_at, placed}
-use Rattle.acap_session.specs.Session.{session_next, session_drain}
-use Rattle.acap_session.specs.Talking.{Talking, begun}
+use Rattle.acap_dialogue.specs.Session.{session_next, session_drain}
+use Rattle.acap_dialogue.specs.Talking.{Talking, begun}
 use Rattle.acap_session.specs.Turning.{Scene, scene, turn_by, turn_of, drain_of, performed}
 use Rattle.acap_session.specs.World as world
 use Rattle.acap_session.specs.World.{World, Deed, Step, at_open, did, ends, open_at, opened_at, run, said_before, scene_of, takes, with_scene}
-use Rattle.acap_session.specs.declared.next.Next.{Next}
-use Rattle.acap_session.specs.declared.next.Next.TheVariants as next
+use Rattle.acap_dialogue.specs.declared.next.Next.{Next}
+use Rattle.acap_dialogue.specs.declared.next.Next.TheVariants as next
 use Rattle.acap_session.specs.declared.occasion.Occasion.{Occasion}
 use Rattle.acap_session.proofs.Placing.{placed_there}
 

@@ -30,8 +30,8 @@ use Rattle.acap_commands.specs.declared.verb.Verb.{Verb}
 use Rattle.acap_commands.specs.declared.verb.Verb.TheVariants as verb
 use Rattle.acap_machine.specs.Completing.{completes, is_answer}
 use Rattle.acap_session.specs.Completing.{CompletionExamples, CompletionForm, EndsIn, status_word, word_of}
-use Rattle.acap_session.specs.Hearing.{heard, heard_command, heard_answer, opening}
-use Rattle.acap_session.specs.Session.{answered, session_next}
+use Rattle.acap_dialogue.specs.Hearing.{heard, heard_command, heard_answer, opening}
+use Rattle.acap_dialogue.specs.Session.{answered, session_next}
 use Rattle.acap_session.specs.Turning.{turn_of}
 use Rattle.acap_session.specs.World.{did}
 
@@ -45,6 +45,8 @@ completion_examples = record {
   wrong_said = refl;
   login = refl;
   login_said = refl;
+  too_long = refl;
+  too_long_said = refl;
   completions = refl;
 }
 

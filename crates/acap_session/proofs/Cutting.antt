@@ -14,21 +14,21 @@ use Rattle.acap_lexer.specs.declared.mode.Mode.TheVariants as mode
 use Rattle.acap_lexer.proofs.Asking.{next_cases, Continues, Lacks, Finds}
 use Rattle.acap_lexer.proofs.ProgressLaws.{keeps_items, keeps_waits, takes_octets}
 use Rattle.acap_login.specs.Login.{User}
-use Rattle.acap_session.specs.Hearing.{heard, heard_answer}
+use Rattle.acap_dialogue.specs.Hearing.{heard, heard_answer}
 use Rattle.acap_session.specs.Laws.{Move, Comes, Turns, joined, emptied, with_emptied, HasRoomFor, Alike, came_of, steps_on, HaveRoom, IsHeard, as_one, PiecesJoin, IsKept, TurnsKeep, CuttingLaw, IsJoined, JoiningLaw}
 use Rattle.acap_session.specs.Piping.{hears}
 use Rattle.acap_session.specs.Places.{Place, Places, place_at, placed, if_open}
 use Rattle.acap_session.specs.Script.{IsQuiet, IsQuietFor}
-use Rattle.acap_session.specs.Session.{session_next, next_at, answered, comes_to, is_closed}
-use Rattle.acap_session.specs.Talking.{Talking}
+use Rattle.acap_dialogue.specs.Session.{listening, session_next, next_at, answered, comes_to, is_closed}
+use Rattle.acap_dialogue.specs.Talking.{Talking}
 use Rattle.acap_session.specs.Turning.{Scene, turn_by, turn_of}
 use Rattle.acap_session.specs.World as world
 use Rattle.acap_session.specs.World.{World, at_open, did, open_at, run, room_of, scene_of, takes, with_scene, went_on}
-use Rattle.acap_session.specs.declared.next.Next.{Next}
-use Rattle.acap_session.specs.declared.next.Next.TheVariants as next
+use Rattle.acap_dialogue.specs.declared.next.Next.{Next}
+use Rattle.acap_dialogue.specs.declared.next.Next.TheVariants as next
 use Rattle.acap_session.specs.declared.occasion.Occasion.{Occasion}
-use Rattle.acap_session.specs.declared.stage.Stage.{Stage}
-use Rattle.acap_session.specs.declared.stage.Stage.TheVariants as stage
+use Rattle.acap_dialogue.specs.declared.stage.Stage.{Stage}
+use Rattle.acap_dialogue.specs.declared.stage.Stage.TheVariants as stage
 use Rattle.acap_session.specs.declared.turn.Turn.{Turn}
 use Rattle.acap_session.specs.declared.turn.Turn.TheVariants as turn
 use Rattle.acap_session.proofs.Alone.{place_of}
@@ -78,7 +78,7 @@ unfolding heard heard_answer
 next_keeps users nonce clock stage.Opening t b some = refl
 next_keeps users nonce clock stage.Entering t b some = absurd (some refl)
 next_keeps users nonce clock stage.Ready t b some =
-    ap (λ (r : Lexed × Held). comes_to (record t { held = r.1 }) (heard t.host t.user nonce clock r.0)) (lexer_keeps mode.Command t.held b t.held.fatal refl (λ e. some (ap (λ x. (heard t.host t.user nonce clock x).0) e)))
+    ap (λ (r : Lexed × Held). comes_to (record t { held = r.1 }) (heard (listening t nonce clock) r.0)) (lexer_keeps mode.Command t.held b t.held.fatal refl (λ e. some (ap (λ x. (heard (listening t nonce clock) x).0) e)))
 next_keeps users nonce clock (stage.Asked tag) t b some = absurd (some refl)
 next_keeps users nonce clock (stage.Challenged tag challenge) t b some =
     ap (λ (r : Lexed × Held). comes_to (record t { held = r.1 }) (heard_answer users tag challenge r.0)) (lexer_keeps mode.Answer t.held b t.held.fatal refl (λ e. some (ap (λ x. (heard_answer users tag challenge x).0) e)))

@@ -1,6 +1,6 @@
 -- What is next completes the command in hand, or the machine is asked for its answer.
 use Rattle.std.proofs.Common.{◌≡◌, inl, inr, ℕ, ℤ, Bool, true, false, if◌then◌else◌, List, [], ◌∷◌, ◌++◌, Option, Some, None, Result, Ok, Err, refl, sym, ap, subst, ◌∙◌}
-use Rattle.std.specs.Prelude.{codes, IsSome, option_map}
+use Rattle.std.specs.Prelude.{codes, IsSome, is_some, option_map}
 use Rattle.std.specs.Str.{bytes_eq, str_eq_ignore_ascii_case, is_utf8, chars}
 use Rattle.std.specs.Char.{encode_utf8}
 use Rattle.std.proofs.lemmas.List.{append-nil}
@@ -34,14 +34,15 @@ use Rattle.acap_machine.specs.Seats.{seated_as}
 use Rattle.acap_commands.specs.declared.event.Event.{Event}
 use Rattle.acap_commands.specs.declared.event.Event.TheVariants as event
 use Rattle.acap_machine.specs.declared.occupant.Occupant.{Occupant}
-use Rattle.acap_session.specs.Completing.{tags, called_wrong, called, called_at, completed_by, going_on, IsLeft, AreCompleted}
-use Rattle.acap_session.specs.Hearing.{heard, heard_line, heard_command, heard_answer, answer_line, answer_token, asks, authenticated, logs_in, mechanism_name, opening, ready_line, refusal_of, tag_of, who}
-use Rattle.acap_session.specs.Session.{next_at, drain_at, drain_for}
-use Rattle.acap_session.specs.Talking.{Talking}
-use Rattle.acap_session.specs.declared.next.Next.{Next}
-use Rattle.acap_session.specs.declared.next.Next.TheVariants as next
-use Rattle.acap_session.specs.declared.stage.Stage.{Stage}
-use Rattle.acap_session.specs.declared.stage.Stage.TheVariants as stage
+use Rattle.acap_session.specs.Completing.{called_wrong, called, called_at, completed_by, going_on, farewell, IsLeft, IsEnd, AreCompleted}
+use Rattle.acap_dialogue.specs.Listening.{Listening}
+use Rattle.acap_dialogue.specs.Hearing.{challenged, refuses, heard, heard_line, heard_command, heard_answer, answer_line, answer_token, asks, authenticated, logs_in, mechanism_name, opening, ready_line, refusal_of, tag_of, who}
+use Rattle.acap_dialogue.specs.Session.{listening, next_at, drain_at, drain_for}
+use Rattle.acap_dialogue.specs.Talking.{Talking}
+use Rattle.acap_dialogue.specs.declared.next.Next.{Next}
+use Rattle.acap_dialogue.specs.declared.next.Next.TheVariants as next
+use Rattle.acap_dialogue.specs.declared.stage.Stage.{Stage}
+use Rattle.acap_dialogue.specs.declared.stage.Stage.TheVariants as stage
 
 -- ---- how a session stands between turns
 
@@ -67,7 +68,7 @@ at_open (stage.LoggingIn tag name) user seated o e = o
 at_open stage.Draining user seated o e = o
 at_open stage.Closed user seated o e = absurd o
 
-pub left_open : (fatal : Option LexFault) (x : Stage) (user : Option (List ℕ)) (left : List (List ℕ)) → IsOpen x user → left ≡ going_on x → IsLeft fatal x left
+pub left_open : (fatal : Option LexFault) (x : Stage) (user : Option (List ℕ)) (left : List (Option (List ℕ))) → IsOpen x user → left ≡ going_on x → IsLeft fatal x left
 left_open fatal stage.Ready user left o e = e
 left_open fatal (stage.Challenged tag challenge) user left o e = e
 left_open fatal stage.Opening user left o e = e
@@ -80,31 +81,49 @@ left_open fatal stage.Closed user left o e = absurd o
 -- ---- what is next, of commands in hand
 
 -- the machine is asked by who may ask it
-abbrev pub Asks : List (List ℕ) → Option (List ℕ) → Option Occupant → Event → Stage → Type 0
-Asks b user seated e (stage.Asked tag) = (b ≡ tags tag) × ((name : List ℕ) × (user ≡ Some name) × (seated ≡ Some (seated_as name))) × ((c : Command) × (e ≡ event.Command c))
-Asks b user seated e (stage.LoggingIn tag name) = (b ≡ tags tag) × (user ≡ None) × (seated ≡ None) × (e ≡ event.Enter name)
+abbrev pub Asks : List (Option (List ℕ)) → Option (List ℕ) → Option Occupant → Event → Stage → Type 0
+Asks b user seated e (stage.Asked tag) = (b ≡ (tag ∷ [])) × ((name : List ℕ) × (user ≡ Some name) × (seated ≡ Some (seated_as name))) × ((c : Command) × (e ≡ event.Command c))
+Asks b user seated e (stage.LoggingIn tag name) = (b ≡ (tag ∷ [])) × (user ≡ None) × (seated ≡ None) × (e ≡ event.Enter name)
 Asks b user seated e stage.Entering = (b ≡ []) × ((name : List ℕ) × (user ≡ Some name) × (seated ≡ None) × (e ≡ event.Enter name))
 Asks b user seated e stage.Draining = (b ≡ []) × ((name : List ℕ) × (user ≡ Some name) × (seated ≡ Some (seated_as name))) × (e ≡ event.Drain)
 Asks b user seated e other = ⊥
 
-abbrev pub Goes : List (List ℕ) → Option (List ℕ) → Option Occupant → Option LexFault → Next → Stage → Type 0
+abbrev pub Goes : List (Option (List ℕ)) → Option (List ℕ) → Option Occupant → Option LexFault → Next → Stage → Type 0
 Goes b user seated fatal next.More x = IsOpen x user × (b ≡ going_on x) × (seated ≡ option_map seated_as user)
 Goes b user seated fatal (next.Say octets) x = IsOpen x user × AreCompleted b octets fatal x × (seated ≡ option_map seated_as user)
 Goes b user seated fatal (next.Ask e) x = Asks b user seated e x
 Goes b user seated fatal (next.Close octets) x = (x ≡ stage.Closed) × AreCompleted b octets fatal x
 
+-- nothing is said last
+no_end : (fatal : Option LexFault) (x : Stage) → IsEnd fatal x []
+no_end fatal stage.Ready = refl
+no_end fatal (stage.Challenged tag challenge) = refl
+no_end fatal stage.Opening = refl
+no_end fatal stage.Entering = refl
+no_end fatal (stage.Asked tag) = refl
+no_end fatal (stage.LoggingIn tag name) = refl
+no_end fatal stage.Draining = refl
+no_end fatal stage.Closed = inl refl
+
+just : (xs : List ℕ) → xs ≡ (xs ++ []) ++ []
+just xs = sym (append-nil xs) ∙ sym (append-nil (xs ++ []))
+
 -- one reply, which completes the command in hand
-pub one : (b : List (List ℕ)) (r : Reply) (fatal : Option LexFault) (x : Stage) → b ≡ completed_by r → IsLeft fatal x [] → AreCompleted b (octets_of r) fatal x
+pub one : (b : List (Option (List ℕ))) (r : Reply) (fatal : Option LexFault) (x : Stage) → b ≡ completed_by r → IsLeft fatal x [] → AreCompleted b (octets_of r) fatal x
 one b r fatal x e left =
-    record { replies = r ∷ []; left = []; said_is = sym (append-nil (octets_of r)); in_order = e ∙ sym (append-nil (completed_by r)) ∙ sym (append-nil (completed_by r ++ [])); left_is = left }
+    record { replies = r ∷ []; left = []; end = []; said_is = just (octets_of r); in_order = e ∙ sym (append-nil (completed_by r)) ∙ sym (append-nil (completed_by r ++ [])); left_is = left; end_is = no_end fatal x }
 
 -- one reply, which completes none
-pub waits : (b : List (List ℕ)) (r : Reply) (fatal : Option LexFault) (x : Stage) → completed_by r ≡ [] → IsLeft fatal x b → AreCompleted b (octets_of r) fatal x
+pub waits : (b : List (Option (List ℕ))) (r : Reply) (fatal : Option LexFault) (x : Stage) → completed_by r ≡ [] → IsLeft fatal x b → AreCompleted b (octets_of r) fatal x
 waits b r fatal x e left =
-    record { replies = r ∷ []; left = b; said_is = sym (append-nil (octets_of r)); in_order = sym (ap (λ xs. (xs ++ []) ++ b) e); left_is = left }
+    record { replies = r ∷ []; left = b; end = []; said_is = just (octets_of r); in_order = sym (ap (λ xs. (xs ++ []) ++ b) e); left_is = left; end_is = no_end fatal x }
 
-pub silent : (b : List (List ℕ)) (fatal : Option LexFault) (x : Stage) → IsLeft fatal x b → AreCompleted b [] fatal x
-silent b fatal x left = record { replies = []; left = b; said_is = refl; in_order = refl; left_is = left }
+pub silent : (b : List (Option (List ℕ))) (fatal : Option LexFault) (x : Stage) → IsLeft fatal x b → AreCompleted b [] fatal x
+silent b fatal x left = record { replies = []; left = b; end = []; said_is = refl; in_order = refl; left_is = left; end_is = no_end fatal x }
+
+-- the last words of a session whose input is too long
+ending : (b : List (Option (List ℕ))) (f : LexFault) (fatal : Option LexFault) → fatal ≡ Some f → IsLeft fatal stage.Closed b → AreCompleted b (farewell f) fatal stage.Closed
+ending b f fatal e left = record { replies = []; left = b; end = farewell f; said_is = refl; in_order = refl; left_is = left; end_is = inr (f, e, refl) }
 
 -- ---- a command is heard
 
@@ -112,7 +131,7 @@ ready_octets : ready_line ≡ octets_of (record { tag = None; said = said.Challe
 unfolding octets_of said_form challenge_form printed quoted may_quote is_printable is_escaped is_utf8 chars encode_utf8
 ready_octets = refl
 
-pub continues : (b : List (List ℕ)) (fatal : Option LexFault) (x : Stage) → IsLeft fatal x b → AreCompleted b ready_line fatal x
+pub continues : (b : List (Option (List ℕ))) (fatal : Option LexFault) (x : Stage) → IsLeft fatal x b → AreCompleted b ready_line fatal x
 continues b fatal x left = subst (λ o. AreCompleted b o fatal x) (sym ready_octets) (waits b (record { tag = None; said = said.Challenge (codes "Ready") }) fatal x refl left)
 
 grammar_completes : (f : GrammarFault) → completes (said.Refused (of_grammar f)) ≡ true
@@ -132,69 +151,62 @@ wrong_completes lexical.BadLiteral tag = refl
 wrong_completes lexical.CommandTooLong tag = refl
 wrong_completes lexical.LineTooLong tag = refl
 
-under_none : (f : LexFault) → completed_by (record { tag = None; said = said.Refused (of_lexical f) }) ≡ []
-under_none lexical.BadTag = refl
-under_none lexical.BadToken = refl
-under_none lexical.BadLiteral = refl
-under_none lexical.CommandTooLong = refl
-under_none lexical.LineTooLong = refl
-
-pub ended : (tag : Option (List ℕ)) (r : Reply) (s : Bool) → s ≡ true → tags tag ≡ (if s then tags tag else [])
-ended tag r s e = sym (ap (λ b. if b then tags tag else []) e)
+pub ended : (tag : Option (List ℕ)) (r : Reply) (s : Bool) → s ≡ true → (tag ∷ []) ≡ (if s then (tag ∷ []) else [])
+ended tag r s e = sym (ap (λ b. if b then (tag ∷ []) else []) e)
 
 -- by the user, and who has the seat
-abbrev GoesTo : List (List ℕ) → Option (List ℕ) → Option Occupant → Option LexFault → Next × Stage → Type 0
+abbrev GoesTo : List (Option (List ℕ)) → Option (List ℕ) → Option Occupant → Option LexFault → Next × Stage → Type 0
 GoesTo b user seated fatal x = Goes b user seated fatal x.0 x.1
 
-if_goes : (b : List (List ℕ)) (user : Option (List ℕ)) (seated : Option Occupant) (fatal : Option LexFault) (c : Bool) (x y : Next × Stage) →
+if_goes : (b : List (Option (List ℕ))) (user : Option (List ℕ)) (seated : Option Occupant) (fatal : Option LexFault) (c : Bool) (x y : Next × Stage) →
     GoesTo b user seated fatal x → GoesTo b user seated fatal y → GoesTo b user seated fatal (if c then x else y)
 if_goes b user seated fatal true x y p q = p
 if_goes b user seated fatal false x y p q = q
 
-authenticated_goes : (host : List ℕ) (user : Option (List ℕ)) (nonce : ℕ) (clock : ℤ) (tag : Option (List ℕ)) (m : List ℕ) (seated : Option Occupant) (fatal : Option LexFault) →
-    seated ≡ option_map seated_as user → GoesTo (tags tag) user seated fatal (authenticated host user nonce clock tag m)
-authenticated_goes host (Some user) nonce clock tag m seated fatal e = (tt, one _ _ fatal stage.Ready refl refl, e)
-authenticated_goes host None nonce clock tag m seated fatal e =
-    if_goes (tags tag) None seated fatal (str_eq_ignore_ascii_case m mechanism_name) _ _ (refl, waits _ _ fatal _ refl refl, e) (tt, one _ _ fatal stage.Ready refl refl, e)
+authenticated_goes : (l : Listening) (tag : Option (List ℕ)) (m : List ℕ) (seated : Option Occupant) (fatal : Option LexFault) →
+    seated ≡ option_map seated_as l.user → GoesTo (tag ∷ []) l.user seated fatal (authenticated l tag m)
+authenticated_goes l tag m seated fatal e = elim l.user as (λ u. l.user ≡ u → GoesTo (tag ∷ []) l.user seated fatal (if is_some u then refuses tag refusals.LoggedIn else challenged l tag m)) [
+  | None ↦ λ none. if_goes (tag ∷ []) l.user seated fatal (str_eq_ignore_ascii_case m mechanism_name) _ _ (none, waits _ _ fatal _ refl refl, e) (tt, one _ _ fatal stage.Ready refl refl, e)
+  | Some user ↦ λ some. (tt, one _ _ fatal stage.Ready refl refl, e)
+] refl
 
 asks_goes : (user tag : Option (List ℕ)) (c : Command) (seated : Option Occupant) (fatal : Option LexFault) →
-    seated ≡ option_map seated_as user → GoesTo (tags tag) user seated fatal (asks user tag c)
+    seated ≡ option_map seated_as user → GoesTo (tag ∷ []) user seated fatal (asks user tag c)
 asks_goes None tag c seated fatal e = (tt, one _ _ fatal stage.Ready refl refl, e)
 asks_goes (Some user) tag c seated fatal e = (refl, (user, refl, e), (c, refl))
 
-command_goes : (host : List ℕ) (user : Option (List ℕ)) (nonce : ℕ) (clock : ℤ) (tag : Option (List ℕ)) (c : Command) (seated : Option Occupant) (fatal : Option LexFault) →
-    seated ≡ option_map seated_as user → GoesTo (tags tag) user seated fatal (heard_command host user nonce clock tag c)
+command_goes : (l : Listening) (tag : Option (List ℕ)) (c : Command) (seated : Option Occupant) (fatal : Option LexFault) →
+    seated ≡ option_map seated_as l.user → GoesTo (tag ∷ []) l.user seated fatal (heard_command l tag c)
 unfolding heard_command
-command_goes host user nonce clock tag command.Noop seated fatal e = (tt, one _ _ fatal stage.Ready refl refl, e)
-command_goes host user nonce clock tag command.Logout seated fatal e = (refl, one _ _ fatal stage.Closed refl (inl refl))
-command_goes host user nonce clock tag (command.Authenticate m) seated fatal e = authenticated_goes host user nonce clock tag m seated fatal e
-command_goes host user nonce clock tag (command.Store entries) seated fatal e = asks_goes user tag (command.Store entries) seated fatal e
-command_goes host user nonce clock tag (command.Search wanted) seated fatal e = asks_goes user tag (command.Search wanted) seated fatal e
-command_goes host user nonce clock tag (command.SetAcl object identifier rights) seated fatal e = asks_goes user tag (command.SetAcl object identifier rights) seated fatal e
-command_goes host user nonce clock tag (command.DeleteAcl object identifier) seated fatal e = asks_goes user tag (command.DeleteAcl object identifier) seated fatal e
-command_goes host user nonce clock tag (command.MyRights object) seated fatal e = asks_goes user tag (command.MyRights object) seated fatal e
-command_goes host user nonce clock tag (command.ListRights object identifier) seated fatal e = asks_goes user tag (command.ListRights object identifier) seated fatal e
-command_goes host user nonce clock tag (command.DeletedSince dataset since) seated fatal e = asks_goes user tag (command.DeletedSince dataset since) seated fatal e
-command_goes host user nonce clock tag (command.FreeContext name) seated fatal e = asks_goes user tag (command.FreeContext name) seated fatal e
-command_goes host user nonce clock tag (command.UpdateContext names) seated fatal e = asks_goes user tag (command.UpdateContext names) seated fatal e
+command_goes l tag command.Noop seated fatal e = (tt, one _ _ fatal stage.Ready refl refl, e)
+command_goes l tag command.Logout seated fatal e = (refl, one _ _ fatal stage.Closed refl (inl refl))
+command_goes l tag (command.Authenticate m) seated fatal e = authenticated_goes l tag m seated fatal e
+command_goes l tag (command.Store entries) seated fatal e = asks_goes l.user tag (command.Store entries) seated fatal e
+command_goes l tag (command.Search wanted) seated fatal e = asks_goes l.user tag (command.Search wanted) seated fatal e
+command_goes l tag (command.SetAcl object identifier rights) seated fatal e = asks_goes l.user tag (command.SetAcl object identifier rights) seated fatal e
+command_goes l tag (command.DeleteAcl object identifier) seated fatal e = asks_goes l.user tag (command.DeleteAcl object identifier) seated fatal e
+command_goes l tag (command.MyRights object) seated fatal e = asks_goes l.user tag (command.MyRights object) seated fatal e
+command_goes l tag (command.ListRights object identifier) seated fatal e = asks_goes l.user tag (command.ListRights object identifier) seated fatal e
+command_goes l tag (command.DeletedSince dataset since) seated fatal e = asks_goes l.user tag (command.DeletedSince dataset since) seated fatal e
+command_goes l tag (command.FreeContext name) seated fatal e = asks_goes l.user tag (command.FreeContext name) seated fatal e
+command_goes l tag (command.UpdateContext names) seated fatal e = asks_goes l.user tag (command.UpdateContext names) seated fatal e
 
-line_goes : (host : List ℕ) (user : Option (List ℕ)) (nonce : ℕ) (clock : ℤ) (tag : Option (List ℕ)) (r : Result Command GrammarFault) (seated : Option Occupant) (fatal : Option LexFault) →
-    seated ≡ option_map seated_as user → GoesTo (tags tag) user seated fatal (heard_line host user nonce clock tag r)
-line_goes host user nonce clock tag (Ok c) seated fatal e = command_goes host user nonce clock tag c seated fatal e
-line_goes host user nonce clock tag (Err f) seated fatal e =
+line_goes : (l : Listening) (tag : Option (List ℕ)) (r : Result Command GrammarFault) (seated : Option Occupant) (fatal : Option LexFault) →
+    seated ≡ option_map seated_as l.user → GoesTo (tag ∷ []) l.user seated fatal (heard_line l tag r)
+line_goes l tag (Ok c) seated fatal e = command_goes l tag c seated fatal e
+line_goes l tag (Err f) seated fatal e =
     let r : Reply = record { tag = tag; said = said.Refused (of_grammar f) } in
     (tt, one _ r fatal stage.Ready (ended tag r (completes r.said) (grammar_completes f)) refl, e)
 
-pub heard_goes : (host : List ℕ) (user : Option (List ℕ)) (nonce : ℕ) (clock : ℤ) (x : Lexed) (seated : Option Occupant) (fatal : Option LexFault) →
-    seated ≡ option_map seated_as user → GoesTo (called x) user seated fatal (heard host user nonce clock x)
+pub heard_goes : (l : Listening) (x : Lexed) (seated : Option Occupant) (fatal : Option LexFault) → ((f : LexFault) → x ≡ lexed.Fatal f → fatal ≡ Some f) →
+    seated ≡ option_map seated_as l.user → GoesTo (called x) l.user seated fatal (heard l x)
 unfolding heard
-heard_goes host user nonce clock lexed.More seated fatal e = (tt, refl, e)
-heard_goes host user nonce clock lexed.Plus seated fatal e = (tt, continues [] fatal stage.Ready refl, e)
-heard_goes host user nonce clock (lexed.Line tokens) seated fatal e = line_goes host user nonce clock (tag_of tokens) (command_of tokens) seated fatal e
-heard_goes host user nonce clock (lexed.Bad f tag) seated fatal e =
-    (tt, one _ (record { tag = tag; said = said.Refused (of_lexical f) }) fatal stage.Ready (wrong_completes f tag) refl, e)
-heard_goes host user nonce clock (lexed.Fatal f) seated fatal e =
-    (refl, waits [] (record { tag = None; said = said.Refused (of_lexical f) }) fatal stage.Closed (under_none f) (inl refl))
+heard_goes l lexed.More seated fatal f e = (tt, refl, e)
+heard_goes l lexed.Plus seated fatal f e = (tt, continues [] fatal stage.Ready refl, e)
+heard_goes l (lexed.Line tokens) seated fatal f e = line_goes l (tag_of tokens) (command_of tokens) seated fatal e
+heard_goes l (lexed.Bad g tag) seated fatal f e =
+    (tt, one _ (record { tag = tag; said = said.Refused (of_lexical g) }) fatal stage.Ready (wrong_completes g tag) refl, e)
+heard_goes l (lexed.Fatal g) seated fatal f e = (refl, ending [] g fatal (f g refl) (inl refl))
 
 -- ---- an answer to a challenge is heard
 
@@ -202,16 +214,16 @@ nobody : (seated : Option Occupant) (user : Option (List ℕ)) → user ≡ None
 nobody seated user p e = e ∙ sym (ap (option_map seated_as) p)
 
 logs_goes : (user : Option (List ℕ)) (tag : Option (List ℕ)) (name : Option (List ℕ)) (seated : Option Occupant) (fatal : Option LexFault) →
-    user ≡ None → seated ≡ None → GoesTo (tags tag) user seated fatal (logs_in tag name)
+    user ≡ None → seated ≡ None → GoesTo (tag ∷ []) user seated fatal (logs_in tag name)
 logs_goes user tag None seated fatal p e = (tt, one _ _ fatal stage.Ready refl refl, nobody seated user p e)
 logs_goes user tag (Some name) seated fatal p e = (refl, p, e, refl)
 
-word_completes : (b : Bool) (tag : Option (List ℕ)) → tags tag ≡ completed_by (record { tag = tag; said = said.Refused (if b then refusals.Cancelled else refusals.Arguments) })
+word_completes : (b : Bool) (tag : Option (List ℕ)) → (tag ∷ []) ≡ completed_by (record { tag = tag; said = said.Refused (if b then refusals.Cancelled else refusals.Arguments) })
 word_completes true tag = refl
 word_completes false tag = refl
 
 token_goes : (users : List User) (user tag : Option (List ℕ)) (challenge : List ℕ) (k : Kind) (text : List ℕ) (seated : Option Occupant) (fatal : Option LexFault) →
-    user ≡ None → seated ≡ None → GoesTo (tags tag) user seated fatal (answer_token users tag challenge k text)
+    user ≡ None → seated ≡ None → GoesTo (tag ∷ []) user seated fatal (answer_token users tag challenge k text)
 token_goes users user tag challenge kind.Quoted text seated fatal p e = logs_goes user tag (who users challenge text) seated fatal p e
 token_goes users user tag challenge kind.Literal text seated fatal p e = logs_goes user tag (who users challenge text) seated fatal p e
 token_goes users user tag challenge kind.Word text seated fatal p e =
@@ -221,39 +233,39 @@ token_goes users user tag challenge kind.Open text seated fatal p e = (tt, one _
 token_goes users user tag challenge kind.Close text seated fatal p e = (tt, one _ _ fatal stage.Ready refl refl, nobody seated user p e)
 
 answer_goes : (users : List User) (user tag : Option (List ℕ)) (challenge : List ℕ) (tokens : List Token) (seated : Option Occupant) (fatal : Option LexFault) →
-    user ≡ None → seated ≡ None → GoesTo (tags tag) user seated fatal (answer_line users tag challenge tokens)
+    user ≡ None → seated ≡ None → GoesTo (tag ∷ []) user seated fatal (answer_line users tag challenge tokens)
 answer_goes users user tag challenge [] seated fatal p e = (tt, one _ _ fatal stage.Ready refl refl, nobody seated user p e)
 answer_goes users user tag challenge (token ∷ []) seated fatal p e = token_goes users user tag challenge token.kind token.value seated fatal p e
 answer_goes users user tag challenge (token ∷ other ∷ tokens) seated fatal p e = (tt, one _ _ fatal stage.Ready refl refl, nobody seated user p e)
 
 challenged_goes : (users : List User) (user tag : Option (List ℕ)) (challenge : List ℕ) (x : Lexed) (seated : Option Occupant) (fatal : Option LexFault) →
-    ((f : LexFault) → x ≡ lexed.Fatal f → IsSome fatal) → user ≡ None → seated ≡ None → GoesTo (tags tag) user seated fatal (heard_answer users tag challenge x)
+    ((f : LexFault) → x ≡ lexed.Fatal f → fatal ≡ Some f) → user ≡ None → seated ≡ None → GoesTo (tag ∷ []) user seated fatal (heard_answer users tag challenge x)
 unfolding heard_answer
 challenged_goes users user tag challenge lexed.More seated fatal f p e = (p, refl, nobody seated user p e)
 challenged_goes users user tag challenge lexed.Plus seated fatal f p e = (p, continues _ fatal _ refl, nobody seated user p e)
 challenged_goes users user tag challenge (lexed.Line tokens) seated fatal f p e = answer_goes users user tag challenge tokens seated fatal p e
 challenged_goes users user tag challenge (lexed.Bad g other) seated fatal f p e = (tt, one _ _ fatal stage.Ready refl refl, nobody seated user p e)
 challenged_goes users user tag challenge (lexed.Fatal g) seated fatal f p e =
-    (refl, waits _ (record { tag = None; said = said.Refused (of_lexical g) }) fatal stage.Closed (under_none g) (inr (f g refl, (tag, refl))))
+    (refl, ending (tag ∷ []) g fatal (f g refl) (inr (subst (λ (o : Option LexFault). IsSome o) (sym (f g refl)) refl, (tag, refl))))
 
 -- a fatal fault is kept
-fatal_by : (m : Mode) (h : Held) (o : Option LexFault) (f : LexFault) → h.fatal ≡ o → (next_of m h).0 ≡ lexed.Fatal f → IsSome (next_of m h).1.fatal
+fatal_by : (m : Mode) (h : Held) (o : Option LexFault) (f : LexFault) → h.fatal ≡ o → (next_of m h).0 ≡ lexed.Fatal f → (next_of m h).1.fatal ≡ Some f
 unfolding next_of
-fatal_by m h (Some g) f e k = rw e refl
+fatal_by m h (Some g) f e k = let q = rw e at k in rw e (ap fatal_of q)
 fatal_by m h None f e k = elim (next_cases m h e) [
   | inl c ↦ absurd (let same : lexed.Plus ≡ lexed.Fatal f = sym (ap (λ (r : Lexed × Held). r.0) c.is) ∙ k in cc)
   | inr (inl l) ↦ absurd (let same : lexed.More ≡ lexed.Fatal f = sym (ap (λ (r : Lexed × Held). r.0) l.is) ∙ k in cc)
-  | inr (inr x) ↦ subst (λ (r : Lexed × Held). IsSome r.1.fatal) (sym x.is) (subst (λ y. IsSome (fatal_of y)) (sym k ∙ ap (λ (r : Lexed × Held). r.0) x.is) refl)
+  | inr (inr x) ↦ subst (λ (r : Lexed × Held). r.1.fatal ≡ Some f) (sym x.is) (ap fatal_of (sym (ap (λ (r : Lexed × Held). r.0) x.is) ∙ k))
 ]
 
 -- ---- what is next
 
 pub next_goes : (users : List User) (nonce : ℕ) (clock : ℤ) (x : Stage) (t : Talking) (seated : Option Occupant) → At x t.user seated → (x ≡ stage.Closed → ⊥) →
     Goes (going_on x ++ called_at x t.held) (next_at users nonce clock x t).1.user seated (next_at users nonce clock x t).1.held.fatal (next_at users nonce clock x t).0 (next_at users nonce clock x t).1.stage
-next_goes users nonce clock stage.Ready t seated e o = heard_goes t.host t.user nonce clock (next_of mode.Command t.held).0 seated _ e
+next_goes users nonce clock stage.Ready t seated e o = heard_goes (listening t nonce clock) (next_of mode.Command t.held).0 seated _ (λ f k. fatal_by mode.Command t.held t.held.fatal f refl k) e
 next_goes users nonce clock (stage.Challenged tag challenge) t seated e o =
     subst (λ b. Goes b t.user seated (next_of mode.Answer t.held).1.fatal (heard_answer users tag challenge (next_of mode.Answer t.held).0).0 (heard_answer users tag challenge (next_of mode.Answer t.held).0).1)
-    (sym (append-nil (tags tag)))
+    (sym (append-nil (tag ∷ [])))
     (challenged_goes users t.user tag challenge (next_of mode.Answer t.held).0 seated (next_of mode.Answer t.held).1.fatal (λ f k. fatal_by mode.Answer t.held t.held.fatal f refl k) e.0 e.1)
 next_goes users nonce clock stage.Opening t seated e o = absurd e
 next_goes users nonce clock stage.Entering t seated e o = absurd e
@@ -275,7 +287,7 @@ drain_by (Some user) t seated u s e = (refl, (user, u, e), refl)
 pub drain_goes : (x : Stage) (t : Talking) (seated : Option Occupant) → t.stage ≡ x → At x t.user seated → (x ≡ stage.Closed → ⊥) →
     Goes (going_on x) (drain_at x t).1.user seated (drain_at x t).1.held.fatal (drain_at x t).0 (drain_at x t).1.stage
 drain_goes stage.Ready t seated s e o = drain_by t.user t seated refl s e
-drain_goes (stage.Challenged tag challenge) t seated s e o = subst (λ k. Goes (tags tag) t.user seated t.held.fatal next.More k) (sym s) (e.0, refl, nobody seated t.user e.0 e.1)
+drain_goes (stage.Challenged tag challenge) t seated s e o = subst (λ k. Goes (tag ∷ []) t.user seated t.held.fatal next.More k) (sym s) (e.0, refl, nobody seated t.user e.0 e.1)
 drain_goes stage.Opening t seated s e o = absurd e
 drain_goes stage.Entering t seated s e o = absurd e
 drain_goes (stage.Asked tag) t seated s e o = absurd e

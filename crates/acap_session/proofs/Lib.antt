@@ -1,6 +1,5 @@
 pub mod Alone
 pub mod Completing
-pub mod Computing
 pub mod Counting
 pub mod Cutting
 pub mod Going
@@ -18,6 +17,5 @@ pub mod ScriptOutput
 pub mod ScriptRunning
 pub mod Seating
 pub mod Sending
-pub mod Speaking
 pub mod Turning
 pub mod WorldSeats

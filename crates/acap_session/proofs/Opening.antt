@@ -16,12 +16,12 @@ use Rattle.acap_commands.specs.declared.event.Event.TheVariants as events
 use Rattle.acap_commands.specs.declared.fault.Fault.{Fault}
 use Rattle.acap_machine.specs.declared.occupant.Occupant.{Occupant}
 use Rattle.acap_commands.specs.declared.said.Said.TheVariants as said
-use Rattle.acap_session.specs.Hearing.{opening}
-use Rattle.acap_session.specs.Session.{session_next, next_at, answered, has_seat, has_seat_at, is_closed, comes_to}
-use Rattle.acap_session.specs.Talking.{Talking}
+use Rattle.acap_dialogue.specs.Hearing.{opening}
+use Rattle.acap_dialogue.specs.Session.{session_next, next_at, answered, has_seat, has_seat_at, is_closed, comes_to}
+use Rattle.acap_dialogue.specs.Talking.{Talking}
 use Rattle.acap_session.specs.Turning.{Scene, performed, shown, turn_by, turn_of, left_by, IsCutFrom, IsTurn, WasCut}
 use Rattle.acap_session.specs.declared.occasion.Occasion.{Occasion}
-use Rattle.acap_session.specs.declared.stage.Stage.TheVariants as stage
+use Rattle.acap_dialogue.specs.declared.stage.Stage.TheVariants as stage
 use Rattle.acap_session.specs.declared.turn.Turn.{Turn}
 
 -- ---- a user who enters a free seat, and leaves it

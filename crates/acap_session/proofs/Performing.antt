@@ -9,20 +9,20 @@ use Rattle.acap_commands.specs.declared.event.Event.{Event}
 use Rattle.acap_commands.specs.declared.event.Event.TheVariants as events
 use Rattle.acap_commands.specs.declared.fault.Fault.{Fault}
 use Rattle.acap_commands.specs.declared.fault.Fault.TheVariants as fault
-use Rattle.acap_session.specs.Saying.{added, heard_of}
-use Rattle.acap_session.specs.Session.{session_next, session_drain, answered, has_seat, has_seat_at, drain_in, drain_at, drain_for, is_asked}
-use Rattle.acap_session.specs.Talking.{Talking}
+use Rattle.acap_dialogue.specs.Saying.{added, heard_of}
+use Rattle.acap_dialogue.specs.Session.{session_next, session_drain, answered, has_seat, has_seat_at, drain_in, drain_at, drain_for, is_asked}
+use Rattle.acap_dialogue.specs.Talking.{Talking}
 use Rattle.acap_session.specs.Turning.{Scene, scene, performed, shown, asked_of, turn_by, turn_of, drain_of, left_at, left_by, turn_from, is_refused, IsAsked, IsTurn, IsCutFrom, StandsBefore, WasCut, CutInAnswering, CutInAsking, CutInDraining}
-use Rattle.acap_session.specs.declared.heard.Heard.{Heard}
-use Rattle.acap_session.specs.declared.heard.Heard.TheVariants as heard
-use Rattle.acap_session.specs.declared.next.Next.{Next}
-use Rattle.acap_session.specs.declared.next.Next.TheVariants as next
+use Rattle.acap_dialogue.specs.declared.heard.Heard.{Heard}
+use Rattle.acap_dialogue.specs.declared.heard.Heard.TheVariants as heard
+use Rattle.acap_dialogue.specs.declared.next.Next.{Next}
+use Rattle.acap_dialogue.specs.declared.next.Next.TheVariants as next
 use Rattle.acap_session.specs.declared.occasion.Occasion.{Occasion}
-use Rattle.acap_session.specs.declared.stage.Stage.{Stage}
-use Rattle.acap_session.specs.declared.stage.Stage.TheVariants as stage
+use Rattle.acap_dialogue.specs.declared.stage.Stage.{Stage}
+use Rattle.acap_dialogue.specs.declared.stage.Stage.TheVariants as stage
 use Rattle.acap_session.specs.declared.turn.Turn.{Turn}
 use Rattle.acap_session.specs.declared.turn.Turn.TheVariants as turn
-use Rattle.acap_session.proofs.Speaking.{Fits, fits}
+use Rattle.acap_dialogue.proofs.Speaking.{Fits, fits}
 
 -- an outcome of the machine's step is what is performed, refused memory or not
 pub record IsPerformed (m : Machine) (o : Occasion) (event : Event) (outcome : Result Reply Fault) (new : Machine) : Type 0 where

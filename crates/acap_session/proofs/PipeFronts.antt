@@ -6,7 +6,7 @@ use Rattle.acap_login.specs.Login.{User}
 use Rattle.acap_machine.specs.Machine.{Machine}
 use Rattle.acap_session.specs.Piping.{Fed, fed, fed_all, turns, joined, always, begins, entered, IsQuiet, AreAnswered, HasPart, HasStarted, HasPartlyAnswered, HasTurned, IsFed, IsLater, IsOut, IsSoFar, MayTake, PipeReads, Pipes, Says, SaysTo, SoFar, Goes}
 use Rattle.acap_session.specs.Streams.{HasGiven, IfTold, SendsFront, Told}
-use Rattle.acap_session.specs.Talking.{Talking}
+use Rattle.acap_dialogue.specs.Talking.{Talking}
 use Rattle.acap_session.specs.Turning.{Scene, scene, turn_of, IsTurn}
 use Rattle.acap_session.specs.declared.pipe_fault.PipeFault.{PipeFault}
 use Rattle.acap_session.specs.declared.pipe_fault.PipeFault.TheVariants as faults

@@ -4,12 +4,12 @@ use Rattle.std.specs.Prelude.{codes, map, flat_map}
 use Rattle.std.proofs.lemmas.List.{take_all}
 use Rattle.acap_session.specs.PipeSteps.{PipeRuns, world_of_one, step_of, steps_fed}
 use Rattle.acap_session.specs.Piping.{Fed, AreAnswered, MayTake, always, entered, fed, fed_all, hears, turns, without_administrators}
-use Rattle.acap_session.specs.Session.{is_closed, session_next}
-use Rattle.acap_session.specs.Talking.{Talking}
+use Rattle.acap_dialogue.specs.Session.{is_closed, session_next}
+use Rattle.acap_dialogue.specs.Talking.{Talking}
 use Rattle.acap_session.specs.Turning.{Scene, turn_of}
 use Rattle.acap_session.specs.World.{World, Step, Open, Piece, Turn, did, new_world, room_of, run}
-use Rattle.acap_session.specs.declared.stage.Stage.{Stage}
-use Rattle.acap_session.specs.declared.stage.Stage.TheVariants as stage
+use Rattle.acap_dialogue.specs.declared.stage.Stage.{Stage}
+use Rattle.acap_dialogue.specs.declared.stage.Stage.TheVariants as stage
 
 is_stage_closed : (s : Stage) → is_closed s ≡ true → s ≡ stage.Closed
 is_stage_closed stage.Opening e = absurd cc

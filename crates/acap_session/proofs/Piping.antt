@@ -9,14 +9,14 @@ use Rattle.acap_login.specs.Login.{User}
 use Rattle.acap_machine.specs.Machine.{Machine, new_machine}
 use Rattle.acap_session.specs.Piping.{Fed, fed, fed_all, turns, hears, joined, always, begins, entered, IsQuiet, AreAnswered, IsWritten, HasRead, HasEnded, IsSettled, IsFed, IsOut, HasTurned, HasRoom, MayTake, Goes, SoFar, IsSoFar, without_administrators}
 use Rattle.acap_machine.specs.Runs.{outcome_of, machine_after}
-use Rattle.acap_session.specs.Hearing.{opening}
-use Rattle.acap_session.specs.Saying.{added}
-use Rattle.acap_session.specs.Session.{session_next, is_closed, answered, has_seat}
-use Rattle.acap_session.specs.Talking.{Talking, begun}
+use Rattle.acap_dialogue.specs.Hearing.{opening}
+use Rattle.acap_dialogue.specs.Saying.{added}
+use Rattle.acap_dialogue.specs.Session.{session_next, is_closed, answered, has_seat}
+use Rattle.acap_dialogue.specs.Talking.{Talking, begun}
 use Rattle.acap_session.specs.Turning.{Scene, scene, turn_of, turn_by, shown, performed, turn_in, left_after, IsTurn}
-use Rattle.acap_session.specs.declared.next.Next.{Next}
+use Rattle.acap_dialogue.specs.declared.next.Next.{Next}
 use Rattle.acap_session.specs.declared.occasion.Occasion.{Occasion}
-use Rattle.acap_session.specs.declared.next.Next.TheVariants as next
+use Rattle.acap_dialogue.specs.declared.next.Next.TheVariants as next
 use Rattle.acap_session.specs.declared.turn.Turn.{Turn}
 use Rattle.acap_session.specs.declared.turn.Turn.TheVariants as turn
 use Rattle.acap_session.proofs.Sending.{appends_none, appends_then}

@@ -3,12 +3,12 @@ use Rattle.std.proofs.Common.{◌≡◌, ◌⊎◌, inl, inr, ℕ, zero, suc, �
 use Rattle.std.proofs.Math.Seq.{take-length}
 use Rattle.std.specs.Option.{is_some}
 use Rattle.acap_session.specs.Places.{Place, Places, place_at, placed, reached, if_open}
-use Rattle.acap_session.specs.Session.{is_closed, session_next}
+use Rattle.acap_dialogue.specs.Session.{is_closed, session_next}
 use Rattle.acap_machine.specs.Machine.{Machine}
 use Rattle.acap_session.specs.Turning.{Scene, scene, CutInDraining, WasCut, IsTurn, turn_of, drain_of}
 use Rattle.acap_session.specs.World.{World, Deed, said_before, taken_from, output_taken, opened_at, Drains, HasBegun, IsStep, IsCutAt, Turns, HasTurnedAt, went_on, Feeds, Leaves, Opens, room_of, with_octets, at_open, did, open_at, scene_of, with_scene, takes, ends}
 use Rattle.acap_session.specs.World as world
-use Rattle.acap_session.specs.Talking.{Talking, begun}
+use Rattle.acap_dialogue.specs.Talking.{Talking, begun}
 use Rattle.acap_session.specs.declared.occasion.Occasion.{Occasion}
 use Rattle.acap_session.specs.declared.turn.Turn as turned
 use Rattle.acap_session.specs.declared.world_fault.WorldFault.{WorldFault}

@@ -18,18 +18,18 @@ use Rattle.acap_machine.specs.Runs.{machine_after, outcome_of}
 use Rattle.acap_machine.specs.Stepping.{entered as seating}
 use Rattle.acap_commands.specs.declared.fault.Fault.TheVariants as fault
 use Rattle.acap_machine.specs.declared.occupant.Occupant.{Occupant}
-use Rattle.acap_session.specs.Hearing.{heard, opening}
+use Rattle.acap_dialogue.specs.Hearing.{heard, opening}
 use Rattle.acap_session.specs.Laws.{IsUnder, RefusedTurns, WrittenLaw, told_first, refused_in, refused_of}
 use Rattle.acap_session.specs.Piping.{Fed, AreAnswered, IsQuiet, IsWritten, always, entered, fed, fed_all, hears, joined, turns, without_administrators}
-use Rattle.acap_session.specs.Session.{session_next, answered, answer_said, answer_user, comes_to, has_seat}
-use Rattle.acap_session.specs.Talking.{Talking, begun}
+use Rattle.acap_dialogue.specs.Session.{session_next, answered, answer_said, answer_user, comes_to, has_seat}
+use Rattle.acap_dialogue.specs.Talking.{Talking, begun}
 use Rattle.acap_session.specs.Turning.{Scene, shown, turn_by, turn_of}
 use Rattle.acap_session.specs.World.{went_on}
-use Rattle.acap_session.specs.declared.next.Next.{Next}
-use Rattle.acap_session.specs.declared.next.Next.TheVariants as next
+use Rattle.acap_dialogue.specs.declared.next.Next.{Next}
+use Rattle.acap_dialogue.specs.declared.next.Next.TheVariants as next
 use Rattle.acap_session.specs.declared.occasion.Occasion.{Occasion}
-use Rattle.acap_session.specs.declared.stage.Stage.{Stage}
-use Rattle.acap_session.specs.declared.stage.Stage.TheVariants as stage
+use Rattle.acap_dialogue.specs.declared.stage.Stage.{Stage}
+use Rattle.acap_dialogue.specs.declared.stage.Stage.TheVariants as stage
 use Rattle.acap_session.specs.declared.turn.Turn.{Turn}
 use Rattle.acap_session.specs.declared.turn.Turn.TheVariants as turn
 use Rattle.acap_session.proofs.Cutting.{next_kept, turn_keeps, nothing_changes, still_stays}

@@ -5,15 +5,15 @@ use Rattle.acap_lexer.specs.Holding.{Held}
 use Rattle.acap_login.specs.Login.{User}
 use Rattle.acap_session.specs.Places.{Place, place_at, if_open}
 use Rattle.acap_session.specs.Script.{turns, IsQuiet, IsQuietFor, IsOver, GoesOn, Hears, HasHeard, HasSettled, HasTurned, HasOffered, left_by}
-use Rattle.acap_session.specs.Session.{session_next, next_at, is_closed, is_hearing}
-use Rattle.acap_session.specs.Talking.{Talking}
+use Rattle.acap_dialogue.specs.Session.{session_next, next_at, is_closed, is_hearing}
+use Rattle.acap_dialogue.specs.Talking.{Talking}
 use Rattle.acap_session.specs.Turning.{Scene, turn_of, IsTurn}
 use Rattle.acap_session.specs.World.{World, Feeds, HasTurnedAt, at_open, did, open_at, scene_of, with_scene, went_on, takes}
 use Rattle.acap_session.specs.World as world
-use Rattle.acap_session.specs.declared.next.Next.TheVariants as next
+use Rattle.acap_dialogue.specs.declared.next.Next.TheVariants as next
 use Rattle.acap_session.specs.declared.occasion.Occasion.{Occasion}
-use Rattle.acap_session.specs.declared.stage.Stage.{Stage}
-use Rattle.acap_session.specs.declared.stage.Stage.TheVariants as stage
+use Rattle.acap_dialogue.specs.declared.stage.Stage.{Stage}
+use Rattle.acap_dialogue.specs.declared.stage.Stage.TheVariants as stage
 use Rattle.acap_session.specs.declared.turn.Turn.{Turn}
 use Rattle.acap_session.specs.declared.turn.Turn.TheVariants as turn
 use Rattle.acap_session.proofs.Placing.{placed_there}

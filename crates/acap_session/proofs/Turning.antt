@@ -13,18 +13,18 @@ use Rattle.acap_login.specs.Login.{User}
 use Rattle.acap_commands.specs.declared.reply.Reply.{Reply}
 use Rattle.acap_machine.specs.Runs.{outcome_of}
 use Rattle.acap_commands.specs.declared.fault.Fault.{Fault}
-use Rattle.acap_session.specs.Hearing.{heard, heard_answer}
-use Rattle.acap_session.specs.Session.{session_next, next_at, answered, is_asked, is_closed, is_hearing}
-use Rattle.acap_session.specs.Talking.{Talking}
+use Rattle.acap_dialogue.specs.Hearing.{heard, heard_answer}
+use Rattle.acap_dialogue.specs.Session.{listening, session_next, next_at, answered, is_asked, is_closed, is_hearing}
+use Rattle.acap_dialogue.specs.Talking.{Talking}
 use Rattle.acap_session.specs.Turning.{Scene, turn_by, turn_of, performed, turn_in, IsTurn}
-use Rattle.acap_session.specs.declared.next.Next.{Next}
-use Rattle.acap_session.specs.declared.next.Next.TheVariants as next
+use Rattle.acap_dialogue.specs.declared.next.Next.{Next}
+use Rattle.acap_dialogue.specs.declared.next.Next.TheVariants as next
 use Rattle.acap_session.specs.declared.occasion.Occasion.{Occasion}
-use Rattle.acap_session.specs.declared.stage.Stage.{Stage}
-use Rattle.acap_session.specs.declared.stage.Stage.TheVariants as stage
+use Rattle.acap_dialogue.specs.declared.stage.Stage.{Stage}
+use Rattle.acap_dialogue.specs.declared.stage.Stage.TheVariants as stage
 use Rattle.acap_session.specs.declared.turn.Turn.TheVariants as turn
 use Rattle.acap_session.proofs.Counting.{turns_behind, item_fewer, plus_fewer}
-use Rattle.acap_session.proofs.Speaking.{Hears, Fits, Words, heard_hears, answer_hears, fits, says_at, same_talk, more_lexed}
+use Rattle.acap_dialogue.proofs.Speaking.{Hears, Fits, Words, heard_hears, answer_hears, fits, says_at, same_talk, more_lexed}
 
 -- ---- what was said to the machine's answer
 
@@ -153,8 +153,8 @@ fewer_at users nonce clock stage.Opening t hearing some going = cc
 fewer_at users nonce clock stage.Entering t hearing some going = cc
 fewer_at users nonce clock stage.Ready t hearing some going =
     let x = (next_of mode.Command t.held).0 in
-    let r = heard t.host t.user nonce clock x in
-    let hears = heard_hears t.host t.user nonce clock x in
+    let r = heard (listening t nonce clock) x in
+    let hears = heard_hears (listening t nonce clock) x in
     heard_fewer mode.Command t.held stage.Ready x r (fatal_closes mode.Command t.held stage.Ready r t.held.fatal refl hears going) hears some refl
 fewer_at users nonce clock (stage.Asked tag) t hearing some going = cc
 fewer_at users nonce clock (stage.Challenged tag challenge) t hearing some going =
@@ -194,7 +194,7 @@ room_at users nonce clock stage.Opening t e m = cc
 room_at users nonce clock stage.Entering t e m = cc
 room_at users nonce clock stage.Ready t e m =
     let x = (next_of mode.Command t.held).0 in
-    room_for mode.Command t.held t.held.fatal refl (more_lexed x stage.Ready (heard t.host t.user nonce clock x) (heard_hears t.host t.user nonce clock x) m).0
+    room_for mode.Command t.held t.held.fatal refl (more_lexed x stage.Ready (heard (listening t nonce clock) x) (heard_hears (listening t nonce clock) x) m).0
 room_at users nonce clock (stage.Asked tag) t e m = cc
 room_at users nonce clock (stage.Challenged tag challenge) t e m =
     let x = (next_of mode.Answer t.held).0 in

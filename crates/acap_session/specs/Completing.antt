@@ -10,6 +10,7 @@ use Rattle.acap_lexer.specs.declared.lexed.Lexed.TheVariants as lexed
 use Rattle.acap_lexer.specs.declared.mode.Mode.TheVariants as mode
 use Rattle.acap_login.specs.Login.{User}
 use Rattle.acap_commands.specs.Statuses.{status_of}
+use Rattle.acap_grammar.specs.Refusals.{of_lexical}
 use Rattle.acap_grammar.specs.Replies.{crlf, greeting, octets_of, tag_of as spelled_tag}
 use Rattle.acap_commands.specs.declared.refusal.Refusal.TheVariants as refusals
 use Rattle.acap_commands.specs.declared.reply.Reply.{Reply}
@@ -20,83 +21,88 @@ use Rattle.acap_commands.specs.declared.status.Status.TheVariants as status
 use Rattle.acap_commands.specs.declared.verb.Verb.TheVariants as verb
 use Rattle.acap_machine.specs.Completing.{completes}
 use Rattle.acap_rights.specs.declared.realm.Realm.{Realm}
-use Rattle.acap_session.specs.Hearing.{tag_of}
+use Rattle.acap_dialogue.specs.Hearing.{tag_of}
 use Rattle.acap_session.specs.PipeSteps.{step_of}
 use Rattle.acap_session.specs.Piping.{without_administrators}
 use Rattle.acap_session.specs.Places.{Place, place_at}
 use Rattle.acap_session.specs.World as world
 use Rattle.acap_session.specs.World.{World, Deed, Step, did, new_world, open_at, run}
-use Rattle.acap_session.specs.declared.stage.Stage.{Stage}
-use Rattle.acap_session.specs.declared.stage.Stage.TheVariants as stage
+use Rattle.acap_dialogue.specs.declared.stage.Stage.{Stage}
+use Rattle.acap_dialogue.specs.declared.stage.Stage.TheVariants as stage
 
--- the tag, if there is one
-abbrev pub tags : Option (List ℕ) → List (List ℕ)
-tags None = []
-tags (Some tag) = tag ∷ []
+-- ---- which commands are heard, by their tags: none stands for a line without a tag, which is answered under `*`
 
--- ---- which commands are heard, by their tags
-
--- a line that can't be read is a command under its tag; one that is too long ends the session
-abbrev pub called_wrong : LexFault → Option (List ℕ) → List (List ℕ)
-called_wrong lexical.BadTag tag = tags tag
-called_wrong lexical.BadToken tag = tags tag
-called_wrong lexical.BadLiteral tag = tags tag
+-- a line that can't be read is a command too, under its tag if it has one; one that is too long ends the session
+abbrev pub called_wrong : LexFault → Option (List ℕ) → List (Option (List ℕ))
+called_wrong lexical.BadTag tag = tag ∷ []
+called_wrong lexical.BadToken tag = tag ∷ []
+called_wrong lexical.BadLiteral tag = tag ∷ []
 called_wrong lexical.CommandTooLong tag = []
 called_wrong lexical.LineTooLong tag = []
 
-abbrev pub called : Lexed → List (List ℕ)
+abbrev pub called : Lexed → List (Option (List ℕ))
 called lexed.More = []
 called lexed.Plus = []
-called (lexed.Line tokens) = tags (tag_of tokens)
+called (lexed.Line tokens) = tag_of tokens ∷ []
 called (lexed.Bad fault tag) = called_wrong fault tag
 called (lexed.Fatal fault) = []
 
 -- the client's answer to a challenge is no command
-abbrev pub called_at : Stage → Held → List (List ℕ)
+abbrev pub called_at : Stage → Held → List (Option (List ℕ))
 called_at stage.Ready held = called (next_of mode.Command held).0
 called_at other held = []
 
 -- what is heard where the session of a seat makes a turn
-abbrev pub called_by : Deed → Option Place → List (List ℕ)
+abbrev pub called_by : Deed → Option Place → List (Option (List ℕ))
 called_by world.Turn (Some place) = called_at place.talk.stage place.talk.held
 called_by deed now = []
 
-abbrev pub called_in : ℕ → Step → World → List (List ℕ)
+abbrev pub called_in : ℕ → Step → World → List (Option (List ℕ))
 called_in seat x w = if x.occasion.seat == seat then called_by x.deed (open_at w seat) else []
 
 -- the tags of all commands that a seat's session hears in a run
-abbrev pub all_called : ℕ → List Step → World → List (List ℕ)
+abbrev pub all_called : ℕ → List Step → World → List (Option (List ℕ))
 all_called seat [] w = []
 all_called seat (x ∷ xs) w = called_in seat x w ++ all_called seat xs (did x.occasion x.refused x.deed w)
 
 -- ---- which are completed
 
--- the tag of a reply whose last line is an OK, NO or BAD under a tag: a line under `*` completes no command
-abbrev pub completed_by : Reply → List (List ℕ)
-completed_by reply = if completes reply.said then tags reply.tag else []
+-- the tag of a reply whose last line is an OK, NO or BAD, or none where `*` stands for it: BYE completes no command
+abbrev pub completed_by : Reply → List (Option (List ℕ))
+completed_by reply = if completes reply.said then reply.tag ∷ [] else []
 
-abbrev pub completed : List Reply → List (List ℕ)
+abbrev pub completed : List Reply → List (Option (List ℕ))
 completed replies = flat_map completed_by replies
 
 -- a login goes on: its command is completed behind the client's answer
-abbrev pub going_on : Stage → List (List ℕ)
-going_on (stage.Challenged tag challenge) = tags tag
+abbrev pub going_on : Stage → List (Option (List ℕ))
+going_on (stage.Challenged tag challenge) = tag ∷ []
 going_on other = []
 
 -- What is left without a completion: a login that goes on; and where a session was closed nothing, or the login whose
 -- answer could not be read, as the input was too long.
-abbrev pub IsLeft : Option LexFault → Stage → List (List ℕ) → Type 0
-IsLeft fatal stage.Closed left = (left ≡ []) ⊎ (IsSome fatal × ((tag : Option (List ℕ)) × (left ≡ tags tag)))
+abbrev pub IsLeft : Option LexFault → Stage → List (Option (List ℕ)) → Type 0
+IsLeft fatal stage.Closed left = (left ≡ []) ⊎ (IsSome fatal × ((tag : Option (List ℕ)) × (left ≡ (tag ∷ []))))
 IsLeft fatal other left = left ≡ going_on other
 
--- What was said is replies, as they are printed. The completions among them are those of the commands, each once and in
--- their order, up to what is left.
-pub record AreCompleted (commands : List (List ℕ)) (said : List ℕ) (fatal : Option LexFault) (at : Stage) : Type 0 where
+-- what is said last where a session is closed for an input that is too long: a BYE, which answers no command
+abbrev pub farewell : LexFault → List ℕ
+farewell fault = octets_of (record { tag = None; said = said.Refused (of_lexical fault) })
+
+abbrev pub IsEnd : Option LexFault → Stage → List ℕ → Type 0
+IsEnd fatal stage.Closed end = (end ≡ []) ⊎ ((fault : LexFault) × (fatal ≡ Some fault) × (end ≡ farewell fault))
+IsEnd fatal other end = end ≡ []
+
+-- What was said is replies, as they are printed, and what is said last. The completions among them are those of the
+-- commands, each once and in their order, up to what is left.
+pub record AreCompleted (commands : List (Option (List ℕ))) (said : List ℕ) (fatal : Option LexFault) (at : Stage) : Type 0 where
   pub replies : List Reply
-  pub left : List (List ℕ)
-  pub said_is : said ≡ flat_map octets_of replies
+  pub left : List (Option (List ℕ))
+  pub end : List ℕ
+  pub said_is : said ≡ flat_map octets_of replies ++ end
   pub in_order : commands ≡ completed replies ++ left
   pub left_is : IsLeft fatal at left
+  pub end_is : IsEnd fatal at end
 
 -- ---- the law
 
@@ -113,7 +119,7 @@ abbrev pub all_go_on : ℕ → List Step → Bool
 all_go_on seat steps = list_all (λ x. not (x.occasion.seat == seat) || goes_on x.deed) steps
 
 -- what a session has said since it stood so, and how it stands then
-pub record HasCompleted (commands : List (List ℕ)) (old : Place) (standing : Option Place) : Type 0 where
+pub record HasCompleted (commands : List (Option (List ℕ))) (old : Place) (standing : Option Place) : Type 0 where
   pub now : Place
   pub said : List ℕ
   pub stands : standing ≡ Some now
@@ -165,7 +171,7 @@ abbrev pub given : List ℕ → ℕ → List Step
 given octets n = step_of (world.Piece octets) false ∷ some_turns n
 
 -- the commands that are heard there, and what is said
-abbrev pub heard_there : List Step → List (List ℕ)
+abbrev pub heard_there : List Step → List (Option (List ℕ))
 heard_there steps = all_called 0 steps (run (opening_step ∷ []) empty_world)
 
 abbrev pub said_there : List Step → Option (List ℕ)
@@ -180,18 +186,24 @@ under tag words = record { tag = tag; said = words }
 abbrev pub a1 : Option (List ℕ)
 a1 = Some (codes "A1")
 
+abbrev pub a2 : Option (List ℕ)
+a2 = Some (codes "A2")
+
 pub record CompletionExamples : Type 0 where
   -- two commands of one piece; the second is completed behind its BYE
-  pub two : heard_there (given (codes "A1 NOOP\r\nA2 LOGOUT\r\n") 2) ≡ codes "A1" ∷ codes "A2" ∷ []
+  pub two : heard_there (given (codes "A1 NOOP\r\nA2 LOGOUT\r\n") 2) ≡ a1 ∷ a2 ∷ []
   pub two_said : said_there (given (codes "A1 NOOP\r\nA2 LOGOUT\r\n") 2) ≡ lines_of (codes "A1 OK \"NOOP done\"" ∷ codes "* BYE \"Good bye\"" ∷ codes "A2 OK \"LOGOUT done\"" ∷ [])
-  -- a command that isn't whole is none; a line that can't be read is one under its tag, and none without a tag
-  pub unfinished : heard_there (given (codes "A1 NOOP\r\nA2 NO") 2) ≡ codes "A1" ∷ []
-  pub wrong : heard_there (given (codes "A1 \"NOOP\r\n+ NOOP\r\n") 2) ≡ codes "A1" ∷ []
+  -- a command that isn't whole is none; a line that can't be read is one, under its tag or without
+  pub unfinished : heard_there (given (codes "A1 NOOP\r\nA2 NO") 2) ≡ a1 ∷ []
+  pub wrong : heard_there (given (codes "A1 \"NOOP\r\n+ NOOP\r\n") 2) ≡ a1 ∷ None ∷ []
   pub wrong_said : said_there (given (codes "A1 \"NOOP\r\n+ NOOP\r\n") 2) ≡ lines_of (codes "A1 BAD \"Bad token\"" ∷ codes "* BAD \"Bad tag\"" ∷ [])
   -- a login is completed behind the line that answers its challenge, which is no command
-  pub login : heard_there (given (codes "A1 AUTHENTICATE \"CRAM-MD5\"\r\n*\r\nA2 NOOP\r\n") 3) ≡ codes "A1" ∷ codes "A2" ∷ []
+  pub login : heard_there (given (codes "A1 AUTHENTICATE \"CRAM-MD5\"\r\n*\r\nA2 NOOP\r\n") 3) ≡ a1 ∷ a2 ∷ []
   pub login_said : said_there (given (codes "A1 AUTHENTICATE \"CRAM-MD5\"\r\n*\r\nA2 NOOP\r\n") 3)
       ≡ lines_of (codes "+ \"<0.0@localhost>\"" ∷ codes "A1 BAD \"Login cancelled\"" ∷ codes "A2 OK \"NOOP done\"" ∷ [])
-  -- what is said under `*` completes nothing, nor does a challenge
+  -- an input that is too long is told by a BYE, which completes nothing, also where a login goes on
+  pub too_long : heard_there (given (codes "A1 NOOP\r\nA2 NOOP {262144}\r\n") 3) ≡ a1 ∷ []
+  pub too_long_said : said_there (given (codes "A1 NOOP\r\nA2 NOOP {262144}\r\n") 3) ≡ lines_of (codes "A1 OK \"NOOP done\"" ∷ codes "* BYE \"Command too long\"" ∷ [])
+  -- a refusal under `*` answers a line without a tag; neither a challenge nor a BYE answers one
   pub completions : completed (under None said.Greeting ∷ under a1 (said.Done verb.Noop) ∷ under a1 (said.Challenge []) ∷ under None (said.Refused refusals.BadTag)
-      ∷ under a1 (said.Refused refusals.Memory) ∷ under None (said.Refused refusals.LineTooLong) ∷ under a1 said.GoodBye ∷ under None said.Drained ∷ []) ≡ codes "A1" ∷ codes "A1" ∷ codes "A1" ∷ []
+      ∷ under a1 (said.Refused refusals.Memory) ∷ under None (said.Refused refusals.LineTooLong) ∷ under a1 said.GoodBye ∷ under None said.Drained ∷ []) ≡ a1 ∷ None ∷ a1 ∷ a1 ∷ []

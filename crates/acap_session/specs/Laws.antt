@@ -13,18 +13,18 @@ use Rattle.acap_commands.specs.declared.event.Event.{Event}
 use Rattle.acap_commands.specs.declared.fault.Fault.{Fault}
 use Rattle.acap_session.specs.Piping.{Fed, IsWritten, always, entered, fed, hears}
 use Rattle.acap_session.specs.Places.{Place, place_at, if_open}
-use Rattle.acap_session.specs.Saying.{added}
+use Rattle.acap_dialogue.specs.Saying.{added}
 use Rattle.acap_session.specs.Script.{IsQuiet}
-use Rattle.acap_session.specs.Session.{session_next, session_drain, answered}
-use Rattle.acap_session.specs.Talking.{Talking, begun}
+use Rattle.acap_dialogue.specs.Session.{session_next, session_drain, answered}
+use Rattle.acap_dialogue.specs.Talking.{Talking, begun}
 use Rattle.acap_session.specs.Turning.{Scene, turn_of, performed}
 use Rattle.acap_session.specs.World as world
 use Rattle.acap_session.specs.World.{World, Deed, Step, did, run, open_at, scene_of, with_scene, with_octets, room_of, said_before, went_on}
-use Rattle.acap_session.specs.declared.next.Next.{Next}
-use Rattle.acap_session.specs.declared.next.Next.TheVariants as next
+use Rattle.acap_dialogue.specs.declared.next.Next.{Next}
+use Rattle.acap_dialogue.specs.declared.next.Next.TheVariants as next
 use Rattle.acap_session.specs.declared.occasion.Occasion.{Occasion}
-use Rattle.acap_session.specs.declared.stage.Stage.{Stage}
-use Rattle.acap_session.specs.declared.stage.Stage.TheVariants as stage
+use Rattle.acap_dialogue.specs.declared.stage.Stage.{Stage}
+use Rattle.acap_dialogue.specs.declared.stage.Stage.TheVariants as stage
 use Rattle.acap_session.specs.declared.turn.Turn.{Turn as Came}
 use Rattle.acap_session.specs.declared.turn.Turn.TheVariants as came
 

@@ -6,11 +6,11 @@ use Rattle.acap_lexer.specs.Holding.{held_limit}
 use Rattle.acap_login.specs.Login.{User}
 use Rattle.acap_machine.specs.Machine.{Machine, new_machine}
 use Rattle.acap_rights.specs.declared.realm.Realm.{Realm}
-use Rattle.acap_session.specs.Session.{session_next, is_closed, is_hearing}
+use Rattle.acap_dialogue.specs.Session.{session_next, is_closed, is_hearing}
 use Rattle.acap_session.specs.Streams.{HasEndedReads, HasGiven, IfTold, SendsFront, Told}
-use Rattle.acap_session.specs.Talking.{Talking, begun}
+use Rattle.acap_dialogue.specs.Talking.{Talking, begun}
 use Rattle.acap_session.specs.Turning.{Scene, scene, turn_of, IsTurn}
-use Rattle.acap_session.specs.declared.next.Next.TheVariants as next
+use Rattle.acap_dialogue.specs.declared.next.Next.TheVariants as next
 use Rattle.acap_session.specs.declared.occasion.Occasion.{Occasion}
 use Rattle.acap_session.specs.declared.pipe_fault.PipeFault.{PipeFault}
 use Rattle.acap_session.specs.declared.pipe_fault.PipeFault.TheVariants as faults

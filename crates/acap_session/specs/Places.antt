@@ -1,7 +1,7 @@
 -- What stands at each seat of a world.
 use Rattle.std.specs.Prelude.{ℕ, zero, suc, List, [], ◌∷◌, Option, Some, None, if◌then◌else◌}
-use Rattle.acap_session.specs.Session.{is_closed}
-use Rattle.acap_session.specs.Talking.{Talking}
+use Rattle.acap_dialogue.specs.Session.{is_closed}
+use Rattle.acap_dialogue.specs.Talking.{Talking}
 
 -- the session of a seat, and what was said to its client and isn't taken yet
 pub record Place : Type 0 where

@@ -6,12 +6,12 @@ use Rattle.acap_rights.specs.declared.realm.Realm.{Realm}
 use Rattle.acap_session.specs.Places.{Place, place_at}
 use Rattle.acap_script.specs.Lines.{line_of}
 use Rattle.acap_session.specs.ScriptOutput.{Shows}
-use Rattle.acap_session.specs.Session.{session_next}
+use Rattle.acap_dialogue.specs.Session.{session_next}
 use Rattle.acap_session.specs.World as world
 use Rattle.acap_session.specs.World.{World, HasTurnedAt, IsStep, did, new_world, open_at, output_taken, room_of, said_before}
 use Rattle.acap_script.specs.declared.line_fault.LineFault.{LineFault}
 use Rattle.acap_script.specs.declared.line_fault.LineFault.TheVariants as faults
-use Rattle.acap_session.specs.declared.next.Next.TheVariants as next
+use Rattle.acap_dialogue.specs.declared.next.Next.TheVariants as next
 use Rattle.acap_session.specs.declared.occasion.Occasion.{Occasion}
 use Rattle.acap_script.specs.declared.script_line.ScriptLine.{ScriptLine}
 use Rattle.acap_script.specs.declared.script_line.ScriptLine.TheVariants as line

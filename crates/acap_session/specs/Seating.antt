@@ -8,7 +8,7 @@ use Rattle.acap_machine.specs.declared.occupant.Occupant.{Occupant}
 use Rattle.acap_rights.specs.declared.realm.Realm.{Realm}
 use Rattle.acap_session.specs.Laws.{reply_of}
 use Rattle.acap_session.specs.Places.{Place, place_at}
-use Rattle.acap_session.specs.Session.{has_seat}
+use Rattle.acap_dialogue.specs.Session.{has_seat}
 use Rattle.acap_session.specs.World.{Step, new_world, open_at, run}
 
 -- the user of the session that stands there, if it has entered and isn't closed

@@ -9,15 +9,15 @@ use Rattle.acap_commands.specs.declared.event.Event.{Event}
 use Rattle.acap_commands.specs.declared.event.Event.TheVariants as events
 use Rattle.acap_commands.specs.declared.fault.Fault.{Fault}
 use Rattle.acap_commands.specs.declared.fault.Fault.TheVariants as fault
-use Rattle.acap_session.specs.Saying.{added, heard_of}
-use Rattle.acap_session.specs.Session.{session_next, session_drain, answered, has_seat}
-use Rattle.acap_session.specs.Talking.{Talking}
-use Rattle.acap_session.specs.declared.heard.Heard.{Heard}
-use Rattle.acap_session.specs.declared.heard.Heard.TheVariants as heard
-use Rattle.acap_session.specs.declared.next.Next.{Next}
-use Rattle.acap_session.specs.declared.next.Next.TheVariants as next
+use Rattle.acap_dialogue.specs.Saying.{added, heard_of}
+use Rattle.acap_dialogue.specs.Session.{session_next, session_drain, answered, has_seat}
+use Rattle.acap_dialogue.specs.Talking.{Talking}
+use Rattle.acap_dialogue.specs.declared.heard.Heard.{Heard}
+use Rattle.acap_dialogue.specs.declared.heard.Heard.TheVariants as heard
+use Rattle.acap_dialogue.specs.declared.next.Next.{Next}
+use Rattle.acap_dialogue.specs.declared.next.Next.TheVariants as next
 use Rattle.acap_session.specs.declared.occasion.Occasion.{Occasion}
-use Rattle.acap_session.specs.declared.stage.Stage.TheVariants as stage
+use Rattle.acap_dialogue.specs.declared.stage.Stage.TheVariants as stage
 use Rattle.acap_session.specs.declared.turn.Turn.{Turn}
 use Rattle.acap_session.specs.declared.turn.Turn.TheVariants as turn
 

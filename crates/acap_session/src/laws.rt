@@ -1,29 +1,8 @@
 //! What follows from the definitions alone: each function does nothing, and its contract is the law.
 ghost use Rattle.acap_session.specs.Completing.{CompletionExamples, CompletionForm, CompletionLaw};
 ghost use Rattle.acap_session.specs.Seating.{SeatingLaw};
-ghost use Rattle.acap_session.specs.Examples.{AnswerExamples, HearingExamples, LoginExamples, NextExamples};
 ghost use Rattle.acap_session.specs.PipeSteps.{PipeRuns};
 ghost use Rattle.acap_session.specs.Laws.{PiecesJoin, TurnsKeep, CuttingLaw, JoiningLaw, OthersStay, StepAlone, AloneLaw, RefusedTurns, WrittenLaw};
-
-/// What is said to the machine's answers and faults, also after a login (RFC 2244 sections 3.6, 6.2 and 6.3.1).
-pub fn answer_examples()
-    ensures { AnswerExamples }
-{}
-
-/// What is said to a line, or asked of the machine (RFC 2244 sections 2.2 and 6.3.1).
-pub fn hearing_examples()
-    ensures { HearingExamples }
-{}
-
-/// What is said to the answer to a challenge (RFC 2244 section 6.3.1; RFC 2195 section 2).
-pub fn login_examples()
-    ensures { LoginExamples }
-{}
-
-/// What is next at each stage of a session.
-pub fn next_examples()
-    ensures { NextExamples }
-{}
 
 /// What is written for what a pipe reads is what the only session of a world says, opened at seat 0 and given the same
 /// pieces, each with its turns behind it (RFC 2244 section 2).

@@ -1,13 +1,8 @@
 //! Sessions: a client's octets, what is said to them, and the events that they ask of the machine (RFC 2244 section 2).
 #![tactic(auto)]
 
-mod answering;
-mod heard;
-mod hearing;
 mod input;
 pub mod laws;
-mod logging;
-mod next;
 mod occasion;
 mod output;
 mod pipe;
@@ -20,22 +15,18 @@ mod script_fault;
 mod script_hearing;
 mod script_output;
 mod script_run;
-mod session;
 mod setup;
-mod stage;
 mod standing;
 mod turn;
 mod turns;
 mod world;
 mod world_fault;
 
+pub use acap_dialogue::{Next, Session, Stage};
 pub use input::{Input, ReadFailed};
-pub use next::Next;
 pub use pipe::{run_pipe, run_pipe_from};
 pub use pipe_fault::PipeFault;
 pub use script_fault::ScriptFault;
 pub use script_run::{run_script, run_script_from};
-pub use session::Session;
-pub use stage::Stage;
 pub use world::World;
 pub use world_fault::WorldFault;

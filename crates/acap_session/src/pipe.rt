@@ -4,7 +4,7 @@ ghost use Rattle.std.specs.Prelude.{◌≡◌, ◌++◌, List, [], false, IfErr,
 ghost use Rattle.std.specs.Io.KnownBytes.{Appends};
 ghost use Rattle.acap_session.specs.Piping as piping;
 ghost use Rattle.acap_session.specs.Piping.{Goes, HasAnswered, HasPartlyAnswered, HasRoom, HasTurned, IsFed, IsLater, IsOut, IsSettled, PipeReads, Pipes, Says, SaysTo, Serves};
-ghost use Rattle.acap_session.specs.Session.{is_closed};
+ghost use Rattle.acap_dialogue.specs.Session.{is_closed};
 ghost use Rattle.acap_session.specs.Streams.{SendsFront};
 ghost use Rattle.acap_session.specs.declared.pipe_fault.PipeFault.TheVariants as faults;
 ghost use Rattle.acap_session.specs.Turning.{scene};
@@ -13,7 +13,7 @@ use crate::input::Input;
 use crate::occasion::Occasion;
 use crate::output::send_all;
 use crate::pipe_fault::PipeFault;
-use crate::session::Session;
+use acap_dialogue::Session;
 use crate::turn::Turn;
 use crate::turns::turn;
 use acap_entries::{Memory, Moment, Octets, Seat, UserName};

@@ -1,15 +1,15 @@
 //! The session of a seat, with what was said to its client and isn't taken yet.
 
 ghost use Rattle.std.specs.Prelude.{◌≡◌, ◌⊎◌, ◌++◌, [], false, IfOk, OnErr, OnOk};
-ghost use Rattle.acap_session.specs.Session.{is_closed, session_next};
+ghost use Rattle.acap_dialogue.specs.Session.{is_closed, session_next};
 ghost use Rattle.acap_session.specs.Turning.{CutInDraining, IsTurn, WasCut, drain_of, left_by, scene, turn_of};
 ghost use Rattle.acap_session.specs.Places.{reached, saying};
-ghost use Rattle.acap_session.specs.declared.stage.Stage.TheVariants as stages;
+ghost use Rattle.acap_dialogue.specs.declared.stage.Stage.TheVariants as stages;
 ghost use Rattle.acap_session.specs.World as world;
 ghost use Rattle.acap_session.specs.World.{HasBegun, said_before};
 
 use crate::occasion::Occasion;
-use crate::session::Session;
+use acap_dialogue::Session;
 use crate::turn::Turn;
 use crate::turns::{drain, leave, turn};
 use acap_entries::{Memory, Seat};

@@ -1,12 +1,12 @@
 //! Turns: one session, the machine, and what is said.
 
 ghost use Rattle.std.specs.Prelude.{◌≡◌, ◌⊎◌, ◌||◌, false, true, IfOk, OnErr};
-ghost use Rattle.acap_session.specs.Session.{answered, is_asked, session_next};
+ghost use Rattle.acap_dialogue.specs.Session.{answered, is_asked, session_next};
 ghost use Rattle.acap_session.specs.Turning.{scene, shown, drain_of, is_refused, IsAsked, IsTurn, WasCut, CutInAnswering, CutInAsking, CutInDraining, left_at, left_by, turn_from};
 
-use crate::heard::Heard;
+use acap_dialogue::Heard;
 use crate::occasion::Occasion;
-use crate::session::Session;
+use acap_dialogue::Session;
 use crate::turn::Turn;
 use acap_entries::Memory;
 use acap_commands::{Event, Fault, Reply};

@@ -7,7 +7,7 @@ ghost use Rattle.acap_session.specs.declared.world_fault.WorldFault.TheVariants 
 
 use crate::occasion::Occasion;
 use crate::place::{Place, begin, reach};
-use crate::session::Session;
+use acap_dialogue::Session;
 use crate::world_fault::WorldFault;
 use acap_entries::{Copying, Memory, Moment, Octets, Seat, UserName};
 use acap_login::Users;

@@ -1,7 +1,7 @@
 use Rattle.std.proofs.Common.{◌≡◌, ◌-◌, sym, subst, ◌∙◌, arith, length, true, false}
 use Rattle.acap_lexer.specs.Holding.{held_limit}
 use Rattle.acap_session.specs.Piping.{IsOut, Says}
-use Rattle.acap_session.specs.Talking.{Talking}
+use Rattle.acap_dialogue.specs.Talking.{Talking}
 use Rattle.acap_session.specs.Turning.{scene}
 use Rattle.acap_session.proofs.PipeFronts.{on_err, part_cut}
 use Rattle.acap_session.proofs.Piping.{IsPartly, SettledOut, out_none, parts_out, fed_out, partly_none, fits_room, shrinks, some_octets, none_left}

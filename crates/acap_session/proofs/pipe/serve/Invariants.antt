@@ -1,6 +1,6 @@
 use Rattle.std.proofs.Common.{◌≡◌, ℕ, List, [], Option, false}
 use Rattle.acap_session.specs.Piping.{HasRoom, IsSoFar}
-use Rattle.acap_session.specs.Session.{is_closed}
+use Rattle.acap_dialogue.specs.Session.{is_closed}
 use Rattle.acap_session.proofs.Reading.{HasCounted}
 use Rattle.acap_session.proofs.pipe.serve.Given as goal
 

@@ -1,5 +1,5 @@
 use Rattle.std.proofs.Common.{◌≡◌, inl, inr, subst, sym, ◌∙◌}
-use Rattle.acap_session.specs.Session.{session_drain, drain_in}
+use Rattle.acap_dialogue.specs.Session.{session_drain, drain_in}
 use Rattle.acap_session.specs.Turning.{scene}
 use Rattle.std.proofs.lemmas.Result.{on_err_weaker}
 use Rattle.acap_session.proofs.Performing.{asked_by, cut_drain, drain_asks, drained_by, if_ok_then, not_drained, performed_by, seats_is, stood, undrained}

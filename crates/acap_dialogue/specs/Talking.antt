@@ -1,8 +1,8 @@
 -- What a session stands for.
 use Rattle.std.specs.Prelude.{ℕ, List, [], Option, None}
 use Rattle.acap_lexer.specs.Holding.{Held}
-use Rattle.acap_session.specs.declared.stage.Stage.{Stage}
-use Rattle.acap_session.specs.declared.stage.Stage.TheVariants as stage
+use Rattle.acap_dialogue.specs.declared.stage.Stage.{Stage}
+use Rattle.acap_dialogue.specs.declared.stage.Stage.TheVariants as stage
 
 -- the name of its host, its user if it has one, the octets that it has taken, and what it is about to do
 pub record Talking : Type 0 where

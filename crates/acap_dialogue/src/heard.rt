@@ -4,7 +4,7 @@ use acap_commands::Event;
 
 /// What comes of what a session hears, where the octets that it says go to a vector that is lent.
 #[derive(Drop)]
-pub(crate) enum Heard {
+pub enum Heard {
     /// Nothing is next.
     More,
     /// Something was said.

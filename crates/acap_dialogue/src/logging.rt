@@ -1,8 +1,9 @@
 //! What is said to the answer to a challenge.
 
 ghost use Rattle.std.specs.Prelude.{◌≡◌, OnOk, OnErr, IfOk};
-ghost use Rattle.acap_session.specs.Hearing as hearing;
-ghost use Rattle.acap_session.specs.Saying.{added, heard_of};
+ghost use Rattle.acap_dialogue.specs.Hearing as hearing;
+ghost use Rattle.acap_dialogue.specs.Hearing.{answer_line, answer_token, heard_answer, logs_in, who};
+ghost use Rattle.acap_dialogue.specs.Saying.{Hears};
 
 use crate::heard::Heard;
 use crate::hearing::{closes, continues, says};
@@ -34,11 +35,7 @@ fn logs_in(
     stage: &mut Stage,
     out: &mut Vec<u8>,
 ) -> Result<Heard, Memory>
-    ensures ok { IfOk result (λ heard. heard ≡ heard_of (hearing.logs_in tag (hearing.who users.now challenge.now answer.now)).0) }
-    ensures stage { OnOk result (stage.new ≡ (hearing.logs_in tag (hearing.who users.now challenge.now answer.now)).1) }
-    ensures out { OnOk result (out.new.items ≡ added out.old.items (hearing.logs_in tag (hearing.who users.now challenge.now answer.now)).0) }
-    ensures err { OnErr result (out.new.items ≡ out.old.items) }
-    ensures kept { OnErr result (stage.new ≡ stage.old) }
+    ensures { Hears (logs_in tag (who users.now challenge.now answer.now)) result stage.old stage.new out.old out.new }
 {
     match who(users, challenge, answer)? {
         Some(user) => {
@@ -69,11 +66,7 @@ fn answer_token(
     stage: &mut Stage,
     out: &mut Vec<u8>,
 ) -> Result<Heard, Memory>
-    ensures ok { IfOk result (λ heard. heard ≡ heard_of (hearing.answer_token users.now tag challenge.now kind text.now).0) }
-    ensures stage { OnOk result (stage.new ≡ (hearing.answer_token users.now tag challenge.now kind text.now).1) }
-    ensures out { OnOk result (out.new.items ≡ added out.old.items (hearing.answer_token users.now tag challenge.now kind text.now).0) }
-    ensures err { OnErr result (out.new.items ≡ out.old.items) }
-    ensures kept { OnErr result (stage.new ≡ stage.old) }
+    ensures { Hears (answer_token users.now tag challenge.now kind text.now) result stage.old stage.new out.old out.new }
 {
     match kind {
         Kind::Quoted | Kind::Literal => logs_in(users, tag, challenge, text, stage, out),
@@ -90,11 +83,7 @@ fn answer_line(
     stage: &mut Stage,
     out: &mut Vec<u8>,
 ) -> Result<Heard, Memory>
-    ensures ok { IfOk result (λ heard. heard ≡ heard_of (hearing.answer_line users.now tag challenge.now tokens.now).0) }
-    ensures stage { OnOk result (stage.new ≡ (hearing.answer_line users.now tag challenge.now tokens.now).1) }
-    ensures out { OnOk result (out.new.items ≡ added out.old.items (hearing.answer_line users.now tag challenge.now tokens.now).0) }
-    ensures err { OnErr result (out.new.items ≡ out.old.items) }
-    ensures kept { OnErr result (stage.new ≡ stage.old) }
+    ensures { Hears (answer_line users.now tag challenge.now tokens.now) result stage.old stage.new out.old out.new }
 {
     if tokens.len() != 1 {
         return says(tag, Said::Refused(Refusal::Arguments), stage, out);
@@ -120,11 +109,7 @@ pub(crate) fn heard_answer(
     stage: &mut Stage,
     out: &mut Vec<u8>,
 ) -> Result<Heard, Memory>
-    ensures ok { IfOk result (λ heard. heard ≡ heard_of (hearing.heard_answer users.now tag challenge lexed.now).0) }
-    ensures stage { OnOk result (stage.new ≡ (hearing.heard_answer users.now tag challenge lexed.now).1) }
-    ensures out { OnOk result (out.new.items ≡ added out.old.items (hearing.heard_answer users.now tag challenge lexed.now).0) }
-    ensures err { OnErr result (out.new.items ≡ out.old.items) }
-    ensures kept { OnErr result (stage.new ≡ stage.old) }
+    ensures { Hears (heard_answer users.now tag challenge lexed.now) result stage.old stage.new out.old out.new }
 {
     match lexed {
         Lexed::More => {

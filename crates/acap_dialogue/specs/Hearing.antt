@@ -1,6 +1,6 @@
 -- What a session says to an answer of its lexer, without the machine, or what it asks the machine then
 -- [RFC 2244 sections 2.2, 2.6.3, 6.2 and 6.3.1; RFC 2195 section 2].
-use Rattle.std.specs.Prelude.{ℕ, ℤ, pos, negsuc, ◌/◌, List, [], ◌∷◌, ◌++◌, Option, Some, None, Result, Ok, Err, option_map, slice_get, codes, if◌then◌else◌}
+use Rattle.std.specs.Prelude.{ℕ, ℤ, pos, negsuc, ◌/◌, List, [], ◌∷◌, ◌++◌, Option, Some, None, is_some, Result, Ok, Err, option_map, slice_get, codes, if◌then◌else◌}
 use Rattle.std.specs.Option.{option_and_then}
 use Rattle.std.specs.Str.{bytes_eq, str_eq_ignore_ascii_case}
 use Rattle.acap_lexer.specs.declared.kind.Kind.{Kind}
@@ -21,10 +21,11 @@ use Rattle.acap_commands.specs.declared.said.Said.{Said}
 use Rattle.acap_commands.specs.declared.said.Said.TheVariants as said
 use Rattle.acap_commands.specs.declared.verb.Verb.TheVariants as verb
 use Rattle.acap_commands.specs.declared.event.Event.TheVariants as event
-use Rattle.acap_session.specs.declared.next.Next.{Next}
-use Rattle.acap_session.specs.declared.next.Next.TheVariants as next
-use Rattle.acap_session.specs.declared.stage.Stage.{Stage}
-use Rattle.acap_session.specs.declared.stage.Stage.TheVariants as stage
+use Rattle.acap_dialogue.specs.Listening.{Listening}
+use Rattle.acap_dialogue.specs.declared.next.Next.{Next}
+use Rattle.acap_dialogue.specs.declared.next.Next.TheVariants as next
+use Rattle.acap_dialogue.specs.declared.stage.Stage.{Stage}
+use Rattle.acap_dialogue.specs.declared.stage.Stage.TheVariants as stage
 
 -- words are said under a tag, and the session is ready again, or closed
 abbrev pub says : Option (List ℕ) → Said → Next × Stage
@@ -54,22 +55,24 @@ challenges tag challenge = (next.Say (octets_of (record { tag = None; said = sai
 abbrev pub mechanism_name : List ℕ
 mechanism_name = codes "CRAM-MD5"
 
--- a user who is logged in needs no mechanism, whatever it is
-abbrev pub authenticated : List ℕ → Option (List ℕ) → ℕ → ℤ → Option (List ℕ) → List ℕ → Next × Stage
-authenticated host (Some user) nonce clock tag mechanism = refuses tag refusals.LoggedIn
-authenticated host None nonce clock tag mechanism =
-    if str_eq_ignore_ascii_case mechanism mechanism_name then challenges tag (challenge_of nonce (seconds_of clock) host)
+abbrev pub challenged : Listening → Option (List ℕ) → List ℕ → Next × Stage
+challenged l tag mechanism =
+    if str_eq_ignore_ascii_case mechanism mechanism_name then challenges tag (challenge_of l.nonce (seconds_of l.clock) l.host)
     else refuses tag refusals.NoMechanism
 
-unfoldable pub heard_command : List ℕ → Option (List ℕ) → ℕ → ℤ → Option (List ℕ) → Command → Next × Stage
-heard_command host user nonce clock tag command.Noop = says tag (said.Done verb.Noop)
-heard_command host user nonce clock tag command.Logout = closes tag said.GoodBye
-heard_command host user nonce clock tag (command.Authenticate mechanism) = authenticated host user nonce clock tag mechanism
-heard_command host user nonce clock tag wanted = asks user tag wanted
+-- a user who is logged in needs no mechanism, whatever it is
+abbrev pub authenticated : Listening → Option (List ℕ) → List ℕ → Next × Stage
+authenticated l tag mechanism = if is_some l.user then refuses tag refusals.LoggedIn else challenged l tag mechanism
 
-abbrev pub heard_line : List ℕ → Option (List ℕ) → ℕ → ℤ → Option (List ℕ) → Result Command GrammarFault → Next × Stage
-heard_line host user nonce clock tag (Ok command) = heard_command host user nonce clock tag command
-heard_line host user nonce clock tag (Err fault) = refuses tag (of_grammar fault)
+unfoldable pub heard_command : Listening → Option (List ℕ) → Command → Next × Stage
+heard_command l tag command.Noop = says tag (said.Done verb.Noop)
+heard_command l tag command.Logout = closes tag said.GoodBye
+heard_command l tag (command.Authenticate mechanism) = authenticated l tag mechanism
+heard_command l tag wanted = asks l.user tag wanted
+
+abbrev pub heard_line : Listening → Option (List ℕ) → Result Command GrammarFault → Next × Stage
+heard_line l tag (Ok command) = heard_command l tag command
+heard_line l tag (Err fault) = refuses tag (of_grammar fault)
 
 -- the tag of a line is its first token
 abbrev pub tag_of : List Token → Option (List ℕ)
@@ -79,13 +82,13 @@ tag_of tokens = option_map (λ t. t.value) (slice_get tokens 0)
 abbrev pub ready_line : List ℕ
 ready_line = codes "+ \"Ready\"" ++ crlf
 
--- what a session at that host, of that user if there is one, says to what it hears while no answer is awaited
-unfoldable pub heard : List ℕ → Option (List ℕ) → ℕ → ℤ → Lexed → Next × Stage
-heard host user nonce clock lexed.More = (next.More, stage.Ready)
-heard host user nonce clock lexed.Plus = (next.Say ready_line, stage.Ready)
-heard host user nonce clock (lexed.Line tokens) = heard_line host user nonce clock (tag_of tokens) (command_of tokens)
-heard host user nonce clock (lexed.Bad fault tag) = refuses tag (of_lexical fault)
-heard host user nonce clock (lexed.Fatal fault) = closes None (said.Refused (of_lexical fault))
+-- what a session says to what it hears while no answer is awaited
+unfoldable pub heard : Listening → Lexed → Next × Stage
+heard l lexed.More = (next.More, stage.Ready)
+heard l lexed.Plus = (next.Say ready_line, stage.Ready)
+heard l (lexed.Line tokens) = heard_line l (tag_of tokens) (command_of tokens)
+heard l (lexed.Bad fault tag) = refuses tag (of_lexical fault)
+heard l (lexed.Fatal fault) = closes None (said.Refused (of_lexical fault))
 
 -- ---- the client's answer to a challenge
 

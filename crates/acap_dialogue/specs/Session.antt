@@ -10,21 +10,26 @@ use Rattle.acap_commands.specs.declared.verb.Verb.TheVariants as verb
 use Rattle.acap_commands.specs.declared.event.Event.TheVariants as event
 use Rattle.acap_commands.specs.declared.fault.Fault.{Fault}
 use Rattle.acap_commands.specs.declared.fault.Fault.TheVariants as fault
-use Rattle.acap_session.specs.Hearing.{heard, heard_answer, opening, says, refuses}
-use Rattle.acap_session.specs.Talking.{Talking}
-use Rattle.acap_session.specs.declared.next.Next.{Next}
-use Rattle.acap_session.specs.declared.next.Next.TheVariants as next
-use Rattle.acap_session.specs.declared.stage.Stage.{Stage}
-use Rattle.acap_session.specs.declared.stage.Stage.TheVariants as stage
+use Rattle.acap_dialogue.specs.Hearing.{heard, heard_answer, opening, says, refuses}
+use Rattle.acap_dialogue.specs.Listening.{Listening}
+use Rattle.acap_dialogue.specs.Talking.{Talking}
+use Rattle.acap_dialogue.specs.declared.next.Next.{Next}
+use Rattle.acap_dialogue.specs.declared.next.Next.TheVariants as next
+use Rattle.acap_dialogue.specs.declared.stage.Stage.{Stage}
+use Rattle.acap_dialogue.specs.declared.stage.Stage.TheVariants as stage
 
 -- what is next, and the session at the stage that it comes to
 abbrev pub comes_to : Talking → Next × Stage → Next × Talking
 comes_to t turn = (turn.0, record t { stage = turn.1 })
 
--- a session that awaits no answer hears a command
+-- a session listens to its client
+abbrev pub listening : Talking → ℕ → ℤ → Listening
+listening t nonce clock = record { host = t.host; user = t.user; nonce = nonce; clock = clock }
+
+-- one that awaits no answer hears a command
 abbrev pub heard_at : Talking → ℕ → ℤ → Next × Talking
 heard_at t nonce clock =
-    comes_to (record t { held = (next_of mode.Command t.held).1 }) (heard t.host t.user nonce clock (next_of mode.Command t.held).0)
+    comes_to (record t { held = (next_of mode.Command t.held).1 }) (heard (listening t nonce clock) (next_of mode.Command t.held).0)
 
 -- and one whose challenge waits hears what the client answers
 abbrev pub answer_at : List User → Option (List ℕ) → List ℕ → Talking → Next × Talking

@@ -4,12 +4,15 @@ ghost use Rattle.std.specs.Prelude.{◌≡◌, ◌++◌, [], None, IfOk, OnOk, O
 ghost use Rattle.acap_grammar.specs.Grammar.{command_of};
 ghost use Rattle.acap_grammar.specs.Replies.{octets_of};
 ghost use Rattle.acap_login.specs.Login.{challenge_of};
-ghost use Rattle.acap_session.specs.Hearing as hearing;
-ghost use Rattle.acap_session.specs.Saying.{added, heard_of};
-ghost use Rattle.acap_session.specs.declared.heard.Heard.TheVariants as hears;
-ghost use Rattle.acap_session.specs.declared.stage.Stage.TheVariants as stages;
+ghost use Rattle.acap_lexer.specs.declared.lexed.Lexed.TheVariants.{Line};
+ghost use Rattle.acap_dialogue.specs.Hearing as hearing;
+ghost use Rattle.acap_dialogue.specs.Hearing.{asks, authenticated, challenges, closes, heard, heard_command, opening, says};
+ghost use Rattle.acap_dialogue.specs.Saying.{Hears};
+ghost use Rattle.acap_dialogue.specs.declared.heard.Heard.TheVariants as hears;
+ghost use Rattle.acap_dialogue.specs.declared.stage.Stage.TheVariants as stages;
 
 use crate::heard::Heard;
+use crate::listener::Listener;
 use crate::stage::Stage;
 use acap_entries::{Copying, Memory, Moment, Octets, UserName, Value};
 use acap_commands::{Command, Event, Refusal, Reply, Said, Verb};
@@ -25,11 +28,7 @@ pub(crate) fn says(
     stage: &mut Stage,
     out: &mut Vec<u8>,
 ) -> Result<Heard, Memory>
-    ensures ok { IfOk result (λ heard. heard ≡ heard_of (hearing.says tag said).0) }
-    ensures stage { OnOk result (stage.new ≡ stages.Ready) }
-    ensures out { OnOk result (out.new.items ≡ added out.old.items (hearing.says tag said).0) }
-    ensures err { OnErr result (out.new.items ≡ out.old.items) }
-    ensures kept { OnErr result (stage.new ≡ stage.old) }
+    ensures { Hears (says tag said) result stage.old stage.new out.old out.new }
 {
     render(&Reply { tag, said }, out)?;
     *stage = Stage::Ready;
@@ -43,11 +42,7 @@ pub(crate) fn closes(
     stage: &mut Stage,
     out: &mut Vec<u8>,
 ) -> Result<Heard, Memory>
-    ensures ok { IfOk result (λ heard. heard ≡ heard_of (hearing.closes tag said).0) }
-    ensures stage { OnOk result (stage.new ≡ stages.Closed) }
-    ensures out { OnOk result (out.new.items ≡ added out.old.items (hearing.closes tag said).0) }
-    ensures err { OnErr result (out.new.items ≡ out.old.items) }
-    ensures kept { OnErr result (stage.new ≡ stage.old) }
+    ensures { Hears (closes tag said) result stage.old stage.new out.old out.new }
 {
     render(&Reply { tag, said }, out)?;
     *stage = Stage::Closed;
@@ -62,11 +57,7 @@ fn asks(
     stage: &mut Stage,
     out: &mut Vec<u8>,
 ) -> Result<Heard, Memory>
-    ensures ok { IfOk result (λ heard. heard ≡ heard_of (hearing.asks user.now tag command).0) }
-    ensures stage { OnOk result (stage.new ≡ (hearing.asks user.now tag command).1) }
-    ensures out { OnOk result (out.new.items ≡ added out.old.items (hearing.asks user.now tag command).0) }
-    ensures err { OnErr result (out.new.items ≡ out.old.items) }
-    ensures kept { OnErr result (stage.new ≡ stage.old) }
+    ensures { Hears (asks user.now tag command) result stage.old stage.new out.old out.new }
 {
     match user {
         Some(_) => {
@@ -95,11 +86,7 @@ fn challenges(
     stage: &mut Stage,
     out: &mut Vec<u8>,
 ) -> Result<Heard, Memory>
-    ensures ok { IfOk result (λ heard. heard ≡ heard_of (hearing.challenges tag told).0) }
-    ensures stage { OnOk result (stage.new ≡ (hearing.challenges tag told).1) }
-    ensures out { OnOk result (out.new.items ≡ added out.old.items (hearing.challenges tag told).0) }
-    ensures err { OnErr result (out.new.items ≡ out.old.items) }
-    ensures kept { OnErr result (stage.new ≡ stage.old) }
+    ensures { Hears (challenges tag told) result stage.old stage.new out.old out.new }
 {
     let reply = Reply::new(Said::Challenge(told.copy()?));
     render(&reply, out)?;
@@ -109,57 +96,41 @@ fn challenges(
 
 // A user who is logged in needs no mechanism; another is challenged, if the mechanism is CRAM-MD5.
 fn authenticates(
-    alloc: Global,
-    host: &Octets,
-    user: &Option<UserName>,
-    nonce: u64,
-    clock: Moment,
+    listener: &Listener,
     tag: Option<Octets>,
     mechanism: &Value,
     stage: &mut Stage,
     out: &mut Vec<u8>,
 ) -> Result<Heard, Memory>
-    ensures ok { IfOk result (λ heard. heard ≡ heard_of (hearing.authenticated host.now user.now nonce clock tag mechanism.now).0) }
-    ensures stage { OnOk result (stage.new ≡ (hearing.authenticated host.now user.now nonce clock tag mechanism.now).1) }
-    ensures out { OnOk result (out.new.items ≡ added out.old.items (hearing.authenticated host.now user.now nonce clock tag mechanism.now).0) }
-    ensures err { OnErr result (out.new.items ≡ out.old.items) }
-    ensures kept { OnErr result (stage.new ≡ stage.old) }
+    ensures { Hears (authenticated listener.now tag mechanism.now) result stage.old stage.new out.old out.new }
 {
-    if user.is_some() {
+    if listener.user.is_some() {
         return says(tag, Said::Refused(Refusal::LoggedIn), stage, out);
     }
     if !mechanism.as_slice().eq_ignore_ascii_case(b"CRAM-MD5") {
         return says(tag, Said::Refused(Refusal::NoMechanism), stage, out);
     }
-    let told = challenge(alloc, nonce, seconds(clock), host.as_slice())?;
+    let told = challenge(listener.alloc, listener.nonce, seconds(listener.clock), listener.host.as_slice())?;
     challenges(tag, Octets::from_vec(told), stage, out)
 }
 
 #[tactic(auto, unfolding(crate::specs::Hearing::heard_command))]
 fn heard_command(
-    alloc: Global,
-    host: &Octets,
-    user: &Option<UserName>,
-    nonce: u64,
-    clock: Moment,
+    listener: &Listener,
     tag: Option<Octets>,
     command: Command,
     stage: &mut Stage,
     out: &mut Vec<u8>,
 ) -> Result<Heard, Memory>
-    ensures ok { IfOk result (λ heard. heard ≡ heard_of (hearing.heard_command host.now user.now nonce clock tag command).0) }
-    ensures stage { OnOk result (stage.new ≡ (hearing.heard_command host.now user.now nonce clock tag command).1) }
-    ensures out { OnOk result (out.new.items ≡ added out.old.items (hearing.heard_command host.now user.now nonce clock tag command).0) }
-    ensures err { OnErr result (out.new.items ≡ out.old.items) }
-    ensures kept { OnErr result (stage.new ≡ stage.old) }
+    ensures { Hears (heard_command listener.now tag command) result stage.old stage.new out.old out.new }
 {
     match command {
         Command::Noop => says(tag, Said::Done(Verb::Noop), stage, out),
         Command::Logout => closes(tag, Said::GoodBye, stage, out),
         Command::Authenticate(mechanism) => {
-            authenticates(alloc, host, user, nonce, clock, tag, &mechanism, stage, out)
+            authenticates(listener, tag, &mechanism, stage, out)
         },
-        command => asks(user, tag, command, stage, out),
+        command => asks(listener.user, tag, command, stage, out),
     }
 }
 
@@ -173,25 +144,18 @@ fn tag_of(alloc: Global, tokens: &Tokens) -> Result<Option<Octets>, Memory>
     Ok(Some(Octets::from_slice(alloc, tokens.value(0))?))
 }
 
+#[tactic(auto, unfolding(crate::specs::Hearing::heard))]
 fn heard_line(
-    alloc: Global,
-    host: &Octets,
-    user: &Option<UserName>,
-    nonce: u64,
-    clock: Moment,
+    listener: &Listener,
     tokens: &Tokens,
     stage: &mut Stage,
     out: &mut Vec<u8>,
 ) -> Result<Heard, Memory>
-    ensures ok { IfOk result (λ heard. heard ≡ heard_of (hearing.heard_line host.now user.now nonce clock (hearing.tag_of tokens.now) (command_of tokens.now)).0) }
-    ensures stage { OnOk result (stage.new ≡ (hearing.heard_line host.now user.now nonce clock (hearing.tag_of tokens.now) (command_of tokens.now)).1) }
-    ensures out { OnOk result (out.new.items ≡ added out.old.items (hearing.heard_line host.now user.now nonce clock (hearing.tag_of tokens.now) (command_of tokens.now)).0) }
-    ensures err { OnErr result (out.new.items ≡ out.old.items) }
-    ensures kept { OnErr result (stage.new ≡ stage.old) }
+    ensures { Hears (heard listener.now (Line tokens.now)) result stage.old stage.new out.old out.new }
 {
-    let tag = tag_of(alloc, tokens)?;
-    match parse(alloc, tokens) {
-        Ok(command) => heard_command(alloc, host, user, nonce, clock, tag, command, stage, out),
+    let tag = tag_of(listener.alloc, tokens)?;
+    match parse(listener.alloc, tokens) {
+        Ok(command) => heard_command(listener, tag, command, stage, out),
         Err(GrammarError::Memory) => Err(Memory),
         Err(GrammarError::Fault(fault)) => says(
             tag,
@@ -225,20 +189,12 @@ fn copied(alloc: Global, tag: &Option<Tag>) -> Result<Option<Octets>, Memory>
 /// What a session that awaits no answer says to an answer of its lexer, or what it asks the machine then.
 #[tactic(auto, unfolding(crate::specs::Hearing::heard))]
 pub(crate) fn heard(
-    alloc: Global,
-    host: &Octets,
-    user: &Option<UserName>,
-    nonce: u64,
-    clock: Moment,
+    listener: &Listener,
     lexed: &Lexed,
     stage: &mut Stage,
     out: &mut Vec<u8>,
 ) -> Result<Heard, Memory>
-    ensures ok { IfOk result (λ heard. heard ≡ heard_of (hearing.heard host.now user.now nonce clock lexed.now).0) }
-    ensures stage { OnOk result (stage.new ≡ (hearing.heard host.now user.now nonce clock lexed.now).1) }
-    ensures out { OnOk result (out.new.items ≡ added out.old.items (hearing.heard host.now user.now nonce clock lexed.now).0) }
-    ensures err { OnErr result (out.new.items ≡ out.old.items) }
-    ensures kept { OnErr result (stage.new ≡ stage.old) }
+    ensures { Hears (heard listener.now lexed.now) result stage.old stage.new out.old out.new }
 {
     match lexed {
         Lexed::More => {
@@ -250,9 +206,9 @@ pub(crate) fn heard(
             *stage = Stage::Ready;
             Ok(Heard::Said)
         }
-        Lexed::Line(tokens) => heard_line(alloc, host, user, nonce, clock, tokens, stage, out),
+        Lexed::Line(tokens) => heard_line(listener, tokens, stage, out),
         Lexed::Bad(fault, tag) => {
-            let tag = copied(alloc, tag)?;
+            let tag = copied(listener.alloc, tag)?;
             says(tag, Said::Refused(lexical_refusal(*fault)), stage, out)
         }
         Lexed::Fatal(fault) => closes(None, Said::Refused(lexical_refusal(*fault)), stage, out),
@@ -266,11 +222,7 @@ pub(crate) fn opening(
     stage: &mut Stage,
     out: &mut Vec<u8>,
 ) -> Result<Heard, Memory>
-    ensures ok { IfOk result (λ heard. heard ≡ heard_of (hearing.opening user.now).0) }
-    ensures stage { OnOk result (stage.new ≡ (hearing.opening user.now).1) }
-    ensures out { OnOk result (out.new.items ≡ added out.old.items (hearing.opening user.now).0) }
-    ensures err { OnErr result (out.new.items ≡ out.old.items) }
-    ensures kept { OnErr result (stage.new ≡ stage.old) }
+    ensures { Hears (opening user.now) result stage.old stage.new out.old out.new }
 {
     match user {
         Some(user) => {

@@ -1,8 +1,8 @@
 //! What is said to the machine's answers.
 
 ghost use Rattle.std.specs.Prelude.{◌≡◌, [], IfOk, OnOk, OnErr};
-ghost use Rattle.acap_session.specs.Saying.{added, heard_of};
-ghost use Rattle.acap_session.specs.Session as talk;
+ghost use Rattle.acap_dialogue.specs.Saying.{Hears};
+ghost use Rattle.acap_dialogue.specs.Session as talk;
 
 use crate::heard::Heard;
 use crate::hearing::says;
@@ -17,11 +17,7 @@ fn replied(
     stage: &mut Stage,
     out: &mut Vec<u8>,
 ) -> Result<Heard, Memory>
-    ensures ok { IfOk result (λ heard. heard ≡ heard_of (talk.replied tag outcome).0) }
-    ensures stage { OnOk result (stage.new ≡ (talk.replied tag outcome).1) }
-    ensures out { OnOk result (out.new.items ≡ added out.old.items (talk.replied tag outcome).0) }
-    ensures err { OnErr result (out.new.items ≡ out.old.items) }
-    ensures kept { OnErr result (stage.new ≡ stage.old) }
+    ensures { Hears (talk.replied tag outcome) result stage.old stage.new out.old out.new }
 {
     match outcome {
         Ok(reply) => says(tag, reply.said, stage, out),
@@ -40,11 +36,7 @@ fn welcomed(
     stage: &mut Stage,
     out: &mut Vec<u8>,
 ) -> Result<Heard, Memory>
-    ensures ok { IfOk result (λ heard. heard ≡ heard_of (talk.welcomed outcome).0) }
-    ensures stage { OnOk result (stage.new ≡ (talk.welcomed outcome).1) }
-    ensures out { OnOk result (out.new.items ≡ added out.old.items (talk.welcomed outcome).0) }
-    ensures err { OnErr result (out.new.items ≡ out.old.items) }
-    ensures kept { OnErr result (stage.new ≡ stage.old) }
+    ensures { Hears (talk.welcomed outcome) result stage.old stage.new out.old out.new }
 {
     match outcome {
         Ok(reply) => says(None, reply.said, stage, out),
@@ -64,12 +56,8 @@ fn logged_in(
     stage: &mut Stage,
     out: &mut Vec<u8>,
 ) -> Result<Heard, Memory>
-    ensures ok { IfOk result (λ heard. heard ≡ heard_of (talk.login_said tag outcome).0) }
-    ensures stage { OnOk result (stage.new ≡ (talk.login_said tag outcome).1) }
+    ensures told { Hears (talk.login_said tag outcome) result stage.old stage.new out.old out.new }
     ensures user { OnOk result (user.new ≡ talk.login_user name user.old outcome) }
-    ensures out { OnOk result (out.new.items ≡ added out.old.items (talk.login_said tag outcome).0) }
-    ensures err { OnErr result (out.new.items ≡ out.old.items) }
-    ensures kept { OnErr result (stage.new ≡ stage.old) }
 {
     match outcome {
         Ok(_) => {
@@ -86,11 +74,7 @@ fn drained(
     stage: &mut Stage,
     out: &mut Vec<u8>,
 ) -> Result<Heard, Memory>
-    ensures ok { IfOk result (λ heard. heard ≡ heard_of (talk.drained outcome).0) }
-    ensures stage { OnOk result (stage.new ≡ (talk.drained outcome).1) }
-    ensures out { OnOk result (out.new.items ≡ added out.old.items (talk.drained outcome).0) }
-    ensures err { OnErr result (out.new.items ≡ out.old.items) }
-    ensures kept { OnErr result (stage.new ≡ stage.old) }
+    ensures { Hears (talk.drained outcome) result stage.old stage.new out.old out.new }
 {
     match outcome {
         Ok(reply) => says(None, reply.said, stage, out),
@@ -109,12 +93,8 @@ pub(crate) fn answered(
     stage: &mut Stage,
     out: &mut Vec<u8>,
 ) -> Result<Heard, Memory>
-    ensures ok { IfOk result (λ heard. heard ≡ heard_of (talk.answer_said was outcome).0) }
-    ensures stage { OnOk result (stage.new ≡ (talk.answer_said was outcome).1) }
+    ensures told { Hears (talk.answer_said was outcome) result stage.old stage.new out.old out.new }
     ensures user { OnOk result (user.new ≡ talk.answer_user was user.old outcome) }
-    ensures out { OnOk result (out.new.items ≡ added out.old.items (talk.answer_said was outcome).0) }
-    ensures err { OnErr result (out.new.items ≡ out.old.items) }
-    ensures kept { OnErr result (stage.new ≡ stage.old) }
 {
     match was {
         Stage::Entering => welcomed(outcome, stage, out),

@@ -1,5 +1,6 @@
 -- What a session says to what it hears, and at which stage it is then.
 use Rattle.std.proofs.Common.{◌≡◌, ℕ, ℤ, Bool, true, false, List, [], ◌∷◌, Option, Some, None, Result, Ok, Err, if◌then◌else◌, refl, sym, ap, subst, ◌∙◌}
+use Rattle.std.specs.Prelude.{is_some}
 use Rattle.std.specs.Str.{str_eq_ignore_ascii_case}
 use Rattle.acap_lexer.specs.Held.{next_of}
 use Rattle.acap_lexer.specs.Holding.{Held}
@@ -20,15 +21,16 @@ use Rattle.acap_grammar.specs.declared.grammar_fault.GrammarFault.{GrammarFault}
 use Rattle.acap_commands.specs.declared.reply.Reply.{Reply}
 use Rattle.acap_commands.specs.declared.fault.Fault.{Fault}
 use Rattle.acap_commands.specs.declared.fault.Fault.TheVariants as fault
-use Rattle.acap_session.specs.Hearing.{heard, heard_line, heard_command, heard_answer, answer_line, answer_token, authenticated, mechanism_name, logs_in, who, asks, opening, tag_of, ready_line}
-use Rattle.acap_session.specs.Session.{session_next, next_at, answer_said, is_asked, is_hearing, Awaits}
-use Rattle.acap_session.specs.Saying.{heard_of, next_of as told}
-use Rattle.acap_session.specs.Talking.{Talking}
-use Rattle.acap_session.specs.declared.heard.Heard.{Heard}
-use Rattle.acap_session.specs.declared.next.Next.{Next}
-use Rattle.acap_session.specs.declared.next.Next.TheVariants as next
-use Rattle.acap_session.specs.declared.stage.Stage.{Stage}
-use Rattle.acap_session.specs.declared.stage.Stage.TheVariants as stage
+use Rattle.acap_dialogue.specs.Listening.{Listening}
+use Rattle.acap_dialogue.specs.Hearing.{heard, heard_line, heard_command, heard_answer, answer_line, answer_token, authenticated, mechanism_name, logs_in, who, asks, opening, tag_of, ready_line}
+use Rattle.acap_dialogue.specs.Session.{listening, session_next, next_at, answer_said, is_asked, is_hearing, Awaits}
+use Rattle.acap_dialogue.specs.Saying.{heard_of, next_of as told}
+use Rattle.acap_dialogue.specs.Talking.{Talking}
+use Rattle.acap_dialogue.specs.declared.heard.Heard.{Heard}
+use Rattle.acap_dialogue.specs.declared.next.Next.{Next}
+use Rattle.acap_dialogue.specs.declared.next.Next.TheVariants as next
+use Rattle.acap_dialogue.specs.declared.stage.Stage.{Stage}
+use Rattle.acap_dialogue.specs.declared.stage.Stage.TheVariants as stage
 
 -- something is said or asked, and the stage goes with it
 abbrev pub Speaks : Next → Stage → Type 0
@@ -49,40 +51,39 @@ if_speaks : (b : Bool) (x y : Next × Stage) → Speaks x.0 x.1 → Speaks y.0 y
 if_speaks true x y p q = p
 if_speaks false x y p q = q
 
-authenticated_speaks : (host : List ℕ) (user : Option (List ℕ)) (nonce : ℕ) (clock : ℤ) (tag : Option (List ℕ)) (m : List ℕ) → Speaks (authenticated host user nonce clock tag m).0 (authenticated host user nonce clock tag m).1
-authenticated_speaks host (Some user) nonce clock tag m = refl
-authenticated_speaks host None nonce clock tag m = if_speaks (str_eq_ignore_ascii_case m mechanism_name) _ _ refl refl
+authenticated_speaks : (l : Listening) (tag : Option (List ℕ)) (m : List ℕ) → Speaks (authenticated l tag m).0 (authenticated l tag m).1
+authenticated_speaks l tag m = if_speaks (is_some l.user) _ _ refl (if_speaks (str_eq_ignore_ascii_case m mechanism_name) _ _ refl refl)
 
 asks_speaks : (user tag : Option (List ℕ)) (c : Command) → Speaks (asks user tag c).0 (asks user tag c).1
 asks_speaks None tag c = refl
 asks_speaks (Some user) tag c = refl
 
-command_speaks : (host : List ℕ) (user : Option (List ℕ)) (nonce : ℕ) (clock : ℤ) (tag : Option (List ℕ)) (c : Command) → Speaks (heard_command host user nonce clock tag c).0 (heard_command host user nonce clock tag c).1
+command_speaks : (l : Listening) (tag : Option (List ℕ)) (c : Command) → Speaks (heard_command l tag c).0 (heard_command l tag c).1
 unfolding heard_command
-command_speaks host user nonce clock tag command.Noop = refl
-command_speaks host user nonce clock tag command.Logout = refl
-command_speaks host user nonce clock tag (command.Authenticate mechanism) = authenticated_speaks host user nonce clock tag mechanism
-command_speaks host user nonce clock tag (command.Store entries) = asks_speaks user tag (command.Store entries)
-command_speaks host user nonce clock tag (command.Search wanted) = asks_speaks user tag (command.Search wanted)
-command_speaks host user nonce clock tag (command.SetAcl object identifier rights) = asks_speaks user tag (command.SetAcl object identifier rights)
-command_speaks host user nonce clock tag (command.DeleteAcl object identifier) = asks_speaks user tag (command.DeleteAcl object identifier)
-command_speaks host user nonce clock tag (command.MyRights object) = asks_speaks user tag (command.MyRights object)
-command_speaks host user nonce clock tag (command.ListRights object identifier) = asks_speaks user tag (command.ListRights object identifier)
-command_speaks host user nonce clock tag (command.DeletedSince dataset since) = asks_speaks user tag (command.DeletedSince dataset since)
-command_speaks host user nonce clock tag (command.FreeContext name) = asks_speaks user tag (command.FreeContext name)
-command_speaks host user nonce clock tag (command.UpdateContext names) = asks_speaks user tag (command.UpdateContext names)
+command_speaks l tag command.Noop = refl
+command_speaks l tag command.Logout = refl
+command_speaks l tag (command.Authenticate mechanism) = authenticated_speaks l tag mechanism
+command_speaks l tag (command.Store entries) = asks_speaks l.user tag (command.Store entries)
+command_speaks l tag (command.Search wanted) = asks_speaks l.user tag (command.Search wanted)
+command_speaks l tag (command.SetAcl object identifier rights) = asks_speaks l.user tag (command.SetAcl object identifier rights)
+command_speaks l tag (command.DeleteAcl object identifier) = asks_speaks l.user tag (command.DeleteAcl object identifier)
+command_speaks l tag (command.MyRights object) = asks_speaks l.user tag (command.MyRights object)
+command_speaks l tag (command.ListRights object identifier) = asks_speaks l.user tag (command.ListRights object identifier)
+command_speaks l tag (command.DeletedSince dataset since) = asks_speaks l.user tag (command.DeletedSince dataset since)
+command_speaks l tag (command.FreeContext name) = asks_speaks l.user tag (command.FreeContext name)
+command_speaks l tag (command.UpdateContext names) = asks_speaks l.user tag (command.UpdateContext names)
 
-line_speaks : (host : List ℕ) (user : Option (List ℕ)) (nonce : ℕ) (clock : ℤ) (tag : Option (List ℕ)) (r : Result Command GrammarFault) → Speaks (heard_line host user nonce clock tag r).0 (heard_line host user nonce clock tag r).1
-line_speaks host user nonce clock tag (Ok c) = command_speaks host user nonce clock tag c
-line_speaks host user nonce clock tag (Err f) = refl
+line_speaks : (l : Listening) (tag : Option (List ℕ)) (r : Result Command GrammarFault) → Speaks (heard_line l tag r).0 (heard_line l tag r).1
+line_speaks l tag (Ok c) = command_speaks l tag c
+line_speaks l tag (Err f) = refl
 
-pub heard_hears : (host : List ℕ) (user : Option (List ℕ)) (nonce : ℕ) (clock : ℤ) (x : Lexed) → Hears x stage.Ready (heard host user nonce clock x)
+pub heard_hears : (l : Listening) (x : Lexed) → Hears x stage.Ready (heard l x)
 unfolding heard
-heard_hears host user nonce clock lexed.More = refl
-heard_hears host user nonce clock lexed.Plus = refl
-heard_hears host user nonce clock (lexed.Line tokens) = line_speaks host user nonce clock (tag_of tokens) (command_of tokens)
-heard_hears host user nonce clock (lexed.Bad f tag) = refl
-heard_hears host user nonce clock (lexed.Fatal f) = (refl, refl)
+heard_hears l lexed.More = refl
+heard_hears l lexed.Plus = refl
+heard_hears l (lexed.Line tokens) = line_speaks l (tag_of tokens) (command_of tokens)
+heard_hears l (lexed.Bad f tag) = refl
+heard_hears l (lexed.Fatal f) = (refl, refl)
 
 logs_speaks : (tag user : Option (List ℕ)) → Speaks (logs_in tag user).0 (logs_in tag user).1
 logs_speaks tag None = refl
@@ -138,7 +139,7 @@ hears_fits (lexed.Fatal f) s r e h = speaks_fits r.0 r.1 h.1
 fits_by : (users : List User) (nonce : ℕ) (clock : ℤ) (s : Stage) (t : Talking) → Fits (next_at users nonce clock s t).0 (next_at users nonce clock s t).1.stage
 fits_by users nonce clock stage.Opening t = speaks_fits (opening t.user).0 (opening t.user).1 (opening_speaks t.user)
 fits_by users nonce clock stage.Entering t = tt
-fits_by users nonce clock stage.Ready t = hears_fits (next_of mode.Command t.held).0 stage.Ready (heard t.host t.user nonce clock (next_of mode.Command t.held).0) refl (heard_hears t.host t.user nonce clock (next_of mode.Command t.held).0)
+fits_by users nonce clock stage.Ready t = hears_fits (next_of mode.Command t.held).0 stage.Ready (heard (listening t nonce clock) (next_of mode.Command t.held).0) refl (heard_hears (listening t nonce clock) (next_of mode.Command t.held).0)
 fits_by users nonce clock (stage.Asked tag) t = tt
 fits_by users nonce clock (stage.Challenged tag challenge) t = hears_fits (next_of mode.Answer t.held).0 (stage.Challenged tag challenge) (heard_answer users tag challenge (next_of mode.Answer t.held).0) refl (answer_hears users tag challenge (next_of mode.Answer t.held).0)
 fits_by users nonce clock (stage.LoggingIn tag user) t = tt
@@ -215,7 +216,7 @@ same_at : (users : List User) (nonce : ℕ) (clock : ℤ) (s : Stage) (t : Talki
 same_at users nonce clock stage.Opening t e m = absurd (subst (λ k. Speaks k (opening t.user).1) m (opening_speaks t.user))
 same_at users nonce clock stage.Entering t e m = refl
 same_at users nonce clock stage.Ready t e m =
-    let r = more_lexed (next_of mode.Command t.held).0 stage.Ready (heard t.host t.user nonce clock (next_of mode.Command t.held).0) (heard_hears t.host t.user nonce clock (next_of mode.Command t.held).0) m in
+    let r = more_lexed (next_of mode.Command t.held).0 stage.Ready (heard (listening t nonce clock) (next_of mode.Command t.held).0) (heard_hears (listening t nonce clock) (next_of mode.Command t.held).0) m in
     let h = same_held mode.Command t.held t.held.fatal refl r.0 in
     let k = r.1 ∙ sym e in
     λ i. record { host = t.host; user = t.user; held = h i; stage = k i }

@@ -21,12 +21,12 @@ use Rattle.acap_grammar.specs.Grammar.{arguments_at, command_of}
 use Rattle.acap_grammar.specs.Marks.{ends, string_at, word_at}
 use Rattle.acap_grammar.specs.Refusals.{code_of}
 use Rattle.acap_grammar.specs.Replies.{challenge_form, done_form, refused_form, good_bye_form, said_form, octets_of, crlf}
-use Rattle.acap_session.specs.Examples.{AnswerExamples, HearingExamples, LoginExamples, NextExamples, tims, asked, talking}
-use Rattle.acap_session.specs.Hearing.{challenges, heard, heard_command, heard_answer, logs_in, opening}
-use Rattle.acap_session.specs.Session.{answered, comes_to, session_next, session_drain}
-use Rattle.acap_session.specs.declared.next.Next.{Next}
-use Rattle.acap_session.specs.declared.stage.Stage.{Stage}
-use Rattle.acap_session.specs.declared.stage.Stage.TheVariants as stage
+use Rattle.acap_dialogue.specs.Examples.{AnswerExamples, HearingExamples, LoginExamples, NextExamples, tims, asked, talking}
+use Rattle.acap_dialogue.specs.Hearing.{challenges, heard, heard_command, heard_answer, logs_in, opening}
+use Rattle.acap_dialogue.specs.Session.{answered, comes_to, session_next, session_drain}
+use Rattle.acap_dialogue.specs.declared.next.Next.{Next}
+use Rattle.acap_dialogue.specs.declared.stage.Stage.{Stage}
+use Rattle.acap_dialogue.specs.declared.stage.Stage.TheVariants as stage
 
 pub answer_examples : AnswerExamples
 unfolding answered octets_of said_form done_form refused_form code_of printed quoted may_quote is_printable is_escaped is_utf8 chars encode_utf8

@@ -15,13 +15,13 @@ use Rattle.acap_commands.specs.declared.said.Said.TheVariants as said
 use Rattle.acap_commands.specs.declared.verb.Verb.TheVariants as verb
 use Rattle.acap_commands.specs.declared.event.Event.TheVariants as event
 use Rattle.acap_commands.specs.declared.fault.Fault.TheVariants as fault
-use Rattle.acap_session.specs.Hearing.{heard, heard_answer, opening, seconds_of}
-use Rattle.acap_session.specs.Session.{answered, is_asked, session_next, session_drain}
-use Rattle.acap_session.specs.Talking.{Talking}
-use Rattle.acap_session.specs.declared.next.Next.{Next}
-use Rattle.acap_session.specs.declared.next.Next.TheVariants as next
-use Rattle.acap_session.specs.declared.stage.Stage.{Stage}
-use Rattle.acap_session.specs.declared.stage.Stage.TheVariants as stage
+use Rattle.acap_dialogue.specs.Hearing.{heard, heard_answer, opening, seconds_of}
+use Rattle.acap_dialogue.specs.Session.{answered, is_asked, session_next, session_drain}
+use Rattle.acap_dialogue.specs.Talking.{Talking}
+use Rattle.acap_dialogue.specs.declared.next.Next.{Next}
+use Rattle.acap_dialogue.specs.declared.next.Next.TheVariants as next
+use Rattle.acap_dialogue.specs.declared.stage.Stage.{Stage}
+use Rattle.acap_dialogue.specs.declared.stage.Stage.TheVariants as stage
 
 -- a line is said, and the session goes on; or it is said and the session is closed
 abbrev pub says : List ℕ → Next × Stage
@@ -93,7 +93,7 @@ authenticate mechanism = line (token (codes "AUTHENTICATE") ∷ string mechanism
 
 -- a host, a nonce and a moment
 abbrev pub hears : Option (List ℕ) → Lexed → Next × Stage
-hears user x = heard (codes "postoffice.reston.mci.net") user 1896 (pos 697170952000000) x
+hears user x = heard (record { host = codes "postoffice.reston.mci.net"; user = user; nonce = 1896; clock = pos 697170952000000 }) x
 
 abbrev pub asked : List ℕ
 asked = codes "<1896.697170952@postoffice.reston.mci.net>"

@@ -2,16 +2,16 @@
 
 ghost use Rattle.std.specs.Prelude.{◌≡◌, ◌-◌, ◌++◌, [], true, None, min, length, take, IfOk, OnOk, OnErr};
 ghost use Rattle.acap_lexer.specs.Holding.{held_limit};
-ghost use Rattle.acap_session.specs.Saying as saying;
-ghost use Rattle.acap_session.specs.Saying.{added, heard_of};
-ghost use Rattle.acap_session.specs.Session as session;
-ghost use Rattle.acap_session.specs.Session.{Awaits, answered, drain_in, has_seat, is_asked, is_closed, session_drain, session_next};
-ghost use Rattle.acap_session.specs.Talking.{begun};
-ghost use Rattle.acap_session.specs.declared.stage.Stage.TheVariants as stages;
+ghost use Rattle.acap_dialogue.specs.Saying as saying;
+ghost use Rattle.acap_dialogue.specs.Saying.{Makes};
+ghost use Rattle.acap_dialogue.specs.Session.{Awaits, answer_at, answered, drain_in, has_seat, heard_at, is_asked, is_closed, session_drain, session_next};
+ghost use Rattle.acap_dialogue.specs.Talking.{begun};
+ghost use Rattle.acap_dialogue.specs.declared.stage.Stage.TheVariants as stages;
 
 use crate::answering::answered;
 use crate::heard::Heard;
 use crate::hearing::{heard, opening};
+use crate::listener::Listener;
 use crate::logging::heard_answer;
 use crate::next::Next;
 use crate::stage::Stage;
@@ -57,7 +57,7 @@ pub struct Session {
 }
 
 impl Model for Session {
-    ghost use Rattle.acap_session.specs.Talking.{Talking};
+    ghost use Rattle.acap_dialogue.specs.Talking.{Talking};
 
     ghost Value = { Talking };
 
@@ -105,18 +105,14 @@ impl Session {
 
     /// The same, where the octets that are said are added to those that are lent.
     #[tactic(auto, unfolding(crate::specs::Session::session_next))]
-    pub(crate) fn hear(
+    pub fn hear(
         &mut self,
         users: &Users,
         nonce: u64,
         clock: Moment,
         out: &mut Vec<u8>,
     ) -> Result<Heard, Memory>
-        ensures ok { IfOk result (λ heard. heard ≡ heard_of (session_next users.now nonce clock self.old).0) }
-        ensures session { IfOk result (λ heard. self.new ≡ (session_next users.now nonce clock self.old).1) }
-        ensures out { OnOk result (out.new.items ≡ added out.old.items (session_next users.now nonce clock self.old).0) }
-        ensures cut { OnErr result (out.new.items ≡ out.old.items) }
-        ensures err { OnErr result (self.new.stage ≡ stages.Closed) }
+        ensures { Makes (session_next users.now nonce clock self.old) result self.new out.old out.new }
     {
         match mem::replace(&mut self.stage, Stage::Closed) {
             Stage::Opening => opening(&self.user, &mut self.stage, out),
@@ -138,25 +134,19 @@ impl Session {
         out: &mut Vec<u8>,
     ) -> Result<Heard, Memory>
         requires { self.old.stage ≡ stages.Closed }
-        ensures ok { IfOk result (λ heard. heard ≡ heard_of (session.heard_at self.old nonce clock).0) }
-        ensures session { IfOk result (λ heard. self.new ≡ (session.heard_at self.old nonce clock).1) }
-        ensures out { OnOk result (out.new.items ≡ added out.old.items (session.heard_at self.old nonce clock).0) }
-        ensures cut { OnErr result (out.new.items ≡ out.old.items) }
-        ensures err { OnErr result (self.new.stage ≡ stages.Closed) }
+        ensures { Makes (heard_at self.old nonce clock) result self.new out.old out.new }
     {
         let Ok(lexed) = self.lexer.next(Mode::Command) else {
             return Err(Memory);
         };
-        let came = heard(
-            self.alloc,
-            &self.host,
-            &self.user,
+        let listener = Listener {
+            alloc: self.alloc,
+            host: &self.host,
+            user: &self.user,
             nonce,
             clock,
-            &lexed,
-            &mut self.stage,
-            out,
-        );
+        };
+        let came = heard(&listener, &lexed, &mut self.stage, out);
         hand_back(&mut self.lexer, lexed);
         came
     }
@@ -170,11 +160,7 @@ impl Session {
         out: &mut Vec<u8>,
     ) -> Result<Heard, Memory>
         requires { self.old.stage ≡ stages.Closed }
-        ensures ok { IfOk result (λ heard. heard ≡ heard_of (session.answer_at users.now tag challenge self.old).0) }
-        ensures session { IfOk result (λ heard. self.new ≡ (session.answer_at users.now tag challenge self.old).1) }
-        ensures out { OnOk result (out.new.items ≡ added out.old.items (session.answer_at users.now tag challenge self.old).0) }
-        ensures cut { OnErr result (out.new.items ≡ out.old.items) }
-        ensures err { OnErr result (self.new.stage ≡ stages.Closed) }
+        ensures { Makes (answer_at users.now tag challenge self.old) result self.new out.old out.new }
     {
         let Ok(lexed) = self.lexer.next(Mode::Answer) else {
             return Err(Memory);
@@ -198,17 +184,13 @@ impl Session {
 
     /// The same, where the octets that are said are added to those that are lent.
     #[tactic(auto, unfolding(crate::specs::Session::answered))]
-    pub(crate) fn reply(
+    pub fn reply(
         &mut self,
         outcome: Result<Reply, Fault>,
         out: &mut Vec<u8>,
     ) -> Result<Heard, Memory>
         requires { is_asked self.old.stage ≡ true }
-        ensures ok { IfOk result (λ heard. heard ≡ heard_of (answered self.old outcome).0) }
-        ensures session { IfOk result (λ heard. self.new ≡ (answered self.old outcome).1) }
-        ensures out { OnOk result (out.new.items ≡ added out.old.items (answered self.old outcome).0) }
-        ensures cut { OnErr result (out.new.items ≡ out.old.items) }
-        ensures err { OnErr result (self.new.stage ≡ stages.Closed) }
+        ensures { Makes (answered self.old outcome) result self.new out.old out.new }
     {
         let stage = mem::replace(&mut self.stage, Stage::Closed);
         answered(stage, &mut self.user, outcome, &mut self.stage, out)
@@ -228,7 +210,7 @@ impl Session {
 
     /// Whether what is pending may be asked for, which is then awaited. Takes no memory.
     #[tactic(auto, unfolding(crate::specs::Session::session_drain))]
-    pub(crate) fn begin_drain(&mut self) -> bool
+    pub fn begin_drain(&mut self) -> bool
         ensures { (drain_in result, self.new) ≡ session_drain self.old }
     {
         match (&self.stage, &self.user) {
@@ -241,14 +223,14 @@ impl Session {
     }
 
     /// What is pending is awaited no longer.
-    pub(crate) fn end_drain(&mut self)
+    pub fn end_drain(&mut self)
         ensures { self.new ≡ record self.old { stage = stages.Ready } }
     {
         self.stage = Stage::Ready;
     }
 
     /// Whether its user has its seat in the machine.
-    pub(crate) fn has_seat(&self) -> bool
+    pub fn has_seat(&self) -> bool
         ensures { result ≡ has_seat self.now }
     {
         match self.stage {
@@ -265,7 +247,7 @@ impl Session {
     }
 
     /// Ends it without a word.
-    pub(crate) fn close(&mut self)
+    pub fn close(&mut self)
         ensures { self.new ≡ record self.old { stage = stages.Closed } }
     {
         self.stage = Stage::Closed;

@@ -1,0 +1,6 @@
+pub mod Examples
+pub mod Hearing
+pub mod Listening
+pub mod Saying
+pub mod Session
+pub mod Talking

@@ -1,0 +1,44 @@
+-- How what is next is told by functions that are lent a vector: its octets are added to it, and all else is told apart.
+use Rattle.std.specs.Prelude.{◌≡◌, ℕ, Vec, List, ◌++◌, Result, Ok, Err}
+use Rattle.std.specs.declared.alloc.Global.{Global}
+use Rattle.acap_entries.specs.declared.memory.Memory.{Memory}
+use Rattle.acap_dialogue.specs.declared.heard.Heard.{Heard}
+use Rattle.acap_dialogue.specs.declared.heard.Heard.TheVariants as heard
+use Rattle.acap_dialogue.specs.declared.next.Next.{Next}
+use Rattle.acap_dialogue.specs.declared.next.Next.TheVariants as next
+use Rattle.acap_dialogue.specs.declared.stage.Stage.{Stage}
+use Rattle.acap_dialogue.specs.declared.stage.Stage.TheVariants as stage
+use Rattle.acap_dialogue.specs.Talking.{Talking}
+
+-- octets with those behind them that are said
+abbrev pub added : List ℕ → Next → List ℕ
+added out next.More = out
+added out (next.Say octets) = out ++ octets
+added out (next.Ask event) = out
+added out (next.Close octets) = out ++ octets
+
+abbrev pub heard_of : Next → Heard
+heard_of next.More = heard.More
+heard_of (next.Say octets) = heard.Said
+heard_of (next.Ask event) = heard.Asks event
+heard_of (next.Close octets) = heard.Closes
+
+-- the same as one, the octets being those that are said
+abbrev pub next_of : Heard → List ℕ → Next
+next_of heard.More octets = next.More
+next_of heard.Said octets = next.Say octets
+next_of (heard.Asks event) octets = next.Ask event
+next_of heard.Closes octets = next.Close octets
+
+-- ---- words of the contracts
+
+-- What a call makes of a stage and of the octets to be written: what is next is told, and where memory was refused
+-- both are as before.
+abbrev pub Hears : Next × Stage → Result Heard Memory → Stage → Stage → Vec ℕ Global → Vec ℕ Global → Type 0
+Hears turn (Ok told) before after out written = (told ≡ heard_of turn.0) × (after ≡ turn.1) × (written.items ≡ added out.items turn.0)
+Hears turn (Err memory) before after out written = (after ≡ before) × (written.items ≡ out.items)
+
+-- What a call makes of a session: where memory was refused it is closed without a word.
+abbrev pub Makes : Next × Talking → Result Heard Memory → Talking → Vec ℕ Global → Vec ℕ Global → Type 0
+Makes turn (Ok told) after out written = (told ≡ heard_of turn.0) × (after ≡ turn.1) × (written.items ≡ added out.items turn.0)
+Makes turn (Err memory) after out written = (after.stage ≡ stage.Closed) × (written.items ≡ out.items)

@@ -1,5 +1,0 @@
-use Rattle.acap_session.proofs.Computing as computing
-use Rattle.acap_session.proofs.laws.hearing_examples.Goals as goal
-
-pub returns : goal.returns
-returns c = computing.hearing_examples

@@ -1,6 +1,0 @@
-use Rattle.acap_session.proofs.Speaking.{awaits, awaits_as}
-use Rattle.acap_session.proofs.session.Session.next.Goals as goal
-
-pub returns-clause-asked : goal.returns-clause-asked
-returns-clause-asked c =
-    awaits_as _ c.in_ok-heard.heard c.hear.new.out.items c.hear.new.self c.next_of.result (awaits c.args.users.now c.args.nonce c.args.clock c.args.self.now) c.in_ok-heard.ensures.ok c.in_ok-heard.ensures.session c.next_of.ensures
