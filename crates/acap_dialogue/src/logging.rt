@@ -10,6 +10,7 @@ use crate::hearing::{closes, continues, says};
 use crate::stage::Stage;
 use acap_entries::{Copying, Memory, Octets, UserName};
 use acap_commands::{Event, Refusal, Said};
+use acap_grammar::lexical_refusal;
 use acap_lexer::{Kind, Lexed, Tokens};
 use acap_login::{Users, check};
 
