@@ -6,9 +6,9 @@ ghost use Rattle.acap_grammar.specs.Replies.{row_form, rows_form, last_form, don
 
 use crate::codes::append_code;
 use crate::data::append_items;
-use acap_commands::{Refusal, Reply, Said, SearchReply, Status, Verb};
 use crate::refusing::text_of;
 use crate::strings::{append_spaced, append_string};
+use acap_commands::{Refusal, Reply, Said, SearchReply, Status, Verb};
 use acap_entries::{Memory, Moment, Octets, Row, Value, stamp};
 
 #[tactic(auto, unfolding(crate::specs::Replies::row_form))]

@@ -1,7 +1,7 @@
 //! The lists of which runs are made.
 
-use acap_commands::{Fault, Reply};
 use crate::step::Step;
+use acap_commands::{Fault, Reply};
 use acap_entries::Sequence;
 
 /// Steps of a machine, in their order.

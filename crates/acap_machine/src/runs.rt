@@ -2,10 +2,10 @@
 ghost use Rattle.std.specs.Prelude.{◌≡◌, IfOk, OnErr};
 ghost use Rattle.acap_machine.specs.Runs.{HasStopped, run_of, stepped_at, outcome_of, machine_after};
 
-use acap_commands::{Fault, Reply};
 use crate::lists::{Outcomes, Steps};
 use crate::state::State;
 use crate::step::Step;
+use acap_commands::{Fault, Reply};
 use acap_entries::Memory;
 use std::alloc::Global;
 

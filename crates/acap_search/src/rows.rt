@@ -8,11 +8,11 @@ ghost use Rattle.acap_search.specs.Sight as sight;
 
 use crate::looking::{is_nil, look_at, read_at};
 use crate::spot::Spot;
+use acap_commands::{Metadata, ReturnItem, ReturnName};
 use acap_entries::{
     Attribute, Cell, CellList, CellLists, Cells, Copying, Item, Items, Memory, Records, Table,
     Value, Values,
 };
-use acap_commands::{Metadata, ReturnItem, ReturnName};
 use acap_inherit::Lent;
 use std::alloc::Global;
 

@@ -21,10 +21,10 @@ use crate::refusal::SearchRefusal;
 use crate::spot::Spot;
 use crate::tuples::hit_at;
 use crate::viewer::Viewer;
+use acap_commands::{Key, Node, Test};
 use acap_entries::{
     Dataset, Memory, NameFault, Path, Record, Records, Tree, UserName, makes_dataset,
 };
-use acap_commands::{Key, Node, Test};
 use acap_inherit::{chain, names_on};
 use acap_rights::{Realm, Rights};
 use std::alloc::Global;

@@ -16,8 +16,8 @@ use crate::ranking::places_of;
 use crate::rows::items_at;
 use crate::spot::Spot;
 use crate::viewer::Viewer;
-use acap_entries::{Copying, EntryName, Items, Memory, Octets, Path, Records, Row, Value};
 use acap_commands::{Returns, SortItems};
+use acap_entries::{Copying, EntryName, Items, Memory, Octets, Path, Records, Row, Value};
 use std::alloc::Global;
 
 // The name of an entry as it is told.

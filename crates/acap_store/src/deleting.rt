@@ -8,11 +8,11 @@ ghost use Rattle.acap_store.specs.Planning.{IsAnswer};
 use crate::forms::exists_at;
 use crate::overlay::Overlay;
 use crate::writing::ends;
+use acap_commands::{Refusal, StoreEntry};
 use acap_entries::{
     Attribute, Cell, Cells, Copying, Dataset, Deletion, Memory, Moment, Paths, Tree, UserName,
     Value, Values, Writes,
 };
-use acap_commands::{Refusal, StoreEntry};
 use acap_rights::{Object, Realm, rights_of};
 use std::alloc::Global;
 

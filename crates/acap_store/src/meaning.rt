@@ -8,10 +8,12 @@ ghost use Rattle.acap_store.specs.Meaning as rule;
 use crate::meant::Meant;
 use crate::objects::{lent_object, object_for};
 use crate::write::Write;
+use acap_commands::{
+    Entries, Given, Object, StoreEntry, StoreItem, StoreItems, StoreMetadata, StoreModifiers,
+};
 use acap_entries::{
     Attribute, Cell, Copying, Dataset, EntryName, Memory, Path, Tree, UserName, Value,
 };
-use acap_commands::{Entries, Given, Object, StoreEntry, StoreItem, StoreItems, StoreMetadata, StoreModifiers};
 use acap_rights::{Acl, decided_list, list_attribute};
 use std::alloc::Global;
 

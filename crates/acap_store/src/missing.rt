@@ -6,10 +6,10 @@ ghost use Rattle.acap_entries.specs.declared.cell.Cell.TheVariants as cell;
 ghost use Rattle.acap_store.specs.Writing as writing;
 
 use crate::records::{acls_of, cells_of, renewed};
+use acap_commands::StoreEntry;
 use acap_entries::{
     Attribute, Boxed, Cell, Fate, Memory, Moment, Path, Tree, Value, Values, Writes, own_entry_of,
 };
-use acap_commands::StoreEntry;
 use std::alloc::Global;
 
 // The list of the one string `.`.

@@ -7,8 +7,8 @@ ghost use Rattle.acap_store.specs.Permission as rule;
 ghost use Rattle.acap_store.specs.Sharing.{HasNoLists, AreShared};
 
 use crate::forms::{exists_at, is_management, is_nil_at, is_value};
-use acap_entries::{Attribute, Boxed, Copying, EntryName, Memory, Path, Tree, UserName};
 use acap_commands::{Refusal, StoreEntry, StoreItem};
+use acap_entries::{Attribute, Boxed, Copying, EntryName, Memory, Path, Tree, UserName};
 use acap_rights::{Object, Realm, Rights, object_of_list, rights_of, shared_rights};
 use std::alloc::Global;
 
