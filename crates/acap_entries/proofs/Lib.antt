@@ -5,6 +5,7 @@ pub mod MapLemmas
 pub mod NameLemmas
 pub mod StoreLemmas
 pub mod StoreLaws
+pub mod AfterLemmas
 pub mod RangeLemmas
 pub mod StampLemmas
 pub mod CivilLemmas

@@ -1,6 +1,7 @@
 //! Names, values, records, moments and the tree of an ACAP dataset server (RFC 2244 sections 2 and 3).
 #![tactic(auto)]
 
+mod after;
 mod applying;
 mod boxed;
 mod cell;
@@ -37,12 +38,14 @@ mod seats;
 mod sequence;
 mod sorted;
 mod stamps;
+mod steps;
 mod table;
 mod text;
 mod times;
 mod tree;
 mod writes;
 
+pub use after::After;
 pub use boxed::Boxed;
 pub use cell::Cell;
 pub use change::Change;
@@ -77,6 +80,7 @@ pub use seat::Seat;
 pub use seats::Seats;
 pub use sequence::Sequence;
 pub use stamps::{civil_of, stamp};
+pub use steps::Steps;
 pub use table::{Acls, Cells, Table};
 pub use text::{Attribute, ContextName, EntryName, Kind, Text, UserName, Value};
 pub use times::read_time;
