@@ -1,5 +1,6 @@
 pub mod SortedLemmas
 pub mod LeafLemmas
+pub mod RankLemmas
 pub mod Halves
 pub mod MapLemmas
 pub mod NameLemmas

@@ -64,11 +64,17 @@ module _ {K X : Type 0} (R : K → K → Ordering) where
   put_in_tied k v es d e = put_tied k v es d e
 
   module _ (o : IsTotalOrder R) where
-    lower : (k l : K) (es : List (K × X)) → R k l ≡ Less → T (below_all R l es) → T (below_all R k es)
+    pub lower : (k l : K) (es : List (K × X)) → R k l ≡ Less → T (below_all R l es) → T (below_all R k es)
     lower k l [] p h = tt
     lower k l (x ∷ es) p h =
         let less : R k x.0 ≡ Less = o.trans k l x.0 p (is_less _ (first _ _ h)) in
         rw less (lower k l es p (second _ _ h))
+
+    pub lower_equal : (k l : K) (es : List (K × X)) → R k l ≡ Equal → T (below_all R l es) → T (below_all R k es)
+    lower_equal k l [] p h = tt
+    lower_equal k l (x ∷ es) p h =
+        let less : R k x.0 ≡ Less = o.congr k l x.0 p ∙ is_less _ (first _ _ h) in
+        rw less (lower_equal k l es p (second _ _ h))
 
     -- a key below the first adds nothing to ask for
     rises_on : (x y : K × X) (es : List (K × X)) → R x.0 y.0 ≡ Less → is_sorted R (x ∷ y ∷ es) ≡ is_sorted R (y ∷ es)

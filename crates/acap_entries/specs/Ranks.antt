@@ -1,10 +1,14 @@
 -- Lists of items in their own order: which one ties with a key, how many stand before it, and edits.
-use Rattle.std.specs.Prelude.{ℕ, not, List, [], ◌∷◌, Option, AllPairs, ◌≡◌}
+use Rattle.std.specs.Prelude.{ℕ, not, map, List, [], ◌∷◌, Option, AllPairs, ◌≡◌}
 use Rattle.std.specs.declared.cmp.Ordering.{Ordering}
 use Rattle.std.specs.declared.cmp.Ordering.TheVariants.{Less}
 use Rattle.std.specs.Ordering.{eq_by_cmp, is_lt}
 use Rattle.std.specs.List as list
 use Rattle.std.specs.FinMap.Entries.{by_order}
+
+-- items with nothing beside them
+abbrev pub units : {T : Type 0} → List T → List (T × Unit {0})
+units xs = map (λ x. (x, tt)) xs
 
 module _ {T : Type 0} (R : T → T → Ordering) where
   -- each item is less than all that follow it
