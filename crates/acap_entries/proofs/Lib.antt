@@ -1,6 +1,7 @@
 pub mod SortedLemmas
 pub mod LeafLemmas
 pub mod RankLemmas
+pub mod RankLaws
 pub mod Halves
 pub mod MapLemmas
 pub mod NameLemmas

@@ -63,7 +63,7 @@ pub use keys::{AttributeText, JoinedText, PathText, Probe, Whole};
 pub use laws::{
     after_law, change_law, dataset_examples, deletion_law, existence_law, full_path_law,
     home_examples, moment_examples, name_examples, own_entry_law, path_examples, path_law,
-    removal_law, stamp_examples, stamp_law, time_examples, time_law, two_changes_law,
+    rank_law, removal_law, stamp_examples, stamp_law, time_examples, time_law, two_changes_law,
 };
 pub use listing::Listing;
 pub use lists::{CellList, CellLists, Items, Paths, Values};
