@@ -24,3 +24,5 @@ pub mod RecordEquality
 pub mod WordLemmas
 pub mod PlainNames
 pub mod OwnLaws
+pub mod FormLemmas
+pub mod Formed

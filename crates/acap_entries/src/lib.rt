@@ -61,7 +61,7 @@ pub use fate::Fate;
 pub use item::Item;
 pub use keys::{AttributeText, JoinedText, PathText, Probe, Whole};
 pub use laws::{
-    after_law, change_law, dataset_examples, deletion_law, existence_law, full_path_law,
+    after_law, change_law, dataset_examples, deletion_law, existence_law, form_law, full_path_law,
     home_examples, moment_examples, name_examples, own_entry_law, path_examples, path_law,
     rank_law, removal_law, stamp_examples, stamp_law, time_examples, time_law, two_changes_law,
 };
@@ -87,7 +87,7 @@ pub use sequence::Sequence;
 pub use stamps::{civil_of, stamp};
 pub use steps::Steps;
 pub use table::{Acls, Cells, Table};
-pub use text::{Attribute, ContextName, EntryName, Kind, Text, UserName, Value};
+pub use text::{AnyOctets, Attribute, ContextName, EntryName, Kind, Named, Text, UserName, Value};
 pub use times::read_time;
 pub use tree::Tree;
 pub use writes::Writes;

@@ -67,7 +67,7 @@ fn sorting(alloc: Global) -> Result<SortItems, Memory> {
 }
 
 fn user(alloc: Global) -> Result<UserName, Memory> {
-    UserName::from_slice(alloc, b"joe")
+    UserName::read(alloc, b"joe").map_err(|_| Memory)
 }
 
 // What joe searches for: all entries by `k`, whose value is told.

@@ -186,9 +186,12 @@ pub(crate) fn look_at<'a, R: Records>(spot: &Spot<'a, R>, attribute: &[u8]) -> S
     if let Some(entry) = spot.entry
         && !has_list(entry, attribute)
     {
-        return shown_by(own_value(entry, spot.name, attribute), spot.rights);
+        return shown_by(
+            own_value(entry, spot.name.as_slice(), attribute),
+            spot.rights,
+        );
     }
-    look(spot.by, spot.name, attribute)
+    look(spot.by, spot.name.as_slice(), attribute)
 }
 
 /// What a user may read of an attribute of an entry that is looked at.
@@ -198,9 +201,12 @@ pub(crate) fn read_at<'a, R: Records>(spot: &Spot<'a, R>, attribute: &[u8]) -> O
     if let Some(entry) = spot.entry
         && !has_list(entry, attribute)
     {
-        return seen_if(own_value(entry, spot.name, attribute), spot.rights.r);
+        return seen_if(
+            own_value(entry, spot.name.as_slice(), attribute),
+            spot.rights.r,
+        );
     }
-    look(spot.by, spot.name, attribute).read
+    look(spot.by, spot.name.as_slice(), attribute).read
 }
 
 /// Whether the user sees an entry that is looked at.

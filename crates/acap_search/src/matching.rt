@@ -123,7 +123,7 @@ pub(crate) fn wants<R: Records>(spot: &Spot<'_, R>, key: &Key, place: Option<u32
 /// the context that is searched, and none over a dataset; RANGE asks for it, and is false where there is none. Takes no memory.
 pub fn matches<'a, R: Records>(
     by: &Viewer<'a, R>,
-    name: &'a [u8],
+    name: &'a EntryName,
     key: &Key,
     place: Option<u32>,
 ) -> bool

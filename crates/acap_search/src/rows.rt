@@ -63,7 +63,11 @@ fn value_of(alloc: Global, value: Option<Lent<'_>>) -> Result<Cell, Memory>
 fn acl_of<R: Records>(spot: &Spot<'_, R>, attribute: &[u8]) -> Result<Cell, Memory>
     ensures { IfOk result (λ cell. cell ≡ rule.list_cell (sight.own_acl (R.store spot.now.by.now.records.now).records spot.now.by.now.dataset.now spot.now.name.now attribute.now)) }
 {
-    match spot.by.records.find(spot.by.dataset.as_slice(), spot.name) {
+    match spot
+        .by
+        .records
+        .find(spot.by.dataset.as_slice(), spot.name.as_slice())
+    {
         Some(record) => match record.acls.find(attribute) {
             Some(list) => Ok(Cell::Multi(list.copy()?)),
             None => Ok(Cell::Nil),
@@ -164,7 +168,7 @@ fn add_record_stars<R: Records>(
 ) -> Result<(), Memory>
     ensures { OnOk result (stars.new ≡ rule.stars_from (sight.answers_at (R.store spot.now.by.now.records.now).records spot.now.by.now.realm.now spot.now.by.now.user.now spot.now.by.now.dataset.now spot.now.by.now.chain spot.now.name.now).read front.now (rule.attributes_in (record_at (R.store spot.now.by.now.records.now).records dataset.now spot.now.name.now)) stars.old) }
 {
-    match spot.by.records.find(dataset, spot.name) {
+    match spot.by.records.find(dataset, spot.name.as_slice()) {
         Some(record) => add_stars(alloc, spot, front, &record.cells, stars),
         None => Ok(()),
     }

@@ -1,10 +1,8 @@
 //! Searches over datasets.
-ghost use Rattle.std.specs.Prelude.{◌≡◌, ◌↔◌, ◌++◌, IsTrue, IfOk, OnOk, Err, Some, None, false, drop, length, flat_map, ◌∷◌, []};
+ghost use Rattle.std.specs.Prelude.{◌≡◌, ◌↔◌, ◌++◌, IsTrue, IfOk, OnOk, Err, Some, None, false, drop, length, flat_map};
 ghost use Rattle.std.specs.List.{filter_map};
 ghost use Rattle.std.specs.Option.{option_map_or};
 ghost use Rattle.acap_entries.specs.Datasets.{dataset_exists};
-ghost use Rattle.acap_entries.specs.FullPaths.{full_path};
-ghost use Rattle.acap_entries.specs.Names.{slash};
 ghost use Rattle.acap_inherit.specs.EntryNames as names;
 ghost use Rattle.acap_search.specs.Fresh as rule;
 ghost use Rattle.acap_search.specs.Near as near;
@@ -22,9 +20,7 @@ use crate::spot::Spot;
 use crate::tuples::hit_at;
 use crate::viewer::Viewer;
 use acap_commands::{Key, Node, Test};
-use acap_entries::{
-    Dataset, Memory, NameFault, Path, Record, Records, Tree, UserName, makes_dataset,
-};
+use acap_entries::{Dataset, Memory, Path, Record, Records, Tree, UserName, makes_dataset};
 use acap_inherit::{chain, names_on};
 use acap_rights::{Realm, Rights};
 use std::alloc::Global;
@@ -86,20 +82,6 @@ fn is_reached(depth: u32, level: usize) -> bool
     depth == 0 || level < depth as usize - 1
 }
 
-// The dataset that a path with a closing `/` names.
-fn dataset_at(alloc: Global, path: &Path) -> Result<Dataset, Memory>
-    ensures { IfOk result (λ made. made ≡ full_path path.now ++ slash ∷ []) }
-{
-    let mut octets = Vec::from_slice(alloc, path.dataset.as_slice())?;
-    octets.extend_from_slice(path.name.as_slice())?;
-    octets.push(b'/')?;
-    match Dataset::from_slice(alloc, octets.as_slice()) {
-        Ok(dataset) => Ok(dataset),
-        Err(NameFault::Memory) => Err(Memory),
-        Err(NameFault::BadName) => unreachable!(),
-    }
-}
-
 // Whether that is the name of one component.
 fn is_component_name(name: &[u8]) -> bool
     ensures { result ≡ scopes.is_component_name name.now }
@@ -108,11 +90,11 @@ fn is_component_name(name: &[u8]) -> bool
 }
 
 // The dataset that an entry makes, if it makes one.
-fn made_by(alloc: Global, path: &Path, entry: &Record) -> Result<Option<Dataset>, Memory>
+fn made_by(path: &Path, entry: &Record) -> Result<Option<Dataset>, Memory>
     ensures { IfOk result (λ made. made ≡ scopes.made_by (path.now, entry.now)) }
 {
     if makes_dataset(entry) && is_component_name(path.name.as_slice()) {
-        Ok(Some(dataset_at(alloc, path)?))
+        Ok(Some(path.dataset.beneath(&path.name)?))
     } else {
         Ok(None)
     }
@@ -120,7 +102,6 @@ fn made_by(alloc: Global, path: &Path, entry: &Record) -> Result<Option<Dataset>
 
 // The dataset that an entry beneath the searched one makes, if it is reached.
 fn reached_by(
-    alloc: Global,
     dataset: &Dataset,
     depth: u32,
     path: &Path,
@@ -130,7 +111,7 @@ fn reached_by(
 {
     let further = behind(path.dataset.as_slice(), dataset.as_slice().len());
     if is_reached(depth, levels(further)) {
-        made_by(alloc, path, entry)
+        made_by(path, entry)
     } else {
         Ok(None)
     }
@@ -150,7 +131,7 @@ fn add_own_hits<'a>(
     for (path, entry) in by.records.entries_of(by.dataset.as_slice()) {
         let spot = Spot {
             by,
-            name: path.name.as_slice(),
+            name: &path.name,
             entry: Some(entry),
             rights,
         };
@@ -172,7 +153,12 @@ pub(crate) fn add_far_hits(
 {
     let management = by.records.find(by.dataset.as_slice(), b"");
     for name in names_on(by.records, &by.chain) {
-        let near = Near::new(by.records, by.dataset.as_slice(), name, management);
+        let near = Near::new(
+            by.records,
+            by.dataset.as_slice(),
+            name.as_slice(),
+            management,
+        );
         let nearer = Viewer {
             records: &near,
             realm: by.realm,
@@ -222,7 +208,7 @@ fn add_reached(
 ) -> Result<(), Memory>
     ensures { OnOk result (hits.new.items ≡ hits.old.items ++ walks.hits_by search.now.tree.now.store.records search.now.realm.now search.now.user.now search.now.sought.now depth (path.now, entry.now)) }
 {
-    match reached_by(alloc, &search.sought.dataset, depth, path, entry)? {
+    match reached_by(&search.sought.dataset, depth, path, entry)? {
         Some(dataset) => add_hits(alloc, search, &dataset, hits),
         None => Ok(()),
     }

@@ -55,7 +55,7 @@ fn add_own_rows<'a>(
     for (path, entry) in by.records.entries_of(by.dataset.as_slice()) {
         let spot = Spot {
             by,
-            name: path.name.as_slice(),
+            name: &path.name,
             entry: Some(entry),
             rights,
         };

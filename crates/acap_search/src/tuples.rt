@@ -70,7 +70,12 @@ fn items_by<R: Records>(
 fn told_of<R: Records>(alloc: Global, spot: &Spot<'_, R>, sought: &Sought) -> Result<Row, Memory>
     ensures { IfOk result (λ told. told ≡ (rule.match_of sought.now (record { dataset = spot.now.by.now.dataset.now; name = spot.now.name.now }) (sight.answers_at (R.store spot.now.by.now.records.now).records spot.now.by.now.realm.now spot.now.by.now.user.now spot.now.by.now.dataset.now spot.now.by.now.chain spot.now.name.now) (row.stars_of (sight.answers_at (R.store spot.now.by.now.records.now).records spot.now.by.now.realm.now spot.now.by.now.user.now spot.now.by.now.dataset.now spot.now.by.now.chain spot.now.name.now).read (row.attributes_at (R.store spot.now.by.now.records.now).records spot.now.name.now spot.now.by.now.chain))).row) }
 {
-    let name = name_told(alloc, sought.depth, spot.by.dataset.as_slice(), spot.name)?;
+    let name = name_told(
+        alloc,
+        sought.depth,
+        spot.by.dataset.as_slice(),
+        spot.name.as_slice(),
+    )?;
     let items = items_by(alloc, spot, sought.returns.as_ref())?;
     Ok(Row { name, items })
 }
@@ -80,7 +85,7 @@ fn hit_of<R: Records>(alloc: Global, spot: &Spot<'_, R>, sought: &Sought) -> Res
     ensures { IfOk result (λ hit. hit ≡ rule.match_of sought.now (record { dataset = spot.now.by.now.dataset.now; name = spot.now.name.now }) (sight.answers_at (R.store spot.now.by.now.records.now).records spot.now.by.now.realm.now spot.now.by.now.user.now spot.now.by.now.dataset.now spot.now.by.now.chain spot.now.name.now) (row.stars_of (sight.answers_at (R.store spot.now.by.now.records.now).records spot.now.by.now.realm.now spot.now.by.now.user.now spot.now.by.now.dataset.now spot.now.by.now.chain spot.now.name.now).read (row.attributes_at (R.store spot.now.by.now.records.now).records spot.now.name.now spot.now.by.now.chain))) }
 {
     let dataset = spot.by.dataset.copy()?;
-    let name = EntryName::from_slice(alloc, spot.name)?;
+    let name = spot.name.copy()?;
     let places = places_by(alloc, spot, sought.sort.as_ref())?;
     let row = told_of(alloc, spot, sought)?;
     Ok(Hit {
@@ -133,7 +138,7 @@ pub(crate) fn row_at<R: Records>(
 pub fn row_of<'a, R: Records>(
     alloc: Global,
     by: &Viewer<'a, R>,
-    name: &'a [u8],
+    name: &'a EntryName,
     sought: &Sought,
     place: Option<u32>,
 ) -> Result<Option<Hit>, Memory>

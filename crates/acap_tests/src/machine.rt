@@ -47,7 +47,8 @@ fn command_of(alloc: Global, line: &[u8]) -> Result<Command, GrammarError> {
 // The event of a text: `enter` and a user's name, `drain`, `leave`, or a command's line.
 fn event_of(alloc: Global, text: &[u8]) -> Result<Event, Fault> {
     if let Some(user) = text.strip_prefix(b"enter ") {
-        return Ok(Event::Enter(UserName::from_slice(alloc, user)?));
+        let user = UserName::read(alloc, user).map_err(|_| Fault::Memory)?;
+        return Ok(Event::Enter(user));
     }
     if text == b"drain".as_slice() {
         return Ok(Event::Drain);
