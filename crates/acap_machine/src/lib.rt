@@ -15,7 +15,7 @@ pub mod step;
 
 pub use event::Event;
 pub use fault::Fault;
-pub use lists::{Outcomes, Steps};
+pub use lists::{Outcomes, StepList};
 pub use occupant::Occupant;
 pub use runs::run;
 pub use state::State;

@@ -6,7 +6,7 @@ use acap_entries::Sequence;
 use acap_grammar::Reply;
 
 /// Steps of a machine, in their order.
-pub type Steps = Sequence<Step>;
+pub type StepList = Sequence<Step>;
 
 /// What steps answered, in their order.
 pub type Outcomes = Sequence<Result<Reply, Fault>>;
