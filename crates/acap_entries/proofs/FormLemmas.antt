@@ -154,6 +154,9 @@ closed_parts d e = both (is_dataset d) (ends_with slash d) e
 pub closed_ends : (d : List ℕ) → is_closed_dataset d ≡ true → ends_with slash d ≡ true
 closed_ends d e = (closed_parts d e).1
 
+pub closed_begins : (d : List ℕ) → is_closed_dataset d ≡ true → begins_with slash d ≡ true
+closed_begins d e = (both (begins_with slash d) (list_all is_component (components d)) (closed_parts d e).0).0
+
 -- what stands behind the first slash of a dataset with its closing slash: nothing, or octets closed by a slash
 closed_is : (b : List ℕ) → is_closed_dataset (slash ∷ b) ≡ (steps b && ends_with slash (slash ∷ b))
 unfolding is_closed_dataset components steps but_last all_parts

@@ -28,7 +28,7 @@ ties Greater e = cc
 same_path : (p q : Path) → eq_by_cmp path_cmp p q ≡ true → p ≡ q
 same_path p q e = path_same p q (ties _ e)
 
-formed : (p : Path) → is_well_formed p ≡ true → IsWellFormed p
+pub formed : (p : Path) → is_well_formed p ≡ true → IsWellFormed p
 formed p e = let parts = both _ _ e in record { dataset = parts.0; name = parts.1 }
 
 find_formed : {X : Type 0} (es : List (Path × X)) (p : Path) (x : X) → list_all (λ e. is_well_formed e.0) es ≡ true → find path_cmp p es ≡ Some x → IsWellFormed p

@@ -67,9 +67,12 @@ OwnEntryLaw = (dataset : List ℕ) (p : Path) → (own_entry dataset ≡ Some (p
 -- a well-formed path is split where it should be
 pub record FormLaw : Type 0 where
   pub split : (p : Path) → IsWellFormed p → IsSplit p
-  pub own : (dataset : List ℕ) (p : Path) → is_closed_dataset dataset ≡ true → own_entry dataset ≡ Some (p.dataset, p.name) → IsWellFormed p × (is_component p.name ≡ true)
-  pub beneath : (dataset name : List ℕ) → is_closed_dataset dataset ≡ true → is_component name ≡ true → is_closed_dataset (dataset ++ name ++ slash ∷ []) ≡ true
-  pub meant : (user dataset : List ℕ) → is_user_name user ≡ true → is_closed_dataset dataset ≡ true → is_closed_dataset (for_user user dataset) ≡ true
+  pub own : (dataset : List ℕ) (p : Path) → is_closed_dataset dataset ≡ true → own_entry dataset ≡ Some (p.dataset, p.name)
+      → IsWellFormed p × (is_component p.name ≡ true)
+  pub beneath : (dataset name : List ℕ) → is_closed_dataset dataset ≡ true → is_component name ≡ true
+      → is_closed_dataset (dataset ++ name ++ slash ∷ []) ≡ true
+  pub meant : (user dataset : List ℕ) → is_user_name user ≡ true → is_closed_dataset dataset ≡ true
+      → is_closed_dataset (for_user user dataset) ≡ true
 
 -- the moment of a change is the clock's where that is later than the last one, else the next, and there is none after the
 -- last of all moments
@@ -172,6 +175,11 @@ pub record DatasetExamples : Type 0 where
   pub nothing : is_dataset_argument [] ≡ false
   pub doubled : is_dataset_argument (codes "//") ≡ false
   pub dotted : is_dataset_argument (codes "/.option/") ≡ false
+  pub kept : is_closed_dataset (codes "/option/user/") ≡ true
+  pub kept_root : is_closed_dataset (codes "/") ≡ true
+  pub kept_open : is_closed_dataset (codes "/option") ≡ false
+  pub kept_doubled : is_closed_dataset (codes "/option//") ≡ false
+  pub kept_dotted : is_closed_dataset (codes "/.option/") ≡ false
 
 pub record NameExamples : Type 0 where
   pub attribute : is_attribute (codes "option.value") ≡ true
