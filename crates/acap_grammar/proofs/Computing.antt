@@ -7,6 +7,7 @@ use Rattle.acap_lexer.specs.Octets.{is_escaped}
 use Rattle.acap_lexer.specs.Printing.{printed, literal, quoted, may_quote, is_printable}
 use Rattle.acap_lexer.specs.Reading.{count_of, is_count}
 use Rattle.acap_entries.specs.Names.{is_path, is_attribute, is_dataset_argument, is_context_name, is_component, components, dataset_of, name_of}
+use Rattle.acap_entries.specs.Stamp.{stamp_of}
 use Rattle.acap_entries.specs.Times.{is_civil, is_time, time_of}
 use Rattle.acap_grammar.specs.Several.{several, some_of, enclosed}
 use Rattle.acap_grammar.specs.Marks.{ends, starts, behind, string_at, word_at, behind_word}
@@ -17,7 +18,7 @@ use Rattle.acap_grammar.specs.Keys.{value_part, meets_at, range_at, key_at, key_
 use Rattle.acap_grammar.specs.Searching.{return_named, metadata_at, metadata_part, return_at, returns_at, sort_at, sorts_at, limit_at, flag_at, make_context_at, modified, modifier_at, no_modifier, modifiers_at, search_at}
 use Rattle.acap_grammar.specs.Grammar.{set_acl_at, delete_acl_at, list_rights_at, deleted_since_at, context_at, contexts_at, arguments_at, command_of}
 use Rattle.acap_grammar.specs.Refusals.{code_of}
-use Rattle.acap_grammar.specs.Replies.{done_form, refused_form, said_form, added_form, removed_form, changed_form, upto_form, freed_form, updated_form, octets_of}
+use Rattle.acap_grammar.specs.Replies.{list_form, cell_form, item_form, done_form, refused_form, said_form, about_form, position_form, added_form, removed_form, changed_form, upto_form, freed_form, updated_form, octets_of}
 use Rattle.acap_grammar.specs.Examples.{LineExamples, LineFaults, LimitExamples, TextExamples, ToldExamples}
 
 pub line_examples : LineExamples
@@ -106,7 +107,7 @@ text_examples = record {
 }
 
 pub told_examples : ToldExamples
-unfolding is_utf8 chars encode_utf8 digits is_escaped printed literal quoted may_quote is_printable done_form said_form added_form removed_form changed_form upto_form freed_form updated_form octets_of
+unfolding is_utf8 chars encode_utf8 digits is_escaped printed literal quoted may_quote is_printable stamp_of list_form cell_form item_form done_form said_form about_form position_form added_form removed_form changed_form upto_form freed_form updated_form octets_of
 told_examples = record {
   added = refl;
   starred = refl;

@@ -136,21 +136,26 @@ good_bye_form tag = codes "* BYE " ++ printed (codes "Good bye") ++ crlf ++ done
 
 -- ---- what is told of contexts [RFC 2244 section 6.5]: no line has a tag
 
+-- what stands first: `*` and a word, the context and the entry, or what the word tells of the context
+unfoldable pub about_form : List ℕ → List ℕ → List ℕ → List ℕ
+about_form word context thing = word ++ printed context ++ codes " " ++ printed thing
+
+-- a position behind a space
+unfoldable pub position_form : ℕ → List ℕ
+position_form position = codes " " ++ decimal position
+
 -- an entry that came in: `ADDTO` context entry position data*
 unfoldable pub added_form : List ℕ → ℕ → Row → List ℕ
-added_form context position row =
-    codes "* ADDTO " ++ printed context ++ codes " " ++ printed row.name ++ codes " " ++ decimal position ++ spaced item_form row.items ++ crlf
+added_form context position row = about_form (codes "* ADDTO ") context row.name ++ position_form position ++ spaced item_form row.items ++ crlf
 
 -- one that went: `REMOVEFROM` context entry position
 unfoldable pub removed_form : List ℕ → List ℕ → ℕ → List ℕ
-removed_form context entry position =
-    codes "* REMOVEFROM " ++ printed context ++ codes " " ++ printed entry ++ codes " " ++ decimal position ++ crlf
+removed_form context entry position = about_form (codes "* REMOVEFROM ") context entry ++ position_form position ++ crlf
 
 -- one that changed: `CHANGE` context entry old new data*
 unfoldable pub changed_form : List ℕ → ℕ → ℕ → Row → List ℕ
 changed_form context old new row =
-    codes "* CHANGE " ++ printed context ++ codes " " ++ printed row.name ++ codes " " ++ decimal old ++ codes " " ++ decimal new
-    ++ spaced item_form row.items ++ crlf
+    about_form (codes "* CHANGE ") context row.name ++ position_form old ++ position_form new ++ spaced item_form row.items ++ crlf
 
 abbrev pub notice_form : List ℕ → Notice → List ℕ
 notice_form context (notice.AddTo position row) = added_form context position row
@@ -159,7 +164,7 @@ notice_form context (notice.Change old new row) = changed_form context old new r
 
 -- all up to a moment was told: `MODTIME` context stamp
 unfoldable pub upto_form : List ℕ → ℤ → List ℕ
-upto_form context moment = codes "* MODTIME " ++ printed context ++ codes " " ++ printed (stamp_of moment) ++ crlf
+upto_form context moment = about_form (codes "* MODTIME ") context (stamp_of moment) ++ crlf
 
 -- the server gave a context up: `ALERT` text, in which its name stands
 unfoldable pub freed_form : List ℕ → List ℕ

@@ -1,8 +1,8 @@
 //! What is told of contexts, as octets (RFC 2244 section 6.5).
 
-ghost use Rattle.std.specs.Prelude.{◌≡◌, ◌++◌, OnOk, decimal};
-ghost use Rattle.acap_lexer.specs.Printing.{printed, Grows};
-ghost use Rattle.acap_grammar.specs.Replies.{added_form, removed_form, changed_form, notice_form, upto_form, freed_form, told_form, tolds_form};
+ghost use Rattle.std.specs.Prelude.{◌≡◌, ◌++◌, OnOk};
+ghost use Rattle.acap_lexer.specs.Printing.{Grows};
+ghost use Rattle.acap_grammar.specs.Replies.{about_form, position_form, added_form, removed_form, changed_form, notice_form, upto_form, freed_form, told_form, tolds_form};
 
 use crate::data::append_items;
 use crate::strings::append_string;
@@ -10,8 +10,9 @@ use acap_entries::{ContextName, Memory, Moment, Row, Value, stamp};
 use acap_notices::{Notice, Told};
 
 // A number behind a space.
+#[tactic(auto, unfolding(crate::specs::Replies::position_form))]
 fn append_position(position: usize, out: &mut Vec<u8>) -> Result<(), Memory>
-    ensures ok { OnOk result (out.new.items ≡ out.old.items ++ codes " " ++ decimal position) }
+    ensures ok { OnOk result (out.new.items ≡ out.old.items ++ position_form position) }
     ensures grows { Grows out.old.items out.new.items }
 {
     let digits = position.to_string(*out.allocator())?;
@@ -20,23 +21,29 @@ fn append_position(position: usize, out: &mut Vec<u8>) -> Result<(), Memory>
     Ok(())
 }
 
-// The word of a line, a context and an entry.
-fn append_head(word: &[u8], context: &[u8], entry: &[u8], out: &mut Vec<u8>) -> Result<(), Memory>
-    ensures ok { OnOk result (out.new.items ≡ out.old.items ++ word.now ++ printed context.now ++ codes " " ++ printed entry.now) }
+// The word of a line, the context, and the entry or what is told of the context.
+#[tactic(auto, unfolding(crate::specs::Replies::about_form))]
+fn append_about(word: &[u8], context: &[u8], thing: &[u8], out: &mut Vec<u8>) -> Result<(), Memory>
+    ensures ok { OnOk result (out.new.items ≡ out.old.items ++ about_form word.now context.now thing.now) }
     ensures grows { Grows out.old.items out.new.items }
 {
     out.extend_from_slice(word)?;
     append_string(context, out)?;
     out.push(b' ')?;
-    append_string(entry, out)
+    append_string(thing, out)
 }
 
 #[tactic(auto, unfolding(crate::specs::Replies::added_form))]
-fn append_added(context: &ContextName, position: usize, row: &Row, out: &mut Vec<u8>) -> Result<(), Memory>
+fn append_added(
+    context: &ContextName,
+    position: usize,
+    row: &Row,
+    out: &mut Vec<u8>,
+) -> Result<(), Memory>
     ensures ok { OnOk result (out.new.items ≡ out.old.items ++ added_form context.now position row.now) }
     ensures grows { Grows out.old.items out.new.items }
 {
-    append_head(b"* ADDTO ", context.as_slice(), row.name.as_slice(), out)?;
+    append_about(b"* ADDTO ", context.as_slice(), row.name.as_slice(), out)?;
     append_position(position, out)?;
     append_items(row.items.as_slice(), out)?;
     out.extend_from_slice(b"\r\n")?;
@@ -44,22 +51,33 @@ fn append_added(context: &ContextName, position: usize, row: &Row, out: &mut Vec
 }
 
 #[tactic(auto, unfolding(crate::specs::Replies::removed_form))]
-fn append_removed(context: &ContextName, entry: &Value, position: usize, out: &mut Vec<u8>) -> Result<(), Memory>
+fn append_removed(
+    context: &ContextName,
+    entry: &Value,
+    position: usize,
+    out: &mut Vec<u8>,
+) -> Result<(), Memory>
     ensures ok { OnOk result (out.new.items ≡ out.old.items ++ removed_form context.now entry.now position) }
     ensures grows { Grows out.old.items out.new.items }
 {
-    append_head(b"* REMOVEFROM ", context.as_slice(), entry.as_slice(), out)?;
+    append_about(b"* REMOVEFROM ", context.as_slice(), entry.as_slice(), out)?;
     append_position(position, out)?;
     out.extend_from_slice(b"\r\n")?;
     Ok(())
 }
 
 #[tactic(auto, unfolding(crate::specs::Replies::changed_form))]
-fn append_changed(context: &ContextName, old: usize, new: usize, row: &Row, out: &mut Vec<u8>) -> Result<(), Memory>
+fn append_changed(
+    context: &ContextName,
+    old: usize,
+    new: usize,
+    row: &Row,
+    out: &mut Vec<u8>,
+) -> Result<(), Memory>
     ensures ok { OnOk result (out.new.items ≡ out.old.items ++ changed_form context.now old new row.now) }
     ensures grows { Grows out.old.items out.new.items }
 {
-    append_head(b"* CHANGE ", context.as_slice(), row.name.as_slice(), out)?;
+    append_about(b"* CHANGE ", context.as_slice(), row.name.as_slice(), out)?;
     append_position(old, out)?;
     append_position(new, out)?;
     append_items(row.items.as_slice(), out)?;
@@ -83,7 +101,7 @@ fn append_upto(context: &ContextName, moment: Moment, out: &mut Vec<u8>) -> Resu
     ensures ok { OnOk result (out.new.items ≡ out.old.items ++ upto_form context.now moment) }
     ensures grows { Grows out.old.items out.new.items }
 {
-    append_head(b"* MODTIME ", context.as_slice(), &stamp(moment), out)?;
+    append_about(b"* MODTIME ", context.as_slice(), &stamp(moment), out)?;
     out.extend_from_slice(b"\r\n")?;
     Ok(())
 }

@@ -139,7 +139,9 @@ impl State {
         ensures fault { IfErr result (λ fault. IsFault (step_of self.now.machine seat events.Drain clock) fault) }
     {
         match self.seats.get(seat) {
-            Some(_) => Ok(Reply::new(Said::Drained(Tolds::new(self.realm.administrators.allocator())))),
+            Some(_) => Ok(Reply::new(Said::Drained(Tolds::new(
+                self.realm.administrators.allocator(),
+            )))),
             None => Err(Fault::NotEntered),
         }
     }
