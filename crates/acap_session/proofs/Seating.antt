@@ -112,12 +112,12 @@ asks_command true m o c name e = inl refl
 asks_command false m o c name e = inr (command_by m o c name (table.get m.seats o.seat) refl e)
 
 drain_by : (m : Machine) (o : Occasion) (name : List ℕ) (x : Option Occupant) → table.get m.seats o.seat ≡ x → x ≡ Some (seated_as name) →
-    Answers m o.seat name (λ r. r.said ≡ said.Drained) (by_user x (λ user. (plain said.Drained, m)))
+    Answers m o.seat name (λ r. r.said ≡ said.Drained []) (by_user x (λ user. (plain (said.Drained []), m)))
 drain_by m o name None e f = absurd cc
-drain_by m o name (Some x) e f = record { reply = plain said.Drained; new = m; is = refl; fits = refl; has = e ∙ f }
+drain_by m o name (Some x) e f = record { reply = plain (said.Drained []); new = m; is = refl; fits = refl; has = e ∙ f }
 
 asks_drain : (refused : Bool) (m : Machine) (o : Occasion) (name : List ℕ) → table.get m.seats o.seat ≡ Some (seated_as name) →
-    MayAnswer m o.seat name (λ r. r.said ≡ said.Drained) (performed refused m o event.Drain)
+    MayAnswer m o.seat name (λ r. r.said ≡ said.Drained []) (performed refused m o event.Drain)
 asks_drain true m o name e = inl refl
 asks_drain false m o name e = inr (drain_by m o name (table.get m.seats o.seat) refl e)
 
@@ -176,7 +176,7 @@ asked_made b o refused m out t e stage.Entering (b_is, (name, u, has, e_is)) =
     })
     (subst (λ y. MayAnswer m o.seat name (λ r. r.said ≡ said.Greeting) (performed refused m o y)) (sym e_is) (asks_entry refused m o name has))
 asked_made b o refused m out t e stage.Draining (b_is, (name, u, has), e_is) =
-    tells_of b o m out t stage.Draining name (λ r. r.said ≡ said.Drained) (performed refused m o e)
+    tells_of b o m out t stage.Draining name (λ r. r.said ≡ said.Drained []) (performed refused m o e)
     (record { at = has ∙ sym (ap (option_map seated_as) u); said = []; out_is = refl; completed = silent b t.held.fatal stage.Ready b_is })
     (λ reply new fits is. record {
       at = is ∙ sym (ap (option_map seated_as) u);
@@ -184,7 +184,7 @@ asked_made b o refused m out t e stage.Draining (b_is, (name, u, has), e_is) =
       out_is = refl;
       completed = waits b (record { tag = None; said = reply.said }) t.held.fatal stage.Ready (ap (λ w. completed_by (record { tag = None; said = w })) fits) b_is;
     })
-    (subst (λ y. MayAnswer m o.seat name (λ r. r.said ≡ said.Drained) (performed refused m o y)) (sym e_is) (asks_drain refused m o name has))
+    (subst (λ y. MayAnswer m o.seat name (λ r. r.said ≡ said.Drained []) (performed refused m o y)) (sym e_is) (asks_drain refused m o name has))
 asked_made b o refused m out t e stage.Opening a = absurd a
 asked_made b o refused m out t e stage.Ready a = absurd a
 asked_made b o refused m out t e (stage.Challenged tag challenge) a = absurd a

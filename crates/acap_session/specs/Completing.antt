@@ -228,4 +228,4 @@ pub record CompletionExamples : Type 0 where
   pub too_long_said : said_there (given (codes "A1 NOOP\r\nA2 NOOP {262144}\r\n") 3) ≡ lines_of (codes "A1 OK \"NOOP done\"" ∷ codes "* BYE \"Command too long\"" ∷ [])
   -- a refusal under `*` answers a line without a tag; neither a challenge nor a BYE answers one
   pub completions : completed (under None said.Greeting ∷ under a1 (said.Done verb.Noop) ∷ under a1 (said.Challenge []) ∷ under None (said.Refused refusals.BadTag)
-      ∷ under a1 (said.Refused refusals.Memory) ∷ under None (said.Refused refusals.LineTooLong) ∷ under a1 said.GoodBye ∷ under None said.Drained ∷ []) ≡ a1 ∷ None ∷ a1 ∷ a1 ∷ []
+      ∷ under a1 (said.Refused refusals.Memory) ∷ under None (said.Refused refusals.LineTooLong) ∷ under a1 said.GoodBye ∷ under None (said.Drained []) ∷ []) ≡ a1 ∷ None ∷ a1 ∷ a1 ∷ []
