@@ -8,7 +8,7 @@ ghost use Rattle.acap_search.specs.Sight as sight;
 use crate::looking::{is_nil, look_at};
 use crate::spot::Spot;
 use crate::viewer::Viewer;
-use acap_entries::{Records, Value};
+use acap_entries::{EntryName, Records, Value};
 use acap_grammar::{Key, Node, Relation, Test};
 use acap_inherit::Lent;
 use acap_order::{Collation, Comparator};
