@@ -9,7 +9,7 @@ ghost use Rattle.acap_search.specs.Shown as shown;
 
 use crate::spot::Spot;
 use crate::viewer::Viewer;
-use acap_entries::{Cell, Record, Records, stamp};
+use acap_entries::{Cell, EntryName, Record, Records, stamp};
 use acap_inherit::{Found, Lent, resolve};
 use acap_rights::{Object, Rights, rights_of};
 
@@ -125,12 +125,12 @@ fn lent(cell: &Cell) -> Option<Lent<'_>>
 }
 
 // What a record has for an attribute, where nothing is inherited.
-fn own_value<'a>(entry: &'a Record, name: &'a [u8], attribute: &[u8]) -> Option<Lent<'a>>
+fn own_value<'a>(entry: &'a Record, name: &'a EntryName, attribute: &[u8]) -> Option<Lent<'a>>
     ensures { shown.cell_of result ≡ near.own_value entry.now name.now attribute.now }
 {
     if attribute == b"entry".as_slice() {
         return if entry.present {
-            Some(Lent::Single(name))
+            Some(Lent::Single(name.as_slice()))
         } else {
             None
         };
@@ -186,10 +186,7 @@ pub(crate) fn look_at<'a, R: Records>(spot: &Spot<'a, R>, attribute: &[u8]) -> S
     if let Some(entry) = spot.entry
         && !has_list(entry, attribute)
     {
-        return shown_by(
-            own_value(entry, spot.name.as_slice(), attribute),
-            spot.rights,
-        );
+        return shown_by(own_value(entry, spot.name, attribute), spot.rights);
     }
     look(spot.by, spot.name.as_slice(), attribute)
 }
@@ -201,10 +198,7 @@ pub(crate) fn read_at<'a, R: Records>(spot: &Spot<'a, R>, attribute: &[u8]) -> O
     if let Some(entry) = spot.entry
         && !has_list(entry, attribute)
     {
-        return seen_if(
-            own_value(entry, spot.name.as_slice(), attribute),
-            spot.rights.r,
-        );
+        return seen_if(own_value(entry, spot.name, attribute), spot.rights.r);
     }
     look(spot.by, spot.name.as_slice(), attribute).read
 }

@@ -9,7 +9,7 @@ use crate::looking::{is_nil, look_at};
 use crate::spot::Spot;
 use crate::viewer::Viewer;
 use acap_commands::{Key, Node, Relation, Test};
-use acap_entries::{Records, Value};
+use acap_entries::{EntryName, Records, Value};
 use acap_inherit::Lent;
 use acap_order::{Collation, Comparator};
 

@@ -63,11 +63,8 @@ fn value_of(alloc: Global, value: Option<Lent<'_>>) -> Result<Cell, Memory>
 fn acl_of<R: Records>(spot: &Spot<'_, R>, attribute: &[u8]) -> Result<Cell, Memory>
     ensures { IfOk result (λ cell. cell ≡ rule.list_cell (sight.own_acl (R.store spot.now.by.now.records.now).records spot.now.by.now.dataset.now spot.now.name.now attribute.now)) }
 {
-    match spot
-        .by
-        .records
-        .find(spot.by.dataset.as_slice(), spot.name.as_slice())
-    {
+    let dataset = spot.by.dataset.as_slice();
+    match spot.by.records.find(dataset, spot.name.as_slice()) {
         Some(record) => match record.acls.find(attribute) {
             Some(list) => Ok(Cell::Multi(list.copy()?)),
             None => Ok(Cell::Nil),
