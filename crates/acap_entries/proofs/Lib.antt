@@ -1,10 +1,13 @@
 pub mod SortedLemmas
 pub mod LeafLemmas
+pub mod RankLemmas
+pub mod RankLaws
 pub mod Halves
 pub mod MapLemmas
 pub mod NameLemmas
 pub mod StoreLemmas
 pub mod StoreLaws
+pub mod AfterLemmas
 pub mod RangeLemmas
 pub mod StampLemmas
 pub mod CivilLemmas

@@ -9,6 +9,8 @@ pub mod Leaves
 pub mod Moments
 pub mod Names
 pub mod Orders
+pub mod RankLaws
+pub mod Ranks
 pub mod Sorted
 pub mod Sound
 pub mod Stamp

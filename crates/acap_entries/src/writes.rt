@@ -100,7 +100,7 @@ impl Writes {
     pub fn remove(&mut self, path: &Path)
         ensures { self.new ≡ map.remove self.old path.now }
     {
-        take_out(&mut self.entries, path);
+        let _ = take_out(&mut self.entries, &Whole { key: path });
     }
 
     /// The writes in their order, in their memory.
