@@ -8,3 +8,5 @@ mod NameLemmas
 mod NamesLaws
 mod ReadingLaws
 mod RepeatLaws
+mod Sampling
+mod TouchedSamples

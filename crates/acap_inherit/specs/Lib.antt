@@ -5,4 +5,6 @@ pub mod Laws
 pub mod Merging
 pub mod Records
 pub mod Resolving
+pub mod Touched
+pub mod TouchedExamples
 pub mod Values

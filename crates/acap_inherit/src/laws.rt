@@ -1,6 +1,7 @@
 //! What follows from the definitions alone: each function does nothing, and its contract is the law.
 ghost use Rattle.acap_inherit.specs.Examples.{ChainExamples, OverBaseExamples, MomentExamples};
 ghost use Rattle.acap_inherit.specs.Laws.{ChainLaw, BaseLaw, RepeatLaw, FirstLaw, MomentLaw, FirstDatasetLaw, NothingLaw, ReadingLaw, NamesLaw};
+ghost use Rattle.acap_inherit.specs.TouchedExamples.{TouchedExamples};
 
 /// Which datasets a chain has: each names the next (RFC 2244 section 5.2).
 pub fn chain_law()
@@ -60,4 +61,9 @@ pub fn over_base_examples()
 /// The moments of entries with several records.
 pub fn moment_examples()
     ensures { MomentExamples }
+{}
+
+/// Which paths changes touch, computed from the definition, one change for each case.
+pub fn touched_examples()
+    ensures { TouchedExamples }
 {}
