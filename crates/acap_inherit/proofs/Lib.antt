@@ -10,3 +10,4 @@ mod ReadingLaws
 mod RepeatLaws
 mod Sampling
 mod TouchedSamples
+mod UnreadLaws

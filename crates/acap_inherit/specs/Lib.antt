@@ -7,4 +7,5 @@ pub mod Records
 pub mod Resolving
 pub mod Touched
 pub mod TouchedExamples
+pub mod TouchedLaws
 pub mod Values

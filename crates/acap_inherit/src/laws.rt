@@ -2,6 +2,7 @@
 ghost use Rattle.acap_inherit.specs.Examples.{ChainExamples, OverBaseExamples, MomentExamples};
 ghost use Rattle.acap_inherit.specs.Laws.{ChainLaw, BaseLaw, RepeatLaw, FirstLaw, MomentLaw, FirstDatasetLaw, NothingLaw, ReadingLaw, NamesLaw};
 ghost use Rattle.acap_inherit.specs.TouchedExamples.{TouchedExamples};
+ghost use Rattle.acap_inherit.specs.TouchedLaws.{UnreadLaw};
 
 /// Which datasets a chain has: each names the next (RFC 2244 section 5.2).
 pub fn chain_law()
@@ -66,4 +67,9 @@ pub fn moment_examples()
 /// Which paths changes touch, computed from the definition, one change for each case.
 pub fn touched_examples()
     ensures { TouchedExamples }
+{}
+
+/// What a change doesn't touch is read alike before and after it.
+pub fn unread_law()
+    ensures { UnreadLaw }
 {}
