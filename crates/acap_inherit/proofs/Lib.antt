@@ -2,6 +2,7 @@ mod ChainLaws
 mod ChainSteps
 mod ExampleLemmas
 mod FirstLaws
+mod IndexLemmas
 mod MergeLemmas
 mod Moments
 mod NameLemmas

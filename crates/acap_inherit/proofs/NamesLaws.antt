@@ -23,7 +23,7 @@ use Rattle.acap_inherit.proofs.NameLemmas.{first, second, yes}
 
 -- ---- a name is listed in a dataset exactly where there is a record
 
-tied_parts : (a b : Ordering) → is_eq (ordering_then a b) ≡ (is_eq a && is_eq b)
+pub tied_parts : (a b : Ordering) → is_eq (ordering_then a b) ≡ (is_eq a && is_eq b)
 tied_parts Less b = refl
 tied_parts Equal b = refl
 tied_parts Greater b = refl

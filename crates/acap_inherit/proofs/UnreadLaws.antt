@@ -20,7 +20,7 @@ use Rattle.acap_inherit.proofs.ReadingLaws.{nothing_law, reading_law, of_members
 
 -- ---- tests that fail
 
-neither : (a b : Bool) → (a || b) ≡ false → (a ≡ false) × (b ≡ false)
+pub neither : (a b : Bool) → (a || b) ≡ false → (a ≡ false) × (b ≡ false)
 neither true b e = cc
 neither false b e = (refl, e)
 
@@ -39,18 +39,18 @@ of_take (suc n) [] d h = h
 of_take (suc n) (x ∷ xs) d (zero, lt, s) = (zero, omega arith, s)
 of_take (suc n) (x ∷ xs) d (suc k, lt, s) = there x d xs (of_take n xs d (k, omega (arith, lt), s))
 
-absent : {A : Type 0} (found : Option A) → is_some found ≡ false → found ≡ None
+pub absent : {A : Type 0} (found : Option A) → is_some found ≡ false → found ≡ None
 absent None e = refl
 absent (Some x) e = cc
 
 -- ---- what isn't written stays
 
-unwritten : (written : Written) (old new : Stored) → IsPathByPath written old new → (m n : List ℕ) → is_written written m n ≡ false → record_at old m n ≡ record_at new m n
+pub unwritten : (written : Written) (old new : Stored) → IsPathByPath written old new → (m n : List ℕ) → is_written written m n ≡ false → record_at old m n ≡ record_at new m n
 unwritten written old new h m n e =
     let p : Path = record { dataset = m; name = n } in
     sym (h.at_path p ∙ ap (λ fate. after_fate fate (map.get old p)) (absent (map.get written p) e))
 
-unwritten_on : (written : Written) (old new : Stored) → IsPathByPath written old new → (chain : List (List ℕ)) (n : List ℕ) → is_written_on written chain n ≡ false → AgreeOn old new chain n
+pub unwritten_on : (written : Written) (old new : Stored) → IsPathByPath written old new → (chain : List (List ℕ)) (n : List ℕ) → is_written_on written chain n ≡ false → AgreeOn old new chain n
 unwritten_on written old new h chain n e = λ m k. unwritten written old new h m n (none_of (λ m. is_written written m n) chain e m k)
 
 turned : (old new : Stored) (chain : List (List ℕ)) (n : List ℕ) → AgreeOn old new chain n → AgreeOn new old chain n

@@ -1,6 +1,7 @@
 pub mod Chains
 pub mod EntryNames
 pub mod Examples
+pub mod Index
 pub mod Laws
 pub mod Merging
 pub mod Records

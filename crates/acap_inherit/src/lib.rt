@@ -7,8 +7,12 @@ mod found;
 mod laws;
 mod lent;
 mod lineage;
+mod link;
+mod linking;
 mod merging;
+mod prepared;
 mod range;
+mod resolved;
 mod resolving;
 
 pub use chains::chain;
@@ -20,4 +24,7 @@ pub use laws::{
 };
 pub use lent::Lent;
 pub use lineage::Lineage;
+pub use link::Link;
+pub use prepared::Prepared;
+pub use resolved::Resolved;
 pub use resolving::{entry_exists, modtime, resolve};
