@@ -113,7 +113,7 @@ without_last (y ∷ taken) links x = ap (without_item link_cmp y) (without_last 
 
 -- ---- the pairs of written management entries
 
-and_true : (a : Bool) → (a && true) ≡ a
+pub and_true : (a : Bool) → (a && true) ≡ a
 and_true true = refl
 and_true false = refl
 
@@ -123,7 +123,7 @@ swap_and true false = refl
 swap_and false true = refl
 swap_and false false = refl
 
-never : (a : Bool) → false ≡ (a && false)
+pub never : (a : Bool) → false ≡ (a && false)
 never true = refl
 never false = refl
 
@@ -159,7 +159,7 @@ one_written records dataset (x ∷ xs) base heir =
     ap (λ b. is_linked (if b then link_at dataset (base_at records dataset) else []) base heir) (eqb-suc-zero (length xs))
     ∙ sym (ap (λ b. b && is_base (base_at records heir) base) (tied_parts (octets_cmp heir dataset) Less ∙ sym (never (is_eq (octets_cmp heir dataset)))))
 
-either_and : (a b c : Bool) → ((a && c) || (b && c)) ≡ ((a || b) && c)
+pub either_and : (a b c : Bool) → ((a && c) || (b && c)) ≡ ((a || b) && c)
 either_and true true true = refl
 either_and true true false = refl
 either_and true false true = refl

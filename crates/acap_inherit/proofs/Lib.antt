@@ -10,5 +10,6 @@ mod NamesLaws
 mod ReadingLaws
 mod RepeatLaws
 mod Sampling
+mod TouchedLemmas
 mod TouchedSamples
 mod UnreadLaws

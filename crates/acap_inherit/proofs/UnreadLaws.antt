@@ -24,7 +24,7 @@ pub neither : (a b : Bool) → (a || b) ≡ false → (a ≡ false) × (b ≡ fa
 neither true b e = cc
 neither false b e = (refl, e)
 
-none_of : (p : List ℕ → Bool) (xs : List (List ℕ)) → list_any p xs ≡ false → (d : List ℕ) → Contains xs d → p d ≡ false
+pub none_of : (p : List ℕ → Bool) (xs : List (List ℕ)) → list_any p xs ≡ false → (d : List ℕ) → Contains xs d → p d ≡ false
 none_of p [] e d (k, lt, s) = absurd (omega (arith, lt))
 none_of p (x ∷ xs) e d (zero, lt, s) = subst (λ y. p y ≡ false) s (neither _ _ e).0
 none_of p (x ∷ xs) e d (suc k, lt, s) = none_of p xs (neither _ _ e).1 d (k, omega (arith, lt), s)
@@ -85,7 +85,7 @@ empty_there records h dataset e n =
       | Some entry ↦ λ is. let exists = h.homes (record { dataset = dataset; name = n }) entry is in cc (exists, e)
     ] refl
 
-chain_alone : (records : Stored) (dataset : List ℕ) → record_at records dataset [] ≡ None → chain_of records dataset false ≡ dataset ∷ []
+pub chain_alone : (records : Stored) (dataset : List ℕ) → record_at records dataset [] ≡ None → chain_of records dataset false ≡ dataset ∷ []
 unfolding chain_within
 chain_alone records dataset e =
     let none : base_at records dataset ≡ None = rw e refl in ap (λ base. dataset ∷ onward base (chain_within 7 records)) none

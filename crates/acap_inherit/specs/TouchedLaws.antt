@@ -1,13 +1,17 @@
 -- What follows of touched paths from the definition alone [RFC 2244 sections 5.1 and 5.2].
 use Rattle.std.specs.Prelude.{◌≡◌, ◌⊎◌, ℕ, Bool, true, false, List, []}
+use Rattle.std.specs.List.{list_any}
+use Rattle.std.specs.Ordering.{eq_by_cmp}
 use Rattle.acap_entries.specs.Datasets.{dataset_exists}
+use Rattle.acap_entries.specs.FullPaths.{full_path_cmp, IsWellFormed}
+use Rattle.acap_entries.specs.Ranks.{Ascending}
 use Rattle.acap_entries.specs.Sound.{IsHoused}
 use Rattle.acap_entries.specs.Store.{Stored, Written, IsPathByPath}
 use Rattle.acap_entries.specs.declared.path.Path.{Path}
 use Rattle.acap_inherit.specs.Chains.{chain_of}
 use Rattle.acap_inherit.specs.Laws.{AgreeOn}
 use Rattle.acap_inherit.specs.Resolving.{resolved, entry_exists, modtime_of}
-use Rattle.acap_inherit.specs.Touched.{has_record_on, is_touched}
+use Rattle.acap_inherit.specs.Touched.{has_record_on, is_touched, by_octets, touched}
 
 -- writes lead from one store to another, in both of which the dataset of each record exists, and take no dataset away
 pub record IsStep (written : Written) (old new : Stored) : Type 0 where
@@ -41,3 +45,11 @@ pub record UnreadLaw : Type 0 where
       → IsReadAlike old new p.dataset p.name ⊎ IsNowhere old new p.dataset p.name
   pub answers : (written : Written) (old new : Stored) → IsStep written old new → (p : Path) → is_touched written old new p ≡ false
       → IsAnsweredAlike old new p.dataset p.name
+
+-- the list of touched paths is that of all of them, whatever is in question, and each comes once, in the order of full octets: well-formed
+-- paths, of which a store is made, are told apart by these alone
+pub record TouchedLaw : Type 0 where
+  pub all : (written : Written) (old new : Stored) → IsPathByPath written old new → (p : Path)
+      → list_any (eq_by_cmp by_octets p) (touched written old new) ≡ is_touched written old new p
+  pub rises : (written : Written) (old new : Stored) → Ascending by_octets (touched written old new)
+  pub formed : (a b : Path) → IsWellFormed a → IsWellFormed b → by_octets a b ≡ full_path_cmp a b

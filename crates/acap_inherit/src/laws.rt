@@ -2,7 +2,7 @@
 ghost use Rattle.acap_inherit.specs.Examples.{ChainExamples, OverBaseExamples, MomentExamples};
 ghost use Rattle.acap_inherit.specs.Laws.{ChainLaw, BaseLaw, RepeatLaw, FirstLaw, MomentLaw, FirstDatasetLaw, NothingLaw, ReadingLaw, NamesLaw};
 ghost use Rattle.acap_inherit.specs.TouchedExamples.{TouchedExamples};
-ghost use Rattle.acap_inherit.specs.TouchedLaws.{UnreadLaw};
+ghost use Rattle.acap_inherit.specs.TouchedLaws.{TouchedLaw, UnreadLaw};
 
 /// Which datasets a chain has: each names the next (RFC 2244 section 5.2).
 pub fn chain_law()
@@ -72,4 +72,9 @@ pub fn touched_examples()
 /// What a change doesn't touch is read alike before and after it.
 pub fn unread_law()
     ensures { UnreadLaw }
+{}
+
+/// Which paths are listed as touched, and in which order.
+pub fn touched_law()
+    ensures { TouchedLaw }
 {}

@@ -20,7 +20,8 @@ pub use entry_names::{EntryNames, names_on};
 pub use found::Found;
 pub use laws::{
     base_law, chain_examples, chain_law, first_dataset_law, first_law, moment_examples, moment_law,
-    names_law, nothing_law, over_base_examples, reading_law, repeat_law, touched_examples, unread_law,
+    names_law, nothing_law, over_base_examples, reading_law, repeat_law, touched_examples, touched_law,
+    unread_law,
 };
 pub use lent::Lent;
 pub use lineage::Lineage;
