@@ -1,26 +1,24 @@
 -- The index of heirs, once what a change writes is settled in it.
-use Rattle.std.proofs.Common.{◌≡◌, ℕ, Bool, true, false, not, cond, ◌&&◌, ◌||◌, ◌==◌, List, [], ◌∷◌, ◌++◌, map as each, length, Option, Some, None, refl, sym, ap, subst, ◌∙◌}
-use Rattle.std.specs.Prelude.{is_some, if◌then◌else◌}
+use Rattle.std.proofs.Common.{◌≡◌, ℕ, Bool, true, false, not, cond, ◌&&◌, ◌||◌, List, [], ◌∷◌, ◌++◌, map as each, length, Option, Some, None, refl, sym, ap, subst, ◌∙◌}
+use Rattle.std.specs.Prelude.{if◌then◌else◌}
 use Rattle.std.specs.FinMap as map
-use Rattle.std.specs.FinMap.{IsAntisymmetric}
 use Rattle.std.specs.FinMap.Entries.{by_order}
 use Rattle.std.specs.List.{list_any, flat_map}
 use Rattle.std.specs.declared.cmp.Ordering.{Ordering}
 use Rattle.std.specs.declared.cmp.Ordering.TheVariants.{Less, Equal, Greater}
-use Rattle.std.specs.Ordering.{eq_by_cmp, is_eq, ordering_then}
-use Rattle.std.specs.Cmp.{IsTotalOrder, then_total, tied_itself, alike_right, eq_by_cmp_equiv}
-use Rattle.std.specs.Cmp.Lexicographic.{on_texts, nat_list_cmp_total, texts_ties, same_text}
+use Rattle.std.specs.Ordering.{eq_by_cmp, is_eq}
+use Rattle.std.specs.Cmp.{IsTotalOrder, then_total, alike_right, eq_by_cmp_equiv}
+use Rattle.std.specs.Cmp.Lexicographic.{on_texts, texts_ties, same_text}
 use Rattle.std.proofs.Math.Bool.{or_assoc}
 use Rattle.std.proofs.Math.Dec.{eqb-suc-zero}
 use Rattle.std.proofs.lemmas.List.Folds.{list_any-append}
 use Rattle.acap_entries.specs.Changes.{IsStoreAfter}
-use Rattle.acap_entries.specs.Orders.{octets_cmp, octets_eq}
+use Rattle.acap_entries.specs.Orders.{octets_cmp}
 use Rattle.acap_entries.specs.Ranks.{with_item, without_item}
-use Rattle.acap_entries.specs.Store.{Store, Stored, Written, IsPathByPath, path_cmp, after_fate}
+use Rattle.acap_entries.specs.Store.{Store, Stored, Written, IsPathByPath, path_cmp}
 use Rattle.acap_entries.specs.declared.change.Change.{Change}
 use Rattle.acap_entries.specs.declared.path.Path.{Path}
 use Rattle.acap_entries.specs.declared.fate.Fate.{Fate}
-use Rattle.acap_entries.proofs.StoreLemmas.{path_cmp_total, octets_same}
 use Rattle.acap_inherit.specs.Chains.{base_at}
 use Rattle.acap_inherit.specs.Index.{link_cmp, is_linked, is_base, IsIndexOf, link_at, links_of, links_written, without_all, with_all, settled}
 use Rattle.acap_inherit.specs.Records.{record_at}
@@ -187,7 +185,7 @@ settles true false true h = refl
 settles true false false h = refl
 settles false old new h = h refl
 
-base_kept : (written : Written) (old new : Stored) → IsPathByPath written old new → (heir : List ℕ) → is_written written heir [] ≡ false → base_at old heir ≡ base_at new heir
+pub base_kept : (written : Written) (old new : Stored) → IsPathByPath written old new → (heir : List ℕ) → is_written written heir [] ≡ false → base_at old heir ≡ base_at new heir
 base_kept written old new h heir e = let same = unwritten written old new h heir [] e in rw same refl
 
 pub settled_index : (written : Written) (old new : Stored) (links : List Link) → IsPathByPath written old new → IsIndexOf old links → IsIndexOf new (settled (links_written written old, links_written written new) links)

@@ -2,6 +2,8 @@ mod ChainLaws
 mod ChainSteps
 mod ExampleLemmas
 mod FirstLaws
+mod FoundLemmas
+mod HeirLemmas
 mod IndexLemmas
 mod MergeLemmas
 mod Moments

@@ -43,7 +43,7 @@ any_filtered q d (e ∷ es) =
     ]
     ∙ ap (λ b. b || behind) (sym (tied_parts (octets_cmp d e.0.dataset) (octets_cmp q e.0.name))))
 
-listed : (records : Stored) (q d : List ℕ) → list_any (is_name q) (names_in records d) ≡ is_some (record_at records d q)
+pub listed : (records : Stored) (q d : List ℕ) → list_any (is_name q) (names_in records d) ≡ is_some (record_at records d q)
 listed records q d = any_filtered q d (names.entries records) ∙ sym (names.contains_key-keys records (path_at d q))
 
 listed_on : (records : Stored) (q : List ℕ) (chain : List (List ℕ)) → list_any (is_name q) (all_of (map (names_in records) chain)) ≡ list_any (λ d. is_some (record_at records d q)) chain

@@ -6,21 +6,19 @@ use Rattle.std.specs.Option.{option_map, option_and_then, option_map_or}
 use Rattle.std.specs.FinMap as map
 use Rattle.std.specs.FinMap.{find, put}
 use Rattle.std.specs.declared.cmp.Ordering.{Ordering}
-use Rattle.std.specs.Cmp.{IsTotalOrder}
 use Rattle.std.specs.Cmp.Lexicographic.{nat_list_cmp_total}
 use Rattle.std.specs.Ordering.{eq_by_cmp}
-use Rattle.acap_entries.specs.Datasets.{is_dot_list, makes_dataset, dataset_exists}
+use Rattle.acap_entries.specs.Datasets.{is_dot_list, makes_dataset}
 use Rattle.acap_entries.specs.Names.{slash, own_entry}
 use Rattle.acap_entries.specs.Orders.{octets_cmp, octets_eq}
 use Rattle.acap_entries.specs.Store.{Stored, Written, path_cmp, after_fate, IsPathByPath}
 use Rattle.acap_entries.specs.declared.cell.Cell.{Cell}
-use Rattle.acap_entries.specs.declared.fate.Fate.{Fate}
 use Rattle.acap_entries.specs.declared.path.Path.{Path}
 use Rattle.acap_entries.specs.declared.record.Record.{Record}
 use Rattle.acap_entries.proofs.StoreLemmas.{path_cmp_total}
-use Rattle.acap_inherit.specs.Chains.{name_in, base_at, onward, chain_within, chain_of}
+use Rattle.acap_inherit.specs.Chains.{name_in, onward, chain_within, chain_of}
 use Rattle.acap_inherit.specs.Records.{record_at, cell_in}
-use Rattle.acap_inherit.specs.Touched.{is_written, is_reached, is_touched, paths_known, crossed, in_question, in_order, touched}
+use Rattle.acap_inherit.specs.Touched.{is_written, is_reached, is_touched, paths_known, crossed, in_order, touched}
 use Rattle.acap_inherit.specs.TouchedExamples.{Attributes, present, store_of, fate_of, writes_of, at}
 
 -- ---- what is looked up: the cells of a record by attribute, if there is one

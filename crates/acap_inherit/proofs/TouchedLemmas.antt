@@ -1,21 +1,21 @@
 -- Which paths are among the touched ones, and that a list of paths in their order is known by what is in it.
-use Rattle.std.proofs.Common.{◌≡◌, ℕ, zero, suc, Bool, true, false, cond, T, ◌&&◌, ◌||◌, List, [], ◌∷◌, ◌++◌, map as each, Option, Some, None, arith, refl, sym, ap, subst, ◌∙◌}
+use Rattle.std.proofs.Common.{◌≡◌, ℕ, Bool, true, false, cond, T, ◌&&◌, ◌||◌, List, [], ◌∷◌, ◌++◌, map as each, Option, Some, None, arith, refl, sym, ap, subst, ◌∙◌}
 use Rattle.std.specs.Prelude.{is_some, filter}
 use Rattle.std.specs.FinMap as map
-use Rattle.std.specs.FinMap.{IsAntisymmetric, is_sorted, find}
+use Rattle.std.specs.FinMap.{IsAntisymmetric, find}
 use Rattle.std.specs.FinMap.Entries.{is_some-find, same_entries}
-use Rattle.std.specs.List.{list_any, flat_map}
+use Rattle.std.specs.List.{list_any}
 use Rattle.std.specs.declared.cmp.Ordering.{Ordering}
 use Rattle.std.specs.declared.cmp.Ordering.TheVariants.{Less, Equal, Greater}
 use Rattle.std.specs.Ordering.{eq_by_cmp, is_eq, ordering_then}
-use Rattle.std.specs.Cmp.{IsTotalOrder, then_total, tied_itself}
-use Rattle.std.specs.Cmp.Lexicographic.{on_texts, nat_list_cmp_total, same_text, texts_ties}
+use Rattle.std.specs.Cmp.{IsTotalOrder, tied_itself}
+use Rattle.std.specs.Cmp.Lexicographic.{nat_list_cmp_total, same_text}
 use Rattle.std.proofs.lemmas.List.{append_cancel_left}
 use Rattle.std.proofs.lemmas.List.Folds.{list_any-append}
 use Rattle.acap_entries.specs.Datasets.{dataset_exists}
-use Rattle.acap_entries.specs.FullPaths.{full_path, full_path_cmp, IsWellFormed}
+use Rattle.acap_entries.specs.FullPaths.{full_path_cmp, IsWellFormed}
 use Rattle.acap_entries.specs.Orders.{octets_cmp, octets_eq}
-use Rattle.acap_entries.specs.Ranks.{units, Ascending, with_item}
+use Rattle.acap_entries.specs.Ranks.{units, Ascending}
 use Rattle.acap_entries.specs.Store.{Stored, Written, IsPathByPath, path_cmp, after_fate}
 use Rattle.acap_entries.specs.declared.fate.Fate.{Fate}
 use Rattle.acap_entries.specs.declared.path.Path.{Path}
@@ -24,9 +24,9 @@ use Rattle.acap_entries.proofs.FullPathLaws.{full_paths}
 use Rattle.acap_entries.proofs.RankLaws.{rank_holds}
 use Rattle.acap_entries.proofs.RankLemmas.{items, items_units, order_of_units}
 use Rattle.acap_entries.proofs.StoreLemmas.{octets_same, path_same}
-use Rattle.acap_inherit.specs.Chains.{chain_within, chain_of}
+use Rattle.acap_inherit.specs.Chains.{chain_of}
 use Rattle.acap_inherit.specs.Records.{record_at}
-use Rattle.acap_inherit.specs.Touched.{is_written, is_written_on, has_record_on, is_reached, is_touched, paths_known, crossed, in_question, by_octets, in_order, touched}
+use Rattle.acap_inherit.specs.Touched.{is_written, is_written_on, has_record_on, is_reached, is_touched, paths_known, crossed, in_question, by_octets, octets_total, in_order, touched}
 use Rattle.acap_inherit.proofs.IndexLemmas.{any_with, either_and, never}
 use Rattle.acap_inherit.proofs.MergeLemmas.{marked, itself, or_left, or_right, first_of, second_of, both_of}
 use Rattle.acap_inherit.proofs.UnreadLaws.{chain_alone}
@@ -61,10 +61,7 @@ any_one p (x ∷ xs) e =
 
 -- ---- the order
 
-pub octets_total : IsTotalOrder by_octets
-octets_total = then_total (on_texts full_path) (on_texts (λ (p : Path). p.dataset))
-
-both_equal : (a b : Ordering) → ordering_then a b ≡ Equal → (a ≡ Equal) × (b ≡ Equal)
+pub both_equal : (a b : Ordering) → ordering_then a b ≡ Equal → (a ≡ Equal) × (b ≡ Equal)
 both_equal Less b e = cc
 both_equal Equal b e = (refl, e)
 both_equal Greater b e = cc
@@ -97,10 +94,10 @@ by_parts p q =
     alike_if _ _
     (λ e. subst (λ (r : Path). (octets_eq p.dataset r.dataset && octets_eq p.name r.name) ≡ true) (path_is p q e) (both_of _ _ (itself p.dataset) (itself p.name)))
     (λ e.
-        let dataset = same_text p.dataset q.dataset (sym (first_of _ _ e)) in
-        let name = same_text p.name q.name (sym (second_of _ _ e)) in
-        let same : p ≡ q = λ i. record { dataset = dataset i; name = name i } in
-        subst (λ (r : Path). is_path p r ≡ true) same (own_path p))
+    let dataset = same_text p.dataset q.dataset (sym (first_of _ _ e)) in
+    let name = same_text p.name q.name (sym (second_of _ _ e)) in
+    let same : p ≡ q = λ i. record { dataset = dataset i; name = name i } in
+    subst (λ (r : Path). is_path p r ≡ true) same (own_path p))
 
 -- ---- lists in an order are known by what is in them
 
@@ -111,7 +108,7 @@ module _ {K : Type 0} (R : K → K → Ordering) (o : IsTotalOrder R) (same : Is
   pub same_list : (xs ys : List K) → Ascending R xs → Ascending R ys → ((q : K) → list_any (eq_by_cmp R q) xs ≡ list_any (eq_by_cmp R q) ys) → xs ≡ ys
   same_list xs ys a b h =
       let e = same_entries R o same (units xs) (units ys) (subst T (sym (order_of_units R o xs a)) tt) (subst T (sym (order_of_units R o ys b)) tt)
-          (λ q. marked _ _ (found_in xs q ∙ (h q ∙ sym (found_in ys q)))) in
+      (λ q. marked _ _ (found_in xs q ∙ (h q ∙ sym (found_in ys q)))) in
       sym (items_units xs) ∙ (ap items e ∙ items_units ys)
 
 pub order_rises : (xs : List Path) → Ascending by_octets (in_order xs)
@@ -120,7 +117,7 @@ order_rises (x ∷ xs) = (rank_holds by_octets octets_total).after_put x (in_ord
 
 -- ---- what is in the list of touched paths
 
-any_order : (p : Path) (xs : List Path) → list_any (is_path p) (in_order xs) ≡ list_any (is_path p) xs
+pub any_order : (p : Path) (xs : List Path) → list_any (is_path p) (in_order xs) ≡ list_any (is_path p) xs
 any_order p [] = refl
 any_order p (x ∷ xs) = any_with by_octets octets_total p x (in_order xs) ∙ ap (λ b. is_path p x || b) (any_order p xs)
 

@@ -1,14 +1,12 @@
 -- What is read of a path that is not touched.
-use Rattle.std.proofs.Common.{◌≡◌, ◌⊎◌, inl, inr, ℕ, zero, suc, Bool, true, false, ◌&&◌, ◌||◌, List, [], ◌∷◌, take, length, Option, Some, None, arith, refl, sym, ap, subst, ◌∙◌}
+use Rattle.std.proofs.Common.{◌≡◌, ◌⊎◌, inl, inr, ℕ, zero, suc, Bool, true, false, ◌&&◌, ◌||◌, List, [], ◌∷◌, take, Option, Some, None, arith, refl, sym, ap, subst, ◌∙◌}
 use Rattle.std.specs.Prelude.{is_some}
 use Rattle.std.specs.List.{list_any, Contains}
 use Rattle.std.specs.FinMap as map
 use Rattle.acap_entries.specs.Datasets.{dataset_exists}
 use Rattle.acap_entries.specs.Sound.{IsHoused}
 use Rattle.acap_entries.specs.Store.{Stored, Written, IsPathByPath, after_fate}
-use Rattle.acap_entries.specs.declared.fate.Fate.{Fate}
 use Rattle.acap_entries.specs.declared.path.Path.{Path}
-use Rattle.acap_entries.specs.declared.record.Record.{Record}
 use Rattle.acap_inherit.specs.Chains.{base_at, onward, chain_within, chain_of}
 use Rattle.acap_inherit.specs.Laws.{AgreeOn}
 use Rattle.acap_inherit.specs.Records.{record_at}
@@ -56,7 +54,7 @@ unwritten_on written old new h chain n e = λ m k. unwritten written old new h m
 turned : (old new : Stored) (chain : List (List ℕ)) (n : List ℕ) → AgreeOn old new chain n → AgreeOn new old chain n
 turned old new chain n h = λ m k. sym (h m k)
 
-same_chain : (old new : Stored) (dataset : List ℕ) → AgreeOn old new (chain_of old dataset false) [] → chain_of old dataset false ≡ chain_of new dataset false
+pub same_chain : (old new : Stored) (dataset : List ℕ) → AgreeOn old new (chain_of old dataset false) [] → chain_of old dataset false ≡ chain_of new dataset false
 same_chain old new dataset h = reading_law.chain old new dataset false (λ m k. h m (of_take 7 (chain_of old dataset false) m k))
 
 by_old : (written : Written) (old new : Stored) → IsPathByPath written old new → (dataset name : List ℕ) → is_written_on written (chain_of old dataset false) name ≡ false → is_written_on written (chain_of old dataset false) [] ≡ false

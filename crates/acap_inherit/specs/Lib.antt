@@ -9,4 +9,5 @@ pub mod Resolving
 pub mod Touched
 pub mod TouchedExamples
 pub mod TouchedLaws
+pub mod Touching
 pub mod Values

@@ -4,8 +4,10 @@ use Rattle.std.specs.FinMap as map
 use Rattle.std.specs.List.{filter, flat_map, list_any}
 use Rattle.std.specs.declared.cmp.Ordering.{Ordering}
 use Rattle.std.specs.Ordering.{ordering_then}
+use Rattle.std.specs.Cmp.{IsTotalOrder, then_total}
+use Rattle.std.specs.Cmp.Lexicographic.{on_texts}
 use Rattle.acap_entries.specs.Datasets.{dataset_exists}
-use Rattle.acap_entries.specs.FullPaths.{full_path_cmp}
+use Rattle.acap_entries.specs.FullPaths.{full_path, full_path_cmp}
 use Rattle.acap_entries.specs.Orders.{octets_cmp}
 use Rattle.acap_entries.specs.Ranks.{with_item}
 use Rattle.acap_entries.specs.Store.{Stored, Written}
@@ -52,10 +54,17 @@ in_question written old = crossed (paths_known written old) (paths_known written
 abbrev pub by_octets : Path → Path → Ordering
 by_octets a b = ordering_then (full_path_cmp a b) (octets_cmp a.dataset b.dataset)
 
+pub octets_total : IsTotalOrder by_octets
+octets_total = then_total (on_texts full_path) (on_texts (λ (p : Path). p.dataset))
+
+-- items put in their places among some in an order, each once
+abbrev pub ordered_among : {K : Type 0} → (K → K → Ordering) → List K → List K → List K
+ordered_among R [] others = others
+ordered_among R (x ∷ xs) others = with_item R x (ordered_among R xs others)
+
 -- some paths in that order, each once
 abbrev pub in_order : List Path → List Path
-in_order [] = []
-in_order (p ∷ ps) = with_item by_octets p (in_order ps)
+in_order paths = ordered_among by_octets paths []
 
 -- the paths that a change touches
 unfoldable pub touched : Written → Stored → Stored → List Path

@@ -4,6 +4,8 @@
 mod chains;
 mod entry_names;
 mod found;
+mod full_path;
+mod heirs;
 mod laws;
 mod lent;
 mod lineage;
@@ -14,14 +16,15 @@ mod prepared;
 mod range;
 mod resolved;
 mod resolving;
+mod touching;
 
 pub use chains::chain;
 pub use entry_names::{EntryNames, names_on};
 pub use found::Found;
 pub use laws::{
     base_law, chain_examples, chain_law, first_dataset_law, first_law, moment_examples, moment_law,
-    names_law, nothing_law, over_base_examples, reading_law, repeat_law, touched_examples, touched_law,
-    unread_law,
+    names_law, nothing_law, over_base_examples, reading_law, repeat_law, touched_examples,
+    touched_law, unread_law,
 };
 pub use lent::Lent;
 pub use lineage::Lineage;

@@ -5,15 +5,18 @@ ghost use Rattle.acap_entries.specs.Store.{Store, empty_store};
 ghost use Rattle.acap_inherit.specs.Chains.{chain_of};
 ghost use Rattle.acap_inherit.specs.Index.{IsIndexOf, settled};
 ghost use Rattle.acap_inherit.specs.Resolving as rule;
+ghost use Rattle.acap_inherit.specs.Touched.{touched};
 ghost use Rattle.acap_inherit.specs.Values.{found_of};
 
 use crate::chains::chain;
 use crate::found::Found;
+use crate::heirs::datasets_reached;
 use crate::link::Link;
 use crate::linking::{links_written, put_all, take_all};
 use crate::prepared::Prepared;
 use crate::resolving::resolve;
-use acap_entries::{After, Boxed, Change, Dataset, Memory, Ranked, Records, Tree};
+use crate::touching::paths_found;
+use acap_entries::{After, Boxed, Change, Dataset, Memory, Paths, Ranked, Records, Tree};
 use std::alloc::Global;
 use std::marker::Model;
 
@@ -87,6 +90,18 @@ impl Resolved {
         let Prepared { taken, put } = prepared;
         take_all(&mut self.links, taken);
         put_all(&mut self.links, put);
+    }
+
+    /// The paths that a change touches, each once, in the order of their full octets: each may show something else afterwards,
+    /// and no other does. Looks at the heirs of written datasets and not at the rest of the store. Fails only for want of
+    /// memory.
+    pub fn touched(&self, tree: &Tree, change: &Change) -> Result<Paths, Memory>
+        requires { IsIndexOf tree.now.store.records self.now.0 }
+        ensures { IfOk result (λ paths. (new : Store) → IsStoreAfter change.now tree.now.store new → paths ≡ touched change.now.writes tree.now.store.records new.records) }
+    {
+        let alloc = change.deleted.allocator();
+        let datasets = datasets_reached(alloc, &self.links, &change.writes)?;
+        paths_found(tree, change, &datasets)
     }
 
     /// An equal index. Fails only for want of memory.
