@@ -39,7 +39,7 @@ regrouped : (a b c : Bool) → (a || (b || c)) ≡ ((a || b) || c)
 regrouped true b c = refl
 regrouped false b c = refl
 
-or_false : (a : Bool) → (a || false) ≡ a
+pub or_false : (a : Bool) → (a || false) ≡ a
 or_false true = refl
 or_false false = refl
 
@@ -69,14 +69,14 @@ twice_or false = refl
 
 -- ---- the datasets
 
-any_among : {K : Type 0} (R : K → K → Ordering) (o : IsTotalOrder R) (q : K) (xs acc : List K) → list_any (eq_by_cmp R q) (ordered_among R xs acc) ≡ (list_any (eq_by_cmp R q) xs || list_any (eq_by_cmp R q) acc)
+pub any_among : {K : Type 0} (R : K → K → Ordering) (o : IsTotalOrder R) (q : K) (xs acc : List K) → list_any (eq_by_cmp R q) (ordered_among R xs acc) ≡ (list_any (eq_by_cmp R q) xs || list_any (eq_by_cmp R q) acc)
 any_among R o q [] acc = refl
 any_among R o q (x ∷ xs) acc =
     any_with R o q x (ordered_among R xs acc)
     ∙ (ap (λ b. eq_by_cmp R q x || b) (any_among R o q xs acc) ∙ regrouped (eq_by_cmp R q x) (list_any (eq_by_cmp R q) xs) (list_any (eq_by_cmp R q) acc))
 
 -- whether a dataset is among some
-abbrev is_in : List ℕ → List (List ℕ) → Bool
+abbrev pub is_in : List ℕ → List (List ℕ) → Bool
 is_in d ds = list_any (is_name d) ds
 
 -- whether the base of a dataset is
@@ -84,7 +84,7 @@ abbrev based_in : Option (List ℕ) → List (List ℕ) → Bool
 based_in None ds = false
 based_in (Some base) ds = is_in base ds
 
-name_turned : (a b : List ℕ) → octets_eq b a ≡ is_name a b
+pub name_turned : (a b : List ℕ) → octets_eq b a ≡ is_name a b
 name_turned a b = texts_ties b a ∙ (eq_by_cmp_equiv nat_list_cmp_total).symm b a
 
 based_one : (found : Option (List ℕ)) (ds : List (List ℕ)) → list_any (λ b. is_base found b) ds ≡ based_in found ds
@@ -146,13 +146,13 @@ all_levels (suc k) records links index level acc d =
     ∙ ap (λ b. is_in d acc || b) (sym (first_one (suc k) records (λ m. is_in m level) d)))))
 
 -- whether something is written in a dataset
-abbrev wrote : Written → List ℕ → Bool
+abbrev pub wrote : Written → List ℕ → Bool
 wrote written d = is_in d (datasets_written written)
 
-reached_datasets : (written : Written) (records : Stored) (links : List Link) → IsIndexOf records links → (d : List ℕ) → is_in d (datasets_reached written links) ≡ list_any (wrote written) (chain_of records d false)
+pub reached_datasets : (written : Written) (records : Stored) (links : List Link) → IsIndexOf records links → (d : List ℕ) → is_in d (datasets_reached written links) ≡ list_any (wrote written) (chain_of records d false)
 reached_datasets written records links index d = all_levels 7 records links index (datasets_written written) [] d
 
-keys_of_datasets : (d : List ℕ) (ps : List Path) (es : List (Path × Fate)) → each (λ (e : Path × Fate). e.0) es ≡ ps → is_in d (each (λ (e : Path × Fate). e.0.dataset) es) ≡ list_any (λ (p : Path). is_name d p.dataset) ps
+pub keys_of_datasets : (d : List ℕ) (ps : List Path) (es : List (Path × Fate)) → each (λ (e : Path × Fate). e.0) es ≡ ps → is_in d (each (λ (e : Path × Fate). e.0.dataset) es) ≡ list_any (λ (p : Path). is_name d p.dataset) ps
 keys_of_datasets d ps [] e = ap (list_any (λ (p : Path). is_name d p.dataset)) e
 keys_of_datasets d ps (w ∷ es) e = ap (λ b. is_name d w.0.dataset || b) (keys_of_datasets d (each (λ (e : Path × Fate). e.0) es) es refl) ∙ ap (list_any (λ (p : Path). is_name d p.dataset)) e
 
@@ -301,7 +301,7 @@ in_below written old new h p d =
       | false ↦ λ e. in_along written old false p d (chain_of old d false) ∙ ap (λ b. is_name p.dataset d && b) (unmanaged written old new h d p.name e)
     ] refl
 
-in_dataset : (written : Written) (old new : Stored) → IsPathByPath written old new → (p : Path) (d : List ℕ) → in_paths p (paths_in written old new d) ≡ (is_name p.dataset d && is_touched written old new p)
+pub in_dataset : (written : Written) (old new : Stored) → IsPathByPath written old new → (p : Path) (d : List ℕ) → in_paths p (paths_in written old new d) ≡ (is_name p.dataset d && is_touched written old new p)
 unfolding is_touched reach_of
 in_dataset written old new h p d =
     elim (dataset_exists new d) as (λ b. in_paths p (if b then paths_below written old new d else []) ≡ (is_name p.dataset d && (b && reach_of written old new d p.name))) [
@@ -322,7 +322,7 @@ in_datasets written old new h p (d ∷ ds) =
 
 -- ---- all of them
 
-touched_reached : (written : Written) (old new : Stored) (links : List Link) → IsPathByPath written old new → IsIndexOf old links → (p : Path) → is_touched written old new p ≡ true → is_in p.dataset (datasets_reached written links) ≡ true
+pub touched_reached : (written : Written) (old new : Stored) (links : List Link) → IsPathByPath written old new → IsIndexOf old links → (p : Path) → is_touched written old new p ≡ true → is_in p.dataset (datasets_reached written links) ≡ true
 unfolding is_touched
 touched_reached written old new links h index p e =
     reached_datasets written old links index p.dataset

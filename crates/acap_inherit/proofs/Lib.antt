@@ -9,6 +9,7 @@ mod MergeLemmas
 mod Moments
 mod NameLemmas
 mod NamesLaws
+mod PartLemmas
 mod ReadingLaws
 mod RepeatLaws
 mod Sampling

@@ -74,7 +74,7 @@ same_paths a b e =
     let name = append_cancel_left b.dataset a.name b.name (ap (λ d. d ++ a.name) (sym dataset) ∙ full) in
     λ i. record { dataset = dataset i; name = name i }
 
-equal : (r : Ordering) → is_eq r ≡ true → r ≡ Equal
+pub equal : (r : Ordering) → is_eq r ≡ true → r ≡ Equal
 equal Less e = cc
 equal Equal e = refl
 equal Greater e = cc

@@ -8,7 +8,7 @@ use Rattle.std.specs.Cmp.{IsTotalOrder, then_total}
 use Rattle.std.specs.Cmp.Lexicographic.{on_texts}
 use Rattle.acap_entries.specs.Datasets.{dataset_exists}
 use Rattle.acap_entries.specs.FullPaths.{full_path, full_path_cmp}
-use Rattle.acap_entries.specs.Orders.{octets_cmp}
+use Rattle.acap_entries.specs.Orders.{octets_cmp, octets_eq}
 use Rattle.acap_entries.specs.Ranks.{with_item}
 use Rattle.acap_entries.specs.Store.{Stored, Written}
 use Rattle.acap_entries.specs.declared.path.Path.{Path}
@@ -69,3 +69,10 @@ in_order paths = ordered_among by_octets paths []
 -- the paths that a change touches
 unfoldable pub touched : Written → Stored → Stored → List Path
 touched written old new = in_order (filter (is_touched written old new) (in_question written old))
+
+-- the datasets of these, each once, and of one dataset those that are in it
+abbrev pub datasets_touched : Written → Stored → Stored → List (List ℕ)
+datasets_touched written old new = ordered_among octets_cmp (each (λ p. p.dataset) (touched written old new)) []
+
+abbrev pub touched_at : Written → Stored → Stored → List ℕ → List Path
+touched_at written old new dataset = filter (λ p. octets_eq dataset p.dataset) (touched written old new)

@@ -16,6 +16,7 @@ mod prepared;
 mod range;
 mod resolved;
 mod resolving;
+mod touched_dataset;
 mod touching;
 
 pub use chains::chain;
@@ -32,3 +33,5 @@ pub use link::Link;
 pub use prepared::Prepared;
 pub use resolved::Resolved;
 pub use resolving::{entry_exists, modtime, resolve};
+pub use touched_dataset::TouchedDataset;
+pub use touching::touched_at;

@@ -1,11 +1,12 @@
 //! The index from datasets to those that inherit from them, kept up to date by changes.
-ghost use Rattle.std.specs.Prelude.{◌≡◌, ◌≤◌, length, IfOk, OnOk};
+ghost use Rattle.std.specs.Prelude.{◌≡◌, ◌≤◌, length, map, IfOk, OnOk};
 ghost use Rattle.acap_entries.specs.Changes.{IsStoreAfter};
 ghost use Rattle.acap_entries.specs.Store.{Store, empty_store};
 ghost use Rattle.acap_inherit.specs.Chains.{chain_of};
 ghost use Rattle.acap_inherit.specs.Index.{IsIndexOf, settled};
 ghost use Rattle.acap_inherit.specs.Resolving as rule;
-ghost use Rattle.acap_inherit.specs.Touched.{touched};
+ghost use Rattle.acap_inherit.specs.Touched.{touched, datasets_touched};
+ghost use Rattle.acap_inherit.specs.Touching.{touched_dataset};
 ghost use Rattle.acap_inherit.specs.Values.{found_of};
 
 use crate::chains::chain;
@@ -15,7 +16,8 @@ use crate::link::Link;
 use crate::linking::{links_written, put_all, take_all};
 use crate::prepared::Prepared;
 use crate::resolving::resolve;
-use crate::touching::paths_found;
+use crate::touched_dataset::TouchedDataset;
+use crate::touching::{datasets_found, paths_found};
 use acap_entries::{After, Boxed, Change, Dataset, Memory, Paths, Ranked, Records, Tree};
 use std::alloc::Global;
 use std::marker::Model;
@@ -102,6 +104,18 @@ impl Resolved {
         let alloc = change.deleted.allocator();
         let datasets = datasets_reached(alloc, &self.links, &change.writes)?;
         paths_found(tree, change, &datasets)
+    }
+
+    /// The datasets in which a change touches something, each once, in the order of their octets; of these the caller asks
+    /// `touched_at` for the paths in one. All of them together are what `touched` lists. No name is looked at. Fails only for
+    /// want of memory.
+    pub fn touched_in(&self, tree: &Tree, change: &Change) -> Result<Vec<TouchedDataset>, Memory>
+        requires { IsIndexOf tree.now.store.records self.now.0 }
+        ensures { IfOk result (λ made. (new : Store) → IsStoreAfter change.now tree.now.store new → made.items ≡ map (touched_dataset change.now.writes tree.now.store.records) (datasets_touched change.now.writes tree.now.store.records new.records)) }
+    {
+        let alloc = change.deleted.allocator();
+        let datasets = datasets_reached(alloc, &self.links, &change.writes)?;
+        datasets_found(tree, change, &datasets)
     }
 
     /// An equal index. Fails only for want of memory.

@@ -1,13 +1,17 @@
 //! Which paths a change touches.
-ghost use Rattle.std.specs.Prelude.{◌≡◌, ◌++◌, [], ◌∷◌, IfOk, OnOk};
-ghost use Rattle.acap_entries.specs.Changes.{left_by};
-ghost use Rattle.acap_inherit.specs.Touched.{is_written_on};
+ghost use Rattle.std.specs.Prelude.{◌≡◌, ◌++◌, [], ◌∷◌, if◌then◌else◌, IfOk, OnOk};
+ghost use Rattle.acap_entries.specs.Changes.{left_by, IsStoreAfter};
+ghost use Rattle.acap_entries.specs.Datasets.{dataset_exists};
+ghost use Rattle.acap_entries.specs.Store.{Store};
+ghost use Rattle.acap_inherit.specs.Touched as rules;
+ghost use Rattle.acap_inherit.specs.Touched.{is_written_on, in_order};
 ghost use Rattle.acap_inherit.specs.Touching as rule;
 
 use crate::chains::chain;
 use crate::full_path::FullPath;
 use crate::heirs::put_among;
 use crate::lineage::Lineage;
+use crate::touched_dataset::TouchedDataset;
 use acap_entries::{
     After, Boxed, Change, Copying, Dataset, EntryName, Memory, Path, Paths, Ranked, Records, Tree,
     Writes,
@@ -135,6 +139,16 @@ fn listed(paths: &Ranked<Boxed<FullPath>>, mut made: Paths) -> Result<Paths, Mem
     Ok(made)
 }
 
+// Paths in the order of their full octets, each once.
+fn in_order(found: Vec<Boxed<FullPath>>) -> Result<Paths, Memory>
+    ensures { IfOk result (λ paths. paths ≡ in_order found.items) }
+{
+    let alloc = *found.allocator();
+    let mut paths = Ranked::new(alloc);
+    put_among(&mut paths, found)?;
+    listed(&paths, Paths::new(alloc))
+}
+
 /// The touched paths of some datasets. Fails only for want of memory.
 pub(crate) fn paths_found(
     tree: &Tree,
@@ -149,7 +163,55 @@ pub(crate) fn paths_found(
     for dataset in datasets.iter() {
         add_touched(&after, dataset.get(), &mut found)?;
     }
-    let mut paths = Ranked::new(alloc);
-    put_among(&mut paths, found)?;
-    listed(&paths, Paths::new(alloc))
+    in_order(found)
+}
+
+// The touched paths of one dataset.
+fn paths_at(tree: &Tree, change: &Change, dataset: &Dataset) -> Result<Paths, Memory>
+    ensures { IfOk result (λ paths. paths ≡ in_order (rule.paths_in change.now.writes tree.now.store.records (left_by change.now.writes change.now.moment tree.now.store).records dataset.now)) }
+{
+    let after = After::of(tree, change);
+    let mut found = Vec::new(change.deleted.allocator());
+    add_touched(&after, dataset, &mut found)?;
+    in_order(found)
+}
+
+/// The paths of one dataset that a change touches, in the order of their names. Looks at the dataset's chains alone, and
+/// fails only for want of memory.
+pub fn touched_at(tree: &Tree, change: &Change, dataset: &Dataset) -> Result<Paths, Memory>
+    ensures { IfOk result (λ paths. (new : Store) → IsStoreAfter change.now tree.now.store new → paths ≡ rules.touched_at change.now.writes tree.now.store.records new.records dataset.now) }
+{
+    paths_at(tree, change, dataset)
+}
+
+// Adds a dataset, if it exists afterwards.
+fn add_dataset(
+    after: &After<'_>,
+    dataset: &Dataset,
+    made: &mut Vec<TouchedDataset>,
+) -> Result<(), Memory>
+    ensures { OnOk result (made.new.items ≡ made.old.items ++ (if dataset_exists (left_by after.now.writes.now after.now.moment after.now.tree.now.store).records dataset.now then rule.touched_dataset after.now.writes.now after.now.tree.now.store.records dataset.now ∷ [] else [])) }
+{
+    if after.dataset_exists(dataset.as_slice()) {
+        let all = is_managed(after.writes, &chain(after.tree, dataset, false));
+        let dataset = dataset.copy()?;
+        made.push(TouchedDataset { dataset, all })?;
+    }
+    Ok(())
+}
+
+/// Those of some datasets that exist afterwards. Fails only for want of memory.
+pub(crate) fn datasets_found(
+    tree: &Tree,
+    change: &Change,
+    datasets: &Ranked<Boxed<Dataset>>,
+) -> Result<Vec<TouchedDataset>, Memory>
+    ensures { IfOk result (λ made. made.items ≡ rule.datasets_found change.now.writes tree.now.store.records (left_by change.now.writes change.now.moment tree.now.store).records datasets.now.0) }
+{
+    let after = After::of(tree, change);
+    let mut made = Vec::new(change.deleted.allocator());
+    for dataset in datasets.iter() {
+        add_dataset(&after, dataset.get(), &mut made)?;
+    }
+    Ok(made)
 }
