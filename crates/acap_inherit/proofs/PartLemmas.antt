@@ -9,6 +9,7 @@ use Rattle.std.specs.declared.cmp.Ordering.{Ordering}
 use Rattle.std.specs.Ordering.{eq_by_cmp, is_eq}
 use Rattle.std.specs.Cmp.{IsTotalOrder, tied_itself}
 use Rattle.std.specs.Cmp.Lexicographic.{nat_list_cmp_total}
+use Rattle.std.proofs.lemmas.List.Folds.{list_any-append}
 use Rattle.acap_entries.specs.Changes.{IsStoreAfter}
 use Rattle.acap_entries.specs.Datasets.{dataset_exists}
 use Rattle.acap_entries.specs.Orders.{octets_cmp, octets_eq}
@@ -29,7 +30,7 @@ use Rattle.acap_inherit.proofs.FoundLemmas.{any_among, is_in, wrote, reached_dat
 use Rattle.acap_inherit.proofs.IndexLemmas.{never}
 use Rattle.acap_inherit.proofs.MergeLemmas.{is_name, or_left, or_right, first_of, second_of, both_of}
 use Rattle.acap_inherit.proofs.NameLemmas.{yes}
-use Rattle.acap_inherit.proofs.TouchedLemmas.{is_path, same_paths, alike_if, any_weaker, any_order, order_rises, same_list, any_touched, touched_rises, equal}
+use Rattle.acap_inherit.proofs.TouchedLemmas.{is_path, same_paths, alike_if, any_weaker, any_order, order_rises, same_list, any_touched, touched_rises, equal, absorbed}
 
 -- ---- parts of lists in an order
 
@@ -184,3 +185,34 @@ found_in change old new links left datasets made index h same d e =
     ∙ ((λ i. datasets_found change.writes old.records (same i) (d i))
     ∙ (each_part (dataset_exists new.records) (touched_dataset change.writes old.records) (datasets_reached change.writes links)
     ∙ ap (each (touched_dataset change.writes old.records)) (part_datasets change.writes old.records new.records links h.paths index)))
+
+-- ---- all datasets together
+
+either_same : (a b c : Bool) → ((c && a) || (b && c)) ≡ ((a || b) && c)
+either_same true true true = refl
+either_same true true false = refl
+either_same true false true = refl
+either_same true false false = refl
+either_same false true true = refl
+either_same false true false = refl
+either_same false false true = refl
+either_same false false false = refl
+
+in_parts : (written : Written) (old new : Stored) (p : Path) (ds : List (List ℕ)) → list_any (is_path p) (flat_map (touched_at written old new) ds) ≡ (is_in p.dataset ds && list_any (is_path p) (touched written old new))
+in_parts written old new p [] = refl
+in_parts written old new p (d ∷ ds) =
+    list_any-append (is_path p) (touched_at written old new d) (flat_map (touched_at written old new) ds)
+    ∙ ((λ i. (any_part by_octets octets_total same_paths (λ p. octets_eq d p.dataset) p (touched written old new) ∙ ap (λ b. list_any (is_path p) (touched written old new) && b) (name_turned p.dataset d)) i || in_parts written old new p ds i)
+    ∙ either_same (is_name p.dataset d) (is_in p.dataset ds) (list_any (is_path p) (touched written old new)))
+
+dataset_of_path : (written : Written) (old new : Stored) (p : Path) → list_any (is_path p) (touched written old new) ≡ true → is_in p.dataset (datasets_touched written old new) ≡ true
+dataset_of_path written old new p e =
+    any_among octets_cmp nat_list_cmp_total p.dataset (each (λ (q : Path). q.dataset) (touched written old new)) []
+    ∙ (or_false _ ∙ (any_each (is_name p.dataset) (λ (q : Path). q.dataset) (touched written old new)
+    ∙ any_weaker (is_path p) (λ (q : Path). is_name p.dataset q.dataset) (λ q t. ap (λ (r : Path). is_name p.dataset r.dataset) (sym (same_paths p q (equal _ t))) ∙ ap is_eq (tied_itself nat_list_cmp_total p.dataset)) (touched written old new) e))
+
+pub together : (written : Written) (old new : Stored) → in_order (flat_map (touched_at written old new) (datasets_touched written old new)) ≡ touched written old new
+together written old new =
+    let parts = flat_map (touched_at written old new) (datasets_touched written old new) in
+    same_list by_octets octets_total same_paths (in_order parts) (touched written old new) (order_rises parts) (touched_rises written old new)
+    (λ p. any_order p parts ∙ (in_parts written old new p (datasets_touched written old new) ∙ absorbed (is_in p.dataset (datasets_touched written old new)) (list_any (is_path p) (touched written old new)) (dataset_of_path written old new p)))

@@ -1,6 +1,6 @@
 -- What follows of touched paths from the definition alone [RFC 2244 sections 5.1 and 5.2].
 use Rattle.std.specs.Prelude.{◌≡◌, ◌⊎◌, ℕ, Bool, true, false, List, []}
-use Rattle.std.specs.List.{list_any}
+use Rattle.std.specs.List.{list_any, flat_map}
 use Rattle.std.specs.Ordering.{eq_by_cmp}
 use Rattle.acap_entries.specs.Datasets.{dataset_exists}
 use Rattle.acap_entries.specs.FullPaths.{full_path_cmp, IsWellFormed}
@@ -11,7 +11,7 @@ use Rattle.acap_entries.specs.declared.path.Path.{Path}
 use Rattle.acap_inherit.specs.Chains.{chain_of}
 use Rattle.acap_inherit.specs.Laws.{AgreeOn}
 use Rattle.acap_inherit.specs.Resolving.{resolved, entry_exists, modtime_of}
-use Rattle.acap_inherit.specs.Touched.{has_record_on, is_touched, by_octets, touched}
+use Rattle.acap_inherit.specs.Touched.{has_record_on, is_touched, by_octets, in_order, touched, datasets_touched, touched_at}
 
 -- writes lead from one store to another, in both of which the dataset of each record exists, and take no dataset away
 pub record IsStep (written : Written) (old new : Stored) : Type 0 where
@@ -47,9 +47,10 @@ pub record UnreadLaw : Type 0 where
       → IsAnsweredAlike old new p.dataset p.name
 
 -- the list of touched paths is that of all of them, whatever is in question, and each comes once, in the order of full octets: well-formed
--- paths, of which a store is made, are told apart by these alone
+-- paths, of which a store is made, are told apart by these alone. Those of each touched dataset are all of them together
 pub record TouchedLaw : Type 0 where
   pub all : (written : Written) (old new : Stored) → IsPathByPath written old new → (p : Path)
       → list_any (eq_by_cmp by_octets p) (touched written old new) ≡ is_touched written old new p
   pub rises : (written : Written) (old new : Stored) → Ascending by_octets (touched written old new)
+  pub together : (written : Written) (old new : Stored) → in_order (flat_map (touched_at written old new) (datasets_touched written old new)) ≡ touched written old new
   pub formed : (a b : Path) → IsWellFormed a → IsWellFormed b → by_octets a b ≡ full_path_cmp a b

@@ -192,11 +192,12 @@ fn add_dataset(
 ) -> Result<(), Memory>
     ensures { OnOk result (made.new.items ≡ made.old.items ++ (if dataset_exists (left_by after.now.writes.now after.now.moment after.now.tree.now.store).records dataset.now then rule.touched_dataset after.now.writes.now after.now.tree.now.store.records dataset.now ∷ [] else [])) }
 {
-    if after.dataset_exists(dataset.as_slice()) {
-        let all = is_managed(after.writes, &chain(after.tree, dataset, false));
-        let dataset = dataset.copy()?;
-        made.push(TouchedDataset { dataset, all })?;
+    if !after.dataset_exists(dataset.as_slice()) {
+        return Ok(());
     }
+    let all = is_managed(after.writes, &chain(after.tree, dataset, false));
+    let dataset = dataset.copy()?;
+    made.push(TouchedDataset { dataset, all })?;
     Ok(())
 }
 
