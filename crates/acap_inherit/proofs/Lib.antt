@@ -1,3 +1,4 @@
+mod AfterNames
 mod ChainLaws
 mod ChainSteps
 mod ExampleLemmas

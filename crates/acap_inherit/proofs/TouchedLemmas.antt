@@ -167,7 +167,7 @@ any_crossed p (d ∷ ds) ns =
 -- ---- what is touched is in question
 
 -- whether a path is written or has a record before
-abbrev is_known : Written → Stored → List ℕ → List ℕ → Bool
+abbrev pub is_known : Written → Stored → List ℕ → List ℕ → Bool
 is_known written old m n = is_written written m n || is_some (record_at old m n)
 
 abbrev path_at : List ℕ → List ℕ → Path
@@ -183,10 +183,10 @@ known_by written old test m n h e =
     ] refl e
 
 -- a store each of whose records was there before or is written
-abbrev IsKnown : Written → Stored → Stored → Type 0
+abbrev pub IsKnown : Written → Stored → Stored → Type 0
 IsKnown written old records = (m n : List ℕ) → is_some (record_at records m n) ≡ true → is_known written old m n ≡ true
 
-known_after : (written : Written) (old new : Stored) → IsPathByPath written old new → IsKnown written old new
+pub known_after : (written : Written) (old new : Stored) → IsPathByPath written old new → IsKnown written old new
 known_after written old new h m n e =
     elim (map.get written (path_at m n)) as (λ (found : Option Fate). map.get written (path_at m n) ≡ found → (is_some found || is_some (record_at old m n)) ≡ true) [
       | Some fate ↦ λ _. refl

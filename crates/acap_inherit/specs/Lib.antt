@@ -4,6 +4,7 @@ pub mod Examples
 pub mod Index
 pub mod Laws
 pub mod Merging
+pub mod NamesAfter
 pub mod Records
 pub mod Resolving
 pub mod Touched
