@@ -1,11 +1,11 @@
 -- The names along a chain that a change will leave are those that have a record there afterwards.
-use Rattle.std.proofs.Common.{◌≡◌, ℕ, Bool, true, false, cond, ◌&&◌, ◌||◌, List, [], ◌∷◌, ◌++◌, map as each, Option, Some, None, refl, sym, ap, subst, ◌∙◌}
+use Rattle.std.proofs.Common.{◌≡◌, ℕ, Bool, true, false, ◌&&◌, ◌||◌, List, [], ◌∷◌, map as each, refl, sym, ap, ◌∙◌}
 use Rattle.std.specs.Prelude.{is_some, if◌then◌else◌}
 use Rattle.std.specs.FinMap as map
 use Rattle.std.specs.FinMap.{is_sorted}
 use Rattle.std.specs.FinMap.Entries.{below_all}
 use Rattle.std.specs.List.{list_any, flat_map}
-use Rattle.std.specs.Ordering.{eq_by_cmp, is_eq, is_lt}
+use Rattle.std.specs.Ordering.{eq_by_cmp, is_lt}
 use Rattle.std.specs.Cmp.Lexicographic.{nat_list_cmp_total, same_text, texts_ties}
 use Rattle.std.proofs.lemmas.List.Folds.{list_any-append}
 use Rattle.acap_entries.specs.Changes.{IsStoreAfter}
@@ -21,7 +21,7 @@ use Rattle.acap_inherit.specs.EntryNames.{names_in, names_on}
 use Rattle.acap_inherit.specs.Merging.{is_below, is_rising}
 use Rattle.acap_inherit.specs.NamesAfter.{name_left, names_left_written, names_left_stored, names_left_in, names_left}
 use Rattle.acap_inherit.specs.Records.{record_at}
-use Rattle.acap_inherit.specs.Touched.{is_written, ordered_among}
+use Rattle.acap_inherit.specs.Touched.{is_written}
 use Rattle.acap_inherit.specs.Touching.{path_at}
 use Rattle.acap_inherit.proofs.FoundLemmas.{any_among, is_in, or_false}
 use Rattle.acap_inherit.proofs.IndexLemmas.{either_and, never}
