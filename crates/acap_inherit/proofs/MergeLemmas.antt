@@ -134,7 +134,7 @@ in_set xs q =
     ap is_some (names.get-from_entries total (map (λ name. (name, tt)) xs) q)
     ∙ (is_some-find octets_cmp q (map (λ name. (name, tt)) xs) ∙ ap (list_any (is_name q)) (keys_listed xs))
 
-marked : (x y : Option (Unit {0})) → is_some x ≡ is_some y → x ≡ y
+pub marked : (x y : Option (Unit {0})) → is_some x ≡ is_some y → x ≡ y
 marked None None e = refl
 marked None (Some b) e = cc
 marked (Some a) None e = cc
@@ -230,7 +230,7 @@ all_lower : (m n : List ℕ) (lists : List (List (List ℕ))) → is_lt (octets_
 all_lower m n [] h l = refl
 all_lower m n (xs ∷ lists) h l = both_of _ _ (least_lower m n xs h (first_of _ _ l)) (all_lower m n lists h (second_of _ _ l))
 
-itself : (m : List ℕ) → octets_eq m m ≡ true
+pub itself : (m : List ℕ) → octets_eq m m ≡ true
 itself m = texts_ties m m ∙ ap is_eq (tied_itself total m)
 
 none_least : (m : List ℕ) (lists : List (List (List ℕ))) → list_all is_ended lists ≡ true → list_all (is_least m) lists ≡ true
@@ -241,11 +241,11 @@ none_least m ((x ∷ xs) ∷ lists) e = cc
 all_snoc : (p : List (List ℕ) → Bool) (lists : List (List (List ℕ))) (xs : List (List ℕ)) → list_all p lists ≡ true → p xs ≡ true → list_all p (lists ++ xs ∷ []) ≡ true
 all_snoc p lists xs a b = list_all-append p lists (xs ∷ []) ∙ both_of _ _ a (both_of _ _ b refl)
 
-or_left : (a b : Bool) → a ≡ true → (a || b) ≡ true
+pub or_left : (a b : Bool) → a ≡ true → (a || b) ≡ true
 or_left true b e = refl
 or_left false b e = cc
 
-or_right : (a b : Bool) → b ≡ true → (a || b) ≡ true
+pub or_right : (a b : Bool) → b ≡ true → (a || b) ≡ true
 or_right true b e = refl
 or_right false b e = e
 

@@ -23,7 +23,7 @@ use Rattle.acap_inherit.proofs.NameLemmas.{first, second, yes}
 
 -- ---- a name is listed in a dataset exactly where there is a record
 
-tied_parts : (a b : Ordering) → is_eq (ordering_then a b) ≡ (is_eq a && is_eq b)
+pub tied_parts : (a b : Ordering) → is_eq (ordering_then a b) ≡ (is_eq a && is_eq b)
 tied_parts Less b = refl
 tied_parts Equal b = refl
 tied_parts Greater b = refl
@@ -43,7 +43,7 @@ any_filtered q d (e ∷ es) =
     ]
     ∙ ap (λ b. b || behind) (sym (tied_parts (octets_cmp d e.0.dataset) (octets_cmp q e.0.name))))
 
-listed : (records : Stored) (q d : List ℕ) → list_any (is_name q) (names_in records d) ≡ is_some (record_at records d q)
+pub listed : (records : Stored) (q d : List ℕ) → list_any (is_name q) (names_in records d) ≡ is_some (record_at records d q)
 listed records q d = any_filtered q d (names.entries records) ∙ sym (names.contains_key-keys records (path_at d q))
 
 listed_on : (records : Stored) (q : List ℕ) (chain : List (List ℕ)) → list_any (is_name q) (all_of (map (names_in records) chain)) ≡ list_any (λ d. is_some (record_at records d q)) chain

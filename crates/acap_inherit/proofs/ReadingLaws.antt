@@ -23,10 +23,10 @@ of_one [] d h = h
 of_one (x ∷ chain) d (zero, k, e) = (zero, omega arith, e)
 of_one (x ∷ chain) d (suc i, k, e) = absurd (omega (arith, k))
 
-of_members_for : (chain : List (List ℕ)) (name d : List ℕ) → Contains (members_for chain name) d → Contains chain d
+pub of_members_for : (chain : List (List ℕ)) (name d : List ℕ) → Contains (members_for chain name) d → Contains chain d
 of_members_for chain name d = elim (length name == 0) as (λ b. Contains (if b then take 1 chain else chain) d → Contains chain d) [ true ↦ of_one chain d | false ↦ λ h. h ]
 
-of_members : (chain : List (List ℕ)) (name attribute d : List ℕ) → Contains (members_of chain name attribute) d → Contains chain d
+pub of_members : (chain : List (List ℕ)) (name attribute d : List ℕ) → Contains (members_of chain name attribute) d → Contains chain d
 of_members chain name attribute d =
     elim (octets_eq attribute (codes "subdataset")) as (λ b. Contains (if b then take 1 chain else members_for chain name) d → Contains chain d) [ true ↦ of_one chain d | false ↦ of_members_for chain name d ]
 

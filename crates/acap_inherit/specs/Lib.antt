@@ -1,8 +1,14 @@
 pub mod Chains
 pub mod EntryNames
 pub mod Examples
+pub mod Index
 pub mod Laws
 pub mod Merging
+pub mod NamesAfter
 pub mod Records
 pub mod Resolving
+pub mod Touched
+pub mod TouchedExamples
+pub mod TouchedLaws
+pub mod Touching
 pub mod Values

@@ -9,7 +9,7 @@ use acap_entries::{Cell, Dataset, Records};
 use arrayvec::ArrayVec;
 
 // The dataset that a dataset inherits from.
-fn base_of<'a, R: Records>(records: &'a R, dataset: &[u8]) -> Option<&'a [u8]>
+pub(crate) fn base_of<'a, R: Records>(records: &'a R, dataset: &[u8]) -> Option<&'a [u8]>
     ensures { option_copied result ≡ rule.base_at (R.store records.now).records dataset.now }
 {
     let entry = records.find(dataset, b"")?;

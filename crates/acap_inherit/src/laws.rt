@@ -1,6 +1,8 @@
 //! What follows from the definitions alone: each function does nothing, and its contract is the law.
 ghost use Rattle.acap_inherit.specs.Examples.{ChainExamples, OverBaseExamples, MomentExamples};
 ghost use Rattle.acap_inherit.specs.Laws.{ChainLaw, BaseLaw, RepeatLaw, FirstLaw, MomentLaw, FirstDatasetLaw, NothingLaw, ReadingLaw, NamesLaw};
+ghost use Rattle.acap_inherit.specs.TouchedExamples.{TouchedExamples};
+ghost use Rattle.acap_inherit.specs.TouchedLaws.{TouchedLaw, UnreadLaw};
 
 /// Which datasets a chain has: each names the next (RFC 2244 section 5.2).
 pub fn chain_law()
@@ -60,4 +62,19 @@ pub fn over_base_examples()
 /// The moments of entries with several records.
 pub fn moment_examples()
     ensures { MomentExamples }
+{}
+
+/// Which paths changes touch, computed from the definition, one change for each case.
+pub fn touched_examples()
+    ensures { TouchedExamples }
+{}
+
+/// What a change doesn't touch is read alike before and after it.
+pub fn unread_law()
+    ensures { UnreadLaw }
+{}
+
+/// Which paths are listed as touched, and in which order.
+pub fn touched_law()
+    ensures { TouchedLaw }
 {}

@@ -4,20 +4,36 @@
 mod chains;
 mod entry_names;
 mod found;
+mod full_path;
+mod heirs;
 mod laws;
+mod left_names;
 mod lent;
 mod lineage;
+mod link;
+mod linking;
 mod merging;
+mod prepared;
 mod range;
+mod resolved;
 mod resolving;
+mod touched_dataset;
+mod touching;
 
 pub use chains::chain;
 pub use entry_names::{EntryNames, names_on};
 pub use found::Found;
 pub use laws::{
     base_law, chain_examples, chain_law, first_dataset_law, first_law, moment_examples, moment_law,
-    names_law, nothing_law, over_base_examples, reading_law, repeat_law,
+    names_law, nothing_law, over_base_examples, reading_law, repeat_law, touched_examples,
+    touched_law, unread_law,
 };
+pub use left_names::names_after;
 pub use lent::Lent;
 pub use lineage::Lineage;
+pub use link::Link;
+pub use prepared::Prepared;
+pub use resolved::Resolved;
 pub use resolving::{entry_exists, modtime, resolve};
+pub use touched_dataset::TouchedDataset;
+pub use touching::touched_at;

@@ -1,0 +1,218 @@
+-- Touched paths dataset by dataset.
+use Rattle.std.proofs.Common.{◌≡◌, ℕ, zero, suc, Bool, true, false, cond, T, ◌&&◌, ◌||◌, List, [], ◌∷◌, ◌++◌, map as each, arith, refl, sym, ap, subst, ◌∙◌}
+use Rattle.std.specs.Prelude.{filter, if◌then◌else◌}
+use Rattle.std.specs.FinMap as map
+use Rattle.std.specs.FinMap.{IsAntisymmetric, is_sorted}
+use Rattle.std.specs.FinMap.Entries.{where_key, is_sorted-where_key}
+use Rattle.std.specs.List.{list_any, flat_map}
+use Rattle.std.specs.declared.cmp.Ordering.{Ordering}
+use Rattle.std.specs.Ordering.{eq_by_cmp, is_eq}
+use Rattle.std.specs.Cmp.{IsTotalOrder, tied_itself}
+use Rattle.std.specs.Cmp.Lexicographic.{nat_list_cmp_total}
+use Rattle.std.proofs.lemmas.List.Folds.{list_any-append}
+use Rattle.acap_entries.specs.Changes.{IsStoreAfter}
+use Rattle.acap_entries.specs.Datasets.{dataset_exists}
+use Rattle.acap_entries.specs.Orders.{octets_cmp, octets_eq}
+use Rattle.acap_entries.specs.Ranks.{units, Ascending}
+use Rattle.acap_entries.specs.Store.{Store, Stored, Written, IsPathByPath, path_cmp}
+use Rattle.acap_entries.specs.declared.change.Change.{Change}
+use Rattle.acap_entries.specs.declared.path.Path.{Path}
+use Rattle.acap_entries.proofs.RankLaws.{rank_holds}
+use Rattle.acap_entries.proofs.RankLemmas.{order_of_units, units_in_order}
+use Rattle.acap_entries.proofs.StoreLemmas.{octets_same, path_same, path_cmp_total}
+use Rattle.acap_inherit.specs.Chains.{chain_of}
+use Rattle.acap_inherit.specs.Index.{IsIndexOf, heirs_in}
+use Rattle.acap_inherit.specs.Touched.{is_written, is_written_on, is_touched, by_octets, octets_total, ordered_among, in_order, touched, datasets_touched, touched_at}
+use Rattle.acap_inherit.specs.Touching.{datasets_written, with_heirs, datasets_reached, path_at, paths_in, touched_dataset, datasets_found}
+use Rattle.acap_inherit.specs.declared.link.Link.{Link}
+use Rattle.acap_inherit.specs.declared.touched_dataset.TouchedDataset.{TouchedDataset}
+use Rattle.acap_inherit.proofs.FoundLemmas.{any_among, is_in, wrote, reached_datasets, keys_of_datasets, or_false, in_dataset, touched_reached, name_turned}
+use Rattle.acap_inherit.proofs.IndexLemmas.{never}
+use Rattle.acap_inherit.proofs.MergeLemmas.{is_name, or_left, or_right, first_of, second_of, both_of}
+use Rattle.acap_inherit.proofs.NameLemmas.{yes}
+use Rattle.acap_inherit.proofs.TouchedLemmas.{is_path, same_paths, alike_if, any_weaker, any_order, order_rises, same_list, any_touched, touched_rises, equal, absorbed}
+
+-- ---- parts of lists in an order
+
+module _ {K : Type 0} (R : K → K → Ordering) (o : IsTotalOrder R) (same : IsAntisymmetric R) where
+  units_kept : (p : K → Bool) (xs : List K) → where_key R p (units xs) ≡ units (filter p xs)
+  units_kept p [] = refl
+  units_kept p (x ∷ xs) = elim (p x) as (λ b. cond b ((x, tt) ∷ where_key R p (units xs)) (where_key R p (units xs)) ≡ units (cond b (x ∷ filter p xs) (filter p xs))) [
+    | true ↦ ap (λ rest. (x, tt) ∷ rest) (units_kept p xs)
+    | false ↦ units_kept p xs
+  ]
+
+  pub kept_rises : (p : K → Bool) (xs : List K) → Ascending R xs → Ascending R (filter p xs)
+  kept_rises p xs a =
+      units_in_order R o (filter p xs) (ap (is_sorted R) (sym (units_kept p xs)) ∙ yes _ (is_sorted-where_key R p (units xs) (subst T (sym (order_of_units R o xs a)) tt)))
+
+  pub among_rises : (xs acc : List K) → Ascending R acc → Ascending R (ordered_among R xs acc)
+  among_rises [] acc a = a
+  among_rises (x ∷ xs) acc a = (rank_holds R o).after_put x (ordered_among R xs acc) (among_rises xs acc a)
+
+  pub none_rises : Ascending R []
+  none_rises = record { rises = λ i j d lt within. absurd (omega arith) }
+
+  pub any_part : (f : K → Bool) (q : K) (xs : List K) → list_any (eq_by_cmp R q) (filter f xs) ≡ (list_any (eq_by_cmp R q) xs && f q)
+  any_part f q [] = refl
+  any_part f q (x ∷ xs) =
+      let rest = filter f xs in
+      elim (eq_by_cmp R q x) as (λ t. eq_by_cmp R q x ≡ t → list_any (eq_by_cmp R q) (cond (f x) (x ∷ rest) rest) ≡ ((t || list_any (eq_by_cmp R q) xs) && f q)) [
+        | true ↦ λ e.
+            ap (λ y. list_any (eq_by_cmp R q) (cond (f y) (x ∷ rest) rest)) (sym (same q x (equal _ e)))
+            ∙ elim (f q) as (λ b. f q ≡ b → list_any (eq_by_cmp R q) (cond b (x ∷ rest) rest) ≡ b) [
+              | true ↦ λ _. or_left _ _ e
+              | false ↦ λ n. any_part f q xs ∙ (ap (λ b. list_any (eq_by_cmp R q) xs && b) n ∙ sym (never (list_any (eq_by_cmp R q) xs)))
+            ] refl
+        | false ↦ λ e. elim (f x) as (λ b. list_any (eq_by_cmp R q) (cond b (x ∷ rest) rest) ≡ (list_any (eq_by_cmp R q) xs && f q)) [
+          | true ↦ ap (λ b. b || list_any (eq_by_cmp R q) rest) e ∙ any_part f q xs
+          | false ↦ any_part f q xs
+        ]
+      ] refl
+
+  -- what passes a test is there
+  pub any_member : (p : K → Bool) (xs : List K) → list_any p xs ≡ true → (x : K) × (p x ≡ true) × (list_any (eq_by_cmp R x) xs ≡ true)
+  any_member p [] e = cc
+  any_member p (x ∷ xs) e =
+      elim (p x) as (λ b. p x ≡ b → (b || list_any p xs) ≡ true → (z : K) × (p z ≡ true) × (list_any (eq_by_cmp R z) (x ∷ xs) ≡ true)) [
+        | true ↦ λ is _. (x, is, or_left _ _ (ap is_eq (tied_itself o x)))
+        | false ↦ λ _ e. let z = any_member p xs e in (z.0, z.1, or_right _ _ z.2)
+      ] refl e
+
+-- ---- the paths of one dataset
+
+swapped : (a b : Bool) → (a && b) ≡ (b && a)
+swapped true true = refl
+swapped true false = refl
+swapped false true = refl
+swapped false false = refl
+
+part_at : (written : Written) (old new : Stored) → IsPathByPath written old new → (d : List ℕ) → in_order (paths_in written old new d) ≡ touched_at written old new d
+part_at written old new h d =
+    same_list by_octets octets_total same_paths (in_order (paths_in written old new d)) (touched_at written old new d) (order_rises (paths_in written old new d))
+    (kept_rises by_octets octets_total same_paths (λ p. octets_eq d p.dataset) (touched written old new) (touched_rises written old new))
+    (λ p.
+    any_order p (paths_in written old new d)
+    ∙ (in_dataset written old new h p d
+    ∙ (swapped (is_name p.dataset d) (is_touched written old new p)
+    ∙ sym (any_part by_octets octets_total same_paths (λ p. octets_eq d p.dataset) p (touched written old new)
+    ∙ (λ i. any_touched written old new h p i && name_turned p.dataset d i)))))
+
+pub found_at : (change : Change) (old new : Store) (left : Stored) (d : List ℕ) (paths : List Path) → IsStoreAfter change old new → left ≡ new.records
+    → paths ≡ in_order (paths_in change.writes old.records left d) → paths ≡ touched_at change.writes old.records new.records d
+found_at change old new left d paths h same e =
+    e ∙ (ap (λ records. in_order (paths_in change.writes old.records records d)) same ∙ part_at change.writes old.records new.records h.paths d)
+
+-- ---- the datasets
+
+heirs_rise : (k : ℕ) (links : List Link) (level acc : List (List ℕ)) → Ascending octets_cmp acc → Ascending octets_cmp (with_heirs k links level acc)
+unfolding with_heirs
+heirs_rise zero links level acc a = among_rises octets_cmp nat_list_cmp_total octets_same level acc a
+heirs_rise (suc k) links level acc a = heirs_rise k links (flat_map (heirs_in links) level) (ordered_among octets_cmp level acc) (among_rises octets_cmp nat_list_cmp_total octets_same level acc a)
+
+any_each : {A : Type 0} (q : List ℕ → Bool) (f : A → List ℕ) (xs : List A) → list_any q (each f xs) ≡ list_any (λ x. q (f x)) xs
+any_each q f [] = refl
+any_each q f (x ∷ xs) = ap (λ b. q (f x) || b) (any_each q f xs)
+
+-- a written dataset has a written name
+name_written : (written : Written) (m : List ℕ) → wrote written m ≡ true → (n : List ℕ) × (is_written written m n ≡ true)
+name_written written m e =
+    let listed : list_any (λ (p : Path). is_name m p.dataset) (map.keys written) ≡ true =
+    sym (any_among octets_cmp nat_list_cmp_total m (each (λ w. w.0.dataset) (map.entries written)) []
+    ∙ (or_false (is_in m (each (λ w. w.0.dataset) (map.entries written)))
+    ∙ keys_of_datasets m (map.keys written) (map.entries written) refl)) ∙ e in
+    let p = any_member path_cmp path_cmp_total path_same (λ (p : Path). is_name m p.dataset) (map.keys written) listed in
+    let same = octets_same m p.0.dataset (equal _ p.1) in
+    (p.0.name, ap (λ d. is_written written d p.0.name) same ∙ (map.contains_key-keys written p.0 ∙ p.2))
+
+name_along : (written : Written) (chain : List (List ℕ)) → list_any (wrote written) chain ≡ true → (n : List ℕ) × (is_written_on written chain n ≡ true)
+name_along written [] e = cc
+name_along written (m ∷ chain) e =
+    elim (wrote written m) as (λ b. wrote written m ≡ b → (b || list_any (wrote written) chain) ≡ true → (n : List ℕ) × (is_written_on written (m ∷ chain) n ≡ true)) [
+      | true ↦ λ w _. let n = name_written written m w in (n.0, or_left _ _ n.1)
+      | false ↦ λ _ e. let n = name_along written chain e in (n.0, or_right _ _ n.1)
+    ] refl e
+
+touched_somewhere : (written : Written) (old new : Stored) (d n : List ℕ) → dataset_exists new d ≡ true → is_written_on written (chain_of old d false) n ≡ true → is_touched written old new (path_at d n) ≡ true
+unfolding is_touched
+touched_somewhere written old new d n e w = both_of _ _ e (or_left _ _ (or_left _ _ w))
+
+touched_exists : (written : Written) (old new : Stored) (p : Path) → is_touched written old new p ≡ true → dataset_exists new p.dataset ≡ true
+unfolding is_touched
+touched_exists written old new p e = first_of _ _ e
+
+touched_dataset_in : (written : Written) (old new : Stored) (links : List Link) → IsPathByPath written old new → IsIndexOf old links → (d : List ℕ)
+    → list_any (λ (p : Path). is_name d p.dataset) (touched written old new) ≡ (is_in d (datasets_reached written links) && dataset_exists new d)
+touched_dataset_in written old new links h index d =
+    alike_if _ _
+    (λ e.
+    let p = any_member by_octets octets_total same_paths (λ (p : Path). is_name d p.dataset) (touched written old new) e in
+    let is : is_touched written old new p.0 ≡ true = sym (any_touched written old new h p.0) ∙ p.2 in
+    let same = octets_same d p.0.dataset (equal _ p.1) in
+    ap (λ k. is_in k (datasets_reached written links) && dataset_exists new k) same
+    ∙ both_of _ _ (touched_reached written old new links h index p.0 is) (touched_exists written old new p.0 is))
+    (λ e.
+    let n = name_along written (chain_of old d false) (sym (reached_datasets written old links index d) ∙ first_of _ _ e) in
+    let is = touched_somewhere written old new d n.0 (second_of _ _ e) n.1 in
+    any_weaker (is_path (path_at d n.0)) (λ (p : Path). is_name d p.dataset) (λ p t. ap (λ (q : Path). is_name d q.dataset) (sym (same_paths (path_at d n.0) p (equal _ t))) ∙ ap is_eq (tied_itself nat_list_cmp_total d))
+    (touched written old new) (any_touched written old new h (path_at d n.0) ∙ is))
+
+part_datasets : (written : Written) (old new : Stored) (links : List Link) → IsPathByPath written old new → IsIndexOf old links → filter (dataset_exists new) (datasets_reached written links) ≡ datasets_touched written old new
+part_datasets written old new links h index =
+    same_list octets_cmp nat_list_cmp_total octets_same (filter (dataset_exists new) (datasets_reached written links)) (datasets_touched written old new)
+    (kept_rises octets_cmp nat_list_cmp_total octets_same (dataset_exists new) (datasets_reached written links)
+    (heirs_rise 7 links (datasets_written written) [] (none_rises octets_cmp nat_list_cmp_total octets_same)))
+    (among_rises octets_cmp nat_list_cmp_total octets_same (each (λ (p : Path). p.dataset) (touched written old new)) [] (none_rises octets_cmp nat_list_cmp_total octets_same))
+    (λ d.
+    any_part octets_cmp nat_list_cmp_total octets_same (dataset_exists new) d (datasets_reached written links)
+    ∙ (sym (touched_dataset_in written old new links h index d)
+    ∙ sym (any_among octets_cmp nat_list_cmp_total d (each (λ (p : Path). p.dataset) (touched written old new)) []
+    ∙ (or_false _ ∙ any_each (is_name d) (λ (p : Path). p.dataset) (touched written old new)))))
+
+each_part : {A B : Type 0} (p : A → Bool) (f : A → B) (xs : List A) → flat_map (λ x. if p x then f x ∷ [] else []) xs ≡ each f (filter p xs)
+each_part p f [] = refl
+each_part p f (x ∷ xs) =
+    elim (p x) as (λ b. ((if b then f x ∷ [] else []) ++ flat_map (λ x. if p x then f x ∷ [] else []) xs) ≡ each f (cond b (x ∷ filter p xs) (filter p xs))) [
+      | true ↦ ap (λ rest. f x ∷ rest) (each_part p f xs)
+      | false ↦ each_part p f xs
+    ]
+
+pub found_in : (change : Change) (old new : Store) (links : List Link) (left : Stored) (datasets : List (List ℕ)) (made : List TouchedDataset) → IsIndexOf old.records links → IsStoreAfter change old new → left ≡ new.records
+    → datasets ≡ datasets_reached change.writes links → made ≡ datasets_found change.writes old.records left datasets
+    → made ≡ each (touched_dataset change.writes old.records) (datasets_touched change.writes old.records new.records)
+found_in change old new links left datasets made index h same d e =
+    e
+    ∙ ((λ i. datasets_found change.writes old.records (same i) (d i))
+    ∙ (each_part (dataset_exists new.records) (touched_dataset change.writes old.records) (datasets_reached change.writes links)
+    ∙ ap (each (touched_dataset change.writes old.records)) (part_datasets change.writes old.records new.records links h.paths index)))
+
+-- ---- all datasets together
+
+either_same : (a b c : Bool) → ((c && a) || (b && c)) ≡ ((a || b) && c)
+either_same true true true = refl
+either_same true true false = refl
+either_same true false true = refl
+either_same true false false = refl
+either_same false true true = refl
+either_same false true false = refl
+either_same false false true = refl
+either_same false false false = refl
+
+in_parts : (written : Written) (old new : Stored) (p : Path) (ds : List (List ℕ)) → list_any (is_path p) (flat_map (touched_at written old new) ds) ≡ (is_in p.dataset ds && list_any (is_path p) (touched written old new))
+in_parts written old new p [] = refl
+in_parts written old new p (d ∷ ds) =
+    list_any-append (is_path p) (touched_at written old new d) (flat_map (touched_at written old new) ds)
+    ∙ ((λ i. (any_part by_octets octets_total same_paths (λ p. octets_eq d p.dataset) p (touched written old new) ∙ ap (λ b. list_any (is_path p) (touched written old new) && b) (name_turned p.dataset d)) i || in_parts written old new p ds i)
+    ∙ either_same (is_name p.dataset d) (is_in p.dataset ds) (list_any (is_path p) (touched written old new)))
+
+dataset_of_path : (written : Written) (old new : Stored) (p : Path) → list_any (is_path p) (touched written old new) ≡ true → is_in p.dataset (datasets_touched written old new) ≡ true
+dataset_of_path written old new p e =
+    any_among octets_cmp nat_list_cmp_total p.dataset (each (λ (q : Path). q.dataset) (touched written old new)) []
+    ∙ (or_false _ ∙ (any_each (is_name p.dataset) (λ (q : Path). q.dataset) (touched written old new)
+    ∙ any_weaker (is_path p) (λ (q : Path). is_name p.dataset q.dataset) (λ q t. ap (λ (r : Path). is_name p.dataset r.dataset) (sym (same_paths p q (equal _ t))) ∙ ap is_eq (tied_itself nat_list_cmp_total p.dataset)) (touched written old new) e))
+
+pub together : (written : Written) (old new : Stored) → in_order (flat_map (touched_at written old new) (datasets_touched written old new)) ≡ touched written old new
+together written old new =
+    let parts = flat_map (touched_at written old new) (datasets_touched written old new) in
+    same_list by_octets octets_total same_paths (in_order parts) (touched written old new) (order_rises parts) (touched_rises written old new)
+    (λ p. any_order p parts ∙ (in_parts written old new p (datasets_touched written old new) ∙ absorbed (is_in p.dataset (datasets_touched written old new)) (list_any (is_path p) (touched written old new)) (dataset_of_path written old new p)))

@@ -1,0 +1,8 @@
+use Rattle.std.proofs.Common.{◌≡◌, ◌++◌, map}
+use Rattle.acap_inherit.specs.Touching.{path_at}
+use Rattle.acap_inherit.proofs.touching.add_stored.Given as goal
+
+abbrev pub invariant-loop-path : goal.invariant-loop-path
+invariant-loop-path l = record {
+  found : l.found.items ++ map (path_at l.dataset) (map (λ e. e.0.name) l.path-iterator) ≡ l.fn.found.items ++ map (path_at l.dataset) (map (λ e. e.0.name) l.initial.path-iterator);
+}

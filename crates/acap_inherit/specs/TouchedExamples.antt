@@ -1,0 +1,124 @@
+-- Touched paths, computed from the definition alone [RFC 2244 sections 5.1 and 5.2].
+use Rattle.std.specs.Prelude.{◌≡◌, ℕ, pos, Bool, true, false, List, [], ◌∷◌, ◌++◌, map as each, Option, Some, None, codes}
+use Rattle.std.specs.FinMap as map
+use Rattle.acap_entries.specs.Names.{slash}
+use Rattle.acap_entries.specs.Orders.{octets_cmp}
+use Rattle.acap_entries.specs.Store.{Stored, Written, IsPathByPath}
+use Rattle.acap_entries.specs.declared.cell.Cell.{Cell}
+use Rattle.acap_entries.specs.declared.cell.Cell.TheVariants.{Single, Multi}
+use Rattle.acap_entries.specs.declared.fate.Fate.{Fate}
+use Rattle.acap_entries.specs.declared.fate.Fate.TheVariants.{Put, Remove}
+use Rattle.acap_entries.specs.declared.path.Path.{Path}
+use Rattle.acap_entries.specs.declared.record.Record.{Record}
+use Rattle.acap_inherit.specs.Touched.{is_touched, touched}
+
+-- a record that is present, by its attributes
+abbrev pub Attributes : Type 0
+Attributes = List (List ℕ × Cell)
+
+abbrev pub present : Attributes → Record
+present attributes = record {
+  present = true;
+  blocks_inheritance = false;
+  cells = map.from_entries {R = octets_cmp} attributes;
+  acls = map.empty;
+  modtime = pos 0;
+}
+
+-- the records of a store, and what is written: a record, or the removal of one
+abbrev pub store_of : List (Path × Attributes) → Stored
+store_of rows = map.from_entries (each (λ row. (row.0, present row.1)) rows)
+
+abbrev pub fate_of : Option Attributes → Fate
+fate_of None = Remove
+fate_of (Some attributes) = Put (present attributes)
+
+abbrev pub writes_of : List (Path × Option Attributes) → Written
+writes_of rows = map.from_entries (each (λ row. (row.0, fate_of row.1)) rows)
+
+-- what those writes touch in that store, whatever is left is a store after them
+abbrev pub Touches : List (Path × Attributes) → List (Path × Option Attributes) → List Path → Type 0
+Touches rows writes paths = (new : Stored) → IsPathByPath (writes_of writes) (store_of rows) new → touched (writes_of writes) (store_of rows) new ≡ paths
+
+-- the same of one path
+abbrev pub TouchesOne : List (Path × Attributes) → List (Path × Option Attributes) → Path → Bool → Type 0
+TouchesOne rows writes path is =
+    (new : Stored) → IsPathByPath (writes_of writes) (store_of rows) new → is_touched (writes_of writes) (store_of rows) new path ≡ is
+
+abbrev pub at : List ℕ → List ℕ → Path
+at dataset name = record { dataset = dataset; name = name }
+
+-- a dataset's own entry, its management entry with a base, and an entry that shows nothing else
+abbrev pub dataset : List ℕ → Path × Attributes
+dataset name = (at (codes "/") name, (codes "subdataset", Multi (codes "." ∷ [])) ∷ [])
+
+abbrev pub inherits : List ℕ → List ℕ → Path × Attributes
+inherits heir base = (at heir [], (codes "dataset.inherit", Single base) ∷ [])
+
+abbrev pub entry : List ℕ → List ℕ → Path × Attributes
+entry dataset name = (at dataset name, [])
+
+-- a record, and the removal of one
+abbrev pub put : Path × Attributes → Path × Option Attributes
+put row = (row.0, Some row.1)
+
+abbrev pub removed : List ℕ → List ℕ → Path × Option Attributes
+removed dataset name = (at dataset name, None)
+
+-- a list for the rights in a dataset
+abbrev pub lists : List ℕ → Path × Attributes
+lists dataset = (at dataset [], (codes "dataset.acl", Multi []) ∷ [])
+
+abbrev pub a : List ℕ
+a = codes "/a/"
+
+abbrev pub b : List ℕ
+b = codes "/b/"
+
+abbrev pub c : List ℕ
+c = codes "/c/"
+
+abbrev pub x : List ℕ
+x = codes "x"
+
+abbrev pub y : List ℕ
+y = codes "y"
+
+-- three datasets
+abbrev pub three : List (Path × Attributes)
+three = dataset (codes "a") ∷ dataset (codes "b") ∷ dataset (codes "c") ∷ []
+
+-- the datasets of nine names of one letter, each of the first eight with the next as its base
+abbrev pub nine : List (Path × Attributes)
+nine =
+    each (λ letter. dataset (letter ∷ [])) (codes "abcdefghi")
+    ++ each (λ (pair : ℕ × ℕ). inherits (slash ∷ pair.0 ∷ slash ∷ []) (slash ∷ pair.1 ∷ slash ∷ []))
+    ((97, 98) ∷ (98, 99) ∷ (99, 100) ∷ (100, 101) ∷ (101, 102) ∷ (102, 103) ∷ (103, 104) ∷ (104, 105) ∷ [])
+
+pub record TouchedExamples : Type 0 where
+  -- a record of a dataset that no one inherits, in the dataset that it is in alone
+  pub own : Touches three (put (entry a x) ∷ []) (at a x ∷ [])
+  -- a record of a base is seen by its heir, and by the heir's heir
+  pub heirs : Touches (three ++ inherits b a ∷ inherits c b ∷ []) (put (entry a x) ∷ []) (at a x ∷ at b x ∷ at c x ∷ [])
+  -- each other's base
+  pub ring : Touches (three ++ inherits a b ∷ inherits b a ∷ []) (put (entry a x) ∷ []) (at a x ∷ at b x ∷ [])
+  -- of nine in a row the last is too far from the first, and not from the second
+  pub ninth : TouchesOne nine (put (entry (codes "/i/") x) ∷ []) (at a x) false
+  pub eighth : TouchesOne nine (put (entry (codes "/i/") x) ∷ []) (at b x) true
+  -- a list of a base, or anything else of its management entry, is looked at for each entry that is seen through it; an entry that has
+  -- no record there is none of these
+  pub listed : Touches (three ++ inherits b a ∷ entry a x ∷ entry b y ∷ entry c x ∷ []) (put (lists a) ∷ [])
+      (at a [] ∷ at a x ∷ at b [] ∷ at b x ∷ at b y ∷ [])
+  -- another base: what was seen, what is seen, and what the dataset has itself
+  pub rebased : Touches (three ++ inherits c a ∷ entry a x ∷ entry b y ∷ entry c (codes "z") ∷ []) (put (inherits c b) ∷ [])
+      (at c [] ∷ at c x ∷ at c y ∷ at c (codes "z") ∷ [])
+  -- a dataset that comes to be with its first entry; one that doesn't is not told of
+  pub made : Touches (dataset (codes "a") ∷ []) (put (dataset (codes "b")) ∷ put (entry b x) ∷ []) (at (codes "/") (codes "b") ∷ at b x ∷ [])
+  pub not_made : Touches (dataset (codes "a") ∷ []) (put (entry b x) ∷ []) []
+  -- the removal of a record over a base's
+  pub uncovered : Touches (three ++ inherits b a ∷ entry a x ∷ entry b x ∷ []) (removed b x ∷ []) (at b x ∷ [])
+  -- a management entry of a dataset that inherits nothing
+  pub managed : Touches (three ++ entry a x ∷ entry b y ∷ []) (put (lists a) ∷ []) (at a [] ∷ at a x ∷ [])
+  -- the order is that of full octets, in which `!` comes before `/`
+  pub ordered : Touches (three ++ (at (codes "/a/") (codes "b"), (codes "subdataset", Multi (codes "." ∷ [])) ∷ []) ∷ [])
+      (put (entry (codes "/a/b/") x) ∷ put (entry a (codes "b!")) ∷ []) (at a (codes "b!") ∷ at (codes "/a/b/") x ∷ [])

@@ -1,0 +1,70 @@
+-- How touched paths are found: the datasets with a written one on their chains, and of each the paths whose names are along it.
+use Rattle.std.specs.Prelude.{ℕ, zero, suc, List, [], ◌∷◌, ◌++◌, map as each, Bool, true, false, if◌then◌else◌}
+use Rattle.std.specs.FinMap as map
+use Rattle.std.specs.List.{flat_map}
+use Rattle.acap_entries.specs.Datasets.{dataset_exists}
+use Rattle.acap_entries.specs.Orders.{octets_cmp, octets_eq}
+use Rattle.acap_entries.specs.Store.{Stored, Written}
+use Rattle.acap_entries.specs.declared.path.Path.{Path}
+use Rattle.acap_inherit.specs.Chains.{chain_of}
+use Rattle.acap_inherit.specs.EntryNames.{names_in}
+use Rattle.acap_inherit.specs.Index.{heirs_in}
+use Rattle.acap_inherit.specs.Touched.{is_written_on, ordered_among, in_order}
+use Rattle.acap_inherit.specs.declared.link.Link.{Link}
+use Rattle.acap_inherit.specs.declared.touched_dataset.TouchedDataset.{TouchedDataset}
+
+-- ---- datasets
+
+-- the datasets in which something is written
+abbrev pub datasets_written : Written → List (List ℕ)
+datasets_written written = ordered_among octets_cmp (each (λ w. w.0.dataset) (map.entries written)) []
+
+-- some datasets and their heirs, so many levels of them, among others
+unfoldable pub with_heirs : ℕ → List Link → List (List ℕ) → List (List ℕ) → List (List ℕ)
+with_heirs zero links level others = ordered_among octets_cmp level others
+with_heirs (suc more) links level others = with_heirs more links (flat_map (heirs_in links) level) (ordered_among octets_cmp level others)
+
+-- those with a written one on their chains
+abbrev pub datasets_reached : Written → List Link → List (List ℕ)
+datasets_reached written links = with_heirs 7 links (datasets_written written) []
+
+-- ---- paths
+
+abbrev pub path_at : List ℕ → List ℕ → Path
+path_at dataset name = record { dataset = dataset; name = name }
+
+-- the paths of a dataset whose names are written in a member of its chain, and those whose names have a record there
+abbrev pub paths_written : Written → List ℕ → List ℕ → List Path
+paths_written written dataset member = flat_map (λ w. if octets_eq member w.0.dataset then path_at dataset w.0.name ∷ [] else []) (map.entries written)
+
+abbrev pub paths_stored : Stored → List ℕ → List ℕ → List Path
+paths_stored old dataset member = each (λ name. path_at dataset name) (names_in old member)
+
+-- the former along a chain, and if all are wanted the latter too
+abbrev pub paths_of_member : Written → Stored → Bool → List ℕ → List ℕ → List Path
+paths_of_member written old all dataset member = paths_written written dataset member ++ (if all then paths_stored old dataset member else [])
+
+abbrev pub paths_along : Written → Stored → Bool → List ℕ → List (List ℕ) → List Path
+paths_along written old all dataset chain = flat_map (paths_of_member written old all dataset) chain
+
+-- the touched paths of a dataset that exists: where no management entry of its chain is written the chain is the same afterwards
+abbrev pub paths_below : Written → Stored → Stored → List ℕ → List Path
+paths_below written old new dataset =
+    if is_written_on written (chain_of old dataset false) []
+    then paths_along written old true dataset (chain_of old dataset false) ++ paths_along written old true dataset (chain_of new dataset false)
+    else paths_along written old false dataset (chain_of old dataset false)
+
+abbrev pub paths_in : Written → Stored → Stored → List ℕ → List Path
+paths_in written old new dataset = if dataset_exists new dataset then paths_below written old new dataset else []
+
+abbrev pub paths_found : Written → Stored → Stored → List (List ℕ) → List Path
+paths_found written old new datasets = in_order (flat_map (paths_in written old new) datasets)
+
+-- ---- dataset by dataset
+
+-- a touched dataset, and whether all names along its chains are touched or those that are written
+abbrev pub touched_dataset : Written → Stored → List ℕ → TouchedDataset
+touched_dataset written old dataset = record { dataset = dataset; all = is_written_on written (chain_of old dataset false) [] }
+
+abbrev pub datasets_found : Written → Stored → Stored → List (List ℕ) → List TouchedDataset
+datasets_found written old new datasets = flat_map (λ d. if dataset_exists new d then touched_dataset written old d ∷ [] else []) datasets

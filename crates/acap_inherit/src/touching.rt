@@ -1,0 +1,218 @@
+//! Which paths a change touches.
+ghost use Rattle.std.specs.Prelude.{◌≡◌, ◌++◌, [], ◌∷◌, if◌then◌else◌, IfOk, OnOk};
+ghost use Rattle.acap_entries.specs.Changes.{left_by, IsStoreAfter};
+ghost use Rattle.acap_entries.specs.Datasets.{dataset_exists};
+ghost use Rattle.acap_entries.specs.Store.{Store};
+ghost use Rattle.acap_inherit.specs.Touched as rules;
+ghost use Rattle.acap_inherit.specs.Touched.{is_written_on, in_order};
+ghost use Rattle.acap_inherit.specs.Touching as rule;
+
+use crate::chains::chain;
+use crate::full_path::FullPath;
+use crate::heirs::put_among;
+use crate::lineage::Lineage;
+use crate::touched_dataset::TouchedDataset;
+use acap_entries::{
+    After, Boxed, Change, Copying, Dataset, EntryName, Memory, Path, Paths, Ranked, Records, Tree,
+    Writes,
+};
+
+// Adds a path.
+fn add_path(
+    dataset: &Dataset,
+    name: &EntryName,
+    found: &mut Vec<Boxed<FullPath>>,
+) -> Result<(), Memory>
+    ensures { OnOk result (found.new.items ≡ found.old.items ++ record { dataset = dataset.now; name = name.now } ∷ []) }
+{
+    let dataset = dataset.copy()?;
+    let name = name.copy()?;
+    let path = Path { dataset, name };
+    found.push(Boxed::new(*found.allocator(), FullPath { path })?)?;
+    Ok(())
+}
+
+// Adds the paths of a dataset whose names are written in a member of its chain.
+fn add_written(
+    writes: &Writes,
+    member: &[u8],
+    dataset: &Dataset,
+    found: &mut Vec<Boxed<FullPath>>,
+) -> Result<(), Memory>
+    ensures { OnOk result (found.new.items ≡ found.old.items ++ rule.paths_written writes.now dataset.now member.now) }
+{
+    for (path, _) in writes.entries() {
+        if member == path.dataset.as_slice() {
+            add_path(dataset, &path.name, found)?;
+        }
+    }
+    Ok(())
+}
+
+// Adds the paths of a dataset whose names have a record in a member of its chain.
+fn add_stored(
+    tree: &Tree,
+    member: &[u8],
+    dataset: &Dataset,
+    found: &mut Vec<Boxed<FullPath>>,
+) -> Result<(), Memory>
+    ensures { OnOk result (found.new.items ≡ found.old.items ++ rule.paths_stored tree.now.store.records dataset.now member.now) }
+{
+    for (path, _) in tree.entries_of(member) {
+        add_path(dataset, &path.name, found)?;
+    }
+    Ok(())
+}
+
+// Adds the paths of a dataset whose names are along a chain: those that are written there, or all of them.
+fn add_along(
+    tree: &Tree,
+    writes: &Writes,
+    members: &Lineage<'_>,
+    all: bool,
+    dataset: &Dataset,
+    found: &mut Vec<Boxed<FullPath>>,
+) -> Result<(), Memory>
+    ensures { OnOk result (found.new.items ≡ found.old.items ++ rule.paths_along writes.now tree.now.store.records all dataset.now members.now) }
+{
+    for member in members.names() {
+        add_written(writes, member, dataset, found)?;
+        if all {
+            add_stored(tree, member, dataset, found)?;
+        }
+    }
+    Ok(())
+}
+
+// Whether the management entry of a member of a chain is written.
+fn is_managed(writes: &Writes, members: &Lineage<'_>) -> bool
+    ensures { result ≡ is_written_on writes.now members.now [] }
+{
+    for member in members.names() {
+        if writes.find(member, b"").is_some() {
+            return true;
+        }
+    }
+    false
+}
+
+// Adds the touched paths of a dataset that exists.
+fn add_below(
+    after: &After<'_>,
+    dataset: &Dataset,
+    found: &mut Vec<Boxed<FullPath>>,
+) -> Result<(), Memory>
+    ensures { OnOk result (found.new.items ≡ found.old.items ++ rule.paths_below after.now.writes.now after.now.tree.now.store.records (left_by after.now.writes.now after.now.moment after.now.tree.now.store).records dataset.now) }
+{
+    let before = chain(after.tree, dataset, false);
+    let all = is_managed(after.writes, &before);
+    add_along(after.tree, after.writes, &before, all, dataset, found)?;
+    if all {
+        let members = chain(after, dataset, false);
+        add_along(after.tree, after.writes, &members, true, dataset, found)?;
+    }
+    Ok(())
+}
+
+// Adds the touched paths of a dataset, if it exists afterwards.
+fn add_touched(
+    after: &After<'_>,
+    dataset: &Dataset,
+    found: &mut Vec<Boxed<FullPath>>,
+) -> Result<(), Memory>
+    ensures { OnOk result (found.new.items ≡ found.old.items ++ rule.paths_in after.now.writes.now after.now.tree.now.store.records (left_by after.now.writes.now after.now.moment after.now.tree.now.store).records dataset.now) }
+{
+    if after.dataset_exists(dataset.as_slice()) {
+        add_below(after, dataset, found)?;
+    }
+    Ok(())
+}
+
+// Copies of paths.
+fn listed(paths: &Ranked<Boxed<FullPath>>, mut made: Paths) -> Result<Paths, Memory>
+    requires { made ≡ [] }
+    ensures { IfOk result (λ made. made ≡ paths.now.0) }
+{
+    for path in paths.iter() {
+        made.push(path.get().path.copy()?)?;
+    }
+    Ok(made)
+}
+
+// Paths in the order of their full octets, each once.
+fn in_order(found: Vec<Boxed<FullPath>>) -> Result<Paths, Memory>
+    ensures { IfOk result (λ paths. paths ≡ in_order found.items) }
+{
+    let alloc = *found.allocator();
+    let mut paths = Ranked::new(alloc);
+    put_among(&mut paths, found)?;
+    listed(&paths, Paths::new(alloc))
+}
+
+/// The touched paths of some datasets. Fails only for want of memory.
+pub(crate) fn paths_found(
+    tree: &Tree,
+    change: &Change,
+    datasets: &Ranked<Boxed<Dataset>>,
+) -> Result<Paths, Memory>
+    ensures { IfOk result (λ paths. paths ≡ rule.paths_found change.now.writes tree.now.store.records (left_by change.now.writes change.now.moment tree.now.store).records datasets.now.0) }
+{
+    let alloc = change.deleted.allocator();
+    let after = After::of(tree, change);
+    let mut found = Vec::new(alloc);
+    for dataset in datasets.iter() {
+        add_touched(&after, dataset.get(), &mut found)?;
+    }
+    in_order(found)
+}
+
+// The touched paths of one dataset.
+fn paths_at(tree: &Tree, change: &Change, dataset: &Dataset) -> Result<Paths, Memory>
+    ensures { IfOk result (λ paths. paths ≡ in_order (rule.paths_in change.now.writes tree.now.store.records (left_by change.now.writes change.now.moment tree.now.store).records dataset.now)) }
+{
+    let after = After::of(tree, change);
+    let mut found = Vec::new(change.deleted.allocator());
+    add_touched(&after, dataset, &mut found)?;
+    in_order(found)
+}
+
+/// The paths of one dataset that a change touches, in the order of their names. Looks at the dataset's chains alone, and
+/// fails only for want of memory.
+pub fn touched_at(tree: &Tree, change: &Change, dataset: &Dataset) -> Result<Paths, Memory>
+    ensures { IfOk result (λ paths. (new : Store) → IsStoreAfter change.now tree.now.store new → paths ≡ rules.touched_at change.now.writes tree.now.store.records new.records dataset.now) }
+{
+    paths_at(tree, change, dataset)
+}
+
+// Adds a dataset, if it exists afterwards.
+fn add_dataset(
+    after: &After<'_>,
+    dataset: &Dataset,
+    made: &mut Vec<TouchedDataset>,
+) -> Result<(), Memory>
+    ensures { OnOk result (made.new.items ≡ made.old.items ++ (if dataset_exists (left_by after.now.writes.now after.now.moment after.now.tree.now.store).records dataset.now then rule.touched_dataset after.now.writes.now after.now.tree.now.store.records dataset.now ∷ [] else [])) }
+{
+    if !after.dataset_exists(dataset.as_slice()) {
+        return Ok(());
+    }
+    let all = is_managed(after.writes, &chain(after.tree, dataset, false));
+    let dataset = dataset.copy()?;
+    made.push(TouchedDataset { dataset, all })?;
+    Ok(())
+}
+
+/// Those of some datasets that exist afterwards. Fails only for want of memory.
+pub(crate) fn datasets_found(
+    tree: &Tree,
+    change: &Change,
+    datasets: &Ranked<Boxed<Dataset>>,
+) -> Result<Vec<TouchedDataset>, Memory>
+    ensures { IfOk result (λ made. made.items ≡ rule.datasets_found change.now.writes tree.now.store.records (left_by change.now.writes change.now.moment tree.now.store).records datasets.now.0) }
+{
+    let after = After::of(tree, change);
+    let mut made = Vec::new(change.deleted.allocator());
+    for dataset in datasets.iter() {
+        add_dataset(&after, dataset.get(), &mut made)?;
+    }
+    Ok(made)
+}
