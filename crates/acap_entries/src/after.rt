@@ -2,8 +2,8 @@
 ghost use Rattle.std.specs.Prelude.{◌≡◌};
 ghost use Rattle.std.specs.Option.{option_copied};
 ghost use Rattle.std.specs.FinMap as map;
-ghost use Rattle.acap_entries.specs.Store.{Store};
-ghost use Rattle.acap_entries.specs.Changes.{IsStoreAfter, left_by};
+ghost use Rattle.acap_entries.specs.Ahead.{IsReadAhead};
+ghost use Rattle.acap_entries.specs.Changes.{left_by};
 
 use crate::change::Change;
 use crate::fate::Fate;
@@ -27,13 +27,12 @@ pub struct After<'a> {
 
 impl<'a> After<'a> {
     /// The store that a change of this tree will leave: its records and its last moment.
-    #[tactic(auto, using(crate::proofs::AfterLemmas::left_records))]
+    #[tactic(auto, using(crate::proofs::AfterLemmas::read_ahead))]
     pub fn of(tree: &'a Tree, change: &'a Change) -> After<'a>
         ensures tree { result.tree.now ≡ tree.now }
         ensures writes { result.writes.now ≡ change.now.writes }
         ensures moment { result.moment ≡ change.now.moment }
-        ensures records { (new : Store) → IsStoreAfter change.now tree.now.store new → (left_by result.writes.now result.moment result.tree.now.store).records ≡ new.records }
-        ensures last { (new : Store) → IsStoreAfter change.now tree.now.store new → (left_by result.writes.now result.moment result.tree.now.store).last ≡ new.last }
+        ensures store { IsReadAhead change.now tree.now.store (left_by result.writes.now result.moment result.tree.now.store) }
     {
         After {
             tree,

@@ -5,7 +5,7 @@ use crate::step::Step;
 use acap_entries::Sequence;
 
 /// Steps of a machine, in their order.
-pub type Steps = Sequence<Step>;
+pub type StepList = Sequence<Step>;
 
 /// What steps answered, in their order.
 pub type Outcomes = Sequence<Result<Reply, Fault>>;

@@ -1,4 +1,4 @@
-use Rattle.std.proofs.Common.{◌≡◌, ◌<◌, length, arith, sym}
+use Rattle.std.proofs.Common.{◌<◌, length, arith, sym}
 use borrow.Author.Tests.{eqb-true}
 use Rattle.acap_entries.proofs.LeafLemmas.{leaf_read, leaf_in_order, entry_in_leaf, entry_of_none}
 use Rattle.acap_entries.proofs.leaves.entry.Goals as goal
