@@ -1,10 +1,13 @@
 //! Tests of a search's calls that no program makes yet: what it finds, kept and copied, is what it tells.
 
+use acap_commands::{
+    Key, Metadata, MetadataList, ReturnItem, ReturnName, Returns, Rows, SearchModifiers, SortItem,
+    SortItems, Test,
+};
 use acap_entries::{
     Acls, Attribute, Boxed, Cell, Cells, Change, Copying, Dataset, Fate, Memory, Moment, Path,
     Paths, Record, Tree, UserName, Value, Writes,
 };
-use acap_commands::{Key, Metadata, MetadataList, ReturnItem, ReturnName, Returns, Rows, SearchModifiers, SortItem, SortItems, Test};
 use acap_order::Comparator;
 use acap_rights::Realm;
 use acap_search::{Asked, Hits, Query, SearchRefusal, first_rows, fresh, tell};

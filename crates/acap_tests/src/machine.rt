@@ -1,8 +1,8 @@
 //! Tests of the machine: copies, runs, and events that are refused memory. What is answered is in the rows.
 ghost use Rattle.std.specs.Prelude.{◌<◌};
 
-use acap_entries::{Copying, Memory, Moment, Seat, UserName};
 use acap_commands::{Command, Event, Fault, Reply};
+use acap_entries::{Copying, Memory, Moment, Seat, UserName};
 use acap_grammar::{GrammarError, parse, render};
 use acap_lexer::{Lexed, Lexer, Mode};
 use acap_machine::{Outcomes, State, Step, StepList, run};
