@@ -13,7 +13,7 @@ use Rattle.std.specs.Cmp.Lexicographic.{nat_list_cmp_total, same_text}
 use Rattle.std.proofs.lemmas.List.{append_cancel_left}
 use Rattle.std.proofs.lemmas.List.Folds.{list_any-append}
 use Rattle.acap_entries.specs.Datasets.{dataset_exists}
-use Rattle.acap_entries.specs.FullPaths.{full_path_cmp, IsWellFormed}
+use Rattle.acap_entries.specs.FullPaths.{full_path_cmp, IsSplit}
 use Rattle.acap_entries.specs.Orders.{octets_cmp, octets_eq}
 use Rattle.acap_entries.specs.Ranks.{units, Ascending}
 use Rattle.acap_entries.specs.Store.{Stored, Written, IsPathByPath, path_cmp, after_fate}
@@ -252,7 +252,7 @@ then_equal Less s h = refl
 then_equal Equal s h = h refl
 then_equal Greater s h = refl
 
-pub formed_order : (a b : Path) → IsWellFormed a → IsWellFormed b → by_octets a b ≡ full_path_cmp a b
+pub formed_order : (a b : Path) → IsSplit a → IsSplit b → by_octets a b ≡ full_path_cmp a b
 formed_order a b p q =
     then_equal (full_path_cmp a b) (octets_cmp a.dataset b.dataset)
     (λ e. ap (λ (r : Path). octets_cmp r.dataset b.dataset) (full_paths.same a b p q e) ∙ tied_itself nat_list_cmp_total b.dataset)

@@ -3,7 +3,7 @@ use Rattle.std.specs.Prelude.{◌≡◌, ◌⊎◌, ℕ, Bool, true, false, List
 use Rattle.std.specs.List.{list_any, flat_map}
 use Rattle.std.specs.Ordering.{eq_by_cmp}
 use Rattle.acap_entries.specs.Datasets.{dataset_exists}
-use Rattle.acap_entries.specs.FullPaths.{full_path_cmp, IsWellFormed}
+use Rattle.acap_entries.specs.FullPaths.{full_path_cmp, IsSplit}
 use Rattle.acap_entries.specs.Ranks.{Ascending}
 use Rattle.acap_entries.specs.Sound.{IsHoused}
 use Rattle.acap_entries.specs.Store.{Stored, Written, IsPathByPath}
@@ -53,4 +53,4 @@ pub record TouchedLaw : Type 0 where
       → list_any (eq_by_cmp by_octets p) (touched written old new) ≡ is_touched written old new p
   pub rises : (written : Written) (old new : Stored) → Ascending by_octets (touched written old new)
   pub together : (written : Written) (old new : Stored) → in_order (flat_map (touched_at written old new) (datasets_touched written old new)) ≡ touched written old new
-  pub formed : (a b : Path) → IsWellFormed a → IsWellFormed b → by_octets a b ≡ full_path_cmp a b
+  pub formed : (a b : Path) → IsSplit a → IsSplit b → by_octets a b ≡ full_path_cmp a b
