@@ -27,7 +27,8 @@ use Rattle.acap_search.specs.Matches.{Match, match_lt, sorted_by}
 use Rattle.acap_search.specs.Places.{places_cmp, places_in}
 use Rattle.acap_search.specs.Scopes.{scope_of, beneath}
 use Rattle.acap_search.specs.Sight.{answers_at}
-use Rattle.acap_search.specs.Walks.{hit_at, hits_in, hits_over}
+use Rattle.acap_search.specs.Views.{spotted, found_at}
+use Rattle.acap_search.specs.Walks.{Quest, quest_of, view_in, hits_in, hits_over}
 use Rattle.acap_search.specs.declared.query.Sought.{Sought}
 use Rattle.acap_search.proofs.OrderLemmas.{match_weak}
 use Rattle.acap_search.proofs.SortLemmas.{Above, Rises, rising_stays}
@@ -112,32 +113,35 @@ module _ (dataset : List ℕ) (f : List ℕ → Option Match) where
         ] (own n)
 
 module _ (records : Stored) (realm : Realm) (user : List ℕ) (sought : Sought) (depth : sought.depth ≡ None) (sort : sought.sort ≡ None) (law : NamesLaw) where
+  abbrev quest : Quest
+  quest = quest_of records realm user sought
+
   abbrev chain : List (List ℕ)
   chain = chain_of records sought.dataset sought.no_inherit
 
-  abbrev found_at : List ℕ → Option Match
-  found_at = hit_at records realm user sought sought.dataset chain
+  abbrev found : List ℕ → Option Match
+  found name = found_at sought None (spotted (view_in quest sought.dataset) name)
 
-  made_at : (seen wanted : Bool) (name : List ℕ) (m : Match) → IsAt sought.dataset found_at name m → AreAt sought.dataset found_at name (cond seen (cond wanted (Some m) None) None)
+  made_at : (seen wanted : Bool) (name : List ℕ) (m : Match) → IsAt sought.dataset found name m → AreAt sought.dataset found name (cond seen (cond wanted (Some m) None) None)
   made_at true true name m p = p
   made_at true false name m p = tt
   made_at false wanted name m p = tt
 
-  all_at : (name : List ℕ) → AreAt sought.dataset found_at name (found_at name)
+  all_at : (name : List ℕ) → AreAt sought.dataset found name (found name)
   all_at name = made_at _ _ name _ (refl, ap (λ sort. places_in (answers_at records realm user sought.dataset chain name).read (unwrap_or sort [])) sort)
 
-  alone : hits_over records realm user sought ≡ hits_in records realm user sought sought.dataset
+  alone : hits_over quest ≡ hits_in quest sought.dataset
   alone =
-      ap (λ depth. flat_map (hits_in records realm user sought) (sought.dataset ∷ option_map_or (beneath records sought.dataset) depth [])) depth
-      ∙ append-nil (hits_in records realm user sought sought.dataset)
+      ap (λ depth. flat_map (hits_in quest) (sought.dataset ∷ option_map_or (beneath records sought.dataset) depth [])) depth
+      ∙ append-nil (hits_in quest sought.dataset)
 
-  found_rise : Rises match_lt match_weak (hits_in records realm user sought sought.dataset)
+  found_rise : Rises match_lt match_weak (hits_in quest sought.dataset)
   unfolding hits_in
-  found_rise = rises sought.dataset found_at all_at (names_on records chain) (law.rising records chain)
+  found_rise = rises sought.dataset found all_at (names_on records chain) (law.rising records chain)
 
   -- without DEPTH and SORT the matches of the dataset come in order
-  pub plain_is : hits_in records realm user sought sought.dataset ≡ fresh_of (sight_of records realm user (scope_of sought)) sought
+  pub plain_is : hits_in quest sought.dataset ≡ fresh_of (sight_of records realm user (scope_of sought)) sought
   plain_is = sym (rising_stays match_lt match_weak _ found_rise) ∙ (ap (sorted_by match_lt) (sym alone) ∙ fresh_is records realm user sought)
 
-  pub plain_count : (rows : List Row) → rows ≡ each row_in (hits_in records realm user sought sought.dataset) → length rows ≡ length (hits_over records realm user sought)
-  plain_count rows e = ap length e ∙ (length-map (hits_in records realm user sought sought.dataset) row_in ∙ ap length (sym alone))
+  pub plain_count : (rows : List Row) → rows ≡ each row_in (hits_in quest sought.dataset) → length rows ≡ length (hits_over quest)
+  plain_count rows e = ap length e ∙ (length-map (hits_in quest sought.dataset) row_in ∙ ap length (sym alone))

@@ -13,5 +13,6 @@ pub mod Scopes
 pub mod Shown
 pub mod Sight
 pub mod Tuples
+pub mod Views
 pub mod Walks
 pub mod Withheld

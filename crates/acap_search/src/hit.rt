@@ -2,8 +2,8 @@
 ghost use Rattle.std.specs.Prelude.{◌≡◌, ◌↔◌, IsTrue, IfOk, take, map as each};
 
 use crate::rank::Places;
-use acap_entries::{Copying, Memory, Path, Row, Sequence};
 use acap_commands::Rows;
+use acap_entries::{Copying, Memory, Path, Row, Sequence};
 use std::alloc::Global;
 use std::marker::Model;
 

@@ -15,6 +15,7 @@ mod rank;
 mod ranking;
 mod refusal;
 mod rows;
+mod search;
 mod searching;
 mod spot;
 mod telling;

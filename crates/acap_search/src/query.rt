@@ -2,8 +2,8 @@
 ghost use Rattle.std.specs.Prelude.{◌≡◌, IfOk};
 ghost use Rattle.acap_search.specs.Asking.{asked_of};
 
-use acap_entries::{Copying, Dataset, Memory, UserName};
 use acap_commands::{Key, Limit, MakeContext, Returns, SearchModifiers, SortItems};
+use acap_entries::{Copying, Dataset, Memory, UserName};
 
 /// What a search over a dataset looks for, and what is told of each match (RFC 2244 section 6.4.1): all that a context keeps of
 /// the SEARCH that made it, and all that the list of its matches depends on.

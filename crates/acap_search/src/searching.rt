@@ -5,7 +5,6 @@ ghost use Rattle.std.specs.Option.{option_map_or};
 ghost use Rattle.acap_entries.specs.Datasets.{dataset_exists};
 ghost use Rattle.acap_entries.specs.FullPaths.{full_path};
 ghost use Rattle.acap_entries.specs.Names.{slash};
-ghost use Rattle.acap_inherit.specs.EntryNames as names;
 ghost use Rattle.acap_search.specs.Fresh as rule;
 ghost use Rattle.acap_search.specs.Near as near;
 ghost use Rattle.acap_search.specs.Scopes as scopes;
@@ -18,25 +17,17 @@ use crate::ordering::sort_hits;
 use crate::plain::plain_rights;
 use crate::query::{Query, Sought};
 use crate::refusal::SearchRefusal;
+use crate::search::Search;
 use crate::spot::Spot;
 use crate::tuples::hit_at;
 use crate::viewer::Viewer;
+use acap_commands::{Key, Node, Test};
 use acap_entries::{
     Dataset, Memory, NameFault, Path, Record, Records, Tree, UserName, makes_dataset,
 };
-use acap_commands::{Key, Node, Test};
 use acap_inherit::{chain, names_on};
 use acap_rights::{Realm, Rights};
 use std::alloc::Global;
-
-// Whose search it is, over which store, and what it looks for.
-#[derive(Drop)]
-struct Search<'a> {
-    tree: &'a Tree,
-    realm: &'a Realm,
-    user: &'a UserName,
-    sought: &'a Sought,
-}
 
 /// Whether a key asks for positions.
 pub(crate) fn has_range(key: &Key) -> bool
@@ -144,8 +135,8 @@ fn add_own_hits<'a>(
     sought: &Sought,
     hits: &mut Vec<Hit>,
 ) -> Result<(), Memory>
-    requires { near.IsPlain by.now.records.now.store.records by.now.realm.now by.now.user.now by.now.dataset.now by.now.chain rights }
-    ensures { OnOk result (hits.new.items ≡ hits.old.items ++ filter_map (walks.hit_at by.now.records.now.store.records by.now.realm.now by.now.user.now sought.now by.now.dataset.now by.now.chain) (names.names_on by.now.records.now.store.records by.now.chain)) }
+    requires { near.IsPlain by.now rights }
+    ensures { OnOk result (hits.new.items ≡ hits.old.items ++ walks.hits_along by.now sought.now) }
 {
     for (path, entry) in by.records.entries_of(by.dataset.as_slice()) {
         let spot = Spot {
@@ -168,7 +159,7 @@ pub(crate) fn add_far_hits(
     sought: &Sought,
     hits: &mut Vec<Hit>,
 ) -> Result<(), Memory>
-    ensures { OnOk result (hits.new.items ≡ hits.old.items ++ filter_map (walks.hit_at by.now.records.now.store.records by.now.realm.now by.now.user.now sought.now by.now.dataset.now by.now.chain) (names.names_on by.now.records.now.store.records by.now.chain)) }
+    ensures { OnOk result (hits.new.items ≡ hits.old.items ++ walks.hits_along by.now sought.now) }
 {
     let management = by.records.find(by.dataset.as_slice(), b"");
     for name in names_on(by.records, &by.chain) {
@@ -195,18 +186,19 @@ fn add_hits(
     dataset: &Dataset,
     hits: &mut Vec<Hit>,
 ) -> Result<(), Memory>
-    ensures { OnOk result (hits.new.items ≡ hits.old.items ++ walks.hits_in search.now.tree.now.store.records search.now.realm.now search.now.user.now search.now.sought.now dataset.now) }
+    ensures { OnOk result (hits.new.items ≡ hits.old.items ++ walks.hits_in search.now dataset.now) }
 {
+    let sought = search.sought;
     let by = Viewer {
         records: search.tree,
         realm: search.realm,
         user: search.user,
         dataset,
-        chain: chain(search.tree, dataset, search.sought.no_inherit),
+        chain: chain(search.tree, dataset, sought.no_inherit),
     };
     match plain_rights(&by) {
-        Some(rights) => add_own_hits(alloc, &by, rights, search.sought, hits),
-        None => add_far_hits(alloc, &by, search.sought, hits),
+        Some(rights) => add_own_hits(alloc, &by, rights, sought, hits),
+        None => add_far_hits(alloc, &by, sought, hits),
     }
 }
 
@@ -220,9 +212,10 @@ fn add_reached(
     entry: &Record,
     hits: &mut Vec<Hit>,
 ) -> Result<(), Memory>
-    ensures { OnOk result (hits.new.items ≡ hits.old.items ++ walks.hits_by search.now.tree.now.store.records search.now.realm.now search.now.user.now search.now.sought.now depth (path.now, entry.now)) }
+    ensures { OnOk result (hits.new.items ≡ hits.old.items ++ walks.hits_by search.now depth (path.now, entry.now)) }
 {
-    match reached_by(alloc, &search.sought.dataset, depth, path, entry)? {
+    let sought = search.sought;
+    match reached_by(alloc, &sought.dataset, depth, path, entry)? {
         Some(dataset) => add_hits(alloc, search, &dataset, hits),
         None => Ok(()),
     }
@@ -235,12 +228,13 @@ fn add_beneath(
     depth: u32,
     hits: &mut Vec<Hit>,
 ) -> Result<(), Memory>
-    ensures { OnOk result (hits.new.items ≡ hits.old.items ++ flat_map (walks.hits_in search.now.tree.now.store.records search.now.realm.now search.now.user.now search.now.sought.now) (scopes.beneath search.now.tree.now.store.records search.now.sought.now.dataset depth)) }
+    ensures { OnOk result (hits.new.items ≡ hits.old.items ++ walks.hits_beneath search.now depth) }
 {
     if depth == 1 {
         return Ok(());
     }
-    for (path, entry) in search.tree.entries_beneath(&search.sought.dataset) {
+    let sought = search.sought;
+    for (path, entry) in search.tree.entries_beneath(&sought.dataset) {
         add_reached(alloc, search, depth, path, entry, hits)?;
     }
     Ok(())
@@ -248,11 +242,12 @@ fn add_beneath(
 
 // What is found, in the order of the store.
 fn hits_of(alloc: Global, search: &Search<'_>) -> Result<Vec<Hit>, Memory>
-    ensures { IfOk result (λ hits. hits.items ≡ walks.hits_over search.now.tree.now.store.records search.now.realm.now search.now.user.now search.now.sought.now) }
+    ensures { IfOk result (λ hits. hits.items ≡ walks.hits_over search.now) }
 {
     let mut hits = Vec::new(alloc);
-    add_hits(alloc, search, &search.sought.dataset, &mut hits)?;
-    if let Some(depth) = search.sought.depth {
+    let sought = search.sought;
+    add_hits(alloc, search, &sought.dataset, &mut hits)?;
+    if let Some(depth) = sought.depth {
         add_beneath(alloc, search, depth, &mut hits)?;
     }
     Ok(hits)

@@ -1,7 +1,6 @@
 //! What a search tells.
 ghost use Rattle.std.specs.Prelude.{◌≡◌, ◌↔◌, ◌++◌, IsTrue, IfOk, OnOk, Err, Some, None, take, length, map as each};
 ghost use Rattle.std.specs.List.{filter_map};
-ghost use Rattle.acap_inherit.specs.EntryNames as names;
 ghost use Rattle.acap_search.specs.Cutting as cutting;
 ghost use Rattle.acap_search.specs.Fresh as rule;
 ghost use Rattle.acap_search.specs.Near as near;
@@ -14,12 +13,13 @@ use crate::hit::{Hits, first_rows};
 use crate::plain::plain_rights;
 use crate::query::{Query, Sought};
 use crate::refusal::SearchRefusal;
+use crate::search::Search;
 use crate::searching::{add_far_hits, fresh, has_range, is_over};
 use crate::spot::Spot;
 use crate::tuples::row_at;
 use crate::viewer::Viewer;
-use acap_entries::{Memory, Row, Tree, UserName};
 use acap_commands::{Limit, Rows};
+use acap_entries::{Memory, Row, Tree, UserName};
 use acap_inherit::{chain, names_law};
 use acap_rights::{Realm, Rights};
 use std::alloc::Global;
@@ -49,8 +49,8 @@ fn add_own_rows<'a>(
     sought: &Sought,
     rows: &mut Vec<Row>,
 ) -> Result<(), Memory>
-    requires { near.IsPlain by.now.records.now.store.records by.now.realm.now by.now.user.now by.now.dataset.now by.now.chain rights }
-    ensures { OnOk result (rows.new.items ≡ rows.old.items ++ each (λ hit. hit.row) (filter_map (walks.hit_at by.now.records.now.store.records by.now.realm.now by.now.user.now sought.now by.now.dataset.now by.now.chain) (names.names_on by.now.records.now.store.records by.now.chain))) }
+    requires { near.IsPlain by.now rights }
+    ensures { OnOk result (rows.new.items ≡ rows.old.items ++ each (λ hit. hit.row) (walks.hits_along by.now sought.now)) }
 {
     for (path, entry) in by.records.entries_of(by.dataset.as_slice()) {
         let spot = Spot {
@@ -68,7 +68,7 @@ fn add_own_rows<'a>(
 
 // What is told of what is found in a dataset, in the order of the names there.
 fn rows_by<'a>(alloc: Global, by: &'a Viewer<'a, Tree>, sought: &Sought) -> Result<Rows, Memory>
-    ensures { IfOk result (λ rows. rows ≡ each (λ hit. hit.row) (filter_map (walks.hit_at by.now.records.now.store.records by.now.realm.now by.now.user.now sought.now by.now.dataset.now by.now.chain) (names.names_on by.now.records.now.store.records by.now.chain))) }
+    ensures { IfOk result (λ rows. rows ≡ each (λ hit. hit.row) (walks.hits_along by.now sought.now)) }
 {
     if let Some(rights) = plain_rights(by) {
         let mut rows = Vec::new(alloc);
@@ -82,21 +82,16 @@ fn rows_by<'a>(alloc: Global, by: &'a Viewer<'a, Tree>, sought: &Sought) -> Resu
 
 // What is told of what is found in the searched dataset.
 #[tactic(auto, unfolding(crate::specs::Walks::hits_in))]
-fn rows_in(
-    alloc: Global,
-    tree: &Tree,
-    realm: &Realm,
-    user: &UserName,
-    sought: &Sought,
-) -> Result<Rows, Memory>
-    ensures { IfOk result (λ rows. rows ≡ each (λ hit. hit.row) (walks.hits_in tree.now.store.records realm.now user.now sought.now sought.now.dataset)) }
+fn rows_in(alloc: Global, search: &Search<'_>) -> Result<Rows, Memory>
+    ensures { IfOk result (λ rows. rows ≡ each (λ hit. hit.row) (walks.hits_in search.now search.now.sought.dataset)) }
 {
+    let sought = search.sought;
     let by = Viewer {
-        records: tree,
-        realm,
-        user,
+        records: search.tree,
+        realm: search.realm,
+        user: search.user,
         dataset: &sought.dataset,
-        chain: chain(tree, &sought.dataset, sought.no_inherit),
+        chain: chain(search.tree, &sought.dataset, sought.no_inherit),
     };
     rows_by(alloc, &by, sought)
 }
@@ -124,7 +119,13 @@ fn plain_rows(
     if !tree.dataset_exists(query.sought.dataset.as_slice()) {
         return Err(SearchRefusal::NoExist);
     }
-    let rows = rows_in(alloc, tree, realm, user, &query.sought)?;
+    let search = Search {
+        tree,
+        realm,
+        user,
+        sought: &query.sought,
+    };
+    let rows = rows_in(alloc, &search)?;
     if is_over(query.hard_limit, rows.len()) {
         return Err(SearchRefusal::WayTooMany);
     }

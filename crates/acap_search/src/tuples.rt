@@ -1,40 +1,36 @@
 //! What a search makes of an entry.
-ghost use Rattle.std.specs.Prelude.{◌≡◌, ◌++◌, ◌&&◌, IfOk, [], option_map};
-ghost use Rattle.std.specs.Option.{option_copied, option_map_or, unwrap_or};
+ghost use Rattle.std.specs.Prelude.{◌≡◌, ◌&&◌, IfOk, option_map};
 ghost use Rattle.acap_search.specs.Keys.{holds};
-ghost use Rattle.acap_search.specs.Places.{places_in};
-ghost use Rattle.acap_search.specs.Rows as row;
-ghost use Rattle.acap_search.specs.Sight as sight;
-ghost use Rattle.acap_search.specs.Tuples as rule;
+ghost use Rattle.acap_search.specs.Sight.{is_seen};
+ghost use Rattle.acap_search.specs.Views.{answers_of, found_at, match_at, spotted};
 
 use crate::hit::Hit;
-use crate::looking::sees_at;
+use crate::looking::sees;
 use crate::matching::wants;
 use crate::query::Sought;
 use crate::rank::Places;
 use crate::ranking::places_of;
-use crate::rows::items_at;
+use crate::rows::items_of;
 use crate::spot::Spot;
 use crate::viewer::Viewer;
 use acap_entries::{Copying, EntryName, Items, Memory, Octets, Path, Records, Row, Value};
-use acap_commands::{Returns, SortItems};
 use std::alloc::Global;
 
 // The name of an entry as it is told.
-fn name_told(
+fn name_told<R: Records>(
     alloc: Global,
-    depth: Option<u32>,
-    dataset: &[u8],
-    name: &[u8],
+    spot: &Spot<'_, R>,
+    sought: &Sought,
 ) -> Result<Value, Memory>
-    ensures { IfOk result (λ told. told ≡ rule.name_told depth (record { dataset = dataset.now; name = name.now })) }
+    ensures { IfOk result (λ told. told ≡ (match_at sought.now spot.now).row.name) }
 {
-    if depth.is_none() {
-        return Value::from_slice(alloc, name);
+    if sought.depth.is_none() {
+        return Value::from_slice(alloc, spot.name);
     }
-    let mut full = Vec::with_capacity(alloc, dataset.len() + name.len())?;
-    full.extend_from_slice(dataset)?;
-    full.extend_from_slice(name)?;
+    let by = spot.by;
+    let mut full = Vec::with_capacity(alloc, by.dataset.as_slice().len() + spot.name.len())?;
+    full.extend_from_slice(by.dataset.as_slice())?;
+    full.extend_from_slice(spot.name)?;
     Ok(Value::new(Octets::from_vec(full)))
 }
 
@@ -42,46 +38,43 @@ fn name_told(
 fn places_by<R: Records>(
     alloc: Global,
     spot: &Spot<'_, R>,
-    sort: Option<&SortItems>,
+    sought: &Sought,
 ) -> Result<Places, Memory>
-    ensures { IfOk result (λ places. places ≡ places_in (sight.answers_at (R.store spot.now.by.now.records.now).records spot.now.by.now.realm.now spot.now.by.now.user.now spot.now.by.now.dataset.now spot.now.by.now.chain spot.now.name.now).read (unwrap_or (option_copied sort.entry) [])) }
+    ensures { IfOk result (λ places. places ≡ (match_at sought.now spot.now).places) }
 {
-    match sort {
+    match &sought.sort {
         Some(sort) => places_of(alloc, spot, sort.as_slice()),
         None => Ok(Places::new(alloc)),
     }
 }
 
 // What a RETURN tells of an entry.
-fn items_by<R: Records>(
-    alloc: Global,
-    spot: &Spot<'_, R>,
-    returns: Option<&Returns>,
-) -> Result<Items, Memory>
-    ensures { IfOk result (λ items. items ≡ option_map_or (row.items_of (sight.answers_at (R.store spot.now.by.now.records.now).records spot.now.by.now.realm.now spot.now.by.now.user.now spot.now.by.now.dataset.now spot.now.by.now.chain spot.now.name.now) (row.stars_of (sight.answers_at (R.store spot.now.by.now.records.now).records spot.now.by.now.realm.now spot.now.by.now.user.now spot.now.by.now.dataset.now spot.now.by.now.chain spot.now.name.now).read (row.attributes_at (R.store spot.now.by.now.records.now).records spot.now.name.now spot.now.by.now.chain))) (option_copied returns.entry) []) }
+fn items_by<R: Records>(alloc: Global, spot: &Spot<'_, R>, sought: &Sought) -> Result<Items, Memory>
+    ensures { IfOk result (λ items. items ≡ (match_at sought.now spot.now).row.items) }
 {
-    match returns {
-        Some(returns) => items_at(alloc, spot, returns.as_slice()),
+    match &sought.returns {
+        Some(returns) => items_of(alloc, spot, returns.as_slice()),
         None => Ok(Items::new(alloc)),
     }
 }
 
 // What is told of an entry.
 fn told_of<R: Records>(alloc: Global, spot: &Spot<'_, R>, sought: &Sought) -> Result<Row, Memory>
-    ensures { IfOk result (λ told. told ≡ (rule.match_of sought.now (record { dataset = spot.now.by.now.dataset.now; name = spot.now.name.now }) (sight.answers_at (R.store spot.now.by.now.records.now).records spot.now.by.now.realm.now spot.now.by.now.user.now spot.now.by.now.dataset.now spot.now.by.now.chain spot.now.name.now) (row.stars_of (sight.answers_at (R.store spot.now.by.now.records.now).records spot.now.by.now.realm.now spot.now.by.now.user.now spot.now.by.now.dataset.now spot.now.by.now.chain spot.now.name.now).read (row.attributes_at (R.store spot.now.by.now.records.now).records spot.now.name.now spot.now.by.now.chain))).row) }
+    ensures { IfOk result (λ told. told ≡ (match_at sought.now spot.now).row) }
 {
-    let name = name_told(alloc, sought.depth, spot.by.dataset.as_slice(), spot.name)?;
-    let items = items_by(alloc, spot, sought.returns.as_ref())?;
+    let name = name_told(alloc, spot, sought)?;
+    let items = items_by(alloc, spot, sought)?;
     Ok(Row { name, items })
 }
 
 // Where an entry stands, and what is told of it.
 fn hit_of<R: Records>(alloc: Global, spot: &Spot<'_, R>, sought: &Sought) -> Result<Hit, Memory>
-    ensures { IfOk result (λ hit. hit ≡ rule.match_of sought.now (record { dataset = spot.now.by.now.dataset.now; name = spot.now.name.now }) (sight.answers_at (R.store spot.now.by.now.records.now).records spot.now.by.now.realm.now spot.now.by.now.user.now spot.now.by.now.dataset.now spot.now.by.now.chain spot.now.name.now) (row.stars_of (sight.answers_at (R.store spot.now.by.now.records.now).records spot.now.by.now.realm.now spot.now.by.now.user.now spot.now.by.now.dataset.now spot.now.by.now.chain spot.now.name.now).read (row.attributes_at (R.store spot.now.by.now.records.now).records spot.now.name.now spot.now.by.now.chain))) }
+    ensures { IfOk result (λ hit. hit ≡ match_at sought.now spot.now) }
 {
-    let dataset = spot.by.dataset.copy()?;
+    let by = spot.by;
+    let dataset = by.dataset.copy()?;
     let name = EntryName::from_slice(alloc, spot.name)?;
-    let places = places_by(alloc, spot, sought.sort.as_ref())?;
+    let places = places_by(alloc, spot, sought)?;
     let row = told_of(alloc, spot, sought)?;
     Ok(Hit {
         path: Path { dataset, name },
@@ -92,9 +85,9 @@ fn hit_of<R: Records>(alloc: Global, spot: &Spot<'_, R>, sought: &Sought) -> Res
 
 // Whether the user sees an entry and the key wants it.
 fn is_found<R: Records>(spot: &Spot<'_, R>, sought: &Sought, place: Option<u32>) -> bool
-    ensures { result ≡ (sight.is_seen (sight.answers_at (R.store spot.now.by.now.records.now).records spot.now.by.now.realm.now spot.now.by.now.user.now spot.now.by.now.dataset.now spot.now.by.now.chain spot.now.name.now) && holds sought.now.key place (sight.answers_at (R.store spot.now.by.now.records.now).records spot.now.by.now.realm.now spot.now.by.now.user.now spot.now.by.now.dataset.now spot.now.by.now.chain spot.now.name.now)) }
+    ensures { result ≡ (is_seen (answers_of spot.now) && holds sought.now.key place (answers_of spot.now)) }
 {
-    sees_at(spot) && wants(spot, &sought.key, place)
+    sees(spot) && wants(spot, &sought.key, place)
 }
 
 /// What a search makes of an entry that is looked at.
@@ -104,7 +97,7 @@ pub(crate) fn hit_at<R: Records>(
     sought: &Sought,
     place: Option<u32>,
 ) -> Result<Option<Hit>, Memory>
-    ensures { IfOk result (λ hit. hit ≡ rule.seen_tuple sought.now place (record { dataset = spot.now.by.now.dataset.now; name = spot.now.name.now }) (sight.answers_at (R.store spot.now.by.now.records.now).records spot.now.by.now.realm.now spot.now.by.now.user.now spot.now.by.now.dataset.now spot.now.by.now.chain spot.now.name.now) (row.stars_of (sight.answers_at (R.store spot.now.by.now.records.now).records spot.now.by.now.realm.now spot.now.by.now.user.now spot.now.by.now.dataset.now spot.now.by.now.chain spot.now.name.now).read (row.attributes_at (R.store spot.now.by.now.records.now).records spot.now.name.now spot.now.by.now.chain))) }
+    ensures { IfOk result (λ hit. hit ≡ found_at sought.now place spot.now) }
 {
     if !is_found(spot, sought, place) {
         return Ok(None);
@@ -119,7 +112,7 @@ pub(crate) fn row_at<R: Records>(
     sought: &Sought,
     place: Option<u32>,
 ) -> Result<Option<Row>, Memory>
-    ensures { IfOk result (λ told. told ≡ option_map (λ hit. hit.row) (rule.seen_tuple sought.now place (record { dataset = spot.now.by.now.dataset.now; name = spot.now.name.now }) (sight.answers_at (R.store spot.now.by.now.records.now).records spot.now.by.now.realm.now spot.now.by.now.user.now spot.now.by.now.dataset.now spot.now.by.now.chain spot.now.name.now) (row.stars_of (sight.answers_at (R.store spot.now.by.now.records.now).records spot.now.by.now.realm.now spot.now.by.now.user.now spot.now.by.now.dataset.now spot.now.by.now.chain spot.now.name.now).read (row.attributes_at (R.store spot.now.by.now.records.now).records spot.now.name.now spot.now.by.now.chain)))) }
+    ensures { IfOk result (λ told. told ≡ option_map (λ h. h.row) (found_at sought.now place spot.now)) }
 {
     if !is_found(spot, sought, place) {
         return Ok(None);
@@ -137,7 +130,7 @@ pub fn row_of<'a, R: Records>(
     sought: &Sought,
     place: Option<u32>,
 ) -> Result<Option<Hit>, Memory>
-    ensures { IfOk result (λ hit. hit ≡ rule.seen_tuple sought.now place (record { dataset = by.now.dataset.now; name = name.now }) (sight.answers_at (R.store by.now.records.now).records by.now.realm.now by.now.user.now by.now.dataset.now by.now.chain name.now) (row.stars_of (sight.answers_at (R.store by.now.records.now).records by.now.realm.now by.now.user.now by.now.dataset.now by.now.chain name.now).read (row.attributes_at (R.store by.now.records.now).records name.now by.now.chain))) }
+    ensures { IfOk result (λ hit. hit ≡ found_at sought.now place (spotted by.now name.now)) }
 {
     hit_at(alloc, &Spot::far(by, name), sought, place)
 }

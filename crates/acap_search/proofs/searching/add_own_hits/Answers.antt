@@ -8,12 +8,16 @@ pub loop-path-init : goal.loop-path-init
 loop-path-init c = record {
   found = refl;
   kept = all_kept _ _ _ (c.into_iter-path-iterator.ensures.into_iter_gives
-      ∙ (c.entries_of-path-items.ensures ∙ ap (λ dataset. filter (lies_in dataset) (map'.entries c.args.by.now.records.now.store.records)) c.as_slice.ensures.value));
+      ∙ (c.entries_of-path-items.ensures
+      ∙ (ap (λ dataset. filter (lies_in dataset) (map'.entries c.by.inside.records.now.store.records)) c.as_slice.ensures.value
+      ∙ ap (λ view. filter (lies_in view.dataset) (map'.entries view.records)) c.by.view_is)));
 }
 
 pub returns : goal.returns
 returns c =
     let all = c.into_iter-path-iterator.ensures.into_iter_gives
-    ∙ (c.entries_of-path-items.ensures ∙ ap (λ dataset. filter (lies_in dataset) (map'.entries c.args.by.now.records.now.store.records)) c.as_slice.ensures.value) in
+    ∙ (c.entries_of-path-items.ensures
+    ∙ (ap (λ dataset. filter (lies_in dataset) (map'.entries c.by.inside.records.now.store.records)) c.as_slice.ensures.value
+    ∙ ap (λ view. filter (lies_in view.dataset) (map'.entries view.records)) c.by.view_is)) in
     own_walked _ _ _ _ _ _ c.in-None.ensures.steps.0 c.loop-path.invariant.found
     (names_alone _ _ _ c.requires.0 ∙ sym (ap (map (λ e. e.0.name)) all))
