@@ -24,7 +24,7 @@ use Rattle.acap_inherit.specs.Resolving.{lying, by_cell, by_record, by_presence,
 use Rattle.acap_rights.specs.Deciding.{OfEntry, own_list}
 use Rattle.acap_rights.proofs.SharingLemmas.{shared_law}
 use Rattle.acap_rights.specs.declared.rights.Rights.{Rights}
-use Rattle.acap_search.specs.Near.{own_value, IsPlain, AreKept}
+use Rattle.acap_search.specs.Near.{own_value, IsPlain, AreKept, lies_in}
 use Rattle.acap_search.specs.Sight.{may_read, may_test, is_held, cell_at}
 use Rattle.acap_search.specs.Views.{Spotted, answers_of, is_readable_at, rights_in}
 
@@ -137,9 +137,6 @@ module _ (spot : Spotted) (entry : Record) (rights : Rights) (plain : IsPlain sp
 
 -- ---- the records of a dataset
 
-abbrev pub lies_in : List ℕ → Path × Record → Bool
-lies_in dataset e = octets_eq dataset e.0.dataset
-
 first : (a b : Bool) → T (a && b) → T a
 first true b p = tt
 first false b p = p
@@ -233,7 +230,7 @@ kept_of_found records dataset (e ∷ es) h =
     elim (lies_in dataset e) as (λ t. lies_in dataset e ≡ t → AreKept records dataset (cond t (e ∷ filter (lies_in dataset) es) (filter (lies_in dataset) es))) [
       | true ↦ λ t.
           let place : ◌≡◌ {A = Path} (record { dataset = dataset; name = e.0.name }) e.0 = λ i. record { dataset = same_text dataset e.0.dataset (sym t) i; name = e.0.name } in
-          (ap (map.get records) place ∙ (map.get-entries records e.0 ∙ h.0), kept_of_found records dataset es h.1)
+          ((sym (same_text dataset e.0.dataset (sym t)), ap (map.get records) place ∙ (map.get-entries records e.0 ∙ h.0)), kept_of_found records dataset es h.1)
       | false ↦ λ t. kept_of_found records dataset es h.1
     ] refl
 

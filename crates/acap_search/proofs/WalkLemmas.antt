@@ -1,5 +1,5 @@
 -- What is found dataset by dataset is, in order, what is made of the paths in sight.
-use Rattle.std.proofs.Common.{drop, arith, ◌≡◌, ℕ, Bool, true, false, not, cond, nat_eq, Option, Some, None, List, [], ◌∷◌, ◌++◌, refl, sym, ◌∙◌, ap, append-nil, flat_map, length, map as each}
+use Rattle.std.proofs.Common.{drop, arith, ◌≡◌, ℕ, Bool, true, false, cond, nat_eq, Option, Some, None, List, [], ◌∷◌, ◌++◌, refl, sym, ◌∙◌, ap, append-nil, flat_map, length, map as each}
 use Rattle.std.proofs.lemmas.Bool.Decides.{nat_tests}
 use Rattle.std.specs.List.{filter, filter_map, cons_option, starts_with}
 use Rattle.std.specs.List.Sorted.{ties}
@@ -9,24 +9,21 @@ use Rattle.acap_entries.specs.FullPaths.{full_path_cmp}
 use Rattle.acap_commands.specs.declared.sort_item.SortItem.{SortItem}
 use Rattle.std.specs.FinMap as map
 use Rattle.std.proofs.lemmas.List.Elements.{filter_map-append}
-use Rattle.acap_entries.specs.Datasets.{dataset_exists}
 use Rattle.acap_entries.specs.Store.{Stored}
 use Rattle.acap_entries.specs.declared.path.Path.{Path}
 use Rattle.acap_entries.specs.declared.record.Record.{Record}
 use Rattle.acap_inherit.specs.Chains.{chain_of}
 use Rattle.acap_inherit.specs.EntryNames.{names_on}
 use Rattle.acap_rights.specs.declared.realm.Realm.{Realm}
-use Rattle.acap_search.specs.Fresh.{Sight, answers_on, paths_in, paths_of, full_path_lt, sight_of, fresh_of, has_range, is_over, refusal_of}
+use Rattle.acap_search.specs.Fresh.{Sight, answers_on, paths_in, paths_of, full_path_lt, sight_of, fresh_of}
 use Rattle.acap_search.specs.Matches.{Match, match_lt, sorted_by, ordered_by}
 use Rattle.acap_search.specs.Places.{places_cmp, places_in}
 use Rattle.acap_search.specs.Scopes.{scope_of, datasets_of, beneath, is_reached, levels, made_by, reached_by}
 use Rattle.acap_search.specs.Sight.{is_seen}
 use Rattle.acap_search.specs.Walks.{Quest, quest_of, hits_in, hits_by, hits_over}
-use Rattle.acap_search.specs.declared.query.Query.{Query}
 use Rattle.acap_search.specs.declared.query.Sought.{Sought}
-use Rattle.acap_search.specs.declared.refusal.SearchRefusal.TheVariants as refusal
 use Rattle.acap_search.proofs.OrderLemmas.{match_weak, path_weak, paths_tie}
-use Rattle.acap_search.proofs.SortLemmas.{Above, Rises, rising_stays, sorted_by_rises, sorted_alike, ties_kept, sorted_length}
+use Rattle.acap_search.proofs.SortLemmas.{Above, Rises, rising_stays, sorted_by_rises, sorted_alike, ties_kept}
 use Rattle.acap_search.proofs.TupleLemmas.{tuple_at, tuples_are}
 
 -- ---- lists
@@ -191,22 +188,12 @@ module _ (records : Stored) (realm : Realm) (user : List ℕ) (sought : Sought) 
       ∙ (sym (sorted_first (tuple_at sight sought) own_paths seen)
       ∙ (ordered sought.sort refl ∙ ap (ordered_by sought.sort) (sym (tuples_are sight sought))))
 
-  pub fresh_length : length (fresh_of sight sought) ≡ length (hits_over quest)
-  fresh_length = ap length (sym fresh_is) ∙ sorted_length match_lt match_weak (hits_over quest)
-
   -- the datasets beneath, entry by entry
   pub beneath_is : (depth : ℕ) (es : List (Path × Record)) → es ≡ filter (λ e. starts_with nat_eq e.0.dataset sought.dataset) (map.entries records) → flat_map (hits_by quest depth) es ≡ flat_map (hits_in quest) (beneath records sought.dataset depth)
   unfolding hits_by beneath
   beneath_is depth es e =
       all_of_made (hits_in quest) (reached_by sought.dataset depth) es
       ∙ ap (λ es. flat_map (hits_in quest) (filter_map (reached_by sought.dataset depth) es)) e
-
--- why a search is refused, by what is found
-pub refusal_is : (records : Stored) (realm : Realm) (user : List ℕ) (query : Query) (over : Bool) → has_range query.sought.key ≡ false → dataset_exists records query.sought.dataset ≡ true
-    → is_over query.hard_limit (length (hits_over (quest_of records realm user query.sought))) ≡ over → refusal_of records realm user query ≡ cond over (Some refusal.WayTooMany) None
-refusal_is records realm user query over r e o =
-    let count : is_over query.hard_limit (length (fresh_of (sight records realm user query.sought) query.sought)) ≡ over = ap (is_over query.hard_limit) (fresh_length records realm user query.sought) ∙ o in
-    λ i. cond (r i) (Some refusal.RangeHere) (cond (not (e i)) (Some refusal.NoExist) (cond (count i) (Some refusal.WayTooMany) None))
 
 -- with one level nothing beneath is reached
 not_reached : (level : ℕ) → is_reached 1 level ≡ false

@@ -4,6 +4,7 @@ pub mod Examples
 pub mod Fresh
 pub mod Keys
 pub mod Laws
+pub mod Lying
 pub mod Matches
 pub mod Near
 pub mod Once

@@ -1,5 +1,5 @@
 -- What is at hand of an entry whose dataset inherits nothing: words of private contracts.
-use Rattle.std.specs.Prelude.{◌≡◌, ℕ, List, [], ◌∷◌, codes, Option, Some, if◌then◌else◌}
+use Rattle.std.specs.Prelude.{◌≡◌, ℕ, Bool, List, [], ◌∷◌, codes, Option, Some, if◌then◌else◌}
 use Rattle.std.specs.Option.{unwrap_or, ForSome}
 use Rattle.acap_entries.specs.Orders.{octets_eq}
 use Rattle.acap_entries.specs.Stamp.{stamp_of}
@@ -31,7 +31,12 @@ abbrev pub IsNear : Spotted → Option Record → Rights → Type 0
 IsNear spot entry rights =
     ForSome entry (λ entry. IsPlain spot.by rights × (record_at spot.by.records spot.by.dataset spot.name ≡ Some entry))
 
+-- whether a record lies in a dataset
+abbrev pub lies_in : List ℕ → Path × Record → Bool
+lies_in dataset e = octets_eq dataset e.0.dataset
+
 -- the records of a dataset, each with its path
 abbrev pub AreKept : Stored → List ℕ → List (Path × Record) → Type 0
 AreKept records dataset [] = Unit {0}
-AreKept records dataset (e ∷ es) = (record_at records dataset e.0.name ≡ Some e.1) × AreKept records dataset es
+AreKept records dataset (e ∷ es) =
+    ((e.0.dataset ≡ dataset) × (record_at records dataset e.0.name ≡ Some e.1)) × AreKept records dataset es

@@ -13,6 +13,7 @@ use Rattle.acap_inherit.specs.Chains.{chain_of}
 use Rattle.acap_inherit.specs.EntryNames.{names_on}
 use Rattle.acap_rights.specs.contracts.realm.Realm as realm
 use Rattle.acap_rights.specs.declared.realm.Realm.{Realm}
+use Rattle.acap_search.specs.Fresh.{matches_of}
 use Rattle.acap_search.specs.Matches.{Match}
 use Rattle.acap_search.specs.Scopes.{scope_of, beneath, datasets_of, reached_by}
 use Rattle.acap_search.specs.Views.{View, spotted, found_at}
@@ -59,6 +60,10 @@ hits_beneath quest depth = flat_map (hits_in quest) (beneath quest.records quest
 
 abbrev pub hits_over : Quest → List Match
 hits_over quest = flat_map (hits_in quest) (datasets_of quest.records (scope_of quest.sought))
+
+-- all matches, in order
+abbrev pub matches_by : Quest → List Match
+matches_by quest = matches_of quest.records quest.realm quest.user quest.sought
 
 -- how quests are told apart in proofs
 abbrev pub quest_code : Coded Quest

@@ -3,9 +3,11 @@
 #![tactic(auto)]
 
 mod cutting;
+mod finding;
 mod hit;
 mod laws;
 mod looking;
+mod lying;
 mod matching;
 mod near;
 mod ordering;
@@ -13,6 +15,7 @@ mod plain;
 mod query;
 mod rank;
 mod ranking;
+mod reaching;
 mod refusal;
 mod rows;
 mod search;

@@ -1,11 +1,14 @@
 //! What a search makes of an entry.
-ghost use Rattle.std.specs.Prelude.{◌≡◌, ◌&&◌, IfOk, option_map};
+ghost use Rattle.std.specs.Prelude.{◌≡◌, ◌&&◌, IfOk, IfSome};
 ghost use Rattle.acap_search.specs.Keys.{holds};
+ghost use Rattle.acap_search.specs.Lying.{path_in};
 ghost use Rattle.acap_search.specs.Sight.{is_seen};
-ghost use Rattle.acap_search.specs.Views.{answers_of, found_at, match_at, spotted};
+ghost use Rattle.acap_search.specs.Views.{answers_of, found_at, match_at, path_of, spotted};
 
+use crate::finding::Finding;
 use crate::hit::Hit;
 use crate::looking::sees;
+use crate::lying::Lying;
 use crate::matching::wants;
 use crate::query::Sought;
 use crate::rank::Places;
@@ -58,29 +61,22 @@ fn items_by<R: Records>(alloc: Global, spot: &Spot<'_, R>, sought: &Sought) -> R
     }
 }
 
-// What is told of an entry.
-fn told_of<R: Records>(alloc: Global, spot: &Spot<'_, R>, sought: &Sought) -> Result<Row, Memory>
-    ensures { IfOk result (λ told. told ≡ (match_at sought.now spot.now).row) }
+// The path of an entry: that of its record where it is at hand, else one that is made.
+fn lying_at<'p, R: Records>(
+    alloc: Global,
+    spot: &Spot<'_, R>,
+    path: Option<&'p Path>,
+) -> Result<Lying<'p>, Memory>
+    requires { IfSome path (λ path. path.now ≡ path_of spot.now) }
+    ensures { IfOk result (λ lying. path_in lying ≡ path_of spot.now) }
 {
-    let name = name_told(alloc, spot, sought)?;
-    let items = items_by(alloc, spot, sought)?;
-    Ok(Row { name, items })
-}
-
-// Where an entry stands, and what is told of it.
-fn hit_of<R: Records>(alloc: Global, spot: &Spot<'_, R>, sought: &Sought) -> Result<Hit, Memory>
-    ensures { IfOk result (λ hit. hit ≡ match_at sought.now spot.now) }
-{
+    if let Some(path) = path {
+        return Ok(Lying::Kept(path));
+    }
     let by = spot.by;
     let dataset = by.dataset.copy()?;
     let name = EntryName::from_slice(alloc, spot.name)?;
-    let places = places_by(alloc, spot, sought)?;
-    let row = told_of(alloc, spot, sought)?;
-    Ok(Hit {
-        path: Path { dataset, name },
-        places,
-        row,
-    })
+    Ok(Lying::Made(Path { dataset, name }))
 }
 
 // Whether the user sees an entry and the key wants it.
@@ -90,34 +86,26 @@ fn is_found<R: Records>(spot: &Spot<'_, R>, sought: &Sought, place: Option<u32>)
     sees(spot) && wants(spot, &sought.key, place)
 }
 
-/// What a search makes of an entry that is looked at.
-pub(crate) fn hit_at<R: Records>(
+/// What a search makes of an entry that is looked at. The path is that of its record, where it is at hand.
+pub(crate) fn finding_at<'p, R: Records>(
     alloc: Global,
     spot: &Spot<'_, R>,
+    path: Option<&'p Path>,
     sought: &Sought,
     place: Option<u32>,
-) -> Result<Option<Hit>, Memory>
-    ensures { IfOk result (λ hit. hit ≡ found_at sought.now place spot.now) }
+) -> Result<Option<Finding<'p>>, Memory>
+    requires { IfSome path (λ path. path.now ≡ path_of spot.now) }
+    ensures { IfOk result (λ found. found ≡ found_at sought.now place spot.now) }
 {
     if !is_found(spot, sought, place) {
         return Ok(None);
     }
-    Ok(Some(hit_of(alloc, spot, sought)?))
-}
-
-/// What is told of an entry that is looked at, where the search finds it.
-pub(crate) fn row_at<R: Records>(
-    alloc: Global,
-    spot: &Spot<'_, R>,
-    sought: &Sought,
-    place: Option<u32>,
-) -> Result<Option<Row>, Memory>
-    ensures { IfOk result (λ told. told ≡ option_map (λ h. h.row) (found_at sought.now place spot.now)) }
-{
-    if !is_found(spot, sought, place) {
-        return Ok(None);
-    }
-    Ok(Some(told_of(alloc, spot, sought)?))
+    let lying = lying_at(alloc, spot, path)?;
+    let places = places_by(alloc, spot, sought)?;
+    let name = name_told(alloc, spot, sought)?;
+    let items = items_by(alloc, spot, sought)?;
+    let row = Row { name, items };
+    Ok(Some(Finding { lying, places, row }))
 }
 
 /// What a search makes of an entry: none where the user doesn't see it or the key doesn't want it, else where it stands and what
@@ -132,5 +120,8 @@ pub fn row_of<'a, R: Records>(
 ) -> Result<Option<Hit>, Memory>
     ensures { IfOk result (λ hit. hit ≡ found_at sought.now place (spotted by.now name.now)) }
 {
-    hit_at(alloc, &Spot::far(by, name), sought, place)
+    match finding_at(alloc, &Spot::far(by, name), None, sought, place)? {
+        Some(found) => Ok(Some(found.into_hit()?)),
+        None => Ok(None),
+    }
 }

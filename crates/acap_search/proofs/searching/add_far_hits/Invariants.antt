@@ -1,8 +1,0 @@
-use Rattle.std.proofs.Common.{◌≡◌, ◌++◌}
-use Rattle.acap_search.specs.Walks.{hits_at}
-use Rattle.acap_search.proofs.searching.add_far_hits.Given as goal
-
-abbrev pub invariant-loop-name : goal.invariant-loop-name
-invariant-loop-name l =
-    l.hits.items ++ hits_at l.by l.sought l.name-iterator
-    ≡ l.initial.hits.items ++ hits_at l.by l.sought l.initial.name-iterator
