@@ -2,15 +2,15 @@
 ghost use Rattle.std.specs.Prelude.{◌≡◌, IfOk};
 ghost use Rattle.acap_search.specs.Lying.{path_in};
 
-use acap_entries::{Copying, Memory, Path};
+use acap_entries::{Boxed, Copying, Memory, Path};
 
 /// The path of an entry that is found: that of its record, or one that is made where it has none in its dataset.
 #[derive(Drop)]
 pub(crate) enum Lying<'a> {
     /// That of its record.
     Kept(&'a Path),
-    /// One that is made.
-    Made(Path),
+    /// One that is made; what is found is moved in few octets.
+    Made(Boxed<Path>),
 }
 
 impl<'a> Lying<'a> {
@@ -20,7 +20,7 @@ impl<'a> Lying<'a> {
     {
         match self {
             Lying::Kept(path) => path,
-            Lying::Made(path) => path,
+            Lying::Made(path) => path.get(),
         }
     }
 
@@ -30,7 +30,7 @@ impl<'a> Lying<'a> {
     {
         match self {
             Lying::Kept(path) => path.copy(),
-            Lying::Made(path) => Ok(path),
+            Lying::Made(path) => Ok(path.into_value()),
         }
     }
 }

@@ -17,8 +17,10 @@ fn rank_order(a: &Rank, b: &Rank) -> Ordering
         (Rank::Octets(_), _) => Ordering::Less,
         (Rank::Number(_), Rank::Octets(_)) => Ordering::Greater,
         (Rank::Number(x), Rank::Number(y)) => {
-            let by_length = x.as_slice().len().cmp(&y.as_slice().len());
-            by_length.then(x.cmp(y))
+            match x.as_slice().len().cmp(&y.as_slice().len()) {
+                Ordering::Equal => x.cmp(y),
+                unequal => unequal,
+            }
         }
         (Rank::Number(_), Rank::NoNumber) => Ordering::Less,
         (Rank::NoNumber, Rank::NoNumber) => Ordering::Equal,
@@ -71,8 +73,10 @@ pub(crate) fn places_order(a: &[Place], b: &[Place]) -> Ordering
 fn order(a: &Finding<'_>, b: &Finding<'_>) -> Ordering
     ensures { result ≡ found.match_cmp a.now b.now }
 {
-    let by_places = places_order(a.places.as_slice(), b.places.as_slice());
-    by_places.then(a.lying.path().cmp_full(b.lying.path()))
+    match places_order(a.places.as_slice(), b.places.as_slice()) {
+        Ordering::Equal => a.lying.path().cmp_full(b.lying.path()),
+        unequal => unequal,
+    }
 }
 
 /// Puts what is found in order. Fails only for want of memory.

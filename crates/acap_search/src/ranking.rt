@@ -107,10 +107,10 @@ pub(crate) fn places_of<R: Records>(
 ) -> Result<Places, Memory>
     ensures { IfOk result (λ places. places ≡ places_at spot.now sort.now) }
 {
-    let mut places = Places::new(alloc);
+    let mut places = Vec::with_capacity(alloc, sort.len())?;
     for item in sort {
         let seen = look(spot, item.attribute.as_slice());
         places.push(place_of(alloc, &item.comparator, seen.read())?)?;
     }
-    Ok(places)
+    Ok(Places::from_vec(places))
 }

@@ -16,7 +16,7 @@ use crate::ranking::places_of;
 use crate::rows::items_of;
 use crate::spot::Spot;
 use crate::viewer::Viewer;
-use acap_entries::{Copying, EntryName, Items, Memory, Octets, Path, Records, Row, Value};
+use acap_entries::{Boxed, Copying, EntryName, Items, Memory, Octets, Path, Records, Row, Value};
 use std::alloc::Global;
 
 // The name of an entry as it is told.
@@ -76,7 +76,7 @@ fn lying_at<'p, R: Records>(
     let by = spot.by;
     let dataset = by.dataset.copy()?;
     let name = EntryName::from_slice(alloc, spot.name)?;
-    Ok(Lying::Made(Path { dataset, name }))
+    Ok(Lying::Made(Boxed::new(alloc, Path { dataset, name })?))
 }
 
 // Whether the user sees an entry and the key wants it.
