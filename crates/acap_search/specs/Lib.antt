@@ -2,6 +2,7 @@ pub mod Asking
 pub mod Cutting
 pub mod Examples
 pub mod Fresh
+pub mod Fronts
 pub mod Keys
 pub mod Laws
 pub mod Lying

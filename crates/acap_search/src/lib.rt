@@ -4,6 +4,7 @@
 
 mod cutting;
 mod finding;
+mod front;
 mod hit;
 mod laws;
 mod looking;

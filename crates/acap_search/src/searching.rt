@@ -8,6 +8,7 @@ ghost use Rattle.acap_search.specs.Near as near;
 ghost use Rattle.acap_search.specs.Walks as walks;
 
 use crate::finding::{Finding, hits_of};
+use crate::front::Front;
 use crate::hit::Hits;
 use crate::near::Near;
 use crate::ordering::sort_found;
@@ -21,7 +22,7 @@ use crate::tuples::finding_at;
 use crate::viewer::Viewer;
 use acap_commands::{Key, Node, Test};
 use acap_entries::{Dataset, Listing, Memory, Records, Tree, UserName};
-use acap_inherit::{chain, names_law, names_on};
+use acap_inherit::{Lineage, chain, names_law, names_on};
 use acap_rights::{Realm, Rights};
 use std::alloc::Global;
 
@@ -75,6 +76,14 @@ fn add_own<'a: 'b, 'b>(
     Ok(())
 }
 
+// The second dataset of a chain, which is the one that most is inherited from; in a chain of one that.
+fn base_of<'a>(chain: &Lineage<'a>) -> &'a [u8] {
+    match chain.names() {
+        [_, base, ..] => *base,
+        names => names[0],
+    }
+}
+
 // Adds what is found at all names along a chain.
 fn add_far<'a>(
     alloc: Global,
@@ -84,9 +93,10 @@ fn add_far<'a>(
 ) -> Result<(), Memory>
     ensures { OnOk result (found.new.items ≡ found.old.items ++ walks.hits_along by.now sought.now) }
 {
-    let management = by.records.find(by.dataset.as_slice(), b"");
+    let own = Front::of(by.records, by.dataset.as_slice());
+    let base = Front::of(by.records, base_of(&by.chain));
     for name in names_on(by.records, &by.chain) {
-        let near = Near::new(by.records, by.dataset.as_slice(), name, management);
+        let near = Near::new(by.records, own, base, name);
         let nearer = Viewer {
             records: &near,
             realm: by.realm,
