@@ -1,12 +1,15 @@
 -- Equality of replies, and of all that they are made of, is exact.
-use Rattle.std.proofs.Common.{◌≡◌, true, true≢false, refl, sym, ap}
+use Rattle.std.proofs.Common.{◌≡◌, true, true≢false, List, refl, sym, ap}
 use Rattle.std.specs.Bool.{Decides}
 use Rattle.std.specs.Cmp.{unsigned_Decides, signed_Decides}
-use Rattle.std.specs.Cmp.Lexicographic.{bytes_decides}
+use Rattle.std.specs.Cmp.Lexicographic.{bytes_decides, pointwise, pointwise_decides}
 use Rattle.acap_entries.specs.declared.path.Path.{Path}
 use Rattle.acap_entries.specs.contracts.path.PathPartialEq.TheImpl as path_eq
 use Rattle.acap_entries.specs.contracts.path.PathEq.TheImpl.Laws as path_laws
 use Rattle.acap_entries.proofs.Equalities.{pair_exact, values_exact, rows_exact}
+use Rattle.acap_notices.specs.declared.told.Told.{Told}
+use Rattle.acap_notices.specs.contracts.told.ToldPartialEq.TheImpl as told_eq
+use Rattle.acap_notices.proofs.NoticeEquality.{told_exact}
 use Rattle.acap_commands.specs.declared.search_reply.SearchReply.{SearchReply}
 use Rattle.acap_commands.specs.declared.object.Object.{Object}
 use Rattle.acap_commands.specs.declared.refusal.Refusal.{Refusal}
@@ -115,10 +118,14 @@ refusal_same a b e = absurd (true≢false (sym e))
 pub refusal_exact : (a b : Refusal) → Decides (refusal_eq.ghosts.eq a b) (a ≡ b)
 refusal_exact = exact_of refusal_laws.laws-law refusal_same
 
+tolds_exact : (a b : List Told) → Decides (pointwise told_eq.ghosts.eq a b) (a ≡ b)
+tolds_exact = pointwise_decides told_exact
+
 said_same : (a b : Said) → said_eq.ghosts.eq a b ≡ true → a ≡ b
 said_same said.Greeting said.Greeting e = refl
 said_same said.Left said.Left e = refl
-said_same said.Drained said.Drained e = refl
+said_same (said.Drained x) (said.Drained y) e = ap said.Drained ((tolds_exact x y).0 e)
+said_same (said.Updated x) (said.Updated y) e = ap said.Updated ((tolds_exact x y).0 e)
 said_same (said.Done x) (said.Done y) e = ap said.Done ((verb_exact x y).0 e)
 said_same (said.Searched x) (said.Searched y) e = ap said.Searched ((found_exact x y).0 e)
 said_same (said.Deleted x) (said.Deleted y) e = ap said.Deleted ((values_exact x y).0 e)

@@ -1,8 +1,8 @@
 //! What sessions bring to the machine.
 ghost use Rattle.std.specs.Prelude.{◌≡◌, ◌↔◌, IsTrue};
 
-use acap_entries::{Copying, Memory, UserName};
 use crate::command::Command;
+use acap_entries::{Copying, Memory, UserName};
 
 /// What a session brings to the machine (RFC 2244 sections 2 and 6).
 #[derive(Drop)]

@@ -1,6 +1,7 @@
 //! What is said to a client.
 ghost use Rattle.std.specs.Prelude.{◌≡◌, ◌↔◌, IsTrue};
 
+use crate::lists::Tolds;
 use crate::refusal::Refusal;
 use crate::search_reply::SearchReply;
 use crate::verb::Verb;
@@ -13,8 +14,10 @@ pub enum Said {
     Greeting,
     /// Nothing: the session has left.
     Left,
-    /// Nothing: no notices were pending.
-    Drained,
+    /// What was pending of a session's contexts is told, under no tag (section 6.5).
+    Drained(Tolds),
+    /// An UPDATECONTEXT is done, and this was told before (section 6.5).
+    Updated(Tolds),
     /// The command with this verb is done.
     Done(Verb),
     /// A SEARCH is done, and this is told.
@@ -38,7 +41,8 @@ impl Copying for Said {
         match self {
             Said::Greeting => Ok(Said::Greeting),
             Said::Left => Ok(Said::Left),
-            Said::Drained => Ok(Said::Drained),
+            Said::Drained(tolds) => Ok(Said::Drained(tolds.copy()?)),
+            Said::Updated(tolds) => Ok(Said::Updated(tolds.copy()?)),
             Said::Done(verb) => Ok(Said::Done(*verb)),
             Said::Searched(found) => Ok(Said::Searched(found.copy()?)),
             Said::Deleted(names) => Ok(Said::Deleted(names.copy()?)),

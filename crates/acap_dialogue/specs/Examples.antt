@@ -70,7 +70,7 @@ pub record AnswerExamples : Type 0 where
   pub login_history_full : answered (talking None logging []) (Err fault.HistoryFull) ≡ then_says None (codes "A1 NO (TRYLATER) \"History is full\"")
   pub login_seat : map (λ f. answered (talking None logging []) (Err f)) (fault.NotEntered ∷ fault.AlreadyEntered ∷ []) ≡ replicate 2 (then_ends None [])
   -- a drain that is refused says nothing
-  pub drained : map (answered (talking joe stage.Draining [])) (Ok (plain said.Drained) ∷ Err fault.Memory ∷ Err fault.NotEntered ∷ []) ≡ replicate 3 (next.Say [], talking joe stage.Ready [])
+  pub drained : map (answered (talking joe stage.Draining [])) (Ok (plain (said.Drained [])) ∷ Err fault.Memory ∷ Err fault.NotEntered ∷ []) ≡ replicate 3 (next.Say [], talking joe stage.Ready [])
 
 -- ---- what is said to an answer of the lexer
 

@@ -7,8 +7,8 @@ ghost use Rattle.acap_dialogue.specs.Session as talk;
 use crate::heard::Heard;
 use crate::hearing::says;
 use crate::stage::Stage;
-use acap_entries::{Memory, Octets, UserName};
 use acap_commands::{Fault, Refusal, Reply, Said, Verb};
+use acap_entries::{Memory, Octets, UserName};
 
 // The machine's answer to a command is said under its tag.
 fn replied(

@@ -14,8 +14,8 @@ ghost use Rattle.acap_dialogue.specs.declared.stage.Stage.TheVariants as stages;
 use crate::heard::Heard;
 use crate::listener::Listener;
 use crate::stage::Stage;
-use acap_entries::{Copying, Memory, Moment, Octets, UserName, Value};
 use acap_commands::{Command, Event, Refusal, Reply, Said, Verb};
+use acap_entries::{Copying, Memory, Moment, Octets, UserName, Value};
 use acap_grammar::{GrammarError, lexical_refusal, parse, render};
 use acap_lexer::{Lexed, Tag, Tokens};
 use acap_login::challenge;
@@ -110,7 +110,12 @@ fn authenticates(
     if !mechanism.as_slice().eq_ignore_ascii_case(b"CRAM-MD5") {
         return says(tag, Said::Refused(Refusal::NoMechanism), stage, out);
     }
-    let told = challenge(listener.alloc, listener.nonce, seconds(listener.clock), listener.host.as_slice())?;
+    let told = challenge(
+        listener.alloc,
+        listener.nonce,
+        seconds(listener.clock),
+        listener.host.as_slice(),
+    )?;
     challenges(tag, Octets::from_vec(told), stage, out)
 }
 

@@ -1,7 +1,7 @@
 //! What a session does next.
 
-use acap_entries::Octets;
 use acap_commands::Event;
+use acap_entries::Octets;
 
 /// What a session does next.
 #[derive(Drop)]

@@ -1,5 +1,5 @@
 -- Entries that lie in leaves: what an edit of the key's leaf makes of all.
-use Rattle.std.proofs.Common.{◌≡◌, ℕ, zero, suc, ◌+◌, ◌<◌, ◌≤◌, Bool, true, false, not, cond, T, IsTrue, List, [], ◌∷◌, ◌++◌, length, get_or, set, take, drop, Some, None, ◌==◌, refl, sym, ap, subst, ◌∙◌, arith, ◌&&◌, length-append, length-take, length-drop, take-append-drop, ◌-◌, ◌/◌, append_assoc, append-nil, ◌⊎◌, inl, inr}
+use Rattle.std.proofs.Common.{◌≡◌, ℕ, zero, suc, ◌+◌, ◌<◌, ◌≤◌, Bool, true, false, not, cond, T, IsTrue, List, [], ◌∷◌, ◌++◌, length, get_or, set, take, drop, Option, Some, None, IfSome, IfNone, ◌==◌, refl, sym, ap, subst, ◌∙◌, arith, ◌&&◌, length-append, length-take, length-drop, take-append-drop, ◌-◌, ◌/◌, append_assoc, append-nil, ◌⊎◌, inl, inr}
 use Rattle.std.specs.declared.cmp.Ordering.{Ordering}
 use Rattle.std.specs.declared.cmp.Ordering.TheVariants.{Less, Equal, Greater}
 use Rattle.std.specs.Ordering.{is_eq}
@@ -7,13 +7,13 @@ use Rattle.std.specs.Cmp.{IsTotalOrder}
 use Rattle.std.specs.List.{insert, remove, list_all}
 use Rattle.std.specs.FinMap.{find, put, is_sorted}
 use Rattle.std.specs.FinMap.Entries.{by_order, below_all}
-use Rattle.acap_entries.specs.Sorted.{place, is_tied, without, found, put_in, InOrder}
+use Rattle.acap_entries.specs.Sorted.{place, is_tied, without, found, entry_of, put_in, InOrder}
 use Rattle.acap_entries.specs.Leaves.{joined, before, is_filled, AreFilled, IsAmong, IsBehind}
 use Rattle.std.proofs.lemmas.List.{get_or-append-add, get_or_default, drop-append-le}
 use Rattle.std.proofs.Math.Seq.{drop-append_seam, drop-drop}
 use Rattle.std.proofs.Math.ListN.{get_or-append}
 use borrow.Author.Tests.{eqb-true}
-use Rattle.acap_entries.proofs.SortedLemmas.{below_missing, below_kept, equal_kept, without_absent, found_absent, put_in_absent, place_le, tied_lt}
+use Rattle.acap_entries.proofs.SortedLemmas.{below_missing, below_kept, equal_kept, without_absent, found_absent, below_entry, entry_absent, put_in_absent, place_le, tied_lt}
 use Rattle.acap_entries.proofs.Halves.{less_at, equal_at, greater_at}
 
 first : (a b : Bool) → T (a && b) → T a
@@ -356,6 +356,36 @@ module _ {K X : Type 0} (R : K → K → Ordering) where
         let rest = sorted_rest R (joined (take i ls)) _ (subst (λ (es : List (K × X)). T (is_sorted R es)) e (subst T (sym h.rises) tt)) in
         sym (ap (λ (es : List (K × X)). find R k es) e ∙ find_past k (joined (take i ls)) _ l.from ∙ find_within k (get_or ls i []) (joined (drop (suc i) ls)) rest l.until l.tied)
 
+    -- the entry of a key
+    entry_past : (k : K) (a r : List (K × X)) → length a ≤ place R k (a ++ r) → entry_of R k (a ++ r) ≡ entry_of R k r
+    unfolding entry_of
+    entry_past k [] r = λ h. refl
+    entry_past k (x ∷ a) r = elim (R k x.0) as (λ p. suc (length a) ≤ by_order p 0 0 (suc (place R k (a ++ r))) → cond (is_eq p) (Some x) (entry_of R k (a ++ r)) ≡ entry_of R k r) [
+      | Less ↦ λ h. absurd (omega arith)
+      | Equal ↦ λ h. absurd (omega arith)
+      | Greater ↦ λ h. entry_past k a r (omega arith)
+    ]
+
+    entry_behind : (k : K) (c : List (K × X)) → T (is_sorted R c) → (is_tied R k c ≡ true → place R k c < 0) → entry_of R k c ≡ None
+    entry_behind k c h t = entry_absent R o k c (record { rises = yes _ h }) (untied (is_tied R k c) (λ e. omega (arith, t e)))
+
+    entry_within : (k : K) (b c : List (K × X)) → T (is_sorted R (b ++ c)) → place R k (b ++ c) ≤ length b → (is_tied R k (b ++ c) ≡ true → place R k (b ++ c) < length b) → entry_of R k (b ++ c) ≡ entry_of R k b
+    unfolding entry_of
+    entry_within k [] c s = λ h t. entry_behind k c s t
+    entry_within k (x ∷ b) c s = elim (R k x.0) as (λ p. R k x.0 ≡ p → by_order p 0 0 (suc (place R k (b ++ c))) ≤ suc (length b) → (by_order p false true (is_tied R k (b ++ c)) ≡ true → by_order p 0 0 (suc (place R k (b ++ c))) < suc (length b)) → cond (is_eq p) (Some x) (entry_of R k (b ++ c)) ≡ cond (is_eq p) (Some x) (entry_of R k b)) [
+      | Less ↦ λ e h t. below_entry R o k x.0 (b ++ c) e (first _ _ s) ∙ sym (below_entry R o k x.0 b e (below_front R x.0 b c (first _ _ s)))
+      | Equal ↦ λ e h t. refl
+      | Greater ↦ λ e h t. entry_within k b c (second _ _ s) (omega arith) (λ u. omega (arith, t u))
+    ] refl
+
+    pub entry_in_leaf : (k : K) (ls : List (List (K × X))) (i : ℕ) → InOrder R (joined ls) → IsAmong R k ls i (i + 1) → entry_of R k (get_or ls i []) ≡ entry_of R k (joined ls)
+    entry_in_leaf k ls i h among =
+        let at : i < length ls = omega (arith, among.within) in
+        let l = lies R k ls i among in
+        let e = joined_at ls i at in
+        let rest = sorted_rest R (joined (take i ls)) _ (subst (λ (es : List (K × X)). T (is_sorted R es)) e (subst T (sym h.rises) tt)) in
+        sym (ap (λ (es : List (K × X)). entry_of R k es) e ∙ entry_past k (joined (take i ls)) _ l.from ∙ entry_within k (get_or ls i []) (joined (drop (suc i) ls)) rest l.until l.tied)
+
     -- what stays when a key is taken out
     without_past : (k : K) (a r : List (K × X)) → length a ≤ place R k (a ++ r) → without R k (a ++ r) ≡ a ++ without R k r
     unfolding without
@@ -408,6 +438,41 @@ pub found_none : {K X : Type 0} (R : K → K → Ordering) (k : K) (ls : List (L
 unfolding found
 found_none R k [] h = refl
 found_none R k (x ∷ ls) h = let none = eqb-true (suc (length ls)) 0 (sym h) in absurd (omega (arith, none))
+
+pub entry_of_none : {K X : Type 0} (R : K → K → Ordering) (k : K) (ls : List (List (K × X))) → length ls ≡ 0 → None ≡ entry_of R k (joined ls)
+unfolding entry_of
+entry_of_none R k [] h = refl
+entry_of_none R k (x ∷ ls) h = absurd (omega arith)
+
+pub some_from : {A : Type 0} (x : Option A) (P Q : Type 0) → (P → Q) → IfSome x (λ _. P) → IfSome x (λ _. Q)
+some_from None P Q f h = tt
+some_from (Some a) P Q f h = f h
+
+pub none_from : {A : Type 0} (x : Option A) (P Q : Type 0) → (P → Q) → IfNone x P → IfNone x Q
+none_from None P Q f h = f h
+none_from (Some a) P Q f h = tt
+
+-- an entry that is put behind the last leaf's
+all_but_none : {A : Type 0} (ls : List (List A)) → joined (drop (length ls) ls) ≡ []
+all_but_none [] = refl
+all_but_none (x ∷ ls) = all_but_none ls
+
+pub joined_last : {A : Type 0} (ls : List (List A)) (i : ℕ) (more : List A) → i + 1 ≡ length ls → joined (set ls i (get_or ls i [] ++ more)) ≡ joined ls ++ more
+joined_last {A} ls i more last =
+    let at : i < length ls = omega arith in
+    let a = joined (take i ls) in
+    let b = get_or ls i [] in
+    let next : suc i ≡ length ls = omega arith in
+    let none : joined (drop (suc i) ls) ≡ [] = ap (λ n. joined (drop n ls)) next ∙ all_but_none ls in
+    joined_set ls i _ at
+    ∙ ap (λ (c : List A). a ++ ((b ++ more) ++ c)) none ∙ ap (λ (t : List A). a ++ t) (append-nil (b ++ more))
+    ∙ sym (append_assoc a b more)
+    ∙ ap (λ (t : List A). (a ++ t) ++ more) (sym (append-nil b))
+    ∙ ap (λ (c : List A). (a ++ (b ++ c)) ++ more) (sym none)
+    ∙ ap (λ (t : List A). t ++ more) (sym (joined_at ls i at))
+
+pub filled_last : {A : Type 0} (ls : List (List A)) (i : ℕ) (leaf : List A) (x : A) → AreFilled ls → AreFilled (set ls i (leaf ++ x ∷ []))
+filled_last ls i leaf x h = filled_set ls i _ h (omega (arith, length-append leaf (x ∷ [])))
 
 -- a leaf that has lost its last entry goes
 pub joined_emptied : {A : Type 0} (ls : List (List A)) (i : ℕ) (y : List A) → i < length ls → length y ≡ 0 → joined (remove (set ls i y) i) ≡ joined (set ls i y)

@@ -1,10 +1,13 @@
 pub mod SortedLemmas
 pub mod LeafLemmas
+pub mod RankLemmas
+pub mod RankLaws
 pub mod Halves
 pub mod MapLemmas
 pub mod NameLemmas
 pub mod StoreLemmas
 pub mod StoreLaws
+pub mod AfterLemmas
 pub mod RangeLemmas
 pub mod StampLemmas
 pub mod CivilLemmas
@@ -21,3 +24,5 @@ pub mod RecordEquality
 pub mod WordLemmas
 pub mod PlainNames
 pub mod OwnLaws
+pub mod FormLemmas
+pub mod Formed

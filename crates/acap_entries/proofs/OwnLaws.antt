@@ -8,7 +8,7 @@ use Rattle.std.proofs.Math.Seq.{take-append_seam}
 use Rattle.std.proofs.lemmas.Bool.{and_from}
 use Rattle.std.specs.Cmp.{first_so, second_so}
 use Rattle.std.specs.List.{suffix_len}
-use Rattle.acap_entries.specs.FullPaths.{full_path, IsWellFormed}
+use Rattle.acap_entries.specs.FullPaths.{full_path, IsSplit}
 use Rattle.acap_entries.specs.Laws.{OwnEntryLaw}
 use Rattle.acap_entries.specs.Names.{slash, is_slash, has, begins_with, ends_with, own_entry, dataset_len, dataset_of, name_of}
 use Rattle.acap_entries.specs.declared.path.Path.{Path}
@@ -140,7 +140,7 @@ has_within (x ∷ xs) ys = elim (x == slash) as (λ b. b || has slash (xs ++ sla
 has_end : (xs ys : List ℕ) → ends_with slash xs ≡ true → has slash (xs ++ ys) ≡ true
 has_end xs ys e = ap (λ zs. has slash (zs ++ ys)) (sym (closed_again xs e)) ∙ (ap (has slash) (append_assoc (take (length xs - 1) xs) (slash ∷ []) ys) ∙ has_within (take (length xs - 1) xs) ys)
 
-own_is : (d : List ℕ) (p : Path) → own_entry d ≡ Some (p.dataset, p.name) → IsWellFormed p × (full_path p ++ slash ∷ [] ≡ d)
+own_is : (d : List ℕ) (p : Path) → own_entry d ≡ Some (p.dataset, p.name) → IsSplit p × (full_path p ++ slash ∷ [] ≡ d)
 own_is d p e =
     let path = take (length d - 1) d in
     let parts = own_parts (ends_with slash d && ends_with slash (dataset_of path)) (dataset_of path) (name_of path) p.dataset p.name e in
@@ -157,7 +157,7 @@ before_last xs =
     let less : length (xs ++ slash ∷ []) - 1 ≡ length xs = omega (arith, length-append xs (slash ∷ [])) in
     ap (λ n. take n (xs ++ slash ∷ [])) less ∙ take-append_seam xs (slash ∷ [])
 
-is_own : (p : Path) → IsWellFormed p → own_entry (full_path p ++ slash ∷ []) ≡ Some (p.dataset, p.name)
+is_own : (p : Path) → IsSplit p → own_entry (full_path p ++ slash ∷ []) ≡ Some (p.dataset, p.name)
 is_own p h =
     let path = full_path p in
     let whole = before_last path in

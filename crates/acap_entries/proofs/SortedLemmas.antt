@@ -7,7 +7,7 @@ use Rattle.std.specs.Cmp.{IsTotalOrder}
 use Rattle.std.specs.List.{insert, remove, slice_get}
 use Rattle.std.specs.FinMap.{find, put, is_sorted}
 use Rattle.std.specs.FinMap.Entries.{by_order, below_all}
-use Rattle.acap_entries.specs.Sorted.{place, is_tied, without, found, put_in, InOrder}
+use Rattle.acap_entries.specs.Sorted.{place, is_tied, without, found, entry_of, put_in, InOrder}
 
 pub first : (a b : Bool) → T (a && b) → T a
 first true b p = tt
@@ -64,11 +64,17 @@ module _ {K X : Type 0} (R : K → K → Ordering) where
   put_in_tied k v es d e = put_tied k v es d e
 
   module _ (o : IsTotalOrder R) where
-    lower : (k l : K) (es : List (K × X)) → R k l ≡ Less → T (below_all R l es) → T (below_all R k es)
+    pub lower : (k l : K) (es : List (K × X)) → R k l ≡ Less → T (below_all R l es) → T (below_all R k es)
     lower k l [] p h = tt
     lower k l (x ∷ es) p h =
         let less : R k x.0 ≡ Less = o.trans k l x.0 p (is_less _ (first _ _ h)) in
         rw less (lower k l es p (second _ _ h))
+
+    pub lower_equal : (k l : K) (es : List (K × X)) → R k l ≡ Equal → T (below_all R l es) → T (below_all R k es)
+    lower_equal k l [] p h = tt
+    lower_equal k l (x ∷ es) p h =
+        let less : R k x.0 ≡ Less = o.congr k l x.0 p ∙ is_less _ (first _ _ h) in
+        rw less (lower_equal k l es p (second _ _ h))
 
     -- a key below the first adds nothing to ask for
     rises_on : (x y : K × X) (es : List (K × X)) → R x.0 y.0 ≡ Less → is_sorted R (x ∷ y ∷ es) ≡ is_sorted R (y ∷ es)
@@ -110,6 +116,31 @@ module _ {K X : Type 0} (R : K → K → Ordering) where
       | Greater ↦ λ e. find_at k es d (second _ _ h) e
     ]
 
+    pub below_entry : (k l : K) (es : List (K × X)) → R k l ≡ Less → T (below_all R l es) → entry_of R k es ≡ None
+    unfolding entry_of
+    below_entry k l [] p h = refl
+    below_entry k l (x ∷ es) p h =
+        let less : R k x.0 ≡ Less = o.trans k l x.0 p (is_less _ (first _ _ h)) in
+        ap (λ r. cond (is_eq r) (Some x) (entry_of R k es)) less ∙ below_entry k l es p (second _ _ h)
+
+    entry_at : (k : K) (es : List (K × X)) (d : K × X) → T (is_sorted R es) → is_tied R k es ≡ true → entry_of R k es ≡ Some (get_or es (place R k es) d)
+    unfolding entry_of
+    entry_at k [] d h = λ e. cc
+    entry_at k (x ∷ es) d h = elim (R k x.0) as (λ r. by_order r false true (is_tied R k es) ≡ true → cond (is_eq r) (Some x) (entry_of R k es) ≡ Some (get_or (x ∷ es) (by_order r 0 0 (suc (place R k es))) d)) [
+      | Less ↦ λ e. cc
+      | Equal ↦ λ e. refl
+      | Greater ↦ λ e. entry_at k es d (second _ _ h) e
+    ]
+
+    entry_none : (k : K) (es : List (K × X)) → T (is_sorted R es) → is_tied R k es ≡ false → entry_of R k es ≡ None
+    unfolding entry_of
+    entry_none k [] h = λ e. refl
+    entry_none k (x ∷ es) h = elim (R k x.0) as (λ r. R k x.0 ≡ r → by_order r false true (is_tied R k es) ≡ false → cond (is_eq r) (Some x) (entry_of R k es) ≡ None) [
+      | Less ↦ λ p e. below_entry k x.0 es p (first _ _ h)
+      | Equal ↦ λ p e. cc
+      | Greater ↦ λ p e. entry_none k es (second _ _ h) e
+    ] refl
+
     find_none : (k : K) (es : List (K × X)) → T (is_sorted R es) → is_tied R k es ≡ false → find R k es ≡ None
     find_none k [] h = λ e. refl
     find_none k (x ∷ es) h = elim (R k x.0) as (λ r. R k x.0 ≡ r → by_order r false true (is_tied R k es) ≡ false → cond (is_eq r) (Some x.1) (find R k es) ≡ None) [
@@ -135,6 +166,12 @@ module _ {K X : Type 0} (R : K → K → Ordering) where
     pub found_absent : (k : K) (es : List (K × X)) → InOrder R es → is_tied R k es ≡ false → found R k es ≡ None
     unfolding found
     found_absent k es h e = find_none k es (subst T (sym h.rises) tt) e
+
+    pub entry_tied : (k : K) (es : List (K × X)) (d : K × X) → InOrder R es → is_tied R k es ≡ true → entry_of R k es ≡ Some (get_or es (place R k es) d)
+    entry_tied k es d h e = entry_at k es d (subst T (sym h.rises) tt) e
+
+    pub entry_absent : (k : K) (es : List (K × X)) → InOrder R es → is_tied R k es ≡ false → entry_of R k es ≡ None
+    entry_absent k es h e = entry_none k es (subst T (sym h.rises) tt) e
 
     pub without_tied : (k : K) (es : List (K × X)) → InOrder R es → is_tied R k es ≡ true → without R k es ≡ remove es (place R k es)
     without_tied k es h e = without_at k es (subst T (sym h.rises) tt) ∙ ap (λ b. cond b (remove es (place R k es)) es) e

@@ -1,8 +1,8 @@
 -- The step from one store to the next [RFC 2244 section 3.1].
-use Rattle.std.specs.Prelude.{◌≡◌, ◌+◌, min, ◌≤◌, length, ◌++◌}
+use Rattle.std.specs.Prelude.{◌≡◌, ℤ, ◌+◌, min, ◌≤◌, length, ◌++◌}
 use Rattle.std.specs.FinMap as map
 use Rattle.acap_entries.specs.Deletions.{most_kept, newest_of, forgotten_of, deletions_at}
-use Rattle.acap_entries.specs.Store.{Store, Roomy, IsPathByPath, after_writes}
+use Rattle.acap_entries.specs.Store.{Store, Roomy, Written, IsPathByPath, after_writes}
 use Rattle.acap_entries.specs.declared.change.Change.{Change}
 
 -- the store that a change makes of an old one, path by path
@@ -19,6 +19,15 @@ store_after change old = record {
   last = change.moment;
   deletions = newest_of (old.deletions ++ deletions_at change.deleted change.moment);
   forgotten = forgotten_of old.forgotten (old.deletions ++ deletions_at change.deleted change.moment);
+}
+
+-- the records and the last moment that writes leave; what is known of deletions stays
+abbrev pub left_by : Written → ℤ → Store → Store
+left_by written moment old = record {
+  records = after_writes (map.entries written) old.records;
+  last = moment;
+  deletions = old.deletions;
+  forgotten = old.forgotten;
 }
 
 -- there is room for a change

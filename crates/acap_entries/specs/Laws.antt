@@ -6,14 +6,14 @@ use Rattle.std.specs.FinMap as map
 use Rattle.acap_entries.specs.Datasets.{is_dot_list, makes_dataset, dataset_exists}
 use Rattle.acap_entries.specs.Moments.{first_moment, last_moment, IsMoment, moment_after}
 use Rattle.acap_entries.specs.declared.cell.Cell.TheVariants.{Nil, Single, Multi}
-use Rattle.acap_entries.specs.Names.{is_path, is_dataset_argument, is_attribute, is_user_name, is_context_name, dataset_of, name_of, own_entry, slash}
+use Rattle.acap_entries.specs.Names.{is_path, is_dataset_argument, is_attribute, is_user_name, is_context_name, is_closed_dataset, is_component, dataset_of, name_of, own_entry, slash}
 use Rattle.acap_entries.specs.Homes.{for_user}
 use Rattle.acap_entries.specs.Stamp.{IsStamp, stamp_of}
 use Rattle.acap_entries.specs.Changes.{IsStoreAfter, store_after}
 use Rattle.acap_entries.specs.Store.{Store, Stored, after_fate}
 use Rattle.acap_entries.specs.Times.{time_of}
 use Rattle.acap_entries.specs.Deletions.{newest_of, others_of, forgotten_of}
-use Rattle.acap_entries.specs.FullPaths.{full_path, full_path_cmp, IsWellFormed}
+use Rattle.acap_entries.specs.FullPaths.{full_path, full_path_cmp, IsSplit, IsWellFormed}
 use Rattle.acap_entries.specs.declared.change.Change.{Change}
 use Rattle.acap_entries.specs.declared.deletion.Deletion.{Deletion}
 use Rattle.acap_entries.specs.declared.fate.Fate.{Fate}
@@ -56,11 +56,23 @@ pub record DeletionLaw : Type 0 where
 -- the order of full paths is one of lists of octets, and equal full paths of well-formed paths are equal paths
 pub record FullPathLaw : Type 0 where
   pub total : IsTotalOrder full_path_cmp
-  pub same : (a b : Path) → IsWellFormed a → IsWellFormed b → full_path_cmp a b ≡ Equal → a ≡ b
+  pub same : (a b : Path) → IsSplit a → IsSplit b → full_path_cmp a b ≡ Equal → a ≡ b
 
--- the own entry of a dataset is the one well-formed path whose octets, with a slash behind them, are the dataset's
+-- the own entry of a dataset is the one path, split at its last slash, whose octets, with a slash behind them, are the
+-- dataset's
 abbrev pub OwnEntryLaw : Type 0
-OwnEntryLaw = (dataset : List ℕ) (p : Path) → (own_entry dataset ≡ Some (p.dataset, p.name)) ↔ (IsWellFormed p × (full_path p ++ slash ∷ [] ≡ dataset))
+OwnEntryLaw = (dataset : List ℕ) (p : Path) → (own_entry dataset ≡ Some (p.dataset, p.name)) ↔ (IsSplit p × (full_path p ++ slash ∷ [] ≡ dataset))
+
+-- the own entry of a dataset is well formed, and so is the dataset that a named entry makes, and the one that a user means;
+-- a well-formed path is split where it should be
+pub record FormLaw : Type 0 where
+  pub split : (p : Path) → IsWellFormed p → IsSplit p
+  pub own : (dataset : List ℕ) (p : Path) → is_closed_dataset dataset ≡ true → own_entry dataset ≡ Some (p.dataset, p.name)
+      → IsWellFormed p × (is_component p.name ≡ true)
+  pub beneath : (dataset name : List ℕ) → is_closed_dataset dataset ≡ true → is_component name ≡ true
+      → is_closed_dataset (dataset ++ name ++ slash ∷ []) ≡ true
+  pub meant : (user dataset : List ℕ) → is_user_name user ≡ true → is_closed_dataset dataset ≡ true
+      → is_closed_dataset (for_user user dataset) ≡ true
 
 -- the moment of a change is the clock's where that is later than the last one, else the next, and there is none after the
 -- last of all moments
@@ -163,6 +175,11 @@ pub record DatasetExamples : Type 0 where
   pub nothing : is_dataset_argument [] ≡ false
   pub doubled : is_dataset_argument (codes "//") ≡ false
   pub dotted : is_dataset_argument (codes "/.option/") ≡ false
+  pub kept : is_closed_dataset (codes "/option/user/") ≡ true
+  pub kept_root : is_closed_dataset (codes "/") ≡ true
+  pub kept_open : is_closed_dataset (codes "/option") ≡ false
+  pub kept_doubled : is_closed_dataset (codes "/option//") ≡ false
+  pub kept_dotted : is_closed_dataset (codes "/.option/") ≡ false
 
 pub record NameExamples : Type 0 where
   pub attribute : is_attribute (codes "option.value") ≡ true

@@ -1,3 +1,4 @@
+pub mod Ahead
 pub mod Changes
 pub mod Compact
 pub mod Datasets
@@ -9,6 +10,8 @@ pub mod Leaves
 pub mod Moments
 pub mod Names
 pub mod Orders
+pub mod RankLaws
+pub mod Ranks
 pub mod Sorted
 pub mod Sound
 pub mod Stamp

@@ -64,6 +64,10 @@ components text = if nat_le (length text) 1 then [] else slice_split is_slash (i
 abbrev pub is_dataset : List ℕ → Bool
 is_dataset text = begins_with slash text && list_all is_component (components text)
 
+-- a dataset with its closing `/`, as it is kept
+unfoldable pub is_closed_dataset : List ℕ → Bool
+is_closed_dataset text = is_dataset text && ends_with slash text
+
 -- with its closing `/`
 abbrev pub closed : List ℕ → List ℕ
 closed text = if ends_with slash text then text else text ++ slash ∷ []

@@ -2,6 +2,7 @@
 use Rattle.std.specs.Prelude.{ℕ, suc, Bool, true, false, not, IsTrue, Option, List, [], ◌∷◌}
 use Rattle.std.specs.declared.cmp.Ordering.{Ordering}
 use Rattle.std.specs.Ordering.{eq_by_cmp}
+use Rattle.std.specs.List as list
 use Rattle.std.specs.FinMap.Entries.{by_order, where_key, put, find, is_sorted}
 
 module _ {K X : Type 0} (R : K → K → Ordering) where
@@ -26,6 +27,10 @@ module _ {K X : Type 0} (R : K → K → Ordering) where
   -- the value of the first entry whose key ties with k
   unfoldable pub found : K → List (K × X) → Option X
   found k es = find R k es
+
+  -- the first entry whose key ties with k
+  unfoldable pub entry_of : K → List (K × X) → Option (K × X)
+  entry_of k es = list.find (λ e. eq_by_cmp R k e.0) es
 
   -- the keys strictly rise
   pub record InOrder (es : List (K × X)) : Type 0 where

@@ -6,6 +6,7 @@ ghost use Rattle.acap_entries.specs.Store.{path_cmp, IsPathByPath};
 
 use crate::boxed::Boxed;
 use crate::fate::Fate;
+use crate::keys::Whole;
 use crate::leaves::Leaves;
 use crate::path::Path;
 use crate::record::Record;
@@ -24,7 +25,7 @@ pub(crate) fn put_all(entries: &mut Leaves<Path, Boxed<Record>>, writes: Writes)
         match fate {
             Fate::Put(record) => entries.put(path, record),
             Fate::Remove => {
-                entries.take_out(&path);
+                let _ = entries.take_out(&Whole { key: &path });
                 drop(path);
             }
         }

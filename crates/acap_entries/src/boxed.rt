@@ -4,6 +4,7 @@ ghost use Rattle.std.specs.Prelude.{◌≡◌, IfOk};
 use crate::copying::Copying;
 use crate::memory::Memory;
 use std::alloc::Global;
+use std::cmp::Ordering;
 use std::marker::Model;
 
 /// A value in memory of its own, which contracts see as the value.
@@ -54,6 +55,30 @@ impl<T: PartialEq> PartialEq for Boxed<T> {
 
 impl<T: Eq> Eq for Boxed<T> {
     ghost laws = { T.Eq.laws };
+}
+
+impl<T: PartialOrd> PartialOrd for Boxed<T> {
+    ghost partial_cmp = { T.partial_cmp };
+
+    ghost laws = { T.PartialOrd.laws };
+
+    fn partial_cmp(&self, other: &Boxed<T>) -> Option<Ordering> {
+        self.held.partial_cmp(&other.held)
+    }
+}
+
+impl<T: Ord> Ord for Boxed<T> {
+    ghost cmp = { T.cmp };
+
+    ghost total = { T.total };
+
+    ghost matches_partial_cmp = { T.matches_partial_cmp };
+
+    ghost matches_eq = { T.matches_eq };
+
+    fn cmp(&self, other: &Boxed<T>) -> Ordering {
+        self.held.cmp(&other.held)
+    }
 }
 
 impl<T: Copying + Drop> Copying for Boxed<T> {

@@ -21,6 +21,12 @@ pub fn copy_all<T: Copying + Drop>(items: &Vec<T>) -> Result<Vec<T>, Memory>
     Ok(made)
 }
 
+impl Copying for () {
+    fn copy(&self) -> Result<(), Memory> {
+        Ok(())
+    }
+}
+
 impl<A: Copying + Drop, B: Copying + Drop> Copying for (A, B) {
     fn copy(&self) -> Result<(A, B), Memory> {
         let first = self.0.copy()?;

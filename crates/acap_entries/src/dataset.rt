@@ -1,17 +1,17 @@
 //! The names of datasets.
-ghost use Rattle.std.specs.Prelude.{◌≡◌, ◌↔◌, ◌++◌, ◌∷◌, [], IfOk, OnOk, OnErr, IsTrue, Err, false};
+ghost use Rattle.std.specs.Prelude.{◌≡◌, ◌↔◌, ◌<◌, ◌++◌, ◌∷◌, [], length, IfOk, OnOk, OnErr, IsTrue, Err, false};
 ghost use Rattle.acap_entries.specs.Names as name;
 ghost use Rattle.acap_entries.specs.Homes as home;
 
 use crate::copying::Copying;
 use crate::memory::Memory;
 use crate::name_fault::NameFault;
-use crate::text::{DatasetText, UserName};
+use crate::text::{DatasetText, EntryName, UserName};
 use crate::{homes, names};
 use std::alloc::Global;
 use std::marker::Model;
 
-/// The name of a dataset: an absolute path that ends in `/` (RFC 2244 section 3.1).
+/// The name of a dataset: components with a `/` before each, and one behind the last (RFC 2244 section 3.1).
 #[derive(PartialEq, Eq, PartialOrd, Ord, Drop)]
 pub struct Dataset {
     octets: DatasetText,
@@ -25,9 +25,9 @@ impl Model for Dataset {
     ghost view = { λ v. v.octets };
 
     ghost use Rattle.std.specs.Prelude.{IsTrue};
-    ghost use Rattle.acap_entries.specs.Names.{slash, ends_with};
+    ghost use Rattle.acap_entries.specs.Names.{is_closed_dataset};
 
-    ghost invariant = { λ v. IsTrue (ends_with slash v.octets) };
+    ghost invariant = { λ v. IsTrue (is_closed_dataset v.octets) };
 
     ghost inverse = { λ octets. record { octets = octets } };
 }
@@ -43,24 +43,25 @@ impl Dataset {
         if !names::is_dataset_argument(octets) {
             return Err(NameFault::BadName);
         }
-        Ok(closed(alloc, octets)?)
+        let octets = closed(alloc, octets)?;
+        Ok(Dataset { octets })
     }
 
-    /// The dataset of that very name, copied. `BadName` exactly where the octets don't end in `/`.
+    /// The dataset of that very name, copied. `BadName` exactly where the octets are no dataset with its closing `/`.
     pub fn from_slice(alloc: Global, octets: &[u8]) -> Result<Dataset, NameFault>
-        ensures good { OnOk result (IsTrue (name.ends_with name.slash octets.now)) }
+        ensures good { OnOk result (IsTrue (name.is_closed_dataset octets.now)) }
         ensures value { IfOk result (λ made. made ≡ octets.now) }
-        ensures bad { (result ≡ Err NameFault.BadName) ↔ (name.ends_with name.slash octets.now ≡ false) }
+        ensures bad { (result ≡ Err NameFault.BadName) ↔ (name.is_closed_dataset octets.now ≡ false) }
     {
-        if !names::ends_with(octets, b'/') {
+        if !names::is_closed_dataset(octets) {
             return Err(NameFault::BadName);
         }
         Ok(Dataset::of_closed(alloc, octets)?)
     }
 
-    /// The dataset of octets that end in `/`, copied. Fails only for want of memory.
+    /// The dataset of octets that are one with its closing `/`, copied. Fails only for want of memory.
     pub(crate) fn of_closed(alloc: Global, octets: &[u8]) -> Result<Dataset, Memory>
-        requires { IsTrue (name.ends_with name.slash octets.now) }
+        requires { IsTrue (name.is_closed_dataset octets.now) }
         ensures { IfOk result (λ made. made ≡ octets.now) }
     {
         let octets = DatasetText::from_slice(alloc, octets)?;
@@ -72,6 +73,7 @@ impl Dataset {
     pub fn for_user(&self, user: &UserName) -> Result<Dataset, Memory>
         ensures { IfOk result (λ made. made ≡ home.for_user user.now self.now) }
     {
+        user.form_law();
         let octets = homes::for_user(&self.octets, user.as_slice())?;
         Ok(Dataset { octets })
     }
@@ -81,6 +83,7 @@ impl Dataset {
         ensures ok { OnOk result (self.new ≡ home.for_user user.now self.old) }
         ensures err { OnErr result (self.new ≡ self.old) }
     {
+        user.form_law();
         if let Some(octets) = homes::other_for_user(&self.octets, user.as_slice())? {
             self.octets = octets;
         }
@@ -91,7 +94,7 @@ impl Dataset {
     pub(crate) fn open_ended(&self) -> &[u8]
         ensures { result.now ++ name.slash ∷ [] ≡ self.now }
     {
-        let octets = self.octets.as_slice();
+        let octets = self.as_slice();
         &octets[..octets.len() - 1]
     }
 
@@ -99,8 +102,21 @@ impl Dataset {
     pub fn as_slice(&self) -> &[u8]
         ensures value { result.now ≡ self.now }
         ensures closed { IsTrue (name.ends_with name.slash self.now) }
+        ensures formed { IsTrue (name.is_closed_dataset self.now) }
     {
         self.octets.as_slice()
+    }
+
+    /// The dataset that an entry of this one makes, if it makes one: its name is the next component. Fails only for
+    /// want of memory.
+    pub fn beneath(&self, entry: &EntryName) -> Result<Dataset, Memory>
+        requires { 0 < length entry.now }
+        ensures { IfOk result (λ made. made ≡ self.now ++ entry.now ++ name.slash ∷ []) }
+    {
+        entry.form_law();
+        let alloc = self.octets.allocator();
+        let octets = DatasetText::joined(alloc, self.as_slice(), entry.as_slice(), b"/", b"")?;
+        Ok(Dataset { octets })
     }
 }
 
@@ -112,7 +128,7 @@ impl Copying for Dataset {
 }
 
 // The octets with a closing `/`.
-fn closed(alloc: Global, octets: &[u8]) -> Result<Dataset, Memory>
+fn closed(alloc: Global, octets: &[u8]) -> Result<DatasetText, Memory>
     ensures { IfOk result (λ made. made ≡ name.closed octets.now) }
 {
     let missing: &[u8] = if names::ends_with(octets, b'/') {
@@ -120,6 +136,5 @@ fn closed(alloc: Global, octets: &[u8]) -> Result<Dataset, Memory>
     } else {
         b"/"
     };
-    let octets = DatasetText::joined(alloc, octets, missing, b"", b"")?;
-    Ok(Dataset { octets })
+    DatasetText::joined(alloc, octets, missing, b"", b"")
 }

@@ -1,5 +1,6 @@
 //! What follows from the definitions alone: each function does nothing, and its contract is the law.
-ghost use Rattle.acap_entries.specs.Laws.{ChangeLaw, AfterLaw, TwoChangesLaw, RemovalLaw, DeletionLaw, FullPathLaw, OwnEntryLaw, MomentExamples, ExistenceLaw, PathLaw, StampLaw, StampExamples, TimeLaw, TimeExamples, PathExamples, DatasetExamples, NameExamples, HomeExamples};
+ghost use Rattle.acap_entries.specs.Laws.{ChangeLaw, AfterLaw, TwoChangesLaw, RemovalLaw, DeletionLaw, FullPathLaw, OwnEntryLaw, FormLaw, MomentExamples, ExistenceLaw, PathLaw, StampLaw, StampExamples, TimeLaw, TimeExamples, PathExamples, DatasetExamples, NameExamples, HomeExamples};
+ghost use Rattle.acap_entries.specs.RankLaws.{RankLaw};
 
 /// A change determines the store that it leaves.
 pub fn change_law()
@@ -34,6 +35,11 @@ pub fn full_path_law()
 /// Which entry is a dataset's own (RFC 2244 section 3.1.1).
 pub fn own_entry_law()
     ensures { OwnEntryLaw }
+{}
+
+/// What is made of datasets and paths is well formed as they are.
+pub fn form_law()
+    ensures { FormLaw }
 {}
 
 /// The moment of a change, by the clock and by the last one.
@@ -89,4 +95,11 @@ pub fn name_examples()
 /// Datasets with `~`, and the own entries of datasets.
 pub fn home_examples()
     ensures { HomeExamples }
+{}
+
+/// What ranks are and what edits do, in any list of items that ascend: the item at the rank of a key that is there is
+/// that key's, ranks ascend with keys, and what is put or taken stands at its rank.
+#[tactic(auto, using(crate::proofs::RankLaws::rank_holds))]
+pub fn rank_law<T: Ord>()
+    ensures { RankLaw T.cmp }
 {}

@@ -1,6 +1,6 @@
 //! A leaf of the tree: a few entries in the order of their keys, with room that is made once.
-ghost use Rattle.std.specs.Prelude.{◌≡◌, ◌+◌, ◌-◌, ◌/◌, ◌++◌, ◌<◌, ◌≤◌, ◌==◌, [], length, take, drop, slice_index_or, IfOk, IsTrue};
-ghost use Rattle.acap_entries.specs.Sorted.{put_in, without, InOrder};
+ghost use Rattle.std.specs.Prelude.{◌≡◌, ◌+◌, ◌-◌, ◌/◌, ◌++◌, ◌<◌, ◌≤◌, ◌==◌, [], length, take, drop, slice_index_or, IfOk, IfSome, IfNone, IsTrue, ◌∷◌};
+ghost use Rattle.acap_entries.specs.Sorted.{put_in, without, entry_of, InOrder};
 ghost use Rattle.acap_entries.specs.Leaves.{IsBehind};
 
 use crate::copying::Copying;
@@ -74,13 +74,23 @@ impl<K: Ord + Drop, V: Drop> Leaf<K, V> {
         put_in_room(&mut self.entries, key, value);
     }
 
-    /// Takes the key's entry out, if there is one.
-    pub(crate) fn take_out(&mut self, key: &K)
-        requires { InOrder K.cmp self.old }
-        ensures value { self.new ≡ without K.cmp key.now self.old }
-        ensures falls { length self.new ≤ length self.old }
+    /// Puts an entry behind all others. Takes no memory.
+    pub(crate) fn push(&mut self, key: K, value: V)
+        requires { length self.old < 64 }
+        ensures { self.new ≡ self.old ++ (key, value) ∷ [] }
     {
-        take_out(&mut self.entries, key);
+        self.entries.push((key, value)).unwrap();
+    }
+
+    /// Takes a key's entry out and gives it, if there is one.
+    pub(crate) fn take_out<Q: Probe<K>>(&mut self, probe: &Q) -> Option<(K, V)>
+        requires { InOrder K.cmp self.old }
+        ensures taken { result ≡ entry_of K.cmp (Q.key probe.now) self.old }
+        ensures value { self.new ≡ without K.cmp (Q.key probe.now) self.old }
+        ensures some { IfSome result (λ _. length self.new + 1 ≡ length self.old) }
+        ensures none { IfNone result (length self.new ≡ length self.old) }
+    {
+        take_out(&mut self.entries, probe)
     }
 
     /// Takes all entries out.

@@ -1,15 +1,15 @@
 //! Entries in the order of their keys, in leaves: an edit moves a part of one leaf, in whatever order edits come.
-ghost use Rattle.std.specs.Prelude.{◌≡◌, ◌+◌, ◌^◌, ◌<◌, ◌≤◌, [], ◌∷◌, length, take, drop, slice_index_or, slice_set, vec_len, vec_capacity, IfSome, IfNone, OnOk, OnErr, IfOk, ◌/◌};
+ghost use Rattle.std.specs.Prelude.{◌≡◌, ◌+◌, ◌-◌, ◌^◌, ◌++◌, IsTrue, ◌<◌, ◌≤◌, [], ◌∷◌, length, take, drop, slice_index_or, slice_set, vec_len, vec_capacity, IfSome, IfNone, OnOk, OnErr, IfOk, ◌/◌};
 ghost use Rattle.std.specs.Option.{option_copied};
 ghost use Rattle.std.specs.List.{insert};
-ghost use Rattle.acap_entries.specs.Sorted.{InOrder, put_in, without, found};
+ghost use Rattle.acap_entries.specs.Sorted.{InOrder, put_in, without, found, entry_of};
 ghost use Rattle.acap_entries.specs.Leaves.{joined, before, AreFilled, IsAmong, IsBehind};
 
 use crate::copying::{Copying, copy_all};
 use crate::keys::{Probe, Whole};
 use crate::leaf::{Leaf, MOST};
 use crate::memory::Memory;
-use crate::sorted::lookup;
+use crate::sorted::{entry_in, lookup};
 use std::alloc::Global;
 use std::cmp::Ordering;
 use std::marker::Model;
@@ -49,6 +49,22 @@ pub(crate) fn leaf_of<K: Ord + Drop, V: Drop, Q: Probe<K>>(
     ensures { IsAmong K.cmp (Q.key probe.now) leaves.now result (result + 1) }
 {
     leaf_among(leaves, 0, leaves.len(), probe)
+}
+
+// The entry of a key, if it is there.
+pub(crate) fn entry<'a, K: Ord + Drop, V: Drop, Q: Probe<K>>(
+    leaves: &'a [Leaf<K, V>],
+    probe: &Q,
+) -> Option<&'a (K, V)>
+    requires filled { AreFilled leaves.now }
+    requires sorted { InOrder K.cmp (joined leaves.now) }
+    ensures { option_copied result ≡ entry_of K.cmp (Q.key probe.now) (joined leaves.now) }
+{
+    if leaves.is_empty() {
+        return None;
+    }
+    let at = leaf_of(leaves, probe);
+    entry_in(leaves[at].as_slice(), probe)
 }
 
 // The value at a key, if it is there.
@@ -129,27 +145,30 @@ fn split_at<K: Ord + Drop, V: Drop>(leaves: &mut Vec<Leaf<K, V>>, mut later: Lea
     leaves.insert(at + 1, later).unwrap();
 }
 
-// Takes a key's entry out of its leaf, if it is there, and the leaf with its last entry, and answers how many
-// entries went.
-fn take_out_at<K: Ord + Drop, V: Drop>(leaves: &mut Vec<Leaf<K, V>>, at: usize, key: &K) -> usize
-    requires among { IsAmong K.cmp key.now leaves.old.items at (at + 1) }
+// Takes a key's entry out of its leaf and gives it, if it is there, and takes the leaf away with its last entry.
+fn take_out_at<K: Ord + Drop, V: Drop, Q: Probe<K>>(
+    leaves: &mut Vec<Leaf<K, V>>,
+    at: usize,
+    probe: &Q,
+) -> Option<(K, V)>
+    requires among { IsAmong K.cmp (Q.key probe.now) leaves.old.items at (at + 1) }
     requires filled { AreFilled leaves.old.items }
     requires sorted { InOrder K.cmp (joined leaves.old.items) }
-    ensures items { joined leaves.new.items ≡ without K.cmp key.now (joined leaves.old.items) }
+    ensures taken { result ≡ entry_of K.cmp (Q.key probe.now) (joined leaves.old.items) }
+    ensures items { joined leaves.new.items ≡ without K.cmp (Q.key probe.now) (joined leaves.old.items) }
     ensures filled { AreFilled leaves.new.items }
-    ensures count { length (joined leaves.new.items) + result ≡ length (joined leaves.old.items) }
+    ensures some { IfSome result (λ _. length (joined leaves.new.items) + 1 ≡ length (joined leaves.old.items)) }
+    ensures none { IfNone result (length (joined leaves.new.items) ≡ length (joined leaves.old.items)) }
     ensures len { vec_len leaves.new ≤ vec_len leaves.old }
     ensures capacity { vec_capacity leaves.old ≤ vec_capacity leaves.new }
 {
     let leaf = &mut leaves[at];
-    let count = leaf.len();
-    leaf.take_out(key);
-    let left = leaf.len();
-    if left == 0 {
+    let taken = leaf.take_out(probe);
+    if leaf.len() == 0 {
         let _ = leaves.remove(at);
-        return count;
+        return taken;
     }
-    count - left
+    taken
 }
 
 // Makes room for a key's entry in the leaf in which it belongs, if that is full, and answers which leaf it is; none
@@ -190,6 +209,48 @@ fn room_for<K: Ord + Drop, V: Drop, Q: Probe<K>>(
     Some(leaf_among(leaves.as_slice(), at, at + 2, probe))
 }
 
+// Whether there is a leaf, and the last one has room.
+fn has_room_behind<K: Ord + Drop, V: Drop>(leaves: &[Leaf<K, V>]) -> bool
+    ensures some { IsTrue result → 0 < length leaves.now }
+    ensures room { IsTrue result → length (slice_index_or leaves.now (length leaves.now - 1) []) < 64 }
+{
+    if leaves.is_empty() {
+        return false;
+    }
+    let leaf = &leaves[leaves.len() - 1];
+    leaf.len() < MOST
+}
+
+// Puts an entry behind all others, into the last leaf.
+fn push_last<K: Ord + Drop, V: Drop>(leaves: &mut Vec<Leaf<K, V>>, key: K, value: V)
+    requires some { 0 < length leaves.old.items }
+    requires room { length (slice_index_or leaves.old.items (length leaves.old.items - 1) []) < 64 }
+    requires filled { AreFilled leaves.old.items }
+    ensures items { joined leaves.new.items ≡ joined leaves.old.items ++ (key, value) ∷ [] }
+    ensures filled { AreFilled leaves.new.items }
+{
+    let last = leaves.len() - 1;
+    let leaf = &mut leaves[last];
+    leaf.push(key, value);
+}
+
+// Puts an entry behind all others, into a leaf of its own. Fails only for want of memory, and then all is as it was.
+fn push_leaf<K: Ord + Drop, V: Drop>(
+    leaves: &mut Vec<Leaf<K, V>>,
+    key: K,
+    value: V,
+) -> Result<(), Memory>
+    requires filled { AreFilled leaves.old.items }
+    ensures items { OnOk result (joined leaves.new.items ≡ joined leaves.old.items ++ (key, value) ∷ []) }
+    ensures filled { OnOk result (AreFilled leaves.new.items) }
+    ensures same { OnErr result (leaves.new.items ≡ leaves.old.items) }
+{
+    let mut leaf = Leaf::new(*leaves.allocator())?;
+    leaf.push(key, value);
+    leaves.push(leaf)?;
+    Ok(())
+}
+
 /// Entries in the order of their keys, which contracts see as their list, and beside it the number of entries more
 /// that there is room for.
 #[derive(Drop)]
@@ -220,6 +281,18 @@ impl<K: Ord + Drop, V: Drop> Leaves<K, V> {
             spare: Vec::new(alloc),
             count: 0,
         }
+    }
+
+    /// None yet, with places for the leaves of so many entries. Fails only for want of memory.
+    pub(crate) fn with_capacity(alloc: Global, count: usize) -> Result<Leaves<K, V>, Memory>
+        ensures { IfOk result (λ made. made.0 ≡ []) }
+    {
+        let leaves = Vec::with_capacity(alloc, count / MOST + 1)?;
+        Ok(Leaves {
+            leaves,
+            spare: Vec::new(alloc),
+            count: 0,
+        })
     }
 
     /// How many entries there are.
@@ -270,17 +343,34 @@ impl<K: Ord + Drop, V: Drop> Leaves<K, V> {
         }
     }
 
-    /// Takes a key's entry out, if there is one. Takes no memory.
-    pub(crate) fn take_out(&mut self, key: &K)
+    /// Takes a key's entry out and gives it, if there is one. Takes no memory.
+    pub(crate) fn take_out<Q: Probe<K>>(&mut self, probe: &Q) -> Option<(K, V)>
         requires { InOrder K.cmp self.old.0 }
-        ensures entries { self.new.0 ≡ without K.cmp key.now self.old.0 }
+        ensures taken { result ≡ entry_of K.cmp (Q.key probe.now) self.old.0 }
+        ensures entries { self.new.0 ≡ without K.cmp (Q.key probe.now) self.old.0 }
         ensures room { self.old.1 ≤ self.new.1 }
     {
         if self.leaves.is_empty() {
-            return;
+            return None;
         }
-        let at = leaf_of(self.leaves.as_slice(), &Whole { key });
-        self.count -= take_out_at(&mut self.leaves, at, key);
+        let at = leaf_of(self.leaves.as_slice(), probe);
+        let taken = take_out_at(&mut self.leaves, at, probe)?;
+        self.count -= 1;
+        Some(taken)
+    }
+
+    /// Puts an entry behind all others, in a leaf that is filled first. Fails only for want of memory.
+    pub(crate) fn push(&mut self, key: K, value: V) -> Result<(), Memory>
+        requires { length self.old.0 < 2 ^ 64 - 1 }
+        ensures { OnOk result (self.new.0 ≡ self.old.0 ++ (key, value) ∷ []) }
+    {
+        if has_room_behind(self.leaves.as_slice()) {
+            push_last(&mut self.leaves, key, value);
+        } else {
+            push_leaf(&mut self.leaves, key, value)?;
+        }
+        self.count += 1;
+        Ok(())
     }
 }
 

@@ -1,6 +1,7 @@
 //! Names, values, records, moments and the tree of an ACAP dataset server (RFC 2244 sections 2 and 3).
 #![tactic(auto)]
 
+mod after;
 mod applying;
 mod boxed;
 mod cell;
@@ -29,20 +30,25 @@ mod names;
 mod octets;
 mod path;
 mod ranges;
+mod ranked;
+mod ranking;
 mod record;
 mod records;
+mod rising;
 mod row;
 mod seat;
 mod seats;
 mod sequence;
 mod sorted;
 mod stamps;
+mod steps;
 mod table;
 mod text;
 mod times;
 mod tree;
 mod writes;
 
+pub use after::After;
 pub use boxed::Boxed;
 pub use cell::Cell;
 pub use change::Change;
@@ -55,9 +61,9 @@ pub use fate::Fate;
 pub use item::Item;
 pub use keys::{AttributeText, JoinedText, PathText, Probe, Whole};
 pub use laws::{
-    after_law, change_law, dataset_examples, deletion_law, existence_law, full_path_law,
+    after_law, change_law, dataset_examples, deletion_law, existence_law, form_law, full_path_law,
     home_examples, moment_examples, name_examples, own_entry_law, path_examples, path_law,
-    removal_law, stamp_examples, stamp_law, time_examples, time_law, two_changes_law,
+    rank_law, removal_law, stamp_examples, stamp_law, time_examples, time_law, two_changes_law,
 };
 pub use listing::Listing;
 pub use lists::{CellList, CellLists, Items, Paths, Values};
@@ -70,6 +76,8 @@ pub use names::{
 };
 pub use octets::Octets;
 pub use path::Path;
+pub use ranked::Ranked;
+pub use ranking::Ranking;
 pub use record::Record;
 pub use records::Records;
 pub use row::Row;
@@ -77,8 +85,9 @@ pub use seat::Seat;
 pub use seats::Seats;
 pub use sequence::Sequence;
 pub use stamps::{civil_of, stamp};
+pub use steps::Steps;
 pub use table::{Acls, Cells, Table};
-pub use text::{Attribute, ContextName, EntryName, Kind, Text, UserName, Value};
+pub use text::{AnyOctets, Attribute, ContextName, EntryName, Kind, Named, Text, UserName, Value};
 pub use times::read_time;
 pub use tree::Tree;
 pub use writes::Writes;

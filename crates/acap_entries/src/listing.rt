@@ -37,7 +37,7 @@ impl<'a> Model for Listing<'a> {
 }
 
 // The same entries, the first of them in the slice, if there is one.
-fn filled<'a, K: Ord + Drop, V: Drop>(
+pub(crate) fn filled<'a, K: Ord + Drop, V: Drop>(
     front: &'a [(K, V)],
     leaves: &'a [Leaf<K, V>],
 ) -> (&'a [(K, V)], &'a [Leaf<K, V>])

@@ -101,6 +101,14 @@ pub fn is_dataset(octets: &[u8]) -> bool
     begins_with(octets, b'/') && (octets.len() <= 1 || are_components(inside(octets)))
 }
 
+/// Whether they are a dataset with its closing `/`, as it is kept.
+#[tactic(auto, unfolding(crate::specs::Names::is_closed_dataset))]
+pub fn is_closed_dataset(octets: &[u8]) -> bool
+    ensures { result ≡ name.is_closed_dataset octets.now }
+{
+    is_dataset(octets) && ends_with(octets, b'/')
+}
+
 /// How many components a dataset has.
 #[tactic(auto, using(crate::proofs::NameLemmas::part_count), unfolding(crate::specs::Names::components))]
 pub fn component_count(dataset: &[u8]) -> usize

@@ -1,5 +1,5 @@
 //! Where entries are.
-ghost use Rattle.std.specs.Prelude.{◌≡◌, ◌↔◌, IfOk, OnOk, OnErr, IsTrue, Err, false};
+ghost use Rattle.std.specs.Prelude.{◌≡◌, ◌↔◌, ◌&&◌, IfOk, OnOk, OnErr, IsTrue, Err, false};
 ghost use Rattle.std.specs.Option.{option_map};
 ghost use Rattle.acap_entries.specs.Names as rule;
 ghost use Rattle.acap_entries.specs.Homes as home;
@@ -38,29 +38,32 @@ impl Path {
         Ok(Path::of_closed(alloc, dataset, name)?)
     }
 
-    /// The path of that very dataset and name, copied. `BadName` exactly where the dataset doesn't end in `/`.
+    /// The path of that very dataset and name, copied. `BadName` exactly where one of them is none.
     pub fn from_slices(alloc: Global, dataset: &[u8], name: &[u8]) -> Result<Path, NameFault>
-        ensures good { OnOk result (IsTrue (rule.ends_with rule.slash dataset.now)) }
+        ensures good { OnOk result (IsTrue (rule.is_closed_dataset dataset.now && rule.is_entry_name name.now)) }
         ensures value { IfOk result (λ path. path ≡ record { dataset = dataset.now; name = name.now }) }
-        ensures bad { (result ≡ Err NameFault.BadName) ↔ (rule.ends_with rule.slash dataset.now ≡ false) }
+        ensures bad { (result ≡ Err NameFault.BadName) ↔ (rule.is_closed_dataset dataset.now && rule.is_entry_name name.now ≡ false) }
     {
-        let dataset = Dataset::from_slice(alloc, dataset)?;
-        let name = EntryName::from_slice(alloc, name)?;
-        Ok(Path { dataset, name })
+        if !names::is_closed_dataset(dataset) || !names::is_entry_name(name) {
+            return Err(NameFault::BadName);
+        }
+        Ok(Path::of_closed(alloc, dataset, name)?)
     }
 
-    // The path of a dataset that ends in `/` and a name.
+    // The path of a dataset with its closing `/` and a name.
     fn of_closed(alloc: Global, dataset: &[u8], name: &[u8]) -> Result<Path, Memory>
-        requires { IsTrue (rule.ends_with rule.slash dataset.now) }
+        requires dataset { IsTrue (rule.is_closed_dataset dataset.now) }
+        requires name { IsTrue (rule.is_entry_name name.now) }
         ensures { IfOk result (λ path. path ≡ record { dataset = dataset.now; name = name.now }) }
     {
         let dataset = Dataset::of_closed(alloc, dataset)?;
-        let name = EntryName::from_slice(alloc, name)?;
+        let name = EntryName::copied(alloc, name)?;
         Ok(Path { dataset, name })
     }
 
     /// The own entry of a dataset other than `/`, in its parent. Fails only for want of memory.
     pub fn own_entry(alloc: Global, dataset: &[u8]) -> Result<Option<Path>, Memory>
+        requires { IsTrue (rule.is_closed_dataset dataset.now) }
         ensures { IfOk result (λ made. option_map (λ p. (p.dataset, p.name)) made ≡ rule.own_entry dataset.now) }
     {
         match names::own_entry_of(dataset) {
@@ -88,7 +91,16 @@ impl Copying for Path {
 }
 
 impl Path {
-    ghost use Rattle.acap_entries.specs.FullPaths.{full_path_cmp};
+    ghost use Rattle.acap_entries.specs.FullPaths.{full_path_cmp, IsWellFormed};
+
+    /// Each path is well formed: does nothing.
+    #[inline]
+    pub fn form_law(&self)
+        ensures { IsWellFormed self.now }
+    {
+        let _octets = self.dataset.as_slice();
+        self.name.form_law();
+    }
 
     /// How the full octets of this path, its dataset and then its name, compare with those of another. This is another
     /// order than that of paths. Takes no memory.

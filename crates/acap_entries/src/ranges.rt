@@ -1,5 +1,6 @@
 //! The records between two keys, which lie together.
-ghost use Rattle.std.specs.Prelude.{◌≡◌, ◌+◌, ◌-◌, ◌<◌, ◌≤◌, ◌^◌, [], length, slice_index_or, take, drop};
+ghost use Rattle.std.specs.Prelude.{◌≡◌, ◌+◌, ◌-◌, ◌<◌, ◌≤◌, ◌^◌, [], length, slice_get, slice_index_or, take, drop};
+ghost use Rattle.std.specs.Option.{option_copied};
 ghost use Rattle.std.specs.declared.cmp.Ordering.TheVariants.{Greater};
 ghost use Rattle.acap_entries.specs.Sorted.{place, InOrder};
 ghost use Rattle.acap_entries.specs.Leaves.{joined, before, AreFilled};
@@ -45,7 +46,10 @@ fn count<K: Ord + Drop, V: Drop>(leaves: &[Leaf<K, V>]) -> usize
 }
 
 // How many entries stand before a key.
-fn count_before<K: Ord + Drop, V: Drop, Q: Probe<K>>(leaves: &[Leaf<K, V>], probe: &Q) -> usize
+pub(crate) fn count_before<K: Ord + Drop, V: Drop, Q: Probe<K>>(
+    leaves: &[Leaf<K, V>],
+    probe: &Q,
+) -> usize
     requires some { 0 < length leaves.now }
     requires filled { AreFilled leaves.now }
     requires sorted { InOrder K.cmp (joined leaves.now) }
@@ -55,6 +59,23 @@ fn count_before<K: Ord + Drop, V: Drop, Q: Probe<K>>(leaves: &[Leaf<K, V>], prob
     let (at, place) = place_among(leaves, probe);
     let (earlier, _) = leaves.split_at(at);
     count(earlier) + place
+}
+
+// The entry at an index, if there are so many.
+pub(crate) fn entry_at<K: Ord + Drop, V: Drop>(
+    leaves: &[Leaf<K, V>],
+    index: usize,
+) -> Option<&(K, V)>
+    ensures { option_copied result ≡ slice_get (joined leaves.now) index }
+{
+    let mut left = index;
+    for leaf in leaves {
+        if left < leaf.len() {
+            return Some(&leaf.as_slice()[left]);
+        }
+        left -= leaf.len();
+    }
+    None
 }
 
 // So many records behind some of the first leaf's.

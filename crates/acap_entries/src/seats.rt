@@ -63,7 +63,7 @@ impl<V: Drop> Seats<V> {
     pub fn remove(&mut self, seat: Seat)
         ensures { self.new ≡ map.remove self.old seat }
     {
-        take_out(&mut self.entries, &seat);
+        let _ = take_out(&mut self.entries, &Whole { key: &seat });
     }
 }
 

@@ -1,8 +1,8 @@
 //! Entries in the order of their keys: look-ups by halves, and edits in room that there is.
-ghost use Rattle.std.specs.Prelude.{◌≡◌, ◌+◌, ◌<◌, ◌≤◌, length, IsTrue, vec_len, vec_capacity, OnOk, OnErr, false};
+ghost use Rattle.std.specs.Prelude.{◌≡◌, ◌+◌, ◌<◌, ◌≤◌, length, IsTrue, vec_len, vec_capacity, IfSome, IfNone, OnOk, OnErr, false};
 ghost use Rattle.std.specs.Option.{option_copied};
 ghost use Rattle.std.specs.FinMap.{is_sorted};
-ghost use Rattle.acap_entries.specs.Sorted.{place, is_tied, without, found, put_in, InOrder};
+ghost use Rattle.acap_entries.specs.Sorted.{place, is_tied, without, found, entry_of, put_in, InOrder};
 
 use crate::keys::{Probe, Whole};
 use crate::memory::Memory;
@@ -27,6 +27,15 @@ pub fn place_of<K: Ord, V, Q: Probe<K>>(entries: &[(K, V)], probe: &Q) -> (usize
         }
     }
     (low, false)
+}
+
+/// The entry of a key, if it is there.
+pub fn entry_in<'a, K: Ord, V, Q: Probe<K>>(entries: &'a [(K, V)], probe: &Q) -> Option<&'a (K, V)>
+    requires { InOrder K.cmp entries.now }
+    ensures { option_copied result ≡ entry_of K.cmp (Q.key probe.now) entries.now }
+{
+    let (at, tied) = place_of(entries, probe);
+    if tied { Some(&entries[at]) } else { None }
 }
 
 /// The value at a key, if it is there.
@@ -122,15 +131,18 @@ pub fn room_for_one<T>(entries: &mut Vec<T>) -> Result<(), Memory>
     Ok(())
 }
 
-/// Takes the key's entry out, if there is one. Takes no memory.
-pub fn take_out<K: Ord + Drop, V: Drop>(entries: &mut Vec<(K, V)>, key: &K)
+/// Takes a key's entry out and gives it, if there is one. Takes no memory.
+pub fn take_out<K: Ord + Drop, V: Drop, Q: Probe<K>>(
+    entries: &mut Vec<(K, V)>,
+    probe: &Q,
+) -> Option<(K, V)>
     requires { InOrder K.cmp entries.old.items }
-    ensures len { vec_len entries.new ≤ vec_len entries.old }
-    ensures items { entries.new.items ≡ without K.cmp key.now entries.old.items }
+    ensures taken { result ≡ entry_of K.cmp (Q.key probe.now) entries.old.items }
+    ensures items { entries.new.items ≡ without K.cmp (Q.key probe.now) entries.old.items }
+    ensures some { IfSome result (λ _. vec_len entries.new + 1 ≡ vec_len entries.old) }
+    ensures none { IfNone result (vec_len entries.new ≡ vec_len entries.old) }
     ensures capacity { vec_capacity entries.new ≡ vec_capacity entries.old }
 {
-    let (at, tied) = place_of(entries.as_slice(), &Whole { key });
-    if tied {
-        let _ = entries.remove(at);
-    }
+    let (at, tied) = place_of(entries.as_slice(), probe);
+    if tied { Some(entries.remove(at)) } else { None }
 }

@@ -105,7 +105,7 @@ impl<V: Drop> Table<V> {
     pub fn remove(&mut self, attribute: &Attribute)
         ensures { self.new ≡ map.remove self.old attribute.now }
     {
-        take_out(&mut self.entries, attribute);
+        let _ = take_out(&mut self.entries, &Whole { key: attribute });
     }
 }
 

@@ -1,5 +1,5 @@
 //! The texts of a server: attributes, entries, users, contexts and values, each a string of octets of its own kind.
-ghost use Rattle.std.specs.Prelude.{◌≡◌, ◌↔◌, ◌++◌, IfOk, OnOk, IsTrue, Err, Some, refl, false, nat_eq, ℕ, List, Bool};
+ghost use Rattle.std.specs.Prelude.{◌≡◌, ◌↔◌, ◌++◌, [], IfOk, OnOk, IsTrue, Err, Some, refl, true, false, nat_eq, ℕ, List, Bool};
 ghost use Rattle.std.specs.Cmp.Lexicographic.{pointwise, slice_cmp, nat_list_eq_equiv, nat_list_cmp_total, texts_ties, texts_po};
 ghost use Rattle.std.specs.Cmp.{partial_equiv_from_equiv};
 ghost use Rattle.std.specs.Ordering.{nat_cmp};
@@ -58,31 +58,45 @@ pub struct ValueKind;
 #[derive(Drop)]
 pub struct DatasetKind;
 
-/// A kind of names: which octets are such a name.
+/// A kind of texts: which octets such a text may have.
 pub trait Kind {
+    ghost may_be: { List ℕ → Bool };
+}
+
+/// A kind of texts that any octets are.
+pub trait AnyOctets: Kind {
+    ghost any: { (octets : List ℕ) → Self.may_be octets ≡ true };
+}
+
+/// A kind of texts that are read: which octets are a name of this kind.
+pub trait Named: Kind {
     ghost is_name: { List ℕ → Bool };
 
     /// Whether the octets are such a name. Takes no memory.
     fn is_name(octets: &[u8]) -> bool
         ensures { result ≡ is_name octets.now };
+
+    ghost names_are: { (octets : List ℕ) → is_name octets ≡ true → Self.may_be octets ≡ true };
 }
 
-/// Octets of a kind, ordered octet by octet with a proper prefix first.
+/// Octets that are of a kind, ordered octet by octet with a proper prefix first.
 #[derive(Drop)]
-pub struct Text<K> {
+pub struct Text<K: Kind> {
     octets: Compact,
     kind: PhantomData<K>,
 }
 
-impl<K> Model for Text<K> {
-    ghost use Rattle.std.specs.Prelude.{ℕ, List};
+impl<K: Kind> Model for Text<K> {
+    ghost use Rattle.std.specs.Prelude.{ℕ, List, IsTrue};
 
     ghost Value = { List ℕ };
 
     ghost view = { λ v. v.octets };
+
+    ghost invariant = { λ v. IsTrue (K.may_be v.octets) };
 }
 
-impl<K: Kind> Text<K> {
+impl<K: Named> Text<K> {
     /// Reads a name of this kind. `BadName` exactly where the octets are none.
     pub fn read(alloc: Global, octets: &[u8]) -> Result<Text<K>, NameFault>
         ensures good { OnOk result (IsTrue (K.is_name octets.now)) }
@@ -92,22 +106,11 @@ impl<K: Kind> Text<K> {
         if !K::is_name(octets) {
             return Err(NameFault::BadName);
         }
-        Ok(Text::from_slice(alloc, octets)?)
+        Ok(Text::copied(alloc, octets)?)
     }
 }
 
-impl<K> Text<K> {
-    // The text of these octets.
-    #[inline]
-    fn of(octets: Compact) -> Text<K>
-        ensures { result ≡ octets }
-    {
-        Text {
-            octets,
-            kind: PhantomData,
-        }
-    }
-
+impl<K: AnyOctets> Text<K> {
     /// Any octets as they are. Takes no memory, and keeps that which they have, if they are many.
     pub fn new(octets: Octets) -> Text<K>
         ensures { result ≡ octets }
@@ -119,8 +122,7 @@ impl<K> Text<K> {
     pub fn from_slice(alloc: Global, octets: &[u8]) -> Result<Text<K>, Memory>
         ensures { IfOk result (λ made. made ≡ octets.now) }
     {
-        let octets = Compact::from_slice(alloc, octets)?;
-        Ok(Text::of(octets))
+        Text::copied(alloc, octets)
     }
 
     /// The octets of four texts, one behind the other. Fails only for want of memory.
@@ -136,6 +138,38 @@ impl<K> Text<K> {
         let octets = Compact::joined(alloc, first, second, third, fourth)?;
         Ok(Text::of(octets))
     }
+}
+
+impl EntryName {
+    /// The name of the management entry, which is empty. Takes no memory.
+    pub fn of_management(alloc: Global) -> EntryName
+        ensures { result ≡ [] }
+    {
+        Text::of(Compact::from_vec(Vec::new(alloc)))
+    }
+}
+
+impl<K: Kind> Text<K> {
+    // The text of these octets, which are of the kind.
+    #[inline]
+    fn of(octets: Compact) -> Text<K>
+        requires { IsTrue (K.may_be octets) }
+        ensures { result ≡ octets }
+    {
+        Text {
+            octets,
+            kind: PhantomData,
+        }
+    }
+
+    /// The text of octets that are of the kind, copied. Fails only for want of memory.
+    pub(crate) fn copied(alloc: Global, octets: &[u8]) -> Result<Text<K>, Memory>
+        requires { IsTrue (K.may_be octets.now) }
+        ensures { IfOk result (λ made. made ≡ octets.now) }
+    {
+        let octets = Compact::from_slice(alloc, octets)?;
+        Ok(Text::of(octets))
+    }
 
     /// The allocator that keeps them.
     pub(crate) fn allocator(&self) -> Global {
@@ -149,15 +183,24 @@ impl<K> Text<K> {
     {
         self.octets.as_slice()
     }
-}
 
-impl<K> Copying for Text<K> {
-    fn copy(&self) -> Result<Text<K>, Memory> {
-        Text::from_slice(self.allocator(), self.as_slice())
+    /// Each text is of its kind: does nothing.
+    #[inline]
+    pub fn form_law(&self)
+        ensures { IsTrue (K.may_be self.now) }
+    {
+        let _ = &self.octets;
     }
 }
 
-impl<K> PartialEq for Text<K> {
+impl<K: Kind> Copying for Text<K> {
+    fn copy(&self) -> Result<Text<K>, Memory> {
+        self.form_law();
+        Text::copied(self.allocator(), self.as_slice())
+    }
+}
+
+impl<K: Kind> PartialEq for Text<K> {
     ghost eq = { pointwise nat_eq };
 
     ghost laws = { partial_equiv_from_equiv nat_list_eq_equiv };
@@ -167,11 +210,11 @@ impl<K> PartialEq for Text<K> {
     }
 }
 
-impl<K> Eq for Text<K> {
+impl<K: Kind> Eq for Text<K> {
     ghost laws = { nat_list_eq_equiv };
 }
 
-impl<K> PartialOrd for Text<K> {
+impl<K: Kind> PartialOrd for Text<K> {
     ghost partial_cmp = { λ x y. Some (slice_cmp nat_cmp x y) };
 
     ghost laws = { texts_po };
@@ -181,7 +224,7 @@ impl<K> PartialOrd for Text<K> {
     }
 }
 
-impl<K> Ord for Text<K> {
+impl<K: Kind> Ord for Text<K> {
     ghost cmp = { slice_cmp nat_cmp };
 
     ghost total = { nat_list_cmp_total };
@@ -196,7 +239,17 @@ impl<K> Ord for Text<K> {
 }
 
 impl Kind for AttributeKind {
+    ghost may_be = { λ octets. true };
+}
+
+impl AnyOctets for AttributeKind {
+    ghost any = { λ octets. refl };
+}
+
+impl Named for AttributeKind {
     ghost is_name = { name.is_attribute };
+
+    ghost names_are = { λ octets good. refl };
 
     fn is_name(octets: &[u8]) -> bool {
         names::is_attribute(octets)
@@ -204,7 +257,13 @@ impl Kind for AttributeKind {
 }
 
 impl Kind for EntryKind {
+    ghost may_be = { name.is_entry_name };
+}
+
+impl Named for EntryKind {
     ghost is_name = { name.is_entry_name };
+
+    ghost names_are = { λ octets good. good };
 
     fn is_name(octets: &[u8]) -> bool {
         names::is_entry_name(octets)
@@ -212,7 +271,13 @@ impl Kind for EntryKind {
 }
 
 impl Kind for ContextKind {
+    ghost may_be = { name.is_context_name };
+}
+
+impl Named for ContextKind {
     ghost is_name = { name.is_context_name };
+
+    ghost names_are = { λ octets good. good };
 
     fn is_name(octets: &[u8]) -> bool {
         names::is_context_name(octets)
@@ -220,9 +285,31 @@ impl Kind for ContextKind {
 }
 
 impl Kind for UserKind {
+    ghost may_be = { name.is_user_name };
+}
+
+impl Named for UserKind {
     ghost is_name = { name.is_user_name };
+
+    ghost names_are = { λ octets good. good };
 
     fn is_name(octets: &[u8]) -> bool {
         names::is_user_name(octets)
     }
+}
+
+impl Kind for ValueKind {
+    ghost may_be = { λ octets. true };
+}
+
+impl AnyOctets for ValueKind {
+    ghost any = { λ octets. refl };
+}
+
+impl Kind for DatasetKind {
+    ghost may_be = { λ octets. true };
+}
+
+impl AnyOctets for DatasetKind {
+    ghost any = { λ octets. refl };
 }

@@ -3,6 +3,7 @@ ghost use Rattle.std.specs.Prelude.{◌≡◌, ◌≤◌, IfOk, OnOk, filter, na
 ghost use Rattle.std.specs.Option.{option_copied};
 ghost use Rattle.std.specs.List.{starts_with};
 ghost use Rattle.std.specs.FinMap as map;
+ghost use Rattle.acap_entries.specs.FullPaths.{AreWellFormed};
 ghost use Rattle.acap_entries.specs.Orders.{octets_eq};
 ghost use Rattle.acap_entries.specs.Store.{empty_store};
 ghost use Rattle.acap_entries.specs.Changes.{HasRoom, IsStoreAfter};
@@ -38,8 +39,8 @@ pub struct Tree {
 
 impl Model for Tree {
     ghost use Rattle.std.specs.FinMap as map;
-    ghost use Rattle.acap_entries.specs.Sorted.{InOrder};
-    ghost use Rattle.acap_entries.specs.Store.{Roomy, roomy_code, path_cmp};
+    ghost use Rattle.acap_entries.specs.FullPaths.{AreInForm};
+    ghost use Rattle.acap_entries.specs.Store.{Roomy, roomy_code};
 
     ghost Value = { Roomy };
 
@@ -51,7 +52,7 @@ impl Model for Tree {
       slots = t.deletions.slots;
     } };
 
-    ghost invariant = { λ t. InOrder path_cmp t.entries.0 };
+    ghost invariant = { λ t. AreInForm t.entries.0 };
 }
 
 #[tactic(auto, using(crate::proofs::Kept::kept))]
@@ -149,6 +150,14 @@ impl Tree {
         between(self.entries.as_slice(), &low, &high)
     }
 
+    /// The path of each record is well formed: does nothing.
+    #[inline]
+    pub fn form_law(&self)
+        ensures { AreWellFormed self.now.store.records }
+    {
+        let _ = &self.last;
+    }
+
     /// How many records there are, those of deleted entries included.
     pub fn len(&self) -> usize
         ensures { result ≡ map.len self.now.store.records }
@@ -190,6 +199,7 @@ impl Tree {
             moment,
             deleted,
         } = change;
+        writes.form_law();
         put_all(&mut self.entries, writes);
         self.deletions.add_all(deleted, moment);
         self.last = moment;

@@ -1,7 +1,9 @@
 //! What a change writes.
-ghost use Rattle.std.specs.Prelude.{◌≡◌, ◌↔◌, IsOk, IfOk, IfErr, OnOk, OnErr, vec_len};
+ghost use Rattle.std.specs.Prelude.{◌≡◌, ◌↔◌, IsOk, IfOk, IfErr, OnOk, OnErr, vec_len, true};
 ghost use Rattle.std.specs.Option.{option_copied};
 ghost use Rattle.std.specs.FinMap as map;
+ghost use Rattle.std.specs.List.{list_all};
+ghost use Rattle.acap_entries.specs.FullPaths.{AreWellFormed, is_well_formed};
 ghost use Rattle.acap_entries.specs.Sorted.{InOrder};
 ghost use Rattle.acap_entries.specs.Store.{path_cmp};
 
@@ -22,8 +24,8 @@ pub struct Writes {
 
 impl Model for Writes {
     ghost use Rattle.std.specs.FinMap as map;
-    ghost use Rattle.acap_entries.specs.Sorted.{InOrder};
-    ghost use Rattle.acap_entries.specs.Store.{Written, written_code, path_cmp};
+    ghost use Rattle.acap_entries.specs.FullPaths.{AreInForm};
+    ghost use Rattle.acap_entries.specs.Store.{Written, written_code};
 
     ghost Value = { Written };
 
@@ -31,7 +33,18 @@ impl Model for Writes {
 
     ghost view = { λ w. map.from_sorted w.entries.items };
 
-    ghost invariant = { λ w. InOrder path_cmp w.entries.items };
+    ghost invariant = { λ w. AreInForm w.entries.items };
+}
+
+// Each path is well formed: goes over them and does nothing.
+fn form_all(entries: &[(Path, Fate)])
+    ensures { list_all (λ e. is_well_formed e.0) entries.now ≡ true }
+{
+    let mut left = entries;
+    while let Some((first, others)) = left.split_first() {
+        first.0.form_law();
+        left = others;
+    }
 }
 
 #[tactic(auto, using(crate::proofs::Kept::kept))]
@@ -52,6 +65,7 @@ impl Writes {
         ensures same { IfErr result (λ same. same.items ≡ entries.items) }
     {
         if ascends(entries.as_slice()) {
+            form_all(entries.as_slice());
             Ok(Writes { entries })
         } else {
             Err(entries)
@@ -92,6 +106,7 @@ impl Writes {
         ensures ok { OnOk result (self.new ≡ map.insert self.old path fate) }
         ensures err { OnErr result (self.new ≡ self.old) }
     {
+        path.form_law();
         set_in(&mut self.entries, path, fate)?;
         Ok(())
     }
@@ -100,7 +115,15 @@ impl Writes {
     pub fn remove(&mut self, path: &Path)
         ensures { self.new ≡ map.remove self.old path.now }
     {
-        take_out(&mut self.entries, path);
+        let _ = take_out(&mut self.entries, &Whole { key: path });
+    }
+
+    /// Each path that is written at is well formed: does nothing.
+    #[inline]
+    pub fn form_law(&self)
+        ensures { AreWellFormed self.now }
+    {
+        let _ = &self.entries;
     }
 
     /// The writes in their order, in their memory.

@@ -1,13 +1,19 @@
 -- Lines and the commands or faults that they are, limits, and the texts of refusals, computed from the definitions
 -- [RFC 2244 sections 3.6, 6 and 8].
-use Rattle.std.specs.Prelude.{◌≡◌, ℕ, ℤ, List, [], ◌∷◌, ◌++◌, zero, suc, map, flat_map, codes, decimal, true, false, Some, None, Ok}
+use Rattle.std.specs.Prelude.{◌≡◌, ℕ, ℤ, pos, List, [], ◌∷◌, ◌++◌, zero, suc, map, flat_map, replicate, codes, decimal, true, false, Some, None, Ok}
 use Rattle.acap_lexer.specs.declared.fault.LexFault.TheVariants as lexical
 use Rattle.acap_lexer.specs.declared.kind.Kind.TheVariants as kind
 use Rattle.acap_lexer.specs.Token.{Token}
 use Rattle.acap_order.specs.declared.comparator.Collation.TheVariants.{Octet, AsciiNumeric}
 use Rattle.acap_order.specs.Spellings.{ascending, descending}
 use Rattle.acap_entries.specs.declared.cell.Cell.TheVariants as cell
+use Rattle.acap_entries.specs.declared.item.Item.{Item}
+use Rattle.acap_entries.specs.declared.item.Item.TheVariants as item
+use Rattle.acap_entries.specs.declared.row.Row.{Row}
 use Rattle.acap_entries.specs.Stamp.{moment_of}
+use Rattle.acap_notices.specs.declared.notice.Notice.TheVariants as notice
+use Rattle.acap_notices.specs.declared.told.Told.{Told}
+use Rattle.acap_notices.specs.declared.told.Told.TheVariants as told
 use Rattle.acap_commands.specs.declared.command.Command.TheVariants as command
 use Rattle.acap_commands.specs.declared.given.Given.TheVariants as given
 use Rattle.acap_grammar.specs.declared.grammar_fault.GrammarFault.TheVariants as fault
@@ -239,4 +245,35 @@ pub record TextExamples : Type 0 where
       ∷ codes "A1 OK \"FREECONTEXT done\"" ∷ codes "A1 OK \"UPDATECONTEXT done\"" ∷ [])
   pub greeting : octets_of (alone said.Greeting) ≡ lines (codes "* ACAP (IMPLEMENTATION \"acapd\") (SASL \"CRAM-MD5\") (CONTEXTLIMIT \"200\")" ∷ [])
   pub left : octets_of (alone said.Left) ≡ []
-  pub drained : octets_of (alone said.Drained) ≡ []
+  pub drained : octets_of (alone (said.Drained [])) ≡ []
+
+-- ---- what is told of contexts
+
+abbrev pub row_of : List ℕ → List Item → Row
+row_of name items = record { name = name; items = items }
+
+abbrev pub told_lines : List Told → List (List ℕ) → Type 0
+told_lines tolds texts = octets_of (alone (said.Drained tolds)) ≡ lines texts
+
+pub record ToldExamples : Type 0 where
+  -- the data of a notice are those of an ENTRY: several, all that a name with `*` has, none
+  pub added : told_lines (told.Note (codes "c") (notice.AddTo 3 (row_of (codes "a") (item.One (cell.Single (codes "x")) ∷ item.Several (cell.Nil ∷ cell.Multi (codes "y" ∷ []) ∷ []) ∷ []))) ∷ [])
+      (codes "* ADDTO \"c\" \"a\" 3 \"x\" (NIL (\"y\"))" ∷ [])
+  pub starred : told_lines (told.Note (codes "c") (notice.AddTo 0 (row_of [] (item.PerAttribute ((cell.Single (codes "k") ∷ cell.Single (codes "v") ∷ []) ∷ []) ∷ []))) ∷ [])
+      (codes "* ADDTO \"c\" \"\" 0 ((\"k\" \"v\"))" ∷ [])
+  pub nothing : told_lines (told.Note (codes "c") (notice.AddTo 10 (row_of (codes "a") [])) ∷ []) (codes "* ADDTO \"c\" \"a\" 10" ∷ [])
+  -- the old position stands before the new one
+  pub changed : told_lines (told.Note (codes "c") (notice.Change 1 4 (row_of (codes "a") (item.One (cell.Single (codes "9")) ∷ []))) ∷ [])
+      (codes "* CHANGE \"c\" \"a\" 1 4 \"9\"" ∷ [])
+  -- an entry that can't stand between quotes is a literal
+  pub removed : told_lines (told.Note (codes "c") (notice.RemoveFrom (97 ∷ 13 ∷ []) 2) ∷ []) ((codes "* REMOVEFROM \"c\" {2}" ++ crlf ++ 97 ∷ 13 ∷ codes " 2") ∷ [])
+  -- so is the name of a context; else `"` and `\` are escaped
+  pub escaped : told_lines (told.Upto (codes "a\"b\\") (pos 0) ∷ []) (codes "* MODTIME \"a\\\"b\\\\\" \"19700101000000000000\"" ∷ [])
+  pub literal : told_lines (told.Upto (99 ∷ 13 ∷ []) (pos 1) ∷ []) ((codes "* MODTIME {2}" ++ crlf ++ 99 ∷ 13 ∷ codes " \"19700101000000000001\"") ∷ [])
+  -- the name of a freed context stands in the text; a text that is too long between quotes is a literal
+  pub freed : told_lines (told.Freed (codes "c") ∷ []) (codes "* ALERT \"Context freed: c\"" ∷ [])
+  pub freed_long : told_lines (told.Freed (replicate 510 34) ∷ []) ((codes "* ALERT {525}" ++ crlf ++ codes "Context freed: " ++ replicate 510 34) ∷ [])
+  -- the completion alone is under the tag, and behind all that is told
+  pub updated : octets_of (under (codes "A1") (said.Updated (told.Note (codes "c") (notice.RemoveFrom (codes "a") 1) ∷ told.Upto (codes "c") (pos 5) ∷ [])))
+      ≡ lines (codes "* REMOVEFROM \"c\" \"a\" 1" ∷ codes "* MODTIME \"c\" \"19700101000000000005\"" ∷ codes "A1 OK \"UPDATECONTEXT done\"" ∷ [])
+  pub updated_nothing : octets_of (under (codes "A1") (said.Updated [])) ≡ lines (codes "A1 OK \"UPDATECONTEXT done\"" ∷ [])

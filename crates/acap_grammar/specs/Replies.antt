@@ -7,6 +7,10 @@ use Rattle.acap_entries.specs.declared.cell.Cell.TheVariants as cell
 use Rattle.acap_entries.specs.declared.item.Item.{Item}
 use Rattle.acap_entries.specs.declared.item.Item.TheVariants as item
 use Rattle.acap_entries.specs.declared.row.Row.{Row}
+use Rattle.acap_notices.specs.declared.notice.Notice.{Notice}
+use Rattle.acap_notices.specs.declared.notice.Notice.TheVariants as notice
+use Rattle.acap_notices.specs.declared.told.Told.{Told}
+use Rattle.acap_notices.specs.declared.told.Told.TheVariants as told
 use Rattle.acap_commands.specs.declared.search_reply.SearchReply.{SearchReply}
 use Rattle.acap_commands.specs.declared.refusal.Refusal.{Refusal}
 use Rattle.acap_commands.specs.declared.reply.Reply.{Reply}
@@ -130,11 +134,60 @@ challenge_form challenge = codes "+ " ++ printed challenge ++ crlf
 unfoldable pub good_bye_form : List ℕ → List ℕ
 good_bye_form tag = codes "* BYE " ++ printed (codes "Good bye") ++ crlf ++ done_form tag verb.Logout
 
+-- ---- what is told of contexts [RFC 2244 section 6.5]: no line has a tag
+
+-- what stands first: `*` and a word, the context and the entry, or what the word tells of the context
+unfoldable pub about_form : List ℕ → List ℕ → List ℕ → List ℕ
+about_form word context thing = word ++ printed context ++ codes " " ++ printed thing
+
+-- a position behind a space
+unfoldable pub position_form : ℕ → List ℕ
+position_form position = codes " " ++ decimal position
+
+-- an entry that came in: `ADDTO` context entry position data*
+unfoldable pub added_form : List ℕ → ℕ → Row → List ℕ
+added_form context position row = about_form (codes "* ADDTO ") context row.name ++ position_form position ++ spaced item_form row.items ++ crlf
+
+-- one that went: `REMOVEFROM` context entry position
+unfoldable pub removed_form : List ℕ → List ℕ → ℕ → List ℕ
+removed_form context entry position = about_form (codes "* REMOVEFROM ") context entry ++ position_form position ++ crlf
+
+-- one that changed: `CHANGE` context entry old new data*
+unfoldable pub changed_form : List ℕ → ℕ → ℕ → Row → List ℕ
+changed_form context old new row =
+    about_form (codes "* CHANGE ") context row.name ++ position_form old ++ position_form new ++ spaced item_form row.items ++ crlf
+
+abbrev pub notice_form : List ℕ → Notice → List ℕ
+notice_form context (notice.AddTo position row) = added_form context position row
+notice_form context (notice.RemoveFrom entry position) = removed_form context entry position
+notice_form context (notice.Change old new row) = changed_form context old new row
+
+-- all up to a moment was told: `MODTIME` context stamp
+unfoldable pub upto_form : List ℕ → ℤ → List ℕ
+upto_form context moment = about_form (codes "* MODTIME ") context (stamp_of moment) ++ crlf
+
+-- the server gave a context up: `ALERT` text, in which its name stands
+unfoldable pub freed_form : List ℕ → List ℕ
+freed_form context = codes "* ALERT " ++ printed (codes "Context freed: " ++ context) ++ crlf
+
+abbrev pub told_form : Told → List ℕ
+told_form (told.Note context notice) = notice_form context notice
+told_form (told.Upto context moment) = upto_form context moment
+told_form (told.Freed context) = freed_form context
+
+abbrev pub tolds_form : List Told → List ℕ
+tolds_form tolds = flat_map told_form tolds
+
+-- the end of an UPDATECONTEXT: what is told, and its completion
+unfoldable pub updated_form : List ℕ → List Told → List ℕ
+updated_form tag tolds = tolds_form tolds ++ done_form tag verb.UpdateContext
+
 -- what is said, under a tag
 unfoldable pub said_form : List ℕ → Said → List ℕ
 said_form tag said.Greeting = greeting
 said_form tag said.Left = []
-said_form tag said.Drained = []
+said_form tag (said.Drained tolds) = tolds_form tolds
+said_form tag (said.Updated tolds) = updated_form tag tolds
 said_form tag (said.Done verb) = done_form tag verb
 said_form tag (said.Searched found) = found_form tag found
 said_form tag (said.Deleted names) = deleted_form tag names

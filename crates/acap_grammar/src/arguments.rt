@@ -14,7 +14,7 @@ use crate::grammar_fault::GrammarFault;
 use acap_commands::{Object, Relation, Target};
 use acap_entries::{
     Attribute, ContextName, Dataset, EntryName, Memory, Moment, NameFault, Path, Value,
-    begins_with, is_entry_name, is_path, read_time,
+    begins_with, is_path, read_time,
 };
 use acap_lexer::{Kind, Tokens, count_of};
 use acap_order::Comparator;
@@ -266,10 +266,15 @@ fn is_path_of(alloc: Global, dataset: &Dataset, name: &[u8]) -> Result<bool, Mem
 fn entry_named(alloc: Global, dataset: &Dataset, text: &[u8]) -> Result<EntryName, GrammarError>
     ensures { Gives (λ x. x) result (argument.entry_named dataset.now text.now) }
 {
-    if !is_entry_name(text) || !is_path_of(alloc, dataset, text)? {
+    let name = match EntryName::read(alloc, text) {
+        Ok(name) => name,
+        Err(NameFault::BadName) => return Err(GrammarError::Fault(GrammarFault::BadName)),
+        Err(NameFault::Memory) => return Err(GrammarError::Memory),
+    };
+    if !is_path_of(alloc, dataset, text)? {
         return Err(GrammarError::Fault(GrammarFault::BadName));
     }
-    Ok(EntryName::from_slice(alloc, text)?)
+    Ok(name)
 }
 
 #[tactic(auto, unfolding(crate::specs::Arguments::named_at))]

@@ -4,8 +4,8 @@ ghost use Rattle.std.specs.Prelude.{◌≡◌, ◌++◌, ◌∷◌, OnOk, codes}
 ghost use Rattle.acap_lexer.specs.Printing.{printed, Grows};
 ghost use Rattle.acap_grammar.specs.Refusals.{object_end, object_form, path_form, code_of};
 
-use acap_commands::{Object, Refusal};
 use crate::strings::{append_path, append_string};
+use acap_commands::{Object, Refusal};
 use acap_entries::{Attribute, Dataset, EntryName, Memory, Path};
 
 fn append_argument(text: &[u8], out: &mut Vec<u8>) -> Result<(), Memory>

@@ -11,8 +11,8 @@ use crate::arguments::{attribute_at, comparator_for_at, number_at, time_at, valu
 use crate::descent::{behind_word, ends};
 use crate::grammar_error::GrammarError;
 use crate::grammar_fault::GrammarFault;
-use acap_commands::{Key, Relation, Test};
 use crate::words::{KeyWord, word_at};
+use acap_commands::{Key, Relation, Test};
 use acap_entries::Attribute;
 use acap_lexer::Tokens;
 use acap_order::Comparator;

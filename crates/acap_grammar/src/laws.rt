@@ -1,6 +1,6 @@
 //! What follows from the definitions alone: each function does nothing, and its contract is the law.
 ghost use Rattle.acap_grammar.specs.Alike.{PlacesLaw};
-ghost use Rattle.acap_grammar.specs.Examples.{LineExamples, LineFaults, LimitExamples, TextExamples};
+ghost use Rattle.acap_grammar.specs.Examples.{LineExamples, LineFaults, LimitExamples, TextExamples, ToldExamples};
 ghost use Rattle.acap_grammar.specs.Formed.{NamesLaw, ReadsFormed};
 ghost use Rattle.acap_grammar.specs.Laws.{FirstFault, CommandExamples, FaultExamples, ReplyExamples};
 ghost use Rattle.acap_grammar.specs.Sendable.{ReadsSendable, SpellsCommands};
@@ -76,4 +76,10 @@ pub fn spelled_texts()
 /// contexts (RFC 2244 sections 3.1, 3.3 and 4.1).
 pub fn names_law()
     ensures { NamesLaw }
+{}
+
+/// What is told of contexts, as octets (RFC 2244 section 6.5).
+#[tactic(auto, using(crate::proofs::Computing::told_examples))]
+pub fn told_examples()
+    ensures { ToldExamples }
 {}

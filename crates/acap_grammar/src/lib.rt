@@ -10,6 +10,7 @@ mod grammar_error;
 mod grammar_fault;
 mod keys;
 mod laws;
+mod notices;
 mod parsing;
 mod refusing;
 mod rendering;
@@ -19,7 +20,12 @@ mod storing;
 mod strings;
 mod words;
 
-pub use acap_commands::{Command, ContextNames, Entries, Given, Key, Limit, MakeContext, Metadata, MetadataList, Node, Object, Refusal, Relation, Reply, ReturnItem, ReturnName, Returns, Rows, Said, Search, SearchModifiers, SearchReply, SortItem, SortItems, Status, StoreEntry, StoreItem, StoreItems, StoreMetadata, StoreModifiers, Target, Test, Verb};
+pub use acap_commands::{
+    Command, ContextNames, Entries, Given, Key, Limit, MakeContext, Metadata, MetadataList, Node,
+    Object, Refusal, Relation, Reply, ReturnItem, ReturnName, Returns, Rows, Said, Search,
+    SearchModifiers, SearchReply, SortItem, SortItems, Status, StoreEntry, StoreItem, StoreItems,
+    StoreMetadata, StoreModifiers, Target, Test, Tolds, Verb,
+};
 pub use acap_entries::{Copying, Memory};
 pub use grammar_error::GrammarError;
 pub use grammar_fault::GrammarFault;

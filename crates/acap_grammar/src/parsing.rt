@@ -7,7 +7,6 @@ ghost use Rattle.acap_grammar.specs.Arguments.{object_at as object_in};
 ghost use Rattle.acap_grammar.specs.Grammar as grammar;
 
 use crate::arguments::{context_at, dataset_at, object_at, time_at, value_at};
-use acap_commands::{Command, ContextNames, Object, Verb};
 use crate::descent::{ends, starts_string};
 use crate::grammar_error::GrammarError;
 use crate::grammar_fault::GrammarFault;
@@ -15,6 +14,7 @@ use crate::searching::search_at;
 use crate::several::{Gather, some_of};
 use crate::storing::entries_at;
 use crate::words::word_at;
+use acap_commands::{Command, ContextNames, Object, Verb};
 use acap_entries::{Boxed, Value};
 use acap_lexer::Tokens;
 use std::alloc::Global;

@@ -2,14 +2,16 @@
 
 ghost use Rattle.std.specs.Prelude.{◌≡◌, ◌++◌, OnOk, OnErr};
 ghost use Rattle.acap_lexer.specs.Printing.{Grows};
-ghost use Rattle.acap_grammar.specs.Replies.{row_form, rows_form, last_form, done_of, done_form, status_form, refused_form, greeting, total_form, searched_form, found_form, deleted_name_form, deleted_names_form, deleted_form, rights_form, rights_list_form, challenge_form, good_bye_form, said_form, tag_of, octets_of};
+ghost use Rattle.acap_grammar.specs.Replies.{row_form, rows_form, last_form, done_of, done_form, status_form, refused_form, greeting, total_form, searched_form, found_form, deleted_name_form, deleted_names_form, deleted_form, rights_form, rights_list_form, challenge_form, good_bye_form, said_form, updated_form, tag_of, octets_of};
 
 use crate::codes::append_code;
 use crate::data::append_items;
-use acap_commands::{Refusal, Reply, Said, SearchReply, Status, Verb};
+use crate::notices::append_tolds;
 use crate::refusing::text_of;
 use crate::strings::{append_spaced, append_string};
+use acap_commands::{Refusal, Reply, Said, SearchReply, Status, Verb};
 use acap_entries::{Memory, Moment, Octets, Row, Value, stamp};
+use acap_notices::Told;
 
 #[tactic(auto, unfolding(crate::specs::Replies::row_form))]
 fn append_row(tag: &[u8], row: &Row, out: &mut Vec<u8>) -> Result<(), Memory>
@@ -235,6 +237,15 @@ fn append_good_bye(tag: &[u8], out: &mut Vec<u8>) -> Result<(), Memory>
     append_done(tag, Verb::Logout, out)
 }
 
+#[tactic(auto, unfolding(crate::specs::Replies::updated_form))]
+fn append_updated(tag: &[u8], tolds: &[Told], out: &mut Vec<u8>) -> Result<(), Memory>
+    ensures ok { OnOk result (out.new.items ≡ out.old.items ++ updated_form tag.now tolds.now) }
+    ensures grows { Grows out.old.items out.new.items }
+{
+    append_tolds(tolds, out)?;
+    append_done(tag, Verb::UpdateContext, out)
+}
+
 #[tactic(auto, unfolding(crate::specs::Replies::said_form))]
 fn append_said(tag: &[u8], said: &Said, out: &mut Vec<u8>) -> Result<(), Memory>
     ensures ok { OnOk result (out.new.items ≡ out.old.items ++ said_form tag.now said.now) }
@@ -242,7 +253,9 @@ fn append_said(tag: &[u8], said: &Said, out: &mut Vec<u8>) -> Result<(), Memory>
 {
     match said {
         Said::Greeting => append_greeting(out),
-        Said::Left | Said::Drained => Ok(()),
+        Said::Left => Ok(()),
+        Said::Drained(tolds) => append_tolds(tolds.as_slice(), out),
+        Said::Updated(tolds) => append_updated(tag, tolds.as_slice(), out),
         Said::Done(verb) => append_done(tag, *verb, out),
         Said::Searched(found) => append_found(tag, found, out),
         Said::Deleted(names) => append_deleted(tag, names.as_slice(), out),

@@ -15,10 +15,13 @@ use crate::descent::{
 use crate::grammar_error::GrammarError;
 use crate::grammar_fault::GrammarFault;
 use crate::keys::key_at;
-use acap_commands::{Limit, MakeContext, Metadata, MetadataList, ReturnItem, ReturnName, Returns, Search, SearchModifiers, SortItem, SortItems, Target};
 use crate::several::{Gather, enclosed, several};
 use crate::storing::once;
 use crate::words::{SearchWord, word_at};
+use acap_commands::{
+    Limit, MakeContext, Metadata, MetadataList, ReturnItem, ReturnName, Returns, Search,
+    SearchModifiers, SortItem, SortItems, Target,
+};
 use acap_entries::{Memory, Value, ends_with, is_attribute};
 use acap_lexer::Tokens;
 use std::alloc::Global;

@@ -11,11 +11,13 @@ use crate::descent::{
     Piece, behind_close, behind_open, closes, ends, opens, peek, starts_string, string_at,
 };
 use crate::gathered::{GatheredEntries, GatheredItems};
-use acap_commands::{Entries, Given, StoreEntry, StoreItem, StoreItems, StoreMetadata, StoreModifiers};
 use crate::grammar_error::GrammarError;
 use crate::grammar_fault::GrammarFault;
 use crate::several::{Gather, enclosed, some_of};
 use crate::words::{StoreWord, word_at};
+use acap_commands::{
+    Entries, Given, StoreEntry, StoreItem, StoreItems, StoreMetadata, StoreModifiers,
+};
 use acap_entries::{Attribute, Cell, Copying, Memory, Path, Value, Values};
 use acap_lexer::{Kind, Tokens};
 use std::alloc::Global;

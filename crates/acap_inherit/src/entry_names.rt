@@ -6,7 +6,7 @@ ghost use Rattle.acap_inherit.specs.EntryNames as rule;
 use crate::lineage::Lineage;
 use crate::merging::{least_of, pass_all};
 use crate::range::Range;
-use acap_entries::Tree;
+use acap_entries::{EntryName, Tree};
 use arrayvec::ArrayVec;
 use std::marker::Model;
 
@@ -31,13 +31,13 @@ impl<'a> Model for EntryNames<'a> {
 }
 
 impl<'a> Iterator for EntryNames<'a> {
-    type Item = &'a [u8];
+    type Item = &'a EntryName;
 
     ghost next_gives = { YieldsFirstBy (λ name. name.now) (λ names. names) };
 
     ghost remaining = { item_count (λ names. names) };
 
-    fn next(&mut self) -> Option<&'a [u8]> {
+    fn next(&mut self) -> Option<&'a EntryName> {
         let name = least_of(self.ranges.as_slice())?;
         pass_all(self.ranges.as_mut_slice(), name);
         Some(name)

@@ -4,14 +4,15 @@ ghost use Rattle.std.specs.Option.{option_copied};
 ghost use Rattle.acap_inherit.specs.Merging as rule;
 
 use crate::range::Range;
+use acap_entries::EntryName;
 
 // The lesser of two names, if there is one.
-fn lesser<'a>(name: Option<&'a [u8]>, other: Option<&'a [u8]>) -> Option<&'a [u8]>
+fn lesser<'a>(name: Option<&'a EntryName>, other: Option<&'a EntryName>) -> Option<&'a EntryName>
     ensures { option_copied result ≡ rule.lesser (option_copied name.entry) (option_copied other.entry) }
 {
     match (name, other) {
         (Some(name), Some(other)) => {
-            if other.cmp(&name).is_lt() {
+            if other.cmp(name).is_lt() {
                 Some(other)
             } else {
                 Some(name)
@@ -23,7 +24,7 @@ fn lesser<'a>(name: Option<&'a [u8]>, other: Option<&'a [u8]>) -> Option<&'a [u8
 }
 
 /// The least of the first names.
-pub(crate) fn least_of<'a>(ranges: &[Range<'a>]) -> Option<&'a [u8]>
+pub(crate) fn least_of<'a>(ranges: &[Range<'a>]) -> Option<&'a EntryName>
     ensures { rule.IsLeast (option_copied result) ranges.now }
 {
     let mut least = None;
@@ -34,7 +35,7 @@ pub(crate) fn least_of<'a>(ranges: &[Range<'a>]) -> Option<&'a [u8]>
 }
 
 /// Passes a name wherever it is the first.
-pub(crate) fn pass_all(ranges: &mut [Range<'_>], name: &[u8])
+pub(crate) fn pass_all(ranges: &mut [Range<'_>], name: &EntryName)
     ensures { ranges.new ≡ map (rule.passed name.now) ranges.old }
 {
     for range in ranges.iter_mut() {

@@ -3,13 +3,13 @@ ghost use Rattle.std.specs.Prelude.{◌≡◌, map, slice_get};
 ghost use Rattle.std.specs.Option.{option_copied};
 ghost use Rattle.acap_inherit.specs.Merging.{passed};
 
-use acap_entries::Listing;
+use acap_entries::{EntryName, Listing};
 use std::marker::Model;
 
 /// Names of records, seen as the list of those that are still to come.
 #[derive(Default, Drop)]
 pub(crate) struct Range<'a> {
-    left: Option<(&'a [u8], Listing<'a>)>,
+    left: Option<(&'a EntryName, Listing<'a>)>,
 }
 
 impl<'a> Model for Range<'a> {
@@ -28,14 +28,14 @@ impl<'a> Range<'a> {
     {
         match records.next() {
             Some((path, _)) => Range {
-                left: Some((path.name.as_slice(), records)),
+                left: Some((&path.name, records)),
             },
             None => Range { left: None },
         }
     }
 
     /// The first of them.
-    pub(crate) fn first(&self) -> Option<&'a [u8]>
+    pub(crate) fn first(&self) -> Option<&'a EntryName>
         ensures { option_copied result ≡ slice_get self.now 0 }
     {
         match &self.left {
@@ -45,7 +45,7 @@ impl<'a> Range<'a> {
     }
 
     /// Passes a name, if it is the first.
-    pub(crate) fn pass(&mut self, name: &[u8])
+    pub(crate) fn pass(&mut self, name: &EntryName)
         ensures { self.new ≡ passed name.now self.old }
     {
         if self.first() == Some(name)

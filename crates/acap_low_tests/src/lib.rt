@@ -6,6 +6,8 @@ mod lexer;
 #[cfg(test)]
 mod notices;
 #[cfg(test)]
+mod ranked;
+#[cfg(test)]
 mod search;
 #[cfg(test)]
 mod settings;

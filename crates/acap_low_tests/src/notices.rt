@@ -140,7 +140,7 @@ fn is_copied(told: &Told, other: &Told) -> Result<bool, Memory> {
 }
 
 fn context(alloc: Global) -> Result<ContextName, Memory> {
-    ContextName::from_slice(alloc, b"v")
+    ContextName::read(alloc, b"v").map_err(|_| Memory)
 }
 
 fn upto(alloc: Global) -> Result<Told, Memory> {

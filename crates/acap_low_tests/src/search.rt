@@ -1,10 +1,13 @@
 //! Tests of a search's calls that no program makes yet: what it finds, kept and copied, is what it tells.
 
+use acap_commands::{
+    Key, Metadata, MetadataList, ReturnItem, ReturnName, Returns, Rows, SearchModifiers, SortItem,
+    SortItems, Test,
+};
 use acap_entries::{
     Acls, Attribute, Boxed, Cell, Cells, Change, Copying, Dataset, Fate, Memory, Moment, Path,
     Paths, Record, Tree, UserName, Value, Writes,
 };
-use acap_commands::{Key, Metadata, MetadataList, ReturnItem, ReturnName, Returns, Rows, SearchModifiers, SortItem, SortItems, Test};
 use acap_order::Comparator;
 use acap_rights::Realm;
 use acap_search::{Asked, Hits, Query, SearchRefusal, first_rows, fresh, tell};
@@ -67,7 +70,7 @@ fn sorting(alloc: Global) -> Result<SortItems, Memory> {
 }
 
 fn user(alloc: Global) -> Result<UserName, Memory> {
-    UserName::from_slice(alloc, b"joe")
+    UserName::read(alloc, b"joe").map_err(|_| Memory)
 }
 
 // What joe searches for: all entries by `k`, whose value is told.

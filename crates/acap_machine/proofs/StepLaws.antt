@@ -1,5 +1,5 @@
 -- What every step keeps, and what each change is.
-use Rattle.std.proofs.Common.{◌≡◌, ℕ, ℤ, List, cond, Option, Some, None, Result, Ok, Err, refl, subst, ap, ◌∙◌}
+use Rattle.std.proofs.Common.{◌≡◌, ℕ, ℤ, List, [], cond, Option, Some, None, Result, Ok, Err, refl, subst, ap, ◌∙◌}
 use Rattle.std.specs.Cmp.{nat_cmp_total, unsigned_tied}
 use Rattle.std.specs.FinMap.{get, get-insert, get-remove}
 use Rattle.std.specs.FinMap as table
@@ -49,7 +49,7 @@ by_keeps P (Some occupant) does reply new p e =
 record Kept (P : Reply → Machine → Type 0) (m : Machine) (seat : ℕ) : Type 0 where
   pub enters : (user : List ℕ) → P (plain said.Greeting) (record m { seats = table.insert m.seats seat (seated_as user) })
   pub answers : (answer : Answer) → P (answered m answer).0 (answered m answer).1
-  pub drains : P (plain said.Drained) m
+  pub drains : P (plain (said.Drained [])) m
   pub leaves : P (plain said.Left) (record m { seats = table.remove m.seats seat })
 
 step_keeps : (P : Reply → Machine → Type 0) (m : Machine) (seat : ℕ) (e : Event) (clock : ℤ) (reply : Reply) (new : Machine) →
@@ -57,7 +57,7 @@ step_keeps : (P : Reply → Machine → Type 0) (m : Machine) (seat : ℕ) (e : 
 step_keeps P m seat (event.Enter user) clock reply new kept e = entered_keeps P m seat user (table.get m.seats seat) reply new (kept.enters user) e
 step_keeps P m seat (event.Command c) clock reply new kept e =
     by_keeps P (table.get m.seats seat) (λ user. answered m (served m.store m.realm user c clock)) reply new (λ user. kept.answers (served m.store m.realm user c clock)) e
-step_keeps P m seat event.Drain clock reply new kept e = by_keeps P (table.get m.seats seat) (λ user. (plain said.Drained, m)) reply new (λ user. kept.drains) e
+step_keeps P m seat event.Drain clock reply new kept e = by_keeps P (table.get m.seats seat) (λ user. (plain (said.Drained []), m)) reply new (λ user. kept.drains) e
 step_keeps P m seat event.Leave clock reply new kept e =
     by_keeps P (table.get m.seats seat) (λ user. (plain said.Left, record m { seats = table.remove m.seats seat })) reply new (λ user. kept.leaves) e
 

@@ -21,7 +21,8 @@ is_answer status.Bye = false
 abbrev pub completes : Said → Bool
 completes said.Greeting = false
 completes said.Left = false
-completes said.Drained = false
+completes (said.Drained tolds) = false
+completes (said.Updated tolds) = true
 completes (said.Done verb) = true
 completes (said.Searched found) = true
 completes (said.Deleted names) = true

@@ -125,7 +125,7 @@ pub record SeatLaw : Type 0 where
   pub taken : (m : Machine) (seat : ℕ) (user other : List ℕ) (clock : ℤ) → table.get m.seats seat ≡ Some (seated_as other) → step_of m seat (event.Enter user) clock ≡ Err fault.AlreadyEntered
   pub leaves : (m : Machine) (seat : ℕ) (user : List ℕ) (clock : ℤ) → table.get m.seats seat ≡ Some (seated_as user) →
       step_of m seat event.Leave clock ≡ Ok (plain said.Left, record m { seats = table.remove m.seats seat })
-  pub drains : (m : Machine) (seat : ℕ) (user : List ℕ) (clock : ℤ) → table.get m.seats seat ≡ Some (seated_as user) → step_of m seat event.Drain clock ≡ Ok (plain said.Drained, m)
+  pub drains : (m : Machine) (seat : ℕ) (user : List ℕ) (clock : ℤ) → table.get m.seats seat ≡ Some (seated_as user) → step_of m seat event.Drain clock ≡ Ok (plain (said.Drained []), m)
   -- a command is its user's: words leave the machine as it was, and a change changes the store alone
   pub says : (m : Machine) (seat : ℕ) (user : List ℕ) (c : Command) (clock : ℤ) (words : Said) → table.get m.seats seat ≡ Some (seated_as user) →
       served m.store m.realm user c clock ≡ Says words → step_of m seat (event.Command c) clock ≡ Ok (plain words, m)

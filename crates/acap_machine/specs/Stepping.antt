@@ -1,6 +1,6 @@
 -- What one event makes of a machine: a reply and the machine afterwards, or a fault and nothing else
 -- [RFC 2244 sections 2 and 6].
-use Rattle.std.specs.Prelude.{◌≡◌, ⊤, ℕ, ℤ, List, Option, None, Some, Result, Ok, Err}
+use Rattle.std.specs.Prelude.{◌≡◌, ⊤, ℕ, ℤ, List, [], Option, None, Some, Result, Ok, Err}
 use Rattle.std.specs.Option.{option_map_or}
 use Rattle.std.specs.FinMap as table
 use Rattle.acap_entries.specs.Changes.{store_after}
@@ -45,7 +45,7 @@ by_user seated does = option_map_or (λ occupant. Ok (does occupant.user)) seate
 abbrev pub step_of : Machine → ℕ → Event → ℤ → Result (Reply × Machine) Fault
 step_of m seat (event.Enter user) clock = entered m seat user (table.get m.seats seat)
 step_of m seat (event.Command command) clock = by_user (table.get m.seats seat) (λ user. answered m (served m.store m.realm user command clock))
-step_of m seat event.Drain clock = by_user (table.get m.seats seat) (λ user. (plain said.Drained, m))
+step_of m seat event.Drain clock = by_user (table.get m.seats seat) (λ user. (plain (said.Drained []), m))
 step_of m seat event.Leave clock = by_user (table.get m.seats seat) (λ user. (plain said.Left, record m { seats = table.remove m.seats seat }))
 
 -- a fault that may be told of a step: the one that it ends in, or that memory was refused, which the definition of a

@@ -1,6 +1,6 @@
 //! What a command comes to.
-use acap_entries::Change;
 use acap_commands::{Said, Verb};
+use acap_entries::Change;
 
 /// What a command comes to (RFC 2244 section 6).
 #[derive(Drop)]

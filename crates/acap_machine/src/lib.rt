@@ -12,7 +12,7 @@ pub mod state;
 pub mod step;
 
 pub use acap_commands::{Event, Fault};
-pub use lists::{Outcomes, Steps};
+pub use lists::{Outcomes, StepList};
 pub use occupant::Occupant;
 pub use runs::run;
 pub use state::State;

@@ -2,10 +2,10 @@
 ghost use Rattle.std.specs.Prelude.{◌≡◌, IfOk, OnErr};
 ghost use Rattle.acap_machine.specs.Runs.{HasStopped, run_of, stepped_at, outcome_of, machine_after};
 
-use acap_commands::{Fault, Reply};
-use crate::lists::{Outcomes, Steps};
+use crate::lists::{Outcomes, StepList};
 use crate::state::State;
 use crate::step::Step;
+use acap_commands::{Fault, Reply};
 use acap_entries::Memory;
 use std::alloc::Global;
 
@@ -25,7 +25,7 @@ fn outcome_at(state: &mut State, step: Step) -> Result<Result<Reply, Fault>, Mem
 
 /// Performs steps one after another and tells what each answered. It ends before a step for which memory is refused: the
 /// steps before that one have been performed, and it and those behind it have not.
-pub fn run(alloc: Global, state: &mut State, steps: Steps) -> Result<Outcomes, Memory>
+pub fn run(alloc: Global, state: &mut State, steps: StepList) -> Result<Outcomes, Memory>
     ensures ok { IfOk result (λ outcomes. (outcomes, state.new.machine) ≡ run_of state.old.machine steps) }
     ensures err { OnErr result (HasStopped steps state.old.machine state.new.machine) }
 {

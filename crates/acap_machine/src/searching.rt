@@ -3,8 +3,10 @@ ghost use Rattle.std.specs.Prelude.{◌≡◌, IfOk, option_map};
 ghost use Rattle.acap_machine.specs.Searching as rule;
 ghost use Rattle.acap_search.specs.Asking.{asked_of};
 
+use acap_commands::{
+    Key, Limit, Refusal, Rows, Said, Search, SearchModifiers, SearchReply, Target,
+};
 use acap_entries::{Dataset, Memory, Tree, UserName};
-use acap_commands::{Key, Limit, Refusal, Rows, Said, Search, SearchModifiers, SearchReply, Target};
 use acap_rights::Realm;
 use acap_search::{Asked, Excerpt, Query, SearchRefusal, Sought, tell};
 use std::alloc::Global;

@@ -5,8 +5,8 @@ ghost use Rattle.acap_machine.specs.Serving as rule;
 
 use crate::answer::Answer;
 use crate::searching::searched;
-use acap_entries::{Dataset, Memory, Moment, Tree, UserName};
 use acap_commands::{Command, Object, Refusal, Said, Verb};
+use acap_entries::{Dataset, Memory, Moment, Tree, UserName};
 use acap_rights::{Realm, implicit_rights, rights_of};
 use acap_store::{Write, deleted_since, lent_object, object_for, plan};
 use std::alloc::Global;

@@ -4,9 +4,9 @@ ghost use Rattle.std.specs.FinMap as table;
 ghost use Rattle.acap_machine.specs.Machine.{new_machine};
 
 use crate::answer::Answer;
-use acap_commands::{Command, Event, Fault, Reply, Said, Verb};
 use crate::occupant::Occupant;
 use crate::serving::served;
+use acap_commands::{Command, Event, Fault, Reply, Said, Tolds, Verb};
 use acap_entries::{Change, Copying, Memory, Moment, Seat, Seats, Tree, UserName};
 use acap_rights::Realm;
 use std::alloc::Global;
@@ -139,7 +139,9 @@ impl State {
         ensures fault { IfErr result (λ fault. IsFault (step_of self.now.machine seat events.Drain clock) fault) }
     {
         match self.seats.get(seat) {
-            Some(_) => Ok(Reply::new(Said::Drained)),
+            Some(_) => Ok(Reply::new(Said::Drained(Tolds::new(
+                self.realm.administrators.allocator(),
+            )))),
             None => Err(Fault::NotEntered),
         }
     }

@@ -6,8 +6,8 @@ ghost use Rattle.acap_script.specs.Lines.{Reads};
 ghost use Rattle.acap_script.specs.declared.script_line.ScriptLine.TheVariants as line;
 
 use crate::line_fault::LineFault;
-use crate::script_line::ScriptLine;
 use crate::numbers::{moment_in, nonce_in, seat_in};
+use crate::script_line::ScriptLine;
 use crate::script_word::ScriptWord;
 use crate::seat_line::SeatLine;
 use acap_entries::{NameFault, Octets, Seat, UserName};

@@ -14,10 +14,11 @@ use Rattle.std.specs.declared.cmp.Ordering.{Ordering}
 use Rattle.std.specs.declared.cmp.Ordering.TheVariants.{Less, Equal, Greater}
 use Rattle.acap_entries.proofs.FullPathLaws.{full_paths}
 use Rattle.acap_entries.proofs.NameLemmas.{closed_by_slash, closed_dropped}
+use Rattle.acap_entries.proofs.FormLemmas.{form_law}
 use Rattle.acap_entries.proofs.OwnLaws.{own_entry_law}
 use Rattle.acap_entries.proofs.StoreLemmas.{path_cmp_total, path_same}
 use Rattle.acap_entries.specs.Datasets.{makes_dataset, dataset_exists}
-use Rattle.acap_entries.specs.FullPaths.{full_path, full_path_cmp, IsWellFormed}
+use Rattle.acap_entries.specs.FullPaths.{full_path, full_path_cmp, IsSplit}
 use Rattle.acap_entries.specs.Names.{slash, is_slash, has, ends_with, own_entry, dataset_of}
 use Rattle.acap_entries.specs.Orders.{octets_cmp, octets_eq}
 use Rattle.acap_entries.specs.Sound.{IsSoundStore}
@@ -228,7 +229,7 @@ module _ (records : Stored) (sound : IsSoundStore records) where
 
   -- such an entry is the dataset's own
   owned : (p : Path) (r : Record) (made : List ℕ) → map.get records p ≡ Some r → full_path p ++ slash ∷ [] ≡ made → own_entry made ≡ Some (p.dataset, p.name)
-  owned p r made kept whole = (own_entry_law made p).1 (sound.formed p r kept, whole)
+  owned p r made kept whole = (own_entry_law made p).1 (form_law.split p (sound.formed p r kept), whole)
 
   beneath_once : (dataset : List ℕ) (depth : ℕ) → EachOnce (beneath records dataset depth)
   unfolding beneath
@@ -349,7 +350,7 @@ module _ (records : Stored) (sound : IsSoundStore records) (scope : Scope) (exis
       let behind : List ℕ = drop (length scope.dataset) p.dataset in
       let own = owned records sound p m.0.1 d m.1.0 m.1.1.1.1.1 in
       let makes : makes_dataset m.0.1 ≡ true = first_so _ _ m.1.1.1.1.0 in
-      let name : has slash p.name ≡ false = (sound.formed p m.0.1 m.1.0).name in
+      let name : has slash p.name ≡ false = (form_law.split p (sound.formed p m.0.1 m.1.0)).name in
       record {
         depth = depth;
         rest = behind ++ (p.name ++ slash ∷ []);
@@ -438,13 +439,13 @@ module _ (nothing : NothingLaw) (names : NamesLaw) (records : Stored) (realm : R
     abbrev sight : Sight
     sight = sight_of records realm user (scope_of sought)
 
-    well_formed : (p : Path) → Contains sight.paths p → IsWellFormed p
+    well_formed : (p : Path) → Contains sight.paths p → IsSplit p
     well_formed p k =
         let s = only_seen nothing names records realm user (scope_of sought) p k in
         let chain : List (List ℕ) = chain_of records p.dataset sought.no_inherit in
         let at = some_any (λ d. is_some (record_at records d p.name)) chain (sym (names.names records chain p.name) ∙ named nothing names records realm user (scope_of sought) p s.1) in
         let r = some_record (record_at records at.0 p.name) at.1 in
-        record { dataset = closed_in records sound (scope_of sought) exists p.dataset s.0; name = (sound.formed _ r.0 r.1).name }
+        record { dataset = closed_in records sound (scope_of sought) exists p.dataset s.0; name = (form_law.split _ (sound.formed _ r.0 r.1)).name }
 
     found_at : (p : Path) (m : Match) → tuple_of sight sought p ≡ Some m → (m.path ≡ p) × (m.row.name ≡ name_told sought.depth p)
     found_at p m e =

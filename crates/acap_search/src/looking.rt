@@ -8,7 +8,7 @@ ghost use Rattle.acap_search.specs.Views.{answers_of, is_readable_at, rights_in}
 
 use crate::spot::Spot;
 use crate::viewer::Viewer;
-use acap_entries::{Cell, Record, Records, stamp};
+use acap_entries::{Cell, EntryName, Record, Records, stamp};
 use acap_inherit::{Found, Lent, resolve};
 use acap_rights::{Object, Rights, rights_of};
 
@@ -101,10 +101,11 @@ fn look_far<'a, R: Records>(spot: &Spot<'a, R>, attribute: &[u8]) -> Shown<'a>
     ensures is_readable { result.is_readable ≡ is_readable_at spot.now attribute.now }
 {
     let by = spot.by;
-    let rights = rights_on(by, by.dataset.as_slice(), attribute, spot.name);
-    match resolve(by.records, &by.chain, spot.name, attribute) {
+    let name = spot.name.as_slice();
+    let rights = rights_on(by, by.dataset.as_slice(), attribute, name);
+    match resolve(by.records, &by.chain, name, attribute) {
         Found::At { dataset, value } => {
-            let there = rights_there(by, rights, dataset, attribute, spot.name);
+            let there = rights_there(by, rights, dataset, attribute, name);
             Shown {
                 value: Some(value),
                 is_testable: may_test(rights) && may_test(there),
@@ -133,12 +134,12 @@ fn lent(cell: &Cell) -> Option<Lent<'_>>
 }
 
 // What a record has for an attribute, where nothing is inherited.
-fn own_value<'a>(entry: &'a Record, name: &'a [u8], attribute: &[u8]) -> Option<Lent<'a>>
+fn own_value<'a>(entry: &'a Record, name: &'a EntryName, attribute: &[u8]) -> Option<Lent<'a>>
     ensures { shown.cell_of result ≡ near.own_value entry.now name.now attribute.now }
 {
     if attribute == b"entry".as_slice() {
         return if entry.present {
-            Some(Lent::Single(name))
+            Some(Lent::Single(name.as_slice()))
         } else {
             None
         };

@@ -10,7 +10,7 @@ use crate::looking::{is_nil, look};
 use crate::spot::Spot;
 use crate::viewer::Viewer;
 use acap_commands::{Key, Node, Relation, Test};
-use acap_entries::{Records, Value};
+use acap_entries::{EntryName, Records, Value};
 use acap_inherit::Lent;
 use acap_order::{Collation, Comparator};
 
@@ -124,7 +124,7 @@ pub(crate) fn wants<R: Records>(spot: &Spot<'_, R>, key: &Key, place: Option<u32
 /// the context that is searched, and none over a dataset; RANGE asks for it, and is false where there is none. Takes no memory.
 pub fn matches<'a, R: Records>(
     by: &Viewer<'a, R>,
-    name: &'a [u8],
+    name: &'a EntryName,
     key: &Key,
     place: Option<u32>,
 ) -> bool

@@ -1,11 +1,8 @@
 //! Which datasets a search reaches.
-ghost use Rattle.std.specs.Prelude.{◌≡◌, ◌++◌, ◌∷◌, [], IfOk, drop};
-ghost use Rattle.acap_entries.specs.FullPaths.{full_path};
-ghost use Rattle.acap_entries.specs.Names.{slash};
+ghost use Rattle.std.specs.Prelude.{◌≡◌, IfOk, drop};
 ghost use Rattle.acap_search.specs.Scopes as scopes;
 
-use acap_entries::{Dataset, Memory, NameFault, Path, Record, makes_dataset};
-use std::alloc::Global;
+use acap_entries::{Dataset, Memory, Path, Record, makes_dataset};
 
 // How many levels some octets go down.
 fn levels(octets: &[u8]) -> usize
@@ -32,20 +29,6 @@ fn is_reached(depth: u32, level: usize) -> bool
     depth == 0 || level < depth as usize - 1
 }
 
-// The dataset that a path with a closing `/` names.
-fn dataset_at(alloc: Global, path: &Path) -> Result<Dataset, Memory>
-    ensures { IfOk result (λ made. made ≡ full_path path.now ++ slash ∷ []) }
-{
-    let mut octets = Vec::from_slice(alloc, path.dataset.as_slice())?;
-    octets.extend_from_slice(path.name.as_slice())?;
-    octets.push(b'/')?;
-    match Dataset::from_slice(alloc, octets.as_slice()) {
-        Ok(dataset) => Ok(dataset),
-        Err(NameFault::Memory) => Err(Memory),
-        Err(NameFault::BadName) => unreachable!(),
-    }
-}
-
 // Whether that is the name of one component.
 fn is_component_name(name: &[u8]) -> bool
     ensures { result ≡ scopes.is_component_name name.now }
@@ -54,11 +37,11 @@ fn is_component_name(name: &[u8]) -> bool
 }
 
 // The dataset that an entry makes, if it makes one.
-fn made_by(alloc: Global, path: &Path, entry: &Record) -> Result<Option<Dataset>, Memory>
+fn made_by(path: &Path, entry: &Record) -> Result<Option<Dataset>, Memory>
     ensures { IfOk result (λ made. made ≡ scopes.made_by (path.now, entry.now)) }
 {
     if makes_dataset(entry) && is_component_name(path.name.as_slice()) {
-        Ok(Some(dataset_at(alloc, path)?))
+        Ok(Some(path.dataset.beneath(&path.name)?))
     } else {
         Ok(None)
     }
@@ -66,7 +49,6 @@ fn made_by(alloc: Global, path: &Path, entry: &Record) -> Result<Option<Dataset>
 
 /// The dataset that an entry beneath the searched one makes, if it is reached. Fails only for want of memory.
 pub(crate) fn reached_by(
-    alloc: Global,
     dataset: &Dataset,
     depth: u32,
     path: &Path,
@@ -76,7 +58,7 @@ pub(crate) fn reached_by(
 {
     let further = behind(path.dataset.as_slice(), dataset.as_slice().len());
     if is_reached(depth, levels(further)) {
-        made_by(alloc, path, entry)
+        made_by(path, entry)
     } else {
         Ok(None)
     }

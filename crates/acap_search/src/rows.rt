@@ -63,7 +63,7 @@ fn acl_of<R: Records>(spot: &Spot<'_, R>, attribute: &[u8]) -> Result<Cell, Memo
     ensures { IfOk result (λ cell. cell ≡ rule.list_cell (acl_at spot.now attribute.now)) }
 {
     let by = spot.by;
-    match by.records.find(by.dataset.as_slice(), spot.name) {
+    match by.records.find(by.dataset.as_slice(), spot.name.as_slice()) {
         Some(record) => match record.acls.find(attribute) {
             Some(list) => Ok(Cell::Multi(list.copy()?)),
             None => Ok(Cell::Nil),
@@ -161,7 +161,7 @@ fn add_record_stars<R: Records>(
     ensures { OnOk result (stars.new ≡ stars_by spot.now front.now dataset.now stars.old) }
 {
     let by = spot.by;
-    match by.records.find(dataset, spot.name) {
+    match by.records.find(dataset, spot.name.as_slice()) {
         Some(record) => add_stars(alloc, spot, front, &record.cells, stars),
         None => Ok(()),
     }

@@ -65,7 +65,7 @@ fn add_own<'a: 'b, 'b>(
     for (path, entry) in entries {
         let spot = Spot {
             by,
-            name: path.name.as_slice(),
+            name: &path.name,
             entry: Some(entry),
             rights,
         };
@@ -96,7 +96,7 @@ fn add_far<'a>(
     let own = Front::of(by.records, by.dataset.as_slice());
     let base = Front::of(by.records, base_of(&by.chain));
     for name in names_on(by.records, &by.chain) {
-        let near = Near::new(by.records, own, base, name);
+        let near = Near::new(by.records, own, base, name.as_slice());
         let nearer = Viewer {
             records: &near,
             realm: by.realm,
@@ -154,7 +154,7 @@ fn add_beneath<'a>(
     }
     let sought = search.sought;
     for (path, entry) in search.tree.entries_beneath(&sought.dataset) {
-        if let Some(dataset) = reached_by(alloc, &sought.dataset, depth, path, entry)? {
+        if let Some(dataset) = reached_by(&sought.dataset, depth, path, entry)? {
             add_in(alloc, search, &dataset, found)?;
         }
     }

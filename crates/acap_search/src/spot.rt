@@ -1,7 +1,7 @@
 //! An entry that is looked at.
 
 use crate::viewer::Viewer;
-use acap_entries::{Record, Records};
+use acap_entries::{EntryName, Record, Records};
 use acap_rights::Rights;
 use std::marker::Model;
 
@@ -12,7 +12,7 @@ pub(crate) struct Spot<'a, R: Records> {
     /// Who looks, and from where.
     pub(crate) by: &'a Viewer<'a, R>,
     /// The entry's name.
-    pub(crate) name: &'a [u8],
+    pub(crate) name: &'a EntryName,
     /// Its record, where it is at hand.
     pub(crate) entry: Option<&'a Record>,
     /// The rights on each attribute that the record has no list for, where it is at hand.
@@ -38,7 +38,7 @@ impl<'a, R: Records> Spot<'a, R> {
     ghost use Rattle.acap_search.specs.Views.{spotted};
 
     /// An entry of which nothing is at hand.
-    pub(crate) fn far(by: &'a Viewer<'a, R>, name: &'a [u8]) -> Spot<'a, R>
+    pub(crate) fn far(by: &'a Viewer<'a, R>, name: &'a EntryName) -> Spot<'a, R>
         ensures { result ≡ spotted by.now name.now }
     {
         Spot {

@@ -27,13 +27,14 @@ fn name_told<R: Records>(
 ) -> Result<Value, Memory>
     ensures { IfOk result (λ told. told ≡ (match_at sought.now spot.now).row.name) }
 {
+    let name = spot.name.as_slice();
     if sought.depth.is_none() {
-        return Value::from_slice(alloc, spot.name);
+        return Value::from_slice(alloc, name);
     }
     let by = spot.by;
-    let mut full = Vec::with_capacity(alloc, by.dataset.as_slice().len() + spot.name.len())?;
+    let mut full = Vec::with_capacity(alloc, by.dataset.as_slice().len() + name.len())?;
     full.extend_from_slice(by.dataset.as_slice())?;
-    full.extend_from_slice(spot.name)?;
+    full.extend_from_slice(name)?;
     Ok(Value::new(Octets::from_vec(full)))
 }
 
@@ -75,7 +76,7 @@ fn lying_at<'p, R: Records>(
     }
     let by = spot.by;
     let dataset = by.dataset.copy()?;
-    let name = EntryName::from_slice(alloc, spot.name)?;
+    let name = spot.name.copy()?;
     Ok(Lying::Made(Boxed::new(alloc, Path { dataset, name })?))
 }
 
@@ -114,7 +115,7 @@ pub(crate) fn finding_at<'p, R: Records>(
 pub fn row_of<'a, R: Records>(
     alloc: Global,
     by: &Viewer<'a, R>,
-    name: &'a [u8],
+    name: &'a EntryName,
     sought: &Sought,
     place: Option<u32>,
 ) -> Result<Option<Hit>, Memory>

@@ -18,7 +18,7 @@ use Rattle.acap_grammar.specs.Grammar.{arguments_at, command_of}
 use Rattle.acap_grammar.specs.Marks.{ends, string_at, word_at}
 use Rattle.acap_commands.specs.Statuses.{status_of}
 use Rattle.acap_grammar.specs.Refusals.{code_of, text_of}
-use Rattle.acap_grammar.specs.Replies.{challenge_form, crlf, deleted_form, deleted_names_form, done_form, done_of, found_form, last_form, refused_form, rights_form, rights_list_form, rows_form, good_bye_form, said_form, searched_form, spaced, status_form, octets_of, tag_of as spelled_tag, total_form}
+use Rattle.acap_grammar.specs.Replies.{challenge_form, crlf, deleted_form, deleted_names_form, done_form, done_of, found_form, last_form, refused_form, rights_form, rights_list_form, rows_form, good_bye_form, said_form, searched_form, spaced, status_form, tolds_form, updated_form, octets_of, tag_of as spelled_tag, total_form}
 use Rattle.acap_commands.specs.declared.refusal.Refusal.{Refusal}
 use Rattle.acap_commands.specs.declared.reply.Reply.{Reply}
 use Rattle.acap_commands.specs.declared.said.Said.{Said}
@@ -108,10 +108,11 @@ refused_ends tag refusal status.Bad e g =
 refused_ends tag refusal status.Bye e g = cc
 
 form_by : (tag : Option (List ℕ)) (words : Said) → completes words ≡ true → EndsIn (record { tag = tag; said = words })
-unfolding octets_of said_form found_form deleted_form rights_form rights_list_form good_bye_form
+unfolding octets_of said_form updated_form found_form deleted_form rights_form rights_list_form good_bye_form
 form_by tag said.Greeting e = cc
 form_by tag said.Left e = cc
-form_by tag said.Drained e = cc
+form_by tag (said.Drained tolds) e = cc
+form_by tag (said.Updated tolds) e = behind (record { tag = tag; said = said.Updated tolds }) (tolds_form tolds) verb.UpdateContext refl refl
 form_by tag (said.Done verb) e = behind (record { tag = tag; said = said.Done verb }) [] verb refl refl
 form_by tag (said.Searched found) e = found_ends tag found found.total refl
 form_by tag (said.Deleted names) e = behind (record { tag = tag; said = said.Deleted names }) (deleted_names_form (spelled_tag tag) names) verb.DeletedSince refl refl

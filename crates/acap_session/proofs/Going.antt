@@ -1,6 +1,6 @@
 -- What is next completes the command in hand, or the machine is asked for its answer.
 use Rattle.std.proofs.Common.{◌≡◌, inl, inr, ℕ, ℤ, Bool, true, false, if◌then◌else◌, List, [], ◌∷◌, ◌++◌, Option, Some, None, Result, Ok, Err, refl, sym, ap, subst, ◌∙◌}
-use Rattle.std.specs.Prelude.{codes, IsSome, is_some, option_map}
+use Rattle.std.specs.Prelude.{codes, IsSome, is_some, map, option_map}
 use Rattle.std.specs.Str.{bytes_eq, str_eq_ignore_ascii_case, is_utf8, chars}
 use Rattle.std.specs.Char.{encode_utf8}
 use Rattle.std.proofs.lemmas.List.{append-nil}
@@ -34,7 +34,7 @@ use Rattle.acap_machine.specs.Seats.{seated_as}
 use Rattle.acap_commands.specs.declared.event.Event.{Event}
 use Rattle.acap_commands.specs.declared.event.Event.TheVariants as event
 use Rattle.acap_machine.specs.declared.occupant.Occupant.{Occupant}
-use Rattle.acap_session.specs.Completing.{called_wrong, called, called_at, completed_by, going_on, farewell, IsLeft, IsEnd, AreCompleted}
+use Rattle.acap_session.specs.Completing.{Call, plain_call, login_call, is_login, called_wrong, called, called_at, completed_by, going_on, farewell, IsLeft, IsEnd, AreCompleted}
 use Rattle.acap_dialogue.specs.Listening.{Listening}
 use Rattle.acap_dialogue.specs.Hearing.{challenged, refuses, heard, heard_line, heard_command, heard_answer, answer_line, answer_token, asks, authenticated, logs_in, mechanism_name, opening, ready_line, refusal_of, tag_of, who}
 use Rattle.acap_dialogue.specs.Session.{listening, next_at, drain_at, drain_for}
@@ -68,7 +68,7 @@ at_open (stage.LoggingIn tag name) user seated o e = o
 at_open stage.Draining user seated o e = o
 at_open stage.Closed user seated o e = absurd o
 
-pub left_open : (fatal : Option LexFault) (x : Stage) (user : Option (List ℕ)) (left : List (Option (List ℕ))) → IsOpen x user → left ≡ going_on x → IsLeft fatal x left
+pub left_open : (fatal : Option LexFault) (x : Stage) (user : Option (List ℕ)) (left : List Call) → IsOpen x user → left ≡ going_on x → IsLeft fatal x left
 left_open fatal stage.Ready user left o e = e
 left_open fatal (stage.Challenged tag challenge) user left o e = e
 left_open fatal stage.Opening user left o e = e
@@ -81,14 +81,14 @@ left_open fatal stage.Closed user left o e = absurd o
 -- ---- what is next, of commands in hand
 
 -- the machine is asked by who may ask it
-abbrev pub Asks : List (Option (List ℕ)) → Option (List ℕ) → Option Occupant → Event → Stage → Type 0
-Asks b user seated e (stage.Asked tag) = (b ≡ (tag ∷ [])) × ((name : List ℕ) × (user ≡ Some name) × (seated ≡ Some (seated_as name))) × ((c : Command) × (e ≡ event.Command c))
-Asks b user seated e (stage.LoggingIn tag name) = (b ≡ (tag ∷ [])) × (user ≡ None) × (seated ≡ None) × (e ≡ event.Enter name)
+abbrev pub Asks : List Call → Option (List ℕ) → Option Occupant → Event → Stage → Type 0
+Asks b user seated e (stage.Asked tag) = (map (λ c. c.tag) b ≡ tag ∷ []) × ((name : List ℕ) × (user ≡ Some name) × (seated ≡ Some (seated_as name))) × ((c : Command) × (e ≡ event.Command c))
+Asks b user seated e (stage.LoggingIn tag name) = (map (λ c. c.tag) b ≡ tag ∷ []) × (user ≡ None) × (seated ≡ None) × (e ≡ event.Enter name)
 Asks b user seated e stage.Entering = (b ≡ []) × ((name : List ℕ) × (user ≡ Some name) × (seated ≡ None) × (e ≡ event.Enter name))
 Asks b user seated e stage.Draining = (b ≡ []) × ((name : List ℕ) × (user ≡ Some name) × (seated ≡ Some (seated_as name))) × (e ≡ event.Drain)
 Asks b user seated e other = ⊥
 
-abbrev pub Goes : List (Option (List ℕ)) → Option (List ℕ) → Option Occupant → Option LexFault → Next → Stage → Type 0
+abbrev pub Goes : List Call → Option (List ℕ) → Option Occupant → Option LexFault → Next → Stage → Type 0
 Goes b user seated fatal next.More x = IsOpen x user × (b ≡ going_on x) × (seated ≡ option_map seated_as user)
 Goes b user seated fatal (next.Say octets) x = IsOpen x user × AreCompleted b octets fatal x × (seated ≡ option_map seated_as user)
 Goes b user seated fatal (next.Ask e) x = Asks b user seated e x
@@ -109,21 +109,21 @@ just : (xs : List ℕ) → xs ≡ (xs ++ []) ++ []
 just xs = sym (append-nil xs) ∙ sym (append-nil (xs ++ []))
 
 -- one reply, which completes the command in hand
-pub one : (b : List (Option (List ℕ))) (r : Reply) (fatal : Option LexFault) (x : Stage) → b ≡ completed_by r → IsLeft fatal x [] → AreCompleted b (octets_of r) fatal x
+pub one : (b : List Call) (r : Reply) (fatal : Option LexFault) (x : Stage) → map (λ c. c.tag) b ≡ completed_by r → IsLeft fatal x [] → AreCompleted b (octets_of r) fatal x
 one b r fatal x e left =
-    record { replies = r ∷ []; left = []; end = []; said_is = just (octets_of r); in_order = e ∙ sym (append-nil (completed_by r)) ∙ sym (append-nil (completed_by r ++ [])); left_is = left; end_is = no_end fatal x }
+    record { replies = r ∷ []; done = b; left = []; end = []; said_is = just (octets_of r); all_are = sym (append-nil b); in_order = e ∙ sym (append-nil (completed_by r)); left_is = left; end_is = no_end fatal x }
 
 -- one reply, which completes none
-pub waits : (b : List (Option (List ℕ))) (r : Reply) (fatal : Option LexFault) (x : Stage) → completed_by r ≡ [] → IsLeft fatal x b → AreCompleted b (octets_of r) fatal x
+pub waits : (b : List Call) (r : Reply) (fatal : Option LexFault) (x : Stage) → completed_by r ≡ [] → IsLeft fatal x b → AreCompleted b (octets_of r) fatal x
 waits b r fatal x e left =
-    record { replies = r ∷ []; left = b; end = []; said_is = just (octets_of r); in_order = sym (ap (λ xs. (xs ++ []) ++ b) e); left_is = left; end_is = no_end fatal x }
+    record { replies = r ∷ []; done = []; left = b; end = []; said_is = just (octets_of r); all_are = refl; in_order = sym (ap (λ xs. xs ++ []) e); left_is = left; end_is = no_end fatal x }
 
-pub silent : (b : List (Option (List ℕ))) (fatal : Option LexFault) (x : Stage) → IsLeft fatal x b → AreCompleted b [] fatal x
-silent b fatal x left = record { replies = []; left = b; end = []; said_is = refl; in_order = refl; left_is = left; end_is = no_end fatal x }
+pub silent : (b : List Call) (fatal : Option LexFault) (x : Stage) → IsLeft fatal x b → AreCompleted b [] fatal x
+silent b fatal x left = record { replies = []; done = []; left = b; end = []; said_is = refl; all_are = refl; in_order = refl; left_is = left; end_is = no_end fatal x }
 
 -- the last words of a session whose input is too long
-ending : (b : List (Option (List ℕ))) (f : LexFault) (fatal : Option LexFault) → fatal ≡ Some f → IsLeft fatal stage.Closed b → AreCompleted b (farewell f) fatal stage.Closed
-ending b f fatal e left = record { replies = []; left = b; end = farewell f; said_is = refl; in_order = refl; left_is = left; end_is = inr (f, e, refl) }
+ending : (b : List Call) (f : LexFault) (fatal : Option LexFault) → fatal ≡ Some f → IsLeft fatal stage.Closed b → AreCompleted b (farewell f) fatal stage.Closed
+ending b f fatal e left = record { replies = []; done = []; left = b; end = farewell f; said_is = refl; all_are = refl; in_order = refl; left_is = left; end_is = inr (f, e, refl) }
 
 -- ---- a command is heard
 
@@ -131,7 +131,7 @@ ready_octets : ready_line ≡ octets_of (record { tag = None; said = said.Challe
 unfolding octets_of said_form challenge_form printed quoted may_quote is_printable is_escaped is_utf8 chars encode_utf8
 ready_octets = refl
 
-pub continues : (b : List (Option (List ℕ))) (fatal : Option LexFault) (x : Stage) → IsLeft fatal x b → AreCompleted b ready_line fatal x
+pub continues : (b : List Call) (fatal : Option LexFault) (x : Stage) → IsLeft fatal x b → AreCompleted b ready_line fatal x
 continues b fatal x left = subst (λ o. AreCompleted b o fatal x) (sym ready_octets) (waits b (record { tag = None; said = said.Challenge (codes "Ready") }) fatal x refl left)
 
 grammar_completes : (f : GrammarFault) → completes (said.Refused (of_grammar f)) ≡ true
@@ -144,7 +144,7 @@ grammar_completes fault.BadComparator = refl
 grammar_completes fault.TooDeep = refl
 grammar_completes fault.TooMany = refl
 
-wrong_completes : (f : LexFault) (tag : Option (List ℕ)) → called_wrong f tag ≡ completed_by (record { tag = tag; said = said.Refused (of_lexical f) })
+wrong_completes : (f : LexFault) (tag : Option (List ℕ)) → map (λ c. c.tag) (called_wrong f tag) ≡ completed_by (record { tag = tag; said = said.Refused (of_lexical f) })
 wrong_completes lexical.BadTag tag = refl
 wrong_completes lexical.BadToken tag = refl
 wrong_completes lexical.BadLiteral tag = refl
@@ -155,28 +155,28 @@ pub ended : (tag : Option (List ℕ)) (r : Reply) (s : Bool) → s ≡ true → 
 ended tag r s e = sym (ap (λ b. if b then (tag ∷ []) else []) e)
 
 -- by the user, and who has the seat
-abbrev GoesTo : List (Option (List ℕ)) → Option (List ℕ) → Option Occupant → Option LexFault → Next × Stage → Type 0
+abbrev GoesTo : List Call → Option (List ℕ) → Option Occupant → Option LexFault → Next × Stage → Type 0
 GoesTo b user seated fatal x = Goes b user seated fatal x.0 x.1
 
-if_goes : (b : List (Option (List ℕ))) (user : Option (List ℕ)) (seated : Option Occupant) (fatal : Option LexFault) (c : Bool) (x y : Next × Stage) →
+if_goes : (b : List Call) (user : Option (List ℕ)) (seated : Option Occupant) (fatal : Option LexFault) (c : Bool) (x y : Next × Stage) →
     GoesTo b user seated fatal x → GoesTo b user seated fatal y → GoesTo b user seated fatal (if c then x else y)
 if_goes b user seated fatal true x y p q = p
 if_goes b user seated fatal false x y p q = q
 
 authenticated_goes : (l : Listening) (tag : Option (List ℕ)) (m : List ℕ) (seated : Option Occupant) (fatal : Option LexFault) →
-    seated ≡ option_map seated_as l.user → GoesTo (tag ∷ []) l.user seated fatal (authenticated l tag m)
-authenticated_goes l tag m seated fatal e = elim l.user as (λ u. l.user ≡ u → GoesTo (tag ∷ []) l.user seated fatal (if is_some u then refuses tag refusals.LoggedIn else challenged l tag m)) [
-  | None ↦ λ none. if_goes (tag ∷ []) l.user seated fatal (str_eq_ignore_ascii_case m mechanism_name) _ _ (none, waits _ _ fatal _ refl refl, e) (tt, one _ _ fatal stage.Ready refl refl, e)
+    seated ≡ option_map seated_as l.user → GoesTo (login_call tag ∷ []) l.user seated fatal (authenticated l tag m)
+authenticated_goes l tag m seated fatal e = elim l.user as (λ u. l.user ≡ u → GoesTo (login_call tag ∷ []) l.user seated fatal (if is_some u then refuses tag refusals.LoggedIn else challenged l tag m)) [
+  | None ↦ λ none. if_goes (login_call tag ∷ []) l.user seated fatal (str_eq_ignore_ascii_case m mechanism_name) _ _ (none, waits _ _ fatal _ refl refl, e) (tt, one _ _ fatal stage.Ready refl refl, e)
   | Some user ↦ λ some. (tt, one _ _ fatal stage.Ready refl refl, e)
 ] refl
 
 asks_goes : (user tag : Option (List ℕ)) (c : Command) (seated : Option Occupant) (fatal : Option LexFault) →
-    seated ≡ option_map seated_as user → GoesTo (tag ∷ []) user seated fatal (asks user tag c)
+    seated ≡ option_map seated_as user → GoesTo (plain_call tag ∷ []) user seated fatal (asks user tag c)
 asks_goes None tag c seated fatal e = (tt, one _ _ fatal stage.Ready refl refl, e)
 asks_goes (Some user) tag c seated fatal e = (refl, (user, refl, e), (c, refl))
 
 command_goes : (l : Listening) (tag : Option (List ℕ)) (c : Command) (seated : Option Occupant) (fatal : Option LexFault) →
-    seated ≡ option_map seated_as l.user → GoesTo (tag ∷ []) l.user seated fatal (heard_command l tag c)
+    seated ≡ option_map seated_as l.user → GoesTo (record { tag = tag; is_login = is_login (Ok c) } ∷ []) l.user seated fatal (heard_command l tag c)
 unfolding heard_command
 command_goes l tag command.Noop seated fatal e = (tt, one _ _ fatal stage.Ready refl refl, e)
 command_goes l tag command.Logout seated fatal e = (refl, one _ _ fatal stage.Closed refl (inl refl))
@@ -192,7 +192,7 @@ command_goes l tag (command.FreeContext name) seated fatal e = asks_goes l.user 
 command_goes l tag (command.UpdateContext names) seated fatal e = asks_goes l.user tag (command.UpdateContext names) seated fatal e
 
 line_goes : (l : Listening) (tag : Option (List ℕ)) (r : Result Command GrammarFault) (seated : Option Occupant) (fatal : Option LexFault) →
-    seated ≡ option_map seated_as l.user → GoesTo (tag ∷ []) l.user seated fatal (heard_line l tag r)
+    seated ≡ option_map seated_as l.user → GoesTo (record { tag = tag; is_login = is_login r } ∷ []) l.user seated fatal (heard_line l tag r)
 line_goes l tag (Ok c) seated fatal e = command_goes l tag c seated fatal e
 line_goes l tag (Err f) seated fatal e =
     let r : Reply = record { tag = tag; said = said.Refused (of_grammar f) } in
@@ -214,7 +214,7 @@ nobody : (seated : Option Occupant) (user : Option (List ℕ)) → user ≡ None
 nobody seated user p e = e ∙ sym (ap (option_map seated_as) p)
 
 logs_goes : (user : Option (List ℕ)) (tag : Option (List ℕ)) (name : Option (List ℕ)) (seated : Option Occupant) (fatal : Option LexFault) →
-    user ≡ None → seated ≡ None → GoesTo (tag ∷ []) user seated fatal (logs_in tag name)
+    user ≡ None → seated ≡ None → GoesTo (login_call tag ∷ []) user seated fatal (logs_in tag name)
 logs_goes user tag None seated fatal p e = (tt, one _ _ fatal stage.Ready refl refl, nobody seated user p e)
 logs_goes user tag (Some name) seated fatal p e = (refl, p, e, refl)
 
@@ -223,7 +223,7 @@ word_completes true tag = refl
 word_completes false tag = refl
 
 token_goes : (users : List User) (user tag : Option (List ℕ)) (challenge : List ℕ) (k : Kind) (text : List ℕ) (seated : Option Occupant) (fatal : Option LexFault) →
-    user ≡ None → seated ≡ None → GoesTo (tag ∷ []) user seated fatal (answer_token users tag challenge k text)
+    user ≡ None → seated ≡ None → GoesTo (login_call tag ∷ []) user seated fatal (answer_token users tag challenge k text)
 token_goes users user tag challenge kind.Quoted text seated fatal p e = logs_goes user tag (who users challenge text) seated fatal p e
 token_goes users user tag challenge kind.Literal text seated fatal p e = logs_goes user tag (who users challenge text) seated fatal p e
 token_goes users user tag challenge kind.Word text seated fatal p e =
@@ -233,20 +233,20 @@ token_goes users user tag challenge kind.Open text seated fatal p e = (tt, one _
 token_goes users user tag challenge kind.Close text seated fatal p e = (tt, one _ _ fatal stage.Ready refl refl, nobody seated user p e)
 
 answer_goes : (users : List User) (user tag : Option (List ℕ)) (challenge : List ℕ) (tokens : List Token) (seated : Option Occupant) (fatal : Option LexFault) →
-    user ≡ None → seated ≡ None → GoesTo (tag ∷ []) user seated fatal (answer_line users tag challenge tokens)
+    user ≡ None → seated ≡ None → GoesTo (login_call tag ∷ []) user seated fatal (answer_line users tag challenge tokens)
 answer_goes users user tag challenge [] seated fatal p e = (tt, one _ _ fatal stage.Ready refl refl, nobody seated user p e)
 answer_goes users user tag challenge (token ∷ []) seated fatal p e = token_goes users user tag challenge token.kind token.value seated fatal p e
 answer_goes users user tag challenge (token ∷ other ∷ tokens) seated fatal p e = (tt, one _ _ fatal stage.Ready refl refl, nobody seated user p e)
 
 challenged_goes : (users : List User) (user tag : Option (List ℕ)) (challenge : List ℕ) (x : Lexed) (seated : Option Occupant) (fatal : Option LexFault) →
-    ((f : LexFault) → x ≡ lexed.Fatal f → fatal ≡ Some f) → user ≡ None → seated ≡ None → GoesTo (tag ∷ []) user seated fatal (heard_answer users tag challenge x)
+    ((f : LexFault) → x ≡ lexed.Fatal f → fatal ≡ Some f) → user ≡ None → seated ≡ None → GoesTo (login_call tag ∷ []) user seated fatal (heard_answer users tag challenge x)
 unfolding heard_answer
 challenged_goes users user tag challenge lexed.More seated fatal f p e = (p, refl, nobody seated user p e)
 challenged_goes users user tag challenge lexed.Plus seated fatal f p e = (p, continues _ fatal _ refl, nobody seated user p e)
 challenged_goes users user tag challenge (lexed.Line tokens) seated fatal f p e = answer_goes users user tag challenge tokens seated fatal p e
 challenged_goes users user tag challenge (lexed.Bad g other) seated fatal f p e = (tt, one _ _ fatal stage.Ready refl refl, nobody seated user p e)
 challenged_goes users user tag challenge (lexed.Fatal g) seated fatal f p e =
-    (refl, ending (tag ∷ []) g fatal (f g refl) (inr (subst (λ (o : Option LexFault). IsSome o) (sym (f g refl)) refl, (tag, refl))))
+    (refl, ending (login_call tag ∷ []) g fatal (f g refl) (inr (subst (λ (o : Option LexFault). IsSome o) (sym (f g refl)) refl, (tag, refl))))
 
 -- a fatal fault is kept
 fatal_by : (m : Mode) (h : Held) (o : Option LexFault) (f : LexFault) → h.fatal ≡ o → (next_of m h).0 ≡ lexed.Fatal f → (next_of m h).1.fatal ≡ Some f
@@ -265,7 +265,7 @@ pub next_goes : (users : List User) (nonce : ℕ) (clock : ℤ) (x : Stage) (t :
 next_goes users nonce clock stage.Ready t seated e o = heard_goes (listening t nonce clock) (next_of mode.Command t.held).0 seated _ (λ f k. fatal_by mode.Command t.held t.held.fatal f refl k) e
 next_goes users nonce clock (stage.Challenged tag challenge) t seated e o =
     subst (λ b. Goes b t.user seated (next_of mode.Answer t.held).1.fatal (heard_answer users tag challenge (next_of mode.Answer t.held).0).0 (heard_answer users tag challenge (next_of mode.Answer t.held).0).1)
-    (sym (append-nil (tag ∷ [])))
+    (sym (append-nil (login_call tag ∷ [])))
     (challenged_goes users t.user tag challenge (next_of mode.Answer t.held).0 seated (next_of mode.Answer t.held).1.fatal (λ f k. fatal_by mode.Answer t.held t.held.fatal f refl k) e.0 e.1)
 next_goes users nonce clock stage.Opening t seated e o = absurd e
 next_goes users nonce clock stage.Entering t seated e o = absurd e
@@ -287,7 +287,7 @@ drain_by (Some user) t seated u s e = (refl, (user, u, e), refl)
 pub drain_goes : (x : Stage) (t : Talking) (seated : Option Occupant) → t.stage ≡ x → At x t.user seated → (x ≡ stage.Closed → ⊥) →
     Goes (going_on x) (drain_at x t).1.user seated (drain_at x t).1.held.fatal (drain_at x t).0 (drain_at x t).1.stage
 drain_goes stage.Ready t seated s e o = drain_by t.user t seated refl s e
-drain_goes (stage.Challenged tag challenge) t seated s e o = subst (λ k. Goes (tag ∷ []) t.user seated t.held.fatal next.More k) (sym s) (e.0, refl, nobody seated t.user e.0 e.1)
+drain_goes (stage.Challenged tag challenge) t seated s e o = subst (λ k. Goes (login_call tag ∷ []) t.user seated t.held.fatal next.More k) (sym s) (e.0, refl, nobody seated t.user e.0 e.1)
 drain_goes stage.Opening t seated s e o = absurd e
 drain_goes stage.Entering t seated s e o = absurd e
 drain_goes (stage.Asked tag) t seated s e o = absurd e

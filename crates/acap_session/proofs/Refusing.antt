@@ -232,7 +232,7 @@ nothing_held = refl
 
 welcomed_quiet : (user : List ℕ) → IsQuiet [] (welcomed user None)
 unfolding answered session_next heard
-welcomed_quiet user = ap (λ x. (heard (codes "localhost") (Some user) 0 (pos 0) x).0) nothing_held
+welcomed_quiet user = ap (λ x. (heard (record { host = codes "localhost"; user = Some user; nonce = 0; clock = pos 0 }) x).0) nothing_held
 
 entered_quiet : (user : List ℕ) → IsQuiet [] (entered user)
 entered_quiet user = subst (IsQuiet []) (sym (entered_is user)) (welcomed_quiet user)

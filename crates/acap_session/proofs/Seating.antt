@@ -25,7 +25,7 @@ use Rattle.acap_commands.specs.declared.fault.Fault.TheVariants as fault
 use Rattle.acap_machine.specs.declared.occupant.Occupant.{Occupant}
 use Rattle.acap_machine.proofs.Completing.{completing}
 use Rattle.acap_machine.proofs.StepLaws.{others}
-use Rattle.acap_session.specs.Completing.{completed_by, AreCompleted}
+use Rattle.acap_session.specs.Completing.{Call, completed_by, AreCompleted}
 use Rattle.acap_dialogue.specs.Session.{answered, answer_said, answer_user, comes_to, has_seat, has_seat_at}
 use Rattle.acap_dialogue.specs.Talking.{Talking}
 use Rattle.acap_session.specs.Turning.{Scene, left_by, performed, shown, turn_by}
@@ -112,12 +112,12 @@ asks_command true m o c name e = inl refl
 asks_command false m o c name e = inr (command_by m o c name (table.get m.seats o.seat) refl e)
 
 drain_by : (m : Machine) (o : Occasion) (name : List ℕ) (x : Option Occupant) → table.get m.seats o.seat ≡ x → x ≡ Some (seated_as name) →
-    Answers m o.seat name (λ r. r.said ≡ said.Drained) (by_user x (λ user. (plain said.Drained, m)))
+    Answers m o.seat name (λ r. r.said ≡ said.Drained []) (by_user x (λ user. (plain (said.Drained []), m)))
 drain_by m o name None e f = absurd cc
-drain_by m o name (Some x) e f = record { reply = plain said.Drained; new = m; is = refl; fits = refl; has = e ∙ f }
+drain_by m o name (Some x) e f = record { reply = plain (said.Drained []); new = m; is = refl; fits = refl; has = e ∙ f }
 
 asks_drain : (refused : Bool) (m : Machine) (o : Occasion) (name : List ℕ) → table.get m.seats o.seat ≡ Some (seated_as name) →
-    MayAnswer m o.seat name (λ r. r.said ≡ said.Drained) (performed refused m o event.Drain)
+    MayAnswer m o.seat name (λ r. r.said ≡ said.Drained []) (performed refused m o event.Drain)
 asks_drain true m o name e = inl refl
 asks_drain false m o name e = inr (drain_by m o name (table.get m.seats o.seat) refl e)
 
@@ -133,23 +133,23 @@ asks_entry false m o name e = inr (enter_by m o.seat name (table.get m.seats o.s
 -- ---- what the session makes of it
 
 -- how a session stands at its seat then, and what it said of commands in hand
-pub record Made (b : List (Option (List ℕ))) (seat : ℕ) (out : List ℕ) (new : Scene) : Type 0 where
+pub record Made (b : List Call) (seat : ℕ) (out : List ℕ) (new : Scene) : Type 0 where
   pub at : At new.talk.stage new.talk.user (table.get new.machine.seats seat)
   pub said : List ℕ
   pub out_is : new.out ≡ out ++ said
   pub completed : AreCompleted b said new.talk.held.fatal new.talk.stage
 
-abbrev Tells : List (Option (List ℕ)) → Occasion → Machine → List ℕ → Talking → Stage → Result (Reply × Machine) Fault → Type 0
+abbrev Tells : List Call → Occasion → Machine → List ℕ → Talking → Stage → Result (Reply × Machine) Fault → Type 0
 Tells b o m out t x r =
     Made b o.seat out (shown o (has_seat_at x t.user || is_ok r) (machine_after m r) out (comes_to (record t { user = answer_user x t.user (outcome_of r) }) (answer_said x (outcome_of r)))).1
 
-tells_of : (b : List (Option (List ℕ))) (o : Occasion) (m : Machine) (out : List ℕ) (t : Talking) (x : Stage) (name : List ℕ) (Fits : Reply → Type 0) (r : Result (Reply × Machine) Fault) →
+tells_of : (b : List Call) (o : Occasion) (m : Machine) (out : List ℕ) (t : Talking) (x : Stage) (name : List ℕ) (Fits : Reply → Type 0) (r : Result (Reply × Machine) Fault) →
     Tells b o m out t x (Err fault.Memory) → ((reply : Reply) (new : Machine) → Fits reply → table.get new.seats o.seat ≡ Some (seated_as name) → Tells b o m out t x (Ok (reply, new))) →
     MayAnswer m o.seat name Fits r → Tells b o m out t x r
 tells_of b o m out t x name Fits r refused good (inl e) = subst (λ y. Tells b o m out t x y) (sym e) refused
 tells_of b o m out t x name Fits r refused good (inr a) = subst (λ y. Tells b o m out t x y) (sym a.is) (good a.reply a.new a.fits a.has)
 
-asked_made : (b : List (Option (List ℕ))) (o : Occasion) (refused : Bool) (m : Machine) (out : List ℕ) (t : Talking) (e : Event) (x : Stage) → Asks b t.user (table.get m.seats o.seat) e x → Tells b o m out t x (performed refused m o e)
+asked_made : (b : List Call) (o : Occasion) (refused : Bool) (m : Machine) (out : List ℕ) (t : Talking) (e : Event) (x : Stage) → Asks b t.user (table.get m.seats o.seat) e x → Tells b o m out t x (performed refused m o e)
 asked_made b o refused m out t e (stage.Asked tag) (b_is, (name, u, has), (c, e_is)) =
     tells_of b o m out t (stage.Asked tag) name (λ r. completes r.said ≡ true) (performed refused m o e)
     (record { at = has ∙ sym (ap (option_map seated_as) u); said = _; out_is = refl; completed = one b (record { tag = tag; said = said.Refused refusals.Memory }) t.held.fatal stage.Ready b_is refl })
@@ -176,7 +176,7 @@ asked_made b o refused m out t e stage.Entering (b_is, (name, u, has, e_is)) =
     })
     (subst (λ y. MayAnswer m o.seat name (λ r. r.said ≡ said.Greeting) (performed refused m o y)) (sym e_is) (asks_entry refused m o name has))
 asked_made b o refused m out t e stage.Draining (b_is, (name, u, has), e_is) =
-    tells_of b o m out t stage.Draining name (λ r. r.said ≡ said.Drained) (performed refused m o e)
+    tells_of b o m out t stage.Draining name (λ r. r.said ≡ said.Drained []) (performed refused m o e)
     (record { at = has ∙ sym (ap (option_map seated_as) u); said = []; out_is = refl; completed = silent b t.held.fatal stage.Ready b_is })
     (λ reply new fits is. record {
       at = is ∙ sym (ap (option_map seated_as) u);
@@ -184,7 +184,7 @@ asked_made b o refused m out t e stage.Draining (b_is, (name, u, has), e_is) =
       out_is = refl;
       completed = waits b (record { tag = None; said = reply.said }) t.held.fatal stage.Ready (ap (λ w. completed_by (record { tag = None; said = w })) fits) b_is;
     })
-    (subst (λ y. MayAnswer m o.seat name (λ r. r.said ≡ said.Drained) (performed refused m o y)) (sym e_is) (asks_drain refused m o name has))
+    (subst (λ y. MayAnswer m o.seat name (λ r. r.said ≡ said.Drained []) (performed refused m o y)) (sym e_is) (asks_drain refused m o name has))
 asked_made b o refused m out t e stage.Opening a = absurd a
 asked_made b o refused m out t e stage.Ready a = absurd a
 asked_made b o refused m out t e (stage.Challenged tag challenge) a = absurd a
@@ -192,7 +192,7 @@ asked_made b o refused m out t e stage.Closed a = absurd a
 
 -- ---- a turn or a drain, by what is next
 
-pub made : (b : List (Option (List ℕ))) (o : Occasion) (refused : Bool) (s : Scene) (n : Next) (t : Talking) →
+pub made : (b : List Call) (o : Occasion) (refused : Bool) (s : Scene) (n : Next) (t : Talking) →
     (has_seat s.talk ≡ false → table.get s.machine.seats o.seat ≡ None) → Goes b t.user (table.get s.machine.seats o.seat) t.held.fatal n t.stage →
     Made b o.seat s.out (turn_by o refused s (n, t)).1
 unfolding answered
@@ -240,7 +240,7 @@ may_be : (m : Machine) (seat : ℕ) (name : List ℕ) (Fits : Reply → Type 0) 
 may_be m seat name Fits r (inl e) = subst (λ y. IsPlaced (Some (outcome_of y))) (sym e) tt
 may_be m seat name Fits r (inr a) = subst (λ y. IsPlaced (Some (outcome_of y))) (sym a.is) tt
 
-pub asks_placed : (b : List (Option (List ℕ))) (user : Option (List ℕ)) (refused : Bool) (m : Machine) (o : Occasion) (e : Event) (x : Stage) → Asks b user (table.get m.seats o.seat) e x → IsPlaced (Some (outcome_of (performed refused m o e)))
+pub asks_placed : (b : List Call) (user : Option (List ℕ)) (refused : Bool) (m : Machine) (o : Occasion) (e : Event) (x : Stage) → Asks b user (table.get m.seats o.seat) e x → IsPlaced (Some (outcome_of (performed refused m o e)))
 asks_placed b user refused m o e (stage.Asked tag) (b_is, (name, u, has), (c, e_is)) =
     subst (λ y. IsPlaced (Some (outcome_of (performed refused m o y)))) (sym e_is) (may_be m o.seat name _ _ (asks_command refused m o c name has))
 asks_placed b user refused m o e (stage.LoggingIn tag name) (b_is, u, has, e_is) =

@@ -5,7 +5,7 @@ use Rattle.std.specs.FinMap as table
 use Rattle.std.specs.Ordering.{nat_cmp}
 use Rattle.std.proofs.lemmas.Bool.{and_parts, eqb-true, eqb-false}
 use Rattle.std.proofs.lemmas.Grind.{flat_map-append}
-use Rattle.std.proofs.lemmas.List.{append-nil}
+use Rattle.std.proofs.lemmas.List.{append-nil, map-append}
 use Rattle.acap_lexer.specs.declared.fault.LexFault.{LexFault}
 use Rattle.acap_login.specs.Login.{User}
 use Rattle.acap_grammar.specs.Replies.{octets_of}
@@ -14,7 +14,7 @@ use Rattle.acap_machine.specs.Runs.{outcome_of}
 use Rattle.acap_machine.specs.Seats.{seated_as}
 use Rattle.acap_machine.specs.declared.occupant.Occupant.{Occupant}
 use Rattle.acap_rights.specs.declared.realm.Realm.{Realm}
-use Rattle.acap_session.specs.Completing.{called_at, called_by, all_called, completed_by, completed, going_on, IsEnd, IsLeft, AreCompleted, goes_on, all_go_on, HasCompleted, CompletionLaw}
+use Rattle.acap_session.specs.Completing.{Call, called_at, called_by, all_called, completed_by, completed, going_on, IsEnd, IsLeft, AreCompleted, goes_on, all_go_on, HasCompleted, CompletionLaw}
 use Rattle.acap_session.specs.Laws.{event_in, reply_of}
 use Rattle.acap_session.specs.Places.{Place, place_at, placed, if_open}
 use Rattle.acap_session.specs.Seating.{SeatingLaw, occupant_by}
@@ -186,7 +186,7 @@ occupant_is : (x : Option Place) (has : Option Occupant) → AtPlace x has → h
 occupant_is None has a = a
 occupant_is (Some p) has a = occupant_at p.talk.stage p.talk.user has a
 
-goes_placed : (b : List (Option (List ℕ))) (user : Option (List ℕ)) (fatal : Option LexFault) (refused : Bool) (m : Machine) (o : Occasion) (n : Next) (t : Talking) →
+goes_placed : (b : List Call) (user : Option (List ℕ)) (fatal : Option LexFault) (refused : Bool) (m : Machine) (o : Occasion) (n : Next) (t : Talking) →
     Goes b user (table.get m.seats o.seat) fatal n t.stage → IsPlaced (option_map (λ event. outcome_of (performed refused m o event)) (event_in (n, t)))
 goes_placed b user fatal refused m o next.More t g = tt
 goes_placed b user fatal refused m o (next.Say octets) t g = tt
@@ -226,7 +226,7 @@ seating = record {
 
 -- ---- the law of completions
 
-not_over : (fatal : Option LexFault) (x : Stage) (left : List (Option (List ℕ))) → (x ≡ stage.Closed → ⊥) → left ≡ going_on x → IsLeft fatal x left
+not_over : (fatal : Option LexFault) (x : Stage) (left : List Call) → (x ≡ stage.Closed → ⊥) → left ≡ going_on x → IsLeft fatal x left
 not_over fatal stage.Ready left o e = e
 not_over fatal (stage.Challenged tag challenge) left o e = e
 not_over fatal stage.Opening left o e = e
@@ -236,7 +236,7 @@ not_over fatal (stage.LoggingIn tag name) left o e = e
 not_over fatal stage.Draining left o e = e
 not_over fatal stage.Closed left o e = absurd (o refl)
 
-left_of : (fatal : Option LexFault) (x : Stage) (left : List (Option (List ℕ))) → is_closed x ≡ false → IsLeft fatal x left → left ≡ going_on x
+left_of : (fatal : Option LexFault) (x : Stage) (left : List Call) → is_closed x ≡ false → IsLeft fatal x left → left ≡ going_on x
 left_of fatal stage.Ready left o e = e
 left_of fatal (stage.Challenged tag challenge) left o e = e
 left_of fatal stage.Opening left o e = e
@@ -257,12 +257,12 @@ end_of fatal stage.Draining end o e = e
 end_of fatal stage.Closed end o e = cc
 
 -- what stands at a seat after a step of its session that goes on, and what was said to the commands in hand
-record Acts (b : List (Option (List ℕ))) (k : ℕ) (p : Place) (v : World) : Type 0 where
+record Acts (b : List Call) (k : ℕ) (p : Place) (v : World) : Type 0 where
   after : Scene
   stands : place_at v.places k ≡ Some (place_of after)
   made : Made b k p.out after
 
-sets : (b : List (Option (List ℕ))) (k : ℕ) (p : Place) (w v : World) (s : Scene) → v ≡ with_scene w k s → Made b k p.out s → Acts b k p v
+sets : (b : List Call) (k : ℕ) (p : Place) (w v : World) (s : Scene) → v ≡ with_scene w k s → Made b k p.out s → Acts b k p v
 sets b k p w v s e m = record { after = s; stands = ap (λ (u : World). place_at u.places k) e ∙ placed_there w.places k (place_of s); made = m }
 
 acts_by : (o : Occasion) (refused : Bool) (deed : Deed) (w : World) (p : Place) (now : Option Place) → open_at w o.seat ≡ Some p → now ≡ Some p → AllSeated w → goes_on deed ≡ true →
@@ -349,7 +349,7 @@ closed_is stage.Draining e = cc
 
 -- ---- what is said one after the other
 
-joined : (b more : List (Option (List ℕ))) (p : Place) (mid : Scene) (final : Option Place) (k : ℕ) (m : Made b k p.out mid) → m.completed.left ≡ going_on mid.talk.stage → m.completed.end ≡ [] → HasCompleted (going_on mid.talk.stage ++ more) (place_of mid) final → HasCompleted (b ++ more) p final
+joined : (b more : List Call) (p : Place) (mid : Scene) (final : Option Place) (k : ℕ) (m : Made b k p.out mid) → m.completed.left ≡ going_on mid.talk.stage → m.completed.end ≡ [] → HasCompleted (going_on mid.talk.stage ++ more) (place_of mid) final → HasCompleted (b ++ more) p final
 joined b more p mid final k m e f r =
     let one = m.completed in
     let two = r.made in
@@ -360,6 +360,7 @@ joined b more p mid final k m e f r =
       out_is = r.out_is ∙ ap (λ xs. xs ++ r.said) m.out_is ∙ append_assoc p.out m.said r.said;
       made = record {
         replies = one.replies ++ two.replies;
+        done = one.done ++ two.done;
         left = two.left;
         end = two.end;
         said_is = (λ i. one.said_is i ++ two.said_is i)
@@ -367,10 +368,11 @@ joined b more p mid final k m e f r =
             ∙ ap (λ xs. xs ++ (flat_map octets_of two.replies ++ two.end)) (append-nil (flat_map octets_of one.replies))
             ∙ sym (append_assoc (flat_map octets_of one.replies) (flat_map octets_of two.replies) two.end)
             ∙ ap (λ xs. xs ++ two.end) (sym (flat_map-append octets_of one.replies two.replies));
-        in_order = ap (λ xs. xs ++ more) one.in_order ∙ append_assoc (completed one.replies) one.left more
-            ∙ ap (λ xs. completed one.replies ++ (xs ++ more)) e ∙ ap (λ xs. completed one.replies ++ xs) two.in_order
-            ∙ sym (append_assoc (completed one.replies) (completed two.replies) two.left)
-            ∙ ap (λ xs. xs ++ two.left) (sym (flat_map-append completed_by one.replies two.replies));
+        all_are = ap (λ xs. xs ++ more) one.all_are ∙ append_assoc one.done one.left more
+            ∙ ap (λ xs. one.done ++ (xs ++ more)) e ∙ ap (λ xs. one.done ++ xs) two.all_are
+            ∙ sym (append_assoc one.done two.done two.left);
+        in_order = map-append (λ (c : Call). c.tag) one.done two.done ∙ (λ i. one.in_order i ++ two.in_order i)
+            ∙ sym (flat_map-append completed_by one.replies two.replies);
         left_is = two.left_is;
         end_is = two.end_is;
       };
@@ -379,7 +381,7 @@ joined b more p mid final k m e f r =
 abbrev Rest : ℕ → List Step → World → Type 0
 Rest seat steps v = (q : Place) → open_at v seat ≡ Some q → HasCompleted (going_on q.talk.stage ++ all_called seat steps v) q (place_at (run steps v).places seat)
 
-own_by : (seat : ℕ) (b : List (Option (List ℕ))) (p : Place) (v : World) (steps : List Step) (a : Acts b seat p v) (c : Bool) → is_closed a.after.talk.stage ≡ c → all_go_on seat steps ≡ true → Rest seat steps v →
+own_by : (seat : ℕ) (b : List Call) (p : Place) (v : World) (steps : List Step) (a : Acts b seat p v) (c : Bool) → is_closed a.after.talk.stage ≡ c → all_go_on seat steps ≡ true → Rest seat steps v →
     HasCompleted (b ++ all_called seat steps v) p (place_at (run steps v).places seat)
 own_by seat b p v steps a false e g rest =
     let there : open_at v seat ≡ Some (place_of a.after) = ap if_open a.stands ∙ ap (λ x. if x then None else Some (place_of a.after)) e in

@@ -1,5 +1,5 @@
 -- Completions: each command gets one, under its tag, in the order of the commands [RFC 2244 sections 2.2 and 6.2].
-use Rattle.std.specs.Prelude.{◌≡◌, ◌⊎◌, ◌==◌, ◌||◌, ℕ, List, [], ◌∷◌, ◌++◌, flat_map, replicate, codes, Bool, true, false, not, Option, Some, None, IsSome, option_map, if◌then◌else◌}
+use Rattle.std.specs.Prelude.{◌≡◌, ◌⊎◌, ◌==◌, ◌||◌, ℕ, List, [], ◌∷◌, ◌++◌, flat_map, map, replicate, codes, Bool, true, false, not, Option, Some, None, IsSome, option_map, Result, Ok, if◌then◌else◌}
 use Rattle.std.specs.List.{list_all}
 use Rattle.acap_lexer.specs.Held.{next_of}
 use Rattle.acap_lexer.specs.Holding.{Held}
@@ -10,8 +10,11 @@ use Rattle.acap_lexer.specs.declared.lexed.Lexed.TheVariants as lexed
 use Rattle.acap_lexer.specs.declared.mode.Mode.TheVariants as mode
 use Rattle.acap_login.specs.Login.{User}
 use Rattle.acap_commands.specs.Statuses.{status_of}
+use Rattle.acap_grammar.specs.Grammar.{command_of}
 use Rattle.acap_grammar.specs.Refusals.{of_lexical}
 use Rattle.acap_grammar.specs.Replies.{crlf, greeting, octets_of, tag_of as spelled_tag}
+use Rattle.acap_commands.specs.declared.command.Command.{Command}
+use Rattle.acap_commands.specs.declared.command.Command.TheVariants as command
 use Rattle.acap_commands.specs.declared.refusal.Refusal.TheVariants as refusals
 use Rattle.acap_commands.specs.declared.reply.Reply.{Reply}
 use Rattle.acap_commands.specs.declared.said.Said.{Said}
@@ -19,6 +22,7 @@ use Rattle.acap_commands.specs.declared.said.Said.TheVariants as said
 use Rattle.acap_commands.specs.declared.status.Status.{Status}
 use Rattle.acap_commands.specs.declared.status.Status.TheVariants as status
 use Rattle.acap_commands.specs.declared.verb.Verb.TheVariants as verb
+use Rattle.acap_grammar.specs.declared.grammar_fault.GrammarFault.{GrammarFault}
 use Rattle.acap_machine.specs.Completing.{completes}
 use Rattle.acap_rights.specs.declared.realm.Realm.{Realm}
 use Rattle.acap_dialogue.specs.Hearing.{tag_of}
@@ -30,38 +34,54 @@ use Rattle.acap_session.specs.World.{World, Deed, Step, did, new_world, open_at,
 use Rattle.acap_dialogue.specs.declared.stage.Stage.{Stage}
 use Rattle.acap_dialogue.specs.declared.stage.Stage.TheVariants as stage
 
--- ---- which commands are heard, by their tags: none stands for a line without a tag, which is answered under `*`
+-- ---- which commands are heard
+
+-- its tag, or none where a line has none and is answered under `*`; and whether it is a login
+pub record Call : Type 0 where
+  pub tag : Option (List ℕ)
+  pub is_login : Bool
+
+abbrev pub plain_call : Option (List ℕ) → Call
+plain_call tag = record { tag = tag; is_login = false }
+
+abbrev pub login_call : Option (List ℕ) → Call
+login_call tag = record { tag = tag; is_login = true }
+
+-- AUTHENTICATE is one
+abbrev pub is_login : Result Command GrammarFault → Bool
+is_login (Ok (command.Authenticate mechanism)) = true
+is_login other = false
 
 -- a line that can't be read is a command too, under its tag if it has one; one that is too long ends the session
-abbrev pub called_wrong : LexFault → Option (List ℕ) → List (Option (List ℕ))
-called_wrong lexical.BadTag tag = tag ∷ []
-called_wrong lexical.BadToken tag = tag ∷ []
-called_wrong lexical.BadLiteral tag = tag ∷ []
+abbrev pub called_wrong : LexFault → Option (List ℕ) → List Call
+called_wrong lexical.BadTag tag = plain_call tag ∷ []
+called_wrong lexical.BadToken tag = plain_call tag ∷ []
+called_wrong lexical.BadLiteral tag = plain_call tag ∷ []
 called_wrong lexical.CommandTooLong tag = []
 called_wrong lexical.LineTooLong tag = []
 
-abbrev pub called : Lexed → List (Option (List ℕ))
+abbrev pub called : Lexed → List Call
 called lexed.More = []
 called lexed.Plus = []
-called (lexed.Line tokens) = tag_of tokens ∷ []
+called (lexed.Line tokens) = record { tag = tag_of tokens; is_login = is_login (command_of tokens) } ∷ []
 called (lexed.Bad fault tag) = called_wrong fault tag
 called (lexed.Fatal fault) = []
 
 -- the client's answer to a challenge is no command
-abbrev pub called_at : Stage → Held → List (Option (List ℕ))
+abbrev pub called_at : Stage → Held → List Call
 called_at stage.Ready held = called (next_of mode.Command held).0
 called_at other held = []
 
 -- what is heard where the session of a seat makes a turn
-abbrev pub called_by : Deed → Option Place → List (Option (List ℕ))
+abbrev pub called_by : Deed → Option Place → List Call
 called_by world.Turn (Some place) = called_at place.talk.stage place.talk.held
 called_by deed now = []
 
-abbrev pub called_in : ℕ → Step → World → List (Option (List ℕ))
+abbrev pub called_in : ℕ → Step → World → List Call
 called_in seat x w = if x.occasion.seat == seat then called_by x.deed (open_at w seat) else []
 
 -- the tags of all commands that a seat's session hears in a run
-abbrev pub all_called : ℕ → List Step → World → List (Option (List ℕ))
+abbrev pub all_called : ℕ → List Step → World → List Call
 all_called seat [] w = []
 all_called seat (x ∷ xs) w = called_in seat x w ++ all_called seat xs (did x.occasion x.refused x.deed w)
 
@@ -75,14 +95,14 @@ abbrev pub completed : List Reply → List (Option (List ℕ))
 completed replies = flat_map completed_by replies
 
 -- a login goes on: its command is completed behind the client's answer
-abbrev pub going_on : Stage → List (Option (List ℕ))
-going_on (stage.Challenged tag challenge) = tag ∷ []
+abbrev pub going_on : Stage → List Call
+going_on (stage.Challenged tag challenge) = login_call tag ∷ []
 going_on other = []
 
 -- What is left without a completion: a login that goes on; and where a session was closed nothing, or the login whose
 -- answer could not be read, as the input was too long.
-abbrev pub IsLeft : Option LexFault → Stage → List (Option (List ℕ)) → Type 0
-IsLeft fatal stage.Closed left = (left ≡ []) ⊎ (IsSome fatal × ((tag : Option (List ℕ)) × (left ≡ (tag ∷ []))))
+abbrev pub IsLeft : Option LexFault → Stage → List Call → Type 0
+IsLeft fatal stage.Closed left = (left ≡ []) ⊎ (IsSome fatal × ((tag : Option (List ℕ)) × (left ≡ login_call tag ∷ [])))
 IsLeft fatal other left = left ≡ going_on other
 
 -- what is said last where a session is closed for an input that is too long: a BYE, which answers no command
@@ -95,12 +115,14 @@ IsEnd fatal other end = end ≡ []
 
 -- What was said is replies, as they are printed, and what is said last. The completions among them are those of the
 -- commands, each once and in their order, up to what is left.
-pub record AreCompleted (commands : List (Option (List ℕ))) (said : List ℕ) (fatal : Option LexFault) (at : Stage) : Type 0 where
+pub record AreCompleted (commands : List Call) (said : List ℕ) (fatal : Option LexFault) (at : Stage) : Type 0 where
   pub replies : List Reply
-  pub left : List (Option (List ℕ))
+  pub done : List Call
+  pub left : List Call
   pub end : List ℕ
   pub said_is : said ≡ flat_map octets_of replies ++ end
-  pub in_order : commands ≡ completed replies ++ left
+  pub all_are : commands ≡ done ++ left
+  pub in_order : map (λ c. c.tag) done ≡ completed replies
   pub left_is : IsLeft fatal at left
   pub end_is : IsEnd fatal at end
 
@@ -119,7 +141,7 @@ abbrev pub all_go_on : ℕ → List Step → Bool
 all_go_on seat steps = list_all (λ x. not (x.occasion.seat == seat) || goes_on x.deed) steps
 
 -- what a session has said since it stood so, and how it stands then
-pub record HasCompleted (commands : List (Option (List ℕ))) (old : Place) (standing : Option Place) : Type 0 where
+pub record HasCompleted (commands : List Call) (old : Place) (standing : Option Place) : Type 0 where
   pub now : Place
   pub said : List ℕ
   pub stands : standing ≡ Some now
@@ -171,7 +193,7 @@ abbrev pub given : List ℕ → ℕ → List Step
 given octets n = step_of (world.Piece octets) false ∷ some_turns n
 
 -- the commands that are heard there, and what is said
-abbrev pub heard_there : List Step → List (Option (List ℕ))
+abbrev pub heard_there : List Step → List Call
 heard_there steps = all_called 0 steps (run (opening_step ∷ []) empty_world)
 
 abbrev pub said_there : List Step → Option (List ℕ)
@@ -191,19 +213,19 @@ a2 = Some (codes "A2")
 
 pub record CompletionExamples : Type 0 where
   -- two commands of one piece; the second is completed behind its BYE
-  pub two : heard_there (given (codes "A1 NOOP\r\nA2 LOGOUT\r\n") 2) ≡ a1 ∷ a2 ∷ []
+  pub two : heard_there (given (codes "A1 NOOP\r\nA2 LOGOUT\r\n") 2) ≡ plain_call a1 ∷ plain_call a2 ∷ []
   pub two_said : said_there (given (codes "A1 NOOP\r\nA2 LOGOUT\r\n") 2) ≡ lines_of (codes "A1 OK \"NOOP done\"" ∷ codes "* BYE \"Good bye\"" ∷ codes "A2 OK \"LOGOUT done\"" ∷ [])
   -- a command that isn't whole is none; a line that can't be read is one, under its tag or without
-  pub unfinished : heard_there (given (codes "A1 NOOP\r\nA2 NO") 2) ≡ a1 ∷ []
-  pub wrong : heard_there (given (codes "A1 \"NOOP\r\n+ NOOP\r\n") 2) ≡ a1 ∷ None ∷ []
+  pub unfinished : heard_there (given (codes "A1 NOOP\r\nA2 NO") 2) ≡ plain_call a1 ∷ []
+  pub wrong : heard_there (given (codes "A1 \"NOOP\r\n+ NOOP\r\n") 2) ≡ plain_call a1 ∷ plain_call None ∷ []
   pub wrong_said : said_there (given (codes "A1 \"NOOP\r\n+ NOOP\r\n") 2) ≡ lines_of (codes "A1 BAD \"Bad token\"" ∷ codes "* BAD \"Bad tag\"" ∷ [])
   -- a login is completed behind the line that answers its challenge, which is no command
-  pub login : heard_there (given (codes "A1 AUTHENTICATE \"CRAM-MD5\"\r\n*\r\nA2 NOOP\r\n") 3) ≡ a1 ∷ a2 ∷ []
+  pub login : heard_there (given (codes "A1 AUTHENTICATE \"CRAM-MD5\"\r\n*\r\nA2 NOOP\r\n") 3) ≡ login_call a1 ∷ plain_call a2 ∷ []
   pub login_said : said_there (given (codes "A1 AUTHENTICATE \"CRAM-MD5\"\r\n*\r\nA2 NOOP\r\n") 3)
       ≡ lines_of (codes "+ \"<0.0@localhost>\"" ∷ codes "A1 BAD \"Login cancelled\"" ∷ codes "A2 OK \"NOOP done\"" ∷ [])
   -- an input that is too long is told by a BYE, which completes nothing, also where a login goes on
-  pub too_long : heard_there (given (codes "A1 NOOP\r\nA2 NOOP {262144}\r\n") 3) ≡ a1 ∷ []
+  pub too_long : heard_there (given (codes "A1 NOOP\r\nA2 NOOP {262144}\r\n") 3) ≡ plain_call a1 ∷ []
   pub too_long_said : said_there (given (codes "A1 NOOP\r\nA2 NOOP {262144}\r\n") 3) ≡ lines_of (codes "A1 OK \"NOOP done\"" ∷ codes "* BYE \"Command too long\"" ∷ [])
   -- a refusal under `*` answers a line without a tag; neither a challenge nor a BYE answers one
   pub completions : completed (under None said.Greeting ∷ under a1 (said.Done verb.Noop) ∷ under a1 (said.Challenge []) ∷ under None (said.Refused refusals.BadTag)
-      ∷ under a1 (said.Refused refusals.Memory) ∷ under None (said.Refused refusals.LineTooLong) ∷ under a1 said.GoodBye ∷ under None said.Drained ∷ []) ≡ a1 ∷ None ∷ a1 ∷ a1 ∷ []
+      ∷ under a1 (said.Refused refusals.Memory) ∷ under None (said.Refused refusals.LineTooLong) ∷ under a1 said.GoodBye ∷ under None (said.Drained []) ∷ []) ≡ a1 ∷ None ∷ a1 ∷ a1 ∷ []

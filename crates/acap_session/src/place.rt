@@ -9,9 +9,9 @@ ghost use Rattle.acap_session.specs.World as world;
 ghost use Rattle.acap_session.specs.World.{HasBegun, said_before};
 
 use crate::occasion::Occasion;
-use acap_dialogue::Session;
 use crate::turn::Turn;
 use crate::turns::{drain, leave, turn};
+use acap_dialogue::Session;
 use acap_entries::{Memory, Seat};
 use acap_login::Users;
 use acap_machine::State;

@@ -6,12 +6,11 @@ ghost use Rattle.acap_session.specs.World as deed;
 ghost use Rattle.acap_session.specs.World.{did, open_at};
 ghost use Rattle.acap_script.specs.declared.seat_line.SeatLine.TheVariants as act;
 
-use acap_script::LineFault;
 use crate::occasion::Occasion;
 use crate::script_hearing::hear;
-use acap_script::SeatLine;
 use crate::world::World;
 use acap_entries::{Octets, UserName};
+use acap_script::{LineFault, SeatLine};
 
 // A session opens, of that user if there is one.
 fn open(world: &mut World, at: &Occasion, user: Option<UserName>) -> Result<(), LineFault>

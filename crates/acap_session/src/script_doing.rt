@@ -5,18 +5,15 @@ ghost use Rattle.acap_session.specs.Script.{Does, Done, IsDone, Sets, Speaks, be
 ghost use Rattle.acap_session.specs.World.{open_at};
 ghost use Rattle.acap_script.specs.declared.line_fault.LineFault.TheVariants as faults;
 
-use acap_script::LineFault;
 use crate::occasion::Occasion;
 use crate::script::Script;
 use crate::script_acting::do_at;
-use acap_script::ScriptLine;
 use crate::script_output::shown;
-use acap_script::read_line;
-use acap_script::SeatLine;
 use crate::setup::Setup;
 use crate::standing::Standing;
 use crate::world::World;
 use acap_entries::{Memory, Moment, Octets, Seat, UserName};
+use acap_script::{LineFault, ScriptLine, SeatLine, read_line};
 use std::alloc::Global;
 use std::mem;
 

@@ -4,11 +4,11 @@ ghost use Rattle.std.specs.Prelude.{◌≡◌, ◌≤◌, length, drop, is_some,
 ghost use Rattle.acap_session.specs.Script.{Done, HasHeard, HasOffered, HasSettled, HasTurned};
 ghost use Rattle.acap_session.specs.World.{open_at};
 
-use acap_script::LineFault;
 use crate::occasion::Occasion;
 use crate::world::World;
 use crate::world_fault::WorldFault;
 use acap_entries::Memory;
+use acap_script::LineFault;
 
 // Makes a turn, and tells whether it came to anything. No turn is made where the session is closed.
 fn turn(world: &mut World, at: &Occasion) -> Result<bool, Memory>

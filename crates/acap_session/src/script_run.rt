@@ -7,11 +7,11 @@ ghost use Rattle.acap_session.specs.Streams.{SendsFront};
 ghost use Rattle.acap_session.specs.declared.script_fault.ScriptFault.TheVariants as faults;
 
 use crate::input::Input;
-use acap_script::LineFault;
 use crate::output::send_all;
 use crate::script::Script;
 use crate::script_doing::{begin, do_text};
 use crate::script_fault::ScriptFault;
+use acap_script::LineFault;
 use std::alloc::Global;
 use std::io::{Read, Write};
 

@@ -4,12 +4,11 @@ ghost use Rattle.std.specs.Prelude.{◌≡◌, ◌⊎◌, ◌||◌, false, true,
 ghost use Rattle.acap_dialogue.specs.Session.{answered, is_asked, session_next};
 ghost use Rattle.acap_session.specs.Turning.{scene, shown, drain_of, is_refused, IsAsked, IsTurn, WasCut, CutInAnswering, CutInAsking, CutInDraining, left_at, left_by, turn_from};
 
-use acap_dialogue::Heard;
 use crate::occasion::Occasion;
-use acap_dialogue::Session;
 use crate::turn::Turn;
-use acap_entries::Memory;
 use acap_commands::{Event, Fault, Reply};
+use acap_dialogue::{Heard, Session};
+use acap_entries::Memory;
 use acap_login::Users;
 use acap_machine::State;
 

@@ -7,8 +7,8 @@ ghost use Rattle.acap_session.specs.declared.world_fault.WorldFault.TheVariants 
 
 use crate::occasion::Occasion;
 use crate::place::{Place, begin, reach};
-use acap_dialogue::Session;
 use crate::world_fault::WorldFault;
+use acap_dialogue::Session;
 use acap_entries::{Copying, Memory, Moment, Octets, Seat, UserName};
 use acap_login::Users;
 use acap_machine::State;

@@ -27,7 +27,7 @@ impl From<Memory> for WorldFault {
 
 impl From<WorldFault> for LineFault {
     ghost use Rattle.std.specs.Prelude.{◌≡◌};
-    ghost use Rattle.acap_script.specs.Script.{fault_of};
+    ghost use Rattle.acap_session.specs.Script.{fault_of};
 
     ghost from_gives = { λ fault made. made ≡ fault_of fault };
 

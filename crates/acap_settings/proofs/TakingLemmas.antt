@@ -1,6 +1,5 @@
 -- Lists of values as the arrays and tables that they stand for.
-use Rattle.std.proofs.Common.{◌&&◌, Bor, ◌≡◌, ℕ, true, List, [], ◌∷◌, String, Global, string_bytes, map, refl, ap, sym, ◌∙◌}
-use Rattle.std.proofs.lemmas.Bool.{and_parts}
+use Rattle.std.proofs.Common.{◌&&◌, Bor, ◌≡◌, ℕ, Bool, true, List, [], ◌∷◌, String, Global, string_bytes, map, refl, ap, sym, ◌∙◌}
 use Rattle.std.specs.List.{AllPass, list_all}
 use Rattle.std.proofs.lemmas.List.Sums.{AllPass-from_list_all}
 use Rattle.toml.specs.Data.{Data, string, table, item, member}
@@ -26,27 +25,17 @@ users_said names users e = ap items_of e ∙ sym (name_items_lem users)
 abbrev pub Lent : Type 0
 Lent = Bor (String Global) × Bor Value
 
-secrets_pass_lem : (pairs : List Lent) → all_members is_secret (members_view (map lent pairs)) ≡ true → list_all (λ pair. is_text (view pair.1.now)) pairs ≡ true
-secrets_pass_lem [] h = refl
-secrets_pass_lem (pair ∷ more) h =
-    let (here, rest) = and_parts (is_user_name (string_bytes pair.0.now) && is_text (view pair.1.now)) (all_members is_secret (members_view (map lent more))) h in
-    let (named, text) = and_parts (is_user_name (string_bytes pair.0.now)) (is_text (view pair.1.now)) here in
-    rw (text, secrets_pass_lem more rest)
+members_pass : (test : List ℕ → Data → Bool) (pairs : List Lent) → all_members test (members_view (map lent pairs)) ≡ list_all (λ pair. test (string_bytes pair.0.now) (view pair.1.now)) pairs
+members_pass test [] = refl
+members_pass test (pair ∷ more) = ap (λ b. test (string_bytes pair.0.now) (view pair.1.now) && b) (members_pass test more)
 
-groups_pass_lem : (pairs : List Lent) → all_members is_group (members_view (map lent pairs)) ≡ true → list_all (λ pair. is_user_list (view pair.1.now)) pairs ≡ true
-groups_pass_lem [] h = refl
-groups_pass_lem (pair ∷ more) h =
-    let (here, rest) = and_parts (is_user_name (string_bytes pair.0.now) && is_user_list (view pair.1.now)) (all_members is_group (members_view (map lent more))) h in
-    let (named, users) = and_parts (is_user_name (string_bytes pair.0.now)) (is_user_list (view pair.1.now)) here in
-    rw (users, groups_pass_lem more rest)
-
-pub secrets_pass : (entries : List (String Global × Value)) (pairs : List Lent) → map lent pairs ≡ entries → is_secret_table (table (members_view entries)) ≡ true → AllPass (λ pair. is_text (view pair.1.now)) pairs
+pub secrets_pass : (entries : List (String Global × Value)) (pairs : List Lent) → map lent pairs ≡ entries → is_secret_table (table (members_view entries)) ≡ true → AllPass (λ pair. is_secret (string_bytes pair.0.now) (view pair.1.now)) pairs
 secrets_pass entries pairs e h =
-    AllPass-from_list_all (λ pair. is_text (view pair.1.now)) pairs (secrets_pass_lem pairs (ap (λ es. is_secret_table (table (members_view es))) e ∙ h))
+    AllPass-from_list_all (λ pair. is_secret (string_bytes pair.0.now) (view pair.1.now)) pairs (sym (members_pass is_secret pairs) ∙ ap (λ es. is_secret_table (table (members_view es))) e ∙ h)
 
-pub groups_pass : (entries : List (String Global × Value)) (pairs : List Lent) → map lent pairs ≡ entries → is_group_table (table (members_view entries)) ≡ true → AllPass (λ pair. is_user_list (view pair.1.now)) pairs
+pub groups_pass : (entries : List (String Global × Value)) (pairs : List Lent) → map lent pairs ≡ entries → is_group_table (table (members_view entries)) ≡ true → AllPass (λ pair. is_group (string_bytes pair.0.now) (view pair.1.now)) pairs
 groups_pass entries pairs e h =
-    AllPass-from_list_all (λ pair. is_user_list (view pair.1.now)) pairs (groups_pass_lem pairs (ap (λ es. is_group_table (table (members_view es))) e ∙ h))
+    AllPass-from_list_all (λ pair. is_group (string_bytes pair.0.now) (view pair.1.now)) pairs (sym (members_pass is_group pairs) ∙ ap (λ es. is_group_table (table (members_view es))) e ∙ h)
 
 table_said_lem : (pairs : List Lent) → members_view (map lent pairs) ≡ table_of (map seen pairs)
 table_said_lem [] = refl

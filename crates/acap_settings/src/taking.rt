@@ -1,6 +1,7 @@
 //! What a good document stands for.
 ghost use Rattle.std.specs.Prelude.{◌≡◌, ◌&&◌, pos, IfOk, true, codes, map, option_map, string_bytes};
 ghost use Rattle.std.specs.List.{AllPass};
+ghost use Rattle.acap_entries.specs.Names.{is_user_name};
 ghost use Rattle.acap_settings.specs.Keys as rule;
 ghost use Rattle.acap_settings.specs.Settings.{AreGroups, name_list, said_group, said_user, secret_table, group_table};
 ghost use Rattle.acap_settings.specs.Members.{lent, member_at, seen};
@@ -8,7 +9,7 @@ ghost use Rattle.toml.specs.Data.{string, integer};
 ghost use Rattle.toml.specs.View.{table_view, view};
 
 use crate::judging::value_at;
-use acap_entries::{Memory, Octets, Sequence, UserName};
+use acap_entries::{Memory, NameFault, Octets, Sequence, UserName};
 use acap_login::Users;
 use acap_rights::{Group, Groups};
 use std::alloc::Global;
@@ -58,13 +59,25 @@ pub(crate) fn number_at(settings: &Table, key: &str, least: u32, most: u32) -> u
     }
 }
 
+// The name that octets are which are a user's.
+fn user_named(alloc: Global, name: &[u8]) -> Result<UserName, Memory>
+    requires { is_user_name name.now ≡ true }
+    ensures { IfOk result (λ made. made ≡ name.now) }
+{
+    match UserName::read(alloc, name) {
+        Ok(name) => Ok(name),
+        Err(NameFault::Memory) => Err(Memory),
+        Err(NameFault::BadName) => unreachable!(),
+    }
+}
+
 // The name of a value that is one.
 fn user_of(alloc: Global, value: &Value) -> Result<UserName, Memory>
     requires { rule.is_user (view value.now) ≡ true }
     ensures { IfOk result (λ name. view value.now ≡ string name) }
 {
     match value {
-        Value::String(name) => UserName::from_slice(alloc, name.as_bytes()),
+        Value::String(name) => user_named(alloc, name.as_bytes()),
         _ => unreachable!(),
     }
 }
@@ -114,31 +127,31 @@ fn members_of<'a>(alloc: Global, table: &'a Table) -> Result<Vec<(&'a String, &'
     Ok(table.iter().collect(alloc)?)
 }
 
-// The names and secrets of members whose values are texts.
+// The names and secrets of members that are users with a text each.
 fn secrets_of(
     alloc: Global,
     members: &[(&String, &Value)],
 ) -> Result<Vec<(UserName, Vec<u8>)>, Memory>
-    requires { AllPass (λ pair. rule.is_text (view pair.1.now)) members.now }
+    requires { AllPass (λ pair. rule.is_secret (string_bytes pair.0.now) (view pair.1.now)) members.now }
     ensures { IfOk result (λ users. map seen members.now ≡ map said_user users.items) }
 {
     let mut users = Vec::with_capacity(alloc, members.len())?;
     for (name, secret) in members {
         let secret = text_of(alloc, secret)?.into_vec();
-        users.push((UserName::from_slice(alloc, name.as_bytes())?, secret))?;
+        users.push((user_named(alloc, name.as_bytes())?, secret))?;
     }
     Ok(users)
 }
 
-// The groups of members whose values are lists of users.
+// The groups of members that are names with a list of users each.
 fn groups_of(alloc: Global, members: &[(&String, &Value)]) -> Result<Groups, Memory>
-    requires { AllPass (λ pair. rule.is_user_list (view pair.1.now)) members.now }
+    requires { AllPass (λ pair. rule.is_group (string_bytes pair.0.now) (view pair.1.now)) members.now }
     ensures { IfOk result (λ groups. map seen members.now ≡ map said_group groups) }
 {
     let mut groups = Groups::new(alloc);
     for (name, value) in members {
         let members = user_list_of(alloc, value)?;
-        let name = UserName::from_slice(alloc, name.as_bytes())?;
+        let name = user_named(alloc, name.as_bytes())?;
         groups.push(Group { name, members })?;
     }
     Ok(groups)

@@ -1,17 +1,17 @@
 -- That commands leave sound stores.
-use Rattle.std.proofs.Common.{◌≡◌, ℕ, zero, suc, ℤ, Bool, true, false, not, cond, ◌||◌, List, [], ◌∷◌, ◌++◌, map, Option, Some, None, Ok, refl, sym, ap, subst, ◌∙◌}
+use Rattle.std.proofs.Common.{◌≡◌, ℕ, zero, suc, ℤ, Bool, true, false, cond, ◌||◌, List, [], ◌∷◌, ◌++◌, map, Option, Some, None, Ok, refl, sym, ap, subst, ◌∙◌}
 use Rattle.std.specs.Prelude.{find}
 use Rattle.std.specs.List.{list_any, list_all}
 use Rattle.std.specs.Option.{option_map_or}
 use Rattle.std.specs.FinMap.{get-empty}
 use Rattle.std.proofs.lemmas.List.Folds.{list_any-append}
-use Rattle.acap_entries.proofs.NameLemmas.{for_user_closed}
-use Rattle.acap_entries.proofs.OwnLaws.{own_entry_law}
+use Rattle.acap_entries.proofs.FormLemmas.{closed_begins, closed_ends, meant_closed, own_well_formed}
+use Rattle.acap_entries.proofs.Formed.{formed}
 use Rattle.acap_entries.specs.Changes.{store_after}
 use Rattle.acap_entries.specs.Datasets.{dataset_exists}
-use Rattle.acap_entries.specs.FullPaths.{IsWellFormed}
+use Rattle.acap_entries.specs.FullPaths.{IsWellFormed, is_well_formed}
 use Rattle.acap_entries.specs.Homes.{for_user}
-use Rattle.acap_entries.specs.Names.{slash, begins_with, ends_with, own_entry}
+use Rattle.acap_entries.specs.Names.{slash, begins_with, ends_with, is_closed_dataset, is_user_name, own_entry}
 use Rattle.acap_entries.specs.Sound.{IsSoundStore}
 use Rattle.acap_entries.specs.Store.{Stored, Store, path_cmp}
 use Rattle.acap_entries.specs.declared.change.Change.{Change}
@@ -20,7 +20,7 @@ use Rattle.acap_entries.specs.declared.record.Record.{Record}
 use Rattle.acap_commands.specs.declared.object.Object.{Object}
 use Rattle.acap_commands.specs.declared.store_entry.StoreEntry.{StoreEntry}
 use Rattle.acap_rights.specs.declared.realm.Realm.{Realm}
-use Rattle.acap_store.specs.DatasetLaws.{SoundLaw, own_path, is_absolute, is_formed, paths_named}
+use Rattle.acap_store.specs.DatasetLaws.{SoundLaw, own_path, is_absolute, paths_named}
 use Rattle.acap_store.specs.Laws.{entries_of}
 use Rattle.acap_store.specs.Meaning.{entries_for, list_path, meaning, path_for, target_for, target_named}
 use Rattle.acap_store.specs.Planning.{planned}
@@ -30,57 +30,49 @@ use Rattle.acap_store.specs.declared.write.Write.{Write}
 use Rattle.acap_store.specs.declared.write.Write.TheVariants as write
 use Rattle.acap_store.proofs.DatasetLemmas.{first_true, second_true, both_true, any_own, paths_same, found_has}
 use Rattle.acap_store.proofs.HousedLaws.{housed_law, is_here, here}
-use Rattle.acap_store.proofs.RootLemmas.{root_law, meant_begins}
+use Rattle.acap_store.proofs.RootLemmas.{root_law}
 
 -- ---- paths that commands name
 
-opened : (p : Path) → is_formed p ≡ true → begins_with slash p.dataset ≡ true
-opened p h = first_true _ _ (first_true _ _ h)
+opened : (p : Path) → is_well_formed p ≡ true → begins_with slash p.dataset ≡ true
+opened p h = closed_begins p.dataset (first_true _ _ h)
 
-closed : (p : Path) → is_formed p ≡ true → ends_with slash p.dataset ≡ true
-closed p h = second_true _ _ (first_true _ _ h)
+closed : (p : Path) → is_well_formed p ≡ true → ends_with slash p.dataset ≡ true
+closed p h = closed_ends p.dataset (first_true _ _ h)
 
-is_false : (b : Bool) → not b ≡ true → b ≡ false
-is_false true e = cc
-is_false false e = refl
+-- what a user means by them is well formed too
+meant_formed : (user : List ℕ) (p : Path) → is_user_name user ≡ true → is_well_formed p ≡ true → is_well_formed (path_for user p) ≡ true
+meant_formed user p u h = both_true _ _ (meant_closed user p.dataset u (first_true _ _ h)) (second_true _ _ h)
 
-formed : (p : Path) → is_formed p ≡ true → IsWellFormed p
-formed p h = record { dataset = closed p h; name = is_false _ (second_true _ _ h) }
-
--- what a user means by them is formed too
-meant_formed : (user : List ℕ) (p : Path) → is_formed p ≡ true → is_formed (path_for user p) ≡ true
-meant_formed user p h =
-    both_true _ _ (both_true _ _ (meant_begins user p.dataset (opened p h)) (for_user_closed user p.dataset (closed p h))) (second_true _ _ h)
-
-all_meant : (user : List ℕ) (entries : List StoreEntry) → list_all is_formed (map (λ e. e.path) entries) ≡ true → list_all (λ e. is_formed e.path) (entries_for user entries) ≡ true
-all_meant user [] h = refl
-all_meant user (e ∷ entries) h = both_true _ _ (meant_formed user e.path (first_true _ _ h)) (all_meant user entries (second_true _ _ h))
+all_meant : (user : List ℕ) (entries : List StoreEntry) → is_user_name user ≡ true → list_all is_well_formed (map (λ e. e.path) entries) ≡ true → list_all (λ e. is_well_formed e.path) (entries_for user entries) ≡ true
+all_meant user [] u h = refl
+all_meant user (e ∷ entries) u h = both_true _ _ (meant_formed user e.path u (first_true _ _ h)) (all_meant user entries u (second_true _ _ h))
 
 path_meant : (user dataset : List ℕ) (attribute name : Option (List ℕ)) → path_for user (list_path (target_named dataset attribute name)) ≡ list_path (target_named (for_user user dataset) attribute name)
 path_meant user dataset None name = refl
 path_meant user dataset (Some attribute) None = refl
 path_meant user dataset (Some attribute) (Some name) = refl
 
-list_meant : (user : List ℕ) (object : Object) → list_all is_formed (list_path (target_named object.dataset object.attribute object.name) ∷ []) ≡ true → list_all is_formed (list_path (target_for user object) ∷ []) ≡ true
-list_meant user object h =
-    both_true _ _ (ap is_formed (sym (path_meant user object.dataset object.attribute object.name)) ∙ meant_formed user (list_path (target_named object.dataset object.attribute object.name)) (first_true _ _ h)) refl
+list_meant : (user : List ℕ) (object : Object) → is_user_name user ≡ true → list_all is_well_formed (list_path (target_named object.dataset object.attribute object.name) ∷ []) ≡ true → list_all is_well_formed (list_path (target_for user object) ∷ []) ≡ true
+list_meant user object u h =
+    both_true _ _ (ap is_well_formed (sym (path_meant user object.dataset object.attribute object.name)) ∙ meant_formed user (list_path (target_named object.dataset object.attribute object.name)) u (first_true _ _ h)) refl
 
 -- so are the paths of its entries
-entries_formed : (records : Stored) (user : List ℕ) (sent : Write) → list_all is_formed (paths_named sent) ≡ true → list_all (λ e. is_formed e.path) (meaning records user sent).entries ≡ true
+entries_formed : (records : Stored) (user : List ℕ) (sent : Write) → is_user_name user ≡ true → list_all is_well_formed (paths_named sent) ≡ true → list_all (λ e. is_well_formed e.path) (meaning records user sent).entries ≡ true
 unfolding meaning
-entries_formed records user (write.Store entries) h = all_meant user entries h
-entries_formed records user (write.SetAcl object identifier letters) h = list_meant user object h
-entries_formed records user (write.DeleteAcl object (Some identifier)) h = list_meant user object h
-entries_formed records user (write.DeleteAcl object None) h = list_meant user object h
+entries_formed records user (write.Store entries) u h = all_meant user entries u h
+entries_formed records user (write.SetAcl object identifier letters) u h = list_meant user object u h
+entries_formed records user (write.DeleteAcl object (Some identifier)) u h = list_meant user object u h
+entries_formed records user (write.DeleteAcl object None) u h = list_meant user object u h
 
-all_absolute : (entries : List StoreEntry) → list_all (λ e. is_formed e.path) entries ≡ true → list_all (λ e. is_absolute e.path.dataset) entries ≡ true
+all_absolute : (entries : List StoreEntry) → list_all (λ e. is_well_formed e.path) entries ≡ true → list_all (λ e. is_absolute e.path.dataset) entries ≡ true
 all_absolute [] h = refl
 all_absolute (e ∷ entries) h = both_true _ _ (root_law.closed e.path.dataset (opened e.path (first_true _ _ h)) (closed e.path (first_true _ _ h))) (all_absolute entries (second_true _ _ h))
 
-found_formed : (test : StoreEntry → Bool) (entries : List StoreEntry) (e : StoreEntry) → list_all (λ e. is_formed e.path) entries ≡ true → find test entries ≡ Some e → is_formed e.path ≡ true
+found_formed : (test : StoreEntry → Bool) (entries : List StoreEntry) (e : StoreEntry) → list_all (λ e. is_well_formed e.path) entries ≡ true → find test entries ≡ Some e → is_well_formed e.path ≡ true
 found_formed test [] e h = λ g. cc
-found_formed test (x ∷ entries) e h = elim (test x) as (λ b. cond b (Some x) (find test entries) ≡ Some e → is_formed e.path ≡ true) [
-  | true ↦ λ g. let same : x ≡ e = cc in ap (λ (y : StoreEntry). is_formed y.path) (sym same) ∙ first_true _ _ h
+found_formed test (x ∷ entries) e h = elim (test x) as (λ b. cond b (Some x) (find test entries) ≡ Some e → is_well_formed e.path ≡ true) [
+  | true ↦ λ g. let same : x ≡ e = cc in ap (λ (y : StoreEntry). is_well_formed y.path) (sym same) ∙ first_true _ _ h
   | false ↦ λ g. found_formed test entries e (second_true _ _ h) g
 ]
 
@@ -90,40 +82,41 @@ either_or : {P : Type 0} (a b : Bool) → a || b ≡ true → (a ≡ true → P)
 either_or true b e f g = f refl
 either_or false b e f g = g e
 
-missing_formed : (records : Stored) (n : ℕ) (x : List ℕ) (p : Path) → list_any (same_path p) (missing_within n records x) ≡ true → IsWellFormed p
-missing_formed records zero x p = λ h. cc
-missing_formed records (suc n) x p = elim (own_entry x) as (λ o. own_entry x ≡ o → list_any (same_path p) (option_map_or (λ o. missing_within n records o.0 ++ own_if_missing records x o) o []) ≡ true → IsWellFormed p) [
+missing_formed : (records : Stored) (n : ℕ) (x : List ℕ) (p : Path) → is_closed_dataset x ≡ true → list_any (same_path p) (missing_within n records x) ≡ true → IsWellFormed p
+missing_formed records zero x p c = λ h. cc
+missing_formed records (suc n) x p c = elim (own_entry x) as (λ o. own_entry x ≡ o → list_any (same_path p) (option_map_or (λ o. missing_within n records o.0 ++ own_if_missing records x o) o []) ≡ true → IsWellFormed p) [
   | None ↦ λ q h. cc
   | (Some o) ↦ λ q h.
+      let own = (own_well_formed x (own_path o) c q).0 in
       either_or _ _ (sym (list_any-append (same_path p) (missing_within n records o.0) (own_if_missing records x o)) ∙ h)
-      (missing_formed records n o.0 p)
-      (λ g. subst IsWellFormed (sym (paths_same p (own_path o) (first_true _ _ (sym (any_own p (own_path o) (dataset_exists records x)) ∙ g)))) ((own_entry_law x (own_path o)).0 q).0)
+      (missing_formed records n o.0 p own.dataset)
+      (λ g. subst IsWellFormed (sym (paths_same p (own_path o) (first_true _ _ (sym (any_own p (own_path o) (dataset_exists records x)) ∙ g)))) own)
 ] refl
 
-step_formed : (records : Stored) (entries : List StoreEntry) (p : Path) → list_any (same_path p) (missing_for records entries) ≡ true → IsWellFormed p
-step_formed records [] p h = cc
-step_formed records (x ∷ entries) p h =
+step_formed : (records : Stored) (entries : List StoreEntry) (p : Path) → list_all (λ e. is_well_formed e.path) entries ≡ true → list_any (same_path p) (missing_for records entries) ≡ true → IsWellFormed p
+step_formed records [] p all h = cc
+step_formed records (x ∷ entries) p all h =
     either_or _ _ (sym (list_any-append (same_path p) (missing_to records x.path.dataset) (missing_for records entries)) ∙ h)
-    (missing_formed records _ x.path.dataset p) (step_formed records entries p)
+    (missing_formed records _ x.path.dataset p (first_true _ _ (first_true _ _ all))) (step_formed records entries p (second_true _ _ all))
 
-module _ (s : Store) (realm : Realm) (user : List ℕ) (sent : Write) (now : ℤ) (change : Change) (made : planned s realm user sent now ≡ Ok change) (sound : IsSoundStore s.records) (named : list_all is_formed (paths_named sent) ≡ true) where
+module _ (s : Store) (realm : Realm) (user : List ℕ) (sent : Write) (now : ℤ) (change : Change) (made : planned s realm user sent now ≡ Ok change) (sound : IsSoundStore s.records) (by_name : is_user_name user ≡ true) (named : list_all is_well_formed (paths_named sent) ≡ true) where
   formed_by : (p : Path) (entry : Record) (found : Option StoreEntry) (b : Bool) → find (λ e. same_path p e.path) (entries_of s user sent) ≡ found → list_any (same_path p) (missing_for s.records (entries_of s user sent)) ≡ b
       → here s realm user sent now change made sound.housed p found b ≡ Some entry → IsWellFormed p
   formed_by p entry (Some e) b f m h =
       let same = paths_same p e.path (found_has (λ e. same_path p e.path) (entries_of s user sent) e f) in
-      formed p (ap is_formed same ∙ found_formed (λ e. same_path p e.path) (entries_of s user sent) e (entries_formed s.records user sent named) f)
-  formed_by p entry None true f m h = step_formed s.records (entries_of s user sent) p m
+      formed p (ap is_well_formed same ∙ found_formed (λ e. same_path p e.path) (entries_of s user sent) e (entries_formed s.records user sent by_name named) f)
+  formed_by p entry None true f m h = step_formed s.records (entries_of s user sent) p (entries_formed s.records user sent by_name named) m
   formed_by p entry None false f m h = sound.formed p entry h
 
   stays_sound : IsSoundStore (store_after change s).records
   stays_sound = record {
     formed = λ p entry e. formed_by p entry _ _ refl refl (sym (is_here s realm user sent now change made sound.housed p) ∙ e);
-    housed = housed_law.housed s realm user sent now change made sound.housed (all_absolute (entries_of s user sent) (entries_formed s.records user sent named));
+    housed = housed_law.housed s realm user sent now change made sound.housed (all_absolute (entries_of s user sent) (entries_formed s.records user sent by_name named));
   }
 
 pub sound_law : SoundLaw
 sound_law = record {
   empty = record { formed = λ p entry e. let none : None ≡ Some entry = sym (get-empty path_cmp p) ∙ e in cc; housed = housed_law.empty };
   stays = λ s realm user sent now change made sound. housed_law.stays s realm user sent now change made sound.housed;
-  sound = λ s realm user sent now change made sound named. stays_sound s realm user sent now change made sound named;
+  sound = λ s realm user sent now change made sound by_name named. stays_sound s realm user sent now change made sound by_name named;
 }

@@ -28,7 +28,7 @@ use Rattle.acap_store.specs.Planning.{planned_for, refusals_of, refusals_by_term
 use Rattle.acap_store.specs.Refusing.{first_of, same_path, refused_if}
 use Rattle.acap_store.specs.Writing.{put_all, written_for, steps_for, entry_at, step_at, missing_for}
 use Rattle.acap_store.specs.declared.meant.Meant.{Meant}
-use Rattle.acap_store.proofs.WriteLemmas.{get_after}
+use Rattle.acap_entries.proofs.AfterLemmas.{get_after}
 
 -- ---- the first refusal
 

@@ -8,10 +8,10 @@ use Rattle.std.specs.FinMap.Entries.{by_order, below_all}
 use Rattle.acap_entries.specs.Sorted.{put_in, InOrder}
 use Rattle.acap_entries.specs.Store.{path_cmp}
 use Rattle.acap_entries.proofs.MapLemmas.{from_sorted_none, insert_kept}
-use Rattle.acap_entries.proofs.StoreLemmas.{entries-IsPathByPath, path_cmp_total}
+use Rattle.acap_entries.proofs.StoreLemmas.{path_cmp_total}
 use Rattle.acap_entries.proofs.SortedLemmas.{first, second, is_less}
 use Rattle.acap_entries.specs.Names.{own_entry, dataset_of, name_of, dataset_len}
-use Rattle.acap_entries.specs.Store.{Stored, Written, after_fate, after_writes}
+use Rattle.acap_entries.specs.Store.{Stored, Written}
 use Rattle.acap_entries.specs.declared.path.Path.{Path}
 use Rattle.acap_entries.specs.declared.fate.Fate.{Fate}
 use Rattle.acap_commands.specs.declared.store_entry.StoreEntry.{StoreEntry}
@@ -50,10 +50,6 @@ with_values_push user p cells (x ∷ items) item = with_values_push user p (with
 pub with_lists_push : (acls : Listed) (items : List StoreItem) (item : StoreItem) → with_lists acls (items ++ item ∷ []) ≡ with_list (with_lists acls items) item
 with_lists_push acls [] item = refl
 with_lists_push acls (x ∷ items) item = with_lists_push (with_list acls x) items item
-
--- what is afterwards at a path
-pub get_after : (written : Written) (records : Stored) (p : Path) → table.get (after_writes (table.entries written) records) p ≡ after_fate (table.get written p) (table.get records p)
-get_after written records p = (entries-IsPathByPath written records).at_path p
 
 map_append : {A B : Type 0} (f : A → B) (xs ys : List A) → map f (xs ++ ys) ≡ map f xs ++ map f ys
 map_append f [] ys = refl

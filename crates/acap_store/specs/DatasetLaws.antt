@@ -1,12 +1,13 @@
 -- Which datasets there are after a command [RFC 2244 sections 3.1.1 and 4.1].
-use Rattle.std.specs.Prelude.{◌≡◌, ℕ, zero, suc, ℤ, List, [], ◌∷◌, length, map, Bool, true, false, not, ◌&&◌, ◌||◌, find, Ok, codes}
+use Rattle.std.specs.Prelude.{◌≡◌, ℕ, zero, suc, ℤ, List, [], ◌∷◌, length, map, Bool, true, false, ◌||◌, find, Ok, codes}
 use Rattle.std.specs.List.{list_any, list_all}
 use Rattle.std.specs.Option.{option_map_or}
 use Rattle.std.specs.FinMap as table
 use Rattle.acap_entries.specs.Changes.{store_after}
 use Rattle.acap_entries.specs.Datasets.{dataset_exists}
+use Rattle.acap_entries.specs.FullPaths.{is_well_formed}
 use Rattle.acap_entries.specs.Homes.{for_user}
-use Rattle.acap_entries.specs.Names.{slash, has, begins_with, ends_with, own_entry}
+use Rattle.acap_entries.specs.Names.{slash, begins_with, ends_with, is_user_name, own_entry}
 use Rattle.acap_entries.specs.Orders.{octets_eq}
 use Rattle.acap_entries.specs.Sound.{IsHoused, IsSoundStore}
 use Rattle.acap_entries.specs.Store.{Store}
@@ -76,20 +77,17 @@ pub record HousedLaw : Type 0 where
   pub housed : (s : Store) (realm : Realm) (user : List ℕ) (write : Write) (now : ℤ) (change : Change) → planned s realm user write now ≡ Ok change → IsHoused s.records →
       list_all (λ e. is_absolute e.path.dataset) (entries_of s user write) ≡ true → IsHoused (store_after change s).records
 
--- a path as commands name it: its dataset begins and ends with a slash, and its name has none
-abbrev pub is_formed : Path → Bool
-is_formed p = begins_with slash p.dataset && ends_with slash p.dataset && not (has slash p.name)
-
 -- the paths that a command names, `~` standing where it was sent
 abbrev pub paths_named : Write → List Path
 paths_named (write.Store entries) = map (λ e. e.path) entries
 paths_named (write.SetAcl object identifier letters) = list_path (target_named object.dataset object.attribute object.name) ∷ []
 paths_named (write.DeleteAcl object identifier) = list_path (target_named object.dataset object.attribute object.name) ∷ []
 
--- the empty store is sound, and so is what commands leave that name such paths; no dataset is taken away
+-- the empty store is sound, and so is what commands leave that name well-formed paths for a user with a name; no dataset is
+-- taken away
 pub record SoundLaw : Type 0 where
   pub empty : IsSoundStore table.empty
   pub stays : (s : Store) (realm : Realm) (user : List ℕ) (write : Write) (now : ℤ) (change : Change) → planned s realm user write now ≡ Ok change → IsSoundStore s.records →
       (dataset : List ℕ) → dataset_exists s.records dataset ≡ true → dataset_exists (store_after change s).records dataset ≡ true
   pub sound : (s : Store) (realm : Realm) (user : List ℕ) (write : Write) (now : ℤ) (change : Change) → planned s realm user write now ≡ Ok change → IsSoundStore s.records →
-      list_all is_formed (paths_named write) ≡ true → IsSoundStore (store_after change s).records
+      is_user_name user ≡ true → list_all is_well_formed (paths_named write) ≡ true → IsSoundStore (store_after change s).records

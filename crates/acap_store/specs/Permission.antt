@@ -55,6 +55,12 @@ denied_in records realm user e =
     then option_map (item_target e.path) (find (λ item. not (may_store records realm user e.path item)) e.items)
     else Some (entry_target e.path)
 
+-- the name of the entry that a target is of, or else the one given
+abbrev pub name_in : List ℕ → Target → List ℕ
+name_in name (OfDataset dataset) = name
+name_in name (OfAttribute dataset attribute) = name
+name_in name (OfEntry dataset attribute entry) = entry
+
 -- named as a client names it
 abbrev pub object_of : Target → Object
 object_of (OfDataset dataset) = record { dataset = dataset; attribute = None; name = None }

@@ -4,8 +4,8 @@ ghost use Rattle.std.specs.Option.{option_copied};
 ghost use Rattle.acap_store.specs.Refusing as rule;
 
 use crate::forms::exists_at;
-use acap_entries::{Boxed, Copying, Memory, Moment, Path, Tree};
 use acap_commands::{Refusal, StoreEntry};
+use acap_entries::{Boxed, Copying, Memory, Moment, Path, Tree};
 use acap_inherit::{chain, modtime};
 use std::alloc::Global;
 

@@ -6,13 +6,12 @@ ghost use Rattle.acap_store.specs.Deleting as rule;
 ghost use Rattle.acap_store.specs.Planning.{IsAnswer};
 
 use crate::forms::exists_at;
-use crate::overlay::Overlay;
 use crate::writing::ends;
-use acap_entries::{
-    Attribute, Cell, Cells, Copying, Dataset, Deletion, Memory, Moment, Paths, Tree, UserName,
-    Value, Values, Writes,
-};
 use acap_commands::{Refusal, StoreEntry};
+use acap_entries::{
+    After, Attribute, Cell, Cells, Copying, Dataset, Deletion, Memory, Moment, Paths, Tree,
+    UserName, Value, Values, Writes,
+};
 use acap_rights::{Object, Realm, rights_of};
 use std::alloc::Global;
 
@@ -47,7 +46,11 @@ pub(crate) fn gone(
 ) -> Result<Paths, Memory>
     ensures { IfOk result (λ made. made ≡ filter (λ p. not (rule.exists_after tree.now.store.records writes.now p)) paths) }
 {
-    let after = Overlay { tree, writes };
+    let after = After {
+        tree,
+        writes,
+        moment: tree.last(),
+    };
     let mut made = Paths::new(alloc);
     for path in paths.into_vec() {
         if !exists_at(&after, &path) {

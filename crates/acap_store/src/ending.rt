@@ -4,8 +4,8 @@ ghost use Rattle.std.specs.List.{list_any, starts_with};
 ghost use Rattle.acap_store.specs.Invalid as rule;
 
 use crate::forms::{is_management, is_nil_at};
-use acap_entries::{Path, Tree};
 use acap_commands::StoreEntry;
+use acap_entries::{Path, Tree};
 
 // Whether a text begins with one text and, behind it, another.
 fn begins_with_both(text: &[u8], first: &[u8], second: &[u8]) -> bool

@@ -2,8 +2,8 @@
 ghost use Rattle.std.specs.Prelude.{◌≡◌, is_none, is_some};
 ghost use Rattle.acap_store.specs.Forms as rule;
 
-use acap_entries::{Cell, Path, Records};
 use acap_commands::{Given, StoreItem, StoreMetadata};
+use acap_entries::{Cell, Path, Records};
 use acap_inherit::{chain, entry_exists, resolve};
 
 /// Whether a path is a management entry's.

@@ -8,8 +8,8 @@ use crate::ending::may_end;
 use crate::forms::{is_management, is_nothing, is_value};
 use crate::meant::Meant;
 use crate::permission::is_list;
-use acap_entries::{Boxed, Cell, Copying, Memory, Tree, is_dataset_argument};
 use acap_commands::{Given, Refusal, StoreEntry, StoreItem};
+use acap_entries::{Boxed, Cell, Copying, Memory, Tree, is_dataset_argument};
 use acap_rights::is_acl;
 use std::alloc::Global;
 

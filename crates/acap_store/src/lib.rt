@@ -13,7 +13,6 @@ mod meaning;
 mod meant;
 mod missing;
 mod objects;
-mod overlay;
 mod permission;
 mod planning;
 mod records;

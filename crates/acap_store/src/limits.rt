@@ -5,8 +5,8 @@ ghost use Rattle.std.specs.FinMap as table;
 ghost use Rattle.acap_store.specs.Limits as limits;
 ghost use Rattle.acap_store.specs.Counting as counting;
 
-use acap_entries::{Cell, Fate, Path, Tree, Value, Writes};
 use acap_commands::{Given, StoreEntry};
+use acap_entries::{Cell, Fate, Path, Tree, Value, Writes};
 
 /// How many octets a string may have.
 const STRING: usize = 65_536;

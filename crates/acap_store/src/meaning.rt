@@ -8,10 +8,12 @@ ghost use Rattle.acap_store.specs.Meaning as rule;
 use crate::meant::Meant;
 use crate::objects::{lent_object, object_for};
 use crate::write::Write;
+use acap_commands::{
+    Entries, Given, Object, StoreEntry, StoreItem, StoreItems, StoreMetadata, StoreModifiers,
+};
 use acap_entries::{
     Attribute, Cell, Copying, Dataset, EntryName, Memory, Path, Tree, UserName, Value,
 };
-use acap_commands::{Entries, Given, Object, StoreEntry, StoreItem, StoreItems, StoreMetadata, StoreModifiers};
 use acap_rights::{Acl, decided_list, list_attribute};
 use std::alloc::Global;
 
@@ -45,13 +47,6 @@ fn one_entry(alloc: Global, path: Path, item: StoreItem) -> Result<Entries, Memo
     Ok(entries)
 }
 
-// The name of the management entry.
-fn no_name(alloc: Global) -> Result<EntryName, Memory>
-    ensures { IfOk result (λ name. name ≡ []) }
-{
-    EntryName::from_slice(alloc, b"")
-}
-
 // The STORE of a value in the management entry of a dataset.
 fn management_store(
     alloc: Global,
@@ -61,7 +56,7 @@ fn management_store(
 ) -> Result<Entries, Memory>
     ensures { IfOk result (λ made. made ≡ record { path = record { dataset = dataset; name = [] }; modifiers = rule.no_create; items = record { attribute = attribute; metadata = metadata.Value; given = given } ∷ [] } ∷ []) }
 {
-    let name = no_name(alloc)?;
+    let name = EntryName::of_management(alloc);
     let item = StoreItem {
         attribute,
         metadata: StoreMetadata::Value,

@@ -1,15 +1,15 @@
 //! The own entries of datasets that are missing.
 ghost use Rattle.std.specs.Option.{option_map_or};
-ghost use Rattle.acap_entries.specs.Names.{own_entry};
-ghost use Rattle.std.specs.Prelude.{◌≡◌, [], ◌∷◌, map, codes, IfOk, OnOk};
+ghost use Rattle.acap_entries.specs.Names.{is_closed_dataset, own_entry};
+ghost use Rattle.std.specs.Prelude.{◌≡◌, [], ◌∷◌, map, codes, IfOk, IsTrue, OnOk};
 ghost use Rattle.acap_entries.specs.declared.cell.Cell.TheVariants as cell;
 ghost use Rattle.acap_store.specs.Writing as writing;
 
 use crate::records::{acls_of, cells_of, renewed};
+use acap_commands::StoreEntry;
 use acap_entries::{
     Attribute, Boxed, Cell, Fate, Memory, Moment, Path, Tree, Value, Values, Writes, own_entry_of,
 };
-use acap_commands::StoreEntry;
 use std::alloc::Global;
 
 // The list of the one string `.`.
@@ -42,6 +42,7 @@ fn write_step(
     dataset: &[u8],
     moment: Moment,
 ) -> Result<(), Memory>
+    requires { IsTrue (is_closed_dataset dataset.now) }
     ensures { OnOk result (writes.new ≡ writing.put_all (map (writing.step_at tree.now.store.records moment) (option_map_or (writing.own_if_missing tree.now.store.records dataset.now) (own_entry dataset.now) [])) writes.old) }
 {
     if tree.dataset_exists(dataset) {
@@ -62,6 +63,7 @@ fn write_steps(
     dataset: &[u8],
     moment: Moment,
 ) -> Result<(), Memory>
+    requires { IsTrue (is_closed_dataset dataset.now) }
     ensures { OnOk result (writes.new ≡ writing.put_all (map (writing.step_at tree.now.store.records moment) (writing.missing_to tree.now.store.records dataset.now)) writes.old) }
 {
     let mut way = dataset;

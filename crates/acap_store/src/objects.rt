@@ -3,8 +3,8 @@ ghost use Rattle.std.specs.Prelude.{◌≡◌, IfOk};
 ghost use Rattle.acap_rights.specs.Deciding.{target_of};
 ghost use Rattle.acap_store.specs.Meaning.{target_named, target_for};
 
-use acap_entries::{Memory, UserName};
 use acap_commands::Object;
+use acap_entries::{Memory, UserName};
 
 /// The object of a command, lent as what rights are about (RFC 2244 section 3.5). Takes no memory.
 pub fn lent_object(object: &Object) -> acap_rights::Object<'_>

@@ -7,8 +7,8 @@ ghost use Rattle.acap_store.specs.Permission as rule;
 ghost use Rattle.acap_store.specs.Sharing.{HasNoLists, AreShared};
 
 use crate::forms::{exists_at, is_management, is_nil_at, is_value};
-use acap_entries::{Attribute, Boxed, Copying, EntryName, Memory, Path, Tree, UserName};
 use acap_commands::{Refusal, StoreEntry, StoreItem};
+use acap_entries::{Attribute, Boxed, Copying, Memory, Path, Tree, UserName};
 use acap_rights::{Object, Realm, Rights, object_of_list, rights_of, shared_rights};
 use std::alloc::Global;
 
@@ -97,6 +97,7 @@ fn may_touch(asked: &Asked<'_>) -> bool
 fn list_object<'a>(path: &'a Path, item: &'a StoreItem) -> Option<Object<'a>>
     ensures target { option_map decided.target_of result ≡ rule.list_target path.now item.now }
     ensures inside { IfSome result (λ object. decided.dataset_in (decided.target_of object) ≡ path.now.dataset) }
+    ensures named { IfSome result (λ object. rule.name_in path.now.name (decided.target_of object) ≡ path.now.name) }
 {
     let dataset = path.dataset.as_slice();
     let attribute = item.attribute.as_slice();
@@ -118,6 +119,7 @@ fn list_object<'a>(path: &'a Path, item: &'a StoreItem) -> Option<Object<'a>>
 fn item_object<'a>(path: &'a Path, item: &'a StoreItem) -> Object<'a>
     ensures target { decided.target_of result ≡ rule.item_target path.now item.now }
     ensures inside { decided.dataset_in (decided.target_of result) ≡ path.now.dataset }
+    ensures named { rule.name_in path.now.name (decided.target_of result) ≡ path.now.name }
 {
     match list_object(path, item) {
         Some(object) => object,
@@ -166,6 +168,7 @@ fn denied_in<'a>(
     requires { shared ≡ sharing.shared_rights by.now.tree.now.store.records by.now.realm.now by.now.user.now entry.now.path.dataset }
     ensures target { option_map decided.target_of result ≡ rule.denied_in by.now.tree.now.store.records by.now.realm.now by.now.user.now entry.now }
     ensures inside { IfSome result (λ object. decided.dataset_in (decided.target_of object) ≡ entry.now.path.dataset) }
+    ensures named { IfSome result (λ object. rule.name_in entry.now.path.name (decided.target_of object) ≡ entry.now.path.name) }
 {
     let asked = Asked {
         by,
@@ -183,7 +186,8 @@ fn denied_in<'a>(
 
 // The object as a refusal names it.
 fn named(alloc: Global, path: &Path, object: &Object<'_>) -> Result<acap_commands::Object, Memory>
-    requires { decided.dataset_in (decided.target_of object.now) ≡ path.now.dataset }
+    requires inside { decided.dataset_in (decided.target_of object.now) ≡ path.now.dataset }
+    requires named { rule.name_in path.now.name (decided.target_of object.now) ≡ path.now.name }
     ensures { IfOk result (λ made. made ≡ rule.object_of (decided.target_of object.now)) }
 {
     let dataset = path.dataset.copy()?;
@@ -193,13 +197,9 @@ fn named(alloc: Global, path: &Path, object: &Object<'_>) -> Result<acap_command
             Some(Attribute::from_slice(alloc, attribute)?),
             None,
         ),
-        Object::Entry {
-            attribute,
-            name,
-            ..
-        } => {
+        Object::Entry { attribute, .. } => {
             let attribute = Attribute::from_slice(alloc, attribute)?;
-            (Some(attribute), Some(EntryName::from_slice(alloc, name)?))
+            (Some(attribute), Some(path.name.copy()?))
         }
     };
     Ok(acap_commands::Object {

@@ -12,8 +12,8 @@ use crate::permission::Asker;
 use crate::refusing::refusal_of;
 use crate::write::Write;
 use crate::writing::written_for;
-use acap_entries::{Change, Memory, Moment, Tree, UserName};
 use acap_commands::{Entries, Refusal};
+use acap_entries::{Change, Memory, Moment, Tree, UserName};
 use acap_rights::Realm;
 use std::alloc::Global;
 

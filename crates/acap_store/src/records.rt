@@ -6,11 +6,11 @@ ghost use Rattle.acap_entries.specs.Names.{closed};
 ghost use Rattle.acap_store.specs.Writing as writing;
 
 use crate::forms::{is_management, is_value};
+use acap_commands::{Given, StoreItem};
 use acap_entries::{
     Acls, Attribute, Cell, Cells, Copying, Dataset, Memory, Moment, NameFault, Path, Record,
     UserName, Value,
 };
-use acap_commands::{Given, StoreItem};
 use std::alloc::Global;
 
 /// The cells of what a path had.

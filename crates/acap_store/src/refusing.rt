@@ -9,8 +9,8 @@ use crate::conditions::{modified, no_exist};
 use crate::invalid::invalid;
 use crate::meant::Meant;
 use crate::permission::{Asker, permission};
-use acap_entries::{Memory, Tree};
 use acap_commands::{EntryOrder, Refusal, StoreEntry};
+use acap_entries::{Memory, Tree};
 use std::alloc::Global;
 use std::cmp::Ordering;
 

@@ -1,7 +1,7 @@
 //! The commands that write.
 
-use acap_entries::{Boxed, Value};
 use acap_commands::{Entries, Object};
+use acap_entries::{Boxed, Value};
 
 /// A command that writes, as sent: `~` stands (RFC 2244 sections 6.6.1 and 6.7).
 #[derive(Drop)]

@@ -8,10 +8,10 @@ ghost use Rattle.acap_store.specs.Writing as writing;
 use crate::forms::{is_ending, is_of};
 use crate::missing::steps_for;
 use crate::records::{acls_of, cells_of, deleted_record, give_item, renewed};
+use acap_commands::{Entries, Given, StoreEntry, StoreItem, StoreItems};
 use acap_entries::{
     Acls, Boxed, Cell, Cells, Fate, Memory, Moment, Path, Record, Tree, UserName, Writes,
 };
-use acap_commands::{Entries, Given, StoreEntry, StoreItem, StoreItems};
 use std::alloc::Global;
 
 // Whether NIL is given.

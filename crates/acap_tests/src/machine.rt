@@ -1,11 +1,11 @@
 //! Tests of the machine: copies, runs, and events that are refused memory. What is answered is in the rows.
 ghost use Rattle.std.specs.Prelude.{◌<◌};
 
-use acap_entries::{Copying, Memory, Moment, Seat, UserName};
 use acap_commands::{Command, Event, Fault, Reply};
+use acap_entries::{Copying, Memory, Moment, Seat, UserName};
 use acap_grammar::{GrammarError, parse, render};
 use acap_lexer::{Lexed, Lexer, Mode};
-use acap_machine::{Outcomes, State, Step, Steps, run};
+use acap_machine::{Outcomes, State, Step, StepList, run};
 use acap_rights::Realm;
 use std::alloc::Global;
 
@@ -47,7 +47,8 @@ fn command_of(alloc: Global, line: &[u8]) -> Result<Command, GrammarError> {
 // The event of a text: `enter` and a user's name, `drain`, `leave`, or a command's line.
 fn event_of(alloc: Global, text: &[u8]) -> Result<Event, Fault> {
     if let Some(user) = text.strip_prefix(b"enter ") {
-        return Ok(Event::Enter(UserName::from_slice(alloc, user)?));
+        let user = UserName::read(alloc, user).map_err(|_| Fault::Memory)?;
+        return Ok(Event::Enter(user));
     }
     if text == b"drain".as_slice() {
         return Ok(Event::Drain);
@@ -235,8 +236,8 @@ fn goes_on_after_a_refusal(rt: HostRuntime) {
 }
 
 // The steps of these events.
-fn steps_of(alloc: Global, lines: &[Line]) -> Result<Steps, Fault> {
-    let mut steps = Steps::new(alloc);
+fn steps_of(alloc: Global, lines: &[Line]) -> Result<StepList, Fault> {
+    let mut steps = StepList::new(alloc);
     for (number, clock, text, _) in lines {
         steps.push(Step {
             seat: seat((*number).min(63)),
@@ -266,7 +267,7 @@ fn are_said(alloc: Global, outcomes: &Outcomes, lines: &[Line]) -> bool {
 }
 
 // A run performs all its steps, or those up to one that is refused memory.
-fn runs(alloc: Global, steps: Steps, lines: &[Line], count: usize) -> bool {
+fn runs(alloc: Global, steps: StepList, lines: &[Line], count: usize) -> bool {
     let mut state = empty(alloc);
     match run(alloc, &mut state, steps) {
         Ok(outcomes) => are_said(alloc, &outcomes, lines) && state.tree().len() == count,

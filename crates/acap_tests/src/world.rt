@@ -39,7 +39,7 @@ fn world(alloc: Global) -> Result<World, Memory> {
 fn enter(alloc: Global, world: &mut World, number: u8, name: &[u8]) -> Result<(), WorldFault>
     requires { number < 64 }
 {
-    let user = UserName::from_slice(alloc, name)?;
+    let user = UserName::read(alloc, name).map_err(|_| WorldFault::Memory)?;
     world.open(seat(number), Some(user), Moment::first(), NONCE)
 }
 

@@ -1,41 +1,67 @@
-use Rattle.std.proofs.Common.{◌≡◌, ◌<◌, length, sym, ap, ◌∙◌, arith}
-use Rattle.acap_entries.proofs.LeafLemmas.{leaf_read, leaf_in_order, without_in_leaf, filled_set, filled_emptied, joined_emptied, positive_if, joined_set_length}
+use Rattle.std.proofs.Common.{◌≡◌, ◌<◌, ◌+◌, length, set, sym, ap, ◌∙◌, arith}
+use Rattle.acap_entries.specs.Leaves.{joined}
+use Rattle.acap_entries.proofs.LeafLemmas.{leaf_read, leaf_in_order, entry_in_leaf, without_in_leaf, filled_set, filled_emptied, joined_emptied, positive_if, joined_set_length, some_from, none_from}
 use Rattle.acap_entries.proofs.leaves.take_out_at.Goals as goal
 
-pub take_out-requires : goal.take_out-requires
-take_out-requires g c =
+pub take_out-taken-requires : goal.take_out-taken-requires
+take_out-taken-requires g c =
     let at : c.args.at < length c.args.leaves.now.items = omega (arith, c.requires.among.within) in
     rw (← leaf_read _ _ _ at c.index_mut-leaf.ensures.value) (leaf_in_order g.K.Ord.cmp _ _ c.requires.sorted at)
 
-pub returns-then-left-eq0-clause-items : goal.returns-then-left-eq0-clause-items
-returns-then-left-eq0-clause-items g c =
+pub returns-then-len-eq0-clause-taken : goal.returns-then-len-eq0-clause-taken
+returns-then-len-eq0-clause-taken g c =
     let at : c.args.at < length c.args.leaves.now.items = omega (arith, c.requires.among.within) in
-    let none : length c.take_out.new.self ≡ 0 = sym c.len-left.ensures.value ∙ c.if-left-eq0.true in
-    rw (c.remove.ensures.items, joined_emptied _ _ _ at none, c.take_out.ensures.value, ← leaf_read _ _ _ at c.index_mut-leaf.ensures.value)
+    rw (c.take_out-taken.ensures.taken, ← leaf_read _ _ _ at c.index_mut-leaf.ensures.value) (entry_in_leaf g.K.Ord.cmp g.met.K.Ord.total _ _ _ c.requires.sorted c.requires.among)
+
+pub returns-then-len-eq0-clause-items : goal.returns-then-len-eq0-clause-items
+returns-then-len-eq0-clause-items g c =
+    let at : c.args.at < length c.args.leaves.now.items = omega (arith, c.requires.among.within) in
+    let none : length c.take_out-taken.new.self ≡ 0 = sym c.len.ensures.value ∙ c.if-len-eq0.true in
+    rw (c.remove.ensures.items, joined_emptied _ _ _ at none, c.take_out-taken.ensures.value, ← leaf_read _ _ _ at c.index_mut-leaf.ensures.value)
     (without_in_leaf g.K.Ord.cmp g.met.K.Ord.total _ _ _ c.requires.sorted c.requires.among)
 
-pub returns-then-left-eq0-clause-filled : goal.returns-then-left-eq0-clause-filled
-returns-then-left-eq0-clause-filled g c = rw c.remove.ensures.items (filled_emptied _ _ _ c.requires.filled)
+pub returns-then-len-eq0-clause-filled : goal.returns-then-len-eq0-clause-filled
+returns-then-len-eq0-clause-filled g c = rw c.remove.ensures.items (filled_emptied _ _ _ c.requires.filled)
 
-pub returns-then-left-eq0-clause-count : goal.returns-then-left-eq0-clause-count
-returns-then-left-eq0-clause-count g c =
+pub returns-then-len-eq0-clause-some : goal.returns-then-len-eq0-clause-some
+returns-then-len-eq0-clause-some g c =
     let at : c.args.at < length c.args.leaves.now.items = omega (arith, c.requires.among.within) in
-    let none : length c.take_out.new.self ≡ 0 = sym c.len-left.ensures.value ∙ c.if-left-eq0.true in
-    let counted = joined_set_length c.args.leaves.now.items c.args.at c.take_out.new.self at in
+    let none : length c.take_out-taken.new.self ≡ 0 = sym c.len.ensures.value ∙ c.if-len-eq0.true in
+    let counted = joined_set_length c.args.leaves.now.items c.args.at c.take_out-taken.new.self at in
     let before = ap length (leaf_read _ _ _ at c.index_mut-leaf.ensures.value) in
-    rw (c.remove.ensures.items, joined_emptied _ _ _ at none) (omega (arith, counted, before, none, c.len-count.ensures.value))
+    rw (c.remove.ensures.items, joined_emptied _ _ _ at none) (some_from c.take_out-taken.result (length c.take_out-taken.new.self + 1 ≡ length c.index_mut-leaf.result.now) (length (joined (set c.args.leaves.now.items c.args.at c.take_out-taken.new.self)) + 1 ≡ length (joined c.args.leaves.now.items)) (λ one. omega (arith, counted, before, one)) c.take_out-taken.ensures.some)
+
+pub returns-then-len-eq0-clause-none : goal.returns-then-len-eq0-clause-none
+returns-then-len-eq0-clause-none g c =
+    let at : c.args.at < length c.args.leaves.now.items = omega (arith, c.requires.among.within) in
+    let none : length c.take_out-taken.new.self ≡ 0 = sym c.len.ensures.value ∙ c.if-len-eq0.true in
+    let counted = joined_set_length c.args.leaves.now.items c.args.at c.take_out-taken.new.self at in
+    let before = ap length (leaf_read _ _ _ at c.index_mut-leaf.ensures.value) in
+    rw (c.remove.ensures.items, joined_emptied _ _ _ at none) (none_from c.take_out-taken.result (length c.take_out-taken.new.self ≡ length c.index_mut-leaf.result.now) (length (joined (set c.args.leaves.now.items c.args.at c.take_out-taken.new.self)) ≡ length (joined c.args.leaves.now.items)) (λ same. omega (arith, counted, before, same)) c.take_out-taken.ensures.none)
+
+pub returns-clause-taken : goal.returns-clause-taken
+returns-clause-taken g c =
+    let at : c.args.at < length c.args.leaves.now.items = omega (arith, c.requires.among.within) in
+    rw (c.take_out-taken.ensures.taken, ← leaf_read _ _ _ at c.index_mut-leaf.ensures.value) (entry_in_leaf g.K.Ord.cmp g.met.K.Ord.total _ _ _ c.requires.sorted c.requires.among)
 
 pub returns-clause-items : goal.returns-clause-items
 returns-clause-items g c =
     let at : c.args.at < length c.args.leaves.now.items = omega (arith, c.requires.among.within) in
-    rw (c.take_out.ensures.value, ← leaf_read _ _ _ at c.index_mut-leaf.ensures.value) (without_in_leaf g.K.Ord.cmp g.met.K.Ord.total _ _ _ c.requires.sorted c.requires.among)
+    rw (c.take_out-taken.ensures.value, ← leaf_read _ _ _ at c.index_mut-leaf.ensures.value) (without_in_leaf g.K.Ord.cmp g.met.K.Ord.total _ _ _ c.requires.sorted c.requires.among)
 
 pub returns-clause-filled : goal.returns-clause-filled
-returns-clause-filled g c = filled_set _ _ _ c.requires.filled (positive_if _ (λ none. c.if-left-eq0.false (c.len-left.ensures.value ∙ none)))
+returns-clause-filled g c = filled_set _ _ _ c.requires.filled (positive_if _ (λ none. c.if-len-eq0.false (c.len.ensures.value ∙ none)))
 
-pub returns-clause-count : goal.returns-clause-count
-returns-clause-count g c =
+pub returns-clause-some : goal.returns-clause-some
+returns-clause-some g c =
     let at : c.args.at < length c.args.leaves.now.items = omega (arith, c.requires.among.within) in
-    let counted = joined_set_length c.args.leaves.now.items c.args.at c.take_out.new.self at in
+    let counted = joined_set_length c.args.leaves.now.items c.args.at c.take_out-taken.new.self at in
     let before = ap length (leaf_read _ _ _ at c.index_mut-leaf.ensures.value) in
-    omega (arith, counted, before, c.len-left.ensures.value, c.len-count.ensures.value, c.take_out.ensures.falls)
+    some_from c.take_out-taken.result (length c.take_out-taken.new.self + 1 ≡ length c.index_mut-leaf.result.now) (length (joined (set c.args.leaves.now.items c.args.at c.take_out-taken.new.self)) + 1 ≡ length (joined c.args.leaves.now.items)) (λ one. omega (arith, counted, before, one)) c.take_out-taken.ensures.some
+
+pub returns-clause-none : goal.returns-clause-none
+returns-clause-none g c =
+    let at : c.args.at < length c.args.leaves.now.items = omega (arith, c.requires.among.within) in
+    let counted = joined_set_length c.args.leaves.now.items c.args.at c.take_out-taken.new.self at in
+    let before = ap length (leaf_read _ _ _ at c.index_mut-leaf.ensures.value) in
+    none_from c.take_out-taken.result (length c.take_out-taken.new.self ≡ length c.index_mut-leaf.result.now) (length (joined (set c.args.leaves.now.items c.args.at c.take_out-taken.new.self)) ≡ length (joined c.args.leaves.now.items)) (λ same. omega (arith, counted, before, same)) c.take_out-taken.ensures.none

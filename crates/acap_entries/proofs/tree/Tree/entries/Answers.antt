@@ -10,5 +10,5 @@ use Rattle.acap_entries.proofs.tree.Tree.entries.Goals as goal
 
 pub returns : goal.returns
 returns c =
-    let stored : c.self.inside.entries.0 ≡ map.entries c.args.self.now.store.records = sym (entries_kept path_cmp c.self.inside.entries.0 c.self.invariant) ∙ ap (λ (t : Roomy). map.entries t.store.records) c.self.view_is in
+    let stored : c.self.inside.entries.0 ≡ map.entries c.args.self.now.store.records = sym (entries_kept path_cmp c.self.inside.entries.0 c.self.invariant.sorted) ∙ ap (λ (t : Roomy). map.entries t.store.records) c.self.view_is in
     taken_whole c.len.result (joined c.as_slice.result.now) (c.len.ensures ∙ ap (λ (es : List (Path × Record)). length es) (sym c.as_slice.ensures.items)) ∙ c.as_slice.ensures.items ∙ stored

@@ -14,10 +14,10 @@ between-requires-clause-rises c = beneath_rises c.open_ended-front.result.now
 
 pub returns : goal.returns
 returns c =
-    let stored : c.self.inside.entries.0 ≡ map.entries c.args.self.now.store.records = sym (entries_kept path_cmp c.self.inside.entries.0 c.self.invariant) ∙ ap (λ (t : Roomy). map.entries t.store.records) c.self.view_is in
+    let stored : c.self.inside.entries.0 ≡ map.entries c.args.self.now.store.records = sym (entries_kept path_cmp c.self.inside.entries.0 c.self.invariant.sorted) ∙ ap (λ (t : Roomy). map.entries t.store.records) c.self.view_is in
     let f = c.open_ended-front.result.now in
     c.between.ensures
     ∙ ap (λ (es : List (Path × Record)). take (place path_cmp (edge (f ++ 48 ∷ [])) es - place path_cmp (edge (f ++ 47 ∷ [])) es) (drop (place path_cmp (edge (f ++ 47 ∷ [])) es) es)) c.as_slice.ensures.items
-    ∙ sym (beneath_entries f c.self.inside.entries.0 c.self.invariant)
+    ∙ sym (beneath_entries f c.self.inside.entries.0 c.self.invariant.sorted)
     ∙ ap (λ (es : List (Path × Record)). filter (λ e. starts_with nat_eq e.0.dataset (f ++ 47 ∷ [])) es) stored
     ∙ ap (λ (d : List ℕ). filter (λ e. starts_with nat_eq e.0.dataset d) (map.entries c.args.self.now.store.records)) c.open_ended-front.ensures

@@ -15,9 +15,9 @@ between-requires-clause-rises c = own_rises c.args.dataset.now
 
 pub returns : goal.returns
 returns c =
-    let stored : c.self.inside.entries.0 ≡ map.entries c.args.self.now.store.records = sym (entries_kept path_cmp c.self.inside.entries.0 c.self.invariant) ∙ ap (λ (t : Roomy). map.entries t.store.records) c.self.view_is in
+    let stored : c.self.inside.entries.0 ≡ map.entries c.args.self.now.store.records = sym (entries_kept path_cmp c.self.inside.entries.0 c.self.invariant.sorted) ∙ ap (λ (t : Roomy). map.entries t.store.records) c.self.view_is in
     let d = c.args.dataset.now in
     c.between.ensures
     ∙ ap (λ (es : List (Path × Record)). take (place path_cmp (edge (d ++ 0 ∷ [])) es - place path_cmp (edge (d ++ [])) es) (drop (place path_cmp (edge (d ++ [])) es) es)) c.as_slice.ensures.items
-    ∙ sym (own_entries d c.self.inside.entries.0 c.self.invariant)
+    ∙ sym (own_entries d c.self.inside.entries.0 c.self.invariant.sorted)
     ∙ ap (λ (es : List (Path × Record)). filter (λ e. octets_eq d e.0.dataset) es) stored

@@ -1,0 +1,60 @@
+//! A store as a change will leave it.
+ghost use Rattle.std.specs.Prelude.{◌≡◌};
+ghost use Rattle.std.specs.Option.{option_copied};
+ghost use Rattle.std.specs.FinMap as map;
+ghost use Rattle.acap_entries.specs.Ahead.{IsReadAhead};
+ghost use Rattle.acap_entries.specs.Changes.{left_by};
+
+use crate::change::Change;
+use crate::fate::Fate;
+use crate::moment::Moment;
+use crate::record::Record;
+use crate::records::Records;
+use crate::tree::Tree;
+use crate::writes::Writes;
+
+/// The store that a change will leave, read before it is committed: the records are those of afterwards, the last
+/// moment is the change's, and what is known of deletions is as before. Takes no memory.
+#[derive(Clone, Copy, Drop)]
+pub struct After<'a> {
+    /// The tree before the change.
+    pub tree: &'a Tree,
+    /// What is written.
+    pub writes: &'a Writes,
+    /// The moment that the store then has.
+    pub moment: Moment,
+}
+
+impl<'a> After<'a> {
+    /// The store that a change of this tree will leave: its records and its last moment.
+    #[tactic(auto, using(crate::proofs::AfterLemmas::read_ahead))]
+    pub fn of(tree: &'a Tree, change: &'a Change) -> After<'a>
+        ensures tree { result.tree.now ≡ tree.now }
+        ensures writes { result.writes.now ≡ change.now.writes }
+        ensures moment { result.moment ≡ change.now.moment }
+        ensures store { IsReadAhead change.now tree.now.store (left_by result.writes.now result.moment result.tree.now.store) }
+    {
+        After {
+            tree,
+            writes: &change.writes,
+            moment: change.moment,
+        }
+    }
+}
+
+#[tactic(auto, using(crate::proofs::AfterLemmas::get_after))]
+impl<'a> Records for After<'a> {
+    ghost store = { λ a. left_by a.writes.now a.moment a.tree.now.store };
+
+    fn find(&self, dataset: &[u8], name: &[u8]) -> Option<&Record> {
+        match self.writes.find(dataset, name) {
+            Some(Fate::Put(record)) => Some(record.get()),
+            Some(Fate::Remove) => None,
+            None => self.tree.find(dataset, name),
+        }
+    }
+
+    fn last(&self) -> Moment {
+        self.moment
+    }
+}

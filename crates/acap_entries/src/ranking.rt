@@ -1,0 +1,67 @@
+//! Ranked items in their order, wherever they lie.
+ghost use Rattle.std.specs.Prelude.{◌≡◌, ◌==◌, length};
+ghost use Rattle.std.specs.Iterator.{YieldsFirstBy, item_count};
+
+use crate::leaf::Leaf;
+use crate::listing::filled;
+use std::marker::Model;
+
+/// Items in their order: an iterator, seen as the list of those that are still to come. Looks at them where they lie,
+/// and takes no memory.
+#[derive(Drop)]
+pub struct Ranking<'a, T> {
+    pub(crate) front: &'a [(T, ())],
+    pub(crate) leaves: &'a [Leaf<T, ()>],
+    pub(crate) left: usize,
+}
+
+impl<'a, T> Model for Ranking<'a, T> {
+    ghost use Rattle.std.specs.Prelude.{List, ◌++◌, ◌≤◌, take, length, map};
+    ghost use Rattle.acap_entries.specs.Leaves.{joined, AreFilled};
+
+    ghost Value = { List T };
+
+    ghost view = { λ l. take l.left (map (λ e. e.0) (l.front.now ++ joined l.leaves.now)) };
+
+    ghost invariant = { λ l. AreFilled l.leaves.now × (l.left ≤ length (l.front.now ++ joined l.leaves.now)) };
+}
+
+impl<'a, T: Ord + Drop> Ranking<'a, T> {
+    /// How many are still to come.
+    pub fn len(&self) -> usize
+        ensures { result ≡ length self.now }
+    {
+        self.left
+    }
+
+    /// Whether none is still to come.
+    pub fn is_empty(&self) -> bool
+        ensures { result ≡ (length self.now == 0) }
+    {
+        self.left == 0
+    }
+}
+
+impl<'a, T: Ord + Drop> Iterator for Ranking<'a, T> {
+    type Item = &'a T;
+
+    ghost next_gives = { YieldsFirstBy (λ item. item.now) (λ rest. rest) };
+
+    ghost remaining = { item_count (λ rest. rest) };
+
+    fn next(&mut self) -> Option<&'a T> {
+        if self.left == 0 {
+            return None;
+        }
+        let (front, leaves) = filled(self.front, self.leaves);
+        let (entry, front) = front.split_first()?;
+        self.front = front;
+        self.leaves = leaves;
+        self.left -= 1;
+        Some(&entry.0)
+    }
+
+    fn size_hint(&self) -> (usize, Option<usize>) {
+        (self.left, Some(self.left))
+    }
+}

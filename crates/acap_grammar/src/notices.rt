@@ -1,0 +1,142 @@
+//! What is told of contexts, as octets (RFC 2244 section 6.5).
+
+ghost use Rattle.std.specs.Prelude.{◌≡◌, ◌++◌, OnOk};
+ghost use Rattle.acap_lexer.specs.Printing.{Grows};
+ghost use Rattle.acap_grammar.specs.Replies.{about_form, position_form, added_form, removed_form, changed_form, notice_form, upto_form, freed_form, told_form, tolds_form};
+
+use crate::data::append_items;
+use crate::strings::append_string;
+use acap_entries::{ContextName, Memory, Moment, Row, Value, stamp};
+use acap_notices::{Notice, Told};
+
+// A number behind a space.
+#[tactic(auto, unfolding(crate::specs::Replies::position_form))]
+fn append_position(position: usize, out: &mut Vec<u8>) -> Result<(), Memory>
+    ensures ok { OnOk result (out.new.items ≡ out.old.items ++ position_form position) }
+    ensures grows { Grows out.old.items out.new.items }
+{
+    let digits = position.to_string(*out.allocator())?;
+    out.push(b' ')?;
+    out.extend_from_slice(digits.as_bytes())?;
+    Ok(())
+}
+
+// The word of a line, the context, and the entry or what is told of the context.
+#[tactic(auto, unfolding(crate::specs::Replies::about_form))]
+fn append_about(word: &[u8], context: &[u8], thing: &[u8], out: &mut Vec<u8>) -> Result<(), Memory>
+    ensures ok { OnOk result (out.new.items ≡ out.old.items ++ about_form word.now context.now thing.now) }
+    ensures grows { Grows out.old.items out.new.items }
+{
+    out.extend_from_slice(word)?;
+    append_string(context, out)?;
+    out.push(b' ')?;
+    append_string(thing, out)
+}
+
+#[tactic(auto, unfolding(crate::specs::Replies::added_form))]
+fn append_added(
+    context: &ContextName,
+    position: usize,
+    row: &Row,
+    out: &mut Vec<u8>,
+) -> Result<(), Memory>
+    ensures ok { OnOk result (out.new.items ≡ out.old.items ++ added_form context.now position row.now) }
+    ensures grows { Grows out.old.items out.new.items }
+{
+    append_about(b"* ADDTO ", context.as_slice(), row.name.as_slice(), out)?;
+    append_position(position, out)?;
+    append_items(row.items.as_slice(), out)?;
+    out.extend_from_slice(b"\r\n")?;
+    Ok(())
+}
+
+#[tactic(auto, unfolding(crate::specs::Replies::removed_form))]
+fn append_removed(
+    context: &ContextName,
+    entry: &Value,
+    position: usize,
+    out: &mut Vec<u8>,
+) -> Result<(), Memory>
+    ensures ok { OnOk result (out.new.items ≡ out.old.items ++ removed_form context.now entry.now position) }
+    ensures grows { Grows out.old.items out.new.items }
+{
+    append_about(b"* REMOVEFROM ", context.as_slice(), entry.as_slice(), out)?;
+    append_position(position, out)?;
+    out.extend_from_slice(b"\r\n")?;
+    Ok(())
+}
+
+#[tactic(auto, unfolding(crate::specs::Replies::changed_form))]
+fn append_changed(
+    context: &ContextName,
+    old: usize,
+    new: usize,
+    row: &Row,
+    out: &mut Vec<u8>,
+) -> Result<(), Memory>
+    ensures ok { OnOk result (out.new.items ≡ out.old.items ++ changed_form context.now old new row.now) }
+    ensures grows { Grows out.old.items out.new.items }
+{
+    append_about(b"* CHANGE ", context.as_slice(), row.name.as_slice(), out)?;
+    append_position(old, out)?;
+    append_position(new, out)?;
+    append_items(row.items.as_slice(), out)?;
+    out.extend_from_slice(b"\r\n")?;
+    Ok(())
+}
+
+fn append_notice(context: &ContextName, notice: &Notice, out: &mut Vec<u8>) -> Result<(), Memory>
+    ensures ok { OnOk result (out.new.items ≡ out.old.items ++ notice_form context.now notice.now) }
+    ensures grows { Grows out.old.items out.new.items }
+{
+    match notice {
+        Notice::AddTo { position, row } => append_added(context, *position, row, out),
+        Notice::RemoveFrom { entry, position } => append_removed(context, entry, *position, out),
+        Notice::Change { from, to, row } => append_changed(context, *from, *to, row, out),
+    }
+}
+
+#[tactic(auto, unfolding(crate::specs::Replies::upto_form))]
+fn append_upto(context: &ContextName, moment: Moment, out: &mut Vec<u8>) -> Result<(), Memory>
+    ensures ok { OnOk result (out.new.items ≡ out.old.items ++ upto_form context.now moment) }
+    ensures grows { Grows out.old.items out.new.items }
+{
+    append_about(b"* MODTIME ", context.as_slice(), &stamp(moment), out)?;
+    out.extend_from_slice(b"\r\n")?;
+    Ok(())
+}
+
+#[tactic(auto, unfolding(crate::specs::Replies::freed_form))]
+fn append_freed(context: &ContextName, out: &mut Vec<u8>) -> Result<(), Memory>
+    ensures ok { OnOk result (out.new.items ≡ out.old.items ++ freed_form context.now) }
+    ensures grows { Grows out.old.items out.new.items }
+{
+    let mut text = Vec::from_slice(*out.allocator(), b"Context freed: ")?;
+    text.extend_from_slice(context.as_slice())?;
+    out.extend_from_slice(b"* ALERT ")?;
+    append_string(&text, out)?;
+    out.extend_from_slice(b"\r\n")?;
+    Ok(())
+}
+
+fn append_told(told: &Told, out: &mut Vec<u8>) -> Result<(), Memory>
+    ensures ok { OnOk result (out.new.items ≡ out.old.items ++ told_form told.now) }
+    ensures grows { Grows out.old.items out.new.items }
+{
+    match told {
+        Told::Note(context, notice) => append_notice(context, notice, out),
+        Told::Upto(context, moment) => append_upto(context, *moment, out),
+        Told::Freed(context) => append_freed(context, out),
+    }
+}
+
+/// A line for each.
+pub(crate) fn append_tolds(tolds: &[Told], out: &mut Vec<u8>) -> Result<(), Memory>
+    ensures ok { OnOk result (out.new.items ≡ out.old.items ++ tolds_form tolds.now) }
+    ensures grows { Grows out.old.items out.new.items }
+{
+    for told in tolds {
+        append_told(told, out)?;
+    }
+    Ok(())
+}
