@@ -12,7 +12,7 @@ use Rattle.acap_search.specs.Laws.{FreshLaw}
 use Rattle.acap_search.specs.Matches.{Match, match_lt, put_by, sorted_from, sorted_by, ordered_by}
 use Rattle.acap_search.specs.Rows.{Names, items_of, stars_of}
 use Rattle.acap_search.specs.Tuples.{match_of}
-use Rattle.acap_search.specs.Walks.{hits_over}
+use Rattle.acap_search.specs.Walks.{quest_of, hits_over}
 use Rattle.acap_search.specs.declared.query.Sought.{Sought}
 use Rattle.acap_search.proofs.OrderLemmas.{match_weak}
 use Rattle.acap_search.proofs.SortLemmas.{Rises, sorted_by_rises}
@@ -68,6 +68,6 @@ pub fresh_law : FreshLaw
 fresh_law = record {
   all = λ records realm user sought. moved sought.sort _;
   order = λ records realm user sought.
-      rises_sorted match_lt match_weak _ (subst (Rises match_lt match_weak) (fresh_is records realm user sought) (sorted_by_rises match_lt match_weak (hits_over records realm user sought)));
+      rises_sorted match_lt match_weak _ (subst (Rises match_lt match_weak) (fresh_is records realm user sought) (sorted_by_rises match_lt match_weak (hits_over (quest_of records realm user sought))));
   untold = untold;
 }

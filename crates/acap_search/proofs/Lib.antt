@@ -5,6 +5,7 @@ pub mod NearLemmas
 pub mod OnceLemmas
 pub mod OrderLemmas
 pub mod PlaceLaws
+pub mod RefusalLemmas
 pub mod SeenLemmas
 pub mod SightLemmas
 pub mod SortLemmas

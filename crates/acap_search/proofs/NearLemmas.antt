@@ -23,11 +23,10 @@ use Rattle.acap_inherit.specs.Records.{record_at, cell_in, ends_inheritance}
 use Rattle.acap_inherit.specs.Resolving.{lying, by_cell, by_record, by_presence, greatest, until_end, entry_on, value_on, modtime_on, stamped, members_for, members_of, resolved}
 use Rattle.acap_rights.specs.Deciding.{OfEntry, own_list}
 use Rattle.acap_rights.proofs.SharingLemmas.{shared_law}
-use Rattle.acap_rights.specs.Pairs.{rights_in}
-use Rattle.acap_rights.specs.declared.realm.Realm.{Realm}
 use Rattle.acap_rights.specs.declared.rights.Rights.{Rights}
-use Rattle.acap_search.specs.Near.{own_value, IsPlain, AreKept}
-use Rattle.acap_search.specs.Sight.{may_read, may_test, is_held, is_readable, cell_at, rights_on, answers_at}
+use Rattle.acap_search.specs.Near.{own_value, IsPlain, AreKept, lies_in}
+use Rattle.acap_search.specs.Sight.{may_read, may_test, is_held, cell_at}
+use Rattle.acap_search.specs.Views.{Spotted, answers_of, is_readable_at, rights_in}
 
 -- ---- the record
 
@@ -103,39 +102,40 @@ held_lying may rights_in dataset Nil = refl
 held_lying may rights_in dataset (Single value) = twice (may (rights_in dataset))
 held_lying may rights_in dataset (Multi values) = twice (may (rights_in dataset))
 
-module _ (records : Stored) (realm : Realm) (user dataset : List ℕ) (chain : List (List ℕ)) (name : List ℕ) (entry : Record) (rights : Rights) (plain : IsPlain records realm user dataset chain rights) (kept : record_at records dataset name ≡ Some entry) (attribute : List ℕ) (none : map.get entry.acls attribute ≡ None) where
+module _ (spot : Spotted) (entry : Record) (rights : Rights) (plain : IsPlain spot.by rights) (kept : record_at spot.by.records spot.by.dataset spot.name ≡ Some entry) (attribute : List ℕ) (none : map.get entry.acls attribute ≡ None) where
   abbrev value : Cell
-  value = own_value entry name attribute
+  value = own_value entry spot.name attribute
 
-  abbrev rights_in' : List ℕ → Rights
-  rights_in' = rights_on records realm user attribute name
+  abbrev rights_at : List ℕ → Rights
+  rights_at dataset = rights_in spot.by dataset attribute spot.name
 
-  pub near_rights : rights_on records realm user attribute name dataset ≡ rights
+  pub near_rights : rights_at spot.by.dataset ≡ rights
   near_rights =
-      let own : own_list records (OfEntry dataset attribute name) ≡ None = ap (option_and_then (λ entry. map.get entry.acls attribute)) kept ∙ none in
-      shared_law records realm user dataset attribute name rights plain.1 own
+      let own : own_list spot.by.records (OfEntry spot.by.dataset attribute spot.name) ≡ None = ap (option_and_then (λ entry. map.get entry.acls attribute)) kept ∙ none in
+      shared_law spot.by.records spot.by.realm spot.by.user spot.by.dataset attribute spot.name rights plain.1 own
 
-  found : resolved records chain name attribute ≡ lying value dataset
-  found = ap (λ chain. resolved records chain name attribute) plain.0 ∙ own_resolved records dataset name entry kept attribute
+  found : resolved spot.by.records spot.by.chain spot.name attribute ≡ lying value spot.by.dataset
+  found =
+      ap (λ chain. resolved spot.by.records chain spot.name attribute) plain.0
+      ∙ own_resolved spot.by.records spot.by.dataset spot.name entry kept attribute
 
-  near_cell : (may : Rights → Bool) → cell_at may (rights_in' dataset) rights_in' (resolved records chain name attribute) ≡ cond (may rights) value Nil
+  near_cell : (may : Rights → Bool) → cell_at may (rights_at spot.by.dataset) rights_at (resolved spot.by.records spot.by.chain spot.name attribute) ≡ cond (may rights) value Nil
   near_cell may =
-      ap (cell_at may (rights_in' dataset) rights_in') found ∙ (cell_lying may rights_in' dataset value ∙ ap (λ rights. cond (may rights) value Nil) near_rights)
+      ap (cell_at may (rights_at spot.by.dataset) rights_at) found
+      ∙ (cell_lying may rights_at spot.by.dataset value ∙ ap (λ rights. cond (may rights) value Nil) near_rights)
 
-  pub near_read : (answers_at records realm user dataset chain name).read attribute ≡ cond rights.r value Nil
+  pub near_read : (answers_of spot).read attribute ≡ cond rights.r value Nil
   near_read = near_cell may_read
 
-  pub near_test : (answers_at records realm user dataset chain name).test attribute ≡ cond (rights.x || rights.r) value Nil
+  pub near_test : (answers_of spot).test attribute ≡ cond (rights.x || rights.r) value Nil
   near_test = near_cell may_test
 
-  pub near_readable : is_readable records realm user dataset chain name attribute ≡ rights.r
+  pub near_readable : is_readable_at spot attribute ≡ rights.r
   near_readable =
-      ap (is_held may_read (rights_in' dataset) rights_in') found ∙ (held_lying may_read rights_in' dataset value ∙ ap (λ rights. rights.r) near_rights)
+      ap (is_held may_read (rights_at spot.by.dataset) rights_at) found
+      ∙ (held_lying may_read rights_at spot.by.dataset value ∙ ap (λ rights. rights.r) near_rights)
 
 -- ---- the records of a dataset
-
-abbrev pub lies_in : List ℕ → Path × Record → Bool
-lies_in dataset e = octets_eq dataset e.0.dataset
 
 first : (a b : Bool) → T (a && b) → T a
 first true b p = tt
@@ -230,7 +230,7 @@ kept_of_found records dataset (e ∷ es) h =
     elim (lies_in dataset e) as (λ t. lies_in dataset e ≡ t → AreKept records dataset (cond t (e ∷ filter (lies_in dataset) es) (filter (lies_in dataset) es))) [
       | true ↦ λ t.
           let place : ◌≡◌ {A = Path} (record { dataset = dataset; name = e.0.name }) e.0 = λ i. record { dataset = same_text dataset e.0.dataset (sym t) i; name = e.0.name } in
-          (ap (map.get records) place ∙ (map.get-entries records e.0 ∙ h.0), kept_of_found records dataset es h.1)
+          ((sym (same_text dataset e.0.dataset (sym t)), ap (map.get records) place ∙ (map.get-entries records e.0 ∙ h.0)), kept_of_found records dataset es h.1)
       | false ↦ λ t. kept_of_found records dataset es h.1
     ] refl
 

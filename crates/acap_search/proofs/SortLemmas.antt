@@ -153,13 +153,3 @@ module _ {X : Type 0} (lt : X → X → Bool) (o : IsStrictWeakOrder lt) where
   pub ties_kept : (z : X) (xs : List X) → filter (ties lt z) (sorted_by lt xs) ≡ filter (ties lt z) xs
   unfolding sorted_by
   ties_kept z xs = sorted_ties z xs
-
-  put_length : (x : X) (ys : List X) → length (put_by lt x ys) ≡ suc (length ys)
-  put_length x [] = refl
-  put_length x (y ∷ ys) = elim (lt y x) as (λ b. length (cond b (y ∷ put_by lt x ys) (x ∷ y ∷ ys)) ≡ suc (suc (length ys))) [ true ↦ ap suc (put_length x ys) | false ↦ refl ]
-
-  -- and the number
-  pub sorted_length : (xs : List X) → length (sorted_by lt xs) ≡ length xs
-  unfolding sorted_by
-  sorted_length [] = refl
-  sorted_length (x ∷ xs) = put_length x (sorted_from lt xs) ∙ ap suc (sorted_length xs)

@@ -1,5 +1,5 @@
--- What is told of matches that are found in order.
-use Rattle.std.proofs.Common.{◌≡◌, ℕ, zero, suc, Bool, true, false, cond, Option, Some, None, List, [], ◌∷◌, ◌++◌, take, length, refl, sym, ◌∙◌, ap, append-nil, flat_map, option_map, map as each}
+-- Matches of one dataset are found in order.
+use Rattle.std.proofs.Common.{◌≡◌, ℕ, Bool, true, false, cond, Option, Some, None, List, [], ◌∷◌, ◌++◌, refl, sym, ◌∙◌, ap, append-nil, flat_map}
 use Rattle.std.specs.List.{filter_map, cons_option}
 use Rattle.std.specs.Option.{option_map_or, unwrap_or}
 use Rattle.std.specs.Cmp.{first_so, second_so, tied_itself}
@@ -8,66 +8,24 @@ use Rattle.std.specs.Ordering.{is_lt, ordering_then, ordering_reverse}
 use Rattle.std.specs.declared.cmp.Ordering.{Ordering}
 use Rattle.std.specs.declared.cmp.Ordering.TheVariants.{Less, Equal, Greater}
 use Rattle.std.proofs.lemmas.Cmp.{nat_cmp_total}
-use Rattle.std.proofs.lemmas.List.{length-map}
 use Rattle.acap_entries.specs.FullPaths.{full_path_cmp}
 use Rattle.acap_entries.specs.Orders.{octets_cmp}
 use Rattle.acap_entries.specs.Store.{Stored}
-use Rattle.acap_entries.specs.declared.path.Path.{Path}
-use Rattle.acap_entries.specs.declared.record.Record.{Record}
-use Rattle.acap_entries.specs.declared.row.Row.{Row}
-use Rattle.acap_commands.specs.declared.limit.Limit.{Limit}
 use Rattle.acap_inherit.specs.Chains.{chain_of}
 use Rattle.acap_inherit.specs.EntryNames.{names_on}
 use Rattle.acap_inherit.specs.Laws.{NamesLaw}
 use Rattle.acap_inherit.specs.Merging.{is_below, is_rising}
 use Rattle.acap_rights.specs.declared.realm.Realm.{Realm}
-use Rattle.acap_search.specs.Cutting.{cut_of}
-use Rattle.acap_search.specs.Fresh.{sight_of, fresh_of}
 use Rattle.acap_search.specs.Matches.{Match, match_lt, sorted_by}
 use Rattle.acap_search.specs.Places.{places_cmp, places_in}
-use Rattle.acap_search.specs.Scopes.{scope_of, beneath}
+use Rattle.acap_search.specs.Scopes.{beneath}
 use Rattle.acap_search.specs.Sight.{answers_at}
-use Rattle.acap_search.specs.Walks.{hit_at, hits_in, hits_over}
+use Rattle.acap_search.specs.Views.{spotted, found_at}
+use Rattle.acap_search.specs.Walks.{Quest, quest_of, view_in, hits_in, hits_over, matches_by}
 use Rattle.acap_search.specs.declared.query.Sought.{Sought}
 use Rattle.acap_search.proofs.OrderLemmas.{match_weak}
 use Rattle.acap_search.proofs.SortLemmas.{Above, Rises, rising_stays}
 use Rattle.acap_search.proofs.WalkLemmas.{fresh_is}
-
--- ---- rows
-
-abbrev pub row_in : Match → Row
-row_in m = m.row
-
-pub rows_made : {X : Type 0} (f : X → Option Match) (xs : List X) → filter_map (λ x. option_map row_in (f x)) xs ≡ each row_in (filter_map f xs)
-rows_made f [] = refl
-rows_made f (x ∷ xs) =
-    elim (f x) as (λ o. cons_option (option_map row_in o) (filter_map (λ x. option_map row_in (f x)) xs) ≡ each row_in (cons_option o (filter_map f xs)))
-    [ Some m ↦ ap (λ rest. m.row ∷ rest) (rows_made f xs) | None ↦ rows_made f xs ]
-
--- what is told of all records, when all have been walked through
-pub own_told : (f : List ℕ → Option Match) (told before : List Row) (left all : List (Path × Record)) (names : List (List ℕ)) → left ≡ []
-    → told ++ filter_map (λ name. option_map row_in (f name)) (each (λ e. e.0.name) left) ≡ before ++ filter_map (λ name. option_map row_in (f name)) (each (λ e. e.0.name) all)
-    → names ≡ each (λ e. e.0.name) all → told ≡ before ++ each row_in (filter_map f names)
-own_told f told before left all names e h n =
-    sym (append-nil told)
-    ∙ (ap (λ es. told ++ filter_map (λ name. option_map row_in (f name)) (each (λ e. e.0.name) es)) (sym e)
-    ∙ (h ∙ (ap (λ names. before ++ filter_map (λ name. option_map row_in (f name)) names) (sym n) ∙ ap (λ rows. before ++ rows) (rows_made f names))))
-
-taken : {X Y : Type 0} (f : X → Y) (n : ℕ) (xs : List X) → take n (each f xs) ≡ each f (take n xs)
-taken f zero xs = refl
-taken f (suc n) [] = refl
-taken f (suc n) (x ∷ xs) = ap (λ rest. f x ∷ rest) (taken f n xs)
-
--- what is told of matches, where LIMIT keeps some back
-module _ (limit : Option Limit) (rows : List Row) (matches : List Match) (e : rows ≡ each row_in matches) where
-  count : length rows ≡ length matches
-  count = ap length e ∙ length-map matches row_in
-
-  pub cut_told : take (cut_of limit (length rows)).told rows ≡ each row_in (take (cut_of limit (length matches)).told matches)
-  cut_told = (λ i. take (cut_of limit (count i)).told (e i)) ∙ taken row_in (cut_of limit (length matches)).told matches
-
-  pub cut_total : (cut_of limit (length rows)).total ≡ (cut_of limit (length matches)).total
-  cut_total = ap (λ n. (cut_of limit n).total) count
 
 -- ---- order
 
@@ -112,32 +70,34 @@ module _ (dataset : List ℕ) (f : List ℕ → Option Match) where
         ] (own n)
 
 module _ (records : Stored) (realm : Realm) (user : List ℕ) (sought : Sought) (depth : sought.depth ≡ None) (sort : sought.sort ≡ None) (law : NamesLaw) where
+  abbrev quest : Quest
+  quest = quest_of records realm user sought
+
   abbrev chain : List (List ℕ)
   chain = chain_of records sought.dataset sought.no_inherit
 
-  abbrev found_at : List ℕ → Option Match
-  found_at = hit_at records realm user sought sought.dataset chain
+  abbrev found : List ℕ → Option Match
+  found name = found_at sought None (spotted (view_in quest sought.dataset) name)
 
-  made_at : (seen wanted : Bool) (name : List ℕ) (m : Match) → IsAt sought.dataset found_at name m → AreAt sought.dataset found_at name (cond seen (cond wanted (Some m) None) None)
+  made_at : (seen wanted : Bool) (name : List ℕ) (m : Match) → IsAt sought.dataset found name m → AreAt sought.dataset found name (cond seen (cond wanted (Some m) None) None)
   made_at true true name m p = p
   made_at true false name m p = tt
   made_at false wanted name m p = tt
 
-  all_at : (name : List ℕ) → AreAt sought.dataset found_at name (found_at name)
+  all_at : (name : List ℕ) → AreAt sought.dataset found name (found name)
   all_at name = made_at _ _ name _ (refl, ap (λ sort. places_in (answers_at records realm user sought.dataset chain name).read (unwrap_or sort [])) sort)
 
-  alone : hits_over records realm user sought ≡ hits_in records realm user sought sought.dataset
+  alone : hits_over quest ≡ hits_in quest sought.dataset
   alone =
-      ap (λ depth. flat_map (hits_in records realm user sought) (sought.dataset ∷ option_map_or (beneath records sought.dataset) depth [])) depth
-      ∙ append-nil (hits_in records realm user sought sought.dataset)
+      ap (λ depth. flat_map (hits_in quest) (sought.dataset ∷ option_map_or (beneath records sought.dataset) depth [])) depth
+      ∙ append-nil (hits_in quest sought.dataset)
 
-  found_rise : Rises match_lt match_weak (hits_in records realm user sought sought.dataset)
+  found_rise : Rises match_lt match_weak (hits_in quest sought.dataset)
   unfolding hits_in
-  found_rise = rises sought.dataset found_at all_at (names_on records chain) (law.rising records chain)
+  found_rise = rises sought.dataset found all_at (names_on records chain) (law.rising records chain)
 
   -- without DEPTH and SORT the matches of the dataset come in order
-  pub plain_is : hits_in records realm user sought sought.dataset ≡ fresh_of (sight_of records realm user (scope_of sought)) sought
-  plain_is = sym (rising_stays match_lt match_weak _ found_rise) ∙ (ap (sorted_by match_lt) (sym alone) ∙ fresh_is records realm user sought)
-
-  pub plain_count : (rows : List Row) → rows ≡ each row_in (hits_in records realm user sought sought.dataset) → length rows ≡ length (hits_over records realm user sought)
-  plain_count rows e = ap length e ∙ (length-map (hits_in records realm user sought sought.dataset) row_in ∙ ap length (sym alone))
+  pub plain_is : hits_over quest ≡ matches_by quest
+  plain_is =
+      alone
+      ∙ (sym (rising_stays match_lt match_weak _ found_rise) ∙ (ap (sorted_by match_lt) (sym alone) ∙ fresh_is records realm user sought))

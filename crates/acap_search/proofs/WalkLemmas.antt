@@ -1,5 +1,5 @@
 -- What is found dataset by dataset is, in order, what is made of the paths in sight.
-use Rattle.std.proofs.Common.{drop, arith, ◌≡◌, ℕ, Bool, true, false, not, cond, nat_eq, Option, Some, None, List, [], ◌∷◌, ◌++◌, refl, sym, ◌∙◌, ap, append-nil, flat_map, length, map as each}
+use Rattle.std.proofs.Common.{drop, arith, ◌≡◌, ℕ, Bool, true, false, cond, nat_eq, Option, Some, None, List, [], ◌∷◌, ◌++◌, refl, sym, ◌∙◌, ap, append-nil, flat_map, length, map as each}
 use Rattle.std.proofs.lemmas.Bool.Decides.{nat_tests}
 use Rattle.std.specs.List.{filter, filter_map, cons_option, starts_with}
 use Rattle.std.specs.List.Sorted.{ties}
@@ -9,24 +9,21 @@ use Rattle.acap_entries.specs.FullPaths.{full_path_cmp}
 use Rattle.acap_commands.specs.declared.sort_item.SortItem.{SortItem}
 use Rattle.std.specs.FinMap as map
 use Rattle.std.proofs.lemmas.List.Elements.{filter_map-append}
-use Rattle.acap_entries.specs.Datasets.{dataset_exists}
 use Rattle.acap_entries.specs.Store.{Stored}
 use Rattle.acap_entries.specs.declared.path.Path.{Path}
 use Rattle.acap_entries.specs.declared.record.Record.{Record}
 use Rattle.acap_inherit.specs.Chains.{chain_of}
 use Rattle.acap_inherit.specs.EntryNames.{names_on}
 use Rattle.acap_rights.specs.declared.realm.Realm.{Realm}
-use Rattle.acap_search.specs.Fresh.{Sight, answers_on, paths_in, paths_of, full_path_lt, sight_of, fresh_of, has_range, is_over, refusal_of}
+use Rattle.acap_search.specs.Fresh.{Sight, answers_on, paths_in, paths_of, full_path_lt, sight_of, fresh_of}
 use Rattle.acap_search.specs.Matches.{Match, match_lt, sorted_by, ordered_by}
 use Rattle.acap_search.specs.Places.{places_cmp, places_in}
 use Rattle.acap_search.specs.Scopes.{scope_of, datasets_of, beneath, is_reached, levels, made_by, reached_by}
 use Rattle.acap_search.specs.Sight.{is_seen}
-use Rattle.acap_search.specs.Walks.{hits_in, hits_by, hits_over}
-use Rattle.acap_search.specs.declared.query.Query.{Query}
+use Rattle.acap_search.specs.Walks.{Quest, quest_of, hits_in, hits_by, hits_over}
 use Rattle.acap_search.specs.declared.query.Sought.{Sought}
-use Rattle.acap_search.specs.declared.refusal.SearchRefusal.TheVariants as refusal
 use Rattle.acap_search.proofs.OrderLemmas.{match_weak, path_weak, paths_tie}
-use Rattle.acap_search.proofs.SortLemmas.{Above, Rises, rising_stays, sorted_by_rises, sorted_alike, ties_kept, sorted_length}
+use Rattle.acap_search.proofs.SortLemmas.{Above, Rises, rising_stays, sorted_by_rises, sorted_alike, ties_kept}
 use Rattle.acap_search.proofs.TupleLemmas.{tuple_at, tuples_are}
 
 -- ---- lists
@@ -139,6 +136,9 @@ module _ (t : Path → Option Match) (own : (p : Path) → IsPlaceless p (t p)) 
 -- ---- the walk
 
 module _ (records : Stored) (realm : Realm) (user : List ℕ) (sought : Sought) where
+  abbrev quest : Quest
+  quest = quest_of records realm user sought
+
   abbrev sight : Sight
   sight = sight_of records realm user (scope_of sought)
 
@@ -146,18 +146,18 @@ module _ (records : Stored) (realm : Realm) (user : List ℕ) (sought : Sought) 
   abbrev seen_at : Path → Option Match
   seen_at path = cond (is_seen (answers_on records realm user sought.no_inherit path)) (tuple_at sight sought path) None
 
-  in_dataset : (dataset : List ℕ) → filter_map seen_at (paths_in records sought.no_inherit dataset) ≡ hits_in records realm user sought dataset
+  in_dataset : (dataset : List ℕ) → filter_map seen_at (paths_in records sought.no_inherit dataset) ≡ hits_in quest dataset
   unfolding hits_in
   in_dataset dataset = made_of_made seen_at (λ name. record { dataset = dataset; name = name }) (names_on records (chain_of records dataset sought.no_inherit))
 
-  in_datasets : (datasets : List (List ℕ)) → flat_map (λ dataset. filter_map seen_at (paths_in records sought.no_inherit dataset)) datasets ≡ flat_map (hits_in records realm user sought) datasets
+  in_datasets : (datasets : List (List ℕ)) → flat_map (λ dataset. filter_map seen_at (paths_in records sought.no_inherit dataset)) datasets ≡ flat_map (hits_in quest) datasets
   in_datasets [] = refl
   in_datasets (dataset ∷ datasets) =
-      let first : filter_map seen_at (paths_in records sought.no_inherit dataset) ≡ hits_in records realm user sought dataset = in_dataset dataset in
-      let rest : flat_map (λ dataset. filter_map seen_at (paths_in records sought.no_inherit dataset)) datasets ≡ flat_map (hits_in records realm user sought) datasets = in_datasets datasets in
+      let first : filter_map seen_at (paths_in records sought.no_inherit dataset) ≡ hits_in quest dataset = in_dataset dataset in
+      let rest : flat_map (λ dataset. filter_map seen_at (paths_in records sought.no_inherit dataset)) datasets ≡ flat_map (hits_in quest) datasets = in_datasets datasets in
       λ i. first i ++ rest i
 
-  over_scope : filter_map seen_at (paths_of records (scope_of sought)) ≡ hits_over records realm user sought
+  over_scope : filter_map seen_at (paths_of records (scope_of sought)) ≡ hits_over quest
   over_scope = made_of_all seen_at (paths_in records sought.no_inherit) (datasets_of records (scope_of sought)) ∙ in_datasets (datasets_of records (scope_of sought))
 
   own_if : (b : Bool) (path : Path) (m : Match) → m.path ≡ path → OwnPath path (cond b (Some m) None)
@@ -182,28 +182,18 @@ module _ (records : Stored) (realm : Realm) (user : List ℕ) (sought : Sought) 
       rising_stays match_lt match_weak _
       (placeless_rise (tuple_at sight sought) (λ path. placed_if _ path _ refl (ap (λ sort. places_in (sight.answers path).read (unwrap_or sort [])) e)) sight.paths (sorted_by_rises full_path_lt path_weak seen))
 
-  pub fresh_is : sorted_by match_lt (hits_over records realm user sought) ≡ fresh_of sight sought
+  pub fresh_is : sorted_by match_lt (hits_over quest) ≡ fresh_of sight sought
   fresh_is =
       ap (sorted_by match_lt) (sym over_scope ∙ sym (filtered (tuple_at sight sought) (λ path. is_seen (answers_on records realm user sought.no_inherit path)) (paths_of records (scope_of sought))))
       ∙ (sym (sorted_first (tuple_at sight sought) own_paths seen)
       ∙ (ordered sought.sort refl ∙ ap (ordered_by sought.sort) (sym (tuples_are sight sought))))
 
-  pub fresh_length : length (fresh_of sight sought) ≡ length (hits_over records realm user sought)
-  fresh_length = ap length (sym fresh_is) ∙ sorted_length match_lt match_weak (hits_over records realm user sought)
-
   -- the datasets beneath, entry by entry
-  pub beneath_is : (depth : ℕ) (es : List (Path × Record)) → es ≡ filter (λ e. starts_with nat_eq e.0.dataset sought.dataset) (map.entries records) → flat_map (hits_by records realm user sought depth) es ≡ flat_map (hits_in records realm user sought) (beneath records sought.dataset depth)
+  pub beneath_is : (depth : ℕ) (es : List (Path × Record)) → es ≡ filter (λ e. starts_with nat_eq e.0.dataset sought.dataset) (map.entries records) → flat_map (hits_by quest depth) es ≡ flat_map (hits_in quest) (beneath records sought.dataset depth)
   unfolding hits_by beneath
   beneath_is depth es e =
-      all_of_made (hits_in records realm user sought) (reached_by sought.dataset depth) es
-      ∙ ap (λ es. flat_map (hits_in records realm user sought) (filter_map (reached_by sought.dataset depth) es)) e
-
--- why a search is refused, by what is found
-pub refusal_is : (records : Stored) (realm : Realm) (user : List ℕ) (query : Query) (over : Bool) → has_range query.sought.key ≡ false → dataset_exists records query.sought.dataset ≡ true
-    → is_over query.hard_limit (length (hits_over records realm user query.sought)) ≡ over → refusal_of records realm user query ≡ cond over (Some refusal.WayTooMany) None
-refusal_is records realm user query over r e o =
-    let count : is_over query.hard_limit (length (fresh_of (sight records realm user query.sought) query.sought)) ≡ over = ap (is_over query.hard_limit) (fresh_length records realm user query.sought) ∙ o in
-    λ i. cond (r i) (Some refusal.RangeHere) (cond (not (e i)) (Some refusal.NoExist) (cond (count i) (Some refusal.WayTooMany) None))
+      all_of_made (hits_in quest) (reached_by sought.dataset depth) es
+      ∙ ap (λ es. flat_map (hits_in quest) (filter_map (reached_by sought.dataset depth) es)) e
 
 -- with one level nothing beneath is reached
 not_reached : (level : ℕ) → is_reached 1 level ≡ false

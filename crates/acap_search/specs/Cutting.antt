@@ -1,7 +1,9 @@
 -- How many of the matches a SEARCH tells [RFC 2244 section 6.4.1].
-use Rattle.std.specs.Prelude.{ℕ, min, nat_lt, Option, Some, None, if◌then◌else◌}
+use Rattle.std.specs.Prelude.{◌≡◌, ℕ, min, nat_lt, List, length, take, Option, Some, None, if◌then◌else◌, map as each}
 use Rattle.acap_commands.specs.declared.limit.Limit.{Limit}
+use Rattle.acap_search.specs.Matches.{Match}
 use Rattle.acap_search.specs.declared.cutting.Cut.{Cut}
+use Rattle.acap_search.specs.declared.telling.Excerpt.{Excerpt}
 
 -- with more matches than the first number of LIMIT so many as the second number says, and the total is told
 abbrev pub cut_of : Option Limit → ℕ → Cut
@@ -9,3 +11,9 @@ cut_of None count = record { told = count; total = None }
 cut_of (Some limit) count =
     if nat_lt limit.over count then record { told = min count limit.most; total = Some count }
     else record { told = count; total = None }
+
+-- what is told of some matches: the rows of the first of them
+abbrev pub IsExcerpt : Option Limit → Excerpt → List Match → Type 0
+IsExcerpt limit excerpt matches =
+    (excerpt.rows ≡ each (λ found. found.row) (take (cut_of limit (length matches)).told matches))
+    × (excerpt.total ≡ (cut_of limit (length matches)).total)

@@ -1,5 +1,5 @@
 -- What a user sees in a scope, and what a search finds there [RFC 2244 sections 3.5, 5.2 and 6.4.1].
-use Rattle.std.specs.Prelude.{◌≡◌, ℕ, Bool, true, false, not, ◌&&◌, ◌||◌, nat_lt, List, length, flat_map, Option, Some, None, if◌then◌else◌, map as each}
+use Rattle.std.specs.Prelude.{◌≡◌, ℕ, Bool, true, false, not, ◌&&◌, ◌||◌, nat_lt, List, length, flat_map, Option, Some, None, Result, Ok, Err, if◌then◌else◌, map as each}
 use Rattle.std.specs.List.{filter, filter_map, list_any, Contains}
 use Rattle.std.specs.Ordering.{is_lt}
 use Rattle.acap_entries.specs.Datasets.{dataset_exists}
@@ -85,6 +85,9 @@ tuple_of sight sought path =
 abbrev pub fresh_of : Sight → Sought → List Match
 fresh_of sight sought = ordered_by sought.sort (filter_map (tuple_of sight sought) sight.paths)
 
+abbrev pub matches_of : Stored → Realm → List ℕ → Sought → List Match
+matches_of records realm user sought = fresh_of (sight_of records realm user (scope_of sought)) sought
+
 -- ---- refusals
 
 -- whether RANGE stands anywhere in a key
@@ -111,5 +114,16 @@ abbrev pub refusal_of : Stored → Realm → List ℕ → Query → Option Searc
 refusal_of records realm user query =
     if has_range query.sought.key then Some refusal.RangeHere
     else if not (dataset_exists records query.sought.dataset) then Some refusal.NoExist
-    else if is_over query.hard_limit (length (fresh_of (sight_of records realm user (scope_of query.sought)) query.sought)) then Some refusal.WayTooMany
+    else if is_over query.hard_limit (length (matches_of records realm user query.sought)) then Some refusal.WayTooMany
     else None
+
+-- what is answered to a search over a dataset: what holds of all matches, or why it is refused. Memory is wanted only where the
+-- key and the dataset are right
+abbrev pub IsAnswer : {X : Type 0} → Stored → Realm → List ℕ → Query → (X → List Match → Type 0) → Result X SearchRefusal → Type 0
+IsAnswer records realm user query holds (Ok found) =
+    (refusal_of records realm user query ≡ None) × holds found (matches_of records realm user query.sought)
+IsAnswer records realm user query holds (Err refusal.RangeHere) = refusal_of records realm user query ≡ Some refusal.RangeHere
+IsAnswer records realm user query holds (Err refusal.NoExist) = refusal_of records realm user query ≡ Some refusal.NoExist
+IsAnswer records realm user query holds (Err refusal.WayTooMany) = refusal_of records realm user query ≡ Some refusal.WayTooMany
+IsAnswer records realm user query holds (Err refusal.Memory) =
+    (has_range query.sought.key ≡ false) × (dataset_exists records query.sought.dataset ≡ true)

@@ -2,8 +2,10 @@ pub mod Asking
 pub mod Cutting
 pub mod Examples
 pub mod Fresh
+pub mod Fronts
 pub mod Keys
 pub mod Laws
+pub mod Lying
 pub mod Matches
 pub mod Near
 pub mod Once
@@ -13,5 +15,6 @@ pub mod Scopes
 pub mod Shown
 pub mod Sight
 pub mod Tuples
+pub mod Views
 pub mod Walks
 pub mod Withheld

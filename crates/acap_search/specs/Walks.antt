@@ -1,35 +1,73 @@
 -- What a search finds, dataset by dataset: words of private contracts.
-use Rattle.std.specs.Prelude.{ℕ, List, [], flat_map, Option, None}
+use Rattle.std.specs.Prelude.{ℕ, List, [], flat_map, None, refl}
+use Rattle.std.specs.Coded.{Coded, code_by, coded×, coded_ℕ, coded_list}
+use Rattle.std.specs.FinMap as map
 use Rattle.std.specs.List.{filter_map}
 use Rattle.std.specs.Option.{option_map_or}
 use Rattle.acap_entries.specs.Store.{Stored}
+use Rattle.acap_entries.specs.contracts.path.Path as path
+use Rattle.acap_entries.specs.contracts.record.Record as row
 use Rattle.acap_entries.specs.declared.path.Path.{Path}
 use Rattle.acap_entries.specs.declared.record.Record.{Record}
 use Rattle.acap_inherit.specs.Chains.{chain_of}
 use Rattle.acap_inherit.specs.EntryNames.{names_on}
+use Rattle.acap_rights.specs.contracts.realm.Realm as realm
 use Rattle.acap_rights.specs.declared.realm.Realm.{Realm}
+use Rattle.acap_search.specs.Fresh.{matches_of}
 use Rattle.acap_search.specs.Matches.{Match}
-use Rattle.acap_search.specs.Rows.{attributes_at, stars_of}
-use Rattle.acap_search.specs.Scopes.{scope_of, datasets_of, reached_by}
-use Rattle.acap_search.specs.Sight.{answers_at}
-use Rattle.acap_search.specs.Tuples.{seen_tuple}
+use Rattle.acap_search.specs.Scopes.{scope_of, beneath, datasets_of, reached_by}
+use Rattle.acap_search.specs.Views.{View, spotted, found_at}
+use Rattle.acap_search.specs.contracts.query.Sought as query
 use Rattle.acap_search.specs.declared.query.Sought.{Sought}
 
--- what is found at a name
-abbrev pub hit_at : Stored → Realm → List ℕ → Sought → List ℕ → List (List ℕ) → List ℕ → Option Match
-hit_at records realm user sought dataset chain name =
-    seen_tuple sought None (record { dataset = dataset; name = name }) (answers_at records realm user dataset chain name)
-    (stars_of (answers_at records realm user dataset chain name).read (attributes_at records name chain))
+-- whose search it is, over which records, and what it looks for
+pub record Quest : Type 0 where
+  pub records : Stored
+  pub realm : Realm
+  pub user : List ℕ
+  pub sought : Sought
 
--- in a dataset
-unfoldable pub hits_in : Stored → Realm → List ℕ → Sought → List ℕ → List Match
-hits_in records realm user sought dataset =
-    filter_map (hit_at records realm user sought dataset (chain_of records dataset sought.no_inherit)) (names_on records (chain_of records dataset sought.no_inherit))
+abbrev pub quest_of : Stored → Realm → List ℕ → Sought → Quest
+quest_of records realm user sought = record { records = records; realm = realm; user = user; sought = sought }
+
+-- a dataset in the eyes of its user, along the chain of the dataset
+abbrev pub view_in : Quest → List ℕ → View
+view_in quest dataset = record {
+  records = quest.records;
+  realm = quest.realm;
+  user = quest.user;
+  dataset = dataset;
+  chain = chain_of quest.records dataset quest.sought.no_inherit;
+}
+
+-- what is found at some names of a dataset, and at all of them
+abbrev pub hits_at : View → Sought → List (List ℕ) → List Match
+hits_at view sought = filter_map (λ name. found_at sought None (spotted view name))
+
+abbrev pub hits_along : View → Sought → List Match
+hits_along view sought = hits_at view sought (names_on view.records view.chain)
+
+unfoldable pub hits_in : Quest → List ℕ → List Match
+hits_in quest dataset = hits_along (view_in quest dataset) quest.sought
 
 -- in the dataset that an entry makes, where it is reached
-unfoldable pub hits_by : Stored → Realm → List ℕ → Sought → ℕ → Path × Record → List Match
-hits_by records realm user sought depth e = option_map_or (hits_in records realm user sought) (reached_by sought.dataset depth e) []
+unfoldable pub hits_by : Quest → ℕ → Path × Record → List Match
+hits_by quest depth e = option_map_or (hits_in quest) (reached_by quest.sought.dataset depth e) []
 
--- in all datasets of the scope
-abbrev pub hits_over : Stored → Realm → List ℕ → Sought → List Match
-hits_over records realm user sought = flat_map (hits_in records realm user sought) (datasets_of records (scope_of sought))
+-- in all datasets beneath the searched one, in so many levels, and in all of the scope
+abbrev pub hits_beneath : Quest → ℕ → List Match
+hits_beneath quest depth = flat_map (hits_in quest) (beneath quest.records quest.sought.dataset depth)
+
+abbrev pub hits_over : Quest → List Match
+hits_over quest = flat_map (hits_in quest) (datasets_of quest.records (scope_of quest.sought))
+
+-- all matches, in order
+abbrev pub matches_by : Quest → List Match
+matches_by quest = matches_of quest.records quest.realm quest.user quest.sought
+
+-- how quests are told apart in proofs
+abbrev pub quest_code : Coded Quest
+quest_code =
+    code_by (Stored × (Realm × (List ℕ × Sought)))
+    (coded× (map.code path.the_row.coded row.the_row.coded) (coded× realm.the_row.coded (coded× (coded_list coded_ℕ) query.the_row.coded)))
+    (λ q. (q.records, (q.realm, (q.user, q.sought)))) (λ p. record { records = p.0; realm = p.1.0; user = p.1.1.0; sought = p.1.1.1 }) (λ _. refl)

@@ -3,9 +3,12 @@
 #![tactic(auto)]
 
 mod cutting;
+mod finding;
+mod front;
 mod hit;
 mod laws;
 mod looking;
+mod lying;
 mod matching;
 mod near;
 mod ordering;
@@ -13,8 +16,10 @@ mod plain;
 mod query;
 mod rank;
 mod ranking;
+mod reaching;
 mod refusal;
 mod rows;
+mod search;
 mod searching;
 mod spot;
 mod telling;

@@ -1,11 +1,10 @@
 //! What is seen of an attribute.
-ghost use Rattle.std.specs.Prelude.{◌≡◌, ◌||◌, None, is_some, if◌then◌else◌};
+ghost use Rattle.std.specs.Prelude.{◌≡◌, is_some};
 ghost use Rattle.std.specs.FinMap as map;
-ghost use Rattle.acap_entries.specs.declared.cell.Cell.TheVariants.{Nil};
-ghost use Rattle.acap_inherit.specs.Values as lent;
 ghost use Rattle.acap_search.specs.Near as near;
 ghost use Rattle.acap_search.specs.Sight as rule;
 ghost use Rattle.acap_search.specs.Shown as shown;
+ghost use Rattle.acap_search.specs.Views.{answers_of, is_readable_at, rights_in};
 
 use crate::spot::Spot;
 use crate::viewer::Viewer;
@@ -16,14 +15,28 @@ use acap_rights::{Object, Rights, rights_of};
 /// What a user sees of an attribute of an entry, as it is lent: nothing is copied (RFC 2244 section 3.5).
 #[derive(Clone, Copy)]
 pub(crate) struct Shown<'a> {
-    /// Its value where the user may read it, else none.
-    pub(crate) read: Option<Lent<'a>>,
-    /// Its value where the user may test or read it, else none.
-    pub(crate) test: Option<Lent<'a>>,
+    value: Option<Lent<'a>>,
+    is_testable: bool,
     /// Whether the user may read what it has, be it NIL.
     pub(crate) is_readable: bool,
     /// The user's rights on it in the searched dataset.
     pub(crate) rights: Rights,
+}
+
+impl<'a> Shown<'a> {
+    /// Its value where the user may read it, else none.
+    pub(crate) fn read(&self) -> Option<Lent<'a>>
+        ensures { shown.cell_of result ≡ shown.read_of self.now }
+    {
+        if self.is_readable { self.value } else { None }
+    }
+
+    /// Its value where the user may test or read it, else none.
+    pub(crate) fn test(&self) -> Option<Lent<'a>>
+        ensures { shown.cell_of result ≡ shown.test_of self.now }
+    {
+        if self.is_testable { self.value } else { None }
+    }
 }
 
 // The user's rights on an attribute of an entry, in some dataset.
@@ -33,7 +46,7 @@ fn rights_on<R: Records>(
     attribute: &[u8],
     name: &[u8],
 ) -> Rights
-    ensures { result ≡ rule.rights_on (R.store by.now.records.now).records by.now.realm.now by.now.user.now attribute.now name.now dataset.now }
+    ensures { result ≡ rights_in by.now dataset.now attribute.now name.now }
 {
     let object = Object::Entry {
         dataset,
@@ -51,21 +64,14 @@ fn rights_there<R: Records>(
     attribute: &[u8],
     name: &[u8],
 ) -> Rights
-    requires { here ≡ rule.rights_on (R.store by.now.records.now).records by.now.realm.now by.now.user.now attribute.now name.now by.now.dataset.now }
-    ensures { result ≡ rule.rights_on (R.store by.now.records.now).records by.now.realm.now by.now.user.now attribute.now name.now dataset.now }
+    requires { here ≡ rights_in by.now by.now.dataset attribute.now name.now }
+    ensures { result ≡ rights_in by.now dataset.now attribute.now name.now }
 {
     if dataset == by.dataset.as_slice() {
         here
     } else {
         rights_on(by, dataset, attribute, name)
     }
-}
-
-// The value where the test holds.
-fn only_if(value: Lent<'_>, test: bool) -> Option<Lent<'_>>
-    ensures { shown.cell_of result ≡ (if test then lent.cell_of value.entry else Nil) }
-{
-    if test { Some(value) } else { None }
 }
 
 /// Whether nothing is there.
@@ -80,33 +86,36 @@ pub(crate) fn is_nil(value: Option<Lent<'_>>) -> bool
     }
 }
 
-/// What a user sees of an attribute of an entry. Takes no memory.
-pub(crate) fn look<'a, R: Records>(
-    by: &Viewer<'a, R>,
-    name: &'a [u8],
-    attribute: &[u8],
-) -> Shown<'a>
-    ensures read { shown.cell_of result.read ≡ (rule.answers_at (R.store by.now.records.now).records by.now.realm.now by.now.user.now by.now.dataset.now by.now.chain name.now).read attribute.now }
-    ensures test { shown.cell_of result.test ≡ (rule.answers_at (R.store by.now.records.now).records by.now.realm.now by.now.user.now by.now.dataset.now by.now.chain name.now).test attribute.now }
-    ensures rights { result.rights ≡ (rule.answers_at (R.store by.now.records.now).records by.now.realm.now by.now.user.now by.now.dataset.now by.now.chain name.now).rights attribute.now }
-    ensures is_readable { result.is_readable ≡ rule.is_readable (R.store by.now.records.now).records by.now.realm.now by.now.user.now by.now.dataset.now by.now.chain name.now attribute.now }
+// Whether these rights let a value be tested.
+fn may_test(rights: Rights) -> bool
+    ensures { result ≡ rule.may_test rights }
 {
+    rights.x || rights.r
+}
+
+// What a user sees of an attribute of an entry, as the store tells it.
+fn look_far<'a, R: Records>(spot: &Spot<'a, R>, attribute: &[u8]) -> Shown<'a>
+    ensures read { shown.read_of result ≡ (answers_of spot.now).read attribute.now }
+    ensures test { shown.test_of result ≡ (answers_of spot.now).test attribute.now }
+    ensures rights { result.rights ≡ (answers_of spot.now).rights attribute.now }
+    ensures is_readable { result.is_readable ≡ is_readable_at spot.now attribute.now }
+{
+    let by = spot.by;
+    let name = spot.name.as_slice();
     let rights = rights_on(by, by.dataset.as_slice(), attribute, name);
     match resolve(by.records, &by.chain, name, attribute) {
         Found::At { dataset, value } => {
             let there = rights_there(by, rights, dataset, attribute, name);
-            let is_readable = rights.r && there.r;
-            let is_testable = (rights.x || rights.r) && (there.x || there.r);
             Shown {
-                read: only_if(value, is_readable),
-                test: only_if(value, is_testable),
-                is_readable,
+                value: Some(value),
+                is_testable: may_test(rights) && may_test(there),
+                is_readable: rights.r && there.r,
                 rights,
             }
         }
         Found::Nil => Shown {
-            read: None,
-            test: None,
+            value: None,
+            is_testable: false,
             is_readable: rights.r,
             rights,
         },
@@ -154,58 +163,30 @@ fn has_list(entry: &Record, attribute: &[u8]) -> bool
     entry.acls.find(attribute).is_some()
 }
 
-// A value where there is one and the test holds.
-fn seen_if(value: Option<Lent<'_>>, test: bool) -> Option<Lent<'_>>
-    ensures { shown.cell_of result ≡ (if test then shown.cell_of value.entry else Nil) }
-{
-    if test { value } else { None }
-}
-
-// What is seen of a value in the only dataset of a chain.
-fn shown_by(value: Option<Lent<'_>>, rights: Rights) -> Shown<'_>
-    ensures read { shown.cell_of result.read ≡ (if rights.r then shown.cell_of value.entry else Nil) }
-    ensures test { shown.cell_of result.test ≡ (if rights.x || rights.r then shown.cell_of value.entry else Nil) }
-    ensures is_readable { result.is_readable ≡ rights.r }
-    ensures rights { result.rights ≡ rights }
-{
-    Shown {
-        read: seen_if(value, rights.r),
-        test: seen_if(value, rights.x || rights.r),
-        is_readable: rights.r,
-        rights,
-    }
-}
-
-/// What a user sees of an attribute of an entry that is looked at.
-pub(crate) fn look_at<'a, R: Records>(spot: &Spot<'a, R>, attribute: &[u8]) -> Shown<'a>
-    ensures read { shown.cell_of result.read ≡ (rule.answers_at (R.store spot.now.by.now.records.now).records spot.now.by.now.realm.now spot.now.by.now.user.now spot.now.by.now.dataset.now spot.now.by.now.chain spot.now.name.now).read attribute.now }
-    ensures test { shown.cell_of result.test ≡ (rule.answers_at (R.store spot.now.by.now.records.now).records spot.now.by.now.realm.now spot.now.by.now.user.now spot.now.by.now.dataset.now spot.now.by.now.chain spot.now.name.now).test attribute.now }
-    ensures rights { result.rights ≡ (rule.answers_at (R.store spot.now.by.now.records.now).records spot.now.by.now.realm.now spot.now.by.now.user.now spot.now.by.now.dataset.now spot.now.by.now.chain spot.now.name.now).rights attribute.now }
-    ensures is_readable { result.is_readable ≡ rule.is_readable (R.store spot.now.by.now.records.now).records spot.now.by.now.realm.now spot.now.by.now.user.now spot.now.by.now.dataset.now spot.now.by.now.chain spot.now.name.now attribute.now }
+/// What a user sees of an attribute of an entry that is looked at. Takes no memory.
+pub(crate) fn look<'a, R: Records>(spot: &Spot<'a, R>, attribute: &[u8]) -> Shown<'a>
+    ensures read { shown.read_of result ≡ (answers_of spot.now).read attribute.now }
+    ensures test { shown.test_of result ≡ (answers_of spot.now).test attribute.now }
+    ensures rights { result.rights ≡ (answers_of spot.now).rights attribute.now }
+    ensures is_readable { result.is_readable ≡ is_readable_at spot.now attribute.now }
 {
     if let Some(entry) = spot.entry
         && !has_list(entry, attribute)
     {
-        return shown_by(own_value(entry, spot.name, attribute), spot.rights);
+        let rights = spot.rights;
+        return Shown {
+            value: own_value(entry, spot.name, attribute),
+            is_testable: may_test(rights),
+            is_readable: rights.r,
+            rights,
+        };
     }
-    look(spot.by, spot.name.as_slice(), attribute)
-}
-
-/// What a user may read of an attribute of an entry that is looked at.
-pub(crate) fn read_at<'a, R: Records>(spot: &Spot<'a, R>, attribute: &[u8]) -> Option<Lent<'a>>
-    ensures { shown.cell_of result ≡ (rule.answers_at (R.store spot.now.by.now.records.now).records spot.now.by.now.realm.now spot.now.by.now.user.now spot.now.by.now.dataset.now spot.now.by.now.chain spot.now.name.now).read attribute.now }
-{
-    if let Some(entry) = spot.entry
-        && !has_list(entry, attribute)
-    {
-        return seen_if(own_value(entry, spot.name, attribute), spot.rights.r);
-    }
-    look(spot.by, spot.name.as_slice(), attribute).read
+    look_far(spot, attribute)
 }
 
 /// Whether the user sees an entry that is looked at.
-pub(crate) fn sees_at<R: Records>(spot: &Spot<'_, R>) -> bool
-    ensures { result ≡ rule.is_seen (rule.answers_at (R.store spot.now.by.now.records.now).records spot.now.by.now.realm.now spot.now.by.now.user.now spot.now.by.now.dataset.now spot.now.by.now.chain spot.now.name.now) }
+pub(crate) fn sees<R: Records>(spot: &Spot<'_, R>) -> bool
+    ensures { result ≡ rule.is_seen (answers_of spot.now) }
 {
-    read_at(spot, b"entry").is_some()
+    !is_nil(look(spot, b"entry").read())
 }

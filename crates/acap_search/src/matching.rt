@@ -2,10 +2,11 @@
 ghost use Rattle.std.specs.Prelude.{◌≡◌};
 ghost use Rattle.std.specs.List.{list_any};
 ghost use Rattle.acap_search.specs.Keys as rule;
-ghost use Rattle.acap_search.specs.Shown as shown;
-ghost use Rattle.acap_search.specs.Sight as sight;
+ghost use Rattle.acap_search.specs.Keys.{some_text};
+ghost use Rattle.acap_search.specs.Shown.{cell_of};
+ghost use Rattle.acap_search.specs.Views.{answers_of, spotted};
 
-use crate::looking::{is_nil, look_at};
+use crate::looking::{is_nil, look};
 use crate::spot::Spot;
 use crate::viewer::Viewer;
 use acap_commands::{Key, Node, Relation, Test};
@@ -45,7 +46,7 @@ fn meets(
     comparator: &Comparator,
     wanted: &[u8],
 ) -> bool
-    ensures { result ≡ rule.some_text (rule.stands_so relation comparator.now wanted.now) (shown.cell_of value.entry) }
+    ensures { result ≡ some_text (rule.stands_so relation comparator.now wanted.now) (cell_of value.entry) }
 {
     match value {
         Some(Lent::Single(text)) => stands_so(relation, comparator, wanted, text),
@@ -73,10 +74,10 @@ fn is_equal(relation: Relation) -> bool
 
 // What is tested of an attribute: where octets are to be equal that which may be tested, else that which may be read.
 fn tested<'a, R: Records>(spot: &Spot<'a, R>, attribute: &[u8], by_octets: bool) -> Option<Lent<'a>>
-    ensures { shown.cell_of result ≡ rule.tested by_octets (sight.answers_at (R.store spot.now.by.now.records.now).records spot.now.by.now.realm.now spot.now.by.now.user.now spot.now.by.now.dataset.now spot.now.by.now.chain spot.now.name.now) attribute.now }
+    ensures { cell_of result ≡ rule.tested by_octets (answers_of spot.now) attribute.now }
 {
-    let seen = look_at(spot, attribute);
-    if by_octets { seen.test } else { seen.read }
+    let seen = look(spot, attribute);
+    if by_octets { seen.test() } else { seen.read() }
 }
 
 // Whether a position is one from the first to the last.
@@ -91,7 +92,7 @@ fn is_within(first: u32, last: u32, place: Option<u32>) -> bool
 
 // Whether an entry passes one test.
 fn passes<R: Records>(spot: &Spot<'_, R>, test: &Test, place: Option<u32>) -> bool
-    ensures { result ≡ rule.passes test.now place (sight.answers_at (R.store spot.now.by.now.records.now).records spot.now.by.now.realm.now spot.now.by.now.user.now spot.now.by.now.dataset.now spot.now.by.now.chain spot.now.name.now) }
+    ensures { result ≡ rule.passes test.now place (answers_of spot.now) }
 {
     match test {
         Test::All => true,
@@ -109,7 +110,7 @@ fn passes<R: Records>(spot: &Spot<'_, R>, test: &Test, place: Option<u32>) -> bo
 
 /// Whether a key wants an entry that is looked at.
 pub(crate) fn wants<R: Records>(spot: &Spot<'_, R>, key: &Key, place: Option<u32>) -> bool
-    ensures { result ≡ rule.holds key.now place (sight.answers_at (R.store spot.now.by.now.records.now).records spot.now.by.now.realm.now spot.now.by.now.user.now spot.now.by.now.dataset.now spot.now.by.now.chain spot.now.name.now) }
+    ensures { result ≡ rule.holds key.now place (answers_of spot.now) }
 {
     match key.node() {
         Node::One(test) => passes(spot, test, place),
@@ -127,7 +128,7 @@ pub fn matches<'a, R: Records>(
     key: &Key,
     place: Option<u32>,
 ) -> bool
-    ensures { result ≡ rule.holds key.now place (sight.answers_at (R.store by.now.records.now).records by.now.realm.now by.now.user.now by.now.dataset.now by.now.chain name.now) }
+    ensures { result ≡ rule.holds key.now place (answers_of (spotted by.now name.now)) }
 {
     wants(&Spot::far(by, name), key, place)
 }

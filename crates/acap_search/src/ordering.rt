@@ -3,7 +3,7 @@ ghost use Rattle.std.specs.Prelude.{◌≡◌, OnOk};
 ghost use Rattle.acap_search.specs.Matches as found;
 ghost use Rattle.acap_search.specs.Places as rule;
 
-use crate::hit::Hit;
+use crate::finding::Finding;
 use crate::rank::{Place, Rank};
 use acap_entries::Memory;
 use std::cmp::Ordering;
@@ -17,8 +17,10 @@ fn rank_order(a: &Rank, b: &Rank) -> Ordering
         (Rank::Octets(_), _) => Ordering::Less,
         (Rank::Number(_), Rank::Octets(_)) => Ordering::Greater,
         (Rank::Number(x), Rank::Number(y)) => {
-            let by_length = x.as_slice().len().cmp(&y.as_slice().len());
-            by_length.then(x.cmp(y))
+            match x.as_slice().len().cmp(&y.as_slice().len()) {
+                Ordering::Equal => x.cmp(y),
+                unequal => unequal,
+            }
         }
         (Rank::Number(_), Rank::NoNumber) => Ordering::Less,
         (Rank::NoNumber, Rank::NoNumber) => Ordering::Equal,
@@ -67,16 +69,18 @@ pub(crate) fn places_order(a: &[Place], b: &[Place]) -> Ordering
     }
 }
 
-// How hits compare: by their places, and then by their full paths in octets.
-fn order(a: &Hit, b: &Hit) -> Ordering
+// How findings compare: by their places, and then by their full paths in octets.
+fn order(a: &Finding<'_>, b: &Finding<'_>) -> Ordering
     ensures { result ≡ found.match_cmp a.now b.now }
 {
-    let by_places = places_order(a.places.as_slice(), b.places.as_slice());
-    by_places.then(a.path.cmp_full(&b.path))
+    match places_order(a.places.as_slice(), b.places.as_slice()) {
+        Ordering::Equal => a.lying.path().cmp_full(b.lying.path()),
+        unequal => unequal,
+    }
 }
 
-/// Puts hits in order. Fails only for want of memory.
-pub(crate) fn sort_hits(hits: &mut Vec<Hit>) -> Result<(), Memory>
+/// Puts what is found in order. Fails only for want of memory.
+pub(crate) fn sort_found(hits: &mut Vec<Finding<'_>>) -> Result<(), Memory>
     ensures { OnOk result (hits.new.items ≡ found.sorted_by found.match_lt hits.old.items) }
 {
     hits.sort_by(|a, b| order(a, b))?;

@@ -20,7 +20,7 @@ fn is_alone(chain: &Lineage<'_>, dataset: &[u8]) -> bool
 /// The user's rights in a dataset that inherits nothing and has no list for an attribute alone: those on each attribute that
 /// no list of an entry's own speaks of.
 pub(crate) fn plain_rights(by: &Viewer<'_, Tree>) -> Option<Rights>
-    ensures { IfSome result (λ rights. near.IsPlain by.now.records.now.store.records by.now.realm.now by.now.user.now by.now.dataset.now by.now.chain rights) }
+    ensures { IfSome result (λ rights. near.IsPlain by.now rights) }
 {
     let dataset = by.dataset.as_slice();
     if !is_alone(&by.chain, dataset) {

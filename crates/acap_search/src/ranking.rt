@@ -6,9 +6,9 @@ ghost use Rattle.acap_order.specs.Digits.{significant_digits};
 ghost use Rattle.acap_order.specs.Ranks.{upper_case};
 ghost use Rattle.acap_search.specs.Places as rule;
 ghost use Rattle.acap_search.specs.Shown as shown;
-ghost use Rattle.acap_search.specs.Sight as sight;
+ghost use Rattle.acap_search.specs.Views.{places_at};
 
-use crate::looking::look_at;
+use crate::looking::look;
 use crate::rank::{Place, Places, Rank};
 use crate::spot::Spot;
 use acap_commands::SortItem;
@@ -105,12 +105,12 @@ pub(crate) fn places_of<R: Records>(
     spot: &Spot<'_, R>,
     sort: &[SortItem],
 ) -> Result<Places, Memory>
-    ensures { IfOk result (λ places. places ≡ rule.places_in (sight.answers_at (R.store spot.now.by.now.records.now).records spot.now.by.now.realm.now spot.now.by.now.user.now spot.now.by.now.dataset.now spot.now.by.now.chain spot.now.name.now).read sort.now) }
+    ensures { IfOk result (λ places. places ≡ places_at spot.now sort.now) }
 {
-    let mut places = Places::new(alloc);
+    let mut places = Vec::with_capacity(alloc, sort.len())?;
     for item in sort {
-        let seen = look_at(spot, item.attribute.as_slice());
-        places.push(place_of(alloc, &item.comparator, seen.read)?)?;
+        let seen = look(spot, item.attribute.as_slice());
+        places.push(place_of(alloc, &item.comparator, seen.read())?)?;
     }
-    Ok(places)
+    Ok(Places::from_vec(places))
 }

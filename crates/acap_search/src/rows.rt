@@ -1,12 +1,11 @@
 //! What a RETURN tells of an entry.
-ghost use Rattle.std.specs.Prelude.{◌≡◌, IfOk, OnOk, None, if◌then◌else◌, map as each};
+ghost use Rattle.std.specs.Prelude.{◌≡◌, ◌∷◌, [], IfOk, OnOk, map as each};
 ghost use Rattle.std.specs.FinMap as map;
-ghost use Rattle.acap_inherit.specs.Records.{record_at};
 ghost use Rattle.acap_search.specs.Rows as rule;
 ghost use Rattle.acap_search.specs.Shown as shown;
-ghost use Rattle.acap_search.specs.Sight as sight;
+ghost use Rattle.acap_search.specs.Views.{acl_at, answers_of, data_at, item_at, items_at, stars_along, stars_among, stars_at, stars_by};
 
-use crate::looking::{is_nil, look_at, read_at};
+use crate::looking::{is_nil, look};
 use crate::spot::Spot;
 use acap_commands::{Metadata, ReturnItem, ReturnName};
 use acap_entries::{
@@ -61,10 +60,10 @@ fn value_of(alloc: Global, value: Option<Lent<'_>>) -> Result<Cell, Memory>
 
 // The list of an attribute in the record of the searched dataset, if there is one.
 fn acl_of<R: Records>(spot: &Spot<'_, R>, attribute: &[u8]) -> Result<Cell, Memory>
-    ensures { IfOk result (λ cell. cell ≡ rule.list_cell (sight.own_acl (R.store spot.now.by.now.records.now).records spot.now.by.now.dataset.now spot.now.name.now attribute.now)) }
+    ensures { IfOk result (λ cell. cell ≡ rule.list_cell (acl_at spot.now attribute.now)) }
 {
-    let dataset = spot.by.dataset.as_slice();
-    match spot.by.records.find(dataset, spot.name.as_slice()) {
+    let by = spot.by;
+    match by.records.find(by.dataset.as_slice(), spot.name.as_slice()) {
         Some(record) => match record.acls.find(attribute) {
             Some(list) => Ok(Cell::Multi(list.copy()?)),
             None => Ok(Cell::Nil),
@@ -74,14 +73,10 @@ fn acl_of<R: Records>(spot: &Spot<'_, R>, attribute: &[u8]) -> Result<Cell, Memo
 }
 
 // The same where it is seen.
-fn seen_acl<R: Records>(
-    spot: &Spot<'_, R>,
-    attribute: &[u8],
-    is_readable: bool,
-) -> Result<Cell, Memory>
-    ensures { IfOk result (λ cell. cell ≡ rule.list_cell (if is_readable then sight.own_acl (R.store spot.now.by.now.records.now).records spot.now.by.now.dataset.now spot.now.name.now attribute.now else None)) }
+fn seen_acl<R: Records>(spot: &Spot<'_, R>, attribute: &[u8]) -> Result<Cell, Memory>
+    ensures { IfOk result (λ cell. cell ≡ rule.list_cell ((answers_of spot.now).acl attribute.now)) }
 {
-    if is_readable {
+    if look(spot, attribute).is_readable {
         acl_of(spot, attribute)
     } else {
         Ok(Cell::Nil)
@@ -95,14 +90,14 @@ fn datum<R: Records>(
     attribute: &[u8],
     wanted: Metadata,
 ) -> Result<Cell, Memory>
-    ensures { IfOk result (λ cell. cell ≡ rule.datum (sight.answers_at (R.store spot.now.by.now.records.now).records spot.now.by.now.realm.now spot.now.by.now.user.now spot.now.by.now.dataset.now spot.now.by.now.chain spot.now.name.now) attribute.now wanted) }
+    ensures { IfOk result (λ cell. cell ≡ rule.datum (answers_of spot.now) attribute.now wanted) }
 {
     match wanted {
-        Metadata::Acl => seen_acl(spot, attribute, look_at(spot, attribute).is_readable),
+        Metadata::Acl => seen_acl(spot, attribute),
         Metadata::Attribute => Ok(Cell::Single(Value::from_slice(alloc, attribute)?)),
-        Metadata::MyRights => Ok(Cell::Single(look_at(spot, attribute).rights.letters(alloc)?)),
-        Metadata::Size => sizes_of(alloc, read_at(spot, attribute)),
-        Metadata::Value => value_of(alloc, read_at(spot, attribute)),
+        Metadata::MyRights => Ok(Cell::Single(look(spot, attribute).rights.letters(alloc)?)),
+        Metadata::Size => sizes_of(alloc, look(spot, attribute).read()),
+        Metadata::Value => value_of(alloc, look(spot, attribute).read()),
     }
 }
 
@@ -114,7 +109,7 @@ fn data_of<R: Records>(
     attribute: &[u8],
     wanted: &[Metadata],
 ) -> Result<CellList, Memory>
-    ensures { IfOk result (λ cells. cells ≡ rule.data_of (sight.answers_at (R.store spot.now.by.now.records.now).records spot.now.by.now.realm.now spot.now.by.now.user.now spot.now.by.now.dataset.now spot.now.by.now.chain spot.now.name.now) wanted.now attribute.now) }
+    ensures { IfOk result (λ cells. cells ≡ data_at spot.now wanted.now attribute.now) }
 {
     let mut cells = Vec::with_capacity(alloc, wanted.len())?;
     for metadata in wanted {
@@ -131,9 +126,9 @@ fn add_star<R: Records>(
     attribute: &[u8],
     stars: &mut Table<bool>,
 ) -> Result<(), Memory>
-    ensures { OnOk result (stars.new ≡ rule.put_star (sight.answers_at (R.store spot.now.by.now.records.now).records spot.now.by.now.realm.now spot.now.by.now.user.now spot.now.by.now.dataset.now spot.now.by.now.chain spot.now.name.now).read front.now attribute.now stars.old) }
+    ensures { OnOk result (stars.new ≡ stars_among spot.now front.now (attribute.now ∷ []) stars.old) }
 {
-    if attribute.starts_with(front) && !is_nil(read_at(spot, attribute)) {
+    if attribute.starts_with(front) && !is_nil(look(spot, attribute).read()) {
         stars.set(Attribute::from_slice(alloc, attribute)?, true)?;
     }
     Ok(())
@@ -147,7 +142,7 @@ fn add_stars<R: Records>(
     cells: &Cells,
     stars: &mut Table<bool>,
 ) -> Result<(), Memory>
-    ensures { OnOk result (stars.new ≡ rule.stars_from (sight.answers_at (R.store spot.now.by.now.records.now).records spot.now.by.now.realm.now spot.now.by.now.user.now spot.now.by.now.dataset.now spot.now.by.now.chain spot.now.name.now).read front.now (map.keys cells.now) stars.old) }
+    ensures { OnOk result (stars.new ≡ stars_among spot.now front.now (map.keys cells.now) stars.old) }
 {
     for (attribute, _) in cells.entries() {
         add_star(alloc, spot, front, attribute.as_slice(), stars)?;
@@ -163,9 +158,10 @@ fn add_record_stars<R: Records>(
     dataset: &[u8],
     stars: &mut Table<bool>,
 ) -> Result<(), Memory>
-    ensures { OnOk result (stars.new ≡ rule.stars_from (sight.answers_at (R.store spot.now.by.now.records.now).records spot.now.by.now.realm.now spot.now.by.now.user.now spot.now.by.now.dataset.now spot.now.by.now.chain spot.now.name.now).read front.now (rule.attributes_in (record_at (R.store spot.now.by.now.records.now).records dataset.now spot.now.name.now)) stars.old) }
+    ensures { OnOk result (stars.new ≡ stars_by spot.now front.now dataset.now stars.old) }
 {
-    match spot.by.records.find(dataset, spot.name.as_slice()) {
+    let by = spot.by;
+    match by.records.find(dataset, spot.name.as_slice()) {
         Some(record) => add_stars(alloc, spot, front, &record.cells, stars),
         None => Ok(()),
     }
@@ -178,9 +174,10 @@ fn add_chain_stars<R: Records>(
     front: &[u8],
     stars: &mut Table<bool>,
 ) -> Result<(), Memory>
-    ensures { OnOk result (stars.new ≡ rule.stars_from (sight.answers_at (R.store spot.now.by.now.records.now).records spot.now.by.now.realm.now spot.now.by.now.user.now spot.now.by.now.dataset.now spot.now.by.now.chain spot.now.name.now).read front.now (rule.attributes_on (R.store spot.now.by.now.records.now).records spot.now.name.now spot.now.by.now.chain) stars.old) }
+    ensures { OnOk result (stars.new ≡ stars_along spot.now front.now spot.now.by.chain stars.old) }
 {
-    for dataset in spot.by.chain.names() {
+    let by = spot.by;
+    for dataset in by.chain.names() {
         add_record_stars(alloc, spot, front, dataset, stars)?;
     }
     Ok(())
@@ -193,7 +190,7 @@ fn stars_of<R: Records>(
     spot: &Spot<'_, R>,
     front: &[u8],
 ) -> Result<Table<bool>, Memory>
-    ensures { IfOk result (λ stars. stars ≡ rule.stars_of (sight.answers_at (R.store spot.now.by.now.records.now).records spot.now.by.now.realm.now spot.now.by.now.user.now spot.now.by.now.dataset.now spot.now.by.now.chain spot.now.name.now).read (rule.attributes_at (R.store spot.now.by.now.records.now).records spot.now.name.now spot.now.by.now.chain) front.now) }
+    ensures { IfOk result (λ stars. stars ≡ stars_at spot.now front.now) }
 {
     let mut stars = Table::new(alloc);
     add_star(alloc, spot, front, b"entry", &mut stars)?;
@@ -209,7 +206,7 @@ fn lists_of<R: Records>(
     stars: &Table<bool>,
     wanted: &[Metadata],
 ) -> Result<CellLists, Memory>
-    ensures { IfOk result (λ lists. lists ≡ each (rule.data_of (sight.answers_at (R.store spot.now.by.now.records.now).records spot.now.by.now.realm.now spot.now.by.now.user.now spot.now.by.now.dataset.now spot.now.by.now.chain spot.now.name.now) wanted.now) (map.keys stars.now)) }
+    ensures { IfOk result (λ lists. lists ≡ each (data_at spot.now wanted.now) (map.keys stars.now)) }
 {
     let mut lists = CellLists::new(alloc);
     for (attribute, _) in stars.entries() {
@@ -226,7 +223,7 @@ fn named_item<R: Records>(
     attribute: &[u8],
     wanted: &[Metadata],
 ) -> Result<Item, Memory>
-    ensures { IfOk result (λ item. item ≡ rule.gathered (rule.data_of (sight.answers_at (R.store spot.now.by.now.records.now).records spot.now.by.now.realm.now spot.now.by.now.user.now spot.now.by.now.dataset.now spot.now.by.now.chain spot.now.name.now) wanted.now attribute.now)) }
+    ensures { IfOk result (λ item. item ≡ rule.gathered (data_at spot.now wanted.now attribute.now)) }
 {
     match wanted {
         [] => Ok(Item::Several(CellList::new(alloc))),
@@ -241,7 +238,7 @@ fn item_of<R: Records>(
     spot: &Spot<'_, R>,
     asked: &ReturnItem,
 ) -> Result<Item, Memory>
-    ensures { IfOk result (λ item. item ≡ rule.item_of (sight.answers_at (R.store spot.now.by.now.records.now).records spot.now.by.now.realm.now spot.now.by.now.user.now spot.now.by.now.dataset.now spot.now.by.now.chain spot.now.name.now) (rule.stars_of (sight.answers_at (R.store spot.now.by.now.records.now).records spot.now.by.now.realm.now spot.now.by.now.user.now spot.now.by.now.dataset.now spot.now.by.now.chain spot.now.name.now).read (rule.attributes_at (R.store spot.now.by.now.records.now).records spot.now.name.now spot.now.by.now.chain)) asked.now.name asked.now.metadata) }
+    ensures { IfOk result (λ item. item ≡ item_at spot.now asked.now) }
 {
     let wanted = asked.metadata.as_slice();
     match &asked.name {
@@ -254,12 +251,12 @@ fn item_of<R: Records>(
 }
 
 /// What a RETURN tells of an entry that is looked at.
-pub(crate) fn items_at<R: Records>(
+pub(crate) fn items_of<R: Records>(
     alloc: Global,
     spot: &Spot<'_, R>,
     returns: &[ReturnItem],
 ) -> Result<Items, Memory>
-    ensures { IfOk result (λ items. items ≡ rule.items_of (sight.answers_at (R.store spot.now.by.now.records.now).records spot.now.by.now.realm.now spot.now.by.now.user.now spot.now.by.now.dataset.now spot.now.by.now.chain spot.now.name.now) (rule.stars_of (sight.answers_at (R.store spot.now.by.now.records.now).records spot.now.by.now.realm.now spot.now.by.now.user.now spot.now.by.now.dataset.now spot.now.by.now.chain spot.now.name.now).read (rule.attributes_at (R.store spot.now.by.now.records.now).records spot.now.name.now spot.now.by.now.chain)) returns.now) }
+    ensures { IfOk result (λ items. items ≡ items_at spot.now returns.now) }
 {
     let mut items = Vec::with_capacity(alloc, returns.len())?;
     for asked in returns {

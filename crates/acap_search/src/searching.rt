@@ -1,41 +1,33 @@
 //! Searches over datasets.
-ghost use Rattle.std.specs.Prelude.{◌≡◌, ◌↔◌, ◌++◌, IsTrue, IfOk, OnOk, Err, Some, None, false, drop, length, flat_map};
-ghost use Rattle.std.specs.List.{filter_map};
-ghost use Rattle.std.specs.Option.{option_map_or};
-ghost use Rattle.acap_entries.specs.Datasets.{dataset_exists};
-ghost use Rattle.acap_inherit.specs.EntryNames as names;
+ghost use Rattle.std.specs.Prelude.{◌≡◌, ◌++◌, IfOk, IsTrue, None, OnOk};
+ghost use Rattle.std.specs.List.{filter};
+ghost use Rattle.std.specs.FinMap as map;
 ghost use Rattle.acap_search.specs.Fresh as rule;
+ghost use Rattle.acap_search.specs.Fresh.{IsAnswer, matches_of};
 ghost use Rattle.acap_search.specs.Near as near;
-ghost use Rattle.acap_search.specs.Scopes as scopes;
 ghost use Rattle.acap_search.specs.Walks as walks;
-ghost use Rattle.acap_search.specs.declared.refusal.SearchRefusal.TheVariants as refusal;
 
-use crate::hit::{Hit, Hits};
+use crate::finding::{Finding, hits_of};
+use crate::front::Front;
+use crate::hit::Hits;
 use crate::near::Near;
-use crate::ordering::sort_hits;
+use crate::ordering::sort_found;
 use crate::plain::plain_rights;
 use crate::query::{Query, Sought};
+use crate::reaching::reached_by;
 use crate::refusal::SearchRefusal;
+use crate::search::Search;
 use crate::spot::Spot;
-use crate::tuples::hit_at;
+use crate::tuples::finding_at;
 use crate::viewer::Viewer;
 use acap_commands::{Key, Node, Test};
-use acap_entries::{Dataset, Memory, Path, Record, Records, Tree, UserName, makes_dataset};
-use acap_inherit::{chain, names_on};
+use acap_entries::{Dataset, Listing, Memory, Records, Tree, UserName};
+use acap_inherit::{Lineage, chain, names_law, names_on};
 use acap_rights::{Realm, Rights};
 use std::alloc::Global;
 
-// Whose search it is, over which store, and what it looks for.
-#[derive(Drop)]
-struct Search<'a> {
-    tree: &'a Tree,
-    realm: &'a Realm,
-    user: &'a UserName,
-    sought: &'a Sought,
-}
-
-/// Whether a key asks for positions.
-pub(crate) fn has_range(key: &Key) -> bool
+// Whether a key asks for positions.
+fn has_range(key: &Key) -> bool
     ensures { result ≡ rule.has_range key.now }
 {
     match key.node() {
@@ -47,8 +39,8 @@ pub(crate) fn has_range(key: &Key) -> bool
     }
 }
 
-/// Whether there are more matches than HARDLIMIT allows.
-pub(crate) fn is_over(most: Option<u32>, count: usize) -> bool
+// Whether there are more matches than HARDLIMIT allows.
+fn is_over(most: Option<u32>, count: usize) -> bool
     ensures { result ≡ rule.is_over most count }
 {
     match most {
@@ -57,108 +49,54 @@ pub(crate) fn is_over(most: Option<u32>, count: usize) -> bool
     }
 }
 
-// How many levels some octets go down.
-fn levels(octets: &[u8]) -> usize
-    ensures { result ≡ scopes.levels octets.now }
-{
-    octets.iter().filter(|octet| **octet == b'/').count()
-}
-
-// What stands behind so many octets.
-fn behind(octets: &[u8], count: usize) -> &[u8]
-    ensures { result.now ≡ drop count octets.now }
-{
-    if count <= octets.len() {
-        &octets[count..]
-    } else {
-        &[]
-    }
-}
-
-// Whether a dataset is reached whose own entry is so many levels down.
-fn is_reached(depth: u32, level: usize) -> bool
-    ensures { result ≡ scopes.is_reached depth level }
-{
-    depth == 0 || level < depth as usize - 1
-}
-
-// Whether that is the name of one component.
-fn is_component_name(name: &[u8]) -> bool
-    ensures { result ≡ scopes.is_component_name name.now }
-{
-    !name.is_empty() && !name.contains(&b'/')
-}
-
-// The dataset that an entry makes, if it makes one.
-fn made_by(path: &Path, entry: &Record) -> Result<Option<Dataset>, Memory>
-    ensures { IfOk result (λ made. made ≡ scopes.made_by (path.now, entry.now)) }
-{
-    if makes_dataset(entry) && is_component_name(path.name.as_slice()) {
-        Ok(Some(path.dataset.beneath(&path.name)?))
-    } else {
-        Ok(None)
-    }
-}
-
-// The dataset that an entry beneath the searched one makes, if it is reached.
-fn reached_by(
-    dataset: &Dataset,
-    depth: u32,
-    path: &Path,
-    entry: &Record,
-) -> Result<Option<Dataset>, Memory>
-    ensures { IfOk result (λ made. made ≡ scopes.reached_by dataset.now depth (path.now, entry.now)) }
-{
-    let further = behind(path.dataset.as_slice(), dataset.as_slice().len());
-    if is_reached(depth, levels(further)) {
-        made_by(path, entry)
-    } else {
-        Ok(None)
-    }
-}
-
 // Adds what is found among the records of a dataset that inherits nothing and has no list for an attribute alone.
-fn add_own_hits<'a>(
+fn add_own<'a: 'b, 'b>(
     alloc: Global,
-    by: &'a Viewer<'a, Tree>,
+    by: &'b Viewer<'b, Tree>,
+    entries: Listing<'a>,
     rights: Rights,
     sought: &Sought,
-    hits: &mut Vec<Hit>,
+    found: &mut Vec<Finding<'a>>,
 ) -> Result<(), Memory>
-    requires { near.IsPlain by.now.records.now.store.records by.now.realm.now by.now.user.now by.now.dataset.now by.now.chain rights }
-    ensures { OnOk result (hits.new.items ≡ hits.old.items ++ filter_map (walks.hit_at by.now.records.now.store.records by.now.realm.now by.now.user.now sought.now by.now.dataset.now by.now.chain) (names.names_on by.now.records.now.store.records by.now.chain)) }
+    requires plain { near.IsPlain by.now rights }
+    requires all { entries ≡ filter (near.lies_in by.now.dataset) (map.entries by.now.records) }
+    ensures { OnOk result (found.new.items ≡ found.old.items ++ walks.hits_along by.now sought.now) }
 {
-    for (path, entry) in by.records.entries_of(by.dataset.as_slice()) {
+    for (path, entry) in entries {
         let spot = Spot {
             by,
             name: &path.name,
             entry: Some(entry),
             rights,
         };
-        if let Some(hit) = hit_at(alloc, &spot, sought, None)? {
-            hits.push(hit)?;
+        if let Some(finding) = finding_at(alloc, &spot, Some(path), sought, None)? {
+            found.push(finding)?;
         }
     }
     Ok(())
 }
 
-/// Adds what is found at all names along a chain.
-pub(crate) fn add_far_hits(
+// The second dataset of a chain, which is the one that most is inherited from; in a chain of one that.
+fn base_of<'a>(chain: &Lineage<'a>) -> &'a [u8] {
+    match chain.names() {
+        [_, base, ..] => *base,
+        names => names[0],
+    }
+}
+
+// Adds what is found at all names along a chain.
+fn add_far<'a>(
     alloc: Global,
     by: &Viewer<'_, Tree>,
     sought: &Sought,
-    hits: &mut Vec<Hit>,
+    found: &mut Vec<Finding<'a>>,
 ) -> Result<(), Memory>
-    ensures { OnOk result (hits.new.items ≡ hits.old.items ++ filter_map (walks.hit_at by.now.records.now.store.records by.now.realm.now by.now.user.now sought.now by.now.dataset.now by.now.chain) (names.names_on by.now.records.now.store.records by.now.chain)) }
+    ensures { OnOk result (found.new.items ≡ found.old.items ++ walks.hits_along by.now sought.now) }
 {
-    let management = by.records.find(by.dataset.as_slice(), b"");
+    let own = Front::of(by.records, by.dataset.as_slice());
+    let base = Front::of(by.records, base_of(&by.chain));
     for name in names_on(by.records, &by.chain) {
-        let near = Near::new(
-            by.records,
-            by.dataset.as_slice(),
-            name.as_slice(),
-            management,
-        );
+        let near = Near::new(by.records, own, base, name.as_slice());
         let nearer = Viewer {
             records: &near,
             realm: by.realm,
@@ -166,8 +104,9 @@ pub(crate) fn add_far_hits(
             dataset: by.dataset,
             chain: by.chain.again(),
         };
-        if let Some(hit) = hit_at(alloc, &Spot::far(&nearer, name), sought, None)? {
-            hits.push(hit)?;
+        let spot = Spot::far(&nearer, name);
+        if let Some(finding) = finding_at(alloc, &spot, None, sought, None)? {
+            found.push(finding)?;
         }
     }
     Ok(())
@@ -175,73 +114,86 @@ pub(crate) fn add_far_hits(
 
 // Adds what is found in one dataset, whose chain is made once.
 #[tactic(auto, unfolding(crate::specs::Walks::hits_in))]
-fn add_hits(
+fn add_in<'a>(
     alloc: Global,
-    search: &Search<'_>,
+    search: &Search<'a>,
     dataset: &Dataset,
-    hits: &mut Vec<Hit>,
+    found: &mut Vec<Finding<'a>>,
 ) -> Result<(), Memory>
-    ensures { OnOk result (hits.new.items ≡ hits.old.items ++ walks.hits_in search.now.tree.now.store.records search.now.realm.now search.now.user.now search.now.sought.now dataset.now) }
+    ensures { OnOk result (found.new.items ≡ found.old.items ++ walks.hits_in search.now dataset.now) }
 {
+    let sought = search.sought;
     let by = Viewer {
         records: search.tree,
         realm: search.realm,
         user: search.user,
         dataset,
-        chain: chain(search.tree, dataset, search.sought.no_inherit),
+        chain: chain(search.tree, dataset, sought.no_inherit),
     };
     match plain_rights(&by) {
-        Some(rights) => add_own_hits(alloc, &by, rights, search.sought, hits),
-        None => add_far_hits(alloc, &by, search.sought, hits),
-    }
-}
-
-// Adds what is found in the dataset that an entry makes, where it is reached.
-#[tactic(auto, unfolding(crate::specs::Walks::hits_by))]
-fn add_reached(
-    alloc: Global,
-    search: &Search<'_>,
-    depth: u32,
-    path: &Path,
-    entry: &Record,
-    hits: &mut Vec<Hit>,
-) -> Result<(), Memory>
-    ensures { OnOk result (hits.new.items ≡ hits.old.items ++ walks.hits_by search.now.tree.now.store.records search.now.realm.now search.now.user.now search.now.sought.now depth (path.now, entry.now)) }
-{
-    match reached_by(&search.sought.dataset, depth, path, entry)? {
-        Some(dataset) => add_hits(alloc, search, &dataset, hits),
-        None => Ok(()),
+        Some(rights) => {
+            let entries = search.tree.entries_of(dataset.as_slice());
+            add_own(alloc, &by, entries, rights, sought, found)
+        }
+        None => add_far(alloc, &by, sought, found),
     }
 }
 
 // Adds what is found beneath the searched dataset, in so many levels: with one level nothing, and nothing is walked through.
-fn add_beneath(
+#[tactic(auto, unfolding(crate::specs::Walks::hits_by))]
+fn add_beneath<'a>(
     alloc: Global,
-    search: &Search<'_>,
+    search: &Search<'a>,
     depth: u32,
-    hits: &mut Vec<Hit>,
+    found: &mut Vec<Finding<'a>>,
 ) -> Result<(), Memory>
-    ensures { OnOk result (hits.new.items ≡ hits.old.items ++ flat_map (walks.hits_in search.now.tree.now.store.records search.now.realm.now search.now.user.now search.now.sought.now) (scopes.beneath search.now.tree.now.store.records search.now.sought.now.dataset depth)) }
+    ensures { OnOk result (found.new.items ≡ found.old.items ++ walks.hits_beneath search.now depth) }
 {
     if depth == 1 {
         return Ok(());
     }
-    for (path, entry) in search.tree.entries_beneath(&search.sought.dataset) {
-        add_reached(alloc, search, depth, path, entry, hits)?;
+    let sought = search.sought;
+    for (path, entry) in search.tree.entries_beneath(&sought.dataset) {
+        if let Some(dataset) = reached_by(&sought.dataset, depth, path, entry)? {
+            add_in(alloc, search, &dataset, found)?;
+        }
     }
     Ok(())
 }
 
 // What is found, in the order of the store.
-fn hits_of(alloc: Global, search: &Search<'_>) -> Result<Vec<Hit>, Memory>
-    ensures { IfOk result (λ hits. hits.items ≡ walks.hits_over search.now.tree.now.store.records search.now.realm.now search.now.user.now search.now.sought.now) }
+fn walked<'a>(alloc: Global, search: &Search<'a>) -> Result<Vec<Finding<'a>>, Memory>
+    ensures { IfOk result (λ found. found.items ≡ walks.hits_over search.now) }
 {
-    let mut hits = Vec::new(alloc);
-    add_hits(alloc, search, &search.sought.dataset, &mut hits)?;
-    if let Some(depth) = search.sought.depth {
-        add_beneath(alloc, search, depth, &mut hits)?;
+    let mut found = Vec::new(alloc);
+    let sought = search.sought;
+    add_in(alloc, search, &sought.dataset, &mut found)?;
+    if let Some(depth) = sought.depth {
+        add_beneath(alloc, search, depth, &mut found)?;
     }
-    Ok(hits)
+    Ok(found)
+}
+
+// Whether all comes in order.
+fn is_in_order(search: &Search<'_>) -> bool
+    ensures depth { IsTrue result → search.now.sought.depth ≡ None }
+    ensures sort { IsTrue result → search.now.sought.sort ≡ None }
+{
+    let sought = search.sought;
+    sought.depth.is_none() && sought.sort.is_none()
+}
+
+// What is found, in order: without DEPTH and SORT it comes so.
+fn found_by<'a>(alloc: Global, search: &Search<'a>) -> Result<Vec<Finding<'a>>, Memory>
+    ensures { IfOk result (λ found. found.items ≡ walks.matches_by search.now) }
+{
+    names_law();
+    let mut found = walked(alloc, search)?;
+    if is_in_order(search) {
+        return Ok(found);
+    }
+    sort_found(&mut found)?;
+    Ok(found)
 }
 
 /// All that is sought: every entry that the user sees and the key wants, in order (RFC 2244 section 6.4.1). Nothing is refused, since
@@ -253,7 +205,7 @@ pub fn seek(
     user: &UserName,
     sought: &Sought,
 ) -> Result<Hits, Memory>
-    ensures { IfOk result (λ hits. hits ≡ rule.fresh_of (rule.sight_of tree.now.store.records realm.now user.now (scopes.scope_of sought.now)) sought.now) }
+    ensures { IfOk result (λ hits. hits ≡ matches_of tree.now.store.records realm.now user.now sought.now) }
 {
     let search = Search {
         tree,
@@ -261,26 +213,20 @@ pub fn seek(
         user,
         sought,
     };
-    let mut hits = hits_of(alloc, &search)?;
-    sort_hits(&mut hits)?;
-    Ok(Hits::from_vec(hits))
+    let found = found_by(alloc, &search)?;
+    Ok(Hits::from_vec(hits_of(alloc, found)?))
 }
 
-/// What a search over a dataset finds: all entries that the user sees and the key wants, in order, whatever LIMIT says (RFC 2244
-/// section 6.4.1). It is refused where the key asks for positions, where the dataset doesn't exist, where more entries match
-/// than HARDLIMIT allows, and for want of memory: the first of these is told.
-pub fn fresh(
+/// What is answered to a search over a dataset, whose paths need not be made.
+#[tactic(auto, using(crate::proofs::RefusalLemmas::refused))]
+pub(crate) fn answer<'a>(
     alloc: Global,
-    tree: &Tree,
-    realm: &Realm,
-    user: &UserName,
-    query: &Query,
-) -> Result<Hits, SearchRefusal>
-    ensures found { IfOk result (λ hits. hits ≡ rule.fresh_of (rule.sight_of tree.now.store.records realm.now user.now (scopes.scope_of query.now.sought)) query.now.sought) }
-    ensures ok { OnOk result (rule.refusal_of tree.now.store.records realm.now user.now query.now ≡ None) }
-    ensures range { (result ≡ Err refusal.RangeHere) ↔ IsTrue (rule.has_range query.now.sought.key) }
-    ensures missing { (result ≡ Err refusal.NoExist) ↔ (rule.refusal_of tree.now.store.records realm.now user.now query.now ≡ Some refusal.NoExist) }
-    ensures many { result ≡ Err refusal.WayTooMany → rule.refusal_of tree.now.store.records realm.now user.now query.now ≡ Some refusal.WayTooMany }
+    tree: &'a Tree,
+    realm: &'a Realm,
+    user: &'a UserName,
+    query: &'a Query,
+) -> Result<Vec<Finding<'a>>, SearchRefusal>
+    ensures { IsAnswer tree.now.store.records realm.now user.now query.now (λ f all. f.items ≡ all) result }
 {
     if has_range(&query.sought.key) {
         return Err(SearchRefusal::RangeHere);
@@ -294,10 +240,30 @@ pub fn fresh(
         user,
         sought: &query.sought,
     };
-    let mut hits = hits_of(alloc, &search)?;
-    if is_over(query.hard_limit, hits.as_slice().len()) {
+    let found = found_by(alloc, &search)?;
+    if is_over(query.hard_limit, found.len()) {
         return Err(SearchRefusal::WayTooMany);
     }
-    sort_hits(&mut hits)?;
-    Ok(Hits::from_vec(hits))
+    Ok(found)
+}
+
+/// What a search over a dataset finds: all entries that the user sees and the key wants, in order, whatever LIMIT says (RFC 2244
+/// section 6.4.1). It is refused where the key asks for positions, where the dataset doesn't exist, where more entries match
+/// than HARDLIMIT allows, and for want of memory: the first of these is told.
+pub fn fresh(
+    alloc: Global,
+    tree: &Tree,
+    realm: &Realm,
+    user: &UserName,
+    query: &Query,
+) -> Result<Hits, SearchRefusal>
+    ensures { IsAnswer tree.now.store.records realm.now user.now query.now (λ hits all. hits ≡ all) result }
+{
+    match answer(alloc, tree, realm, user, query) {
+        Ok(found) => match hits_of(alloc, found) {
+            Ok(hits) => Ok(Hits::from_vec(hits)),
+            Err(_) => Err(SearchRefusal::Memory),
+        },
+        Err(refusal) => Err(refusal),
+    }
 }

@@ -1,12 +1,13 @@
 //! Who looks, and from where.
-use acap_entries::{Dataset, UserName};
+use acap_entries::{Dataset, Records, UserName};
 use acap_inherit::Lineage;
 use acap_rights::Realm;
+use std::marker::Model;
 
 /// Who looks at the entries of a dataset, and along which chain (RFC 2244 sections 3.5 and 5.2). It is made once for a dataset,
 /// and not for each entry.
 #[derive(Drop)]
-pub struct Viewer<'a, R> {
+pub struct Viewer<'a, R: Records> {
     /// The store.
     pub records: &'a R,
     /// Who is who.
@@ -17,4 +18,20 @@ pub struct Viewer<'a, R> {
     pub dataset: &'a Dataset,
     /// From which datasets its entries are: its chain, or the dataset alone where nothing is to be inherited.
     pub chain: Lineage<'a>,
+}
+
+impl<'a, R: Records> Model for Viewer<'a, R> {
+    ghost use Rattle.acap_search.specs.Views.{View, view_code};
+
+    ghost Value = { View };
+
+    ghost coded = { view_code };
+
+    ghost view = { λ v. record {
+      records = (R.store v.records.now).records;
+      realm = v.realm.now;
+      user = v.user.now;
+      dataset = v.dataset.now;
+      chain = v.chain;
+    } };
 }

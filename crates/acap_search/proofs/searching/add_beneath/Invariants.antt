@@ -4,5 +4,5 @@ use Rattle.acap_search.proofs.searching.add_beneath.Given as goal
 
 abbrev pub invariant-loop-path : goal.invariant-loop-path
 invariant-loop-path l =
-    l.hits.items ++ flat_map (hits_by l.search.tree.now.store.records l.search.realm.now l.search.user.now l.search.sought.now l.depth) l.path-iterator
-    ≡ l.initial.hits.items ++ flat_map (hits_by l.search.tree.now.store.records l.search.realm.now l.search.user.now l.search.sought.now l.depth) l.initial.path-iterator
+    l.found.items ++ flat_map (hits_by l.search l.depth) l.path-iterator
+    ≡ l.initial.found.items ++ flat_map (hits_by l.search l.depth) l.initial.path-iterator

@@ -1,0 +1,78 @@
+//! What is found in a walk.
+ghost use Rattle.std.specs.Prelude.{◌≡◌, IfOk, take, map as each};
+
+use crate::hit::Hit;
+use crate::lying::Lying;
+use crate::rank::Places;
+use acap_commands::Rows;
+use acap_entries::{Memory, Row};
+use std::alloc::Global;
+use std::marker::Model;
+
+/// An entry that is found: a hit whose path is made only where it is asked for.
+#[derive(Drop)]
+pub(crate) struct Finding<'a> {
+    /// Where it is.
+    pub(crate) lying: Lying<'a>,
+    /// Where it stands for SORT.
+    pub(crate) places: Places,
+    /// What is told of it.
+    pub(crate) row: Row,
+}
+
+impl<'a> Model for Finding<'a> {
+    ghost use Rattle.acap_search.specs.Lying.{path_in};
+    ghost use Rattle.acap_search.specs.Matches.{Match, match_code};
+
+    ghost Value = { Match };
+
+    ghost coded = { match_code };
+
+    ghost view = { λ f. record { path = path_in f.lying; places = f.places; row = f.row } };
+}
+
+impl<'a> Finding<'a> {
+    /// As a hit. Fails only for want of memory.
+    pub(crate) fn into_hit(self) -> Result<Hit, Memory>
+        ensures { IfOk result (λ hit. hit ≡ self.entry) }
+    {
+        let Finding { lying, places, row } = self;
+        let path = lying.into_path()?;
+        Ok(Hit { path, places, row })
+    }
+
+    /// What is told of it, in the memory that it has.
+    pub(crate) fn into_row(self) -> Row
+        ensures { result ≡ self.entry.row }
+    {
+        self.row
+    }
+}
+
+/// What is told of the first of what is found. Fails only for want of memory.
+pub(crate) fn told_first(
+    alloc: Global,
+    found: Vec<Finding<'_>>,
+    most: usize,
+) -> Result<Rows, Memory>
+    ensures { IfOk result (λ rows. rows ≡ each (λ hit. hit.row) (take most found.entry.items)) }
+{
+    let mut found = found;
+    found.truncate(most);
+    let mut rows = Vec::with_capacity(alloc, found.len())?;
+    for finding in found {
+        rows.push(finding.into_row())?;
+    }
+    Ok(Rows::from_vec(rows))
+}
+
+/// All that is found, as hits. Fails only for want of memory.
+pub(crate) fn hits_of(alloc: Global, found: Vec<Finding<'_>>) -> Result<Vec<Hit>, Memory>
+    ensures { IfOk result (λ hits. hits.items ≡ found.entry.items) }
+{
+    let mut hits = Vec::with_capacity(alloc, found.len())?;
+    for finding in found {
+        hits.push(finding.into_hit()?)?;
+    }
+    Ok(hits)
+}
