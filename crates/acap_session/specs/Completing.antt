@@ -223,7 +223,7 @@ pub record CompletionExamples : Type 0 where
   pub login : heard_there (given (codes "A1 AUTHENTICATE \"CRAM-MD5\"\r\n*\r\nA2 NOOP\r\n") 3) ≡ login_call a1 ∷ plain_call a2 ∷ []
   pub login_said : said_there (given (codes "A1 AUTHENTICATE \"CRAM-MD5\"\r\n*\r\nA2 NOOP\r\n") 3)
       ≡ lines_of (codes "+ \"<0.0@localhost>\"" ∷ codes "A1 BAD \"Login cancelled\"" ∷ codes "A2 OK \"NOOP done\"" ∷ [])
-  -- an input that is too long is told by a BYE, which completes nothing, also where a login goes on
+  -- an input that is too long is told by a BYE, which completes nothing
   pub too_long : heard_there (given (codes "A1 NOOP\r\nA2 NOOP {262144}\r\n") 3) ≡ plain_call a1 ∷ []
   pub too_long_said : said_there (given (codes "A1 NOOP\r\nA2 NOOP {262144}\r\n") 3) ≡ lines_of (codes "A1 OK \"NOOP done\"" ∷ codes "* BYE \"Command too long\"" ∷ [])
   -- a refusal under `*` answers a line without a tag; neither a challenge nor a BYE answers one
