@@ -16,4 +16,4 @@ mod RepeatLaws
 mod Sampling
 mod TouchedLemmas
 mod TouchedSamples
-mod UnreadLaws
+pub mod UnreadLaws

@@ -76,7 +76,7 @@ by_new written old new h dataset name e f =
 
 -- ---- a dataset that doesn't exist
 
-empty_there : (records : Stored) → IsHoused records → (dataset : List ℕ) → dataset_exists records dataset ≡ false → (n : List ℕ) → record_at records dataset n ≡ None
+pub empty_there : (records : Stored) → IsHoused records → (dataset : List ℕ) → dataset_exists records dataset ≡ false → (n : List ℕ) → record_at records dataset n ≡ None
 empty_there records h dataset e n =
     elim (record_at records dataset n) as (λ found. record_at records dataset n ≡ found → found ≡ None) [
       | None ↦ λ _. refl
@@ -88,7 +88,7 @@ unfolding chain_within
 chain_alone records dataset e =
     let none : base_at records dataset ≡ None = rw e refl in ap (λ base. dataset ∷ onward base (chain_within 7 records)) none
 
-none_along : (records : Stored) (dataset name : List ℕ) → ((n : List ℕ) → record_at records dataset n ≡ None) → has_record_on records (chain_of records dataset false) name ≡ false
+pub none_along : (records : Stored) (dataset name : List ℕ) → ((n : List ℕ) → record_at records dataset n ≡ None) → has_record_on records (chain_of records dataset false) name ≡ false
 none_along records dataset name h =
     ap (λ chain. has_record_on records chain name) (chain_alone records dataset (h []))
     ∙ ap (λ found. is_some found || false) (h name)
@@ -133,11 +133,11 @@ unfolding chain_within
 first_of_chain records dataset d (zero, lt, s) = (zero, omega arith, s)
 first_of_chain records dataset d (suc k, lt, s) = absurd (omega (arith, lt))
 
-within_chain : (records : Stored) (dataset : List ℕ) (no_inherit : Bool) (d : List ℕ) → Contains (chain_of records dataset no_inherit) d → Contains (chain_of records dataset false) d
+pub within_chain : (records : Stored) (dataset : List ℕ) (no_inherit : Bool) (d : List ℕ) → Contains (chain_of records dataset no_inherit) d → Contains (chain_of records dataset false) d
 within_chain records dataset true d k = first_of_chain records dataset d k
 within_chain records dataset false d k = k
 
-same_of : (old new : Stored) (dataset : List ℕ) (no_inherit : Bool) → chain_of old dataset false ≡ chain_of new dataset false → chain_of old dataset no_inherit ≡ chain_of new dataset no_inherit
+pub same_of : (old new : Stored) (dataset : List ℕ) (no_inherit : Bool) → chain_of old dataset false ≡ chain_of new dataset false → chain_of old dataset no_inherit ≡ chain_of new dataset no_inherit
 same_of old new dataset true e = refl
 same_of old new dataset false e = e
 
@@ -153,7 +153,7 @@ alike old new dataset name h =
           ∙ ap (λ chain. modtime_of new chain name) (same_of old new dataset b h.chain);
     }
 
-none_at : (records : Stored) (dataset name : List ℕ) → has_record_on records (chain_of records dataset false) name ≡ false → (b : Bool) (d : List ℕ) → Contains (chain_of records dataset b) d → record_at records d name ≡ None
+pub none_at : (records : Stored) (dataset name : List ℕ) → has_record_on records (chain_of records dataset false) name ≡ false → (b : Bool) (d : List ℕ) → Contains (chain_of records dataset b) d → record_at records d name ≡ None
 none_at records dataset name e b d k =
     absent _ (none_of (λ m. is_some (record_at records m name)) (chain_of records dataset false) e d (within_chain records dataset b d k))
 

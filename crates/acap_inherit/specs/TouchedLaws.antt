@@ -48,7 +48,7 @@ pub record UnreadLaw : Type 0 where
 
 -- the list of touched paths is that of all of them, whatever is in question, and each comes once, in the order of full octets: paths
 -- that are split at their last slash, as all of a store are, are told apart by these alone. Those of each touched dataset are all of them together
-pub record TouchedLaw : Type 0 where
+pub record TouchedPathsLaw : Type 0 where
   pub all : (written : Written) (old new : Stored) → IsPathByPath written old new → (p : Path)
       → list_any (eq_by_cmp by_octets p) (touched written old new) ≡ is_touched written old new p
   pub rises : (written : Written) (old new : Stored) → Ascending by_octets (touched written old new)

@@ -2,7 +2,7 @@
 ghost use Rattle.acap_inherit.specs.Examples.{ChainExamples, OverBaseExamples, MomentExamples};
 ghost use Rattle.acap_inherit.specs.Laws.{ChainLaw, BaseLaw, RepeatLaw, FirstLaw, MomentLaw, FirstDatasetLaw, NothingLaw, ReadingLaw, NamesLaw};
 ghost use Rattle.acap_inherit.specs.TouchedExamples.{TouchedExamples};
-ghost use Rattle.acap_inherit.specs.TouchedLaws.{TouchedLaw, UnreadLaw};
+ghost use Rattle.acap_inherit.specs.TouchedLaws.{TouchedPathsLaw, UnreadLaw};
 
 /// Which datasets a chain has: each names the next (RFC 2244 section 5.2).
 pub fn chain_law()
@@ -75,6 +75,6 @@ pub fn unread_law()
 {}
 
 /// Which paths are listed as touched, and in which order.
-pub fn touched_law()
-    ensures { TouchedLaw }
+pub fn touched_paths_law()
+    ensures { TouchedPathsLaw }
 {}

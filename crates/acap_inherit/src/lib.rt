@@ -26,7 +26,7 @@ pub use found::Found;
 pub use laws::{
     base_law, chain_examples, chain_law, first_dataset_law, first_law, moment_examples, moment_law,
     names_law, nothing_law, over_base_examples, reading_law, repeat_law, touched_examples,
-    touched_law, unread_law,
+    touched_paths_law, unread_law,
 };
 pub use left_names::names_after;
 pub use lent::Lent;

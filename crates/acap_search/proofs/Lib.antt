@@ -11,6 +11,7 @@ pub mod SightLemmas
 pub mod SortLemmas
 pub mod Stars
 pub mod TellingLemmas
+pub mod TouchedLemmas
 pub mod TupleLemmas
 pub mod WalkLemmas
 pub mod WithheldLemmas

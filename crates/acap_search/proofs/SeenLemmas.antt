@@ -128,14 +128,14 @@ module _ {A : Type 0} (lt : A → A → Bool) where
 
 -- ---- names
 
-same_name : (a b : List ℕ) → octets_eq a b ≡ true → a ≡ b
+pub same_name : (a b : List ℕ) → octets_eq a b ≡ true → a ≡ b
 same_name a b e = (bytes_decides a b).0 e
 
 no_record : (o : Option Record) → is_some o ≡ false → o ≡ None
 no_record None h = refl
 no_record (Some r) h = absurd (cc)
 
-not_any : {A : Type 0} (p : A → Bool) (xs : List A) (x : A) → list_any p xs ≡ false → Contains xs x → p x ≡ false
+pub not_any : {A : Type 0} (p : A → Bool) (xs : List A) (x : A) → list_any p xs ≡ false → Contains xs x → p x ≡ false
 not_any p [] x h k = nowhere x k
 not_any p (y ∷ ys) x h k =
     let two = or_parts (p y) (list_any p ys) h in
@@ -145,7 +145,7 @@ module _ (nothing : NothingLaw) (names : NamesLaw) (records : Stored) (realm : R
   abbrev chain_at : Path → List (List ℕ)
   chain_at path = chain_of records path.dataset scope.no_inherit
 
-  unseen : (path : Path) → ((d : List ℕ) → Contains (chain_at path) d → record_at records d path.name ≡ None) → is_seen (answers_on records realm user scope.no_inherit path) ≡ false
+  pub unseen : (path : Path) → ((d : List ℕ) → Contains (chain_at path) d → record_at records d path.name ≡ None) → is_seen (answers_on records realm user scope.no_inherit path) ≡ false
   unseen path h =
       let e : resolved records (chain_at path) path.name (codes "entry") ≡ None = ((nothing.entry records (chain_at path) path.name h).2) (codes "entry") in
       ap (λ (found : Resolution). not (is_nil (cell_at may_read (rights_on records realm user (codes "entry") path.name path.dataset) (λ d. rights_on records realm user (codes "entry") path.name d) found))) e
@@ -157,7 +157,7 @@ module _ (nothing : NothingLaw) (names : NamesLaw) (records : Stored) (realm : R
         | false ↦ λ e. absurd (cc (seen, unseen path (λ d k. no_record _ (not_any (λ d. is_some (record_at records d path.name)) (chain_at path) d e k))))
       ] refl
 
-  all_seen : (path : Path) → Contains (datasets_of records scope) path.dataset → is_seen (answers_on records realm user scope.no_inherit path) ≡ true → Contains (sight_of records realm user scope).paths path
+  pub all_seen : (path : Path) → Contains (datasets_of records scope) path.dataset → is_seen (answers_on records realm user scope.no_inherit path) ≡ true → Contains (sight_of records realm user scope).paths path
   all_seen path h seen =
       let name : Contains (names_on records (chain_at path)) path.name = Contains-from_any same_name path.name (names_on records (chain_at path)) (named path seen) in
       let there_is : Contains (paths_in records scope.no_inherit path.dataset) path = in_map (λ name. record { dataset = path.dataset; name = name }) (names_on records (chain_at path)) path.name name in

@@ -14,6 +14,7 @@ pub mod Rows
 pub mod Scopes
 pub mod Shown
 pub mod Sight
+pub mod Touched
 pub mod Tuples
 pub mod Views
 pub mod Walks

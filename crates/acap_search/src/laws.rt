@@ -4,8 +4,9 @@ ghost use Rattle.acap_search.specs.Examples.{KeyExamples, OrderExamples, ScopeEx
 ghost use Rattle.acap_search.specs.Once.{OnceLaw, ScopeLaw};
 ghost use Rattle.acap_search.specs.Withheld.{WithheldLaw};
 ghost use Rattle.acap_search.specs.Laws.{AclLaw, FreshLaw, SeenLaw, SightLaw, StarLaw, PlaceLaw, TupleLaw};
+ghost use Rattle.acap_search.specs.Touched.{TouchedLaw};
 
-use acap_inherit::{names_law, nothing_law, reading_law};
+use acap_inherit::{names_law, nothing_law, reading_law, unread_law};
 
 /// What a search finds depends on nothing but the four answers about what the user sees (RFC 2244 section 3.5).
 pub fn sight_law()
@@ -50,6 +51,15 @@ pub fn tuple_law()
 {
     nothing_law();
     names_law();
+}
+
+/// What a change doesn't touch is found, or not, as before it (RFC 2244 sections 5.1, 5.2 and 6.4.1).
+pub fn touched_law()
+    ensures { TouchedLaw }
+{
+    nothing_law();
+    names_law();
+    unread_law();
 }
 
 /// What a search finds is what is matched, in order (RFC 2244 section 6.4.1).

@@ -32,7 +32,7 @@ pub use hit::{Hit, Hits, first_rows};
 pub use laws::{
     acl_law, fresh_law, key_examples, limit_examples, once_law, order_examples, place_law,
     row_examples, scope_examples, scope_law, seen_law, sight_examples, sight_law, star_law,
-    tuple_law, withheld_law,
+    touched_law, tuple_law, withheld_law,
 };
 pub use matching::matches;
 pub use query::{Asked, Query, Sought};
