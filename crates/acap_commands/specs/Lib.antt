@@ -1,3 +1,4 @@
+pub mod Answers
 pub mod EntryOrder
 pub mod Modifiers
 pub mod Nodes

@@ -112,6 +112,16 @@ impl Refusal {
     }
 }
 
+impl From<Memory> for Refusal {
+    ghost use Rattle.acap_commands.specs.declared.refusal.Refusal.TheVariants as refusal;
+
+    ghost from_gives = { λ _ e. e ≡ refusal.Memory };
+
+    fn from(_error: Memory) -> Refusal {
+        Refusal::Memory
+    }
+}
+
 impl Copying for Refusal {
     fn copy(&self) -> Result<Refusal, Memory> {
         match self {

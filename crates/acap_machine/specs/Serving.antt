@@ -67,8 +67,3 @@ served s realm user (command.ListRights object identifier) clock = Says (rights_
 served s realm user (command.DeletedSince dataset since) clock = Says (deleted_told s realm user dataset since)
 served s realm user (command.FreeContext name) clock = Says (said.Refused refusals.Unserved)
 served s realm user (command.UpdateContext names) clock = Says (said.Refused refusals.Unserved)
-
--- whether it is memory that was refused, which no definition speaks of
-abbrev pub is_memory : Refusal → Bool
-is_memory refusals.Memory = true
-is_memory _ = false

@@ -1,5 +1,6 @@
 //! What a command of a user comes to.
 ghost use Rattle.std.specs.Prelude.{◌≡◌, false, IfOk, OnOk};
+ghost use Rattle.acap_commands.specs.Answers.{is_memory};
 ghost use Rattle.acap_commands.specs.declared.said.Said.TheVariants as saying;
 ghost use Rattle.acap_machine.specs.Serving as rule;
 
@@ -14,7 +15,7 @@ use std::alloc::Global;
 // What is said of a refusal; that memory was refused is a fault.
 fn refused(refusal: Refusal) -> Result<Said, Memory>
     ensures words { IfOk result (λ words. words ≡ saying.Refused refusal) }
-    ensures other { OnOk result (rule.is_memory refusal ≡ false) }
+    ensures other { OnOk result (is_memory refusal ≡ false) }
 {
     match refusal {
         Refusal::Memory => Err(Memory),

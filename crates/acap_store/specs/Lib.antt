@@ -1,3 +1,4 @@
+pub mod Asking
 pub mod Counting
 pub mod DatasetLaws
 pub mod Deleting

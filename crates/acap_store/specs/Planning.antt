@@ -71,8 +71,3 @@ planned_for s realm user meant now =
 
 abbrev pub planned : Store → Realm → List ℕ → Write → ℤ → Result Change Refusal
 planned s realm user write now = planned_for s realm user (meaning s.records user write) now
-
--- an answer is that one, want of memory aside
-abbrev pub IsAnswer : {A : Type 0} → Result A Refusal → Result A Refusal → Type 0
-IsAnswer (Err refusals.Memory) meant = Unit {0}
-IsAnswer answer meant = answer ≡ meant

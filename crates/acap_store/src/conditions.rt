@@ -1,11 +1,12 @@
 //! The conditions of a STORE: NOCREATE and UNCHANGEDSINCE.
-ghost use Rattle.std.specs.Prelude.{◌≡◌, find, IfOk};
+ghost use Rattle.std.specs.Prelude.{◌≡◌, find};
 ghost use Rattle.std.specs.Option.{option_copied};
+ghost use Rattle.acap_commands.specs.Answers.{IsCheck};
 ghost use Rattle.acap_store.specs.Refusing as rule;
 
 use crate::forms::exists_at;
 use acap_commands::{Refusal, StoreEntry};
-use acap_entries::{Boxed, Copying, Memory, Moment, Path, Tree};
+use acap_entries::{Boxed, Copying, Moment, Path, Tree};
 use acap_inherit::{chain, modtime};
 use std::alloc::Global;
 
@@ -23,14 +24,14 @@ fn first_lacking<'a>(tree: &Tree, entries: &'a [StoreEntry]) -> Option<&'a Store
     entries.iter().find(|entry| lacks_dataset(tree, entry))
 }
 
-/// The refusal for the first dataset that has to exist and doesn't.
+/// That each dataset that has to exist does, or the refusal for the first that doesn't.
 #[tactic(auto, unfolding(crate::specs::Refusing::no_exist))]
-pub(crate) fn no_exist(tree: &Tree, entries: &[StoreEntry]) -> Result<Option<Refusal>, Memory>
-    ensures { IfOk result (λ made. made ≡ rule.no_exist tree.now.store.records entries.now) }
+pub(crate) fn check_datasets(tree: &Tree, entries: &[StoreEntry]) -> Result<(), Refusal>
+    ensures { IsCheck (rule.no_exist tree.now.store.records entries.now) result }
 {
     match first_lacking(tree, entries) {
-        Some(entry) => Ok(Some(Refusal::NoExist(entry.path.dataset.copy()?))),
-        None => Ok(None),
+        Some(entry) => Err(Refusal::NoExist(entry.path.dataset.copy()?)),
+        None => Ok(()),
     }
 }
 
@@ -71,17 +72,17 @@ fn first_changed<'a>(tree: &Tree, entries: &'a [StoreEntry]) -> Option<&'a Store
     entries.iter().find(|entry| has_changed(tree, entry))
 }
 
-/// The refusal for the first entry that changed later than it says.
+/// That no entry changed later than it says, or the refusal for the first that did.
 #[tactic(auto, unfolding(crate::specs::Refusing::modified))]
-pub(crate) fn modified(
+pub(crate) fn check_unchanged(
     alloc: Global,
     tree: &Tree,
     entries: &[StoreEntry],
-) -> Result<Option<Refusal>, Memory>
-    ensures { IfOk result (λ made. made ≡ rule.modified tree.now.store.records entries.now) }
+) -> Result<(), Refusal>
+    ensures { IsCheck (rule.modified tree.now.store.records entries.now) result }
 {
     match first_changed(tree, entries) {
-        Some(entry) => Ok(Some(Refusal::Modified(Boxed::new(alloc, entry.path.copy()?)?))),
-        None => Ok(None),
+        Some(entry) => Err(Refusal::Modified(Boxed::new(alloc, entry.path.copy()?)?)),
+        None => Ok(()),
     }
 }

@@ -2,8 +2,8 @@
 ghost use Rattle.std.specs.Prelude.{◌≡◌, filter, map, not, IfOk, Ok, Err};
 ghost use Rattle.std.specs.FinMap as table;
 ghost use Rattle.acap_entries.specs.Store.{after_writes};
+ghost use Rattle.acap_commands.specs.Answers.{IsAnswer};
 ghost use Rattle.acap_store.specs.Deleting as rule;
-ghost use Rattle.acap_store.specs.Planning.{IsAnswer};
 
 use crate::forms::exists_at;
 use crate::writing::ends;
@@ -138,19 +138,19 @@ fn deleted_in(
     user: &UserName,
     dataset: Dataset,
     since: Moment,
-) -> Result<Result<Values, Refusal>, Memory>
-    ensures { IfOk result (λ answer. answer ≡ rule.deleted_in tree.now.store realm.now user.now dataset since) }
+) -> Result<Values, Refusal>
+    ensures { IsAnswer result (rule.deleted_in tree.now.store realm.now user.now dataset since) }
 {
     if !tree.dataset_exists(dataset.as_slice()) {
-        return Ok(Err(Refusal::NoExist(dataset)));
+        return Err(Refusal::NoExist(dataset));
     }
     if is_too_old(tree, since) {
-        return Ok(Err(Refusal::TooOld));
+        return Err(Refusal::TooOld);
     }
     if !may_read(tree, realm, user, &dataset) {
-        return Ok(Ok(Values::new(alloc)));
+        return Ok(Values::new(alloc));
     }
-    Ok(Ok(names_deleted(alloc, tree, &dataset, since)?))
+    Ok(names_deleted(alloc, tree, &dataset, since)?)
 }
 
 /// What DELETEDSINCE tells a user of a dataset, as sent: the names of the entries that were deleted there later than the time
@@ -167,11 +167,6 @@ pub fn deleted_since(
 ) -> Result<Values, Refusal>
     ensures { IsAnswer result (rule.deleted_since tree.now.store realm.now user.now dataset.now since) }
 {
-    let Ok(dataset) = dataset.for_user(user) else {
-        return Err(Refusal::Memory);
-    };
-    match deleted_in(alloc, tree, realm, user, dataset, since) {
-        Ok(answer) => answer,
-        Err(Memory) => Err(Refusal::Memory),
-    }
+    let dataset = dataset.for_user(user)?;
+    deleted_in(alloc, tree, realm, user, dataset, since)
 }

@@ -1,7 +1,7 @@
 //! What may not be stored.
-ghost use Rattle.std.specs.Prelude.{◌≡◌, ◌||◌, find, is_some, IfOk};
-ghost use Rattle.std.specs.List.{list_any};
+ghost use Rattle.std.specs.Prelude.{◌≡◌, find, is_some};
 ghost use Rattle.std.specs.Option.{option_copied};
+ghost use Rattle.acap_commands.specs.Answers.{IsCheck};
 ghost use Rattle.acap_store.specs.Invalid as rule;
 
 use crate::ending::may_end;
@@ -9,7 +9,7 @@ use crate::forms::{is_management, is_nothing, is_value};
 use crate::meant::Meant;
 use crate::permission::is_list;
 use acap_commands::{Given, Refusal, StoreEntry, StoreItem};
-use acap_entries::{Boxed, Cell, Copying, Memory, Tree, is_dataset_argument};
+use acap_entries::{Boxed, Cell, Copying, Tree, is_dataset_argument};
 use acap_rights::is_acl;
 use std::alloc::Global;
 
@@ -103,42 +103,39 @@ fn is_invalid(tree: &Tree, all: &[StoreEntry], entry: &StoreEntry, item: &StoreI
 
 // The first item of an entry that may not be stored.
 fn first_in<'a>(tree: &Tree, meant: &Meant, entry: &'a StoreEntry) -> Option<&'a StoreItem>
-    ensures { option_copied result ≡ find (λ item. meant.now.drops_dataset_list || rule.is_invalid tree.now.store.records meant.now.entries entry.now item) entry.now.items }
+    ensures { option_copied result ≡ find (rule.is_refused tree.now.store.records meant.now entry.now) entry.now.items }
 {
     entry.items.as_slice().iter().find(|item| {
         meant.drops_dataset_list || is_invalid(tree, meant.entries.as_slice(), entry, item)
     })
 }
 
-// The refusal of an entry's first item that may not be stored.
-fn invalid_in(
+// That each item of an entry may be stored, or the refusal for the first that may not.
+fn check_items_in(
     alloc: Global,
     tree: &Tree,
     meant: &Meant,
     entry: &StoreEntry,
-) -> Result<Option<Refusal>, Memory>
-    ensures { IfOk result (λ made. made ≡ rule.invalid_in tree.now.store.records meant.now entry.now) }
+) -> Result<(), Refusal>
+    ensures { IsCheck (rule.invalid_in tree.now.store.records meant.now entry.now) result }
 {
     match first_in(tree, meant, entry) {
         Some(item) => {
             let path = Boxed::new(alloc, entry.path.copy()?)?;
             let attribute = item.attribute.copy()?;
-            Ok(Some(Refusal::Invalid(path, attribute)))
+            Err(Refusal::Invalid(path, attribute))
         }
-        None => Ok(None),
+        None => Ok(()),
     }
 }
 
-/// The refusal of the first item of all that may not be stored.
+/// That each item of all may be stored, or the refusal for the first that may not.
 #[tactic(auto, unfolding(crate::specs::Invalid::invalid))]
-pub(crate) fn invalid(alloc: Global, tree: &Tree, meant: &Meant) -> Result<Option<Refusal>, Memory>
-    ensures { IfOk result (λ made. made ≡ rule.invalid tree.now.store.records meant.now) }
+pub(crate) fn check_items(alloc: Global, tree: &Tree, meant: &Meant) -> Result<(), Refusal>
+    ensures { IsCheck (rule.invalid tree.now.store.records meant.now) result }
 {
     for entry in meant.entries.as_slice() {
-        let refusal = invalid_in(alloc, tree, meant, entry)?;
-        if refusal.is_some() {
-            return Ok(refusal);
-        }
+        check_items_in(alloc, tree, meant, entry)?;
     }
-    Ok(None)
+    Ok(())
 }

@@ -2,6 +2,7 @@
 //! make or why they are refused, and what DELETEDSINCE tells.
 #![tactic(auto)]
 
+mod asker;
 mod conditions;
 mod deleting;
 mod ending;
@@ -17,6 +18,7 @@ mod permission;
 mod planning;
 mod records;
 mod refusing;
+mod subject;
 mod write;
 mod writing;
 

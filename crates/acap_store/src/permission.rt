@@ -1,27 +1,19 @@
 //! Whether a user has the rights that a STORE needs.
-ghost use Rattle.std.specs.Prelude.{◌≡◌, not, find, option_map, is_none, is_some, IfOk, IfSome, IsTrue};
+ghost use Rattle.std.specs.Prelude.{◌≡◌, find, option_map, is_some, IfOk, IfSome, IsTrue};
 ghost use Rattle.std.specs.Option.{option_copied};
+ghost use Rattle.acap_commands.specs.Answers.{IsCheck};
 ghost use Rattle.acap_rights.specs.Deciding as decided;
-ghost use Rattle.acap_rights.specs.Sharing as sharing;
+ghost use Rattle.acap_store.specs.Asking as asking;
 ghost use Rattle.acap_store.specs.Permission as rule;
-ghost use Rattle.acap_store.specs.Sharing.{HasNoLists, AreShared};
+ghost use Rattle.acap_store.specs.Sharing.{HasNoLists};
 
+use crate::asker::Asker;
 use crate::forms::{exists_at, is_management, is_nil_at, is_value};
+use crate::subject::Subject;
 use acap_commands::{Refusal, StoreEntry, StoreItem};
-use acap_entries::{Attribute, Boxed, Copying, Memory, Path, Tree, UserName};
-use acap_rights::{Object, Realm, Rights, object_of_list, rights_of, shared_rights};
+use acap_entries::{Attribute, Boxed, Copying, Memory, Path, Tree};
+use acap_rights::{Object, Rights, object_of_list, rights_of, shared_rights};
 use std::alloc::Global;
-
-/// Who asks, and of what store.
-#[derive(Clone, Copy, Drop)]
-pub(crate) struct Asker<'a> {
-    /// The store.
-    pub(crate) tree: &'a Tree,
-    /// Who is who.
-    pub(crate) realm: &'a Realm,
-    /// The user.
-    pub(crate) user: &'a UserName,
-}
 
 // The object that is an entry's `entry`.
 fn entry_object(path: &Path) -> Object<'_>
@@ -44,19 +36,10 @@ fn has_no_lists(tree: &Tree, path: &Path) -> bool
     }
 }
 
-// An entry that is asked about, and the rights on all of its attributes, where they are the same.
-#[derive(Drop)]
-struct Asked<'a> {
-    by: &'a Asker<'a>,
-    path: &'a Path,
-    shared: Option<Rights>,
-    ghost known: { AreShared by.now.tree.now.store.records by.now.realm.now by.now.user.now path.now shared },
-}
-
 // The rights on all attributes of the entry at a path, where no list is for one of them: those that its dataset shares.
 fn shared_at(by: &Asker<'_>, path: &Path, shared: Option<Rights>) -> Option<Rights>
-    requires { shared ≡ sharing.shared_rights by.now.tree.now.store.records by.now.realm.now by.now.user.now path.now.dataset }
-    ensures { AreShared by.now.tree.now.store.records by.now.realm.now by.now.user.now path.now result }
+    requires { shared ≡ asking.rights_shared by.now path.now.dataset }
+    ensures { asking.AreSharedAt by.now path.now result }
 {
     if has_no_lists(by.tree, path) {
         shared
@@ -66,38 +49,37 @@ fn shared_at(by: &Asker<'_>, path: &Path, shared: Option<Rights>) -> Option<Righ
 }
 
 // The rights on one attribute of the entry.
-fn rights_on(asked: &Asked<'_>, attribute: &[u8]) -> Rights
-    ensures { result ≡ decided.rights_of asked.now.by.now.tree.now.store.records asked.now.by.now.realm.now asked.now.by.now.user.now (decided.OfEntry asked.now.path.now.dataset attribute.now asked.now.path.now.name) }
+fn rights_on(subject: &Subject<'_>, attribute: &[u8]) -> Rights
+    ensures { result ≡ asking.rights_on subject.now attribute.now }
 {
-    match asked.shared {
+    match subject.shared {
         Some(rights) => rights,
         None => {
             let object = Object::Entry {
-                dataset: asked.path.dataset.as_slice(),
+                dataset: subject.path.dataset.as_slice(),
                 attribute,
-                name: asked.path.name.as_slice(),
+                name: subject.path.name.as_slice(),
             };
-            rights_of(asked.by.tree, asked.by.realm, asked.by.user, &object)
+            rights_of(subject.by.tree, subject.by.realm, subject.by.user, &object)
         }
     }
 }
 
 // Whether the user may change the entry, or make it. Whoever may make it isn't asked whether it exists.
-fn may_touch(asked: &Asked<'_>) -> bool
-    ensures { result ≡ rule.may_touch asked.now.by.now.tree.now.store.records asked.now.by.now.realm.now asked.now.by.now.user.now asked.now.path.now }
+fn may_touch(subject: &Subject<'_>) -> bool
+    ensures { result ≡ asking.may_be_touched subject.now }
 {
-    if is_management(asked.path) {
+    if is_management(subject.path) {
         return true;
     }
-    let rights = rights_on(asked, b"entry");
-    rights.r && (rights.w || rights.i || exists_at(asked.by.tree, asked.path))
+    let rights = rights_on(subject, b"entry");
+    rights.r && (rights.w || rights.i || exists_at(subject.by.tree, subject.path))
 }
 
 // The object whose list an item is, if it is one.
 fn list_object<'a>(path: &'a Path, item: &'a StoreItem) -> Option<Object<'a>>
     ensures target { option_map decided.target_of result ≡ rule.list_target path.now item.now }
-    ensures inside { IfSome result (λ object. decided.dataset_in (decided.target_of object) ≡ path.now.dataset) }
-    ensures named { IfSome result (λ object. rule.name_in path.now.name (decided.target_of object) ≡ path.now.name) }
+    ensures inside { IfSome result (λ object. asking.IsAt path.now (decided.target_of object)) }
 {
     let dataset = path.dataset.as_slice();
     let attribute = item.attribute.as_slice();
@@ -118,8 +100,7 @@ fn list_object<'a>(path: &'a Path, item: &'a StoreItem) -> Option<Object<'a>>
 // The object on which the right to store an item is asked for.
 fn item_object<'a>(path: &'a Path, item: &'a StoreItem) -> Object<'a>
     ensures target { decided.target_of result ≡ rule.item_target path.now item.now }
-    ensures inside { decided.dataset_in (decided.target_of result) ≡ path.now.dataset }
-    ensures named { rule.name_in path.now.name (decided.target_of result) ≡ path.now.name }
+    ensures inside { asking.IsAt path.now (decided.target_of result) }
 {
     match list_object(path, item) {
         Some(object) => object,
@@ -139,23 +120,23 @@ pub(crate) fn is_list(path: &Path, item: &StoreItem) -> bool
 }
 
 // Whether the user may store an item in the entry.
-fn may_store(asked: &Asked<'_>, item: &StoreItem) -> bool
-    ensures { result ≡ rule.may_store asked.now.by.now.tree.now.store.records asked.now.by.now.realm.now asked.now.by.now.user.now asked.now.path.now item.now }
+fn may_store(subject: &Subject<'_>, item: &StoreItem) -> bool
+    ensures { result ≡ asking.may_be_stored subject.now item.now }
 {
-    let by = asked.by;
-    if let Some(object) = list_object(asked.path, item) {
+    let by = subject.by;
+    if let Some(object) = list_object(subject.path, item) {
         return rights_of(by.tree, by.realm, by.user, &object).a;
     }
     let attribute = item.attribute.as_slice();
-    let rights = rights_on(asked, attribute);
-    rights.w || (is_nil_at(by.tree, asked.path, attribute) && rights.i)
+    let rights = rights_on(subject, attribute);
+    rights.w || (is_nil_at(by.tree, subject.path, attribute) && rights.i)
 }
 
 // The first item that the user may not store in the entry.
-fn denied_item<'a>(asked: &Asked<'_>, items: &'a [StoreItem]) -> Option<&'a StoreItem>
-    ensures { option_copied result ≡ find (λ item. not (rule.may_store asked.now.by.now.tree.now.store.records asked.now.by.now.realm.now asked.now.by.now.user.now asked.now.path.now item)) items.now }
+fn denied_item<'a>(subject: &Subject<'_>, items: &'a [StoreItem]) -> Option<&'a StoreItem>
+    ensures { option_copied result ≡ find (asking.may_not_be_stored subject.now) items.now }
 {
-    items.iter().find(|item| !may_store(asked, item))
+    items.iter().find(|item| !may_store(subject, item))
 }
 
 // The first object of an entry on which rights are missing.
@@ -165,20 +146,19 @@ fn denied_in<'a>(
     entry: &'a StoreEntry,
     shared: Option<Rights>,
 ) -> Option<Object<'a>>
-    requires { shared ≡ sharing.shared_rights by.now.tree.now.store.records by.now.realm.now by.now.user.now entry.now.path.dataset }
-    ensures target { option_map decided.target_of result ≡ rule.denied_in by.now.tree.now.store.records by.now.realm.now by.now.user.now entry.now }
-    ensures inside { IfSome result (λ object. decided.dataset_in (decided.target_of object) ≡ entry.now.path.dataset) }
-    ensures named { IfSome result (λ object. rule.name_in entry.now.path.name (decided.target_of object) ≡ entry.now.path.name) }
+    requires { shared ≡ asking.rights_shared by.now entry.now.path.dataset }
+    ensures target { option_map decided.target_of result ≡ asking.target_denied by.now entry.now }
+    ensures inside { IfSome result (λ object. asking.IsAt entry.now.path (decided.target_of object)) }
 {
-    let asked = Asked {
+    let subject = Subject {
         by,
         path: &entry.path,
         shared: shared_at(by, &entry.path, shared),
     };
-    if !may_touch(&asked) {
+    if !may_touch(&subject) {
         return Some(entry_object(&entry.path));
     }
-    match denied_item(&asked, entry.items.as_slice()) {
+    match denied_item(&subject, entry.items.as_slice()) {
         Some(item) => Some(item_object(&entry.path, item)),
         None => None,
     }
@@ -186,8 +166,7 @@ fn denied_in<'a>(
 
 // The object as a refusal names it.
 fn named(alloc: Global, path: &Path, object: &Object<'_>) -> Result<acap_commands::Object, Memory>
-    requires inside { decided.dataset_in (decided.target_of object.now) ≡ path.now.dataset }
-    requires named { rule.name_in path.now.name (decided.target_of object.now) ≡ path.now.name }
+    requires { asking.IsAt path.now (decided.target_of object.now) }
     ensures { IfOk result (λ made. made ≡ rule.object_of (decided.target_of object.now)) }
 {
     let dataset = path.dataset.copy()?;
@@ -209,22 +188,22 @@ fn named(alloc: Global, path: &Path, object: &Object<'_>) -> Result<acap_command
     })
 }
 
-// The refusal for the first object of an entry on which rights are missing.
-fn permission_in(
+// That no object of an entry is one on which rights are missing, or the refusal for the first.
+fn check_entry(
     alloc: Global,
     by: &Asker<'_>,
     entry: &StoreEntry,
     shared: Option<Rights>,
-) -> Result<Option<Refusal>, Memory>
-    requires { shared ≡ sharing.shared_rights by.now.tree.now.store.records by.now.realm.now by.now.user.now entry.now.path.dataset }
-    ensures { IfOk result (λ made. made ≡ rule.permission_in by.now.tree.now.store.records by.now.realm.now by.now.user.now entry.now) }
+) -> Result<(), Refusal>
+    requires { shared ≡ asking.rights_shared by.now entry.now.path.dataset }
+    ensures { IsCheck (asking.entry_refusal by.now entry.now) result }
 {
     match denied_in(by, entry, shared) {
         Some(object) => {
             let object = named(alloc, &entry.path, &object)?;
-            Ok(Some(Refusal::Permission(Boxed::new(alloc, object)?)))
+            Err(Refusal::Permission(Boxed::new(alloc, object)?))
         }
-        None => Ok(None),
+        None => Ok(()),
     }
 }
 
@@ -237,9 +216,9 @@ struct Shared<'a> {
 
 // The rights that a dataset shares: those known, where they are known of this dataset.
 fn shared_in<'a>(by: &Asker<'_>, known: Option<Shared<'a>>, dataset: &'a [u8]) -> Shared<'a>
-    requires { IfSome known (λ shared. shared.rights ≡ sharing.shared_rights by.now.tree.now.store.records by.now.realm.now by.now.user.now shared.dataset.now) }
+    requires { IfSome known (λ shared. shared.rights ≡ asking.rights_shared by.now shared.dataset.now) }
     ensures dataset { result.dataset.now ≡ dataset.now }
-    ensures rights { result.rights ≡ sharing.shared_rights by.now.tree.now.store.records by.now.realm.now by.now.user.now dataset.now }
+    ensures rights { result.rights ≡ asking.rights_shared by.now dataset.now }
 {
     match known {
         Some(shared) if shared.dataset == dataset => shared,
@@ -250,22 +229,19 @@ fn shared_in<'a>(by: &Asker<'_>, known: Option<Shared<'a>>, dataset: &'a [u8]) -
     }
 }
 
-/// The refusal for the first object of all entries on which rights are missing (RFC 2244 section 3.5).
-pub(crate) fn permission(
+/// That rights are missing on no object of all entries, or the refusal for the first (RFC 2244 section 3.5).
+pub(crate) fn check_rights(
     alloc: Global,
     by: &Asker<'_>,
     entries: &[StoreEntry],
-) -> Result<Option<Refusal>, Memory>
-    ensures { IfOk result (λ made. made ≡ rule.permission by.now.tree.now.store.records by.now.realm.now by.now.user.now entries.now) }
+) -> Result<(), Refusal>
+    ensures { IsCheck (asking.rights_refusal by.now entries.now) result }
 {
     let mut known: Option<Shared<'_>> = None;
     for entry in entries {
         let shared = shared_in(by, known, entry.path.dataset.as_slice());
-        let refusal = permission_in(alloc, by, entry, shared.rights)?;
-        if refusal.is_some() {
-            return Ok(refusal);
-        }
+        check_entry(alloc, by, entry, shared.rights)?;
         known = Some(shared);
     }
-    Ok(None)
+    Ok(())
 }

@@ -1,15 +1,16 @@
 //! The change that a command makes, or why it is refused.
-ghost use Rattle.std.specs.Prelude.{◌≡◌, ◌||◌, IfOk, is_none};
-ghost use Rattle.acap_store.specs.Limits as limits;
+ghost use Rattle.std.specs.Prelude.{◌≡◌, IfOk};
+ghost use Rattle.acap_commands.specs.Answers.{IsAnswer, IsCheck};
 ghost use Rattle.acap_store.specs.Planning as rule;
 ghost use Rattle.acap_store.specs.Refusing.{first_of};
+ghost use Rattle.acap_store.specs.Refusing.{first_of};
 
+use crate::asker::Asker;
 use crate::deleting::{ending, gone};
 use crate::limits::{gives_large, is_too_much};
 use crate::meaning::meaning;
 use crate::meant::Meant;
-use crate::permission::Asker;
-use crate::refusing::refusal_of;
+use crate::refusing::check;
 use crate::write::Write;
 use crate::writing::written_for;
 use acap_commands::{Entries, Refusal};
@@ -48,16 +49,16 @@ fn change_of(
     })
 }
 
-// Why the store has no room for a change, as the clock shows.
-fn no_room(tree: &Tree, gives_large: bool, change: &Change, now: Moment) -> Option<Refusal>
-    ensures { result ≡ first_of (rule.refusals_by_room tree.now.store gives_large change.now.writes now) }
+// That the store has room for a change, as the clock shows.
+fn check_room(tree: &Tree, gives_large: bool, change: &Change, now: Moment) -> Result<(), Refusal>
+    ensures { IsCheck (first_of (rule.refusals_by_room tree.now.store gives_large change.now.writes now)) result }
 {
     if is_too_much(tree, gives_large, &change.writes) {
-        return Some(Refusal::Limit);
+        return Err(Refusal::Limit);
     }
     match tree.last().after(now) {
-        Some(_) => None,
-        None => Some(Refusal::ClockEnd),
+        Some(_) => Ok(()),
+        None => Err(Refusal::ClockEnd),
     }
 }
 
@@ -68,32 +69,15 @@ fn planned_for(
     by: &Asker<'_>,
     meant: Meant,
     now: Moment,
-) -> Result<Result<Change, Refusal>, Memory>
-    ensures { IfOk result (λ answer. answer ≡ rule.planned_for by.now.tree.now.store by.now.realm.now by.now.user.now meant now) }
+) -> Result<Change, Refusal>
+    ensures { IsAnswer result (rule.planned_for by.now.store by.now.realm by.now.user meant now) }
 {
-    if let Some(refusal) = refusal_of(alloc, by, &meant)? {
-        return Ok(Err(refusal));
-    }
+    check(alloc, by, &meant)?;
     let gives_large = gives_large(meant.entries.as_slice());
     let moment = written_at(by.tree, now);
     let change = change_of(alloc, by.tree, by.user, meant.entries, moment)?;
-    match no_room(by.tree, gives_large, &change, now) {
-        Some(refusal) => Ok(Err(refusal)),
-        None => Ok(Ok(change)),
-    }
-}
-
-// The change of a command, or its first refusal.
-fn planned(
-    alloc: Global,
-    by: &Asker<'_>,
-    write: Write,
-    now: Moment,
-) -> Result<Result<Change, Refusal>, Memory>
-    ensures { IfOk result (λ answer. answer ≡ rule.planned by.now.tree.now.store by.now.realm.now by.now.user.now write now) }
-{
-    let meant = meaning(alloc, by.tree, by.user, write)?;
-    planned_for(alloc, by, meant, now)
+    check_room(by.tree, gives_large, &change, now)?;
+    Ok(change)
 }
 
 /// The change that a user's command makes of the store in a tree when the clock shows `now`, or its first refusal (RFC 2244
@@ -107,11 +91,9 @@ pub fn plan(
     write: Write,
     now: Moment,
 ) -> Result<Change, Refusal>
-    ensures { rule.IsAnswer result (rule.planned tree.now.store realm.now user.now write now) }
+    ensures { IsAnswer result (rule.planned tree.now.store realm.now user.now write now) }
 {
     let by = Asker { tree, realm, user };
-    match planned(alloc, &by, write, now) {
-        Ok(answer) => answer,
-        Err(Memory) => Err(Refusal::Memory),
-    }
+    let meant = meaning(alloc, tree, user, write)?;
+    planned_for(alloc, &by, meant, now)
 }

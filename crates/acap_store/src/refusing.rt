@@ -1,16 +1,18 @@
 //! What a STORE is refused for before anything is written.
-ghost use Rattle.std.specs.Prelude.{◌≡◌, ◌∷◌, [], IfOk};
+ghost use Rattle.std.specs.Prelude.{◌≡◌, IfOk};
+ghost use Rattle.acap_commands.specs.Answers.{IsCheck};
+ghost use Rattle.acap_commands.specs.declared.refusal.Refusal.TheVariants as refusal;
+ghost use Rattle.acap_store.specs.Asking as asking;
 ghost use Rattle.acap_store.specs.Refusing as rule;
-ghost use Rattle.acap_store.specs.Invalid as invalid;
-ghost use Rattle.acap_store.specs.Planning as planning;
 ghost use Rattle.acap_store.specs.Rising.{rising};
 
-use crate::conditions::{modified, no_exist};
-use crate::invalid::invalid;
+use crate::asker::Asker;
+use crate::conditions::{check_datasets, check_unchanged};
+use crate::invalid::check_items;
 use crate::meant::Meant;
-use crate::permission::{Asker, permission};
+use crate::permission::check_rights;
 use acap_commands::{EntryOrder, Refusal, StoreEntry};
-use acap_entries::{Memory, Tree};
+use acap_entries::Memory;
 use std::alloc::Global;
 use std::cmp::Ordering;
 
@@ -48,47 +50,24 @@ fn has_twice(alloc: Global, entries: &[StoreEntry]) -> Result<bool, Memory>
     Ok(false)
 }
 
-// The first refusal for a change that came between, and for what may not be stored.
-#[tactic(auto, using(crate::proofs::RefusalLemmas::last_one))]
-fn changed(alloc: Global, tree: &Tree, meant: &Meant) -> Result<Option<Refusal>, Memory>
-    ensures { IfOk result (λ made. made ≡ rule.first_of (rule.modified tree.now.store.records meant.now.entries ∷ invalid.invalid tree.now.store.records meant.now ∷ [])) }
+// That no two entries have one path.
+fn check_once(alloc: Global, entries: &[StoreEntry]) -> Result<(), Refusal>
+    ensures { IsCheck (rule.refused_if (rule.has_twice entries.now) refusal.NotPermittedTwice) result }
 {
-    match modified(alloc, tree, meant.entries.as_slice())? {
-        Some(refusal) => Ok(Some(refusal)),
-        None => invalid(alloc, tree, meant),
+    if has_twice(alloc, entries)? {
+        return Err(Refusal::NotPermittedTwice);
     }
+    Ok(())
 }
 
-// The same, after that for a dataset that is missing.
-fn missing(alloc: Global, tree: &Tree, meant: &Meant) -> Result<Option<Refusal>, Memory>
-    ensures { IfOk result (λ made. made ≡ rule.first_of (rule.no_exist tree.now.store.records meant.now.entries ∷ rule.modified tree.now.store.records meant.now.entries ∷ invalid.invalid tree.now.store.records meant.now ∷ [])) }
+/// That nothing stands against a change, or the first refusal: each is asked of all entries before the next.
+pub(crate) fn check(alloc: Global, by: &Asker<'_>, meant: &Meant) -> Result<(), Refusal>
+    ensures { IsCheck (asking.terms_refusal by.now meant.now) result }
 {
-    match no_exist(tree, meant.entries.as_slice())? {
-        Some(refusal) => Ok(Some(refusal)),
-        None => changed(alloc, tree, meant),
-    }
-}
-
-// The same, after that for a right that is missing.
-fn asked(alloc: Global, by: &Asker<'_>, meant: &Meant) -> Result<Option<Refusal>, Memory>
-    ensures { IfOk result (λ made. made ≡ rule.first_of (planning.refusals_by_asking by.now.tree.now.store.records by.now.realm.now by.now.user.now meant.now)) }
-{
-    match permission(alloc, by, meant.entries.as_slice())? {
-        Some(refusal) => Ok(Some(refusal)),
-        None => missing(alloc, by.tree, meant),
-    }
-}
-
-/// The first refusal, each condition being asked of all entries before the next.
-pub(crate) fn refusal_of(
-    alloc: Global,
-    by: &Asker<'_>,
-    meant: &Meant,
-) -> Result<Option<Refusal>, Memory>
-    ensures { IfOk result (λ made. made ≡ rule.first_of (planning.refusals_by_terms by.now.tree.now.store.records by.now.realm.now by.now.user.now meant.now)) }
-{
-    if has_twice(alloc, meant.entries.as_slice())? {
-        return Ok(Some(Refusal::NotPermittedTwice));
-    }
-    asked(alloc, by, meant)
+    let entries = meant.entries.as_slice();
+    check_once(alloc, entries)?;
+    check_rights(alloc, by, entries)?;
+    check_datasets(by.tree, entries)?;
+    check_unchanged(alloc, by.tree, entries)?;
+    check_items(alloc, by.tree, meant)
 }

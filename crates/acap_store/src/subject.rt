@@ -1,0 +1,29 @@
+//! An entry that is asked about.
+
+use crate::asker::Asker;
+use acap_entries::Path;
+use acap_rights::Rights;
+use std::marker::Model;
+
+/// An entry that is asked about, and the rights on all of its attributes, where they are the same.
+#[derive(Drop)]
+pub(crate) struct Subject<'a> {
+    /// Who asks.
+    pub(crate) by: &'a Asker<'a>,
+    /// The entry's path.
+    pub(crate) path: &'a Path,
+    /// These rights.
+    pub(crate) shared: Option<Rights>,
+}
+
+impl<'a> Model for Subject<'a> {
+    ghost use Rattle.acap_store.specs.Asking.{Matter, AreSharedAt, matter_code};
+
+    ghost Value = { Matter };
+
+    ghost coded = { matter_code };
+
+    ghost view = { λ s. record { by = s.by.now; path = s.path.now } };
+
+    ghost invariant = { λ s. AreSharedAt s.by.now s.path.now s.shared };
+}
