@@ -5,6 +5,7 @@ pub mod DatasetLaws
 pub mod DatasetLemmas
 pub mod HousedLaws
 pub mod LimitLaws
+pub mod RefusalLemmas
 pub mod ListLemmas
 pub mod RightLemmas
 pub mod RootLemmas

@@ -31,8 +31,11 @@ ending records entries = map (λ e. e.path) (filter (is_to_end records) entries)
 abbrev pub exists_after : Stored → Written → Path → Bool
 exists_after records written p = exists_at (after_writes (table.entries written) records) p
 
+abbrev pub gone_after : Stored → Written → List Path → List Path
+gone_after records written paths = filter (λ p. not (exists_after records written p)) paths
+
 unfoldable pub deleted_by : Stored → Written → List StoreEntry → List Path
-deleted_by records written entries = filter (λ p. not (exists_after records written p)) (ending records entries)
+deleted_by records written entries = gone_after records written (ending records entries)
 
 -- ---- what DELETEDSINCE tells
 
@@ -55,8 +58,11 @@ set_of names = with_names table.empty names
 unfoldable pub ascending : List (List ℕ) → List (List ℕ)
 ascending names = map (λ e. e.0) (table.entries (set_of names))
 
+abbrev pub names_told : Store → List ℕ → ℤ → List (List ℕ)
+names_told s dataset since = map (λ d. d.path.name) (filter (is_told s.records dataset since) s.deletions)
+
 unfoldable pub names_deleted : Store → List ℕ → ℤ → List (List ℕ)
-names_deleted s dataset since = ascending (map (λ d. d.path.name) (filter (is_told s.records dataset since) s.deletions))
+names_deleted s dataset since = ascending (names_told s dataset since)
 
 -- whether a deletion later than the time may be forgotten
 abbrev pub is_too_old : Store → ℤ → Bool

@@ -86,8 +86,11 @@ is_invalid records all e item =
 abbrev pub is_refused : Stored → Meant → StoreEntry → StoreItem → Bool
 is_refused records meant e item = meant.drops_dataset_list || is_invalid records meant.entries e item
 
+abbrev pub first_refused : Stored → Meant → StoreEntry → Option StoreItem
+first_refused records meant e = find (is_refused records meant e) e.items
+
 abbrev pub invalid_in : Stored → Meant → StoreEntry → Option Refusal
-invalid_in records meant e = option_map (λ item. refusals.Invalid e.path item.attribute) (find (is_refused records meant e) e.items)
+invalid_in records meant e = option_map (λ item. refusals.Invalid e.path item.attribute) (first_refused records meant e)
 
 abbrev pub first_invalid : Stored → Meant → List StoreEntry → Option Refusal
 first_invalid records meant [] = None

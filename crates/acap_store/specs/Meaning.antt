@@ -37,6 +37,9 @@ target_named dataset None name = OfDataset dataset
 target_named dataset (Some attribute) None = OfAttribute dataset attribute
 target_named dataset (Some attribute) (Some name) = OfEntry dataset attribute name
 
+abbrev pub target_in : Object → Target
+target_in object = target_named object.dataset object.attribute object.name
+
 abbrev pub target_for : List ℕ → Object → Target
 target_for user object = target_named (for_user user object.dataset) object.attribute object.name
 
@@ -47,17 +50,26 @@ list_path (OfDataset dataset) = record { dataset = dataset; name = [] }
 list_path (OfAttribute dataset attribute) = record { dataset = dataset; name = [] }
 list_path (OfEntry dataset attribute name) = record { dataset = dataset; name = name }
 
+abbrev pub value_item : List ℕ → Given → StoreItem
+value_item attribute given = record { attribute = attribute; metadata = metadata.Value; given = given }
+
 abbrev pub list_item : Target → Given → StoreItem
-list_item (OfDataset dataset) given = record { attribute = dataset_list_name; metadata = metadata.Value; given = given }
-list_item (OfAttribute dataset attribute) given = record { attribute = attribute_list_name attribute; metadata = metadata.Value; given = given }
+list_item (OfDataset dataset) given = value_item dataset_list_name given
+list_item (OfAttribute dataset attribute) given = value_item (attribute_list_name attribute) given
 list_item (OfEntry dataset attribute name) given = record { attribute = attribute; metadata = metadata.Acl; given = given }
 
 -- NOCREATE
 abbrev pub no_create : StoreModifiers
 no_create = record { no_create = true; unchanged_since = None }
 
+abbrev pub entry_with : Path → StoreItem → StoreEntry
+entry_with p item = record { path = p; modifiers = no_create; items = item ∷ [] }
+
+abbrev pub management_entry : List ℕ → List ℕ → Given → StoreEntry
+management_entry dataset attribute given = entry_with (list_path (OfDataset dataset)) (value_item attribute given)
+
 abbrev pub list_entry : Target → Given → StoreEntry
-list_entry target given = record { path = list_path target; modifiers = no_create; items = list_item target given ∷ [] }
+list_entry target given = entry_with (list_path target) (list_item target given)
 
 -- the whole list of a dataset
 abbrev pub is_dataset_list : Target → Bool
@@ -68,6 +80,19 @@ is_dataset_list (OfEntry dataset attribute name) = false
 abbrev pub edited : Target → List (List ℕ) → Meant
 edited target acl = record { entries = list_entry target (Put (Multi acl)) ∷ []; drops_dataset_list = false }
 
+-- the list that decides at a target, with letters for an identifier, or without it
+abbrev pub with_pair_in : Stored → Target → List ℕ → List ℕ → Meant
+with_pair_in records target identifier letters = edited target (with_pair identifier letters (deciding_list records target))
+
+abbrev pub set_in : Stored → Object → List ℕ → List ℕ → Meant
+set_in records object identifier letters = with_pair_in records (target_in object) identifier letters
+
+abbrev pub without_in : Stored → Target → List ℕ → Meant
+without_in records target identifier = edited target (without identifier (deciding_list records target))
+
+abbrev pub taken_off_in : Stored → Object → List ℕ → Meant
+taken_off_in records object identifier = without_in records (target_in object) identifier
+
 abbrev pub dropped : Target → Meant
 dropped target = record { entries = list_entry target Default ∷ []; drops_dataset_list = is_dataset_list target }
 
@@ -75,8 +100,6 @@ dropped target = record { entries = list_entry target Default ∷ []; drops_data
 
 unfoldable pub meaning : Stored → List ℕ → Write → Meant
 meaning records user (write.Store entries) = record { entries = entries_for user entries; drops_dataset_list = false }
-meaning records user (write.SetAcl object identifier letters) =
-    edited (target_for user object) (with_pair identifier letters (deciding_list records (target_for user object)))
-meaning records user (write.DeleteAcl object (Some identifier)) =
-    edited (target_for user object) (without identifier (deciding_list records (target_for user object)))
+meaning records user (write.SetAcl object identifier letters) = with_pair_in records (target_for user object) identifier letters
+meaning records user (write.DeleteAcl object (Some identifier)) = without_in records (target_for user object) identifier
 meaning records user (write.DeleteAcl object None) = dropped (target_for user object)

@@ -43,6 +43,9 @@ refusals_by_room s is_given_large written now =
     ∷ refused_if (is_none (moment_after s.last now)) refusals.ClockEnd
     ∷ []
 
+abbrev pub room_refusal : Store → Bool → Written → ℤ → Option Refusal
+room_refusal s is_given_large written now = first_of (refusals_by_room s is_given_large written now)
+
 unfoldable pub refusals_of : Store → Realm → List ℕ → Meant → ℤ → List (Option Refusal)
 refusals_of s realm user meant now =
     refusals_by_terms s.records realm user meant ++ refusals_by_room s (gives_large meant.entries) (written_for s.records user meant.entries (written_at s now)) now

@@ -76,8 +76,23 @@ abbrev pub step_at : Stored → ℤ → Path → Path × Fate
 step_at records moment p =
     (p, fate.Put (renewed (table.get records p) (table.insert (cells_of (table.get records p)) (codes "subdataset") (Multi (codes "." ∷ []))) (acls_of (table.get records p)) moment))
 
+-- those at some paths, beside other writes
+abbrev pub with_steps : Stored → ℤ → List Path → Written → Written
+with_steps records moment paths written = put_all (map (step_at records moment) paths) written
+
+-- that of a dataset itself, if it is missing
+abbrev pub own_missing : Stored → List ℕ → List Path
+own_missing records dataset = option_map_or (own_if_missing records dataset) (own_entry dataset) []
+
+abbrev pub with_own_step : Stored → ℤ → List ℕ → Written → Written
+with_own_step records moment dataset written = with_steps records moment (own_missing records dataset) written
+
+-- and those of all datasets that are missing on the way to it
+abbrev pub with_steps_to : Stored → ℤ → List ℕ → Written → Written
+with_steps_to records moment dataset written = with_steps records moment (missing_to records dataset) written
+
 unfoldable pub steps_for : Stored → List StoreEntry → ℤ → Written
-steps_for records entries moment = put_all (map (step_at records moment) (missing_for records entries)) table.empty
+steps_for records entries moment = with_steps records moment (missing_for records entries) table.empty
 
 -- ---- entries get what is given
 
@@ -154,9 +169,12 @@ fate_of user old moment e =
 abbrev pub entry_at : Stored → List ℕ → Written → ℤ → StoreEntry → Path × Fate
 entry_at records user steps moment e = (e.path, fate_of user (stepped records steps e.path) moment e)
 
+abbrev pub entries_at : Stored → List ℕ → Written → ℤ → List StoreEntry → List (Path × Fate)
+entries_at records user steps moment entries = map (entry_at records user steps moment) entries
+
 -- ---- all that a STORE writes: the entries, and the own entries of missing datasets
 
 unfoldable pub written_for : Stored → List ℕ → List StoreEntry → ℤ → Written
 written_for records user entries moment =
     let steps = steps_for records entries moment in
-    put_all (map (entry_at records user steps moment) entries) steps
+    put_all (entries_at records user steps moment entries) steps

@@ -2,7 +2,7 @@
 ghost use Rattle.std.specs.Prelude.{◌≡◌, filter, map, not, IfOk, Ok, Err};
 ghost use Rattle.std.specs.FinMap as table;
 ghost use Rattle.acap_entries.specs.Store.{after_writes};
-ghost use Rattle.acap_commands.specs.Answers.{IsAnswer};
+ghost use Rattle.acap_commands.specs.Answers.{IsAnswer, IsMade};
 ghost use Rattle.acap_store.specs.Deleting as rule;
 
 use crate::forms::exists_at;
@@ -44,7 +44,7 @@ pub(crate) fn gone(
     writes: &Writes,
     paths: Paths,
 ) -> Result<Paths, Memory>
-    ensures { IfOk result (λ made. made ≡ filter (λ p. not (rule.exists_after tree.now.store.records writes.now p)) paths) }
+    ensures { IsMade (rule.gone_after tree.now.store.records writes.now paths) result }
 {
     let after = After {
         tree,
@@ -69,7 +69,7 @@ fn is_told(tree: &Tree, dataset: &Dataset, since: Moment, deletion: &Deletion) -
 
 // The names of the deletions that are told, as a set.
 fn told(alloc: Global, tree: &Tree, dataset: &Dataset, since: Moment) -> Result<Cells, Memory>
-    ensures { IfOk result (λ made. made ≡ rule.set_of (map (λ d. d.path.name) (filter (rule.is_told tree.now.store.records dataset.now since) tree.now.store.deletions))) }
+    ensures { IsMade (rule.set_of (rule.names_told tree.now.store dataset.now since)) result }
 {
     let mut names = Cells::new(alloc);
     let kept = tree.deletions();

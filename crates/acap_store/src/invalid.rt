@@ -103,7 +103,7 @@ fn is_invalid(tree: &Tree, all: &[StoreEntry], entry: &StoreEntry, item: &StoreI
 
 // The first item of an entry that may not be stored.
 fn first_in<'a>(tree: &Tree, meant: &Meant, entry: &'a StoreEntry) -> Option<&'a StoreItem>
-    ensures { option_copied result ≡ find (rule.is_refused tree.now.store.records meant.now entry.now) entry.now.items }
+    ensures { option_copied result ≡ rule.first_refused tree.now.store.records meant.now entry.now }
 {
     entry.items.as_slice().iter().find(|item| {
         meant.drops_dataset_list || is_invalid(tree, meant.entries.as_slice(), entry, item)

@@ -136,7 +136,7 @@ fn is_full_after(tree: &Tree, writes: &Writes) -> bool
 
 /// Whether it is too much for the store: what is given, as said, or what is written.
 pub(crate) fn is_too_much(tree: &Tree, gives_large: bool, writes: &Writes) -> bool
-    ensures { result ≡ (gives_large || limits.writes_crowded writes.now || limits.is_full_after tree.now.store.records writes.now) }
+    ensures { result ≡ limits.is_too_much tree.now.store.records gives_large writes.now }
 {
     gives_large || writes_crowded(writes) || is_full_after(tree, writes)
 }

@@ -1,8 +1,6 @@
 //! What the commands mean: the entries that they store.
 ghost use Rattle.std.specs.Prelude.{◌≡◌, ◌∷◌, [], IfOk};
-ghost use Rattle.acap_commands.specs.declared.store_metadata.StoreMetadata.TheVariants as metadata;
-ghost use Rattle.acap_rights.specs.Deciding as decided;
-ghost use Rattle.acap_rights.specs.Edits as edit;
+ghost use Rattle.acap_commands.specs.Answers.{IsMade};
 ghost use Rattle.acap_store.specs.Meaning as rule;
 
 use crate::meant::Meant;
@@ -30,7 +28,7 @@ fn entries_for(user: &UserName, entries: Entries) -> Result<Entries, Memory>
 
 // The entries of one entry, with NOCREATE, that gets one item.
 fn one_entry(alloc: Global, path: Path, item: StoreItem) -> Result<Entries, Memory>
-    ensures { IfOk result (λ made. made ≡ record { path = path; modifiers = rule.no_create; items = item ∷ [] } ∷ []) }
+    ensures { IsMade (rule.entry_with path item ∷ []) result }
 {
     let mut items = StoreItems::new(alloc);
     items.push(item)?;
@@ -54,7 +52,7 @@ fn management_store(
     attribute: Attribute,
     given: Given,
 ) -> Result<Entries, Memory>
-    ensures { IfOk result (λ made. made ≡ record { path = record { dataset = dataset; name = [] }; modifiers = rule.no_create; items = record { attribute = attribute; metadata = metadata.Value; given = given } ∷ [] } ∷ []) }
+    ensures { IsMade (rule.management_entry dataset attribute given ∷ []) result }
 {
     let name = EntryName::of_management(alloc);
     let item = StoreItem {
@@ -67,7 +65,7 @@ fn management_store(
 
 // The STORE of the list of an object.
 fn list_store(alloc: Global, object: Object, given: Given) -> Result<Entries, Memory>
-    ensures { IfOk result (λ made. made ≡ rule.list_entry (rule.target_named object.dataset object.attribute object.name) given ∷ []) }
+    ensures { IsMade (rule.list_entry (rule.target_in object) given ∷ []) result }
 {
     let Object {
         dataset,
@@ -92,7 +90,7 @@ fn list_store(alloc: Global, object: Object, given: Given) -> Result<Entries, Me
 
 // The STORE of a list that was edited.
 fn edited(alloc: Global, object: Object, acl: Acl) -> Result<Meant, Memory>
-    ensures { IfOk result (λ meant. meant ≡ rule.edited (rule.target_named object.dataset object.attribute object.name) acl) }
+    ensures { IsMade (rule.edited (rule.target_in object) acl) result }
 {
     let given = Given::Put(Cell::Multi(acl.into_values()));
     let entries = list_store(alloc, object, given)?;
@@ -110,7 +108,7 @@ fn set(
     identifier: &[u8],
     letters: &[u8],
 ) -> Result<Meant, Memory>
-    ensures { IfOk result (λ meant. meant ≡ rule.edited (rule.target_named object.dataset object.attribute object.name) (edit.with_pair identifier.now letters.now (decided.deciding_list tree.now.store.records (rule.target_named object.dataset object.attribute object.name)))) }
+    ensures { IsMade (rule.set_in tree.now.store.records object identifier.now letters.now) result }
 {
     let acl = decided_list(alloc, tree, &lent_object(&object))?;
     let acl = acl.with_pair(identifier, letters)?;
@@ -119,7 +117,7 @@ fn set(
 
 // The STORE that DELETEACL of an identifier is.
 fn take_off(alloc: Global, tree: &Tree, object: Object, identifier: &[u8]) -> Result<Meant, Memory>
-    ensures { IfOk result (λ meant. meant ≡ rule.edited (rule.target_named object.dataset object.attribute object.name) (edit.without identifier.now (decided.deciding_list tree.now.store.records (rule.target_named object.dataset object.attribute object.name)))) }
+    ensures { IsMade (rule.taken_off_in tree.now.store.records object identifier.now) result }
 {
     let acl = decided_list(alloc, tree, &lent_object(&object))?;
     let acl = acl.without(identifier);
@@ -128,7 +126,7 @@ fn take_off(alloc: Global, tree: &Tree, object: Object, identifier: &[u8]) -> Re
 
 // The STORE that DELETEACL of a whole list is.
 fn dropped(alloc: Global, object: Object) -> Result<Meant, Memory>
-    ensures { IfOk result (λ meant. meant ≡ rule.dropped (rule.target_named object.dataset object.attribute object.name)) }
+    ensures { IsMade (rule.dropped (rule.target_in object)) result }
 {
     let drops_dataset_list = object.attribute.is_none();
     let entries = list_store(alloc, object, Given::Default)?;

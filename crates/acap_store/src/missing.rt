@@ -43,7 +43,7 @@ fn write_step(
     moment: Moment,
 ) -> Result<(), Memory>
     requires { IsTrue (is_closed_dataset dataset.now) }
-    ensures { OnOk result (writes.new ≡ writing.put_all (map (writing.step_at tree.now.store.records moment) (option_map_or (writing.own_if_missing tree.now.store.records dataset.now) (own_entry dataset.now) [])) writes.old) }
+    ensures { OnOk result (writes.new ≡ writing.with_own_step tree.now.store.records moment dataset.now writes.old) }
 {
     if tree.dataset_exists(dataset) {
         return Ok(());
@@ -64,7 +64,7 @@ fn write_steps(
     moment: Moment,
 ) -> Result<(), Memory>
     requires { IsTrue (is_closed_dataset dataset.now) }
-    ensures { OnOk result (writes.new ≡ writing.put_all (map (writing.step_at tree.now.store.records moment) (writing.missing_to tree.now.store.records dataset.now)) writes.old) }
+    ensures { OnOk result (writes.new ≡ writing.with_steps_to tree.now.store.records moment dataset.now writes.old) }
 {
     let mut way = dataset;
     while let Some((parent, _)) = own_entry_of(way) {

@@ -49,7 +49,7 @@ fn shared_at(by: &Asker<'_>, path: &Path, shared: Option<Rights>) -> Option<Righ
 }
 
 // The rights on one attribute of the entry.
-fn rights_on(subject: &Subject<'_>, attribute: &[u8]) -> Rights
+fn rights_on<'a>(subject: &'a Subject<'a>, attribute: &'a [u8]) -> Rights
     ensures { result ≡ asking.rights_on subject.now attribute.now }
 {
     match subject.shared {
@@ -60,7 +60,8 @@ fn rights_on(subject: &Subject<'_>, attribute: &[u8]) -> Rights
                 attribute,
                 name: subject.path.name.as_slice(),
             };
-            rights_of(subject.by.tree, subject.by.realm, subject.by.user, &object)
+            let by = subject.by;
+            rights_of(by.tree, by.realm, by.user, &object)
         }
     }
 }
@@ -72,8 +73,9 @@ fn may_touch(subject: &Subject<'_>) -> bool
     if is_management(subject.path) {
         return true;
     }
+    let by = subject.by;
     let rights = rights_on(subject, b"entry");
-    rights.r && (rights.w || rights.i || exists_at(subject.by.tree, subject.path))
+    rights.r && (rights.w || rights.i || exists_at(by.tree, subject.path))
 }
 
 // The object whose list an item is, if it is one.

@@ -3,7 +3,6 @@ ghost use Rattle.std.specs.Prelude.{◌≡◌, IfOk};
 ghost use Rattle.acap_commands.specs.Answers.{IsAnswer, IsCheck};
 ghost use Rattle.acap_store.specs.Planning as rule;
 ghost use Rattle.acap_store.specs.Refusing.{first_of};
-ghost use Rattle.acap_store.specs.Refusing.{first_of};
 
 use crate::asker::Asker;
 use crate::deleting::{ending, gone};
@@ -51,7 +50,7 @@ fn change_of(
 
 // That the store has room for a change, as the clock shows.
 fn check_room(tree: &Tree, gives_large: bool, change: &Change, now: Moment) -> Result<(), Refusal>
-    ensures { IsCheck (first_of (rule.refusals_by_room tree.now.store gives_large change.now.writes now)) result }
+    ensures { IsCheck (rule.room_refusal tree.now.store gives_large change.now.writes now) result }
 {
     if is_too_much(tree, gives_large, &change.writes) {
         return Err(Refusal::Limit);

@@ -2,6 +2,7 @@
 ghost use Rattle.std.specs.Prelude.{◌≡◌, map, IfOk, OnOk};
 ghost use Rattle.std.specs.List.{list_any};
 ghost use Rattle.std.specs.Option.{option_copied};
+ghost use Rattle.acap_commands.specs.Answers.{IsMade};
 ghost use Rattle.acap_store.specs.Forms.{is_of};
 ghost use Rattle.acap_store.specs.Writing as writing;
 
@@ -86,7 +87,7 @@ fn given_record(
     items: StoreItems,
     moment: Moment,
 ) -> Result<Record, Memory>
-    ensures { IfOk result (λ made. made ≡ writing.given_record user.now path.now (option_copied old.entry) items moment) }
+    ensures { IsMade (writing.given_record user.now path.now (option_copied old.entry) items moment) result }
 {
     let mut cells = cells_of(alloc, old)?;
     let mut acls = acls_of(alloc, old)?;
@@ -102,7 +103,7 @@ fn fate_of(
     moment: Moment,
     entry: StoreEntry,
 ) -> Result<(Path, Fate), Memory>
-    ensures { IfOk result (λ made. made ≡ (entry.path, writing.fate_of user.now (option_copied old.entry) moment entry)) }
+    ensures { IsMade (entry.path, writing.fate_of user.now (option_copied old.entry) moment entry) result }
 {
     let deleting = deletes(entry.items.as_slice());
     let ending = ends(&entry);
@@ -127,7 +128,7 @@ fn entries_at(
     entries: Entries,
     moment: Moment,
 ) -> Result<Vec<(Path, Fate)>, Memory>
-    ensures { IfOk result (λ made. made.items ≡ map (writing.entry_at tree.now.store.records user.now steps.now moment) entries) }
+    ensures { IfOk result (λ made. made.items ≡ writing.entries_at tree.now.store.records user.now steps.now moment entries) }
 {
     let mut made = Vec::with_capacity(alloc, entries.len())?;
     for entry in entries.into_vec() {
@@ -177,7 +178,7 @@ pub(crate) fn written_for(
     entries: Entries,
     moment: Moment,
 ) -> Result<Writes, Memory>
-    ensures { IfOk result (λ made. made ≡ writing.written_for tree.now.store.records user.now entries moment) }
+    ensures { IsMade (writing.written_for tree.now.store.records user.now entries moment) result }
 {
     let steps = steps_for(alloc, tree, entries.as_slice(), moment)?;
     let added = entries_at(alloc, tree, user, &steps, entries, moment)?;
