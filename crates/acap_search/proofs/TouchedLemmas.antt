@@ -189,16 +189,16 @@ module _ (nothing : NothingLaw) (names : NamesLaw) (unread : UnreadLaw) (written
     no_tuple : (records : Stored) → has_record_on records (chain_of records p.dataset false) p.name ≡ false → tuple_of (sight_of records realm user (scope_of sought)) sought p ≡ None
     no_tuple records h = either (in_or_out p.dataset (datasets_of records (scope_of sought)))
         (λ k. tuples.inside records realm user sought p k
-          ∙ ap (λ b. cond b (tuple_for sought None p (answers_on records realm user sought.no_inherit p) (stars_of (answers_on records realm user sought.no_inherit p).read (attributes_at records p.name (chain_of records p.dataset sought.no_inherit)))) None)
-          (hidden records (scope_of sought) h))
+        ∙ ap (λ b. cond b (tuple_for sought None p (answers_on records realm user sought.no_inherit p) (stars_of (answers_on records realm user sought.no_inherit p).read (attributes_at records p.name (chain_of records p.dataset sought.no_inherit)))) None)
+        (hidden records (scope_of sought) h))
         (λ k. tuples.outside records realm user sought p k)
 
     both_inside : IsReadAlike old new p.dataset p.name → Contains (datasets_of old (scope_of sought)) p.dataset → Contains (datasets_of new (scope_of sought)) p.dataset
         → tuple_of (sight_of old realm user (scope_of sought)) sought p ≡ tuple_of (sight_of new realm user (scope_of sought)) sought p
     both_inside alike k l =
         let made = tuple_same sought p (answers_on old realm user sought.no_inherit p) (answers_on new realm user sought.no_inherit p)
-            (attributes_at old p.name (chain_of old p.dataset sought.no_inherit)) (attributes_at new p.name (chain_of new p.dataset sought.no_inherit)) (same_answers alike sought.no_inherit)
-            (covers nothing old realm user p.dataset (chain_of old p.dataset sought.no_inherit) p.name) (covers nothing new realm user p.dataset (chain_of new p.dataset sought.no_inherit) p.name) in
+        (attributes_at old p.name (chain_of old p.dataset sought.no_inherit)) (attributes_at new p.name (chain_of new p.dataset sought.no_inherit)) (same_answers alike sought.no_inherit)
+        (covers nothing old realm user p.dataset (chain_of old p.dataset sought.no_inherit) p.name) (covers nothing new realm user p.dataset (chain_of new p.dataset sought.no_inherit) p.name) in
         tuples.inside old realm user sought p k
         ∙ ((λ i. cond (seen_same alike sought.no_inherit i) (made i) None)
         ∙ sym (tuples.inside new realm user sought p l))
@@ -207,9 +207,9 @@ module _ (nothing : NothingLaw) (names : NamesLaw) (unread : UnreadLaw) (written
     tuple_alike = either either_way
         (λ none. no_tuple old none.before ∙ sym (no_tuple new none.after))
         (λ r. either (in_or_out p.dataset (datasets_of old (scope_of sought)))
-          (λ k. both_inside r.0 k (still written old new step (scope_of sought) exists p.dataset k))
-          (λ out. tuples.outside old realm user sought p out
-            ∙ sym (tuples.outside new realm user sought p (λ k. out (had written old new step (scope_of sought) exists p.dataset r.1 k)))))
+        (λ k. both_inside r.0 k (still written old new step (scope_of sought) exists p.dataset k))
+        (λ out. tuples.outside old realm user sought p out
+        ∙ sym (tuples.outside new realm user sought p (λ k. out (had written old new step (scope_of sought) exists p.dataset r.1 k)))))
 
 pub touched_law : NothingLaw → NamesLaw → UnreadLaw → TouchedLaw
 touched_law nothing names unread = record {

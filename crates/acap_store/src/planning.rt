@@ -63,12 +63,7 @@ fn check_room(tree: &Tree, gives_large: bool, change: &Change, now: Moment) -> R
 
 // The change of what a command stores, or its first refusal.
 #[tactic(auto, unfolding(crate::specs::Planning::planned_for, crate::specs::Planning::refusals_of, crate::specs::Planning::change_of))]
-fn planned_for(
-    alloc: Global,
-    by: &Asker<'_>,
-    meant: Meant,
-    now: Moment,
-) -> Result<Change, Refusal>
+fn planned_for(alloc: Global, by: &Asker<'_>, meant: Meant, now: Moment) -> Result<Change, Refusal>
     ensures { IsAnswer result (rule.planned_for by.now.store by.now.realm by.now.user meant now) }
 {
     check(alloc, by, &meant)?;

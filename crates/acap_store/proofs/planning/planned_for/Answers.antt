@@ -29,8 +29,8 @@ returns-in_err-check_room c =
     let moment : c.written_at-moment.result ≡ written_at by.store c.args.now = c.written_at-moment.ensures ∙ ap (λ a. written_at a.store c.args.now) c.by.view_is in
     let large : c.gives_large-gives_large.result ≡ gives_large entries = cc in
     let writes : c.in_ok-change.change.writes ≡ written_for by.store.records by.user entries (written_at by.store c.args.now) =
-        ap (λ change. change.writes) c.in_ok-change.ensures ∙ (λ i. written_for (c.by.view_is i).store.records (c.by.view_is i).user entries (moment i)) in
+    ap (λ change. change.writes) c.in_ok-change.ensures ∙ (λ i. written_for (c.by.view_is i).store.records (c.by.view_is i).user entries (moment i)) in
     let room : IsCheck (room_refusal by.store (gives_large entries) (written_for by.store.records by.user entries (written_at by.store c.args.now)) c.args.now) c.check_room.result =
-        subst (λ found. IsCheck found c.check_room.result) (λ i. room_refusal (c.by.view_is i).store (large i) (writes i) c.args.now) c.check_room.ensures in
+    subst (λ found. IsCheck found c.check_room.result) (λ i. room_refusal (c.by.view_is i).store (large i) (writes i) c.args.now) c.check_room.ensures in
     subst (λ result. IsAnswer result (planned_for by.store by.realm by.user c.args.meant c.args.now)) (sym (failed_with _ refusal c.from_residual-in_err-check_room.ensures))
     (by_room by.store by.realm by.user c.args.meant c.args.now refusal passed (subst (IsCheck _) failed room))
