@@ -1,5 +1,5 @@
 -- A path that a change doesn't touch is seen alike before and after it.
-use Rattle.std.proofs.Common.{◌≡◌, ◌↔◌, ◌⊎◌, inl, inr, ℕ, Bool, true, false, cond, ◌&&◌, ◌||◌, is_some, Option, Some, None, List, [], ◌∷◌, refl, sym, ◌∙◌, ap, subst}
+use Rattle.std.proofs.Common.{◌≡◌, ◌↔◌, ◌⊎◌, inl, inr, ℕ, Bool, true, false, cond, ◌&&◌, ◌||◌, is_some, Some, None, List, [], ◌∷◌, refl, sym, ◌∙◌, ap}
 use Rattle.std.specs.Cmp.Lexicographic.{bytes_decides}
 use Rattle.std.specs.FinMap as map
 use Rattle.std.specs.List.{list_any, Contains}
@@ -8,7 +8,6 @@ use Rattle.std.proofs.lemmas.Map.Views.{Contains-from_any}
 use Rattle.acap_entries.specs.Datasets.{dataset_exists}
 use Rattle.acap_entries.specs.Orders.{octets_eq}
 use Rattle.acap_entries.specs.Store.{Stored, Written}
-use Rattle.acap_entries.specs.declared.cell.Cell.{Cell}
 use Rattle.acap_entries.specs.declared.cell.Cell.TheVariants.{Nil}
 use Rattle.acap_entries.specs.declared.path.Path.{Path}
 use Rattle.acap_inherit.specs.Chains.{chain_of, chain_within}
@@ -29,7 +28,7 @@ use Rattle.acap_search.specs.Laws.{TupleLaw}
 use Rattle.acap_search.specs.Once.{IsBeneath}
 use Rattle.acap_search.specs.Rows.{attributes_at, stars_of}
 use Rattle.acap_search.specs.Scopes.{Scope, scope_of, datasets_of}
-use Rattle.acap_search.specs.Sight.{Answers, may_read, may_test, is_held, cell_at, own_acl, rights_on, is_readable, is_seen}
+use Rattle.acap_search.specs.Sight.{may_read, may_test, is_held, cell_at, own_acl, rights_on, is_readable, is_seen}
 use Rattle.acap_search.specs.Touched.{IsSoundStep, TouchedLaw}
 use Rattle.acap_search.specs.Tuples.{tuple_for}
 use Rattle.acap_search.specs.declared.query.Sought.{Sought}

@@ -1,5 +1,5 @@
 -- The change that a command makes of a store, or its first refusal [RFC 2244 sections 3.1, 3.6 and 6.6.1].
-use Rattle.std.specs.Prelude.{ℤ, List, [], ◌∷◌, ◌++◌, Bool, is_none, ◌≡◌, ℕ, Option, Some, None, Result, Ok, Err}
+use Rattle.std.specs.Prelude.{ℤ, List, [], ◌∷◌, ◌++◌, Bool, is_none, ℕ, Option, Some, None, Result, Ok, Err}
 use Rattle.std.specs.Option.{unwrap_or}
 use Rattle.acap_entries.specs.Moments.{moment_after}
 use Rattle.acap_entries.specs.Store.{Store, Stored, Written}
