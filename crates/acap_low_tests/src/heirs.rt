@@ -1,4 +1,6 @@
 //! Tests of the index of heirs, which no program keeps yet: a dataset inherits from another, in which an entry changes.
+ghost use Rattle.std.specs.Prelude.{OnOk};
+ghost use Rattle.acap_inherit.specs.Index.{IsIndexOf};
 
 use acap_entries::{
     Acls, Attribute, Boxed, Cell, Cells, Change, Copying, Dataset, Fate, Memory, Moment, Path,
@@ -85,7 +87,10 @@ fn one_entry(alloc: Global) -> Result<Change, Memory> {
 }
 
 // Commits a change of the store, and in the index.
-fn commit(tree: &mut Tree, index: &mut Resolved, change: Change) -> Result<(), Memory> {
+fn commit(tree: &mut Tree, index: &mut Resolved, change: Change) -> Result<(), Memory>
+    requires { IsIndexOf tree.old.store.records index.old.0 }
+    ensures { OnOk result (IsIndexOf tree.new.store.records index.new.0) }
+{
     let prepared = index.prepare(tree, &change)?;
     index.reserve(&prepared)?;
     tree.reserve(&change)?;
@@ -99,7 +104,9 @@ fn lies_in(path: &Path, dataset: &[u8]) -> bool {
 }
 
 // Whether the change of the base touches the entry in both datasets.
-fn touches_both(index: &Resolved, tree: &Tree, change: &Change) -> Result<bool, Memory> {
+fn touches_both(index: &Resolved, tree: &Tree, change: &Change) -> Result<bool, Memory>
+    requires { IsIndexOf tree.now.store.records index.now.0 }
+{
     let paths = index.touched(tree, change)?;
     let names = match paths.as_slice() {
         [base, heir] => lies_in(base, b"/base/") && lies_in(heir, b"/heir/"),
