@@ -1,11 +1,7 @@
 -- What is answered where memory may be refused, which no definition speaks of.
-use Rattle.std.specs.Prelude.{◌≡◌, Bool, true, false, Option, Some, None, Result, Ok, Err, IfOk}
+use Rattle.std.specs.Prelude.{◌≡◌, Bool, true, false, Option, Some, None, Result, Ok, Err}
 use Rattle.acap_commands.specs.declared.refusal.Refusal.{Refusal}
 use Rattle.acap_commands.specs.declared.refusal.Refusal.TheVariants as refusal
-
--- what is made is that value, where it is made
-abbrev pub IsMade : {A E : Type 0} → A → Result A E → Type 0
-IsMade value result = IfOk result (λ made. made ≡ value)
 
 -- whether it is memory that was refused
 abbrev pub is_memory : Refusal → Bool

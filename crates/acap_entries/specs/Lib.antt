@@ -7,6 +7,8 @@ pub mod FullPaths
 pub mod Homes
 pub mod Laws
 pub mod Leaves
+pub mod Leaving
+pub mod Made
 pub mod Moments
 pub mod Names
 pub mod Orders

@@ -3,6 +3,7 @@ pub mod EntryNames
 pub mod Examples
 pub mod Index
 pub mod Laws
+pub mod Leaving
 pub mod Merging
 pub mod NamesAfter
 pub mod Records

@@ -1,12 +1,14 @@
 -- A value that is lent, as the value that it is.
-use Rattle.std.specs.Prelude.{Some, None}
+use Rattle.std.specs.Prelude.{ℕ, Bool, List, Some, None}
 use Rattle.acap_entries.specs.declared.cell.Cell.{Cell}
 use Rattle.acap_entries.specs.declared.cell.Cell.TheVariants as cell
 use Rattle.acap_inherit.specs.declared.lent.Lent.{Lent}
 use Rattle.acap_inherit.specs.declared.lent.Lent.TheVariants.{Single, Multi, Stamp}
 use Rattle.acap_inherit.specs.declared.found.Found.{Found}
 use Rattle.acap_inherit.specs.declared.found.Found.TheVariants.{Nil, At}
-use Rattle.acap_inherit.specs.Resolving.{Resolution}
+use Rattle.acap_entries.specs.Store.{Store}
+use Rattle.acap_inherit.specs.Chains.{chain_of}
+use Rattle.acap_inherit.specs.Resolving.{Resolution, resolved}
 
 abbrev pub cell_of : Lent → Cell
 cell_of (Single text) = cell.Single text.now
@@ -16,3 +18,7 @@ cell_of (Stamp digits) = cell.Single digits
 abbrev pub found_of : Found → Resolution
 found_of Nil = None
 found_of (At dataset value) = Some (cell_of value, dataset.now)
+
+-- what an attribute resolves to along the chain of a dataset
+abbrev pub resolved_in : Store → List ℕ → Bool → List ℕ → List ℕ → Resolution
+resolved_in store dataset no_inherit name attribute = resolved store.records (chain_of store.records dataset no_inherit) name attribute

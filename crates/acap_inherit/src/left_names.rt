@@ -1,9 +1,7 @@
 //! The names of entries along chains, as a change will leave them.
 ghost use Rattle.std.specs.Prelude.{◌≡◌, ◌++◌, IfOk, OnOk};
-ghost use Rattle.acap_entries.specs.Changes.{left_by, IsStoreAfter};
-ghost use Rattle.acap_entries.specs.Store.{Store};
-ghost use Rattle.acap_inherit.specs.EntryNames.{names_on};
-ghost use Rattle.acap_inherit.specs.NamesAfter as rule;
+ghost use Rattle.acap_inherit.specs.Leaving as rule;
+ghost use Rattle.acap_inherit.specs.Leaving.{name_ahead};
 
 use crate::heirs::put_among;
 use crate::lineage::Lineage;
@@ -16,7 +14,7 @@ fn add_name(
     name: &EntryName,
     names: &mut Vec<Boxed<EntryName>>,
 ) -> Result<(), Memory>
-    ensures { OnOk result (names.new.items ≡ names.old.items ++ rule.name_left (left_by after.now.writes.now after.now.moment after.now.tree.now.store).records member.now name.now) }
+    ensures { OnOk result (names.new.items ≡ names.old.items ++ name_ahead after.now member.now name.now) }
 {
     if after.find(member, name.as_slice()).is_none() {
         return Ok(());
@@ -32,7 +30,7 @@ fn add_written(
     member: &[u8],
     names: &mut Vec<Boxed<EntryName>>,
 ) -> Result<(), Memory>
-    ensures { OnOk result (names.new.items ≡ names.old.items ++ rule.names_left_written after.now.writes.now (left_by after.now.writes.now after.now.moment after.now.tree.now.store).records member.now) }
+    ensures { OnOk result (names.new.items ≡ names.old.items ++ rule.written_ahead after.now member.now) }
 {
     for (path, _) in after.writes.entries() {
         if member == path.dataset.as_slice() {
@@ -48,7 +46,7 @@ fn add_stored(
     member: &[u8],
     names: &mut Vec<Boxed<EntryName>>,
 ) -> Result<(), Memory>
-    ensures { OnOk result (names.new.items ≡ names.old.items ++ rule.names_left_stored after.now.tree.now.store.records (left_by after.now.writes.now after.now.moment after.now.tree.now.store).records member.now) }
+    ensures { OnOk result (names.new.items ≡ names.old.items ++ rule.stored_ahead after.now member.now) }
 {
     for (path, _) in after.tree.entries_of(member) {
         add_name(after, member, &path.name, names)?;
@@ -62,7 +60,7 @@ fn names_left(
     change: &Change,
     members: &Lineage<'_>,
 ) -> Result<Ranked<Boxed<EntryName>>, Memory>
-    ensures { IfOk result (λ names. names.0 ≡ rule.names_left change.now.writes tree.now.store.records (left_by change.now.writes change.now.moment tree.now.store).records members.now) }
+    ensures { IfOk result (λ names. names.0 ≡ rule.names_left_by change.now tree.now.store members.now) }
 {
     let alloc = change.deleted.allocator();
     let after = After::of(tree, change);
@@ -83,7 +81,7 @@ pub fn names_after(
     change: &Change,
     members: &Lineage<'_>,
 ) -> Result<Ranked<Boxed<EntryName>>, Memory>
-    ensures { IfOk result (λ names. (new : Store) → IsStoreAfter change.now tree.now.store new → names.0 ≡ names_on new.records members.now) }
+    ensures { IfOk result (λ names. rule.AreNamesAfter change.now tree.now.store members.now names.0) }
 {
     names_left(tree, change, members)
 }

@@ -1,6 +1,7 @@
 //! Pairs that a change undoes or makes, and edits of pairs.
 ghost use Rattle.std.specs.Prelude.{◌≡◌, ◌≤◌, length, IfOk};
 ghost use Rattle.acap_inherit.specs.Index as rule;
+ghost use Rattle.acap_inherit.specs.Leaving.{links_in};
 
 use crate::chains::base_of;
 use crate::link::Link;
@@ -22,7 +23,7 @@ pub(crate) fn links_written<R: Records>(
     records: &R,
     change: &Change,
 ) -> Result<Vec<Boxed<Link>>, Memory>
-    ensures { IfOk result (λ links. links.items ≡ rule.links_written change.now.writes (R.store records.now).records) }
+    ensures { IfOk result (λ links. links.items ≡ links_in change.now (R.store records.now)) }
 {
     let alloc = change.deleted.allocator();
     let mut links = Vec::new(alloc);

@@ -1,13 +1,9 @@
 //! The index from datasets to those that inherit from them, kept up to date by changes.
-ghost use Rattle.std.specs.Prelude.{◌≡◌, ◌≤◌, length, map, IfOk, OnOk};
-ghost use Rattle.acap_entries.specs.Changes.{IsStoreAfter};
-ghost use Rattle.acap_entries.specs.Store.{Store, empty_store};
-ghost use Rattle.acap_inherit.specs.Chains.{chain_of};
+ghost use Rattle.std.specs.Prelude.{◌≡◌, ◌≤◌, length, IfOk, OnOk};
+ghost use Rattle.acap_entries.specs.Store.{empty_store};
 ghost use Rattle.acap_inherit.specs.Index.{IsIndexOf, settled};
-ghost use Rattle.acap_inherit.specs.Resolving as rule;
-ghost use Rattle.acap_inherit.specs.Touched.{touched, datasets_touched};
-ghost use Rattle.acap_inherit.specs.Touching.{touched_dataset};
-ghost use Rattle.acap_inherit.specs.Values.{found_of};
+ghost use Rattle.acap_inherit.specs.Leaving.{IsPrepared, AreTouched, AreTouchedDatasets};
+ghost use Rattle.acap_inherit.specs.Values.{found_of, resolved_in};
 
 use crate::chains::chain;
 use crate::found::Found;
@@ -59,7 +55,7 @@ impl Resolved {
         name: &'a [u8],
         attribute: &[u8],
     ) -> Found<'a>
-        ensures { found_of result ≡ rule.resolved (R.store records.now).records (chain_of (R.store records.now).records dataset.now no_inherit) name.now attribute.now }
+        ensures { found_of result ≡ resolved_in (R.store records.now) dataset.now no_inherit name.now attribute.now }
     {
         let members = chain(records, dataset, no_inherit);
         resolve(records, &members, name, attribute)
@@ -68,7 +64,7 @@ impl Resolved {
     /// What a change of the store does to the index, made before the change is committed. Fails only for want of memory.
     pub fn prepare(&self, tree: &Tree, change: &Change) -> Result<Prepared, Memory>
         requires { IsIndexOf tree.now.store.records self.now.0 }
-        ensures { IfOk result (λ made. (new : Store) → IsStoreAfter change.now tree.now.store new → IsIndexOf new.records (settled made self.now.0)) }
+        ensures { IfOk result (IsPrepared change.now tree.now.store self.now.0) }
     {
         let taken = links_written(tree, change)?;
         let put = links_written(&After::of(tree, change), change)?;
@@ -99,7 +95,7 @@ impl Resolved {
     /// memory.
     pub fn touched(&self, tree: &Tree, change: &Change) -> Result<Paths, Memory>
         requires { IsIndexOf tree.now.store.records self.now.0 }
-        ensures { IfOk result (λ paths. (new : Store) → IsStoreAfter change.now tree.now.store new → paths ≡ touched change.now.writes tree.now.store.records new.records) }
+        ensures { IfOk result (AreTouched change.now tree.now.store) }
     {
         let alloc = change.deleted.allocator();
         let datasets = datasets_reached(alloc, &self.links, &change.writes)?;
@@ -111,7 +107,7 @@ impl Resolved {
     /// want of memory.
     pub fn touched_in(&self, tree: &Tree, change: &Change) -> Result<Vec<TouchedDataset>, Memory>
         requires { IsIndexOf tree.now.store.records self.now.0 }
-        ensures { IfOk result (λ made. (new : Store) → IsStoreAfter change.now tree.now.store new → made.items ≡ map (touched_dataset change.now.writes tree.now.store.records) (datasets_touched change.now.writes tree.now.store.records new.records)) }
+        ensures { IfOk result (λ made. AreTouchedDatasets change.now tree.now.store made.items) }
     {
         let alloc = change.deleted.allocator();
         let datasets = datasets_reached(alloc, &self.links, &change.writes)?;

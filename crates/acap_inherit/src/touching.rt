@@ -1,11 +1,10 @@
 //! Which paths a change touches.
-ghost use Rattle.std.specs.Prelude.{◌≡◌, ◌++◌, [], ◌∷◌, if◌then◌else◌, IfOk, OnOk};
-ghost use Rattle.acap_entries.specs.Changes.{left_by, IsStoreAfter};
-ghost use Rattle.acap_entries.specs.Datasets.{dataset_exists};
-ghost use Rattle.acap_entries.specs.Store.{Store};
-ghost use Rattle.acap_inherit.specs.Touched as rules;
+ghost use Rattle.std.specs.Prelude.{◌≡◌, ◌++◌, [], ◌∷◌, IfOk, OnOk};
+ghost use Rattle.acap_entries.specs.Made.{IsMade};
+ghost use Rattle.acap_inherit.specs.Leaving as rule;
+ghost use Rattle.acap_inherit.specs.Leaving.{paths_kept};
 ghost use Rattle.acap_inherit.specs.Touched.{is_written_on, in_order};
-ghost use Rattle.acap_inherit.specs.Touching as rule;
+ghost use Rattle.acap_inherit.specs.Touching.{path_at, paths_written};
 
 use crate::chains::chain;
 use crate::full_path::FullPath;
@@ -21,14 +20,14 @@ use acap_entries::{
 fn add_path(
     dataset: &Dataset,
     name: &EntryName,
-    found: &mut Vec<Boxed<FullPath>>,
+    to: &mut Vec<Boxed<FullPath>>,
 ) -> Result<(), Memory>
-    ensures { OnOk result (found.new.items ≡ found.old.items ++ record { dataset = dataset.now; name = name.now } ∷ []) }
+    ensures { OnOk result (to.new.items ≡ to.old.items ++ path_at dataset.now name.now ∷ []) }
 {
     let dataset = dataset.copy()?;
     let name = name.copy()?;
     let path = Path { dataset, name };
-    found.push(Boxed::new(*found.allocator(), FullPath { path })?)?;
+    to.push(Boxed::new(*to.allocator(), FullPath { path })?)?;
     Ok(())
 }
 
@@ -37,13 +36,13 @@ fn add_written(
     writes: &Writes,
     member: &[u8],
     dataset: &Dataset,
-    found: &mut Vec<Boxed<FullPath>>,
+    to: &mut Vec<Boxed<FullPath>>,
 ) -> Result<(), Memory>
-    ensures { OnOk result (found.new.items ≡ found.old.items ++ rule.paths_written writes.now dataset.now member.now) }
+    ensures { OnOk result (to.new.items ≡ to.old.items ++ paths_written writes.now dataset.now member.now) }
 {
     for (path, _) in writes.entries() {
         if member == path.dataset.as_slice() {
-            add_path(dataset, &path.name, found)?;
+            add_path(dataset, &path.name, to)?;
         }
     }
     Ok(())
@@ -54,31 +53,30 @@ fn add_stored(
     tree: &Tree,
     member: &[u8],
     dataset: &Dataset,
-    found: &mut Vec<Boxed<FullPath>>,
+    to: &mut Vec<Boxed<FullPath>>,
 ) -> Result<(), Memory>
-    ensures { OnOk result (found.new.items ≡ found.old.items ++ rule.paths_stored tree.now.store.records dataset.now member.now) }
+    ensures { OnOk result (to.new.items ≡ to.old.items ++ paths_kept tree.now.store dataset.now member.now) }
 {
     for (path, _) in tree.entries_of(member) {
-        add_path(dataset, &path.name, found)?;
+        add_path(dataset, &path.name, to)?;
     }
     Ok(())
 }
 
 // Adds the paths of a dataset whose names are along a chain: those that are written there, or all of them.
 fn add_along(
-    tree: &Tree,
-    writes: &Writes,
+    after: &After<'_>,
     members: &Lineage<'_>,
     all: bool,
     dataset: &Dataset,
-    found: &mut Vec<Boxed<FullPath>>,
+    to: &mut Vec<Boxed<FullPath>>,
 ) -> Result<(), Memory>
-    ensures { OnOk result (found.new.items ≡ found.old.items ++ rule.paths_along writes.now tree.now.store.records all dataset.now members.now) }
+    ensures { OnOk result (to.new.items ≡ to.old.items ++ rule.along after.now all dataset.now members.now) }
 {
     for member in members.names() {
-        add_written(writes, member, dataset, found)?;
+        add_written(after.writes, member, dataset, to)?;
         if all {
-            add_stored(tree, member, dataset, found)?;
+            add_stored(after.tree, member, dataset, to)?;
         }
     }
     Ok(())
@@ -100,16 +98,16 @@ fn is_managed(writes: &Writes, members: &Lineage<'_>) -> bool
 fn add_below(
     after: &After<'_>,
     dataset: &Dataset,
-    found: &mut Vec<Boxed<FullPath>>,
+    to: &mut Vec<Boxed<FullPath>>,
 ) -> Result<(), Memory>
-    ensures { OnOk result (found.new.items ≡ found.old.items ++ rule.paths_below after.now.writes.now after.now.tree.now.store.records (left_by after.now.writes.now after.now.moment after.now.tree.now.store).records dataset.now) }
+    ensures { OnOk result (to.new.items ≡ to.old.items ++ rule.below_ahead after.now dataset.now) }
 {
     let before = chain(after.tree, dataset, false);
     let all = is_managed(after.writes, &before);
-    add_along(after.tree, after.writes, &before, all, dataset, found)?;
+    add_along(after, &before, all, dataset, to)?;
     if all {
         let members = chain(after, dataset, false);
-        add_along(after.tree, after.writes, &members, true, dataset, found)?;
+        add_along(after, &members, true, dataset, to)?;
     }
     Ok(())
 }
@@ -118,12 +116,12 @@ fn add_below(
 fn add_touched(
     after: &After<'_>,
     dataset: &Dataset,
-    found: &mut Vec<Boxed<FullPath>>,
+    to: &mut Vec<Boxed<FullPath>>,
 ) -> Result<(), Memory>
-    ensures { OnOk result (found.new.items ≡ found.old.items ++ rule.paths_in after.now.writes.now after.now.tree.now.store.records (left_by after.now.writes.now after.now.moment after.now.tree.now.store).records dataset.now) }
+    ensures { OnOk result (to.new.items ≡ to.old.items ++ rule.in_ahead after.now dataset.now) }
 {
     if after.dataset_exists(dataset.as_slice()) {
-        add_below(after, dataset, found)?;
+        add_below(after, dataset, to)?;
     }
     Ok(())
 }
@@ -155,7 +153,7 @@ pub(crate) fn paths_found(
     change: &Change,
     datasets: &Ranked<Boxed<Dataset>>,
 ) -> Result<Paths, Memory>
-    ensures { IfOk result (λ paths. paths ≡ rule.paths_found change.now.writes tree.now.store.records (left_by change.now.writes change.now.moment tree.now.store).records datasets.now.0) }
+    ensures { IsMade (rule.paths_left change.now tree.now.store datasets.now.0) result }
 {
     let alloc = change.deleted.allocator();
     let after = After::of(tree, change);
@@ -168,7 +166,7 @@ pub(crate) fn paths_found(
 
 // The touched paths of one dataset.
 fn paths_at(tree: &Tree, change: &Change, dataset: &Dataset) -> Result<Paths, Memory>
-    ensures { IfOk result (λ paths. paths ≡ in_order (rule.paths_in change.now.writes tree.now.store.records (left_by change.now.writes change.now.moment tree.now.store).records dataset.now)) }
+    ensures { IsMade (rule.paths_left_in change.now tree.now.store dataset.now) result }
 {
     let after = After::of(tree, change);
     let mut found = Vec::new(change.deleted.allocator());
@@ -179,7 +177,7 @@ fn paths_at(tree: &Tree, change: &Change, dataset: &Dataset) -> Result<Paths, Me
 /// The paths of one dataset that a change touches, in the order of their names. Looks at the dataset's chains alone, and
 /// fails only for want of memory.
 pub fn touched_at(tree: &Tree, change: &Change, dataset: &Dataset) -> Result<Paths, Memory>
-    ensures { IfOk result (λ paths. (new : Store) → IsStoreAfter change.now tree.now.store new → paths ≡ rules.touched_at change.now.writes tree.now.store.records new.records dataset.now) }
+    ensures { IfOk result (rule.AreTouchedAt change.now tree.now.store dataset.now) }
 {
     paths_at(tree, change, dataset)
 }
@@ -190,7 +188,7 @@ fn add_dataset(
     dataset: &Dataset,
     made: &mut Vec<TouchedDataset>,
 ) -> Result<(), Memory>
-    ensures { OnOk result (made.new.items ≡ made.old.items ++ (if dataset_exists (left_by after.now.writes.now after.now.moment after.now.tree.now.store).records dataset.now then rule.touched_dataset after.now.writes.now after.now.tree.now.store.records dataset.now ∷ [] else [])) }
+    ensures { OnOk result (made.new.items ≡ made.old.items ++ rule.dataset_ahead after.now dataset.now) }
 {
     if !after.dataset_exists(dataset.as_slice()) {
         return Ok(());
@@ -207,7 +205,7 @@ pub(crate) fn datasets_found(
     change: &Change,
     datasets: &Ranked<Boxed<Dataset>>,
 ) -> Result<Vec<TouchedDataset>, Memory>
-    ensures { IfOk result (λ made. made.items ≡ rule.datasets_found change.now.writes tree.now.store.records (left_by change.now.writes change.now.moment tree.now.store).records datasets.now.0) }
+    ensures { IfOk result (λ made. made.items ≡ rule.datasets_left change.now tree.now.store datasets.now.0) }
 {
     let after = After::of(tree, change);
     let mut made = Vec::new(change.deleted.allocator());

@@ -2,7 +2,8 @@
 ghost use Rattle.std.specs.Prelude.{◌≡◌, filter, map, not, IfOk, Ok, Err};
 ghost use Rattle.std.specs.FinMap as table;
 ghost use Rattle.acap_entries.specs.Store.{after_writes};
-ghost use Rattle.acap_commands.specs.Answers.{IsAnswer, IsMade};
+ghost use Rattle.acap_commands.specs.Answers.{IsAnswer};
+ghost use Rattle.acap_entries.specs.Made.{IsMade};
 ghost use Rattle.acap_store.specs.Deleting as rule;
 
 use crate::forms::exists_at;

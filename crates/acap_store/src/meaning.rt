@@ -1,6 +1,6 @@
 //! What the commands mean: the entries that they store.
 ghost use Rattle.std.specs.Prelude.{◌≡◌, ◌∷◌, [], IfOk};
-ghost use Rattle.acap_commands.specs.Answers.{IsMade};
+ghost use Rattle.acap_entries.specs.Made.{IsMade};
 ghost use Rattle.acap_store.specs.Meaning as rule;
 
 use crate::meant::Meant;

@@ -4,6 +4,6 @@ use Rattle.acap_inherit.proofs.touching.add_along.Given as goal
 
 abbrev pub invariant-loop-member : goal.invariant-loop-member
 invariant-loop-member l = record {
-  found : l.found.items ++ paths_along l.writes l.tree.store.records l.all l.dataset (map (λ d. d.now) (drop l.member-index l.member-items))
-      ≡ l.fn.found.items ++ paths_along l.writes l.tree.store.records l.all l.dataset (map (λ d. d.now) l.member-items);
+  added : l.to.items ++ paths_along l.after.writes.now l.after.tree.now.store.records l.all l.dataset (map (λ d. d.now) (drop l.member-index l.member-items))
+      ≡ l.fn.to.items ++ paths_along l.after.writes.now l.after.tree.now.store.records l.all l.dataset (map (λ d. d.now) l.member-items);
 }

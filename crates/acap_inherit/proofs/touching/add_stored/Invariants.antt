@@ -4,5 +4,5 @@ use Rattle.acap_inherit.proofs.touching.add_stored.Given as goal
 
 abbrev pub invariant-loop-path : goal.invariant-loop-path
 invariant-loop-path l = record {
-  found : l.found.items ++ map (path_at l.dataset) (map (λ e. e.0.name) l.path-iterator) ≡ l.fn.found.items ++ map (path_at l.dataset) (map (λ e. e.0.name) l.initial.path-iterator);
+  added : l.to.items ++ map (path_at l.dataset) (map (λ e. e.0.name) l.path-iterator) ≡ l.fn.to.items ++ map (path_at l.dataset) (map (λ e. e.0.name) l.initial.path-iterator);
 }

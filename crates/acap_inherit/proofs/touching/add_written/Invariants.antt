@@ -7,6 +7,6 @@ use Rattle.acap_inherit.proofs.touching.add_written.Given as goal
 
 abbrev pub invariant-loop-path : goal.invariant-loop-path
 invariant-loop-path l = record {
-  found : l.found.items ++ flat_map (λ w. if octets_eq l.member w.0.dataset then path_at l.dataset w.0.name ∷ [] else []) (drop l.path-index l.path-items)
-      ≡ l.fn.found.items ++ flat_map (λ w. if octets_eq l.member w.0.dataset then path_at l.dataset w.0.name ∷ [] else []) l.path-items;
+  added : l.to.items ++ flat_map (λ w. if octets_eq l.member w.0.dataset then path_at l.dataset w.0.name ∷ [] else []) (drop l.path-index l.path-items)
+      ≡ l.fn.to.items ++ flat_map (λ w. if octets_eq l.member w.0.dataset then path_at l.dataset w.0.name ∷ [] else []) l.path-items;
 }

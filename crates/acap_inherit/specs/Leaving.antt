@@ -1,0 +1,79 @@
+-- What a change touches and leaves, said before it is committed: words of contracts [RFC 2244 sections 5.1 and 5.2].
+use Rattle.std.specs.Prelude.{◌≡◌, ℕ, List, [], ◌∷◌, Bool, map as each, if◌then◌else◌}
+use Rattle.acap_entries.specs.Datasets.{dataset_exists}
+use Rattle.acap_entries.specs.Leaving.{records_before, records_ahead, records_left, ForStoreAfter}
+use Rattle.acap_entries.specs.Store.{Store}
+use Rattle.acap_entries.specs.declared.after.After.{After}
+use Rattle.acap_entries.specs.declared.change.Change.{Change}
+use Rattle.acap_entries.specs.declared.path.Path.{Path}
+use Rattle.acap_inherit.specs.EntryNames.{names_on}
+use Rattle.acap_inherit.specs.Index.{IsIndexOf, links_written, settled}
+use Rattle.acap_inherit.specs.NamesAfter.{name_left, names_left_written, names_left_stored, names_left}
+use Rattle.acap_inherit.specs.Touched.{in_order, touched, touched_at, datasets_touched}
+use Rattle.acap_inherit.specs.Touching.{paths_along, paths_below, paths_in, paths_stored, paths_found, touched_dataset, datasets_found}
+use Rattle.acap_inherit.specs.declared.link.Link.{Link}
+use Rattle.acap_inherit.specs.declared.touched_dataset.TouchedDataset.{TouchedDataset}
+
+-- ---- what public calls answer of each store that the change makes
+
+-- the touched paths, those of one dataset, and the datasets in which they are
+abbrev pub AreTouched : Change → Store → List Path → Type 0
+AreTouched change old paths = ForStoreAfter change old (λ new. paths ≡ touched change.writes old.records new.records)
+
+abbrev pub AreTouchedAt : Change → Store → List ℕ → List Path → Type 0
+AreTouchedAt change old dataset paths = ForStoreAfter change old (λ new. paths ≡ touched_at change.writes old.records new.records dataset)
+
+abbrev pub AreTouchedDatasets : Change → Store → List TouchedDataset → Type 0
+AreTouchedDatasets change old made =
+    ForStoreAfter change old (λ new. made ≡ each (touched_dataset change.writes old.records) (datasets_touched change.writes old.records new.records))
+
+-- what makes the index of afterwards of that of before
+abbrev pub IsPrepared : Change → Store → List Link → List Link × List Link → Type 0
+IsPrepared change old links made = ForStoreAfter change old (λ new. IsIndexOf new.records (settled made links))
+
+-- the names along a chain
+abbrev pub AreNamesAfter : Change → Store → List (List ℕ) → List (List ℕ) → Type 0
+AreNamesAfter change old chain names = ForStoreAfter change old (λ new. names ≡ names_on new.records chain)
+
+-- the pairs of the datasets whose management entries a change writes, as a store has them
+abbrev pub links_in : Change → Store → List Link
+links_in change store = links_written change.writes store.records
+
+-- ---- words of private contracts, by what is read ahead and by the change
+
+abbrev pub paths_kept : Store → List ℕ → List ℕ → List Path
+paths_kept old dataset member = paths_stored old.records dataset member
+
+abbrev pub along : After → Bool → List ℕ → List (List ℕ) → List Path
+along after all dataset chain = paths_along after.writes.now (records_before after) all dataset chain
+
+abbrev pub below_ahead : After → List ℕ → List Path
+below_ahead after dataset = paths_below after.writes.now (records_before after) (records_ahead after) dataset
+
+abbrev pub in_ahead : After → List ℕ → List Path
+in_ahead after dataset = paths_in after.writes.now (records_before after) (records_ahead after) dataset
+
+abbrev pub dataset_ahead : After → List ℕ → List TouchedDataset
+dataset_ahead after dataset =
+    if dataset_exists (records_ahead after) dataset then touched_dataset after.writes.now (records_before after) dataset ∷ [] else []
+
+abbrev pub paths_left : Change → Store → List (List ℕ) → List Path
+paths_left change old datasets = paths_found change.writes old.records (records_left change old) datasets
+
+abbrev pub paths_left_in : Change → Store → List ℕ → List Path
+paths_left_in change old dataset = in_order (paths_in change.writes old.records (records_left change old) dataset)
+
+abbrev pub datasets_left : Change → Store → List (List ℕ) → List TouchedDataset
+datasets_left change old datasets = datasets_found change.writes old.records (records_left change old) datasets
+
+abbrev pub name_ahead : After → List ℕ → List ℕ → List (List ℕ)
+name_ahead after member name = name_left (records_ahead after) member name
+
+abbrev pub written_ahead : After → List ℕ → List (List ℕ)
+written_ahead after member = names_left_written after.writes.now (records_ahead after) member
+
+abbrev pub stored_ahead : After → List ℕ → List (List ℕ)
+stored_ahead after member = names_left_stored (records_before after) (records_ahead after) member
+
+abbrev pub names_left_by : Change → Store → List (List ℕ) → List (List ℕ)
+names_left_by change old chain = names_left change.writes old.records (records_left change old) chain
