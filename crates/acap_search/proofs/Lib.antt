@@ -6,6 +6,7 @@ pub mod OnceLemmas
 pub mod OrderLemmas
 pub mod PlaceLaws
 pub mod RefusalLemmas
+pub mod ScopedLemmas
 pub mod SeenLemmas
 pub mod SightLemmas
 pub mod SortLemmas

@@ -200,7 +200,7 @@ names_once (name ∷ names) r = (below_name name names (first_so _ _ r), names_o
 
 -- ---- datasets
 
-left_of : (b : Bool) → (b || false) ≡ true → b ≡ true
+pub left_of : (b : Bool) → (b || false) ≡ true → b ≡ true
 left_of true e = refl
 left_of false e = e
 
@@ -282,7 +282,7 @@ module _ (records : Stored) (sound : IsSoundStore records) where
 
 -- ---- octets that begin another dataset
 
-same_number : (x y : ℕ) → x ≡ y → nat_eq x y ≡ true
+pub same_number : (x y : ℕ) → x ≡ y → nat_eq x y ≡ true
 same_number x y e = (unsigned_Decides x y).1 e
 
 some_rest : {P : Type 0} (rest : List ℕ) → (rest ≡ [] → P) → ((rest ≡ [] → ⊥) → P) → P
@@ -306,7 +306,7 @@ prefix (x ∷ y ∷ a) (z ∷ p) n rest h plain_name more e =
     let r = prefix (y ∷ a) p n rest (closed_dropped 1 (x ∷ y ∷ a) (omega arith) h) plain_name more tails in
     (and_from _ _ (same_number x z same) r.0, r.1)
 
-starts_split : (xs ys : List ℕ) → starts_with nat_eq xs ys ≡ true → ys ++ drop (length ys) xs ≡ xs
+pub starts_split : (xs ys : List ℕ) → starts_with nat_eq xs ys ≡ true → ys ++ drop (length ys) xs ≡ xs
 starts_split xs [] e = refl
 starts_split [] (y ∷ ys) e = absurd (cc (e))
 starts_split (x ∷ xs) (y ∷ ys) e =
@@ -342,7 +342,7 @@ named_component : (name : List ℕ) → name ≢ [] → has slash name ≡ false
 named_component [] h plain_name = absurd (h refl)
 named_component (x ∷ name) h plain_name = and_from _ _ (ap not (not_zero (length name))) (ap not plain_name)
 
-module _ (records : Stored) (sound : IsSoundStore records) (scope : Scope) (exists : dataset_exists records scope.dataset ≡ true) (d : List ℕ) where
+module _ (records : Stored) (sound : IsSoundStore records) (scope : Scope) (ends : ends_with slash scope.dataset ≡ true) (d : List ℕ) where
   beneath_by : (depth : ℕ) → scope.depth ≡ Some depth → Contains (beneath records scope.dataset depth) d → IsBeneath records scope d
   beneath_by depth deep k =
       let m = maker records sound scope.dataset depth d k in
@@ -364,7 +364,7 @@ module _ (records : Stored) (sound : IsSoundStore records) (scope : Scope) (exis
         exists = exists_own records sound d p own ∙ or_right _ _ (ap (λ o. option_map_or makes_dataset o false) m.1.0 ∙ makes);
       }
 
-  only_beneath : Contains (datasets_of records scope) d → (d ≡ scope.dataset) ⊎ IsBeneath records scope d
+  pub only_beneath : Contains (datasets_of records scope) d → (d ≡ scope.dataset) ⊎ IsBeneath records scope d
   only_beneath =
       elim scope.depth as (λ depth. scope.depth ≡ depth → Contains (scope.dataset ∷ option_map_or (beneath records scope.dataset) depth []) d → (d ≡ scope.dataset) ⊎ IsBeneath records scope d) [
         | None ↦ λ e k. either (first_or scope.dataset d [] k) (λ s. inl (sym s)) (λ l. nowhere d l)
@@ -389,7 +389,7 @@ module _ (records : Stored) (sound : IsSoundStore records) (scope : Scope) (exis
   in_beneath b more =
       let own = (own_entry_law d b.own).0 b.entry in
       let m = maker_of (map.get records b.own) (ap (λ t. t || option_map_or makes_dataset (map.get records b.own) false) (sym (not_root b.own b.entry)) ∙ (sym (exists_own records sound d b.own b.entry) ∙ b.exists)) in
-      let parts = prefix scope.dataset b.own.dataset b.own.name b.rest (closed records sound scope.dataset exists) own.0.name more (b.whole ∙ (sym own.1 ∙ append_assoc b.own.dataset b.own.name (slash ∷ []))) in
+      let parts = prefix scope.dataset b.own.dataset b.own.name b.rest ends own.0.name more (b.whole ∙ (sym own.1 ∙ append_assoc b.own.dataset b.own.name (slash ∷ []))) in
       let behind : List ℕ = drop (length scope.dataset) b.own.dataset in
       let count : levels b.rest ≡ levels behind + 1 = sym (ap levels parts.1) ∙ (levels_more behind (b.own.name ++ slash ∷ []) ∙ ap (λ n. levels behind + n) (levels_name b.own.name own.0.name)) in
       let near : is_reached b.depth (levels behind) ≡ true = within_reached b.depth (levels behind) (subst (λ n. (b.depth ≡ 0) ⊎ (n < b.depth)) count b.within) in
@@ -397,7 +397,7 @@ module _ (records : Stored) (sound : IsSoundStore records) (scope : Scope) (exis
       (in_filter (lies records sound scope.dataset) (map.entries records) (b.own, m.0) (in_kept records b.own m.0 m.1.0) parts.0)
       ((λ i. cond (near i) (cond (and_from _ _ m.1.1 (named_component b.own.name b.named own.0.name) i) (Some (full_path b.own ++ slash ∷ [])) None) None) ∙ ap Some own.1)
 
-  all_beneath : (d ≡ scope.dataset) ⊎ IsBeneath records scope d → Contains (datasets_of records scope) d
+  pub all_beneath : (d ≡ scope.dataset) ⊎ IsBeneath records scope d → Contains (datasets_of records scope) d
   all_beneath (inl e) = at_first scope.dataset d (option_map_or (beneath records scope.dataset) scope.depth []) (sym e)
   all_beneath (inr b) =
       subst (λ depth. Contains (scope.dataset ∷ option_map_or (beneath records scope.dataset) depth []) d) (sym b.deep)
@@ -406,7 +406,7 @@ module _ (records : Stored) (sound : IsSoundStore records) (scope : Scope) (exis
 
 pub scope_law : ScopeLaw
 scope_law = record {
-  members = λ records scope dataset sound exists. (only_beneath records sound scope exists dataset, all_beneath records sound scope exists dataset);
+  members = λ records scope dataset sound exists. (only_beneath records sound scope (closed records sound scope.dataset exists) dataset, all_beneath records sound scope (closed records sound scope.dataset exists) dataset);
   once = λ records scope sound. datasets_once records sound scope;
 }
 

@@ -11,9 +11,11 @@ pub mod Near
 pub mod Once
 pub mod Places
 pub mod Rows
+pub mod Scoped
 pub mod Scopes
 pub mod Shown
 pub mod Sight
+pub mod Totals
 pub mod Tuples
 pub mod Views
 pub mod Walks
