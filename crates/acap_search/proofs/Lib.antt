@@ -1,6 +1,7 @@
 pub mod EqualLemmas
 pub mod ExampleLemmas
 pub mod FreshLemmas
+pub mod HitLemmas
 pub mod NearLemmas
 pub mod OnceLemmas
 pub mod OrderLemmas

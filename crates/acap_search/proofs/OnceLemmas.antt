@@ -50,7 +50,7 @@ plain : {X : Type 0} (xs : List X) → each (λ x. x) xs ≡ xs
 plain [] = refl
 plain (x ∷ xs) = ap (λ rest. x ∷ rest) (plain xs)
 
-from_made : {X Y : Type 0} (f : X → Option Y) (xs : List X) (y : Y) → Contains (filter_map f xs) y → (x : X) × (Contains xs x × (f x ≡ Some y))
+pub from_made : {X Y : Type 0} (f : X → Option Y) (xs : List X) (y : Y) → Contains (filter_map f xs) y → (x : X) × (Contains xs x × (f x ≡ Some y))
 from_made f [] y h = nowhere y h
 from_made f (x ∷ xs) y h =
     elim (f x) as (λ o. f x ≡ o → Contains (cons_option o (filter_map f xs)) y → (z : _) × (Contains (x ∷ xs) z × (f z ≡ Some y))) [
@@ -420,7 +420,7 @@ some_record : (o : Option Record) → is_some o ≡ true → (r : Record) × (o 
 some_record None h = absurd (cc (h))
 some_record (Some r) h = (r, refl)
 
-then_equal : (a b : Ordering) → ordering_then a b ≡ Equal → b ≡ Equal
+pub then_equal : (a b : Ordering) → ordering_then a b ≡ Equal → b ≡ Equal
 then_equal Less b e = absurd (cc (e))
 then_equal Equal b e = e
 then_equal Greater b e = absurd (cc (e))
@@ -436,7 +436,7 @@ module _ (nothing : NothingLaw) (names : NamesLaw) (records : Stored) (realm : R
       subst EachOnce (plain _) (once_sorted (λ p. p) full_path_lt _ (once_filter (λ p. p) _ (paths_of records scope) (subst EachOnce (sym (plain (paths_of records scope))) all)))
 
   module _ (sought : Sought) (exists : dataset_exists records sought.dataset ≡ true) where
-    abbrev sight : Sight
+    abbrev pub sight : Sight
     sight = sight_of records realm user (scope_of sought)
 
     well_formed : (p : Path) → Contains sight.paths p → IsSplit p
@@ -447,7 +447,7 @@ module _ (nothing : NothingLaw) (names : NamesLaw) (records : Stored) (realm : R
         let r = some_record (record_at records at.0 p.name) at.1 in
         record { dataset = closed_in records sound (scope_of sought) exists p.dataset s.0; name = (form_law.split _ (sound.formed _ r.0 r.1)).name }
 
-    found_at : (p : Path) (m : Match) → tuple_of sight sought p ≡ Some m → (m.path ≡ p) × (m.row.name ≡ name_told sought.depth p)
+    pub found_at : (p : Path) (m : Match) → tuple_of sight sought p ≡ Some m → (m.path ≡ p) × (m.row.name ≡ name_told sought.depth p)
     found_at p m e =
         let same = (made_is (is_among sight.paths p) (holds sought.key None (sight.answers p)) (match_of sought p (sight.answers p) (stars_of (sight.answers p).read (sight.attributes p))) m e).1.1 in
         (ap (λ (m : Match). m.path) (sym same), ap (λ (m : Match). m.row.name) (sym same))
@@ -455,7 +455,7 @@ module _ (nothing : NothingLaw) (names : NamesLaw) (records : Stored) (realm : R
     same_full : (p q : Path) → Contains sight.paths p → Contains sight.paths q → full_path_cmp p q ≡ Equal → p ≡ q
     same_full p q k l e = full_paths.same p q (well_formed p k) (well_formed q l) e
 
-    in_one : (p : Path) → Contains sight.paths p → sought.depth ≡ None → p.dataset ≡ sought.dataset
+    pub in_one : (p : Path) → Contains sight.paths p → sought.depth ≡ None → p.dataset ≡ sought.dataset
     in_one p k e =
         let s = (only_seen nothing names records realm user (scope_of sought) p k).0 in
         let one : Contains (sought.dataset ∷ []) p.dataset = subst (λ depth. Contains (sought.dataset ∷ option_map_or (beneath records sought.dataset) depth []) p.dataset) e s in
@@ -475,7 +475,7 @@ module _ (nothing : NothingLaw) (names : NamesLaw) (records : Stored) (realm : R
     in_order None ms h = h
     in_order (Some sort) ms h = once_sorted (λ (m : Match). m.row.name) match_lt ms h
 
-    from_ordered : (sort : Option (List SortItem)) (ms : List Match) (m : Match) → Contains (ordered_by sort ms) m → Contains ms m
+    pub from_ordered : (sort : Option (List SortItem)) (ms : List Match) (m : Match) → Contains (ordered_by sort ms) m → Contains ms m
     from_ordered None ms m k = k
     from_ordered (Some sort) ms m k = from_order match_lt ms m k
 
@@ -484,7 +484,7 @@ module _ (nothing : NothingLaw) (names : NamesLaw) (records : Stored) (realm : R
         let w = from_made (tuple_of sight sought) sight.paths m (from_ordered sought.sort _ m k) in
         subst (λ p. Contains sight.paths p) (sym (found_at w.0 m w.1.1).0) w.1.0
 
-    fresh_once : EachOnce (each (λ (m : Match). m.row.name) (fresh_of sight sought))
+    pub fresh_once : EachOnce (each (λ (m : Match). m.row.name) (fresh_of sight sought))
     fresh_once = in_order sought.sort _ matched_once
 
     one_path : (a b : Match) → Contains (fresh_of sight sought) a → Contains (fresh_of sight sought) b → match_cmp a b ≡ Equal → a.path ≡ b.path

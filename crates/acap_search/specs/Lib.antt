@@ -1,4 +1,5 @@
 pub mod Asking
+pub mod ContextLaws
 pub mod Cutting
 pub mod Examples
 pub mod Fresh

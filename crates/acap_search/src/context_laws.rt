@@ -1,0 +1,13 @@
+//! What follows of the lists of contexts from the definitions alone: the contract of each function is the law.
+ghost use Rattle.acap_search.specs.ContextLaws.{HitLaw};
+
+use acap_inherit::{names_law, nothing_law};
+
+/// In a sound store the matches of one search ascend strictly, each has a full path of its own, and its name is one that the full
+/// path gives (RFC 2244 section 6.4.1).
+pub fn hit_law()
+    ensures { HitLaw }
+{
+    nothing_law();
+    names_law();
+}
