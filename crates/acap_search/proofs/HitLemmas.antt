@@ -1,14 +1,14 @@
 -- Matches of one search ascend, have full paths of their own, and names that these give.
-use Rattle.std.proofs.Common.{◌≡◌, ℕ, zero, suc, ◌<◌, Bool, true, false, Option, Some, None, List, [], ◌∷◌, ◌++◌, length, drop, get_or, refl, sym, ◌∙◌, ap, subst, arith, map as each}
+use Rattle.std.proofs.Common.{◌≡◌, ℕ, zero, suc, ◌<◌, true, false, Option, Some, None, List, [], ◌∷◌, length, drop, get_or, refl, sym, ◌∙◌, ap, subst, arith, map as each}
 use Rattle.std.proofs.Math.Seq.{drop-append_seam}
 use Rattle.std.proofs.lemmas.List.Sorted.{sorted_far}
 use Rattle.std.specs.Cmp.Lexicographic.{bytes_decides, texts_ties}
 use Rattle.std.specs.List.{Contains}
-use Rattle.std.specs.Ordering.{is_eq, is_lt, ordering_then, ordering_reverse}
+use Rattle.std.specs.Ordering.{is_eq, is_lt, ordering_reverse}
 use Rattle.std.specs.declared.cmp.Ordering.{Ordering}
 use Rattle.std.specs.declared.cmp.Ordering.TheVariants.{Less, Equal, Greater}
 use Rattle.acap_entries.specs.Datasets.{dataset_exists}
-use Rattle.acap_entries.specs.FullPaths.{full_path, full_path_cmp}
+use Rattle.acap_entries.specs.FullPaths.{full_path}
 use Rattle.acap_entries.specs.Orders.{octets_cmp}
 use Rattle.acap_entries.specs.Ranks.{Ascending}
 use Rattle.acap_entries.specs.Sound.{IsSoundStore}
@@ -20,13 +20,12 @@ use Rattle.acap_search.specs.ContextLaws.{HitLaw, name_by}
 use Rattle.acap_search.specs.Fresh.{tuple_of, matches_of}
 use Rattle.acap_search.specs.Matches.{Match, match_cmp, match_lt}
 use Rattle.acap_search.specs.Once.{EachOnce}
-use Rattle.acap_search.specs.Places.{places_cmp}
 use Rattle.acap_search.specs.Tuples.{name_told}
 use Rattle.acap_search.specs.declared.query.Sought.{Sought}
 use Rattle.acap_search.proofs.FreshLemmas.{fresh_law}
 use Rattle.acap_search.proofs.OnceLemmas.{then_equal, from_made, sight, found_at, in_one, from_ordered, fresh_once}
 use Rattle.acap_search.proofs.OrderLemmas.{match_total, match_weak}
-use Rattle.acap_search.proofs.SeenLemmas.{here, there, nowhere, in_map, from_map}
+use Rattle.acap_search.proofs.SeenLemmas.{here, there, in_map, from_map}
 
 at_contains : {X : Type 0} (xs : List X) (k : ℕ) (d : X) → k < length xs → Contains xs (get_or xs k d)
 at_contains [] k d less = absurd (omega (arith, less))

@@ -16,3 +16,4 @@ pub mod TellingLemmas
 pub mod TupleLemmas
 pub mod WalkLemmas
 pub mod WithheldLemmas
+pub mod WithinLemmas

@@ -86,6 +86,6 @@ module _ (records : Stored) (scope : Scope) (d : List ℕ) (searched : is_closed
       or_right _ _ (ap (λ depth. option_map_or (λ depth. lies_within scope.dataset depth d && dataset_exists records d) depth false) b.deep ∙ and_from _ _ (and_from _ _ begins near) b.exists)
 
   pub says_whether : SaysWhether records scope d (is_looked_in records scope d)
-  says_whether sound =
+  says_whether all =
       let ends : ends_with slash scope.dataset ≡ true = closed_ends scope.dataset searched in
-      (λ h. all_beneath records sound scope ends d (looked_in h), λ k. looked_at (only_beneath records sound scope ends d k))
+      (λ h. all_beneath records all scope ends d (looked_in h), λ k. looked_at (only_beneath records all scope ends d k))

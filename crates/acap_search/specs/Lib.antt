@@ -21,3 +21,4 @@ pub mod Tuples
 pub mod Views
 pub mod Walks
 pub mod Withheld
+pub mod Within

@@ -4,14 +4,14 @@ use Rattle.std.specs.Coded.{Coded, code_by, coded×, coded_ℕ, coded_bool, code
 use Rattle.std.specs.List.{starts_with, Contains}
 use Rattle.std.specs.Option.{option_map_or}
 use Rattle.acap_entries.specs.Datasets.{dataset_exists}
+use Rattle.acap_entries.specs.FullPaths.{AreWellFormed}
 use Rattle.acap_entries.specs.Orders.{octets_eq}
-use Rattle.acap_entries.specs.Sound.{IsSoundStore}
 use Rattle.acap_entries.specs.Store.{Stored}
 use Rattle.acap_search.specs.Scopes.{Scope, levels, datasets_of}
 
--- in a sound store: whether a dataset is among those that are looked through
+-- where the paths of all records are well formed, as in each store: whether a dataset is among those that are looked through
 abbrev pub SaysWhether : Stored → Scope → List ℕ → Bool → Type 0
-SaysWhether records scope dataset answer = IsSoundStore records → IsTrue answer ↔ Contains (datasets_of records scope) dataset
+SaysWhether records scope dataset answer = AreWellFormed records → IsTrue answer ↔ Contains (datasets_of records scope) dataset
 
 -- whether the name of a dataset begins with the searched one's, and it lies less than so many levels beneath, 0 standing for any
 abbrev pub lies_within : List ℕ → ℕ → List ℕ → Bool

@@ -2,6 +2,7 @@
 //! search over a dataset finds, in which order.
 #![tactic(auto)]
 
+mod context;
 mod context_laws;
 mod cutting;
 mod finding;
@@ -31,6 +32,7 @@ mod tuples;
 mod viewer;
 
 pub use acap_entries::Row;
+pub use context::within;
 pub use context_laws::hit_law;
 pub use cutting::{Cut, cut_by};
 pub use hit::{Hit, Hits, first_rows};
