@@ -2,6 +2,7 @@ pub mod EqualLemmas
 pub mod ExampleLemmas
 pub mod FreshLemmas
 pub mod HitLemmas
+pub mod ListedLemmas
 pub mod NearLemmas
 pub mod OnceLemmas
 pub mod OrderLemmas

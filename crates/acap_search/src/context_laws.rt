@@ -1,5 +1,5 @@
 //! What follows of the lists of contexts from the definitions alone: the contract of each function is the law.
-ghost use Rattle.acap_search.specs.ContextLaws.{HitLaw};
+ghost use Rattle.acap_search.specs.ContextLaws.{HitLaw, WithinLaw};
 
 use acap_inherit::{names_law, nothing_law};
 
@@ -11,3 +11,8 @@ pub fn hit_law()
     nothing_law();
     names_law();
 }
+
+/// A search over the list of a context that was just made, by the key that made it, finds that list again (RFC 2244 section 3.3).
+pub fn within_law()
+    ensures { WithinLaw }
+{}
