@@ -1,3 +1,4 @@
+pub mod ContextExampleLemmas
 pub mod EqualLemmas
 pub mod ExampleLemmas
 pub mod FreshLemmas

@@ -1,5 +1,5 @@
 -- A search over the list of a search finds that list again.
-use Rattle.std.proofs.Common.{◌≡◌, ℕ, suc, Bool, true, false, not, cond, ◌&&◌, ◌||◌, Option, Some, None, List, [], ◌∷◌, refl, sym, ◌∙◌, ap, map as each}
+use Rattle.std.proofs.Common.{◌≡◌, ℕ, suc, true, false, not, cond, ◌&&◌, ◌||◌, Option, Some, None, List, [], ◌∷◌, refl, sym, ◌∙◌, ap, map as each}
 use Rattle.std.proofs.lemmas.Bool.{or_parts}
 use Rattle.std.specs.List.{Contains, filter_map, cons_option}
 use Rattle.acap_commands.specs.Wanted.{Wanted, One, And, Or, Not}
@@ -12,7 +12,6 @@ use Rattle.acap_rights.specs.declared.realm.Realm.{Realm}
 use Rattle.acap_search.specs.ContextLaws.{WithinLaw, unplaced, unsorted}
 use Rattle.acap_search.specs.Fresh.{Sight, sight_of, is_among, tuple_of, is_range, has_range, matches_of}
 use Rattle.acap_search.specs.Keys.{passes, holds}
-use Rattle.acap_search.specs.Laws.{FreshLaw}
 use Rattle.acap_search.specs.Matches.{Match, match_lt, ordered_by}
 use Rattle.acap_search.specs.Rows.{stars_of}
 use Rattle.acap_search.specs.Scopes.{scope_of}

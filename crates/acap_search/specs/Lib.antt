@@ -1,4 +1,5 @@
 pub mod Asking
+pub mod ContextExamples
 pub mod ContextLaws
 pub mod Cutting
 pub mod Examples

@@ -1,4 +1,5 @@
 //! What follows of the lists of contexts from the definitions alone: the contract of each function is the law.
+ghost use Rattle.acap_search.specs.ContextExamples.{ContextExamples};
 ghost use Rattle.acap_search.specs.ContextLaws.{HitLaw, WithinLaw};
 
 use acap_inherit::{names_law, nothing_law};
@@ -15,4 +16,9 @@ pub fn hit_law()
 /// A search over the list of a context that was just made, by the key that made it, finds that list again (RFC 2244 section 3.3).
 pub fn within_law()
     ensures { WithinLaw }
+{}
+
+/// What searches over contexts find and why they are refused, one for each case (RFC 2244 sections 3.3 and 6.4.1).
+pub fn context_examples()
+    ensures { ContextExamples }
 {}

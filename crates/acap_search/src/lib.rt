@@ -33,7 +33,7 @@ mod viewer;
 
 pub use acap_entries::Row;
 pub use context::within;
-pub use context_laws::{hit_law, within_law};
+pub use context_laws::{context_examples, hit_law, within_law};
 pub use cutting::{Cut, cut_by};
 pub use hit::{Hit, Hits, first_rows};
 pub use laws::{
