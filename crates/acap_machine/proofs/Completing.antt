@@ -104,6 +104,7 @@ found : (dataset : List ℕ) (because : Option SearchRefusal) (told : SearchRepl
 found dataset None told = refl
 found dataset (Some refusal.RangeHere) told = refl
 found dataset (Some refusal.NoExist) told = refl
+found dataset (Some refusal.TooOld) told = refl
 found dataset (Some refusal.WayTooMany) told = refl
 found dataset (Some refusal.Memory) told = refl
 

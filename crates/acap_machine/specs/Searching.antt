@@ -69,6 +69,7 @@ found_with last sought rows total = record {
 abbrev pub refused_as : List ℕ → SearchRefusal → Refusal
 refused_as dataset refusal.RangeHere = refusals.RangeHere
 refused_as dataset refusal.NoExist = refusals.NoExist dataset
+refused_as dataset refusal.TooOld = refusals.TooOld
 refused_as dataset refusal.WayTooMany = refusals.WayTooMany
 refused_as dataset refusal.Memory = refusals.Memory
 

@@ -67,6 +67,7 @@ fn searched_by(
             let sought = query.sought;
             Ok(Said::Refused(Refusal::NoExist(sought.dataset)))
         }
+        Err(SearchRefusal::TooOld) => Ok(Said::Refused(Refusal::TooOld)),
         Err(SearchRefusal::WayTooMany) => Ok(Said::Refused(Refusal::WayTooMany)),
         Err(SearchRefusal::Memory) => Err(Memory),
     }

@@ -1,11 +1,15 @@
+pub mod ContextExampleLemmas
 pub mod EqualLemmas
 pub mod ExampleLemmas
 pub mod FreshLemmas
+pub mod HitLemmas
+pub mod ListedLemmas
 pub mod NearLemmas
 pub mod OnceLemmas
 pub mod OrderLemmas
 pub mod PlaceLaws
 pub mod RefusalLemmas
+pub mod ScopedLemmas
 pub mod SeenLemmas
 pub mod SightLemmas
 pub mod SortLemmas
@@ -15,3 +19,4 @@ pub mod TouchedLemmas
 pub mod TupleLemmas
 pub mod WalkLemmas
 pub mod WithheldLemmas
+pub mod WithinLemmas

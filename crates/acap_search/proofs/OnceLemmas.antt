@@ -18,7 +18,7 @@ use Rattle.acap_entries.proofs.FormLemmas.{form_law}
 use Rattle.acap_entries.proofs.OwnLaws.{own_entry_law}
 use Rattle.acap_entries.proofs.StoreLemmas.{path_cmp_total, path_same}
 use Rattle.acap_entries.specs.Datasets.{makes_dataset, dataset_exists}
-use Rattle.acap_entries.specs.FullPaths.{full_path, full_path_cmp, IsSplit}
+use Rattle.acap_entries.specs.FullPaths.{full_path, full_path_cmp, AreWellFormed, IsSplit}
 use Rattle.acap_entries.specs.Names.{slash, is_slash, has, ends_with, own_entry, dataset_of}
 use Rattle.acap_entries.specs.Orders.{octets_cmp, octets_eq}
 use Rattle.acap_entries.specs.Sound.{IsSoundStore}
@@ -50,7 +50,7 @@ plain : {X : Type 0} (xs : List X) → each (λ x. x) xs ≡ xs
 plain [] = refl
 plain (x ∷ xs) = ap (λ rest. x ∷ rest) (plain xs)
 
-from_made : {X Y : Type 0} (f : X → Option Y) (xs : List X) (y : Y) → Contains (filter_map f xs) y → (x : X) × (Contains xs x × (f x ≡ Some y))
+pub from_made : {X Y : Type 0} (f : X → Option Y) (xs : List X) (y : Y) → Contains (filter_map f xs) y → (x : X) × (Contains xs x × (f x ≡ Some y))
 from_made f [] y h = nowhere y h
 from_made f (x ∷ xs) y h =
     elim (f x) as (λ o. f x ≡ o → Contains (cons_option o (filter_map f xs)) y → (z : _) × (Contains (x ∷ xs) z × (f z ≡ Some y))) [
@@ -200,7 +200,7 @@ names_once (name ∷ names) r = (below_name name names (first_so _ _ r), names_o
 
 -- ---- datasets
 
-left_of : (b : Bool) → (b || false) ≡ true → b ≡ true
+pub left_of : (b : Bool) → (b || false) ≡ true → b ≡ true
 left_of true e = refl
 left_of false e = e
 
@@ -209,7 +209,7 @@ starts_length xs [] e = omega arith
 starts_length [] (y ∷ ys) e = absurd (cc (e))
 starts_length (x ∷ xs) (y ∷ ys) e = let less : length ys ≤ length xs = starts_length xs ys (second_so _ _ e) in omega (arith, less)
 
-module _ (records : Stored) (sound : IsSoundStore records) where
+module _ (records : Stored) (formed : AreWellFormed records) where
   abbrev lies : List ℕ → Path × Record → Bool
   lies dataset e = starts_with nat_eq e.0.dataset dataset
 
@@ -229,7 +229,7 @@ module _ (records : Stored) (sound : IsSoundStore records) where
 
   -- such an entry is the dataset's own
   owned : (p : Path) (r : Record) (made : List ℕ) → map.get records p ≡ Some r → full_path p ++ slash ∷ [] ≡ made → own_entry made ≡ Some (p.dataset, p.name)
-  owned p r made kept whole = (own_entry_law made p).1 (form_law.split p (sound.formed p r kept), whole)
+  owned p r made kept whole = (own_entry_law made p).1 (form_law.split p (formed p r kept), whole)
 
   beneath_once : (dataset : List ℕ) (depth : ℕ) → EachOnce (beneath records dataset depth)
   unfolding beneath
@@ -282,7 +282,7 @@ module _ (records : Stored) (sound : IsSoundStore records) where
 
 -- ---- octets that begin another dataset
 
-same_number : (x y : ℕ) → x ≡ y → nat_eq x y ≡ true
+pub same_number : (x y : ℕ) → x ≡ y → nat_eq x y ≡ true
 same_number x y e = (unsigned_Decides x y).1 e
 
 some_rest : {P : Type 0} (rest : List ℕ) → (rest ≡ [] → P) → ((rest ≡ [] → ⊥) → P) → P
@@ -306,7 +306,7 @@ prefix (x ∷ y ∷ a) (z ∷ p) n rest h plain_name more e =
     let r = prefix (y ∷ a) p n rest (closed_dropped 1 (x ∷ y ∷ a) (omega arith) h) plain_name more tails in
     (and_from _ _ (same_number x z same) r.0, r.1)
 
-starts_split : (xs ys : List ℕ) → starts_with nat_eq xs ys ≡ true → ys ++ drop (length ys) xs ≡ xs
+pub starts_split : (xs ys : List ℕ) → starts_with nat_eq xs ys ≡ true → ys ++ drop (length ys) xs ≡ xs
 starts_split xs [] e = refl
 starts_split [] (y ∷ ys) e = absurd (cc (e))
 starts_split (x ∷ xs) (y ∷ ys) e =
@@ -342,15 +342,15 @@ named_component : (name : List ℕ) → name ≢ [] → has slash name ≡ false
 named_component [] h plain_name = absurd (h refl)
 named_component (x ∷ name) h plain_name = and_from _ _ (ap not (not_zero (length name))) (ap not plain_name)
 
-module _ (records : Stored) (sound : IsSoundStore records) (scope : Scope) (exists : dataset_exists records scope.dataset ≡ true) (d : List ℕ) where
+module _ (records : Stored) (formed : AreWellFormed records) (scope : Scope) (ends : ends_with slash scope.dataset ≡ true) (d : List ℕ) where
   beneath_by : (depth : ℕ) → scope.depth ≡ Some depth → Contains (beneath records scope.dataset depth) d → IsBeneath records scope d
   beneath_by depth deep k =
-      let m = maker records sound scope.dataset depth d k in
+      let m = maker records formed scope.dataset depth d k in
       let p : Path = m.0.0 in
       let behind : List ℕ = drop (length scope.dataset) p.dataset in
-      let own = owned records sound p m.0.1 d m.1.0 m.1.1.1.1.1 in
+      let own = owned records formed p m.0.1 d m.1.0 m.1.1.1.1.1 in
       let makes : makes_dataset m.0.1 ≡ true = first_so _ _ m.1.1.1.1.0 in
-      let name : has slash p.name ≡ false = (form_law.split p (sound.formed p m.0.1 m.1.0)).name in
+      let name : has slash p.name ≡ false = (form_law.split p (formed p m.0.1 m.1.0)).name in
       record {
         depth = depth;
         rest = behind ++ (p.name ++ slash ∷ []);
@@ -361,10 +361,10 @@ module _ (records : Stored) (sound : IsSoundStore records) (scope : Scope) (exis
         within = subst (λ n. (depth ≡ 0) ⊎ (n < depth)) (sym (levels_more behind (p.name ++ slash ∷ []) ∙ ap (λ n. levels behind + n) (levels_name p.name name))) (reached_within depth (levels behind) m.1.1.1.0);
         entry = own;
         named = component_named p.name (second_so _ _ m.1.1.1.1.0);
-        exists = exists_own records sound d p own ∙ or_right _ _ (ap (λ o. option_map_or makes_dataset o false) m.1.0 ∙ makes);
+        exists = exists_own records formed d p own ∙ or_right _ _ (ap (λ o. option_map_or makes_dataset o false) m.1.0 ∙ makes);
       }
 
-  only_beneath : Contains (datasets_of records scope) d → (d ≡ scope.dataset) ⊎ IsBeneath records scope d
+  pub only_beneath : Contains (datasets_of records scope) d → (d ≡ scope.dataset) ⊎ IsBeneath records scope d
   only_beneath =
       elim scope.depth as (λ depth. scope.depth ≡ depth → Contains (scope.dataset ∷ option_map_or (beneath records scope.dataset) depth []) d → (d ≡ scope.dataset) ⊎ IsBeneath records scope d) [
         | None ↦ λ e k. either (first_or scope.dataset d [] k) (λ s. inl (sym s)) (λ l. nowhere d l)
@@ -388,16 +388,16 @@ module _ (records : Stored) (sound : IsSoundStore records) (scope : Scope) (exis
   unfolding beneath
   in_beneath b more =
       let own = (own_entry_law d b.own).0 b.entry in
-      let m = maker_of (map.get records b.own) (ap (λ t. t || option_map_or makes_dataset (map.get records b.own) false) (sym (not_root b.own b.entry)) ∙ (sym (exists_own records sound d b.own b.entry) ∙ b.exists)) in
-      let parts = prefix scope.dataset b.own.dataset b.own.name b.rest (closed records sound scope.dataset exists) own.0.name more (b.whole ∙ (sym own.1 ∙ append_assoc b.own.dataset b.own.name (slash ∷ []))) in
+      let m = maker_of (map.get records b.own) (ap (λ t. t || option_map_or makes_dataset (map.get records b.own) false) (sym (not_root b.own b.entry)) ∙ (sym (exists_own records formed d b.own b.entry) ∙ b.exists)) in
+      let parts = prefix scope.dataset b.own.dataset b.own.name b.rest ends own.0.name more (b.whole ∙ (sym own.1 ∙ append_assoc b.own.dataset b.own.name (slash ∷ []))) in
       let behind : List ℕ = drop (length scope.dataset) b.own.dataset in
       let count : levels b.rest ≡ levels behind + 1 = sym (ap levels parts.1) ∙ (levels_more behind (b.own.name ++ slash ∷ []) ∙ ap (λ n. levels behind + n) (levels_name b.own.name own.0.name)) in
       let near : is_reached b.depth (levels behind) ≡ true = within_reached b.depth (levels behind) (subst (λ n. (b.depth ≡ 0) ⊎ (n < b.depth)) count b.within) in
-      in_made (reached_by scope.dataset b.depth) (filter (lies records sound scope.dataset) (map.entries records)) (b.own, m.0) d
-      (in_filter (lies records sound scope.dataset) (map.entries records) (b.own, m.0) (in_kept records b.own m.0 m.1.0) parts.0)
+      in_made (reached_by scope.dataset b.depth) (filter (lies records formed scope.dataset) (map.entries records)) (b.own, m.0) d
+      (in_filter (lies records formed scope.dataset) (map.entries records) (b.own, m.0) (in_kept records b.own m.0 m.1.0) parts.0)
       ((λ i. cond (near i) (cond (and_from _ _ m.1.1 (named_component b.own.name b.named own.0.name) i) (Some (full_path b.own ++ slash ∷ [])) None) None) ∙ ap Some own.1)
 
-  all_beneath : (d ≡ scope.dataset) ⊎ IsBeneath records scope d → Contains (datasets_of records scope) d
+  pub all_beneath : (d ≡ scope.dataset) ⊎ IsBeneath records scope d → Contains (datasets_of records scope) d
   all_beneath (inl e) = at_first scope.dataset d (option_map_or (beneath records scope.dataset) scope.depth []) (sym e)
   all_beneath (inr b) =
       subst (λ depth. Contains (scope.dataset ∷ option_map_or (beneath records scope.dataset) depth []) d) (sym b.deep)
@@ -406,8 +406,8 @@ module _ (records : Stored) (sound : IsSoundStore records) (scope : Scope) (exis
 
 pub scope_law : ScopeLaw
 scope_law = record {
-  members = λ records scope dataset sound exists. (only_beneath records sound scope exists dataset, all_beneath records sound scope exists dataset);
-  once = λ records scope sound. datasets_once records sound scope;
+  members = λ records scope dataset sound exists. (only_beneath records sound.formed scope (closed records sound.formed scope.dataset exists) dataset, all_beneath records sound.formed scope (closed records sound.formed scope.dataset exists) dataset);
+  once = λ records scope sound. datasets_once records sound.formed scope;
 }
 
 -- ---- what is found
@@ -420,7 +420,7 @@ some_record : (o : Option Record) → is_some o ≡ true → (r : Record) × (o 
 some_record None h = absurd (cc (h))
 some_record (Some r) h = (r, refl)
 
-then_equal : (a b : Ordering) → ordering_then a b ≡ Equal → b ≡ Equal
+pub then_equal : (a b : Ordering) → ordering_then a b ≡ Equal → b ≡ Equal
 then_equal Less b e = absurd (cc (e))
 then_equal Equal b e = e
 then_equal Greater b e = absurd (cc (e))
@@ -432,11 +432,11 @@ module _ (nothing : NothingLaw) (names : NamesLaw) (records : Stored) (realm : R
       once_flat (paths_in records scope.no_inherit) (λ p. p.dataset)
       (λ d. once_same (λ name. record { dataset = d; name = name }) (λ x y e. ap (λ (p : Path). p.name) e) (names_on records (chain_of records d scope.no_inherit)) (names_once _ (names.rising records (chain_of records d scope.no_inherit))))
       (λ d p k. let m = from_map (λ name. record { dataset = d; name = name }) (names_on records (chain_of records d scope.no_inherit)) p k in ap (λ (p : Path). p.dataset) (sym m.1.1))
-      (datasets_of records scope) (datasets_once records sound scope) in
+      (datasets_of records scope) (datasets_once records sound.formed scope) in
       subst EachOnce (plain _) (once_sorted (λ p. p) full_path_lt _ (once_filter (λ p. p) _ (paths_of records scope) (subst EachOnce (sym (plain (paths_of records scope))) all)))
 
   module _ (sought : Sought) (exists : dataset_exists records sought.dataset ≡ true) where
-    abbrev sight : Sight
+    abbrev pub sight : Sight
     sight = sight_of records realm user (scope_of sought)
 
     well_formed : (p : Path) → Contains sight.paths p → IsSplit p
@@ -445,9 +445,9 @@ module _ (nothing : NothingLaw) (names : NamesLaw) (records : Stored) (realm : R
         let chain : List (List ℕ) = chain_of records p.dataset sought.no_inherit in
         let at = some_any (λ d. is_some (record_at records d p.name)) chain (sym (names.names records chain p.name) ∙ named nothing names records realm user (scope_of sought) p s.1) in
         let r = some_record (record_at records at.0 p.name) at.1 in
-        record { dataset = closed_in records sound (scope_of sought) exists p.dataset s.0; name = (form_law.split _ (sound.formed _ r.0 r.1)).name }
+        record { dataset = closed_in records sound.formed (scope_of sought) exists p.dataset s.0; name = (form_law.split _ (sound.formed _ r.0 r.1)).name }
 
-    found_at : (p : Path) (m : Match) → tuple_of sight sought p ≡ Some m → (m.path ≡ p) × (m.row.name ≡ name_told sought.depth p)
+    pub found_at : (p : Path) (m : Match) → tuple_of sight sought p ≡ Some m → (m.path ≡ p) × (m.row.name ≡ name_told sought.depth p)
     found_at p m e =
         let same = (made_is (is_among sight.paths p) (holds sought.key None (sight.answers p)) (match_of sought p (sight.answers p) (stars_of (sight.answers p).read (sight.attributes p))) m e).1.1 in
         (ap (λ (m : Match). m.path) (sym same), ap (λ (m : Match). m.row.name) (sym same))
@@ -455,7 +455,7 @@ module _ (nothing : NothingLaw) (names : NamesLaw) (records : Stored) (realm : R
     same_full : (p q : Path) → Contains sight.paths p → Contains sight.paths q → full_path_cmp p q ≡ Equal → p ≡ q
     same_full p q k l e = full_paths.same p q (well_formed p k) (well_formed q l) e
 
-    in_one : (p : Path) → Contains sight.paths p → sought.depth ≡ None → p.dataset ≡ sought.dataset
+    pub in_one : (p : Path) → Contains sight.paths p → sought.depth ≡ None → p.dataset ≡ sought.dataset
     in_one p k e =
         let s = (only_seen nothing names records realm user (scope_of sought) p k).0 in
         let one : Contains (sought.dataset ∷ []) p.dataset = subst (λ depth. Contains (sought.dataset ∷ option_map_or (beneath records sought.dataset) depth []) p.dataset) e s in
@@ -475,7 +475,7 @@ module _ (nothing : NothingLaw) (names : NamesLaw) (records : Stored) (realm : R
     in_order None ms h = h
     in_order (Some sort) ms h = once_sorted (λ (m : Match). m.row.name) match_lt ms h
 
-    from_ordered : (sort : Option (List SortItem)) (ms : List Match) (m : Match) → Contains (ordered_by sort ms) m → Contains ms m
+    pub from_ordered : (sort : Option (List SortItem)) (ms : List Match) (m : Match) → Contains (ordered_by sort ms) m → Contains ms m
     from_ordered None ms m k = k
     from_ordered (Some sort) ms m k = from_order match_lt ms m k
 
@@ -484,7 +484,7 @@ module _ (nothing : NothingLaw) (names : NamesLaw) (records : Stored) (realm : R
         let w = from_made (tuple_of sight sought) sight.paths m (from_ordered sought.sort _ m k) in
         subst (λ p. Contains sight.paths p) (sym (found_at w.0 m w.1.1).0) w.1.0
 
-    fresh_once : EachOnce (each (λ (m : Match). m.row.name) (fresh_of sight sought))
+    pub fresh_once : EachOnce (each (λ (m : Match). m.row.name) (fresh_of sight sought))
     fresh_once = in_order sought.sort _ matched_once
 
     one_path : (a b : Match) → Contains (fresh_of sight sought) a → Contains (fresh_of sight sought) b → match_cmp a b ≡ Equal → a.path ≡ b.path

@@ -124,6 +124,7 @@ IsAnswer records realm user query holds (Ok found) =
     (refusal_of records realm user query ≡ None) × holds found (matches_of records realm user query.sought)
 IsAnswer records realm user query holds (Err refusal.RangeHere) = refusal_of records realm user query ≡ Some refusal.RangeHere
 IsAnswer records realm user query holds (Err refusal.NoExist) = refusal_of records realm user query ≡ Some refusal.NoExist
+IsAnswer records realm user query holds (Err refusal.TooOld) = refusal_of records realm user query ≡ Some refusal.TooOld
 IsAnswer records realm user query holds (Err refusal.WayTooMany) = refusal_of records realm user query ≡ Some refusal.WayTooMany
 IsAnswer records realm user query holds (Err refusal.Memory) =
     (has_range query.sought.key ≡ false) × (dataset_exists records query.sought.dataset ≡ true)

@@ -1,4 +1,6 @@
 pub mod Asking
+pub mod ContextExamples
+pub mod ContextLaws
 pub mod Cutting
 pub mod Examples
 pub mod Fresh
@@ -11,11 +13,14 @@ pub mod Near
 pub mod Once
 pub mod Places
 pub mod Rows
+pub mod Scoped
 pub mod Scopes
 pub mod Shown
 pub mod Sight
+pub mod Totals
 pub mod Touched
 pub mod Tuples
 pub mod Views
 pub mod Walks
 pub mod Withheld
+pub mod Within

@@ -13,7 +13,7 @@ use Rattle.acap_inherit.specs.Chains.{chain_of}
 use Rattle.acap_inherit.specs.EntryNames.{names_on}
 use Rattle.acap_rights.specs.contracts.realm.Realm as realm
 use Rattle.acap_rights.specs.declared.realm.Realm.{Realm}
-use Rattle.acap_search.specs.Fresh.{matches_of}
+use Rattle.acap_search.specs.Fresh.{Sight, sight_of, matches_of}
 use Rattle.acap_search.specs.Matches.{Match}
 use Rattle.acap_search.specs.Scopes.{scope_of, beneath, datasets_of, reached_by}
 use Rattle.acap_search.specs.Views.{View, spotted, found_at}
@@ -29,6 +29,10 @@ pub record Quest : Type 0 where
 
 abbrev pub quest_of : Stored → Realm → List ℕ → Sought → Quest
 quest_of records realm user sought = record { records = records; realm = realm; user = user; sought = sought }
+
+-- what its user sees in its scope
+abbrev pub sight_by : Quest → Sight
+sight_by quest = sight_of quest.records quest.realm quest.user (scope_of quest.sought)
 
 -- a dataset in the eyes of its user, along the chain of the dataset
 abbrev pub view_in : Quest → List ℕ → View

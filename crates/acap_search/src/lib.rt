@@ -2,6 +2,8 @@
 //! search over a dataset finds, in which order.
 #![tactic(auto)]
 
+mod context;
+mod context_laws;
 mod cutting;
 mod finding;
 mod front;
@@ -12,6 +14,8 @@ mod lying;
 mod matching;
 mod near;
 mod ordering;
+mod placed;
+mod placing;
 mod plain;
 mod query;
 mod rank;
@@ -19,6 +23,7 @@ mod ranking;
 mod reaching;
 mod refusal;
 mod rows;
+mod scope;
 mod search;
 mod searching;
 mod spot;
@@ -27,6 +32,8 @@ mod tuples;
 mod viewer;
 
 pub use acap_entries::Row;
+pub use context::within;
+pub use context_laws::{context_examples, hit_law, within_law};
 pub use cutting::{Cut, cut_by};
 pub use hit::{Hit, Hits, first_rows};
 pub use laws::{
@@ -35,9 +42,12 @@ pub use laws::{
     touched_law, tuple_law, withheld_law,
 };
 pub use matching::matches;
+pub use placed::{Placed, Standing};
+pub use placing::places_at;
 pub use query::{Asked, Query, Sought};
 pub use rank::{Place, Places, Rank};
 pub use refusal::SearchRefusal;
+pub use scope::{Scope, looks_in};
 pub use searching::{fresh, seek};
 pub use telling::{Excerpt, tell};
 pub use tuples::row_of;

@@ -1,5 +1,6 @@
 //! Which datasets a search reaches.
 ghost use Rattle.std.specs.Prelude.{◌≡◌, IfOk, drop};
+ghost use Rattle.acap_search.specs.Scoped as scoped;
 ghost use Rattle.acap_search.specs.Scopes as scopes;
 
 use acap_entries::{Dataset, Memory, Path, Record, makes_dataset};
@@ -62,4 +63,12 @@ pub(crate) fn reached_by(
     } else {
         Ok(None)
     }
+}
+
+/// Whether a dataset lies beneath the searched one in less than so many levels, 0 standing for any.
+pub(crate) fn lies_within(searched: &[u8], depth: u32, dataset: &[u8]) -> bool
+    ensures { result ≡ scoped.lies_within searched.now depth dataset.now }
+{
+    dataset.starts_with(searched)
+        && (depth == 0 || levels(behind(dataset, searched.len())) < depth as usize)
 }

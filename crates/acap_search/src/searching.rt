@@ -26,8 +26,8 @@ use acap_inherit::{Lineage, chain, names_law, names_on};
 use acap_rights::{Realm, Rights};
 use std::alloc::Global;
 
-// Whether a key asks for positions.
-fn has_range(key: &Key) -> bool
+/// Whether a key asks for positions.
+pub(crate) fn has_range(key: &Key) -> bool
     ensures { result ≡ rule.has_range key.now }
 {
     match key.node() {
@@ -39,8 +39,8 @@ fn has_range(key: &Key) -> bool
     }
 }
 
-// Whether there are more matches than HARDLIMIT allows.
-fn is_over(most: Option<u32>, count: usize) -> bool
+/// Whether there are more matches than HARDLIMIT allows.
+pub(crate) fn is_over(most: Option<u32>, count: usize) -> bool
     ensures { result ≡ rule.is_over most count }
 {
     match most {

@@ -38,8 +38,8 @@ fn name_told<R: Records>(
     Ok(Value::new(Octets::from_vec(full)))
 }
 
-// Where an entry stands for a SORT.
-fn places_by<R: Records>(
+/// Where an entry stands for a SORT. Fails only for want of memory.
+pub(crate) fn places_by<R: Records>(
     alloc: Global,
     spot: &Spot<'_, R>,
     sought: &Sought,

@@ -1,0 +1,188 @@
+//! Searches over contexts.
+ghost use Rattle.std.specs.Prelude.{◌≡◌, ◌↔◌, ◌+◌, ◌≤◌, suc, length, IsTrue, IfOk, OnOk, OnErr, map as each};
+ghost use Rattle.std.specs.List.{filter_map, Contains};
+ghost use Rattle.acap_search.specs.Scopes.{scope_of, datasets_of};
+ghost use Rattle.acap_search.specs.Views.{found_at, spotted};
+ghost use Rattle.acap_search.specs.Walks.{view_in, sight_by};
+ghost use Rattle.acap_search.specs.Within as rule;
+
+use crate::finding::{Finding, hits_of};
+use crate::hit::{Hit, Hits};
+use crate::ordering::sort_found;
+use crate::query::Query;
+use crate::refusal::SearchRefusal;
+use crate::scope::looks_in;
+use crate::search::Search;
+use crate::searching::{has_range, is_over};
+use crate::spot::Spot;
+use crate::tuples::finding_at;
+use crate::viewer::Viewer;
+use acap_commands::{Key, Node, Test};
+use acap_entries::{Memory, Moment, Path, Steps, Tree, UserName};
+use acap_inherit::{chain, names_law, nothing_law};
+use acap_rights::Realm;
+use std::alloc::Global;
+use std::sync::ledger::Ledger;
+
+// Whether a key asks for positions as they were before a moment, be it needed or not.
+fn has_old(key: &Key, told: Moment) -> bool
+    ensures { result ≡ rule.has_old told key.now }
+{
+    match key.node() {
+        Node::One(Test::Range(_, _, since)) => *since < told,
+        Node::One(_) => false,
+        Node::And(first, second) => has_old(first, told) || has_old(second, told),
+        Node::Or(first, second) => has_old(first, told) || has_old(second, told),
+        Node::Not(key) => has_old(key, told),
+    }
+}
+
+// The position that RANGE tells of, of the entry behind so many.
+fn position_behind(count: usize) -> Option<u32>
+    ensures { result ≡ rule.position_of (suc count) }
+{
+    if count < u32::MAX as usize {
+        Some(count as u32 + 1)
+    } else {
+        None
+    }
+}
+
+// What is made of an entry, if it is seen and wanted.
+fn found_there<'a>(
+    alloc: Global,
+    search: &Search<'a>,
+    path: &'a Path,
+    place: Option<u32>,
+) -> Result<Option<Finding<'a>>, Memory>
+    ensures { IfOk result (λ made. made ≡ found_at search.now.sought place (spotted (view_in search.now path.now.dataset) path.now.name)) }
+{
+    let sought = search.sought;
+    let by = Viewer {
+        records: search.tree,
+        realm: search.realm,
+        user: search.user,
+        dataset: &path.dataset,
+        chain: chain(search.tree, &path.dataset, sought.no_inherit),
+    };
+    finding_at(
+        alloc,
+        &Spot::far(&by, &path.name),
+        Some(path),
+        sought,
+        place,
+    )
+}
+
+// Whether the dataset of an entry is one that is looked through.
+fn looks_at(search: &Search<'_>, path: &Path) -> bool
+    ensures { IsTrue result ↔ Contains (datasets_of search.now.records (scope_of search.now.sought)) path.now.dataset }
+{
+    search.tree.form_law();
+    looks_in(&search.sought.scope(), search.tree, &path.dataset)
+}
+
+// What is made of an entry of a context, at its position.
+fn found_in<'a>(
+    alloc: Global,
+    search: &Search<'a>,
+    path: &'a Path,
+    place: Option<u32>,
+) -> Result<Option<Finding<'a>>, Memory>
+    ensures { IfOk result (λ made. made ≡ rule.tuple_at (sight_by search.now) search.now.sought place path.now) }
+{
+    nothing_law();
+    names_law();
+    if looks_at(search, path) {
+        found_there(alloc, search, path, place)
+    } else {
+        Ok(None)
+    }
+}
+
+// What is found among the entries of a context, in its order.
+fn found_among<'a, L: Ledger>(
+    alloc: Global,
+    search: &Search<'a>,
+    shown: &'a [&'a Hit],
+    steps: &mut Steps<L>,
+) -> Result<Vec<Finding<'a>>, Memory>
+    ensures found { IfOk result (λ found. found.items ≡ filter_map (rule.tuple_within (sight_by search.now) search.now.sought) (rule.numbered (each (λ hit. hit.now.path) shown.now))) }
+    ensures ok { OnOk result (steps.new ≡ steps.old + length shown.now) }
+    ensures least { steps.old ≤ steps.new }
+    ensures most { steps.new ≤ steps.old + length shown.now }
+{
+    let mut found = Vec::new(alloc);
+    for (count, hit) in shown.iter().enumerate() {
+        steps.tick();
+        if let Some(finding) = found_in(alloc, search, &hit.path, position_behind(count))? {
+            found.push(finding)?;
+        }
+    }
+    Ok(found)
+}
+
+// What is found among them, in the order that is asked for.
+fn found_within<'a, L: Ledger>(
+    alloc: Global,
+    search: &Search<'a>,
+    shown: &'a [&'a Hit],
+    steps: &mut Steps<L>,
+) -> Result<Vec<Finding<'a>>, Memory>
+    ensures found { IfOk result (λ found. found.items ≡ rule.matches_in (sight_by search.now) search.now.sought (each (λ hit. hit.now.path) shown.now)) }
+    ensures ok { OnOk result (steps.new ≡ steps.old + length shown.now) }
+    ensures least { steps.old ≤ steps.new }
+    ensures most { steps.new ≤ steps.old + length shown.now }
+{
+    let mut found = found_among(alloc, search, shown, steps)?;
+    let sought = search.sought;
+    if sought.sort.is_some() {
+        sort_found(&mut found)?;
+    }
+    Ok(found)
+}
+
+/// What a search over a context finds: of the entries that it shows, in its order, those that the user sees now and the key wants, as
+/// they are now (RFC 2244 sections 3.3 and 6.4.1). Dataset, DEPTH and NOINHERIT of the query are the context's, and its key, SORT,
+/// RETURN and HARDLIMIT those of the new search; SORT reorders. The position that RANGE asks for is that in the whole list, also where
+/// entries before are no longer seen. It is refused where the key asks for positions and the context has none, where it asks for those
+/// of a time before the last that was told, where more entries match than HARDLIMIT allows, and for want of memory: the first of
+/// these is told. Each entry of the list counts as a step.
+#[tactic(auto, using(crate::proofs::WithinLemmas::refused_within))]
+pub fn within<L: Ledger>(
+    alloc: Global,
+    tree: &Tree,
+    realm: &Realm,
+    user: &UserName,
+    query: &Query,
+    shown: &[&Hit],
+    told: Moment,
+    enumerated: bool,
+    steps: &mut Steps<L>,
+) -> Result<Hits, SearchRefusal>
+    ensures answer { rule.IsWithin tree.now.store.records realm.now user.now query.now (rule.context_of (each (λ hit. hit.now.path) shown.now) told enumerated) result }
+    ensures ok { OnOk result (steps.new ≡ steps.old + length shown.now) }
+    ensures least { steps.old ≤ steps.new }
+    ensures most { steps.new ≤ steps.old + length shown.now }
+{
+    if !enumerated && has_range(&query.sought.key) {
+        return Err(SearchRefusal::RangeHere);
+    }
+    if has_old(&query.sought.key, told) {
+        return Err(SearchRefusal::TooOld);
+    }
+    let search = Search {
+        tree,
+        realm,
+        user,
+        sought: &query.sought,
+    };
+    let found = found_within(alloc, &search, shown, steps)?;
+    if is_over(query.hard_limit, found.len()) {
+        return Err(SearchRefusal::WayTooMany);
+    }
+    match hits_of(alloc, found) {
+        Ok(hits) => Ok(Hits::from_vec(hits)),
+        Err(_) => Err(SearchRefusal::Memory),
+    }
+}

@@ -1,0 +1,130 @@
+//! Hits in the order in which they are told.
+ghost use Rattle.std.specs.Prelude.{◌≡◌, [], IfOk};
+ghost use Rattle.std.specs.Cmp.{partial_equiv_from_equiv, partial_order_from_total};
+ghost use Rattle.std.specs.Ordering.{as_partial_cmp, eq_by_cmp};
+ghost use Rattle.std.proofs.Common.{refl};
+ghost use Rattle.std.proofs.lemmas.Cmp.{eq_by_cmp_equiv};
+ghost use Rattle.acap_search.specs.Totals.{match_total};
+ghost use Rattle.acap_search.specs.Matches.{match_cmp};
+
+use crate::hit::Hit;
+use crate::ordering::places_order;
+use crate::rank::Places;
+use acap_entries::{Boxed, Copying, Memory, Path, Probe};
+use std::alloc::Global;
+use std::cmp::Ordering;
+use std::marker::Model;
+
+/// A hit in memory of its own. Ordered by where it stands for SORT, and then by its full path in octets (RFC 2244 section 6.4.1),
+/// so that those which differ in what is told of them alone tie.
+#[derive(Drop)]
+pub struct Placed {
+    hit: Boxed<Hit>,
+}
+
+impl Model for Placed {
+    ghost use Rattle.acap_search.specs.Matches.{Match, match_code};
+
+    ghost Value = { Match };
+
+    ghost coded = { match_code };
+
+    ghost view = { λ p. p.hit };
+}
+
+// How two places and paths compare: by the places, and then by the full paths in octets.
+fn order(places: &Places, path: &Path, other: &Hit) -> Ordering
+    ensures { result ≡ match_cmp (record { path = path.now; places = places.now; row = other.now.row }) other.now }
+{
+    match places_order(places.as_slice(), other.places.as_slice()) {
+        Ordering::Equal => path.cmp_full(&other.path),
+        unequal => unequal,
+    }
+}
+
+impl Placed {
+    /// A hit, in a box. Fails only for want of memory.
+    pub fn new(alloc: Global, hit: Hit) -> Result<Placed, Memory>
+        ensures { IfOk result (λ made. made ≡ hit) }
+    {
+        let hit = Boxed::new(alloc, hit)?;
+        Ok(Placed { hit })
+    }
+
+    /// The hit.
+    pub fn hit(&self) -> &Hit
+        ensures { result.now ≡ self.now }
+    {
+        self.hit.get()
+    }
+
+    /// The hit, out of its box. Takes no memory.
+    pub fn into_hit(self) -> Hit
+        ensures { result ≡ self }
+    {
+        self.hit.into_value()
+    }
+}
+
+impl PartialEq for Placed {
+    ghost eq = { eq_by_cmp match_cmp };
+
+    ghost laws = { partial_equiv_from_equiv (eq_by_cmp_equiv match_total) };
+
+    fn eq(&self, other: &Placed) -> bool {
+        self.cmp(other).is_eq()
+    }
+}
+
+impl Eq for Placed {
+    ghost laws = { eq_by_cmp_equiv match_total };
+}
+
+impl PartialOrd for Placed {
+    ghost partial_cmp = { as_partial_cmp match_cmp };
+
+    ghost laws = { partial_order_from_total match_total };
+
+    fn partial_cmp(&self, other: &Placed) -> Option<Ordering> {
+        Some(self.cmp(other))
+    }
+}
+
+impl Ord for Placed {
+    ghost cmp = { match_cmp };
+
+    ghost total = { match_total };
+
+    ghost matches_partial_cmp = { λ a b. refl };
+
+    ghost matches_eq = { λ a b. refl };
+
+    fn cmp(&self, other: &Placed) -> Ordering {
+        let hit = self.hit.get();
+        order(&hit.places, &hit.path, other.hit.get())
+    }
+}
+
+impl Copying for Placed {
+    fn copy(&self) -> Result<Placed, Memory> {
+        let hit = self.hit.copy()?;
+        Ok(Placed { hit })
+    }
+}
+
+/// Where a hit would stand: by its places and its path, which are borrowed.
+#[derive(Drop)]
+pub struct Standing<'a> {
+    /// Where it stands for SORT.
+    pub places: &'a Places,
+    /// Where it is.
+    pub path: &'a Path,
+}
+
+impl<'a> Probe<Placed> for Standing<'a> {
+    ghost key = { λ p. record { path = p.path.now; places = p.places.now; row = record { name = []; items = [] } } };
+
+    fn compare(&self, known: &Placed) -> Ordering {
+        order(self.places, self.path, known.hit.get())
+    }
+}

@@ -1,0 +1,25 @@
+//! Where an entry stands, whether it is wanted or not.
+ghost use Rattle.std.specs.Prelude.{◌≡◌, [], IfOk};
+ghost use Rattle.std.specs.Option.{unwrap_or};
+ghost use Rattle.acap_search.specs.Views.{places_at as places_of, spotted};
+
+use crate::query::Sought;
+use crate::rank::Places;
+use crate::spot::Spot;
+use crate::tuples::places_by;
+use crate::viewer::Viewer;
+use acap_entries::{EntryName, Memory, Records};
+use std::alloc::Global;
+
+/// Where an entry stands for SORT, by what the user may read of it, whether it is seen and wanted or not (RFC 2244 section 6.4.1):
+/// no hit is made. Fails only for want of memory.
+pub fn places_at<'a, R: Records>(
+    alloc: Global,
+    by: &Viewer<'a, R>,
+    name: &'a EntryName,
+    sought: &Sought,
+) -> Result<Places, Memory>
+    ensures { IfOk result (λ places. places ≡ places_of (spotted by.now name.now) (unwrap_or sought.now.sort [])) }
+{
+    places_by(alloc, &Spot::far(by, name), sought)
+}
