@@ -1,0 +1,5 @@
+pub mod ListLemmas
+pub mod ToldLemmas
+pub mod NoticeLemmas
+pub mod CurrentLemmas
+pub mod ShownLemmas

@@ -1,0 +1,82 @@
+-- What follows from the definitions alone [RFC 2244 sections 3.3, 3.5 and 6.5].
+use Rattle.std.specs.Option.{option_map}
+use Rattle.std.specs.List.{Contains}
+use Rattle.std.specs.Prelude.{◌≢◌, ◌↔◌, ◌≡◌, ℕ, ℤ, Bool, true, List, Some, Ok}
+use Rattle.std.specs.FinMap as table
+use Rattle.acap_entries.specs.Datasets.{dataset_exists}
+use Rattle.acap_entries.specs.Sound.{IsSoundStore}
+use Rattle.acap_entries.specs.Store.{Store}
+use Rattle.acap_commands.specs.declared.make_context.MakeContext.{MakeContext}
+use Rattle.acap_notices.specs.Holding.{holding, holding_after_all}
+use Rattle.acap_notices.specs.declared.told.Told.{Told}
+use Rattle.acap_rights.specs.declared.realm.Realm.{Realm}
+use Rattle.acap_search.specs.Fresh.{Sight, tuple_of, IsSameSight, matches_of}
+use Rattle.acap_search.specs.Matches.{Match}
+use Rattle.acap_search.specs.declared.query.Sought.{Sought}
+use Rattle.acap_entries.specs.declared.path.Path.{Path}
+use Rattle.acap_views.specs.Contexts.{Snapshot, Context, Contexts}
+use Rattle.acap_views.specs.Maps.{each_kept}
+use Rattle.acap_views.specs.Changing.{IsSoundStep, sight_for, changed_context, changed_occupant, changed}
+use Rattle.acap_views.specs.Current.{IsCurrent, IsCurrentOccupant, IsToldAll, rows}
+use Rattle.acap_views.specs.Notices.{event_notices, changed_paths}
+use Rattle.acap_views.specs.Opening.{opened, freed_by}
+use Rattle.acap_views.specs.Seats.{Occupant, Seated, IsAt, entered, left}
+use Rattle.acap_views.specs.Telling.{after_updates, after_drain, told_of, drained}
+
+-- two changes come to the same notices where what is seen before is the same, and what is seen after; and a client that holds the
+-- rows of the old list, in order or by name, and applies the notices of a change, holds those of the new one
+pub record NoticeLaw : Type 0 where
+  pub same : (old new first second : Store) (realm other : Realm) (user one : List ℕ) (enumerated : Bool) (sought : Sought)
+      → IsSameSight (sight_for realm old user sought) (sight_for other first one sought)
+      → IsSameSight (sight_for realm new user sought) (sight_for other second one sought)
+      → event_notices enumerated sought (sight_for realm old user sought) (sight_for realm new user sought)
+      ≡ event_notices enumerated sought (sight_for other first one sought) (sight_for other second one sought)
+  pub leads : (old new : Store) (realm : Realm) (user : List ℕ) (enumerated : Bool) (sought : Sought)
+      → IsSoundStep old new → dataset_exists old.records sought.dataset ≡ true
+      → holding_after_all (holding enumerated (rows (matches_of old.records realm user sought)))
+      (event_notices enumerated sought (sight_for realm old user sought) (sight_for realm new user sought))
+      ≡ Some (holding enumerated (rows (matches_of new.records realm user sought)))
+
+-- whatever happens to the contexts, live ones stay current
+pub record CurrentLaw : Type 0 where
+  pub nobody : (store : Store) (realm : Realm) → IsCurrent store realm table.empty
+  pub entered : (store : Store) (realm : Realm) (seats : Seated) (seat : ℕ) (user : List ℕ)
+      → IsCurrent store realm seats → IsCurrent store realm (entered seats seat user)
+  pub left : (store : Store) (realm : Realm) (seats : Seated) (seat : ℕ)
+      → IsCurrent store realm seats → IsCurrent store realm (left seats seat)
+  pub opened : (store : Store) (realm : Realm) (seats new : Seated) (seat : ℕ) (make : MakeContext) (sought : Sought) (user : List ℕ) (last : ℤ)
+      → IsSoundStore store.records → dataset_exists store.records sought.dataset ≡ true → IsAt seats seat user
+      → opened seats seat make sought (matches_of store.records realm user sought) last ≡ Ok new
+      → IsCurrent store realm seats → IsCurrent store realm new
+  pub freed : (store : Store) (realm : Realm) (seats new : Seated) (seat : ℕ) (name : List ℕ)
+      → freed_by seats seat name ≡ Ok new → IsCurrent store realm seats → IsCurrent store realm new
+  pub told : (store : Store) (realm : Realm) (seats new : Seated) (seat : ℕ) (names : List (List ℕ)) (last : ℤ) (told : List Told)
+      → told_of seats seat names last ≡ Ok (told, new) → IsCurrent store realm seats → IsCurrent store realm new
+  pub drained : (store : Store) (realm : Realm) (seats : Seated) (seat : ℕ)
+      → IsCurrent store realm seats → IsCurrent store realm (drained seats seat).1
+  pub changed : (old new : Store) (realm : Realm) (seats : Seated) → IsSoundStep old new
+      → IsCurrent old realm seats → IsCurrent new realm (changed realm old new seats)
+
+-- when a client has been told, what it was told is what a search finds then; contexts that aren't named stay as they are, and so
+-- do snapshots over drains and changes of the store
+pub record ShownLaw : Type 0 where
+  pub told : (store : Store) (realm : Realm) (occupant : Occupant) (names : List (List ℕ)) (name : List ℕ) (last : ℤ) (context : Context)
+      → IsCurrentOccupant store realm occupant → Contains names name
+      → table.get (after_updates occupant.contexts names last) name ≡ Some context
+      → IsToldAll (matches_of store.records realm occupant.user context.sought) context.kept × (context.told ≡ last)
+  pub unnamed : (contexts : Contexts) (names : List (List ℕ)) (name : List ℕ) (last : ℤ) → ¬ (Contains names name)
+      → table.get (after_updates contexts names last) name ≡ table.get contexts name
+  pub drained : (store : Store) (realm : Realm) (occupant : Occupant) (name : List ℕ) (context : Context)
+      → IsCurrentOccupant store realm occupant → table.get (each_kept after_drain occupant.contexts) name ≡ Some context
+      → IsToldAll (matches_of store.records realm occupant.user context.sought) context.kept
+  pub drained_snapshot : (contexts : Contexts) (name : List ℕ) (context : Context) (shown : List Match) → context.kept ≡ Snapshot shown
+      → table.get contexts name ≡ Some context → table.get (each_kept after_drain contexts) name ≡ Some context
+  pub changed_snapshot : (old new : Store) (realm : Realm) (occupant : Occupant) (name : List ℕ) (context : Context) (shown : List Match) → context.kept ≡ Snapshot shown
+      → table.get occupant.contexts name ≡ Some context → table.get (changed_occupant realm old new occupant).contexts name ≡ Some context
+
+-- the changed paths are those whose tuple before isn't that after: an entry that comes, goes, or has another place or another row
+pub record ChangedLaw : Type 0 where
+  pub exact : (sought : Sought) (old new : Sight) (path : Path) → Contains (changed_paths sought old new) path ↔ (tuple_of old sought path ≢ tuple_of new sought path)
+  pub seats : (realm : Realm) (old new : Store) (seats : Seated) (seat : ℕ) → table.get (changed realm old new seats) seat ≡ option_map (changed_occupant realm old new) (table.get seats seat)
+  pub contexts : (realm : Realm) (old new : Store) (occupant : Occupant) (name : List ℕ)
+      → table.get (changed_occupant realm old new occupant).contexts name ≡ option_map (changed_context realm old new occupant.user) (table.get occupant.contexts name)

@@ -1,0 +1,9 @@
+//! The contexts of all seats: what they show, what waits to be told of them, and how they follow the store (RFC 2244 sections 3.3
+//! and 6.5).
+#![tactic(auto)]
+
+mod laws;
+mod refusal;
+
+pub use laws::{changed_law, current_law, notice_law, shown_law};
+pub use refusal::ViewRefusal;
