@@ -2,7 +2,7 @@
 ghost use Rattle.std.specs.Prelude.{◌≡◌};
 ghost use Rattle.acap_search.specs.Fronts.{IsFront};
 
-use acap_entries::{Record, Tree};
+use acap_entries::{Record, Records};
 
 /// A dataset, and its management entry, if it has one.
 #[derive(Clone, Copy)]
@@ -15,13 +15,13 @@ pub(crate) struct Front<'a> {
 
 impl<'a> Front<'a> {
     /// That of a dataset, found once for all of its entries.
-    pub(crate) fn of(tree: &'a Tree, dataset: &'a [u8]) -> Front<'a>
+    pub(crate) fn of<R: Records>(records: &'a R, dataset: &'a [u8]) -> Front<'a>
         ensures dataset { result.dataset.now ≡ dataset.now }
-        ensures front { IsFront tree.now.store.records result }
+        ensures front { IsFront (R.store records.now).records result }
     {
         Front {
             dataset,
-            management: tree.find(dataset, b""),
+            management: records.find(dataset, b""),
         }
     }
 }

@@ -5,14 +5,14 @@ ghost use Rattle.acap_inherit.specs.Records.{record_at};
 ghost use Rattle.acap_search.specs.Fronts.{IsFront};
 
 use crate::front::Front;
-use acap_entries::{Moment, Record, Records, Tree};
+use acap_entries::{Moment, Record, Records};
 use std::marker::Model;
 
 /// A store that has at hand what a dataset and its base keep of the entry of a name, and their management entries: none of them
 /// is sought again for each attribute that is asked for.
 #[derive(Drop)]
-pub(crate) struct Near<'a> {
-    tree: &'a Tree,
+pub(crate) struct Near<'a, R: Records> {
+    records: &'a R,
     name: &'a [u8],
     own: Front<'a>,
     entry: Option<&'a Record>,
@@ -20,7 +20,7 @@ pub(crate) struct Near<'a> {
     inherited: Option<&'a Record>,
 }
 
-impl<'a> Model for Near<'a> {
+impl<'a, R: Records> Model for Near<'a, R> {
     ghost use Rattle.std.specs.Option.{option_copied};
     ghost use Rattle.acap_entries.specs.Store.{Store, store_code};
     ghost use Rattle.acap_search.specs.Fronts.{IsAtHand};
@@ -29,40 +29,45 @@ impl<'a> Model for Near<'a> {
 
     ghost coded = { store_code };
 
-    ghost view = { λ n. n.tree.now.store };
+    ghost view = { λ n. R.store n.records.now };
 
-    ghost invariant = { λ n. IsAtHand n.tree.now.store.records n.own n.name.now (option_copied n.entry) × IsAtHand n.tree.now.store.records n.base n.name.now (option_copied n.inherited) };
+    ghost invariant = { λ n. IsAtHand (R.store n.records.now).records n.own n.name.now (option_copied n.entry) × IsAtHand (R.store n.records.now).records n.base n.name.now (option_copied n.inherited) };
 }
 
 // The record of a name in one of two datasets, which are often one.
-fn found_in<'a>(
-    tree: &'a Tree,
+fn found_in<'a, R: Records>(
+    records: &'a R,
     own: &Front<'a>,
     entry: Option<&'a Record>,
     base: &Front<'a>,
     name: &[u8],
 ) -> Option<&'a Record>
-    requires { option_copied entry ≡ record_at tree.now.store.records own.now.dataset.now name.now }
-    ensures { option_copied result ≡ record_at tree.now.store.records base.now.dataset.now name.now }
+    requires { option_copied entry ≡ record_at (R.store records.now).records own.now.dataset.now name.now }
+    ensures { option_copied result ≡ record_at (R.store records.now).records base.now.dataset.now name.now }
 {
     if base.dataset == own.dataset {
         entry
     } else {
-        tree.find(base.dataset, name)
+        records.find(base.dataset, name)
     }
 }
 
-impl<'a> Near<'a> {
+impl<'a, R: Records> Near<'a, R> {
     /// The store from near the entry of a name.
-    pub(crate) fn new(tree: &'a Tree, own: Front<'a>, base: Front<'a>, name: &'a [u8]) -> Near<'a>
-        requires own { IsFront tree.now.store.records own }
-        requires base { IsFront tree.now.store.records base }
-        ensures { result ≡ tree.now.store }
+    pub(crate) fn new(
+        records: &'a R,
+        own: Front<'a>,
+        base: Front<'a>,
+        name: &'a [u8],
+    ) -> Near<'a, R>
+        requires own { IsFront (R.store records.now).records own }
+        requires base { IsFront (R.store records.now).records base }
+        ensures { result ≡ R.store records.now }
     {
-        let entry = tree.find(own.dataset, name);
-        let inherited = found_in(tree, &own, entry, &base, name);
+        let entry = records.find(own.dataset, name);
+        let inherited = found_in(records, &own, entry, &base, name);
         Near {
-            tree,
+            records,
             name,
             own,
             entry,
@@ -72,7 +77,7 @@ impl<'a> Near<'a> {
     }
 }
 
-impl<'a> Records for Near<'a> {
+impl<'a, R: Records> Records for Near<'a, R> {
     ghost store = { λ n. n };
 
     fn find(&self, dataset: &[u8], name: &[u8]) -> Option<&Record> {
@@ -91,10 +96,10 @@ impl<'a> Records for Near<'a> {
                 return self.base.management;
             }
         }
-        self.tree.find(dataset, name)
+        self.records.find(dataset, name)
     }
 
     fn last(&self) -> Moment {
-        self.tree.last()
+        self.records.last()
     }
 }
