@@ -30,7 +30,7 @@ fn put(alloc: Global, writes: &mut Writes, name: &[u8], text: &[u8]) -> Result<(
 }
 
 // A store with three entries in `/`, the dataset that always exists.
-fn store(alloc: Global) -> Result<Tree, Memory> {
+pub(crate) fn store(alloc: Global) -> Result<Tree, Memory> {
     let mut writes = Writes::new(alloc);
     put(alloc, &mut writes, b"a", b"3")?;
     put(alloc, &mut writes, b"b", b"1")?;
@@ -69,12 +69,12 @@ fn sorting(alloc: Global) -> Result<SortItems, Memory> {
     Ok(sort)
 }
 
-fn user(alloc: Global) -> Result<UserName, Memory> {
+pub(crate) fn user(alloc: Global) -> Result<UserName, Memory> {
     UserName::read(alloc, b"joe").map_err(|_| Memory)
 }
 
 // What joe searches for: all entries by `k`, whose value is told.
-fn query(alloc: Global) -> Result<Query, Memory> {
+pub(crate) fn query(alloc: Global) -> Result<Query, Memory> {
     let mut modifiers = SearchModifiers::none();
     modifiers.returns = Some(returning(alloc)?);
     modifiers.sort = Some(sorting(alloc)?);

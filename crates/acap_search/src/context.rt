@@ -8,6 +8,7 @@ ghost use Rattle.acap_search.specs.Within as rule;
 
 use crate::finding::{Finding, hits_of};
 use crate::hit::{Hit, Hits};
+use crate::near::near_by;
 use crate::ordering::sort_found;
 use crate::query::Query;
 use crate::refusal::SearchRefusal;
@@ -48,14 +49,16 @@ fn position_behind(count: usize) -> Option<u32>
     }
 }
 
-// What is made of an entry, if it is seen and wanted.
-fn found_there<'a>(
+// What is made of an entry, if it is seen and wanted: one step.
+fn found_there<'a, L: Ledger>(
     alloc: Global,
     search: &Search<'a>,
     path: &'a Path,
     place: Option<u32>,
+    steps: &mut Steps<L>,
 ) -> Result<Option<Finding<'a>>, Memory>
-    ensures { IfOk result (λ made. made ≡ found_at search.now.sought place (spotted (view_in search.now path.now.dataset) path.now.name)) }
+    ensures count { steps.new ≡ steps.old + 1 }
+    ensures made { IfOk result (λ made. made ≡ found_at search.now.sought place (spotted (view_in search.now path.now.dataset) path.now.name)) }
 {
     let sought = search.sought;
     let by = Viewer {
@@ -65,13 +68,11 @@ fn found_there<'a>(
         dataset: &path.dataset,
         chain: chain(search.tree, &path.dataset, sought.no_inherit),
     };
-    finding_at(
-        alloc,
-        &Spot::far(&by, &path.name),
-        Some(path),
-        sought,
-        place,
-    )
+    let near = near_by(&by, &path.name);
+    let nearer = by.over(&near);
+    let spot = Spot::far(&nearer, &path.name);
+    steps.tick();
+    finding_at(alloc, &spot, Some(path), sought, place)
 }
 
 // Whether the dataset of an entry is one that is looked through.
@@ -82,20 +83,23 @@ fn looks_at(search: &Search<'_>, path: &Path) -> bool
     looks_in(&search.sought.scope(), search.tree, &path.dataset)
 }
 
-// What is made of an entry of a context, at its position.
-fn found_in<'a>(
+// What is made of an entry of a context, at its position: one step.
+fn found_in<'a, L: Ledger>(
     alloc: Global,
     search: &Search<'a>,
     path: &'a Path,
     place: Option<u32>,
+    steps: &mut Steps<L>,
 ) -> Result<Option<Finding<'a>>, Memory>
-    ensures { IfOk result (λ made. made ≡ rule.tuple_at (sight_by search.now) search.now.sought place path.now) }
+    ensures count { steps.new ≡ steps.old + 1 }
+    ensures made { IfOk result (λ made. made ≡ rule.tuple_at (sight_by search.now) search.now.sought place path.now) }
 {
     nothing_law();
     names_law();
     if looks_at(search, path) {
-        found_there(alloc, search, path, place)
+        found_there(alloc, search, path, place, steps)
     } else {
+        steps.tick();
         Ok(None)
     }
 }
@@ -114,8 +118,8 @@ fn found_among<'a, L: Ledger>(
 {
     let mut found = Vec::new(alloc);
     for (count, hit) in shown.iter().enumerate() {
-        steps.tick();
-        if let Some(finding) = found_in(alloc, search, &hit.path, position_behind(count))? {
+        let place = position_behind(count);
+        if let Some(finding) = found_in(alloc, search, &hit.path, place, steps)? {
             found.push(finding)?;
         }
     }

@@ -5,7 +5,9 @@ ghost use Rattle.acap_inherit.specs.Records.{record_at};
 ghost use Rattle.acap_search.specs.Fronts.{IsFront};
 
 use crate::front::Front;
-use acap_entries::{Moment, Record, Records};
+use crate::searching::base_of;
+use crate::viewer::Viewer;
+use acap_entries::{EntryName, Moment, Record, Records};
 use std::marker::Model;
 
 /// A store that has at hand what a dataset and its base keep of the entry of a name, and their management entries: none of them
@@ -32,6 +34,15 @@ impl<'a, R: Records> Model for Near<'a, R> {
     ghost view = { λ n. R.store n.records.now };
 
     ghost invariant = { λ n. IsAtHand (R.store n.records.now).records n.own n.name.now (option_copied n.entry) × IsAtHand (R.store n.records.now).records n.base n.name.now (option_copied n.inherited) };
+}
+
+/// What is near the entry of a name, to one who looks: its dataset, and the one that most is inherited from.
+pub(crate) fn near_by<'a, R: Records>(by: &Viewer<'a, R>, name: &'a EntryName) -> Near<'a, R>
+    ensures { result.records ≡ by.now.records }
+{
+    let own = Front::of(by.records, by.dataset.as_slice());
+    let base = Front::of(by.records, base_of(&by.chain));
+    Near::new(by.records, own, base, name.as_slice())
 }
 
 // The record of a name in one of two datasets, which are often one.

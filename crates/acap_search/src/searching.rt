@@ -76,8 +76,8 @@ fn add_own<'a: 'b, 'b>(
     Ok(())
 }
 
-// The second dataset of a chain, which is the one that most is inherited from; in a chain of one that.
-fn base_of<'a>(chain: &Lineage<'a>) -> &'a [u8] {
+/// The second dataset of a chain, which is the one that most is inherited from; in a chain of one that.
+pub(crate) fn base_of<'a>(chain: &Lineage<'a>) -> &'a [u8] {
     match chain.names() {
         [_, base, ..] => *base,
         names => names[0],

@@ -10,6 +10,7 @@ use crate::hit::Hit;
 use crate::looking::sees;
 use crate::lying::Lying;
 use crate::matching::wants;
+use crate::near::near_by;
 use crate::query::Sought;
 use crate::rank::Places;
 use crate::ranking::places_of;
@@ -121,7 +122,9 @@ pub fn row_of<'a, R: Records>(
 ) -> Result<Option<Hit>, Memory>
     ensures { IfOk result (λ hit. hit ≡ found_at sought.now place (spotted by.now name.now)) }
 {
-    match finding_at(alloc, &Spot::far(by, name), None, sought, place)? {
+    let near = near_by(by, name);
+    let nearer = by.over(&near);
+    match finding_at(alloc, &Spot::far(&nearer, name), None, sought, place)? {
         Some(found) => Ok(Some(found.into_hit()?)),
         None => Ok(None),
     }

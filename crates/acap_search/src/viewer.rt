@@ -35,3 +35,21 @@ impl<'a, R: Records> Model for Viewer<'a, R> {
       chain = v.chain;
     } };
 }
+
+impl<'a, R: Records> Viewer<'a, R> {
+    ghost use Rattle.std.specs.Prelude.{◌≡◌};
+
+    /// The same view of another store that has the same records.
+    pub(crate) fn over<'b, S: Records>(&'b self, records: &'b S) -> Viewer<'b, S>
+        requires { (S.store records.now).records ≡ self.now.records }
+        ensures { result ≡ self.now }
+    {
+        Viewer {
+            records,
+            realm: self.realm,
+            user: self.user,
+            dataset: self.dataset,
+            chain: self.chain.again(),
+        }
+    }
+}
