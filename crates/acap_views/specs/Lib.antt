@@ -9,3 +9,4 @@ pub mod Opening
 pub mod Seats
 pub mod Telling
 pub mod Waiting
+pub mod Work
