@@ -1,5 +1,5 @@
 -- Whatever happens to the contexts, live ones stay current.
-use Rattle.std.proofs.Common.{◌≡◌, ℕ, ℤ, ◌+◌, ◌≤◌, Bool, true, false, not, cond, T, ◌||◌, ◌&&◌, nat_lt, Option, Some, None, List, [], ◌∷◌, ◌++◌, length, refl, sym, ◌∙◌, ap, subst, arith, length-append}
+use Rattle.std.proofs.Common.{◌≡◌, ℕ, ℤ, ◌+◌, ◌≤◌, Bool, true, false, not, cond, ◌||◌, ◌&&◌, nat_lt, Option, Some, None, List, [], ◌∷◌, ◌++◌, length, refl, sym, ◌∙◌, ap, subst, arith, length-append}
 use Rattle.std.proofs.lemmas.Bool.{ltb-false}
 use Rattle.std.specs.Cmp.{IsTotalOrder, tied_itself, first_so, second_so}
 use Rattle.std.specs.Cmp.Lexicographic.{nat_list_cmp_total}
@@ -9,9 +9,9 @@ use Rattle.std.specs.FinMap.{FinMap, is_sorted, find}
 use Rattle.std.specs.FinMap.Entries.{below_all}
 use Rattle.std.specs.List.{filter_map, Contains}
 use Rattle.std.specs.Option.{option_map, option_map_or}
-use Rattle.std.specs.Ordering.{eq_by_cmp, is_eq, is_lt, nat_cmp, ordering_reverse}
+use Rattle.std.specs.Ordering.{eq_by_cmp, is_eq, nat_cmp, ordering_reverse}
 use Rattle.std.specs.declared.cmp.Ordering.{Ordering}
-use Rattle.std.specs.declared.cmp.Ordering.TheVariants.{Less, Equal, Greater}
+use Rattle.std.specs.declared.cmp.Ordering.TheVariants.{Less}
 use Rattle.std.specs.declared.result.Result.TheVariants.{Ok, Err}
 use Rattle.acap_entries.specs.Datasets.{dataset_exists}
 use Rattle.acap_entries.specs.Orders.{octets_cmp, octets_eq}
@@ -40,18 +40,9 @@ use Rattle.acap_views.specs.Opening.{is_full}
 use Rattle.acap_views.specs.Seats.{Occupant, Seated, IsAt, contexts_at, with_contexts}
 use Rattle.acap_views.specs.Telling.{shown_now, fault_of, updated_to, after_update, after_updates, unless_faulty, kept_drained, after_drain}
 use Rattle.acap_views.specs.declared.refusal.ViewRefusal.{ViewRefusal}
-use Rattle.acap_views.proofs.ListLemmas.{from_made, distinct}
+use Rattle.acap_views.proofs.ListLemmas.{so, less, from_made, distinct}
 
 -- ---- maps
-
-pub so : (b : Bool) → T b → b ≡ true
-so true h = refl
-so false h = absurd h
-
-pub less : (r : Ordering) → is_lt r ≡ true → r ≡ Less
-less Less e = refl
-less Equal e = absurd (cc (e))
-less Greater e = absurd (cc (e))
 
 module _ {K X : Type 0} {R : K → K → Ordering} (o : IsTotalOrder R) where
   below : (k : K) (es : List (K × X)) (e : K × X) → below_all R k es ≡ true → Contains es e → R k e.0 ≡ Less
@@ -82,11 +73,16 @@ pub from_kept : {K X Y : Type 0} {R : K → K → Ordering} → IsTotalOrder R �
     → (j : K) × ((x : X) × ((table.get m j ≡ Some x) × (f x ≡ Some y)))
 from_kept {R = R} o f m k y h =
     let found = find_some R k (filter_map (λ e. option_map (λ y. (e.0, y)) (f e.1)) (table.entries m)) y (sym (table.get-from_entries o _ k) ∙ h) in
-    let w = from_made (λ e. option_map (λ y. (e.0, y)) (f e.1)) (table.entries m) found.0 found.1.0 in
-    (w.0.0, (w.0.1, (
-      table.get-entries m w.0.0 ∙ find_own o (table.entries m) w.0 (so _ (table.entries_sorted m)) w.1.0,
-      became w.0.0 (f w.0.1) found.0 w.1.1 ∙ ap Some found.1.1,
-    )))
+    let w = from_made (λ e. option_map (λ y. (e.0, y)) (f e.1)) (table.entries m) found.0 found.1.0 in (
+      w.0.0,
+      (
+        w.0.1,
+        (
+          table.get-entries m w.0.0 ∙ find_own o (table.entries m) w.0 (so _ (table.entries_sorted m)) w.1.0,
+          became w.0.0 (f w.0.1) found.0 w.1.1 ∙ ap Some found.1.1,
+        ),
+      ),
+    )
 
 -- ---- rows
 
@@ -275,9 +271,9 @@ current_law notice once = record {
       opened_is store realm (is_full (contexts_at seats seat) make.name) _ new _ e
       (with_current store realm seats seat (λ contexts. table.insert contexts make.name (context_of make sought (matches_of store.records realm user sought) last)) i
       (λ occupant at_seat all.
-          put_there store realm occupant.user occupant.contexts make.name _ all (subst (λ who. IsCurrentContext store realm who (context_of make sought (matches_of store.records realm user sought) last))
-          (sym (user_of seats seat user occupant at at_seat))
-          (record { exists = exists; kept = made_kept (matches_of store.records realm user sought) make.enumerate make.notify (rows_once once store realm user sought sound exists) }))));
+      put_there store realm occupant.user occupant.contexts make.name _ all (subst (λ who. IsCurrentContext store realm who (context_of make sought (matches_of store.records realm user sought) last))
+      (sym (user_of seats seat user occupant at at_seat))
+      (record { exists = exists; kept = made_kept (matches_of store.records realm user sought) make.enumerate make.notify (rows_once once store realm user sought sound exists) }))));
   freed = λ store realm seats new seat name e i.
       freed_is store realm (table.contains_key (contexts_at seats seat) name) _ new _ e
       (with_current store realm seats seat (λ contexts. table.remove contexts name) i (λ occupant at all. taken_there store realm occupant.user occupant.contexts name all));

@@ -1,26 +1,30 @@
 -- What follows from the definitions alone [RFC 2244 sections 3.3, 3.5 and 6.5].
-use Rattle.std.specs.Option.{option_map}
-use Rattle.std.specs.List.{Contains}
-use Rattle.std.specs.Prelude.{◌≢◌, ◌↔◌, ◌≡◌, ℕ, ℤ, Bool, true, List, Some, Ok}
+use Rattle.std.specs.Prelude.{◌≡◌, ◌≢◌, ◌↔◌, ℕ, ◌==◌, ℤ, Bool, true, false, List, [], Some, None, Ok}
 use Rattle.std.specs.FinMap as table
+use Rattle.std.specs.List.{Contains}
+use Rattle.std.specs.Option.{option_map}
 use Rattle.acap_entries.specs.Datasets.{dataset_exists}
 use Rattle.acap_entries.specs.Sound.{IsSoundStore}
 use Rattle.acap_entries.specs.Store.{Store}
+use Rattle.acap_entries.specs.declared.path.Path.{Path}
+use Rattle.acap_rights.specs.declared.realm.Realm.{Realm}
 use Rattle.acap_commands.specs.declared.make_context.MakeContext.{MakeContext}
 use Rattle.acap_notices.specs.Holding.{holding, holding_after_all}
+use Rattle.acap_notices.specs.declared.notice.Notice.{Notice}
 use Rattle.acap_notices.specs.declared.told.Told.{Told}
-use Rattle.acap_rights.specs.declared.realm.Realm.{Realm}
+use Rattle.acap_moves.specs.Hits.{Name, IsAscending, is_among}
+use Rattle.acap_moves.specs.Moves.{moves_to, after_moves, moves_notices}
 use Rattle.acap_search.specs.Fresh.{Sight, tuple_of, IsSameSight, matches_of}
 use Rattle.acap_search.specs.Matches.{Match}
+use Rattle.acap_search.specs.Tuples.{name_told}
 use Rattle.acap_search.specs.declared.query.Sought.{Sought}
-use Rattle.acap_entries.specs.declared.path.Path.{Path}
-use Rattle.acap_views.specs.Contexts.{Snapshot, Context, Contexts}
-use Rattle.acap_views.specs.Maps.{each_kept}
 use Rattle.acap_views.specs.Changing.{IsSoundStep, sight_for, changed_context, changed_occupant, changed}
+use Rattle.acap_views.specs.Contexts.{Snapshot, Live, Freed, Context, Contexts}
 use Rattle.acap_views.specs.Current.{IsCurrent, IsCurrentOccupant, IsToldAll, rows}
-use Rattle.acap_views.specs.Notices.{event_notices, changed_paths}
+use Rattle.acap_views.specs.Maps.{each_kept}
+use Rattle.acap_views.specs.Notices.{told_shape, match_told, event_notices, changed_paths, changed_names}
 use Rattle.acap_views.specs.Opening.{opened, freed_by}
-use Rattle.acap_views.specs.Seats.{Occupant, Seated, IsAt, entered, left}
+use Rattle.acap_views.specs.Seats.{Occupant, Seated, IsAt, entered, left, with_contexts}
 use Rattle.acap_views.specs.Telling.{after_updates, after_drain, told_of, drained}
 
 -- two changes come to the same notices where what is seen before is the same, and what is seen after; and a client that holds the
@@ -58,7 +62,7 @@ pub record CurrentLaw : Type 0 where
       → IsCurrent old realm seats → IsCurrent new realm (changed realm old new seats)
 
 -- when a client has been told, what it was told is what a search finds then; contexts that aren't named stay as they are, and so
--- do snapshots over drains and changes of the store
+-- do snapshots over drains and changes of the store. A drain takes freed ones away, and leaves each live one its moment
 pub record ShownLaw : Type 0 where
   pub told : (store : Store) (realm : Realm) (occupant : Occupant) (names : List (List ℕ)) (name : List ℕ) (last : ℤ) (context : Context)
       → IsCurrentOccupant store realm occupant → Contains names name
@@ -69,6 +73,10 @@ pub record ShownLaw : Type 0 where
   pub drained : (store : Store) (realm : Realm) (occupant : Occupant) (name : List ℕ) (context : Context)
       → IsCurrentOccupant store realm occupant → table.get (each_kept after_drain occupant.contexts) name ≡ Some context
       → IsToldAll (matches_of store.records realm occupant.user context.sought) context.kept
+  pub drained_live : (contexts : Contexts) (name : List ℕ) (context : Context) (shown now : List Match) (pending : List Notice) → context.kept ≡ Live shown now pending
+      → table.get contexts name ≡ Some context → table.get (each_kept after_drain contexts) name ≡ Some (record context { kept = Live now now [] })
+  pub drained_freed : (contexts : Contexts) (name : List ℕ) (context : Context) → context.kept ≡ Freed
+      → table.get contexts name ≡ Some context → table.get (each_kept after_drain contexts) name ≡ None
   pub drained_snapshot : (contexts : Contexts) (name : List ℕ) (context : Context) (shown : List Match) → context.kept ≡ Snapshot shown
       → table.get contexts name ≡ Some context → table.get (each_kept after_drain contexts) name ≡ Some context
   pub changed_snapshot : (old new : Store) (realm : Realm) (occupant : Occupant) (name : List ℕ) (context : Context) (shown : List Match) → context.kept ≡ Snapshot shown
@@ -77,6 +85,39 @@ pub record ShownLaw : Type 0 where
 -- the changed paths are those whose tuple before isn't that after: an entry that comes, goes, or has another place or another row
 pub record ChangedLaw : Type 0 where
   pub exact : (sought : Sought) (old new : Sight) (path : Path) → Contains (changed_paths sought old new) path ↔ (tuple_of old sought path ≢ tuple_of new sought path)
+  pub named : (sought : Sought) (old new : Sight) (name : Name)
+      → Contains (changed_names sought old new) name ↔ ((path : Path) × (Contains (changed_paths sought old new) path × (name_told sought.depth path ≡ name)))
+  pub ascending : (sought : Sought) (old new : Sight) → IsAscending (changed_names sought old new)
   pub seats : (realm : Realm) (old new : Store) (seats : Seated) (seat : ℕ) → table.get (changed realm old new seats) seat ≡ option_map (changed_occupant realm old new) (table.get seats seat)
   pub contexts : (realm : Realm) (old new : Store) (occupant : Occupant) (name : List ℕ)
       → table.get (changed_occupant realm old new occupant).contexts name ≡ option_map (changed_context realm old new occupant.user) (table.get occupant.contexts name)
+
+-- a match is told by the name of its path, and by no other
+pub record FoundLaw : Type 0 where
+  pub name : (store : Store) (realm : Realm) (user : List ℕ) (sought : Sought) (name : Name) (found : Match)
+      → match_told (matches_of store.records realm user sought) name ≡ Some found
+      → (tuple_of (sight_for realm store user sought) sought found.path ≡ Some found) × ((found.row.name ≡ name) × (name_told sought.depth found.path ≡ name))
+  pub found : (store : Store) (realm : Realm) (user : List ℕ) (sought : Sought) (path : Path) (found : Match)
+      → IsSoundStore store.records → dataset_exists store.records sought.dataset ≡ true
+      → tuple_of (sight_for realm store user sought) sought path ≡ Some found
+      → match_told (matches_of store.records realm user sought) (name_told sought.depth path) ≡ Some found
+
+-- the list after a change is that before it from which the match of one name after the other is taken, and the new one put in at its
+-- place; the notices of the change are those of these moves. The names ascend, and may be more than those that have changed
+abbrev pub MovedLaw : Type 0
+MovedLaw =
+    (old new : Store) (realm : Realm) (user : List ℕ) (enumerated : Bool) (sought : Sought) (touched : List Name)
+    → IsSoundStep old new → dataset_exists old.records sought.dataset ≡ true → IsAscending touched
+    → ((name : Name) → is_among name (changed_names sought (sight_for realm old user sought) (sight_for realm new user sought)) ≡ true → is_among name touched ≡ true)
+    → (after_moves told_shape (moves_to (match_told (matches_of new.records realm user sought)) touched) (matches_of old.records realm user sought)
+    ≡ matches_of new.records realm user sought)
+    × (moves_notices told_shape enumerated (moves_to (match_told (matches_of new.records realm user sought)) touched) (matches_of old.records realm user sought)
+    ≡ event_notices enumerated sought (sight_for realm old user sought) (sight_for realm new user sought))
+
+-- what is done at one seat is done to its own contexts, and nothing at an empty one
+pub record SeatsLaw : Type 0 where
+  pub own : (seats : Seated) (seat : ℕ) (occupant : Occupant) (contexts : Contexts) → table.get seats seat ≡ Some occupant
+      → table.get (with_contexts seats seat contexts) seat ≡ Some (record occupant { contexts = contexts })
+  pub others : (seats : Seated) (seat other : ℕ) (contexts : Contexts) → (other == seat) ≡ false
+      → table.get (with_contexts seats seat contexts) other ≡ table.get seats other
+  pub empty : (seats : Seated) (seat : ℕ) (contexts : Contexts) → table.get seats seat ≡ None → with_contexts seats seat contexts ≡ seats

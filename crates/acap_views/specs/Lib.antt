@@ -1,6 +1,7 @@
 pub mod Changing
 pub mod Contexts
 pub mod Current
+pub mod Examples
 pub mod Laws
 pub mod Maps
 pub mod Notices
@@ -8,3 +9,4 @@ pub mod Opening
 pub mod Seats
 pub mod Telling
 pub mod Waiting
+pub mod Work

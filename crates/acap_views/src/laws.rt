@@ -1,6 +1,7 @@
 //! What follows from the definitions alone: the contract of each function is the law, and its body names
 //! at most a law of the crates below.
-ghost use Rattle.acap_views.specs.Laws.{NoticeLaw, CurrentLaw, ShownLaw, ChangedLaw};
+ghost use Rattle.acap_views.specs.Examples.{KeptExamples, NamedExamples, NoticeExamples};
+ghost use Rattle.acap_views.specs.Laws.{NoticeLaw, CurrentLaw, ShownLaw, ChangedLaw, FoundLaw, MovedLaw, SeatsLaw};
 
 use acap_search::{once_law, sight_law};
 
@@ -29,4 +30,39 @@ pub fn shown_law()
 /// Which entries a change of the store changes for a search, and that it reaches each context of each seat (RFC 2244 section 3.3).
 pub fn changed_law()
     ensures { ChangedLaw }
+{}
+
+/// A match is told by the name of its path: the full path where DEPTH was written, and else what stands behind the dataset (RFC 2244
+/// section 6.4.1).
+pub fn found_law()
+    ensures { FoundLaw }
+{
+    once_law();
+}
+
+/// What a change does to the list of a search: matches are taken out and put in, one name after the other (RFC 2244 section 6.5).
+pub fn moved_law()
+    ensures { MovedLaw }
+{
+    once_law();
+}
+
+/// What is done at one seat is done to its own contexts alone (RFC 2244 section 3.3).
+pub fn seats_law()
+    ensures { SeatsLaw }
+{}
+
+/// What events make of one context, computed from the definitions alone.
+pub fn kept_examples()
+    ensures { KeptExamples }
+{}
+
+/// Contexts by their names, computed from the definitions alone.
+pub fn named_examples()
+    ensures { NamedExamples }
+{}
+
+/// Notices of one change, computed from the definitions alone.
+pub fn notice_examples()
+    ensures { NoticeExamples }
 {}
