@@ -1,0 +1,53 @@
+-- What follows from the definitions alone [RFC 2244 sections 3.3, 3.5 and 6.5].
+use Rattle.std.specs.Prelude.{◌≡◌, ℕ, ℤ, Bool, true, List, [], Option, Some, Ok}
+use Rattle.std.specs.FinMap as table
+use Rattle.acap_entries.specs.Datasets.{dataset_exists}
+use Rattle.acap_entries.specs.Sound.{IsSoundStore}
+use Rattle.acap_entries.specs.Store.{Store}
+use Rattle.acap_commands.specs.declared.make_context.MakeContext.{MakeContext}
+use Rattle.acap_notices.specs.Holding.{holding, holding_after_all}
+use Rattle.acap_notices.specs.declared.told.Told.{Told}
+use Rattle.acap_rights.specs.declared.realm.Realm.{Realm}
+use Rattle.acap_search.specs.Fresh.{IsSameSight, fresh_of, matches_of}
+use Rattle.acap_search.specs.Matches.{Match}
+use Rattle.acap_search.specs.declared.query.Sought.{Sought}
+use Rattle.acap_views.specs.Changing.{IsSoundStep, sight_for, changed}
+use Rattle.acap_views.specs.Current.{IsCurrent, rows}
+use Rattle.acap_views.specs.Notices.{event_notices}
+use Rattle.acap_views.specs.Opening.{opened, freed_by}
+use Rattle.acap_views.specs.Seats.{Seated, IsAt, entered, left}
+use Rattle.acap_views.specs.Telling.{told_of, drained}
+
+-- two changes come to the same notices where what is seen before is the same, and what is seen after; and a client that holds the
+-- rows of the old list, in order or by name, and applies the notices of a change, holds those of the new one
+pub record NoticeLaw : Type 0 where
+  pub same : (old new first second : Store) (realm other : Realm) (user one : List ℕ) (enumerated : Bool) (sought : Sought)
+      → IsSameSight (sight_for realm old user sought) (sight_for other first one sought)
+      → IsSameSight (sight_for realm new user sought) (sight_for other second one sought)
+      → event_notices enumerated sought (sight_for realm old user sought) (sight_for realm new user sought)
+      ≡ event_notices enumerated sought (sight_for other first one sought) (sight_for other second one sought)
+  pub leads : (old new : Store) (realm : Realm) (user : List ℕ) (enumerated : Bool) (sought : Sought)
+      → IsSoundStep old new → dataset_exists old.records sought.dataset ≡ true
+      → holding_after_all (holding enumerated (rows (matches_of old.records realm user sought)))
+      (event_notices enumerated sought (sight_for realm old user sought) (sight_for realm new user sought))
+      ≡ Some (holding enumerated (rows (matches_of new.records realm user sought)))
+
+-- whatever happens to the contexts, live ones stay current
+pub record CurrentLaw : Type 0 where
+  pub nobody : (store : Store) (realm : Realm) → IsCurrent store realm table.empty
+  pub entered : (store : Store) (realm : Realm) (seats : Seated) (seat : ℕ) (user : List ℕ)
+      → IsCurrent store realm seats → IsCurrent store realm (entered seats seat user)
+  pub left : (store : Store) (realm : Realm) (seats : Seated) (seat : ℕ)
+      → IsCurrent store realm seats → IsCurrent store realm (left seats seat)
+  pub opened : (store : Store) (realm : Realm) (seats new : Seated) (seat : ℕ) (make : MakeContext) (sought : Sought) (user : List ℕ) (last : ℤ)
+      → IsSoundStore store.records → dataset_exists store.records sought.dataset ≡ true → IsAt seats seat user
+      → opened seats seat make sought (matches_of store.records realm user sought) last ≡ Ok new
+      → IsCurrent store realm seats → IsCurrent store realm new
+  pub freed : (store : Store) (realm : Realm) (seats new : Seated) (seat : ℕ) (name : List ℕ)
+      → freed_by seats seat name ≡ Ok new → IsCurrent store realm seats → IsCurrent store realm new
+  pub told : (store : Store) (realm : Realm) (seats new : Seated) (seat : ℕ) (names : List (List ℕ)) (last : ℤ) (told : List Told)
+      → told_of seats seat names last ≡ Ok (told, new) → IsCurrent store realm seats → IsCurrent store realm new
+  pub drained : (store : Store) (realm : Realm) (seats : Seated) (seat : ℕ)
+      → IsCurrent store realm seats → IsCurrent store realm (drained seats seat).1
+  pub changed : (old new : Store) (realm : Realm) (seats : Seated) → IsSoundStep old new
+      → IsCurrent old realm seats → IsCurrent new realm (changed realm old new seats)

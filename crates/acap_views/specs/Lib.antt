@@ -1,0 +1,10 @@
+pub mod Changing
+pub mod Contexts
+pub mod Current
+pub mod Laws
+pub mod Maps
+pub mod Notices
+pub mod Opening
+pub mod Seats
+pub mod Telling
+pub mod Waiting

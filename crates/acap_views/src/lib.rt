@@ -1,0 +1,7 @@
+//! The contexts of all seats: what they show, what waits to be told of them, and how they follow the store (RFC 2244 sections 3.3
+//! and 6.5).
+#![tactic(auto)]
+
+mod refusal;
+
+pub use refusal::ViewRefusal;

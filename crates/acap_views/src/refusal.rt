@@ -1,0 +1,28 @@
+//! Why something asked of contexts is refused.
+ghost use Rattle.std.specs.Prelude.{◌≡◌};
+ghost use Rattle.acap_views.specs.declared.refusal.ViewRefusal.TheVariants as refusal;
+
+use acap_entries::Memory;
+
+/// Why something asked of a session's contexts is refused (RFC 2244 sections 6.4.1 and 6.5).
+#[derive(Clone, Copy, PartialEq, Eq)]
+pub enum ViewRefusal {
+    /// The session has as many contexts as it may.
+    TryFree,
+    /// The session has no context of this name.
+    NoContext,
+    /// The context was freed.
+    FreedContext,
+    /// The context isn't kept up to date.
+    NotNotify,
+    /// Memory was refused.
+    Memory,
+}
+
+impl From<Memory> for ViewRefusal {
+    ghost from_gives = { λ _ e. e ≡ refusal.Memory };
+
+    fn from(_error: Memory) -> ViewRefusal {
+        ViewRefusal::Memory
+    }
+}
