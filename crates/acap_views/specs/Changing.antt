@@ -2,7 +2,7 @@
 use Rattle.std.specs.Prelude.{◌≡◌, ℕ, ◌+◌, true, nat_lt, if◌then◌else◌, List, ◌++◌, length}
 use Rattle.acap_entries.specs.Datasets.{dataset_exists}
 use Rattle.acap_entries.specs.Sound.{IsSoundStore}
-use Rattle.acap_entries.specs.Store.{Store, Stored}
+use Rattle.acap_entries.specs.Store.{Store}
 use Rattle.acap_notices.specs.Waiting.{most_waiting}
 use Rattle.acap_notices.specs.declared.notice.Notice.{Notice}
 use Rattle.acap_rights.specs.declared.realm.Realm.{Realm}

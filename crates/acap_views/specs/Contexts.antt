@@ -1,5 +1,5 @@
 -- A context: what a search found, kept by a session under a name, and how it follows the store [RFC 2244 sections 3.3 and 6.4.1].
-use Rattle.std.specs.Prelude.{ℕ, ℤ, Bool, true, false, List, [], if◌then◌else◌}
+use Rattle.std.specs.Prelude.{ℤ, Bool, true, false, List, []}
 use Rattle.std.specs.FinMap as table
 use Rattle.acap_entries.specs.Orders.{octets_cmp}
 use Rattle.acap_commands.specs.declared.make_context.MakeContext.{MakeContext}

@@ -1,5 +1,5 @@
 -- What follows from the definitions alone [RFC 2244 sections 3.3, 3.5 and 6.5].
-use Rattle.std.specs.Prelude.{◌≡◌, ℕ, ℤ, Bool, true, List, [], Option, Some, Ok}
+use Rattle.std.specs.Prelude.{◌≡◌, ℕ, ℤ, Bool, true, List, Some, Ok}
 use Rattle.std.specs.FinMap as table
 use Rattle.acap_entries.specs.Datasets.{dataset_exists}
 use Rattle.acap_entries.specs.Sound.{IsSoundStore}
@@ -8,8 +8,7 @@ use Rattle.acap_commands.specs.declared.make_context.MakeContext.{MakeContext}
 use Rattle.acap_notices.specs.Holding.{holding, holding_after_all}
 use Rattle.acap_notices.specs.declared.told.Told.{Told}
 use Rattle.acap_rights.specs.declared.realm.Realm.{Realm}
-use Rattle.acap_search.specs.Fresh.{IsSameSight, fresh_of, matches_of}
-use Rattle.acap_search.specs.Matches.{Match}
+use Rattle.acap_search.specs.Fresh.{IsSameSight, matches_of}
 use Rattle.acap_search.specs.declared.query.Sought.{Sought}
 use Rattle.acap_views.specs.Changing.{IsSoundStep, sight_for, changed}
 use Rattle.acap_views.specs.Current.{IsCurrent, rows}

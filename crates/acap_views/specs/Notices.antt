@@ -1,5 +1,5 @@
 -- What one change of the store comes to for a live search [RFC 2244 sections 3.3, 6.4.1 and 6.5].
-use Rattle.std.specs.Prelude.{ℕ, Bool, true, false, not, ◌&&◌, ◌++◌, List, Option, Some, None, map as each}
+use Rattle.std.specs.Prelude.{Bool, true, false, not, ◌&&◌, ◌++◌, List, Option, Some, None, map as each}
 use Rattle.std.specs.Cmp.Lexicographic.{pointwise}
 use Rattle.std.specs.List.{filter, find}
 use Rattle.std.specs.Ordering.{ordering_then}

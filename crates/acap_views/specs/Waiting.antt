@@ -1,5 +1,5 @@
 -- At which seats a drain has something to tell [RFC 2244 section 6.5].
-use Rattle.std.specs.Prelude.{ℕ, Bool, true, false, not, nat_eq, length, List}
+use Rattle.std.specs.Prelude.{ℕ, Bool, true, false, not, nat_eq, length}
 use Rattle.std.specs.FinMap as table
 use Rattle.std.specs.List.{list_any}
 use Rattle.acap_views.specs.Contexts.{Kept, Snapshot, Live, Freed}

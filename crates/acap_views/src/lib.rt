@@ -2,6 +2,8 @@
 //! and 6.5).
 #![tactic(auto)]
 
+mod laws;
 mod refusal;
 
+pub use laws::notice_law;
 pub use refusal::ViewRefusal;

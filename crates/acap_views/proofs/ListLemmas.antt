@@ -1,0 +1,90 @@
+-- What lists contain, and names of which each comes once.
+use Rattle.std.proofs.Common.{◌≡◌, Bool, true, false, not, cond, ◌||◌, ◌&&◌, Option, Some, None, List, [], ◌∷◌, ◌++◌, refl, sym, ◌∙◌, ap}
+use Rattle.std.specs.List.{filter, filter_map, cons_option, Contains}
+use Rattle.acap_entries.specs.Orders.{octets_eq}
+use Rattle.acap_moves.specs.Hits.{Name, is_among, IsDistinct}
+use Rattle.acap_moves.proofs.Splits.{same_name, itself, among_first}
+use Rattle.acap_moves.proofs.Touched.{among_filter}
+use Rattle.acap_search.specs.Once.{EachOnce}
+use Rattle.acap_search.proofs.SeenLemmas.{here, there, first_or, nowhere, either, at_first}
+
+pub from_made : {X Y : Type 0} (f : X → Option Y) (xs : List X) (y : Y) → Contains (filter_map f xs) y → (x : X) × (Contains xs x × (f x ≡ Some y))
+from_made f [] y h = nowhere y h
+from_made f (x ∷ xs) y h =
+    elim (f x) as (λ o. f x ≡ o → Contains (cons_option o (filter_map f xs)) y → (z : _) × (Contains (x ∷ xs) z × (f z ≡ Some y))) [
+      | None ↦ λ e k. let r = from_made f xs y k in (r.0, (there x r.0 xs r.1.0, r.1.1))
+      | Some z ↦ λ e k. either (first_or z y (filter_map f xs) k) (λ s. (x, (here x xs, e ∙ ap Some s))) (λ l. let r = from_made f xs y l in (r.0, (there x r.0 xs r.1.0, r.1.1)))
+    ] refl h
+
+pub in_made : {X Y : Type 0} (f : X → Option Y) (xs : List X) (x : X) (y : Y) → Contains xs x → f x ≡ Some y → Contains (filter_map f xs) y
+in_made f [] x y h e = nowhere x h
+in_made f (z ∷ zs) x y h e =
+    elim (f z) as (λ o. f z ≡ o → Contains (cons_option o (filter_map f zs)) y) [
+      | None ↦ λ t. either (first_or z x zs h) (λ same. absurd (cc (t, e, ap f same))) (λ k. in_made f zs x y k e)
+      | Some w ↦ λ t. either (first_or z x zs h) (λ same. at_first w y (filter_map f zs) (cc (t, e, ap f same))) (λ k. there w y (filter_map f zs) (in_made f zs x y k e))
+    ] refl
+
+pub in_front : {A : Type 0} (xs ys : List A) (x : A) → Contains xs x → Contains (xs ++ ys) x
+in_front [] ys x h = nowhere x h
+in_front (z ∷ zs) ys x h = either (first_or z x zs h) (λ e. at_first z x (zs ++ ys) e) (λ k. there z x (zs ++ ys) (in_front zs ys x k))
+
+pub in_back : {A : Type 0} (xs ys : List A) (x : A) → Contains ys x → Contains (xs ++ ys) x
+in_back [] ys x h = h
+in_back (z ∷ zs) ys x h = there z x (zs ++ ys) (in_back zs ys x h)
+
+-- ---- names
+
+pub among : (ps : List Name) (p : Name) → Contains ps p → is_among p ps ≡ true
+unfolding is_among
+among [] p h = nowhere p h
+among (q ∷ qs) p h =
+    either (first_or q p qs h)
+    (λ e. rw (itself p q (sym e)) refl)
+    (λ k. rw (among qs p k) (elim (octets_eq p q) as (λ b. (b || true) ≡ true) [ true ↦ refl | false ↦ refl ]))
+
+pub from_among : (ps : List Name) (p : Name) → is_among p ps ≡ true → Contains ps p
+unfolding is_among
+from_among [] p e = absurd (cc (e))
+from_among (q ∷ qs) p e =
+    elim (octets_eq p q) as (λ b. octets_eq p q ≡ b → (b || is_among p qs) ≡ true → Contains (q ∷ qs) p) [
+      | true ↦ λ t k. at_first q p qs (sym (same_name p q t))
+      | false ↦ λ t k. there q p qs (from_among qs p k)
+    ] refl e
+
+pub among_append : (q : Name) (xs ys : List Name) → is_among q (xs ++ ys) ≡ (is_among q xs || is_among q ys)
+unfolding is_among
+among_append q [] ys = refl
+among_append q (x ∷ xs) ys = elim (octets_eq q x) as (λ b. (b || is_among q (xs ++ ys)) ≡ ((b || is_among q xs) || is_among q ys)) [ true ↦ refl | false ↦ among_append q xs ys ]
+
+pub distinct : (ps : List Name) → EachOnce ps → IsDistinct ps
+unfolding IsDistinct
+distinct [] h = tt
+distinct (p ∷ ps) h = (
+  elim (is_among p ps) as (λ b. is_among p ps ≡ b → b ≡ false) [ true ↦ λ e. absurd (h.0 (from_among ps p e)) | false ↦ λ e. refl ] refl,
+  distinct ps h.1,
+)
+
+distinct_filter : (d : Name → Bool) (ps : List Name) → IsDistinct ps → IsDistinct (filter d ps)
+unfolding IsDistinct
+distinct_filter d [] h = tt
+distinct_filter d (p ∷ ps) h = elim (d p) as (λ b. IsDistinct (cond b (p ∷ filter d ps) (filter d ps))) [
+  | true ↦ (among_filter d p ps ∙ rw h.0 (elim (d p) as (λ b. (b && false) ≡ false) [ true ↦ refl | false ↦ refl ]), distinct_filter d ps h.1)
+  | false ↦ distinct_filter d ps h.1
+]
+
+among_behind : (q x : Name) (xs : List Name) → is_among q xs ≡ true → is_among q (x ∷ xs) ≡ true
+unfolding is_among
+among_behind q x xs m = rw m (elim (octets_eq q x) as (λ b. (b || true) ≡ true) [ true ↦ refl | false ↦ refl ])
+
+distinct_append : (xs ys : List Name) → IsDistinct xs → IsDistinct ys → ((q : Name) → is_among q xs ≡ true → is_among q ys ≡ false) → IsDistinct (xs ++ ys)
+unfolding IsDistinct
+distinct_append [] ys h k a = k
+distinct_append (x ∷ xs) ys h k a = (
+  among_append x xs ys ∙ rw (h.0, a x (among_first x xs)) refl,
+  distinct_append xs ys h.1 k (λ q m. a q (among_behind q x xs m)),
+)
+
+pub distinct_both : (xs ys : List Name) → IsDistinct xs → IsDistinct ys → IsDistinct (xs ++ filter (λ name. not (is_among name xs)) ys)
+distinct_both xs ys h k =
+    distinct_append xs _ h (distinct_filter (λ name. not (is_among name xs)) ys k)
+    (λ q m. among_filter (λ name. not (is_among name xs)) q ys ∙ rw m refl)

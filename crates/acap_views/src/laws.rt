@@ -1,0 +1,14 @@
+//! What follows from the definitions alone: the contract of each function is the law, and its body names
+//! at most a law of the crates below.
+ghost use Rattle.acap_views.specs.Laws.{NoticeLaw};
+
+use acap_search::{once_law, sight_law};
+
+/// Notices of a change go by what is seen before and after, and lead a client from the old list to the new one (RFC 2244
+/// sections 3.3, 3.5 and 6.5).
+pub fn notice_law()
+    ensures { NoticeLaw }
+{
+    sight_law();
+    once_law();
+}
