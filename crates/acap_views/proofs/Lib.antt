@@ -1,3 +1,4 @@
 pub mod ListLemmas
 pub mod ToldLemmas
 pub mod NoticeLemmas
+pub mod CurrentLemmas

@@ -1,6 +1,6 @@
 //! What follows from the definitions alone: the contract of each function is the law, and its body names
 //! at most a law of the crates below.
-ghost use Rattle.acap_views.specs.Laws.{NoticeLaw};
+ghost use Rattle.acap_views.specs.Laws.{NoticeLaw, CurrentLaw};
 
 use acap_search::{once_law, sight_law};
 
@@ -10,5 +10,13 @@ pub fn notice_law()
     ensures { NoticeLaw }
 {
     sight_law();
+    once_law();
+}
+
+/// Whatever happens to the contexts of a session, those that follow the store are current (RFC 2244 section 3.3).
+pub fn current_law()
+    ensures { CurrentLaw }
+{
+    notice_law();
     once_law();
 }

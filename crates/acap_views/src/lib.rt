@@ -5,5 +5,5 @@
 mod laws;
 mod refusal;
 
-pub use laws::notice_law;
+pub use laws::{current_law, notice_law};
 pub use refusal::ViewRefusal;
