@@ -44,11 +44,11 @@ use Rattle.acap_views.proofs.ListLemmas.{from_made, distinct}
 
 -- ---- maps
 
-so : (b : Bool) → T b → b ≡ true
+pub so : (b : Bool) → T b → b ≡ true
 so true h = refl
 so false h = absurd h
 
-less : (r : Ordering) → is_lt r ≡ true → r ≡ Less
+pub less : (r : Ordering) → is_lt r ≡ true → r ≡ Less
 less Less e = refl
 less Equal e = absurd (cc (e))
 less Greater e = absurd (cc (e))
@@ -106,7 +106,7 @@ rows_once law store realm user sought sound exists =
 
 -- ---- contexts and seats
 
-abbrev AreCurrent : Store → Realm → List ℕ → Contexts → Type 0
+abbrev pub AreCurrent : Store → Realm → List ℕ → Contexts → Type 0
 AreCurrent store realm user contexts = (name : List ℕ) (context : Context) → table.get contexts name ≡ Some context → IsCurrentContext store realm user context
 
 module _ (store : Store) (realm : Realm) where
@@ -166,7 +166,7 @@ told_up fresh enumerated Freed i = tt
 updated : (store : Store) (realm : Realm) (user : List ℕ) (last : ℤ) (context : Context) → IsCurrentContext store realm user context → IsCurrentContext store realm user (updated_to last context)
 updated store realm user last context i = record { exists = i.exists; kept = told_up _ context.enumerated context.kept i.kept }
 
-one_update : (store : Store) (realm : Realm) (user : List ℕ) (contexts : Contexts) (name : List ℕ) (last : ℤ) → AreCurrent store realm user contexts → AreCurrent store realm user (after_update contexts name last)
+pub one_update : (store : Store) (realm : Realm) (user : List ℕ) (contexts : Contexts) (name : List ℕ) (last : ℤ) → AreCurrent store realm user contexts → AreCurrent store realm user (after_update contexts name last)
 one_update store realm user contexts name last all =
     elim (table.get contexts name) as (λ o. table.get contexts name ≡ o → AreCurrent store realm user (option_map_or (λ (context : Context). table.insert contexts name (updated_to last context)) o contexts)) [
       | None ↦ λ e. all

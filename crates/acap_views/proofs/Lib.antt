@@ -2,3 +2,4 @@ pub mod ListLemmas
 pub mod ToldLemmas
 pub mod NoticeLemmas
 pub mod CurrentLemmas
+pub mod ShownLemmas

@@ -91,7 +91,7 @@ module _ (realm : Realm) (user : List ℕ) (sought : Sought) (store : Store) whe
 nothing : (old new : Sight) (sought : Sought) (p : Path) → paths.is_among old.paths p ≡ false → paths.is_among new.paths p ≡ false → same_tuple (tuple_of old sought p) (tuple_of new sought p) ≡ true
 nothing old new sought p k l = rw (k, l) refl
 
-in_both : (old new : Sight) (sought : Sought) (p : Path) → same_tuple (tuple_of old sought p) (tuple_of new sought p) ≡ false → Contains (paths_of_both old new) p
+pub in_both : (old new : Sight) (sought : Sought) (p : Path) → same_tuple (tuple_of old sought p) (tuple_of new sought p) ≡ false → Contains (paths_of_both old new) p
 in_both old new sought p e =
     elim (paths.is_among old.paths p) as (λ b. paths.is_among old.paths p ≡ b → Contains (paths_of_both old new) p) [
       | true ↦ λ k. in_front old.paths _ p (from_among old.paths p k)

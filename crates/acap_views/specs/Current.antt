@@ -1,5 +1,5 @@
 -- What is so of all contexts between two events [RFC 2244 section 3.3].
-use Rattle.std.specs.Prelude.{◌≡◌, ℕ, ◌≤◌, Bool, true, List, length, Some, map}
+use Rattle.std.specs.Prelude.{[], ◌≡◌, ℕ, ◌≤◌, Bool, true, List, length, Some, map}
 use Rattle.std.specs.FinMap as table
 use Rattle.acap_entries.specs.Datasets.{dataset_exists}
 use Rattle.acap_entries.specs.Store.{Store}
@@ -30,6 +30,12 @@ abbrev pub IsCurrentKept : List Match → Bool → Kept → Type 0
 IsCurrentKept fresh enumerated (Snapshot shown) = Unit {0}
 IsCurrentKept fresh enumerated (Live shown now pending) = IsFollowing fresh enumerated shown now pending
 IsCurrentKept fresh enumerated Freed = Unit {0}
+
+-- the client of a live context was told the list that a search finds now, and nothing waits
+abbrev pub IsToldAll : List Match → Kept → Type 0
+IsToldAll fresh (Snapshot shown) = Unit {0}
+IsToldAll fresh (Live shown now pending) = (shown ≡ fresh) × (pending ≡ [])
+IsToldAll fresh Freed = Unit {0}
 
 -- its dataset exists, as it did when the context was made
 pub record IsCurrentContext (store : Store) (realm : Realm) (user : List ℕ) (context : Context) : Type 0 where

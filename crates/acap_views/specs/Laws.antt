@@ -1,5 +1,7 @@
 -- What follows from the definitions alone [RFC 2244 sections 3.3, 3.5 and 6.5].
-use Rattle.std.specs.Prelude.{◌≡◌, ℕ, ℤ, Bool, true, List, Some, Ok}
+use Rattle.std.specs.Option.{option_map}
+use Rattle.std.specs.List.{Contains}
+use Rattle.std.specs.Prelude.{◌≢◌, ◌↔◌, ◌≡◌, ℕ, ℤ, Bool, true, List, Some, Ok}
 use Rattle.std.specs.FinMap as table
 use Rattle.acap_entries.specs.Datasets.{dataset_exists}
 use Rattle.acap_entries.specs.Sound.{IsSoundStore}
@@ -8,14 +10,18 @@ use Rattle.acap_commands.specs.declared.make_context.MakeContext.{MakeContext}
 use Rattle.acap_notices.specs.Holding.{holding, holding_after_all}
 use Rattle.acap_notices.specs.declared.told.Told.{Told}
 use Rattle.acap_rights.specs.declared.realm.Realm.{Realm}
-use Rattle.acap_search.specs.Fresh.{IsSameSight, matches_of}
+use Rattle.acap_search.specs.Fresh.{Sight, tuple_of, IsSameSight, matches_of}
+use Rattle.acap_search.specs.Matches.{Match}
 use Rattle.acap_search.specs.declared.query.Sought.{Sought}
-use Rattle.acap_views.specs.Changing.{IsSoundStep, sight_for, changed}
-use Rattle.acap_views.specs.Current.{IsCurrent, rows}
-use Rattle.acap_views.specs.Notices.{event_notices}
+use Rattle.acap_entries.specs.declared.path.Path.{Path}
+use Rattle.acap_views.specs.Contexts.{Snapshot, Context, Contexts}
+use Rattle.acap_views.specs.Maps.{each_kept}
+use Rattle.acap_views.specs.Changing.{IsSoundStep, sight_for, changed_context, changed_occupant, changed}
+use Rattle.acap_views.specs.Current.{IsCurrent, IsCurrentOccupant, IsToldAll, rows}
+use Rattle.acap_views.specs.Notices.{event_notices, changed_paths}
 use Rattle.acap_views.specs.Opening.{opened, freed_by}
-use Rattle.acap_views.specs.Seats.{Seated, IsAt, entered, left}
-use Rattle.acap_views.specs.Telling.{told_of, drained}
+use Rattle.acap_views.specs.Seats.{Occupant, Seated, IsAt, entered, left}
+use Rattle.acap_views.specs.Telling.{after_updates, after_drain, told_of, drained}
 
 -- two changes come to the same notices where what is seen before is the same, and what is seen after; and a client that holds the
 -- rows of the old list, in order or by name, and applies the notices of a change, holds those of the new one
@@ -50,3 +56,27 @@ pub record CurrentLaw : Type 0 where
       → IsCurrent store realm seats → IsCurrent store realm (drained seats seat).1
   pub changed : (old new : Store) (realm : Realm) (seats : Seated) → IsSoundStep old new
       → IsCurrent old realm seats → IsCurrent new realm (changed realm old new seats)
+
+-- when a client has been told, what it was told is what a search finds then; contexts that aren't named stay as they are, and so
+-- do snapshots over drains and changes of the store
+pub record ShownLaw : Type 0 where
+  pub told : (store : Store) (realm : Realm) (occupant : Occupant) (names : List (List ℕ)) (name : List ℕ) (last : ℤ) (context : Context)
+      → IsCurrentOccupant store realm occupant → Contains names name
+      → table.get (after_updates occupant.contexts names last) name ≡ Some context
+      → IsToldAll (matches_of store.records realm occupant.user context.sought) context.kept × (context.told ≡ last)
+  pub unnamed : (contexts : Contexts) (names : List (List ℕ)) (name : List ℕ) (last : ℤ) → ¬ (Contains names name)
+      → table.get (after_updates contexts names last) name ≡ table.get contexts name
+  pub drained : (store : Store) (realm : Realm) (occupant : Occupant) (name : List ℕ) (context : Context)
+      → IsCurrentOccupant store realm occupant → table.get (each_kept after_drain occupant.contexts) name ≡ Some context
+      → IsToldAll (matches_of store.records realm occupant.user context.sought) context.kept
+  pub drained_snapshot : (contexts : Contexts) (name : List ℕ) (context : Context) (shown : List Match) → context.kept ≡ Snapshot shown
+      → table.get contexts name ≡ Some context → table.get (each_kept after_drain contexts) name ≡ Some context
+  pub changed_snapshot : (old new : Store) (realm : Realm) (occupant : Occupant) (name : List ℕ) (context : Context) (shown : List Match) → context.kept ≡ Snapshot shown
+      → table.get occupant.contexts name ≡ Some context → table.get (changed_occupant realm old new occupant).contexts name ≡ Some context
+
+-- the changed paths are those whose tuple before isn't that after: an entry that comes, goes, or has another place or another row
+pub record ChangedLaw : Type 0 where
+  pub exact : (sought : Sought) (old new : Sight) (path : Path) → Contains (changed_paths sought old new) path ↔ (tuple_of old sought path ≢ tuple_of new sought path)
+  pub seats : (realm : Realm) (old new : Store) (seats : Seated) (seat : ℕ) → table.get (changed realm old new seats) seat ≡ option_map (changed_occupant realm old new) (table.get seats seat)
+  pub contexts : (realm : Realm) (old new : Store) (occupant : Occupant) (name : List ℕ)
+      → table.get (changed_occupant realm old new occupant).contexts name ≡ option_map (changed_context realm old new occupant.user) (table.get occupant.contexts name)

@@ -5,5 +5,5 @@
 mod laws;
 mod refusal;
 
-pub use laws::{current_law, notice_law};
+pub use laws::{changed_law, current_law, notice_law, shown_law};
 pub use refusal::ViewRefusal;
