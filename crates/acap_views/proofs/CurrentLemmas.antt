@@ -1,5 +1,5 @@
 -- Whatever happens to the contexts, live ones stay current.
-use Rattle.std.proofs.Common.{◌≡◌, ℕ, ℤ, ◌+◌, ◌≤◌, Bool, true, false, not, cond, T, ◌||◌, ◌&&◌, nat_lt, Option, Some, None, List, [], ◌∷◌, ◌++◌, length, refl, sym, ◌∙◌, ap, subst, arith, length-append}
+use Rattle.std.proofs.Common.{◌≡◌, ℕ, ℤ, ◌+◌, ◌≤◌, Bool, true, false, not, cond, ◌||◌, ◌&&◌, nat_lt, Option, Some, None, List, [], ◌∷◌, ◌++◌, length, refl, sym, ◌∙◌, ap, subst, arith, length-append}
 use Rattle.std.proofs.lemmas.Bool.{ltb-false}
 use Rattle.std.specs.Cmp.{IsTotalOrder, tied_itself, first_so, second_so}
 use Rattle.std.specs.Cmp.Lexicographic.{nat_list_cmp_total}
@@ -9,9 +9,9 @@ use Rattle.std.specs.FinMap.{FinMap, is_sorted, find}
 use Rattle.std.specs.FinMap.Entries.{below_all}
 use Rattle.std.specs.List.{filter_map, Contains}
 use Rattle.std.specs.Option.{option_map, option_map_or}
-use Rattle.std.specs.Ordering.{eq_by_cmp, is_eq, is_lt, nat_cmp, ordering_reverse}
+use Rattle.std.specs.Ordering.{eq_by_cmp, is_eq, nat_cmp, ordering_reverse}
 use Rattle.std.specs.declared.cmp.Ordering.{Ordering}
-use Rattle.std.specs.declared.cmp.Ordering.TheVariants.{Less, Equal, Greater}
+use Rattle.std.specs.declared.cmp.Ordering.TheVariants.{Less}
 use Rattle.std.specs.declared.result.Result.TheVariants.{Ok, Err}
 use Rattle.acap_entries.specs.Datasets.{dataset_exists}
 use Rattle.acap_entries.specs.Orders.{octets_cmp, octets_eq}
@@ -40,18 +40,9 @@ use Rattle.acap_views.specs.Opening.{is_full}
 use Rattle.acap_views.specs.Seats.{Occupant, Seated, IsAt, contexts_at, with_contexts}
 use Rattle.acap_views.specs.Telling.{shown_now, fault_of, updated_to, after_update, after_updates, unless_faulty, kept_drained, after_drain}
 use Rattle.acap_views.specs.declared.refusal.ViewRefusal.{ViewRefusal}
-use Rattle.acap_views.proofs.ListLemmas.{from_made, distinct}
+use Rattle.acap_views.proofs.ListLemmas.{so, less, from_made, distinct}
 
 -- ---- maps
-
-pub so : (b : Bool) → T b → b ≡ true
-so true h = refl
-so false h = absurd h
-
-pub less : (r : Ordering) → is_lt r ≡ true → r ≡ Less
-less Less e = refl
-less Equal e = absurd (cc (e))
-less Greater e = absurd (cc (e))
 
 module _ {K X : Type 0} {R : K → K → Ordering} (o : IsTotalOrder R) where
   below : (k : K) (es : List (K × X)) (e : K × X) → below_all R k es ≡ true → Contains es e → R k e.0 ≡ Less

@@ -1,12 +1,30 @@
 -- What lists contain, and names of which each comes once.
-use Rattle.std.proofs.Common.{◌≡◌, Bool, true, false, not, cond, ◌||◌, ◌&&◌, Option, Some, None, List, [], ◌∷◌, ◌++◌, refl, sym, ◌∙◌, ap}
-use Rattle.std.specs.List.{filter, filter_map, cons_option, Contains}
-use Rattle.acap_entries.specs.Orders.{octets_eq}
-use Rattle.acap_moves.specs.Hits.{Name, is_among, IsDistinct}
+use Rattle.std.proofs.Common.{◌≡◌, Bool, true, false, not, cond, ◌||◌, ◌&&◌, Option, Some, None, List, [], ◌∷◌, ◌++◌, refl, sym, ◌∙◌, ap, T, is_some, map as each}
+use Rattle.std.specs.Cmp.Lexicographic.{nat_list_cmp_total, texts_ties}
+use Rattle.std.specs.Cmp.{first_so, second_so}
+use Rattle.std.specs.FinMap as table
+use Rattle.std.specs.FinMap.{is_sorted, find}
+use Rattle.std.specs.FinMap.Entries.{below_all}
+use Rattle.std.specs.Ordering.{eq_by_cmp, is_lt}
+use Rattle.std.specs.declared.cmp.Ordering.{Ordering}
+use Rattle.std.specs.declared.cmp.Ordering.TheVariants.{Less, Equal, Greater}
+use Rattle.acap_views.specs.Notices.{ascending}
+use Rattle.std.specs.List.{list_any, filter, filter_map, cons_option, Contains}
+use Rattle.acap_entries.specs.Orders.{octets_cmp, octets_eq}
+use Rattle.acap_moves.specs.Hits.{Name, is_among, IsDistinct, IsBelow, IsAscending}
 use Rattle.acap_moves.proofs.Splits.{same_name, itself, among_first}
 use Rattle.acap_moves.proofs.Touched.{among_filter}
 use Rattle.acap_search.specs.Once.{EachOnce}
 use Rattle.acap_search.proofs.SeenLemmas.{here, there, first_or, nowhere, either, at_first}
+
+pub so : (b : Bool) → T b → b ≡ true
+so true h = refl
+so false h = absurd h
+
+pub less : (r : Ordering) → is_lt r ≡ true → r ≡ Less
+less Less e = refl
+less Equal e = absurd (cc (e))
+less Greater e = absurd (cc (e))
 
 pub from_made : {X Y : Type 0} (f : X → Option Y) (xs : List X) (y : Y) → Contains (filter_map f xs) y → (x : X) × (Contains xs x × (f x ≡ Some y))
 from_made f [] y h = nowhere y h
@@ -88,3 +106,36 @@ pub distinct_both : (xs ys : List Name) → IsDistinct xs → IsDistinct ys → 
 distinct_both xs ys h k =
     distinct_append xs _ h (distinct_filter (λ name. not (is_among name xs)) ys k)
     (λ q m. among_filter (λ name. not (is_among name xs)) q ys ∙ rw m refl)
+
+-- ---- names in order
+
+any_among : (q : Name) (ps : List Name) → list_any (eq_by_cmp octets_cmp q) ps ≡ is_among q ps
+unfolding is_among
+any_among q [] = refl
+any_among q (p ∷ ps) = ap (λ b. b || list_any (eq_by_cmp octets_cmp q) ps) (sym (texts_ties q p)) ∙ ap (λ b. octets_eq q p || b) (any_among q ps)
+
+found_pair : (q : Name) (ps : List Name) → is_some (find octets_cmp q (each (λ name. (name, name)) ps)) ≡ list_any (eq_by_cmp octets_cmp q) ps
+found_pair q [] = refl
+found_pair q (p ∷ ps) =
+    elim (eq_by_cmp octets_cmp q p) as (λ b. is_some (cond b (Some p) (find octets_cmp q (each (λ name. (name, name)) ps))) ≡ (b || list_any (eq_by_cmp octets_cmp q) ps))
+    [ true ↦ refl | false ↦ found_pair q ps ]
+
+abbrev pairs : List Name → table.FinMap octets_cmp Name
+pairs ps = table.from_entries (each (λ name. (name, name)) ps)
+
+pub among_ascending : (q : Name) (ps : List Name) → is_among q (ascending ps) ≡ is_among q ps
+among_ascending q ps =
+    sym (any_among q (ascending ps))
+    ∙ (sym (table.contains_key-keys (pairs ps) q)
+    ∙ (ap is_some (table.get-from_entries nat_list_cmp_total (each (λ name. (name, name)) ps) q) ∙ (found_pair q ps ∙ any_among q ps)))
+
+below_keys : (p : Name) (es : List (Name × Name)) → below_all octets_cmp p es ≡ true → IsBelow p (each (λ e. e.0) es)
+below_keys p [] b = tt
+below_keys p (e ∷ es) b = (less _ (first_so _ _ b), below_keys p es (second_so _ _ b))
+
+keys_rise : (es : List (Name × Name)) → is_sorted octets_cmp es ≡ true → IsAscending (each (λ e. e.0) es)
+keys_rise [] s = tt
+keys_rise (e ∷ es) s = (below_keys e.0 es (first_so _ _ s), keys_rise es (second_so _ _ s))
+
+pub ascends : (ps : List Name) → IsAscending (ascending ps)
+ascends ps = keys_rise (table.entries (pairs ps)) (so _ (table.entries_sorted (pairs ps)))

@@ -8,8 +8,10 @@ use Rattle.acap_entries.specs.Datasets.{dataset_exists}
 use Rattle.acap_entries.specs.Sound.{IsSoundStore}
 use Rattle.acap_entries.specs.Store.{Store}
 use Rattle.acap_entries.specs.declared.path.Path.{Path}
-use Rattle.acap_moves.specs.Hits.{Name, is_among, IsDistinct, fresh}
+use Rattle.acap_moves.specs.Hits.{IsAscending, Name, is_among, IsDistinct, fresh}
 use Rattle.acap_moves.specs.Hits as hits
+use Rattle.acap_moves.specs.Moves.{moves_to, after_moves, moves_notices}
+use Rattle.acap_moves.proofs.MoveLemmas.{moves}
 use Rattle.acap_moves.proofs.Mixed.{notice_list}
 use Rattle.acap_notices.specs.Holding.{holding, holding_after_all}
 use Rattle.acap_rights.specs.declared.realm.Realm.{Realm}
@@ -17,14 +19,14 @@ use Rattle.acap_search.specs.Fresh.{Sight, sight_of, tuple_of, fresh_of, matches
 use Rattle.acap_search.specs.Fresh as paths
 use Rattle.acap_search.specs.Keys.{holds}
 use Rattle.acap_search.specs.Laws.{SightLaw}
-use Rattle.acap_search.specs.Matches.{Match, match_lt, sorted_by}
+use Rattle.acap_search.specs.Matches.{Match, match_lt}
 use Rattle.acap_search.specs.Once.{OnceLaw}
 use Rattle.acap_search.specs.Rows.{stars_of}
 use Rattle.acap_search.specs.Tuples.{name_told, match_of}
 use Rattle.acap_search.specs.Walks.{quest_of, hits_over}
 use Rattle.acap_search.specs.declared.query.Sought.{Sought}
 use Rattle.acap_search.proofs.EqualLemmas.{places_exact}
-use Rattle.acap_search.proofs.FreshLemmas.{fresh_law, order_moves}
+use Rattle.acap_search.proofs.FreshLemmas.{fresh_law}
 use Rattle.acap_search.proofs.OrderLemmas.{match_weak}
 use Rattle.acap_search.proofs.SeenLemmas.{in_map, in_filter}
 use Rattle.acap_search.proofs.SortLemmas.{Rises, sorted_by_rises}
@@ -32,9 +34,9 @@ use Rattle.acap_search.proofs.TupleLemmas.{same_paths, from_among, made_is}
 use Rattle.acap_search.proofs.WalkLemmas.{fresh_is}
 use Rattle.acap_views.specs.Changing.{IsSoundStep, sight_for}
 use Rattle.acap_views.specs.Current.{rows}
-use Rattle.acap_views.specs.Laws.{NoticeLaw}
-use Rattle.acap_views.specs.Notices.{told_shape, names_told, match_told, names_of_both, same_tuple, paths_of_both, changed_paths, changed_names, list_notices, event_notices}
-use Rattle.acap_views.proofs.ListLemmas.{from_made, in_made, in_front, in_back, among, distinct}
+use Rattle.acap_views.specs.Laws.{FoundLaw, MovedLaw, NoticeLaw}
+use Rattle.acap_views.specs.Notices.{ascending, told_shape, names_told, match_told, names_of_both, same_tuple, paths_of_both, changed_paths, changed_names, list_notices, event_notices}
+use Rattle.acap_views.proofs.ListLemmas.{among_ascending, ascends, from_made, in_made, in_front, in_back, among, distinct}
 use Rattle.acap_views.proofs.ToldLemmas.{told_lawful, told_is, told_at, told_of_names, InTurn, in_turn, both_distinct, old_supports, new_supports, list_over}
 
 -- ---- tuples
@@ -108,9 +110,9 @@ unchanged old new sought p e =
       | true ↦ λ t. refl
       | false ↦ λ t.
           let differs : Path → Bool = λ path. not (same_tuple (tuple_of old sought path) (tuple_of new sought path)) in
+          let told : List Name = each (name_told sought.depth) (changed_paths sought old new) in
           let kept = in_filter differs (paths_of_both old new) p (in_both old new sought p t) (ap not t) in
-          let sorted = Contains-permutation (filter differs (paths_of_both old new)) (changed_paths sought old new) p (order_moves full_path_lt _) kept in
-          absurd (cc (e, among _ _ (in_map (name_told sought.depth) (changed_paths sought old new) p sorted)))
+          absurd (cc (e, among_ascending (name_told sought.depth p) told ∙ among told _ (in_map (name_told sought.depth) (changed_paths sought old new) p kept)))
     ] refl)
 
 same_answers : (a b : Option Match) → ((m : Match) → a ≡ Some m → b ≡ Some m) → ((m : Match) → b ≡ Some m → a ≡ Some m) → a ≡ b
@@ -180,6 +182,33 @@ module _ (once : OnceLaw) (realm : Realm) (user : List ℕ) (sought : Sought) (o
       ap (λ (ms : List Match). holding_after_all (holding enumerated (rows ms)) (event_notices enumerated sought before after)) (sym first_is)
       ∙ (told_rows enumerated ∙ ap (λ (ms : List Match). Some (holding enumerated (rows ms))) last_is)
 
+  pub moved : (enumerated : Bool) (touched : List Name) → IsAscending touched
+      → ((name : Name) → is_among name (changed_names sought before after) ≡ true → is_among name touched ≡ true)
+      → (after_moves told_shape (moves_to (match_told last) touched) first ≡ last)
+      × (moves_notices told_shape enumerated (moves_to (match_told last) touched) first ≡ event_notices enumerated sought before after)
+  moved enumerated touched rising covers =
+      let m =
+      moves told_shape told_lawful enumerated (match_told first) (match_told last) (names_of_both first last) (changed_names sought before after) touched
+      (both_distinct first last first_once last_once) (told_of_names first) (told_of_names last) (new_supports first last) kept
+      (ascends (each (name_told sought.depth) (changed_paths sought before after))) rising covers in (
+        ap (after_moves told_shape (moves_to (match_told last) touched)) (sym first_is) ∙ (m.0 ∙ last_is),
+        ap (moves_notices told_shape enumerated (moves_to (match_told last) touched)) (sym first_is) ∙ m.1,
+      )
+
+pub moved_law : OnceLaw → MovedLaw
+moved_law once old new realm user enumerated sought touched sound exists rising covers = moved once realm user sought old new sound exists enumerated touched rising covers
+
+pub found_law : OnceLaw → FoundLaw
+found_law once = record {
+  name = λ store realm user sought name m e.
+      let w = told_is (matches_of store.records realm user sought) name m e in
+      (made realm user sought store m w.0, (w.1, sym (name_is realm user sought store m w.0) ∙ w.1));
+  found = λ store realm user sought path m sound exists e.
+      let told = made_at (sight_for realm store user sought) sought path m e in
+      ap (match_told (matches_of store.records realm user sought)) (sym told.1.1)
+      ∙ told_at (matches_of store.records realm user sought) m (names_once realm user sought store once sound exists) (made_in realm user sought store path m e);
+}
+
 pub notice_law : SightLaw → OnceLaw → NoticeLaw
 notice_law sights once = record {
   same = λ old new first second realm other user one enumerated sought before after.
@@ -188,7 +217,7 @@ notice_law sights once = record {
       let f = sights.fresh old.records first.records realm other user one sought before in
       let g = sights.fresh new.records second.records realm other user one sought after in
       λ i. list_notices enumerated (f i) (g i)
-      (each (name_told sought.depth) (sorted_by full_path_lt
+      (ascending (each (name_told sought.depth)
       (filter (λ path. not (same_tuple (t path i) (u path i))) (before.paths i ++ filter (λ path. not (paths.is_among (before.paths i) path)) (after.paths i)))));
   leads = λ old new realm user enumerated sought sound exists. leads once realm user sought old new sound exists enumerated;
 }

@@ -1,11 +1,11 @@
 -- What a client has been told is what a search finds, and what a change leaves of each context.
-use Rattle.std.proofs.Common.{◌≡◌, ◌≢◌, ℕ, ℤ, Bool, true, false, not, cond, ◌&&◌, Option, Some, None, List, [], ◌∷◌, refl, sym, ◌∙◌, ap, subst}
+use Rattle.std.proofs.Common.{◌≡◌, ◌≢◌, ℕ, ℤ, Bool, true, false, not, cond, ◌&&◌, Option, Some, None, List, [], ◌∷◌, refl, sym, ◌∙◌, ap, subst, map as each}
 use Rattle.std.specs.Cmp.{IsTotalOrder, tied_itself, first_so, second_so, nat_cmp_total}
 use Rattle.std.specs.Cmp.Lexicographic.{nat_list_cmp_total, pointwise}
 use Rattle.std.specs.FinMap as table
 use Rattle.std.specs.FinMap.{FinMap, is_sorted, find, slice_cmp-IsAntisymmetric, nat_cmp-IsAntisymmetric}
 use Rattle.std.specs.FinMap.Entries.{below_all}
-use Rattle.std.specs.List.{filter, filter_map, cons_option, Contains}
+use Rattle.std.specs.List.{filter_map, cons_option, Contains}
 use Rattle.std.specs.Option.{option_map, option_map_or, option_and_then}
 use Rattle.std.specs.Ordering.{eq_by_cmp, is_eq}
 use Rattle.std.specs.declared.cmp.Ordering.{Ordering}
@@ -17,24 +17,26 @@ use Rattle.acap_entries.specs.declared.path.Path.{Path}
 use Rattle.acap_moves.specs.Notices.{same_row}
 use Rattle.acap_notices.specs.declared.notice.Notice.{Notice}
 use Rattle.acap_rights.specs.declared.realm.Realm.{Realm}
-use Rattle.acap_search.specs.Fresh.{Sight, tuple_of, matches_of, full_path_lt, same_path}
+use Rattle.acap_search.specs.Fresh.{Sight, tuple_of, matches_of, same_path}
 use Rattle.acap_search.specs.Matches.{Match}
 use Rattle.acap_search.specs.contracts.rank.PlacePartialEq.TheImpl as place
 use Rattle.acap_search.specs.declared.query.Sought.{Sought}
 use Rattle.acap_search.proofs.EqualLemmas.{places_exact}
-use Rattle.acap_search.proofs.FreshLemmas.{order_moves}
-use Rattle.acap_search.proofs.SeenLemmas.{here, there, first_or, nowhere, either, in_filter, from_filter, from_order}
+use Rattle.acap_search.proofs.SeenLemmas.{here, there, first_or, nowhere, either, in_filter, from_filter}
 use Rattle.acap_search.proofs.TupleLemmas.{itself}
-use Rattle.std.proofs.lemmas.List.Sorted.{Contains-permutation}
 use Rattle.acap_views.specs.Changing.{sight_for, follows, changed_context, changed_occupant}
 use Rattle.acap_views.specs.Contexts.{Kept, Snapshot, Live, Freed, Context, Contexts}
 use Rattle.acap_views.specs.Current.{IsToldAll, IsCurrentKept, IsCurrentContext, IsCurrentOccupant}
 use Rattle.acap_views.specs.Laws.{ShownLaw, ChangedLaw}
+use Rattle.acap_moves.specs.Hits.{Name}
+use Rattle.acap_search.specs.Tuples.{name_told}
+use Rattle.acap_search.proofs.SeenLemmas.{in_map, from_map}
 use Rattle.acap_views.specs.Maps.{each_kept, each_value}
-use Rattle.acap_views.specs.Notices.{event_notices, same_tuple, paths_of_both, changed_paths}
+use Rattle.acap_views.specs.Notices.{changed_names, event_notices, same_tuple, paths_of_both, changed_paths}
 use Rattle.acap_views.specs.Seats.{Occupant}
 use Rattle.acap_views.specs.Telling.{shown_now, updated_to, after_update, after_updates, kept_drained, after_drain}
-use Rattle.acap_views.proofs.CurrentLemmas.{so, less, from_kept, AreCurrent, one_update}
+use Rattle.acap_views.proofs.CurrentLemmas.{from_kept, AreCurrent, one_update}
+use Rattle.acap_views.proofs.ListLemmas.{so, less, among, from_among, among_ascending, ascends}
 use Rattle.acap_views.proofs.NoticeLemmas.{same_exact, in_both}
 
 -- ---- maps
@@ -201,21 +203,32 @@ differs sought old new path = not (same_tuple (tuple_of old sought path) (tuple_
 
 changed_differs : (sought : Sought) (old new : Sight) (path : Path) → Contains (changed_paths sought old new) path → tuple_of old sought path ≢ tuple_of new sought path
 changed_differs sought old new path h e =
-    let kept = from_filter (differs sought old new) (paths_of_both old new) path (from_order full_path_lt (filter (differs sought old new) (paths_of_both old new)) path h) in
+    let kept = from_filter (differs sought old new) (paths_of_both old new) path h in
     cc (kept.1, ap not (same_itself _ _ e))
 
 differs_changed : (sought : Sought) (old new : Sight) (path : Path) → tuple_of old sought path ≢ tuple_of new sought path → Contains (changed_paths sought old new) path
 differs_changed sought old new path n =
     elim (same_tuple (tuple_of old sought path) (tuple_of new sought path)) as (λ b. same_tuple (tuple_of old sought path) (tuple_of new sought path) ≡ b → Contains (changed_paths sought old new) path) [
       | true ↦ λ e. absurd (n (same_exact _ _ e))
-      | false ↦ λ e.
-          Contains-permutation (filter (differs sought old new) (paths_of_both old new)) (changed_paths sought old new) path (order_moves full_path_lt _)
-          (in_filter (differs sought old new) (paths_of_both old new) path (in_both old new sought path e) (ap not e))
+      | false ↦ λ e. in_filter (differs sought old new) (paths_of_both old new) path (in_both old new sought path e) (ap not e)
     ] refl
+
+named_from : (sought : Sought) (old new : Sight) (name : Name) → Contains (changed_names sought old new) name → (path : Path) × (Contains (changed_paths sought old new) path × (name_told sought.depth path ≡ name))
+named_from sought old new name h =
+    let told : List Name = each (name_told sought.depth) (changed_paths sought old new) in
+    from_map (name_told sought.depth) (changed_paths sought old new) name (from_among told name (sym (among_ascending name told) ∙ among (changed_names sought old new) name h))
+
+named_to : (sought : Sought) (old new : Sight) (name : Name) (path : Path) → Contains (changed_paths sought old new) path → name_told sought.depth path ≡ name → Contains (changed_names sought old new) name
+named_to sought old new name path h e =
+    let told : List Name = each (name_told sought.depth) (changed_paths sought old new) in
+    let in_it : Contains told name = subst (λ n. Contains told n) e (in_map (name_told sought.depth) (changed_paths sought old new) path h) in
+    from_among (changed_names sought old new) name (among_ascending name told ∙ among told name in_it)
 
 pub changed_law : ChangedLaw
 changed_law = record {
   exact = λ sought old new path. (changed_differs sought old new path, differs_changed sought old new path);
+  named = λ sought old new name. (named_from sought old new name, λ w. named_to sought old new name w.0 w.1.0 w.1.1);
+  ascending = λ sought old new. ascends (each (name_told sought.depth) (changed_paths sought old new));
   seats = λ realm old new seats seat. get_value nat_cmp_total (changed_occupant realm old new) seats seat;
   contexts = λ realm old new occupant name. get_value nat_list_cmp_total (changed_context realm old new occupant.user) occupant.contexts name;
 }

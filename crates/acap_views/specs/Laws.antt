@@ -7,6 +7,9 @@ use Rattle.acap_entries.specs.Datasets.{dataset_exists}
 use Rattle.acap_entries.specs.Sound.{IsSoundStore}
 use Rattle.acap_entries.specs.Store.{Store}
 use Rattle.acap_commands.specs.declared.make_context.MakeContext.{MakeContext}
+use Rattle.acap_moves.specs.Hits.{Name, IsAscending, is_among}
+use Rattle.acap_moves.specs.Moves.{moves_to, after_moves, moves_notices}
+use Rattle.acap_search.specs.Tuples.{name_told}
 use Rattle.acap_notices.specs.Holding.{holding, holding_after_all}
 use Rattle.acap_notices.specs.declared.told.Told.{Told}
 use Rattle.acap_rights.specs.declared.realm.Realm.{Realm}
@@ -18,7 +21,7 @@ use Rattle.acap_views.specs.Contexts.{Snapshot, Context, Contexts}
 use Rattle.acap_views.specs.Maps.{each_kept}
 use Rattle.acap_views.specs.Changing.{IsSoundStep, sight_for, changed_context, changed_occupant, changed}
 use Rattle.acap_views.specs.Current.{IsCurrent, IsCurrentOccupant, IsToldAll, rows}
-use Rattle.acap_views.specs.Notices.{event_notices, changed_paths}
+use Rattle.acap_views.specs.Notices.{told_shape, match_told, event_notices, changed_paths, changed_names}
 use Rattle.acap_views.specs.Opening.{opened, freed_by}
 use Rattle.acap_views.specs.Seats.{Occupant, Seated, IsAt, entered, left}
 use Rattle.acap_views.specs.Telling.{after_updates, after_drain, told_of, drained}
@@ -77,6 +80,31 @@ pub record ShownLaw : Type 0 where
 -- the changed paths are those whose tuple before isn't that after: an entry that comes, goes, or has another place or another row
 pub record ChangedLaw : Type 0 where
   pub exact : (sought : Sought) (old new : Sight) (path : Path) → Contains (changed_paths sought old new) path ↔ (tuple_of old sought path ≢ tuple_of new sought path)
+  pub named : (sought : Sought) (old new : Sight) (name : Name)
+      → Contains (changed_names sought old new) name ↔ ((path : Path) × (Contains (changed_paths sought old new) path × (name_told sought.depth path ≡ name)))
+  pub ascending : (sought : Sought) (old new : Sight) → IsAscending (changed_names sought old new)
   pub seats : (realm : Realm) (old new : Store) (seats : Seated) (seat : ℕ) → table.get (changed realm old new seats) seat ≡ option_map (changed_occupant realm old new) (table.get seats seat)
   pub contexts : (realm : Realm) (old new : Store) (occupant : Occupant) (name : List ℕ)
       → table.get (changed_occupant realm old new occupant).contexts name ≡ option_map (changed_context realm old new occupant.user) (table.get occupant.contexts name)
+
+-- a match is told by the name of its path, and by no other
+pub record FoundLaw : Type 0 where
+  pub name : (store : Store) (realm : Realm) (user : List ℕ) (sought : Sought) (name : Name) (found : Match)
+      → match_told (matches_of store.records realm user sought) name ≡ Some found
+      → (tuple_of (sight_for realm store user sought) sought found.path ≡ Some found) × ((found.row.name ≡ name) × (name_told sought.depth found.path ≡ name))
+  pub found : (store : Store) (realm : Realm) (user : List ℕ) (sought : Sought) (path : Path) (found : Match)
+      → IsSoundStore store.records → dataset_exists store.records sought.dataset ≡ true
+      → tuple_of (sight_for realm store user sought) sought path ≡ Some found
+      → match_told (matches_of store.records realm user sought) (name_told sought.depth path) ≡ Some found
+
+-- the list after a change is that before it from which the match of one name after the other is taken, and the new one put in at its
+-- place; the notices of the change are those of these moves. The names ascend, and may be more than those that have changed
+abbrev pub MovedLaw : Type 0
+MovedLaw =
+    (old new : Store) (realm : Realm) (user : List ℕ) (enumerated : Bool) (sought : Sought) (touched : List Name)
+    → IsSoundStep old new → dataset_exists old.records sought.dataset ≡ true → IsAscending touched
+    → ((name : Name) → is_among name (changed_names sought (sight_for realm old user sought) (sight_for realm new user sought)) ≡ true → is_among name touched ≡ true)
+    → (after_moves told_shape (moves_to (match_told (matches_of new.records realm user sought)) touched) (matches_of old.records realm user sought)
+    ≡ matches_of new.records realm user sought)
+    × (moves_notices told_shape enumerated (moves_to (match_told (matches_of new.records realm user sought)) touched) (matches_of old.records realm user sought)
+    ≡ event_notices enumerated sought (sight_for realm old user sought) (sight_for realm new user sought))

@@ -1,6 +1,7 @@
 -- What one change of the store comes to for a live search [RFC 2244 sections 3.3, 6.4.1 and 6.5].
 use Rattle.std.specs.Prelude.{Bool, true, false, not, ◌&&◌, ◌++◌, List, Option, Some, None, map as each}
 use Rattle.std.specs.Cmp.Lexicographic.{pointwise}
+use Rattle.std.specs.FinMap as table
 use Rattle.std.specs.List.{filter, find}
 use Rattle.std.specs.Ordering.{ordering_then}
 use Rattle.std.specs.declared.cmp.Ordering.{Ordering}
@@ -10,8 +11,8 @@ use Rattle.acap_moves.specs.Hits.{Name, Shape}
 use Rattle.acap_moves.specs.Hits as hits
 use Rattle.acap_moves.specs.Notices.{same_row, notices}
 use Rattle.acap_notices.specs.declared.notice.Notice.{Notice}
-use Rattle.acap_search.specs.Fresh.{Sight, same_path, is_among, full_path_lt, tuple_of, fresh_of}
-use Rattle.acap_search.specs.Matches.{Match, match_cmp, sorted_by}
+use Rattle.acap_search.specs.Fresh.{Sight, same_path, is_among, tuple_of, fresh_of}
+use Rattle.acap_search.specs.Matches.{Match, match_cmp}
 use Rattle.acap_search.specs.Tuples.{name_told}
 use Rattle.acap_search.specs.contracts.rank.PlacePartialEq.TheImpl as place
 use Rattle.acap_search.specs.declared.query.Sought.{Sought}
@@ -48,16 +49,20 @@ same_tuple None (Some b) = false
 same_tuple (Some a) None = false
 same_tuple (Some a) (Some b) = same_match a b
 
--- the paths whose tuple before differs from that after, ascending, and the names by which they are told
+-- the paths whose tuple before differs from that after
 abbrev pub paths_of_both : Sight → Sight → List Path
 paths_of_both old new = old.paths ++ filter (λ path. not (is_among old.paths path)) new.paths
 
 abbrev pub changed_paths : Sought → Sight → Sight → List Path
-changed_paths sought old new =
-    sorted_by full_path_lt (filter (λ path. not (same_tuple (tuple_of old sought path) (tuple_of new sought path))) (paths_of_both old new))
+changed_paths sought old new = filter (λ path. not (same_tuple (tuple_of old sought path) (tuple_of new sought path))) (paths_of_both old new)
+
+-- the names by which they are told, ascending in octets: with DEPTH these are the full paths, and without it what stands behind
+-- the one dataset, so that the paths ascend too
+abbrev pub ascending : List Name → List Name
+ascending names = table.keys (table.from_entries {R = octets_cmp} (each (λ name. (name, name)) names))
 
 abbrev pub changed_names : Sought → Sight → Sight → List Name
-changed_names sought old new = each (name_told sought.depth) (changed_paths sought old new)
+changed_names sought old new = ascending (each (name_told sought.depth) (changed_paths sought old new))
 
 -- the notices by mixed lists: in list k the first k of these have their new matches, and all others their old ones
 abbrev pub list_notices : Bool → List Match → List Match → List Name → List Notice

@@ -1,6 +1,6 @@
 //! What follows from the definitions alone: the contract of each function is the law, and its body names
 //! at most a law of the crates below.
-ghost use Rattle.acap_views.specs.Laws.{NoticeLaw, CurrentLaw, ShownLaw, ChangedLaw};
+ghost use Rattle.acap_views.specs.Laws.{NoticeLaw, CurrentLaw, ShownLaw, ChangedLaw, FoundLaw, MovedLaw};
 
 use acap_search::{once_law, sight_law};
 
@@ -30,3 +30,18 @@ pub fn shown_law()
 pub fn changed_law()
     ensures { ChangedLaw }
 {}
+
+/// A match is told by the name of its path: the full path where DEPTH was written, and else what stands behind the dataset (RFC 2244
+/// section 6.4.1).
+pub fn found_law()
+    ensures { FoundLaw }
+{
+    once_law();
+}
+
+/// What a change does to the list of a search: matches are taken out and put in, one name after the other (RFC 2244 section 6.5).
+pub fn moved_law()
+    ensures { MovedLaw }
+{
+    once_law();
+}

@@ -5,5 +5,5 @@
 mod laws;
 mod refusal;
 
-pub use laws::{changed_law, current_law, notice_law, shown_law};
+pub use laws::{changed_law, current_law, found_law, moved_law, notice_law, shown_law};
 pub use refusal::ViewRefusal;
