@@ -73,11 +73,16 @@ pub from_kept : {K X Y : Type 0} {R : K → K → Ordering} → IsTotalOrder R �
     → (j : K) × ((x : X) × ((table.get m j ≡ Some x) × (f x ≡ Some y)))
 from_kept {R = R} o f m k y h =
     let found = find_some R k (filter_map (λ e. option_map (λ y. (e.0, y)) (f e.1)) (table.entries m)) y (sym (table.get-from_entries o _ k) ∙ h) in
-    let w = from_made (λ e. option_map (λ y. (e.0, y)) (f e.1)) (table.entries m) found.0 found.1.0 in
-    (w.0.0, (w.0.1, (
-      table.get-entries m w.0.0 ∙ find_own o (table.entries m) w.0 (so _ (table.entries_sorted m)) w.1.0,
-      became w.0.0 (f w.0.1) found.0 w.1.1 ∙ ap Some found.1.1,
-    )))
+    let w = from_made (λ e. option_map (λ y. (e.0, y)) (f e.1)) (table.entries m) found.0 found.1.0 in (
+      w.0.0,
+      (
+        w.0.1,
+        (
+          table.get-entries m w.0.0 ∙ find_own o (table.entries m) w.0 (so _ (table.entries_sorted m)) w.1.0,
+          became w.0.0 (f w.0.1) found.0 w.1.1 ∙ ap Some found.1.1,
+        ),
+      ),
+    )
 
 -- ---- rows
 
@@ -266,9 +271,9 @@ current_law notice once = record {
       opened_is store realm (is_full (contexts_at seats seat) make.name) _ new _ e
       (with_current store realm seats seat (λ contexts. table.insert contexts make.name (context_of make sought (matches_of store.records realm user sought) last)) i
       (λ occupant at_seat all.
-          put_there store realm occupant.user occupant.contexts make.name _ all (subst (λ who. IsCurrentContext store realm who (context_of make sought (matches_of store.records realm user sought) last))
-          (sym (user_of seats seat user occupant at at_seat))
-          (record { exists = exists; kept = made_kept (matches_of store.records realm user sought) make.enumerate make.notify (rows_once once store realm user sought sound exists) }))));
+      put_there store realm occupant.user occupant.contexts make.name _ all (subst (λ who. IsCurrentContext store realm who (context_of make sought (matches_of store.records realm user sought) last))
+      (sym (user_of seats seat user occupant at at_seat))
+      (record { exists = exists; kept = made_kept (matches_of store.records realm user sought) make.enumerate make.notify (rows_once once store realm user sought sound exists) }))));
   freed = λ store realm seats new seat name e i.
       freed_is store realm (table.contains_key (contexts_at seats seat) name) _ new _ e
       (with_current store realm seats seat (λ contexts. table.remove contexts name) i (λ occupant at all. taken_there store realm occupant.user occupant.contexts name all));

@@ -3,3 +3,4 @@ pub mod ToldLemmas
 pub mod NoticeLemmas
 pub mod CurrentLemmas
 pub mod ShownLemmas
+pub mod ExampleLemmas

@@ -1,6 +1,7 @@
 pub mod Changing
 pub mod Contexts
 pub mod Current
+pub mod Examples
 pub mod Laws
 pub mod Maps
 pub mod Notices

@@ -1,5 +1,6 @@
 //! What follows from the definitions alone: the contract of each function is the law, and its body names
 //! at most a law of the crates below.
+ghost use Rattle.acap_views.specs.Examples.{KeptExamples, NamedExamples, NoticeExamples};
 ghost use Rattle.acap_views.specs.Laws.{NoticeLaw, CurrentLaw, ShownLaw, ChangedLaw, FoundLaw, MovedLaw};
 
 use acap_search::{once_law, sight_law};
@@ -45,3 +46,18 @@ pub fn moved_law()
 {
     once_law();
 }
+
+/// What events make of one context, computed from the definitions alone.
+pub fn kept_examples()
+    ensures { KeptExamples }
+{}
+
+/// Contexts by their names, computed from the definitions alone.
+pub fn named_examples()
+    ensures { NamedExamples }
+{}
+
+/// Notices of one change, computed from the definitions alone.
+pub fn notice_examples()
+    ensures { NoticeExamples }
+{}

@@ -5,5 +5,8 @@
 mod laws;
 mod refusal;
 
-pub use laws::{changed_law, current_law, found_law, moved_law, notice_law, shown_law};
+pub use laws::{
+    changed_law, current_law, found_law, kept_examples, moved_law, named_examples, notice_examples,
+    notice_law, shown_law,
+};
 pub use refusal::ViewRefusal;
