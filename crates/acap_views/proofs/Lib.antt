@@ -4,3 +4,5 @@ pub mod NoticeLemmas
 pub mod CurrentLemmas
 pub mod ShownLemmas
 pub mod ExampleLemmas
+pub mod PathLemmas
+pub mod MovingLemmas

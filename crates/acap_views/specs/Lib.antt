@@ -4,6 +4,7 @@ pub mod Current
 pub mod Examples
 pub mod Laws
 pub mod Maps
+pub mod Moving
 pub mod Notices
 pub mod Opening
 pub mod Seats

@@ -3,10 +3,12 @@
 #![tactic(auto)]
 
 mod laws;
+mod moving;
 mod refusal;
 
 pub use laws::{
     changed_law, current_law, found_law, kept_examples, moved_law, named_examples, notice_examples,
     notice_law, shown_law,
 };
+pub use moving::touched_moves_law;
 pub use refusal::ViewRefusal;
