@@ -6,3 +6,4 @@ pub mod ShownLemmas
 pub mod ExampleLemmas
 pub mod PathLemmas
 pub mod MovingLemmas
+pub mod WaitingLemmas

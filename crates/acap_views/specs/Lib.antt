@@ -1,4 +1,5 @@
 pub mod Changing
+pub mod Codes
 pub mod Contexts
 pub mod Current
 pub mod Examples
@@ -7,6 +8,8 @@ pub mod Maps
 pub mod Moving
 pub mod Notices
 pub mod Opening
+pub mod Ranging
 pub mod Seats
 pub mod Telling
 pub mod Waiting
+pub mod WaitingLaws

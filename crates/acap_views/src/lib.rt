@@ -5,6 +5,7 @@
 mod laws;
 mod moving;
 mod refusal;
+mod waiting;
 
 pub use laws::{
     changed_law, current_law, found_law, kept_examples, moved_law, named_examples, notice_examples,
@@ -12,3 +13,4 @@ pub use laws::{
 };
 pub use moving::touched_moves_law;
 pub use refusal::ViewRefusal;
+pub use waiting::waiting_law;
