@@ -1,6 +1,6 @@
 -- What a client has been told is what a search finds, and what a change leaves of each context.
 use Rattle.std.proofs.Common.{◌≡◌, ◌≢◌, ℕ, ℤ, Bool, true, false, not, cond, ◌&&◌, Option, Some, None, List, [], ◌∷◌, refl, sym, ◌∙◌, ap, subst, map as each}
-use Rattle.std.specs.Cmp.{IsTotalOrder, tied_itself, first_so, second_so, nat_cmp_total}
+use Rattle.std.specs.Cmp.{unsigned_ties, IsTotalOrder, tied_itself, first_so, second_so, nat_cmp_total}
 use Rattle.std.specs.Cmp.Lexicographic.{nat_list_cmp_total, pointwise}
 use Rattle.std.specs.FinMap as table
 use Rattle.std.specs.FinMap.{FinMap, is_sorted, find, slice_cmp-IsAntisymmetric, nat_cmp-IsAntisymmetric}
@@ -27,7 +27,7 @@ use Rattle.acap_search.proofs.TupleLemmas.{itself}
 use Rattle.acap_views.specs.Changing.{sight_for, follows, changed_context, changed_occupant}
 use Rattle.acap_views.specs.Contexts.{Kept, Snapshot, Live, Freed, Context, Contexts}
 use Rattle.acap_views.specs.Current.{IsToldAll, IsCurrentKept, IsCurrentContext, IsCurrentOccupant}
-use Rattle.acap_views.specs.Laws.{ShownLaw, ChangedLaw}
+use Rattle.acap_views.specs.Laws.{SeatsLaw, ShownLaw, ChangedLaw}
 use Rattle.acap_moves.specs.Hits.{Name}
 use Rattle.acap_search.specs.Tuples.{name_told}
 use Rattle.acap_search.proofs.SeenLemmas.{in_map, from_map}
@@ -180,6 +180,10 @@ shown_law = record {
   told = λ store realm occupant names name last context i h e. named_told store realm occupant.user last name names occupant.contexts i.each h context e;
   unnamed = λ contexts names name last n. none_named contexts names name last n;
   drained = after_drained;
+  drained_live = λ contexts name context shown now pending k e.
+      get_kept nat_list_cmp_total after_drain contexts name ∙ (ap (option_and_then after_drain) e ∙ ap (kept_drained context) k);
+  drained_freed = λ contexts name context k e.
+      get_kept nat_list_cmp_total after_drain contexts name ∙ (ap (option_and_then after_drain) e ∙ ap (kept_drained context) k);
   drained_snapshot = λ contexts name context shown k e.
       get_kept nat_list_cmp_total after_drain contexts name ∙ (ap (option_and_then after_drain) e ∙ ap (kept_drained context) k);
   changed_snapshot = λ old new realm occupant name context shown k e.
@@ -231,4 +235,21 @@ changed_law = record {
   ascending = λ sought old new. ascends (each (name_told sought.depth) (changed_paths sought old new));
   seats = λ realm old new seats seat. get_value nat_cmp_total (changed_occupant realm old new) seats seat;
   contexts = λ realm old new occupant name. get_value nat_list_cmp_total (changed_context realm old new occupant.user) occupant.contexts name;
+}
+
+-- ---- seats
+
+pub seats_law : SeatsLaw
+seats_law = record {
+  own = λ seats seat occupant contexts e.
+      ap (λ o. table.get (option_map_or (λ (occupant : Occupant). table.insert seats seat (record occupant { contexts = contexts })) o seats) seat) e
+      ∙ (table.get-insert nat_cmp_total seats seat (record occupant { contexts = contexts }) seat
+      ∙ ap (λ r. cond (is_eq r) (Some (record occupant { contexts = contexts })) (table.get seats seat)) (tied_itself nat_cmp_total seat));
+  others = λ seats seat other contexts n.
+      elim (table.get seats seat) as (λ o. table.get (option_map_or (λ (occupant : Occupant). table.insert seats seat (record occupant { contexts = contexts })) o seats) other ≡ table.get seats other) [
+        | None ↦ refl
+        | Some occupant ↦ table.get-insert nat_cmp_total seats seat (record occupant { contexts = contexts }) other
+            ∙ ap (λ b. cond b (Some (record occupant { contexts = contexts })) (table.get seats other)) (sym (unsigned_ties other seat) ∙ n)
+      ];
+  empty = λ seats seat contexts e. ap (λ o. option_map_or (λ (occupant : Occupant). table.insert seats seat (record occupant { contexts = contexts })) o seats) e;
 }

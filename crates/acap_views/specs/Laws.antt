@@ -1,7 +1,7 @@
 -- What follows from the definitions alone [RFC 2244 sections 3.3, 3.5 and 6.5].
 use Rattle.std.specs.Option.{option_map}
 use Rattle.std.specs.List.{Contains}
-use Rattle.std.specs.Prelude.{◌≢◌, ◌↔◌, ◌≡◌, ℕ, ℤ, Bool, true, List, Some, Ok}
+use Rattle.std.specs.Prelude.{◌≢◌, ◌↔◌, ◌≡◌, ℕ, ℤ, Bool, true, List, Some, Ok, [], None, false, ◌==◌}
 use Rattle.std.specs.FinMap as table
 use Rattle.acap_entries.specs.Datasets.{dataset_exists}
 use Rattle.acap_entries.specs.Sound.{IsSoundStore}
@@ -11,19 +11,20 @@ use Rattle.acap_moves.specs.Hits.{Name, IsAscending, is_among}
 use Rattle.acap_moves.specs.Moves.{moves_to, after_moves, moves_notices}
 use Rattle.acap_search.specs.Tuples.{name_told}
 use Rattle.acap_notices.specs.Holding.{holding, holding_after_all}
+use Rattle.acap_notices.specs.declared.notice.Notice.{Notice}
 use Rattle.acap_notices.specs.declared.told.Told.{Told}
 use Rattle.acap_rights.specs.declared.realm.Realm.{Realm}
 use Rattle.acap_search.specs.Fresh.{Sight, tuple_of, IsSameSight, matches_of}
 use Rattle.acap_search.specs.Matches.{Match}
 use Rattle.acap_search.specs.declared.query.Sought.{Sought}
 use Rattle.acap_entries.specs.declared.path.Path.{Path}
-use Rattle.acap_views.specs.Contexts.{Snapshot, Context, Contexts}
+use Rattle.acap_views.specs.Contexts.{Snapshot, Live, Freed, Context, Contexts}
 use Rattle.acap_views.specs.Maps.{each_kept}
 use Rattle.acap_views.specs.Changing.{IsSoundStep, sight_for, changed_context, changed_occupant, changed}
 use Rattle.acap_views.specs.Current.{IsCurrent, IsCurrentOccupant, IsToldAll, rows}
 use Rattle.acap_views.specs.Notices.{told_shape, match_told, event_notices, changed_paths, changed_names}
 use Rattle.acap_views.specs.Opening.{opened, freed_by}
-use Rattle.acap_views.specs.Seats.{Occupant, Seated, IsAt, entered, left}
+use Rattle.acap_views.specs.Seats.{Occupant, Seated, IsAt, entered, left, with_contexts}
 use Rattle.acap_views.specs.Telling.{after_updates, after_drain, told_of, drained}
 
 -- two changes come to the same notices where what is seen before is the same, and what is seen after; and a client that holds the
@@ -61,7 +62,7 @@ pub record CurrentLaw : Type 0 where
       → IsCurrent old realm seats → IsCurrent new realm (changed realm old new seats)
 
 -- when a client has been told, what it was told is what a search finds then; contexts that aren't named stay as they are, and so
--- do snapshots over drains and changes of the store
+-- do snapshots over drains and changes of the store. A drain takes freed ones away, and leaves each live one its moment
 pub record ShownLaw : Type 0 where
   pub told : (store : Store) (realm : Realm) (occupant : Occupant) (names : List (List ℕ)) (name : List ℕ) (last : ℤ) (context : Context)
       → IsCurrentOccupant store realm occupant → Contains names name
@@ -72,6 +73,10 @@ pub record ShownLaw : Type 0 where
   pub drained : (store : Store) (realm : Realm) (occupant : Occupant) (name : List ℕ) (context : Context)
       → IsCurrentOccupant store realm occupant → table.get (each_kept after_drain occupant.contexts) name ≡ Some context
       → IsToldAll (matches_of store.records realm occupant.user context.sought) context.kept
+  pub drained_live : (contexts : Contexts) (name : List ℕ) (context : Context) (shown now : List Match) (pending : List Notice) → context.kept ≡ Live shown now pending
+      → table.get contexts name ≡ Some context → table.get (each_kept after_drain contexts) name ≡ Some (record context { kept = Live now now [] })
+  pub drained_freed : (contexts : Contexts) (name : List ℕ) (context : Context) → context.kept ≡ Freed
+      → table.get contexts name ≡ Some context → table.get (each_kept after_drain contexts) name ≡ None
   pub drained_snapshot : (contexts : Contexts) (name : List ℕ) (context : Context) (shown : List Match) → context.kept ≡ Snapshot shown
       → table.get contexts name ≡ Some context → table.get (each_kept after_drain contexts) name ≡ Some context
   pub changed_snapshot : (old new : Store) (realm : Realm) (occupant : Occupant) (name : List ℕ) (context : Context) (shown : List Match) → context.kept ≡ Snapshot shown
@@ -108,3 +113,11 @@ MovedLaw =
     ≡ matches_of new.records realm user sought)
     × (moves_notices told_shape enumerated (moves_to (match_told (matches_of new.records realm user sought)) touched) (matches_of old.records realm user sought)
     ≡ event_notices enumerated sought (sight_for realm old user sought) (sight_for realm new user sought))
+
+-- what is done at one seat is done to its own contexts, and nothing at an empty one
+pub record SeatsLaw : Type 0 where
+  pub own : (seats : Seated) (seat : ℕ) (occupant : Occupant) (contexts : Contexts) → table.get seats seat ≡ Some occupant
+      → table.get (with_contexts seats seat contexts) seat ≡ Some (record occupant { contexts = contexts })
+  pub others : (seats : Seated) (seat other : ℕ) (contexts : Contexts) → (other == seat) ≡ false
+      → table.get (with_contexts seats seat contexts) other ≡ table.get seats other
+  pub empty : (seats : Seated) (seat : ℕ) (contexts : Contexts) → table.get seats seat ≡ None → with_contexts seats seat contexts ≡ seats

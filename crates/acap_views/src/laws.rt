@@ -1,7 +1,7 @@
 //! What follows from the definitions alone: the contract of each function is the law, and its body names
 //! at most a law of the crates below.
 ghost use Rattle.acap_views.specs.Examples.{KeptExamples, NamedExamples, NoticeExamples};
-ghost use Rattle.acap_views.specs.Laws.{NoticeLaw, CurrentLaw, ShownLaw, ChangedLaw, FoundLaw, MovedLaw};
+ghost use Rattle.acap_views.specs.Laws.{NoticeLaw, CurrentLaw, ShownLaw, ChangedLaw, FoundLaw, MovedLaw, SeatsLaw};
 
 use acap_search::{once_law, sight_law};
 
@@ -46,6 +46,11 @@ pub fn moved_law()
 {
     once_law();
 }
+
+/// What is done at one seat is done to its own contexts alone (RFC 2244 section 3.3).
+pub fn seats_law()
+    ensures { SeatsLaw }
+{}
 
 /// What events make of one context, computed from the definitions alone.
 pub fn kept_examples()

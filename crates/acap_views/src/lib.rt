@@ -9,7 +9,7 @@ mod waiting;
 
 pub use laws::{
     changed_law, current_law, found_law, kept_examples, moved_law, named_examples, notice_examples,
-    notice_law, shown_law,
+    notice_law, seats_law, shown_law,
 };
 pub use moving::touched_moves_law;
 pub use refusal::ViewRefusal;
