@@ -7,3 +7,4 @@ pub mod ExampleLemmas
 pub mod PathLemmas
 pub mod MovingLemmas
 pub mod WaitingLemmas
+pub mod ClientLemmas

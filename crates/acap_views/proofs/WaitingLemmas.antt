@@ -55,7 +55,7 @@ nothing_told (t ∷ ts) = (λ e. absurd (cc (e)), λ e. absurd (cc (e)))
 -- ---- a map none of whose values passes a test
 
 module _ {K X : Type 0} {R : K → K → Ordering} (o : IsTotalOrder R) (test : X → Bool) where
-  tied_none : (q k : K) (es : List (K × X)) → R q k ≡ Equal → below_all R k es ≡ true → find R q es ≡ None
+  pub tied_none : (q k : K) (es : List (K × X)) → R q k ≡ Equal → below_all R k es ≡ true → find R q es ≡ None
   tied_none q k [] t b = refl
   tied_none q k (e ∷ es) t b = ap (λ r. cond (is_eq r) (Some e.1) (find R q es)) (o.congr q k e.0 t ∙ less _ (first_so _ _ b)) ∙ tied_none q k es t (second_so _ _ b)
 

@@ -1,4 +1,5 @@
 pub mod Changing
+pub mod Clients
 pub mod Codes
 pub mod Contexts
 pub mod Current

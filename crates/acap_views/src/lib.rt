@@ -2,11 +2,13 @@
 //! and 6.5).
 #![tactic(auto)]
 
+mod client;
 mod laws;
 mod moving;
 mod refusal;
 mod waiting;
 
+pub use client::client_law;
 pub use laws::{
     changed_law, current_law, found_law, kept_examples, moved_law, named_examples, notice_examples,
     notice_law, seats_law, shown_law,
