@@ -4,7 +4,7 @@ use Rattle.std.specs.Cmp.{first_so, second_so, eq_by_cmp_equiv}
 use Rattle.std.specs.Cmp.Lexicographic.{bytes_decides, nat_list_eq_equiv}
 use Rattle.std.specs.FinMap as map
 use Rattle.std.specs.FinMap.{IsAntisymmetric}
-use Rattle.std.specs.List.{list_any, Contains}
+use Rattle.std.specs.List.{filter, list_any, Contains}
 use Rattle.std.specs.Option.{option_and_then, option_map_or}
 use Rattle.std.specs.Ordering.{ordering_then}
 use Rattle.std.specs.declared.cmp.Ordering.{Ordering}
@@ -48,7 +48,8 @@ use Rattle.acap_search.proofs.SeenLemmas.{named as name_seen, here, there, first
 use Rattle.acap_search.proofs.TupleLemmas.{from_among as from_paths, made_is}
 use Rattle.acap_views.specs.Changing.{sight_for}
 use Rattle.acap_views.specs.Laws.{ChangedLaw, FoundLaw, MovedLaw}
-use Rattle.acap_views.specs.Moving.{is_looked_into, touched_for, moves_of, IsTaken, TouchedMovesLaw}
+use Rattle.acap_views.specs.Moving.{moves_of, IsTaken, TouchedMovesLaw}
+use Rattle.acap_views.specs.Work.{touched_for}
 use Rattle.acap_views.specs.Notices.{told_shape, match_told, changed_paths, changed_names}
 use Rattle.acap_views.proofs.ListLemmas.{among, from_among}
 use Rattle.acap_views.proofs.PathLemmas.{IsIn, paths_rise, names_rise, told_apart}
@@ -125,8 +126,11 @@ module _ (nothing : NothingLaw) (names : NamesLaw) (listed : TouchedPathsLaw) (s
   abbrev datasets : List (List ℕ)
   datasets = datasets_of new.records (scope_of sought)
 
+  abbrev is_looked_at : Path → Bool
+  is_looked_at path = list_any (octets_eq path.dataset) datasets
+
   abbrev looked : List Path
-  looked = touched_for written old new sought
+  looked = filter is_looked_at (touched written old.records new.records)
 
   abbrev told : Path → Name
   told = name_told sought.depth
@@ -160,7 +164,7 @@ module _ (nothing : NothingLaw) (names : NamesLaw) (listed : TouchedPathsLaw) (s
   looked_split p k = touched_split p (from_touched p (from_filter _ _ p k).0)
 
   looked_in : (p : Path) → Contains looked p → Contains datasets p.dataset
-  looked_in p k = Contains-from_any same_name p.dataset datasets (from_filter (λ path. is_looked_into new sought path.dataset) (touched written old.records new.records) p k).1
+  looked_in p k = Contains-from_any same_name p.dataset datasets (from_filter is_looked_at (touched written old.records new.records) p k).1
 
   alone : (p : Path) → Contains datasets p.dataset → IsIn sought.dataset sought.depth p
   alone p k e =
@@ -170,7 +174,7 @@ module _ (nothing : NothingLaw) (names : NamesLaw) (listed : TouchedPathsLaw) (s
   looked_rise : IsAscending (each told looked)
   looked_rise =
       names_rise sought.dataset sought.depth looked (λ p k. alone p (looked_in p k))
-      (paths_rise listed looked looked_split (AllPairs-filter (λ x y. by_octets x y ≡ Less) (λ path. is_looked_into new sought path.dataset) (touched written old.records new.records) (listed.rises written old.records new.records).rises))
+      (paths_rise listed looked looked_split (AllPairs-filter (λ x y. by_octets x y ≡ Less) is_looked_at (touched written old.records new.records) (listed.rises written old.records new.records).rises))
 
   -- ---- the changed ones are among them
 
@@ -191,7 +195,7 @@ module _ (nothing : NothingLaw) (names : NamesLaw) (listed : TouchedPathsLaw) (s
 
   changed_looked : (p : Path) → Contains (changed_paths sought before after) p → Contains looked p
   changed_looked p k =
-      in_filter (λ path. is_looked_into new sought path.dataset) (touched written old.records new.records) p
+      in_filter is_looked_at (touched written old.records new.records) p
       (in_touched p (differs_touched p ((changed.exact sought before after p).0 k)))
       (list_any-from_Contains nat_list_eq_equiv p.dataset datasets (looked_into p k))
 
@@ -237,12 +241,12 @@ module _ (nothing : NothingLaw) (names : NamesLaw) (listed : TouchedPathsLaw) (s
 
 pub touched_moves_law : NothingLaw → NamesLaw → TouchedPathsLaw → SeenLaw → TouchedLaw → ChangedLaw → FoundLaw → MovedLaw → TouchedMovesLaw
 touched_moves_law nothing names listed seen unread changed found moved = record {
-  list = λ written old new realm user sought taken exists.
-      let told = each (name_told sought.depth) (touched_for written old new sought) in
-      ap (λ ms. after_moves told_shape ms (matches_of old.records realm user sought)) (moves_are nothing names listed seen unread changed found written old new realm user sought taken exists _ (named nothing names listed seen unread changed found written old new realm user sought taken exists))
-      ∙ (moved old new realm user true sought told taken.sound exists (looked_rise nothing names listed seen unread changed found written old new realm user sought taken exists) (covers nothing names listed seen unread changed found written old new realm user sought taken exists)).0;
-  told = λ written old new realm user enumerated sought taken exists.
-      let told = each (name_told sought.depth) (touched_for written old new sought) in
-      ap (λ ms. moves_notices told_shape enumerated ms (matches_of old.records realm user sought)) (moves_are nothing names listed seen unread changed found written old new realm user sought taken exists _ (named nothing names listed seen unread changed found written old new realm user sought taken exists))
-      ∙ (moved old new realm user enumerated sought told taken.sound exists (looked_rise nothing names listed seen unread changed found written old new realm user sought taken exists) (covers nothing names listed seen unread changed found written old new realm user sought taken exists)).1;
+  list = λ written old new realm user context taken exists.
+      let told = each (name_told context.sought.depth) (touched_for written old new context) in
+      ap (λ ms. after_moves told_shape ms (matches_of old.records realm user context.sought)) (moves_are nothing names listed seen unread changed found written old new realm user context.sought taken exists _ (named nothing names listed seen unread changed found written old new realm user context.sought taken exists))
+      ∙ (moved old new realm user context.enumerated context.sought told taken.sound exists (looked_rise nothing names listed seen unread changed found written old new realm user context.sought taken exists) (covers nothing names listed seen unread changed found written old new realm user context.sought taken exists)).0;
+  told = λ written old new realm user context taken exists.
+      let told = each (name_told context.sought.depth) (touched_for written old new context) in
+      ap (λ ms. moves_notices told_shape context.enumerated ms (matches_of old.records realm user context.sought)) (moves_are nothing names listed seen unread changed found written old new realm user context.sought taken exists _ (named nothing names listed seen unread changed found written old new realm user context.sought taken exists))
+      ∙ (moved old new realm user context.enumerated context.sought told taken.sound exists (looked_rise nothing names listed seen unread changed found written old new realm user context.sought taken exists) (covers nothing names listed seen unread changed found written old new realm user context.sought taken exists)).1;
 }

@@ -1,6 +1,5 @@
 pub mod Changing
 pub mod Clients
-pub mod Codes
 pub mod Contexts
 pub mod Current
 pub mod Examples
@@ -14,3 +13,4 @@ pub mod Seats
 pub mod Telling
 pub mod Waiting
 pub mod WaitingLaws
+pub mod Work
