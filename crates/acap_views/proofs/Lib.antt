@@ -8,3 +8,4 @@ pub mod PathLemmas
 pub mod MovingLemmas
 pub mod WaitingLemmas
 pub mod ClientLemmas
+pub mod RangingLemmas

@@ -9,6 +9,7 @@ pub mod Moving
 pub mod Notices
 pub mod Opening
 pub mod Ranging
+pub mod RangingLaws
 pub mod Seats
 pub mod Telling
 pub mod Waiting

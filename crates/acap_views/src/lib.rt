@@ -5,6 +5,7 @@
 mod client;
 mod laws;
 mod moving;
+mod ranging;
 mod refusal;
 mod waiting;
 
@@ -14,5 +15,6 @@ pub use laws::{
     notice_law, seats_law, shown_law,
 };
 pub use moving::touched_moves_law;
+pub use ranging::ranged_law;
 pub use refusal::ViewRefusal;
 pub use waiting::waiting_law;
