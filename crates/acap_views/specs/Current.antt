@@ -4,11 +4,11 @@ use Rattle.std.specs.FinMap as table
 use Rattle.acap_entries.specs.Datasets.{dataset_exists}
 use Rattle.acap_entries.specs.Store.{Store}
 use Rattle.acap_entries.specs.declared.row.Row.{Row}
+use Rattle.acap_rights.specs.declared.realm.Realm.{Realm}
 use Rattle.acap_notices.specs.Holding.{holding, holding_after_all}
 use Rattle.acap_notices.specs.Rows.{IsEachOnce}
 use Rattle.acap_notices.specs.Waiting.{most_waiting}
 use Rattle.acap_notices.specs.declared.notice.Notice.{Notice}
-use Rattle.acap_rights.specs.declared.realm.Realm.{Realm}
 use Rattle.acap_search.specs.Fresh.{matches_of}
 use Rattle.acap_search.specs.Matches.{Match}
 use Rattle.acap_views.specs.Contexts.{Kept, Snapshot, Live, Freed, Context}

@@ -2,11 +2,11 @@
 use Rattle.std.specs.Prelude.{◌≡◌, ℕ, ℤ, true, false, List, [], ◌∷◌, ◌++◌, length, Some, None, codes, pos}
 use Rattle.std.specs.FinMap as table
 use Rattle.std.specs.List.{flat_map}
-use Rattle.acap_moves.specs.Hits.{Name}
 use Rattle.acap_notices.specs.Examples.{with_value}
 use Rattle.acap_notices.specs.declared.notice.Notice.{Notice}
 use Rattle.acap_notices.specs.declared.notice.Notice.TheVariants.{AddTo, RemoveFrom, Change}
 use Rattle.acap_notices.specs.declared.told.Told.TheVariants as told
+use Rattle.acap_moves.specs.Hits.{Name}
 use Rattle.acap_search.specs.Matches.{Match}
 use Rattle.acap_search.specs.declared.query.Sought.{Sought}
 use Rattle.acap_search.specs.declared.rank.Place.TheVariants.{Rising}

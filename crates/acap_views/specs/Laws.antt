@@ -1,27 +1,27 @@
 -- What follows from the definitions alone [RFC 2244 sections 3.3, 3.5 and 6.5].
-use Rattle.std.specs.Option.{option_map}
-use Rattle.std.specs.List.{Contains}
-use Rattle.std.specs.Prelude.{◌≢◌, ◌↔◌, ◌≡◌, ℕ, ℤ, Bool, true, List, Some, Ok, [], None, false, ◌==◌}
+use Rattle.std.specs.Prelude.{◌≡◌, ◌≢◌, ◌↔◌, ℕ, ◌==◌, ℤ, Bool, true, false, List, [], Some, None, Ok}
 use Rattle.std.specs.FinMap as table
+use Rattle.std.specs.List.{Contains}
+use Rattle.std.specs.Option.{option_map}
 use Rattle.acap_entries.specs.Datasets.{dataset_exists}
 use Rattle.acap_entries.specs.Sound.{IsSoundStore}
 use Rattle.acap_entries.specs.Store.{Store}
+use Rattle.acap_entries.specs.declared.path.Path.{Path}
+use Rattle.acap_rights.specs.declared.realm.Realm.{Realm}
 use Rattle.acap_commands.specs.declared.make_context.MakeContext.{MakeContext}
-use Rattle.acap_moves.specs.Hits.{Name, IsAscending, is_among}
-use Rattle.acap_moves.specs.Moves.{moves_to, after_moves, moves_notices}
-use Rattle.acap_search.specs.Tuples.{name_told}
 use Rattle.acap_notices.specs.Holding.{holding, holding_after_all}
 use Rattle.acap_notices.specs.declared.notice.Notice.{Notice}
 use Rattle.acap_notices.specs.declared.told.Told.{Told}
-use Rattle.acap_rights.specs.declared.realm.Realm.{Realm}
+use Rattle.acap_moves.specs.Hits.{Name, IsAscending, is_among}
+use Rattle.acap_moves.specs.Moves.{moves_to, after_moves, moves_notices}
 use Rattle.acap_search.specs.Fresh.{Sight, tuple_of, IsSameSight, matches_of}
 use Rattle.acap_search.specs.Matches.{Match}
+use Rattle.acap_search.specs.Tuples.{name_told}
 use Rattle.acap_search.specs.declared.query.Sought.{Sought}
-use Rattle.acap_entries.specs.declared.path.Path.{Path}
-use Rattle.acap_views.specs.Contexts.{Snapshot, Live, Freed, Context, Contexts}
-use Rattle.acap_views.specs.Maps.{each_kept}
 use Rattle.acap_views.specs.Changing.{IsSoundStep, sight_for, changed_context, changed_occupant, changed}
+use Rattle.acap_views.specs.Contexts.{Snapshot, Live, Freed, Context, Contexts}
 use Rattle.acap_views.specs.Current.{IsCurrent, IsCurrentOccupant, IsToldAll, rows}
+use Rattle.acap_views.specs.Maps.{each_kept}
 use Rattle.acap_views.specs.Notices.{told_shape, match_told, event_notices, changed_paths, changed_names}
 use Rattle.acap_views.specs.Opening.{opened, freed_by}
 use Rattle.acap_views.specs.Seats.{Occupant, Seated, IsAt, entered, left, with_contexts}

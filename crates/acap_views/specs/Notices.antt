@@ -7,10 +7,10 @@ use Rattle.std.specs.Ordering.{ordering_then}
 use Rattle.std.specs.declared.cmp.Ordering.{Ordering}
 use Rattle.acap_entries.specs.Orders.{octets_cmp, octets_eq}
 use Rattle.acap_entries.specs.declared.path.Path.{Path}
+use Rattle.acap_notices.specs.declared.notice.Notice.{Notice}
 use Rattle.acap_moves.specs.Hits.{Name, Shape}
 use Rattle.acap_moves.specs.Hits as hits
 use Rattle.acap_moves.specs.Notices.{same_row, notices}
-use Rattle.acap_notices.specs.declared.notice.Notice.{Notice}
 use Rattle.acap_search.specs.Fresh.{Sight, same_path, is_among, tuple_of, fresh_of}
 use Rattle.acap_search.specs.Matches.{Match, match_cmp}
 use Rattle.acap_search.specs.Tuples.{name_told}
