@@ -4,3 +4,8 @@ pub mod NoticeLemmas
 pub mod CurrentLemmas
 pub mod ShownLemmas
 pub mod ExampleLemmas
+pub mod PathLemmas
+pub mod MovingLemmas
+pub mod WaitingLemmas
+pub mod ClientLemmas
+pub mod RangingLemmas

@@ -1,12 +1,17 @@
 pub mod Changing
+pub mod Clients
 pub mod Contexts
 pub mod Current
 pub mod Examples
 pub mod Laws
 pub mod Maps
+pub mod Moving
 pub mod Notices
 pub mod Opening
+pub mod Ranging
+pub mod RangingLaws
 pub mod Seats
 pub mod Telling
 pub mod Waiting
+pub mod WaitingLaws
 pub mod Work

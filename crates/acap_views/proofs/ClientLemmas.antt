@@ -1,0 +1,138 @@
+-- What is told of a context is what waits for it.
+use Rattle.std.proofs.Common.{◌≡◌, ℕ, ℤ, Bool, true, false, cond, ◌||◌, Option, Some, None, List, [], ◌∷◌, ◌++◌, refl, sym, ◌∙◌, ap, subst, flat_map, append_assoc, append-nil, map as each}
+use Rattle.std.specs.Cmp.{first_so, second_so}
+use Rattle.std.specs.Cmp.Lexicographic.{nat_list_cmp_total, texts_ties}
+use Rattle.std.specs.FinMap as table
+use Rattle.std.specs.FinMap.{find, is_sorted}
+use Rattle.std.specs.Option.{option_map_or}
+use Rattle.std.specs.Ordering.{eq_by_cmp, is_eq}
+use Rattle.std.specs.declared.cmp.Ordering.{Ordering}
+use Rattle.std.specs.declared.cmp.Ordering.TheVariants.{Less, Equal, Greater}
+use Rattle.acap_entries.specs.Orders.{octets_cmp, octets_eq}
+use Rattle.acap_moves.specs.Hits.{is_among}
+use Rattle.acap_moves.proofs.Splits.{same_name}
+use Rattle.acap_notices.specs.Holding.{holding, holding_after_all}
+use Rattle.acap_notices.specs.declared.notice.Notice.{Notice}
+use Rattle.acap_notices.specs.declared.told.Told.{Told}
+use Rattle.acap_notices.specs.declared.told.Told.TheVariants as told
+use Rattle.acap_search.specs.Matches.{Match}
+use Rattle.acap_views.specs.Clients.{notice_for, notices_for, pending_in, pending_of, ClientLaw}
+use Rattle.acap_views.specs.Contexts.{Kept, Snapshot, Live, Freed, Context, Contexts}
+use Rattle.acap_views.specs.Current.{IsCurrentKept, rows}
+use Rattle.acap_views.specs.Telling.{notes_of, shown_now, told_by_name, updated_to, after_update, told_in_turn, drain_told}
+use Rattle.acap_views.proofs.ListLemmas.{so}
+use Rattle.acap_views.proofs.WaitingLemmas.{tied_none}
+
+-- ---- notices by name
+
+both_for : (name : List ℕ) (ts us : List Told) → notices_for name (ts ++ us) ≡ notices_for name ts ++ notices_for name us
+both_for name [] us = refl
+both_for name (t ∷ ts) us = ap (λ ns. notice_for name t ++ ns) (both_for name ts us) ∙ sym (append_assoc (notice_for name t) (notices_for name ts) (notices_for name us))
+
+abbrev no_notices : List Notice
+no_notices = []
+
+none_either : (b : Bool) → no_notices ≡ cond b no_notices []
+none_either true = refl
+none_either false = refl
+
+notes_for : (name other : List ℕ) (pending : List Notice) → notices_for name (each (told.Note other) pending) ≡ cond (octets_eq name other) pending []
+notes_for name other [] = none_either (octets_eq name other)
+notes_for name other (notice ∷ pending) =
+    ap (λ ns. notice_for name (told.Note other notice) ++ ns) (notes_for name other pending)
+    ∙ elim (octets_eq name other) as (λ b. cond b (notice ∷ []) [] ++ cond b pending [] ≡ cond b (notice ∷ pending) []) [ true ↦ refl | false ↦ refl ]
+
+kept_notes : (name other : List ℕ) (kept : Kept) → notices_for name (notes_of other kept) ≡ cond (octets_eq name other) (pending_in kept) []
+kept_notes name other (Snapshot shown) = none_either (octets_eq name other)
+kept_notes name other (Live shown now pending) = notes_for name other pending
+kept_notes name other Freed = none_either (octets_eq name other)
+
+drain_notes : (name other : List ℕ) (kept : Kept) → notices_for name (drain_told other kept) ≡ cond (octets_eq name other) (pending_in kept) []
+drain_notes name other (Snapshot shown) = none_either (octets_eq name other)
+drain_notes name other (Live shown now pending) = notes_for name other pending
+drain_notes name other Freed = none_either (octets_eq name other)
+
+-- ---- UPDATECONTEXT
+
+found_notes : (name other : List ℕ) (found : Option Context) → notices_for name (option_map_or (λ (c : Context). notes_of other c.kept) found []) ≡ cond (octets_eq name other) (pending_of found) []
+found_notes name other None = none_either (octets_eq name other)
+found_notes name other (Some c) = kept_notes name other c.kept
+
+one_name : (contexts : Contexts) (name other : List ℕ) (last : ℤ) → notices_for name (told_by_name contexts other last) ≡ cond (octets_eq name other) (pending_of (table.get contexts other)) []
+one_name contexts name other last =
+    both_for name (option_map_or (λ (c : Context). notes_of other c.kept) (table.get contexts other) []) (told.Upto other last ∷ [])
+    ∙ (append-nil _ ∙ found_notes name other (table.get contexts other))
+
+settled : (kept : Kept) → pending_in (shown_now kept) ≡ []
+settled (Snapshot shown) = refl
+settled (Live shown now pending) = refl
+settled Freed = refl
+
+left_pending : (contexts : Contexts) (name other : List ℕ) (last : ℤ) → pending_of (table.get (after_update contexts other last) name) ≡ cond (octets_eq name other) [] (pending_of (table.get contexts name))
+left_pending contexts name other last =
+    elim (table.get contexts other) as (λ o. table.get contexts other ≡ o → pending_of (table.get (option_map_or (λ (c : Context). table.insert contexts other (updated_to last c)) o contexts) name) ≡ cond (octets_eq name other) [] (pending_of (table.get contexts name))) [
+      | None ↦ λ e. elim (octets_eq name other) as (λ b. octets_eq name other ≡ b → pending_of (table.get contexts name) ≡ cond b [] (pending_of (table.get contexts name))) [
+        | true ↦ λ t. ap (λ q. pending_of (table.get contexts q)) (same_name name other t) ∙ ap pending_of e
+        | false ↦ λ t. refl
+      ] refl
+      | Some c ↦ λ e.
+          ap pending_of (table.get-insert nat_list_cmp_total contexts other (updated_to last c) name)
+          ∙ (ap (λ b. pending_of (cond b (Some (updated_to last c)) (table.get contexts name))) (sym (texts_ties name other))
+          ∙ elim (octets_eq name other) as (λ b. pending_of (cond b (Some (updated_to last c)) (table.get contexts name)) ≡ cond b [] (pending_of (table.get contexts name))) [ true ↦ settled c.kept | false ↦ refl ])
+    ] refl
+
+joined : (a b : Bool) (first other : List Notice) → (a ≡ true → first ≡ other) → cond a first [] ++ cond b (cond a [] other) [] ≡ cond (a || b) other []
+joined true true first other h = append-nil first ∙ h refl
+joined true false first other h = append-nil first ∙ h refl
+joined false true first other h = refl
+joined false false first other h = refl
+
+all_names : (names : List (List ℕ)) (contexts : Contexts) (name : List ℕ) (last : ℤ) → notices_for name (told_in_turn contexts names last) ≡ cond (is_among name names) (pending_of (table.get contexts name)) []
+unfolding is_among
+all_names [] contexts name last = refl
+all_names (other ∷ names) contexts name last =
+    both_for name (told_by_name contexts other last) (told_in_turn (after_update contexts other last) names last)
+    ∙ ((λ i. one_name contexts name other last i ++ (all_names names (after_update contexts other last) name last ∙ ap (λ ns. cond (is_among name names) ns []) (left_pending contexts name other last)) i)
+    ∙ joined (octets_eq name other) (is_among name names) (pending_of (table.get contexts other)) (pending_of (table.get contexts name)) (λ t. ap (λ q. pending_of (table.get contexts q)) (sym (same_name name other t))))
+
+-- ---- drains
+
+tie : (r : Ordering) → is_eq r ≡ true → r ≡ Equal
+tie Less e = absurd (cc (e))
+tie Equal e = refl
+tie Greater e = absurd (cc (e))
+
+all_entries : (es : List (List ℕ × Context)) → is_sorted octets_cmp es ≡ true → (name : List ℕ) → notices_for name (flat_map (λ e. drain_told e.0 e.1.kept) es) ≡ pending_of (find octets_cmp name es)
+all_entries [] s name = refl
+all_entries (e ∷ es) s name =
+    both_for name (drain_told e.0 e.1.kept) (flat_map (λ e. drain_told e.0 e.1.kept) es)
+    ∙ ((λ i. (drain_notes name e.0 e.1.kept ∙ ap (λ b. cond b (pending_in e.1.kept) []) (texts_ties name e.0)) i ++ all_entries es (second_so _ _ s) name i)
+    ∙ elim (eq_by_cmp octets_cmp name e.0) as (λ b. eq_by_cmp octets_cmp name e.0 ≡ b → cond b (pending_in e.1.kept) [] ++ pending_of (find octets_cmp name es) ≡ pending_of (cond b (Some e.1) (find octets_cmp name es))) [
+      | true ↦ λ t. ap (λ o. pending_in e.1.kept ++ pending_of o) (tied_none nat_list_cmp_total (λ (c : Context). true) name e.0 es (tie _ t) (first_so _ _ s)) ∙ append-nil _
+      | false ↦ λ t. refl
+    ] refl)
+
+drained : (contexts : Contexts) (name : List ℕ) → notices_for name (flat_map (λ e. drain_told e.0 e.1.kept) (table.entries contexts)) ≡ pending_of (table.get contexts name)
+drained contexts name = all_entries (table.entries contexts) (so _ (table.entries_sorted contexts)) name ∙ ap pending_of (sym (table.get-entries contexts name))
+
+-- ---- the client
+
+leads : (fresh : List Match) (enumerated : Bool) (kept : Kept) (shown now : List Match) (pending : List Notice) → kept ≡ Live shown now pending → IsCurrentKept fresh enumerated kept
+    → holding_after_all (holding enumerated (rows shown)) pending ≡ Some (holding enumerated (rows fresh))
+leads fresh enumerated kept shown now pending e i =
+    let is = subst (IsCurrentKept fresh enumerated) e i in
+    is.leads ∙ ap (λ ms. Some (holding enumerated (rows ms))) is.fresh_now
+
+pub client_law : ClientLaw
+client_law = record {
+  updated = λ contexts names name last. all_names names contexts name last;
+  drained = drained;
+  after_update = λ store realm occupant name context shown now pending names last current e live among.
+      let told = all_names names occupant.contexts name last ∙ (ap (λ b. cond b (pending_of (table.get occupant.contexts name)) []) among ∙ (ap pending_of e ∙ ap pending_in live)) in
+      ap (holding_after_all (holding context.enumerated (rows shown))) told
+      ∙ leads _ context.enumerated context.kept shown now pending live (current.each name context e).kept;
+  after_drain = λ store realm occupant name context shown now pending current e live.
+      let told = drained occupant.contexts name ∙ (ap pending_of e ∙ ap pending_in live) in
+      ap (holding_after_all (holding context.enumerated (rows shown))) told
+      ∙ leads _ context.enumerated context.kept shown now pending live (current.each name context e).kept;
+}

@@ -1,0 +1,17 @@
+-- What a search over a context starts from, over all that happens [RFC 2244 sections 3.3 and 6.4.1].
+use Rattle.std.specs.Prelude.{◌≡◌, ◌⊎◌, ℕ, List, Ok, Err}
+use Rattle.acap_entries.specs.Store.{Store}
+use Rattle.acap_rights.specs.declared.realm.Realm.{Realm}
+use Rattle.acap_views.specs.Changing.{changed}
+use Rattle.acap_views.specs.Ranging.{Ranged, ranged}
+use Rattle.acap_views.specs.Seats.{Seated}
+use Rattle.acap_views.specs.declared.refusal.ViewRefusal.{ViewRefusal}
+use Rattle.acap_views.specs.declared.refusal.ViewRefusal.TheVariants as refusal
+
+-- until its client is told more, a change of the store moves no position of a context: there is the same list, or the server has
+-- freed the context; and one that isn't there or was freed stays so
+pub record RangedLaw : Type 0 where
+  pub kept : (realm : Realm) (old new : Store) (seats : Seated) (seat : ℕ) (name : List ℕ) (found : Ranged) → ranged seats seat name ≡ Ok found
+      → (ranged (changed realm old new seats) seat name ≡ Ok found) ⊎ (ranged (changed realm old new seats) seat name ≡ Err refusal.FreedContext)
+  pub refused : (realm : Realm) (old new : Store) (seats : Seated) (seat : ℕ) (name : List ℕ) (why : ViewRefusal) → ranged seats seat name ≡ Err why
+      → ranged (changed realm old new seats) seat name ≡ Err why
