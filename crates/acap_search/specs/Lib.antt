@@ -1,4 +1,5 @@
 pub mod Asking
+pub mod Counting
 pub mod ContextExamples
 pub mod ContextLaws
 pub mod Cutting

@@ -1,5 +1,5 @@
 //! What a search makes of an entry.
-ghost use Rattle.std.specs.Prelude.{◌≡◌, ◌&&◌, IfOk, IfSome};
+ghost use Rattle.std.specs.Prelude.{◌≡◌, ◌+◌, ◌&&◌, IfOk, IfSome};
 ghost use Rattle.acap_search.specs.Keys.{holds};
 ghost use Rattle.acap_search.specs.Lying.{path_in};
 ghost use Rattle.acap_search.specs.Sight.{is_seen};
@@ -17,8 +17,9 @@ use crate::ranking::places_of;
 use crate::rows::items_of;
 use crate::spot::Spot;
 use crate::viewer::Viewer;
-use acap_entries::{Boxed, Copying, EntryName, Items, Memory, Octets, Path, Records, Row, Value};
+use acap_entries::{Boxed, Copying, EntryName, Items, Memory, Octets, Path, Records, Row, Steps, Value};
 use std::alloc::Global;
+use std::sync::ledger::Ledger;
 
 // The name of an entry as it is told.
 fn name_told<R: Records>(
@@ -112,16 +113,19 @@ pub(crate) fn finding_at<'p, R: Records>(
 
 /// What a search makes of an entry: none where the user doesn't see it or the key doesn't want it, else where it stands and what
 /// is told of it (RFC 2244 section 6.4.1). The place is the entry's position in the context that is searched, and none over a
-/// dataset. Fails only for want of memory.
-pub fn row_of<'a, R: Records>(
+/// dataset. Fails only for want of memory. It counts as one step, whatever comes of it.
+pub fn row_of<'a, R: Records, L: Ledger>(
     alloc: Global,
     by: &Viewer<'a, R>,
     name: &'a EntryName,
     sought: &Sought,
     place: Option<u32>,
+    steps: &mut Steps<L>,
 ) -> Result<Option<Hit>, Memory>
-    ensures { IfOk result (λ hit. hit ≡ found_at sought.now place (spotted by.now name.now)) }
+    ensures count { steps.new ≡ steps.old + 1 }
+    ensures made { IfOk result (λ hit. hit ≡ found_at sought.now place (spotted by.now name.now)) }
 {
+    steps.tick();
     let near = near_by(by, name);
     let nearer = by.over(&near);
     match finding_at(alloc, &Spot::far(&nearer, name), None, sought, place)? {

@@ -49,7 +49,7 @@ module _ {K X : Type 0} {R : K → K → Ordering} (o : IsTotalOrder R) where
   below k [] e b h = nowhere e h
   below k (x ∷ xs) e b h = either (first_or x e xs h) (λ same. ap (λ (y : K × X). R k y.0) (sym same) ∙ less _ (first_so _ _ b)) (λ l. below k xs e (second_so _ _ b) l)
 
-  find_own : (es : List (K × X)) (e : K × X) → is_sorted R es ≡ true → Contains es e → find R e.0 es ≡ Some e.1
+  pub find_own : (es : List (K × X)) (e : K × X) → is_sorted R es ≡ true → Contains es e → find R e.0 es ≡ Some e.1
   find_own [] e s h = nowhere e h
   find_own (x ∷ xs) e s h =
       either (first_or x e xs h)

@@ -9,3 +9,17 @@ pub mod MovingLemmas
 pub mod WaitingLemmas
 pub mod ClientLemmas
 pub mod RangingLemmas
+pub mod ShiftLemmas
+pub mod FollowLemmas
+pub mod LoopShiftLemmas
+pub mod UndoLemmas
+pub mod TouchingLemmas
+pub mod PreparedLemmas
+pub mod ValueLemmas
+pub mod KeepingLemmas
+pub mod InPlaceLemmas
+pub mod LoopLemmas
+pub mod FollowingLemmas
+pub mod TurnLemmas
+pub mod TellingLemmas
+pub mod AnswerLemmas

@@ -73,14 +73,14 @@ one_of true b e f g = f refl
 one_of false b e f g = g e
 
 -- an existing dataset ends in a slash
-closed : (records : Stored) (d : List ℕ) → dataset_exists records d ≡ true → ends_with slash d ≡ true
+pub closed : (records : Stored) (d : List ℕ) → dataset_exists records d ≡ true → ends_with slash d ≡ true
 closed records d =
     elim (own_entry d) as (λ o. own_entry d ≡ o → (octets_eq d (slash ∷ []) || option_map_or makes_dataset (option_and_then (λ own. record_at records own.0 own.1) o) false) ≡ true → ends_with slash d ≡ true) [
       | Some own ↦ λ e h. sym (ap (ends_with slash) ((own_entry_law d (record { dataset = own.0; name = own.1 })).0 e).1) ∙ closed_by_slash (own.0 ++ own.1)
       | None ↦ λ e h. ap (ends_with slash) ((bytes_decides d (slash ∷ [])).0 (left_of _ h))
     ] refl
 
-record_name : (records : Stored) → IsSoundStore records → (chain : List (List ℕ)) (n : List ℕ) → has_record_on records chain n ≡ true → has slash n ≡ false
+pub record_name : (records : Stored) → IsSoundStore records → (chain : List (List ℕ)) (n : List ℕ) → has_record_on records chain n ≡ true → has slash n ≡ false
 record_name records sound chain n h =
     let d = any_of (λ member. is_some (record_at records member n)) chain h in
     let r = there_is (record_at records d.0 n) d.1 in
@@ -112,6 +112,19 @@ same_answers : (a b : Option Match) → ((m : Match) → a ≡ Some m → b ≡ 
 same_answers None None f g = refl
 same_answers None (Some m) f g = g m refl
 same_answers (Some m) b f g = sym (f m refl)
+
+-- what is seen is split at its last slash
+pub split_seen : NothingLaw → NamesLaw → SeenLaw → (store : Store) (realm : Realm) (user : List ℕ) (sought : Sought) → IsSoundStore store.records → dataset_exists store.records sought.dataset ≡ true
+    → (p : Path) → Contains (sight_for realm store user sought).paths p → IsSplit p
+split_seen nothing names seen store realm user sought sound exists p k =
+    let chain : List (List ℕ) = chain_of store.records p.dataset sought.no_inherit in
+    let is : is_seen (answers_on store.records realm user sought.no_inherit p) ≡ true = (seen.only store.records realm user (scope_of sought) p k).1 in
+    record {
+      dataset = either ((scope_law.members store.records (scope_of sought) p.dataset sound exists).0 (seen.only store.records realm user (scope_of sought) p k).0)
+          (λ e. closed store.records p.dataset (ap (dataset_exists store.records) e ∙ exists))
+          (λ beneath. closed store.records p.dataset beneath.exists);
+      name = record_name store.records sound chain p.name (sym (names.names store.records chain p.name) ∙ name_seen nothing names store.records realm user (scope_of sought) p is);
+    }
 
 module _ (nothing : NothingLaw) (names : NamesLaw) (listed : TouchedPathsLaw) (seen : SeenLaw) (unread : TouchedLaw) (changed : ChangedLaw) (found : FoundLaw) (written : Written) (old new : Store) (realm : Realm) (user : List ℕ) (sought : Sought) (taken : IsTaken written old new) (exists : dataset_exists old.records sought.dataset ≡ true) where
   abbrev before : Sight
@@ -160,18 +173,18 @@ module _ (nothing : NothingLaw) (names : NamesLaw) (listed : TouchedPathsLaw) (s
 
   -- ---- those that are looked at
 
-  looked_split : (p : Path) → Contains looked p → IsSplit p
+  pub looked_split : (p : Path) → Contains looked p → IsSplit p
   looked_split p k = touched_split p (from_touched p (from_filter _ _ p k).0)
 
-  looked_in : (p : Path) → Contains looked p → Contains datasets p.dataset
+  pub looked_in : (p : Path) → Contains looked p → Contains datasets p.dataset
   looked_in p k = Contains-from_any same_name p.dataset datasets (from_filter is_looked_at (touched written old.records new.records) p k).1
 
-  alone : (p : Path) → Contains datasets p.dataset → IsIn sought.dataset sought.depth p
+  pub alone : (p : Path) → Contains datasets p.dataset → IsIn sought.dataset sought.depth p
   alone p k e =
       let one : Contains (sought.dataset ∷ []) p.dataset = subst (λ depth. Contains (sought.dataset ∷ option_map_or (beneath new.records sought.dataset) depth []) p.dataset) e k in
       either (first_or sought.dataset p.dataset [] one) (λ same. sym same) (λ l. nowhere p.dataset l)
 
-  looked_rise : IsAscending (each told looked)
+  pub looked_rise : IsAscending (each told looked)
   looked_rise =
       names_rise sought.dataset sought.depth looked (λ p k. alone p (looked_in p k))
       (paths_rise listed looked looked_split (AllPairs-filter (λ x y. by_octets x y ≡ Less) is_looked_at (touched written old.records new.records) (listed.rises written old.records new.records).rises))
@@ -210,15 +223,7 @@ module _ (nothing : NothingLaw) (names : NamesLaw) (listed : TouchedPathsLaw) (s
   seen_in p k = (seen.only new.records realm user (scope_of sought) p k).0
 
   seen_split : (p : Path) → Contains after.paths p → IsSplit p
-  seen_split p k =
-      let chain : List (List ℕ) = chain_of new.records p.dataset sought.no_inherit in
-      let is : is_seen (answers_on new.records realm user sought.no_inherit p) ≡ true = (seen.only new.records realm user (scope_of sought) p k).1 in
-      record {
-        dataset = either ((scope_law.members new.records (scope_of sought) p.dataset taken.sound.new_sound still).0 (seen_in p k))
-            (λ e. closed new.records p.dataset (ap (dataset_exists new.records) e ∙ still))
-            (λ beneath. closed new.records p.dataset beneath.exists);
-        name = record_name new.records taken.sound.new_sound chain p.name (sym (names.names new.records chain p.name) ∙ name_seen nothing names new.records realm user (scope_of sought) p is);
-      }
+  seen_split p k = split_seen nothing names seen new realm user sought taken.sound.new_sound still p k
 
   found_seen : (p : Path) (m : Match) → tuple_of after sought p ≡ Some m → Contains after.paths p
   found_seen p m e = from_paths after.paths p (made_is (paths.is_among after.paths p) (holds sought.key None (after.answers p)) (match_of sought p (after.answers p) (stars_of (after.answers p).read (after.attributes p))) m e).0

@@ -3,10 +3,11 @@ use Rattle.std.specs.Prelude.{ℕ, Bool, true, false, List, length, if◌then◌
 use Rattle.std.specs.FinMap as table
 use Rattle.std.specs.List.{filter, list_any, sum_by}
 use Rattle.acap_entries.specs.Orders.{octets_eq}
-use Rattle.acap_entries.specs.Store.{Store, Written}
+use Rattle.acap_entries.specs.Store.{Store, Stored, Written}
 use Rattle.acap_entries.specs.declared.path.Path.{Path}
 use Rattle.acap_inherit.specs.Touched.{touched}
 use Rattle.acap_search.specs.Scopes.{scope_of, datasets_of}
+use Rattle.acap_search.specs.declared.query.Sought.{Sought}
 use Rattle.acap_views.specs.Contexts.{Kept, Snapshot, Live, Freed, Context}
 use Rattle.acap_views.specs.Seats.{Seated}
 
@@ -15,10 +16,13 @@ is_live (Snapshot shown) = false
 is_live (Live shown now pending) = true
 is_live Freed = false
 
+-- whether a search looks through the dataset of an entry
+abbrev pub is_looked_at : Stored → Sought → Path → Bool
+is_looked_at records sought path = list_any (octets_eq path.dataset) (datasets_of records (scope_of sought))
+
 -- those in the scope of a context, as it is after the change; a context that isn't live looks at none
 abbrev pub touched_for : Written → Store → Store → Context → List Path
-touched_for written old new context =
-    filter (λ path. list_any (octets_eq path.dataset) (datasets_of new.records (scope_of context.sought))) (touched written old.records new.records)
+touched_for written old new context = filter (is_looked_at new.records context.sought) (touched written old.records new.records)
 
 abbrev pub work_for : Written → Store → Store → Context → ℕ
 work_for written old new context = if is_live context.kept then length (touched_for written old new context) else 0

@@ -2,19 +2,53 @@
 //! and 6.5).
 #![tactic(auto)]
 
+mod ahead;
+mod calls;
 mod client;
+mod contexts;
+mod delta;
+mod following;
+mod held;
+mod keyed;
 mod laws;
+mod lending;
+mod listed;
 mod moving;
+mod new_context;
+mod open_context;
+mod opening;
+mod preparing;
+mod ranged_context;
 mod ranging;
 mod refusal;
+mod scene;
+mod shift;
+mod shift_making;
+mod shifting;
+mod shown;
+mod shown_list;
+mod sitting;
+mod telling;
+mod touching;
+mod turns;
+mod undoing;
+mod undone;
+mod views;
 mod waiting;
+mod watch;
 
 pub use client::client_law;
+pub use delta::Delta;
 pub use laws::{
     changed_law, current_law, found_law, kept_examples, moved_law, named_examples, notice_examples,
     notice_law, seats_law, shown_law,
 };
-pub use moving::touched_moves_law;
+pub use moving::{prepared_law, touched_moves_law};
+pub use new_context::NewContext;
+pub use opening::MOST_CONTEXTS;
+pub use ranged_context::RangedContext;
 pub use ranging::ranged_law;
 pub use refusal::ViewRefusal;
+pub use shown_list::ShownList;
+pub use views::Views;
 pub use waiting::waiting_law;

@@ -1,0 +1,143 @@
+-- A live list that is brought up to date entry by entry, each match found by where it stood, is brought up to date by names.
+use Rattle.std.proofs.Common.{◌≡◌, ℕ, Bool, true, false, Option, Some, None, List, [], ◌∷◌, ◌++◌, refl, sym, ◌∙◌, ap, subst, ◌⊎◌, inl, inr, map as each}
+use Rattle.std.specs.Cmp.{both_ways, tied_itself}
+use Rattle.std.specs.FinMap.Entries.{by_order}
+use Rattle.std.specs.List.{Contains}
+use Rattle.std.specs.Ordering.{eq_by_cmp, is_eq, ordering_then}
+use Rattle.std.specs.declared.cmp.Ordering.{Ordering}
+use Rattle.std.specs.declared.cmp.Ordering.TheVariants.{Less, Equal, Greater}
+use Rattle.acap_entries.proofs.FullPathLaws.{full_paths}
+use Rattle.acap_entries.proofs.RankLaws.{rank_holds}
+use Rattle.acap_entries.specs.FullPaths.{full_path, full_path_cmp, IsSplit}
+use Rattle.acap_entries.specs.Orders.{octets_cmp, octets_eq}
+use Rattle.acap_entries.specs.Ranks.{Ascending, with_item}
+use Rattle.acap_entries.specs.declared.path.Path.{Path}
+use Rattle.acap_moves.specs.Hits.{Name}
+use Rattle.acap_moves.specs.Moves.{Move, after_moves, after_move, moves_notices}
+use Rattle.acap_moves.specs.Notices.{notice_at}
+use Rattle.acap_moves.proofs.Splits.{same_name, itself}
+use Rattle.acap_search.specs.Matches.{Match, match_cmp}
+use Rattle.acap_search.specs.Places.{places_cmp}
+use Rattle.acap_search.specs.Totals.{match_total}
+use Rattle.acap_search.specs.Tuples.{name_told}
+use Rattle.acap_search.specs.declared.rank.Place.{Place}
+use Rattle.acap_search.proofs.OnceLemmas.{then_equal}
+use Rattle.acap_search.proofs.SeenLemmas.{here, there, first_or, nowhere, either}
+use Rattle.acap_views.specs.Notices.{told_shape}
+use Rattle.acap_views.specs.Shifting.{Shift, standing, with_match, without_old, shifted, after_shift, after_shifts, shift_notices, shifts_notices}
+use Rattle.acap_views.proofs.PathLemmas.{IsIn, told_apart}
+use Rattle.acap_views.proofs.ShiftLemmas.{Unlike, IsApt, rises, left_of, shift_is, told_is, tied}
+
+from_with : (come : Match) (es : List Match) (x : Match) → Contains (with_item match_cmp come es) x → (come ≡ x) ⊎ Contains es x
+unfolding with_item
+from_with come [] x k = either (first_or come x [] k) (λ e. inl e) (λ l. nowhere x l)
+from_with come (e ∷ es) x k = elim (match_cmp come e) as (λ o. Contains (by_order o (come ∷ e ∷ es) (e ∷ es) (e ∷ with_item match_cmp come es)) x → (come ≡ x) ⊎ Contains (e ∷ es) x) [
+  | Less ↦ λ l. first_or come x (e ∷ es) l
+  | Equal ↦ λ l. inr l
+  | Greater ↦ λ l. either (first_or e x (with_item match_cmp come es) l)
+      (λ same. inr (subst (λ y. Contains (e ∷ es) y) same (here e es)))
+      (λ m. either (from_with come es x m) (λ same. inl same) (λ n. inr (there e x es n)))
+] k
+
+abbrev pub Apart : List Path → Type 0
+Apart [] = Unit {0}
+Apart (p ∷ ps) = ((q : Path) → Contains ps q → p ≡ q → ⊥) × Apart ps
+
+module _ (dataset : List ℕ) (depth : Option ℕ) (was : Path → List Place) (come : Path → Option Match) where
+  abbrev pub told : Path → Name
+  told = name_told depth
+
+  abbrev pub shift_by : Path → Shift
+  shift_by p = record { name = told p; old = standing p (was p); come = come p }
+
+  abbrev pub move_of : Path → Move Match
+  move_of p = (told p, come p)
+
+  -- a match of the search, told by the name of its path
+  pub record IsNamed (h : Match) : Type 0 where
+    pub split : IsSplit h.path
+    pub inside : IsIn dataset depth h.path
+    pub name : h.row.name ≡ told h.path
+
+  pub record AreNamed (hits : List Match) : Type 0 where
+    pub ascend : Ascending match_cmp hits
+    pub named : (h : Match) → Contains hits h → IsNamed h
+
+  pub record IsAsked (p : Path) : Type 0 where
+    pub split : IsSplit p
+    pub inside : IsIn dataset depth p
+    pub path : (m : Match) → come p ≡ Some m → m.path ≡ p
+    pub name : (m : Match) → come p ≡ Some m → m.row.name ≡ told p
+
+  abbrev pub StoodThere : List Match → Path → Type 0
+  StoodThere hits p = (h : Match) → Contains hits h → h.path ≡ p → h.places ≡ was p
+
+  module _ (p : Path) (hits : List Match) (named : AreNamed hits) (asked : IsAsked p) (stood : StoodThere hits p) where
+    by_name : (h : Match) → Contains hits h → octets_eq (told p) h.row.name ≡ true → p ≡ h.path
+    by_name h k e =
+        let is = named.named h k in
+        told_apart dataset depth p h.path asked.inside is.inside asked.split is.split (same_name _ _ e ∙ is.name)
+
+    same_path_of : (h : Match) → IsSplit h.path → full_path_cmp p h.path ≡ Equal → p ≡ h.path
+    same_path_of h s e = full_paths.same p h.path asked.split s e
+
+    by_place : (h : Match) → Contains hits h → eq_by_cmp match_cmp (standing p (was p)) h ≡ true → p ≡ h.path
+    by_place h k e = same_path_of h (named.named h k).split (then_equal _ _ (tied _ e))
+
+    ties_there : (h : Match) → Contains hits h → p ≡ h.path → eq_by_cmp match_cmp (standing p (was p)) h ≡ true
+    ties_there h k e =
+        ap (λ places. is_eq (ordering_then (places_cmp (was p) places) (full_path_cmp p h.path))) (stood h k (sym e))
+        ∙ (ap (λ q. is_eq (ordering_then (places_cmp (was p) (was p)) (full_path_cmp p q))) (sym e) ∙ ap is_eq (tied_itself match_total (standing p (was p))))
+
+    agree : (h : Match) → Contains hits h → octets_eq (told p) h.row.name ≡ eq_by_cmp match_cmp (standing p (was p)) h
+    agree h k = both_ways _ _
+        (λ e. ties_there h k (by_name h k e))
+        (λ e. itself (told p) h.row.name (ap told (by_place h k e) ∙ sym (named.named h k).name))
+
+    unlike : (m : Match) → come p ≡ Some m → Unlike m (without_old (standing p (was p)) hits)
+    unlike m c x k e =
+        let l = left_of (standing p (was p)) hits x k in
+        let full : full_path_cmp p x.path ≡ Equal = ap (λ q. full_path_cmp q x.path) (sym (asked.path m c)) ∙ then_equal _ _ e in
+        cc (ties_there x l.0 (same_path_of x (named.named x l.0).split full), l.1)
+
+    apt : IsApt (shift_by p) hits
+    apt = record { rises = rises hits named.ascend; agree = agree; named = asked.name; unlike = unlike }
+
+    from_next : (o : Option Match) (x : Match) → Contains (with_match o (without_old (standing p (was p)) hits)) x → (o ≡ Some x) ⊎ Contains hits x
+    from_next None x k = inr (left_of (standing p (was p)) hits x k).0
+    from_next (Some m) x k = either (from_with m (without_old (standing p (was p)) hits) x k) (λ e. inl (ap Some e)) (λ l. inr (left_of (standing p (was p)) hits x l).0)
+
+    comes_named : (m : Match) → come p ≡ Some m → IsNamed m
+    comes_named m c =
+        let same : m.path ≡ p = asked.path m c in
+        record { split = subst IsSplit (sym same) asked.split; inside = subst (IsIn dataset depth) (sym same) asked.inside; name = asked.name m c ∙ ap told (sym same) }
+
+    ascends : (o : Option Match) → Ascending match_cmp (with_match o (without_old (standing p (was p)) hits))
+    ascends None = (rank_holds match_cmp match_total).after_take (standing p (was p)) hits named.ascend
+    ascends (Some m) = (rank_holds match_cmp match_total).after_put m _ ((rank_holds match_cmp match_total).after_take (standing p (was p)) hits named.ascend)
+
+    next_named : AreNamed (after_shift (shift_by p) hits)
+    next_named = record {
+      ascend = ascends (come p);
+      named = λ h k. either (from_next (come p) h k) (λ c. comes_named h c) (λ l. named.named h l);
+    }
+
+    still_there : (q : Path) → (p ≡ q → ⊥) → StoodThere hits q → StoodThere (after_shift (shift_by p) hits) q
+    still_there q n s h k e = either (from_next (come p) h k) (λ c. absurd (n (sym (asked.path h c) ∙ e))) (λ l. s h l e)
+
+  pub follow : (ps : List Path) (hits : List Match) → AreNamed hits → ((p : Path) → Contains ps p → IsAsked p) → ((p : Path) → Contains ps p → StoodThere hits p) → Apart ps
+      → (after_shifts (each shift_by ps) hits ≡ after_moves told_shape (each move_of ps) hits)
+      × ((enumerated : Bool) → shifts_notices enumerated (each shift_by ps) hits ≡ moves_notices told_shape enumerated (each move_of ps) hits)
+  follow [] hits n a s d = (refl, λ enumerated. refl)
+  follow (p ∷ ps) hits n a s d =
+      let asked = a p (here p ps) in
+      let stood = s p (here p ps) in
+      let now = apt p hits n asked stood in
+      let same : after_shift (shift_by p) hits ≡ after_move told_shape (move_of p) hits = shift_is (shift_by p) hits now in
+      let rest = follow ps (after_shift (shift_by p) hits) (next_named p hits n asked stood) (λ q k. a q (there p q ps k)) (λ q k. still_there p hits n asked stood q (d.0 q k) (s q (there p q ps k))) d.1 in (
+        rest.0 ∙ ap (after_moves told_shape (each move_of ps)) same,
+        λ enumerated.
+            ap (λ ns. ns ++ shifts_notices enumerated (each shift_by ps) (after_shift (shift_by p) hits)) (told_is (shift_by p) hits now enumerated)
+            ∙ (ap (λ ns. notice_at told_shape enumerated (told p) hits (after_move told_shape (move_of p) hits) ++ ns) (rest.1 enumerated)
+            ∙ ap (λ hs. notice_at told_shape enumerated (told p) hits (after_move told_shape (move_of p) hits) ++ moves_notices told_shape enumerated (each move_of ps) hs) same),
+      )

@@ -1,0 +1,51 @@
+-- One entry after the other: what is left comes to what is left of all.
+use Rattle.std.proofs.Common.{◌≡◌, ℕ, suc, ◌+◌, ◌-◌, ◌<◌, ◌≤◌, min, Bool, Option, Some, None, List, [], ◌∷◌, ◌++◌, length, refl, sym, ◌∙◌, ap, subst, arith, length-append, append_assoc}
+use Rattle.std.specs.Prelude.{IfSome}
+use Rattle.acap_notices.specs.Waiting as waiting
+use Rattle.acap_notices.specs.Waiting.{most_waiting}
+use Rattle.acap_notices.specs.declared.notice.Notice.{Notice}
+use Rattle.acap_search.specs.Matches.{Match}
+use Rattle.acap_views.specs.Room.{Space, HasRoom}
+use Rattle.acap_views.specs.Shifting.{Shift, after_shift, after_shifts, shift_notices, shifts_notices}
+
+some_first : (n : ℕ) (o : Option ℕ) → IfSome o (λ room. suc n ≤ room) → IfSome o (λ room. 1 ≤ room)
+some_first n None i = i
+some_first n (Some room) i = omega (arith, i)
+
+least_first : (n left room : ℕ) → min (suc n) left ≤ room → min 1 left ≤ room
+least_first n left room h = omega (arith, h)
+
+pub room_first : (n : ℕ) (rest : List Shift) (pending : List Notice) (space : Space) → length rest ≡ suc n → HasRoom (length rest) pending space → HasRoom 1 pending space
+room_first n rest pending space e h =
+    let all = subst (λ m. HasRoom m pending space) e h in
+    record {
+      hits = omega (arith, all.hits);
+      moves = some_first n space.moves all.moves;
+      notices = record { room = least_first n (most_waiting - length pending) space.notices all.notices.room };
+    }
+
+pub present_on : (rest : List Shift) (shift : Shift) (now next end : List Match) (shifts : List Shift) → shifts ≡ shift ∷ rest → next ≡ after_shift shift now → after_shifts shifts now ≡ end → after_shifts rest next ≡ end
+present_on rest shift now next end shifts s e i = ap (after_shifts rest) e ∙ (ap (λ ss. after_shifts ss now) (sym s) ∙ i)
+
+pub told_on : (enumerated : Bool) (rest : List Shift) (shift : Shift) (now next : List Match) (shifts : List Shift) (pending more : List Notice) (end : List Notice)
+    → shifts ≡ shift ∷ rest → next ≡ after_shift shift now → more ≡ pending ++ shift_notices enumerated shift now
+    → pending ++ shifts_notices enumerated shifts now ≡ end → more ++ shifts_notices enumerated rest next ≡ end
+told_on enumerated rest shift now next shifts pending more end s e p i =
+    ap (λ ns. ns ++ shifts_notices enumerated rest next) p
+    ∙ (append_assoc pending (shift_notices enumerated shift now) (shifts_notices enumerated rest next)
+    ∙ (ap (λ hits. pending ++ (shift_notices enumerated shift now ++ shifts_notices enumerated rest hits)) e
+    ∙ (ap (λ ss. pending ++ shifts_notices enumerated ss now) (sym s) ∙ i)))
+
+pub full_then : (enumerated : Bool) (rest : List Shift) (shift : Shift) (now : List Match) (shifts : List Shift) (pending before all : List Notice)
+    → shifts ≡ shift ∷ rest → pending ++ shifts_notices enumerated shifts now ≡ before ++ all
+    → most_waiting < length pending + length (shift_notices enumerated shift now) → most_waiting < length before + length all
+full_then enumerated rest shift now shifts pending before all s i h =
+    let whole : length pending + length (shift_notices enumerated shift now ++ shifts_notices enumerated rest (after_shift shift now)) ≡ length before + length all =
+    sym (length-append pending _) ∙ (ap (λ ss. length (pending ++ shifts_notices enumerated ss now)) (sym s) ∙ (ap length i ∙ length-append before all)) in
+    let first = length-append (shift_notices enumerated shift now) (shifts_notices enumerated rest (after_shift shift now)) in
+    omega (arith, whole, first, h)
+
+-- what has no items left
+pub none_of : {X : Type 0} (xs : List X) (n : ℕ) → length xs ≡ n → n ≡ 0 → xs ≡ []
+none_of [] n e z = refl
+none_of (x ∷ xs) n e z = absurd (omega (arith, e, z))

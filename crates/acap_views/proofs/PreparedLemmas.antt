@@ -1,0 +1,220 @@
+-- What is prepared of each touched entry comes to the change.
+use Rattle.std.proofs.Common.{◌≡◌, ℕ, suc, ◌+◌, Bool, true, false, cond, Option, Some, None, List, [], ◌∷◌, length, refl, sym, ◌∙◌, ap, subst, arith, map as each}
+use Rattle.std.specs.Cmp.{nat_cmp_total, tied_itself}
+use Rattle.std.specs.Cmp.Lexicographic.{nat_list_cmp_total}
+use Rattle.std.specs.FinMap as table
+use Rattle.std.specs.List.{filter_map, sum_by, Contains}
+use Rattle.std.specs.Option.{option_map, unwrap_or}
+use Rattle.acap_entries.specs.Datasets.{dataset_exists}
+use Rattle.std.proofs.lemmas.List.Sums.{sum_by-cons}
+use Rattle.acap_entries.specs.FullPaths.{IsSplit}
+use Rattle.acap_entries.specs.Orders.{octets_cmp}
+use Rattle.acap_entries.specs.Store.{Store, Written}
+use Rattle.acap_entries.specs.declared.path.Path.{Path}
+use Rattle.acap_inherit.specs.Laws.{NothingLaw, NamesLaw}
+use Rattle.acap_inherit.specs.TouchedLaws.{TouchedPathsLaw}
+use Rattle.acap_moves.specs.Hits.{Name, IsBelow, IsAscending}
+use Rattle.acap_moves.specs.Moves.{Move, after_moves, moves_notices}
+use Rattle.acap_notices.specs.declared.notice.Notice.{Notice}
+use Rattle.acap_rights.specs.declared.realm.Realm.{Realm}
+use Rattle.acap_search.specs.ContextLaws.{HitLaw}
+use Rattle.acap_search.specs.Fresh.{Sight, tuple_of, matches_of, is_among, answers_on}
+use Rattle.acap_search.specs.Keys.{holds}
+use Rattle.acap_search.specs.Laws.{SeenLaw, TupleLaw}
+use Rattle.acap_search.specs.Matches.{Match}
+use Rattle.acap_search.specs.Rows.{stars_of}
+use Rattle.acap_search.specs.Sight.{is_seen}
+use Rattle.acap_search.specs.Touched.{TouchedLaw}
+use Rattle.acap_search.specs.Tuples.{name_told, match_of}
+use Rattle.acap_search.specs.Views.{answers_of, stars_at, found_at as found_of}
+use Rattle.acap_search.specs.declared.query.Sought.{Sought}
+use Rattle.acap_search.specs.declared.rank.Place.{Place}
+use Rattle.acap_search.proofs.OnceLemmas.{from_made, found_at, in_one, from_ordered}
+use Rattle.acap_search.proofs.SeenLemmas.{here, there, first_or, nowhere, either}
+use Rattle.acap_search.proofs.TupleLemmas.{made_is}
+use Rattle.acap_views.specs.Aheads.{Planned, store_ahead}
+use Rattle.acap_views.specs.Changing.{sight_for, follows, changed_context, changed_occupant, changed}
+use Rattle.acap_views.specs.Contexts.{Kept, Snapshot, Live, Freed, Context, Contexts}
+use Rattle.acap_views.specs.Current.{IsCurrentKept, IsCurrentContext, IsCurrentOccupant, IsCurrent}
+use Rattle.acap_views.specs.Laws.{ChangedLaw, FoundLaw}
+use Rattle.acap_views.specs.Moving.{moves_of, IsTaken, TouchedMovesLaw}
+use Rattle.acap_views.specs.Notices.{told_shape, event_notices}
+use Rattle.acap_views.specs.Plans.{live_shifts, shifts_in, turns_at, turns_of, work_in, work_at, shifts_count, turns_count}
+use Rattle.acap_views.specs.PreparedLaws.{PreparedLaw}
+use Rattle.acap_views.specs.Preparing.{seen_at, shift_for, shifts_if, shifts_for, kept_after, context_after, contexts_after, occupant_after, seats_after}
+use Rattle.acap_views.specs.Seats.{Occupant, Seated}
+use Rattle.acap_views.specs.Shifting.{Shift, after_shifts, shifts_notices}
+use Rattle.acap_views.specs.Work.{is_live, touched_for, work_for}
+use Rattle.acap_views.proofs.CurrentLemmas.{find_own}
+use Rattle.acap_views.proofs.FollowLemmas.{Apart, told, shift_by, move_of, IsNamed, AreNamed, IsAsked, StoodThere, follow}
+use Rattle.acap_views.proofs.ListLemmas.{so}
+use Rattle.acap_views.proofs.MovingLemmas.{split_seen, looked_split, looked_in, alone, looked_rise}
+use Rattle.acap_views.proofs.PathLemmas.{IsIn}
+
+-- ---- names that ascend are apart
+
+below_itself : (n : Name) (ns : List Name) (m : Name) → IsBelow n ns → Contains ns m → n ≡ m → ⊥
+below_itself n [] m b k e = nowhere m k
+below_itself n (x ∷ ns) m b k e =
+    either (first_or x m ns k)
+    (λ s. cc (sym b.0 ∙ (ap (octets_cmp n) (s ∙ sym e) ∙ tied_itself nat_list_cmp_total n)))
+    (λ l. below_itself n ns m b.1 l e)
+
+in_each : {A B : Type 0} (f : A → B) (xs : List A) (x : A) → Contains xs x → Contains (each f xs) (f x)
+in_each f [] x k = nowhere x k
+in_each f (y ∷ ys) x k = either (first_or y x ys k) (λ e. subst (λ z. Contains (f y ∷ each f ys) z) (ap f e) (here (f y) (each f ys))) (λ l. there (f y) (f x) (each f ys) (in_each f ys x l))
+
+apart : (depth : Option ℕ) (ps : List Path) → IsAscending (each (name_told depth) ps) → Apart ps
+apart depth [] a = tt
+apart depth (p ∷ ps) a = (
+  λ q k e. below_itself (name_told depth p) (each (name_told depth) ps) (name_told depth q) a.0 (in_each (name_told depth) ps q k) (ap (name_told depth) e),
+  apart depth ps a.1,
+)
+
+module _ (nothing : NothingLaw) (names : NamesLaw) (listed : TouchedPathsLaw) (seen : SeenLaw) (unread : TouchedLaw) (changes : ChangedLaw) (found : FoundLaw) (tuples : TupleLaw) (hits : HitLaw) (moved : TouchedMovesLaw) where
+  module _ (written : Written) (old new : Store) (realm : Realm) (user : List ℕ) (context : Context) (taken : IsTaken written old new) (exists : dataset_exists old.records context.sought.dataset ≡ true) where
+    abbrev sought : Sought
+    sought = context.sought
+
+    abbrev before : Sight
+    before = sight_for realm old user sought
+
+    abbrev after : Sight
+    after = sight_for realm new user sought
+
+    abbrev was : Path → List Place
+    was p = (shift_for old.records new.records realm user sought p).old.places
+
+    abbrev come : Path → Option Match
+    come p = (shift_for old.records new.records realm user sought p).come
+
+    abbrev looked : List Path
+    looked = touched_for written old new context
+
+    abbrev last : List Match
+    last = matches_of old.records realm user sought
+
+    -- ---- the matches before the change
+
+    from_last : (h : Match) → Contains last h → (p : Path) × (Contains before.paths p × (tuple_of before sought p ≡ Some h))
+    from_last h k = from_made (tuple_of before sought) before.paths h (from_ordered nothing names old.records realm user taken.sound.old_sound sought exists sought.sort _ h k)
+
+    stood_at : (p : Path) (h : Match) → tuple_of before sought p ≡ Some h → h.places ≡ was p
+    stood_at p h e =
+        ap (λ (m : Match). m.places) (sym (made_is (is_among before.paths p) (holds sought.key None (before.answers p)) (match_of sought p (before.answers p) (stars_of (before.answers p).read (before.attributes p))) h e).1.1)
+
+    is_named : (h : Match) → Contains last h → IsNamed sought.dataset sought.depth was come h
+    is_named h k =
+        let w = from_last h k in
+        let is = found_at nothing names old.records realm user taken.sound.old_sound sought exists w.0 h w.1.1 in
+        record {
+          split = subst IsSplit (sym is.0) (split_seen nothing names seen old realm user sought taken.sound.old_sound exists w.0 w.1.0);
+          inside = subst (IsIn sought.dataset sought.depth) (sym is.0) (in_one nothing names old.records realm user taken.sound.old_sound sought exists w.0 w.1.0);
+          name = is.1 ∙ ap (name_told sought.depth) (sym is.0);
+        }
+
+    are_named : AreNamed sought.dataset sought.depth was come last
+    are_named = record { ascend = hits.ascend old.records realm user sought taken.sound.old_sound exists; named = is_named }
+
+    stood : (p : Path) → StoodThere sought.dataset sought.depth was come last p
+    stood p h k e =
+        let w = from_last h k in
+        let is = found_at nothing names old.records realm user taken.sound.old_sound sought exists w.0 h w.1.1 in
+        stood_at w.0 h w.1.1 ∙ ap was (sym is.0 ∙ e)
+
+    -- ---- the entries that are looked at
+
+    made_from : (p : Path) (m : Match) → come p ≡ Some m → match_of sought p (answers_of (seen_at new.records realm user sought p)) (stars_at (seen_at new.records realm user sought p)) ≡ m
+    made_from p m e =
+        (made_is (is_seen (answers_of (seen_at new.records realm user sought p))) (holds sought.key None (answers_of (seen_at new.records realm user sought p)))
+        (match_of sought p (answers_of (seen_at new.records realm user sought p)) (stars_at (seen_at new.records realm user sought p))) m e).1.1
+
+    asked : (p : Path) → Contains looked p → IsAsked sought.dataset sought.depth was come p
+    asked p k = record {
+      split = looked_split nothing names listed seen unread changes found written old new realm user sought taken exists p k;
+      inside = alone nothing names listed seen unread changes found written old new realm user sought taken exists p (looked_in nothing names listed seen unread changes found written old new realm user sought taken exists p k);
+      path = λ m e. ap (λ (m : Match). m.path) (sym (made_from p m e));
+      name = λ m e. ap (λ (m : Match). m.row.name) (sym (made_from p m e));
+    }
+
+    come_is : (p : Path) → Contains looked p → come p ≡ tuple_of after sought p
+    come_is p k = sym (tuples.inside new.records realm user sought p (looked_in nothing names listed seen unread changes found written old new realm user sought taken exists p k))
+
+    same_moves : (ps : List Path) → ((p : Path) → Contains ps p → come p ≡ tuple_of after sought p) → each (move_of sought.dataset sought.depth was come) ps ≡ moves_of sought after ps
+    same_moves [] h = refl
+    same_moves (p ∷ ps) h = λ i. (name_told sought.depth p, h p (here p ps) i) ∷ same_moves ps (λ q k. h q (there p q ps k)) i
+
+    followed : (after_shifts (each (shift_for old.records new.records realm user sought) looked) last ≡ matches_of new.records realm user sought)
+        × (shifts_notices context.enumerated (each (shift_for old.records new.records realm user sought) looked) last ≡ event_notices context.enumerated sought before after)
+    followed =
+        let same = same_moves looked come_is in
+        let f = follow sought.dataset sought.depth was come looked last are_named asked (λ p k. stood p)
+        (apart sought.depth looked (looked_rise nothing names listed seen unread changes found written old new realm user sought taken exists)) in (
+          f.0 ∙ (ap (λ ms. after_moves told_shape ms last) same ∙ moved.list written old new realm user context taken exists),
+          f.1 context.enumerated ∙ (ap (λ ms. moves_notices told_shape context.enumerated ms last) same ∙ moved.told written old new realm user context taken exists),
+        )
+
+    kept_is : (kept : Kept) → IsCurrentKept last context.enumerated kept
+        → kept_after context.enumerated (shifts_if kept (each (shift_for old.records new.records realm user sought) looked)) kept
+        ≡ follows (event_notices context.enumerated sought before after) (matches_of new.records realm user sought) kept
+    kept_is (Snapshot shown) i = refl
+    kept_is (Live shown now pending) i =
+        let shifts = each (shift_for old.records new.records realm user sought) looked in
+        ap (λ ms. follows (shifts_notices context.enumerated shifts ms) (after_shifts shifts ms) (Live shown now pending)) i.fresh_now
+        ∙ (ap (λ ns. follows ns (after_shifts shifts last) (Live shown now pending)) followed.1
+        ∙ ap (λ ms. follows (event_notices context.enumerated sought before after) ms (Live shown now pending)) followed.0)
+    kept_is Freed i = refl
+
+  one_context : (written : Written) (old new : Store) (realm : Realm) (user : List ℕ) (context : Context) → IsTaken written old new → IsCurrentContext old realm user context
+      → context_after (shifts_for written old new realm user context) context ≡ changed_context realm old new user context
+  one_context written old new realm user context taken current =
+      λ i. record context { kept = kept_is written old new realm user context taken current.exists context.kept current.kept i }
+
+  all_contexts : (written : Written) (old new : Store) (realm : Realm) (user : List ℕ) (es : List (List ℕ × Context)) → IsTaken written old new
+      → ((e : List ℕ × Context) → Contains es e → IsCurrentContext old realm user e.1)
+      → contexts_after (each (shifts_for written old new realm user) (each (λ e. e.1) es)) es
+      ≡ filter_map (λ e. option_map (λ y. (e.0, y)) (Some (changed_context realm old new user e.1))) es
+  all_contexts written old new realm user [] taken current = refl
+  all_contexts written old new realm user (e ∷ es) taken current = λ i.
+      (e.0, one_context written old new realm user e.1 taken (current e (here e es)) i) ∷ all_contexts written old new realm user es taken (λ x k. current x (there e x es k)) i
+
+  one_occupant : (plan : Planned) (occupant : Occupant) → IsTaken plan.change.writes plan.old (store_ahead plan) → IsCurrentOccupant plan.old plan.realm occupant
+      → occupant_after (turns_at plan occupant) occupant ≡ changed_occupant plan.realm plan.old (store_ahead plan) occupant
+  one_occupant plan occupant taken current = λ i. record occupant {
+    contexts = table.from_entries (all_contexts plan.change.writes plan.old (store_ahead plan) plan.realm occupant.user (table.entries occupant.contexts) taken
+        (λ e k. current.each e.0 e.1 (table.get-entries occupant.contexts e.0 ∙ find_own nat_list_cmp_total (table.entries occupant.contexts) e (so _ (table.entries_sorted occupant.contexts)) k)) i);
+  }
+
+  all_occupants : (plan : Planned) (es : List (ℕ × Occupant)) → IsTaken plan.change.writes plan.old (store_ahead plan)
+      → ((e : ℕ × Occupant) → Contains es e → IsCurrentOccupant plan.old plan.realm e.1)
+      → seats_after (each (turns_at plan) (each (λ e. e.1) es)) es ≡ filter_map (λ e. option_map (λ y. (e.0, y)) (Some (changed_occupant plan.realm plan.old (store_ahead plan) e.1))) es
+  all_occupants plan [] taken current = refl
+  all_occupants plan (e ∷ es) taken current = λ i. (e.0, one_occupant plan e.1 taken (current e (here e es)) i) ∷ all_occupants plan es taken (λ x k. current x (there e x es k)) i
+
+  -- ---- how many are looked at
+
+  each_length : {A B : Type 0} (f : A → B) (xs : List A) → length (each f xs) ≡ length xs
+  each_length f [] = refl
+  each_length f (x ∷ xs) = ap suc (each_length f xs)
+
+  sum_each : {A B : Type 0} (f : B → ℕ) (g : A → B) (h : A → ℕ) (xs : List A) → ((x : A) → f (g x) ≡ h x) → sum_by f (each g xs) ≡ sum_by h xs
+  sum_each f g h [] e = refl
+  sum_each f g h (x ∷ xs) e = sum_by-cons f (g x) (each g xs) ∙ omega (arith, e x, sum_each f g h xs e, sum_by-cons h x xs)
+
+  count_if : (kept : Kept) (shifts : List Shift) → length (shifts_if kept shifts) ≡ cond (is_live kept) (length shifts) 0
+  count_if (Snapshot shown) shifts = refl
+  count_if (Live shown now pending) shifts = refl
+  count_if Freed shifts = refl
+
+  one_count : (plan : Planned) (user : List ℕ) (context : Context) → length (shifts_in plan user context) ≡ work_in plan context
+  one_count plan user context =
+      count_if context.kept (live_shifts plan user context)
+      ∙ ap (λ n. cond (is_live context.kept) n 0) (each_length (shift_for plan.old.records (store_ahead plan).records plan.realm user context.sought) (touched_for plan.change.writes plan.old (store_ahead plan) context))
+
+  pub prepared_law : PreparedLaw
+  prepared_law = record {
+    changed = λ plan seats work taken current.
+        ap table.from_entries (all_occupants plan (table.entries seats) taken
+        (λ e k. current.all e.0 e.1 (table.get-entries seats e.0 ∙ find_own nat_cmp_total (table.entries seats) e (so _ (table.entries_sorted seats)) k)));
+    count = λ plan seats. sum_each shifts_count (turns_at plan) (work_at plan) (table.values seats) (λ occupant. sum_each length (shifts_in plan occupant.user) (work_in plan) (table.values occupant.contexts) (one_count plan occupant.user));
+  }

@@ -1,0 +1,10 @@
+use Rattle.std.proofs.Common.{◌≡◌, ◌+◌, ◌≤◌, ◌++◌, length, map as each}
+use Rattle.acap_views.specs.Scenes.{shift_in}
+use Rattle.acap_views.proofs.shift_making.shifts_at.Given as goal
+
+abbrev pub invariant-loop-path : goal.invariant-loop-path
+invariant-loop-path g l = record {
+  shifts : l.shifts.items ++ each (shift_in l.scene) l.path-iterator.rest.items ≡ each (shift_in l.scene) l.fn.paths;
+  count : l.steps + length l.path-iterator.rest.items ≡ l.fn.steps + length l.fn.paths;
+  least : l.fn.steps ≤ l.steps;
+}

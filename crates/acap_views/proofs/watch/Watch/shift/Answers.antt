@@ -1,0 +1,15 @@
+use Rattle.std.proofs.Common.{sym, ◌∙◌, ap}
+use Rattle.acap_moves.specs.Moves.{undone}
+use Rattle.acap_views.specs.Shifting.{shifted, undo_by}
+use Rattle.acap_views.specs.Undoing.{shown_in}
+use Rattle.acap_views.proofs.ShiftLemmas.{undone_is}
+use Rattle.acap_views.proofs.watch.Watch.shift.Goals as goal
+
+pub returns-clause-shown : goal.returns-clause-shown
+returns-clause-shown c =
+    let old = c.args.shift.old in
+    let come = c.args.shift.come in
+    c.log.ensures.list c.swap-undone.new.hits.0
+    ∙ (ap (λ u. shown_in c.self.inside.shown (undone u c.swap-undone.new.hits.0)) c.swap-undone.ensures.undone
+    ∙ (ap (λ hits. shown_in c.self.inside.shown (undone (undo_by old come c.self.inside.hits.0) hits)) c.swap-undone.ensures.list
+    ∙ (ap (shown_in c.self.inside.shown) (undone_is old come c.self.inside.hits.0 c.ascends.ensures) ∙ ap (λ w. w.shown) c.self.view_is)))

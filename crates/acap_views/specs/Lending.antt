@@ -1,0 +1,9 @@
+-- The list of a context that was told last, as it is lent to a search, and what a search over the context starts from.
+use Rattle.std.specs.Prelude.{List}
+use Rattle.acap_search.specs.Matches.{Match}
+use Rattle.acap_views.specs.declared.listed.Listed.{Listed}
+use Rattle.acap_views.specs.declared.listed.Listed.TheVariants as list
+
+abbrev pub listed : Listed → List Match
+listed (list.Snapshot hits) = hits.now
+listed (list.Live watch) = watch.now.shown

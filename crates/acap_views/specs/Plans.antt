@@ -1,0 +1,43 @@
+-- What a change that is about to be committed comes to, seat by seat and context by context: words of private contracts.
+use Rattle.std.specs.Prelude.{ℕ, List, length, map as each}
+use Rattle.std.specs.FinMap as table
+use Rattle.std.specs.List.{sum_by}
+use Rattle.acap_entries.specs.declared.path.Path.{Path}
+use Rattle.acap_views.specs.Aheads.{Planned, store_ahead}
+use Rattle.acap_views.specs.Contexts.{Context}
+use Rattle.acap_views.specs.Preparing.{shift_for, shifts_for}
+use Rattle.acap_views.specs.Seats.{Occupant, Seated}
+use Rattle.acap_views.specs.Shifting.{Shift}
+use Rattle.acap_views.specs.Work.{touched_for, work_for}
+
+abbrev pub looked_at : Planned → Context → List Path
+looked_at plan context = touched_for plan.change.writes plan.old (store_ahead plan) context
+
+abbrev pub live_shifts : Planned → List ℕ → Context → List Shift
+live_shifts plan user context =
+    each (shift_for plan.old.records (store_ahead plan).records plan.realm user context.sought) (looked_at plan context)
+
+abbrev pub work_in : Planned → Context → ℕ
+work_in plan context = work_for plan.change.writes plan.old (store_ahead plan) context
+
+abbrev pub shifts_in : Planned → List ℕ → Context → List Shift
+shifts_in plan user context = shifts_for plan.change.writes plan.old (store_ahead plan) plan.realm user context
+
+abbrev pub work_at : Planned → Occupant → ℕ
+work_at plan occupant = sum_by (work_in plan) (table.values occupant.contexts)
+
+abbrev pub turns_at : Planned → Occupant → List (List Shift)
+turns_at plan occupant = each (shifts_in plan occupant.user) (table.values occupant.contexts)
+
+abbrev pub work_of : Planned → Seated → ℕ
+work_of plan seats = sum_by (work_at plan) (table.values seats)
+
+abbrev pub turns_of : Planned → Seated → List (List (List Shift))
+turns_of plan seats = each (turns_at plan) (table.values seats)
+
+-- how many entries there are in turns
+abbrev pub shifts_count : List (List Shift) → ℕ
+shifts_count turns = sum_by length turns
+
+abbrev pub turns_count : List (List (List Shift)) → ℕ
+turns_count seats = sum_by shifts_count seats

@@ -1,0 +1,41 @@
+-- Whose context is looked at, when a change is about to be committed: words of private contracts.
+use Rattle.std.specs.Prelude.{ℕ, List, refl}
+use Rattle.std.specs.Coded.{Coded, code_by, coded×, coded_list, coded_ℕ}
+use Rattle.std.specs.FinMap as map
+use Rattle.acap_entries.specs.Store.{Stored}
+use Rattle.acap_entries.specs.contracts.path.Path as path
+use Rattle.acap_entries.specs.contracts.record.Record as row
+use Rattle.acap_entries.specs.declared.path.Path.{Path}
+use Rattle.acap_rights.specs.contracts.realm.Realm as realm
+use Rattle.acap_rights.specs.declared.realm.Realm.{Realm}
+use Rattle.acap_search.specs.Views.{Spotted}
+use Rattle.acap_search.specs.contracts.query.Sought as query
+use Rattle.acap_search.specs.declared.query.Sought.{Sought}
+use Rattle.acap_views.specs.Preparing.{seen_at, shift_for}
+use Rattle.acap_views.specs.Shifting.{Shift}
+
+pub record Scene : Type 0 where
+  pub old : Stored
+  pub new : Stored
+  pub realm : Realm
+  pub user : List ℕ
+  pub sought : Sought
+
+-- an entry before the change and afterwards, and what becomes of it
+abbrev pub spot_before : Scene → Path → Spotted
+spot_before scene path = seen_at scene.old scene.realm scene.user scene.sought path
+
+abbrev pub spot_after : Scene → Path → Spotted
+spot_after scene path = seen_at scene.new scene.realm scene.user scene.sought path
+
+abbrev pub shift_in : Scene → Path → Shift
+shift_in scene path = shift_for scene.old scene.new scene.realm scene.user scene.sought path
+
+-- how they are told apart in proofs
+abbrev pub scene_code : Coded Scene
+scene_code =
+    code_by (Stored × (Stored × (Realm × (List ℕ × Sought))))
+    (coded× (map.code path.the_row.coded row.the_row.coded) (coded× (map.code path.the_row.coded row.the_row.coded)
+    (coded× realm.the_row.coded (coded× (coded_list coded_ℕ) query.the_row.coded))))
+    (λ s. (s.old, (s.new, (s.realm, (s.user, s.sought)))))
+    (λ p. record { old = p.0; new = p.1.0; realm = p.1.1.0; user = p.1.1.1.0; sought = p.1.1.1.1 }) (λ _. refl)

@@ -1,0 +1,80 @@
+-- A live list is brought up to date entry by entry: what stood where, and what is put where.
+use Rattle.std.specs.Prelude.{ℕ, ◌+◌, Bool, List, [], ◌∷◌, ◌++◌, Option, Some, None, is_some, refl, if◌then◌else◌}
+use Rattle.std.specs.Coded.{Coded, code_by, coded×, coded_list, coded_option, coded_ℕ}
+use Rattle.std.specs.Option.{option_map, option_and_then}
+use Rattle.acap_entries.specs.declared.path.Path.{Path}
+use Rattle.acap_entries.specs.Ranks.{rank_of, item_at, with_item, without_item}
+use Rattle.acap_notices.specs.declared.notice.Notice.{Notice}
+use Rattle.acap_moves.specs.Moves.{Move, Undo}
+use Rattle.acap_moves.specs.Notices.{notice_between}
+use Rattle.acap_search.specs.Matches.{Match, match_cmp, match_code}
+use Rattle.acap_search.specs.declared.rank.Place.{Place}
+use Rattle.acap_views.specs.Notices.{told_shape}
+
+-- of one entry: its name as it is told; its places and its path as they were, by which a match is found that it had; and its match now
+pub record Shift : Type 0 where
+  pub name : List ℕ
+  pub old : Match
+  pub come : Option Match
+
+-- a match at some places and a path, whatever is told of it
+abbrev pub standing : Path → List Place → Match
+standing path places = record { path = path; places = places; row = record { name = []; items = [] } }
+
+abbrev pub with_match : Option Match → List Match → List Match
+with_match None matches = matches
+with_match (Some found) matches = with_item match_cmp found matches
+
+-- the list without what stood there, and then with what is put in
+abbrev pub without_old : Match → List Match → List Match
+without_old old matches = without_item match_cmp old matches
+
+abbrev pub shifted : Match → Option Match → List Match → List Match
+shifted old come matches = with_match come (without_old old matches)
+
+-- what stood there and how many stood before it; and how many stand before what is put in, which is put nowhere where another one
+-- stands: in the lists of contexts none ever does
+abbrev pub stood : Match → List Match → Option (ℕ × Match)
+stood old matches = option_map (λ found. (rank_of match_cmp old matches, found)) (item_at match_cmp old matches)
+
+abbrev pub placed_among : Match → List Match → Option (ℕ × Match)
+placed_among found others = if is_some (item_at match_cmp found others) then None else Some (rank_of match_cmp found others, found)
+
+abbrev pub stands : Match → Option Match → List Match → Option (ℕ × Match)
+stands old come matches = option_and_then (λ found. placed_among found (without_old old matches)) come
+
+abbrev pub undo_by : Match → Option Match → List Match → Undo Match
+undo_by old come matches = record { gone = stood old matches; come = option_map (λ s. s.0) (stands old come matches) }
+
+-- positions are counted from 1
+abbrev pub from_one : Option (ℕ × Match) → Option (ℕ × Match)
+from_one place = option_map (λ s. (s.0 + 1, s.1)) place
+
+-- what is told of it
+abbrev pub swap_notices : Bool → List ℕ → Match → Option Match → List Match → List Notice
+swap_notices enumerated name old come matches =
+    notice_between told_shape enumerated name (from_one (stood old matches)) (from_one (stands old come matches))
+
+abbrev pub shift_notices : Bool → Shift → List Match → List Notice
+shift_notices enumerated shift matches = swap_notices enumerated shift.name shift.old shift.come matches
+
+-- one entry after the other
+abbrev pub after_shift : Shift → List Match → List Match
+after_shift shift matches = shifted shift.old shift.come matches
+
+abbrev pub after_shifts : List Shift → List Match → List Match
+after_shifts [] matches = matches
+after_shifts (shift ∷ shifts) matches = after_shifts shifts (after_shift shift matches)
+
+abbrev pub shifts_notices : Bool → List Shift → List Match → List Notice
+shifts_notices enumerated [] matches = []
+shifts_notices enumerated (shift ∷ shifts) matches = shift_notices enumerated shift matches ++ shifts_notices enumerated shifts (after_shift shift matches)
+
+abbrev pub move_by : Shift → Move Match
+move_by shift = (shift.name, shift.come)
+
+-- how they are told apart in proofs
+abbrev pub shift_code : Coded Shift
+shift_code =
+    code_by (List ℕ × (Match × Option Match)) (coded× (coded_list coded_ℕ) (coded× match_code (coded_option match_code)))
+    (λ s. (s.name, (s.old, s.come))) (λ p. record { name = p.0; old = p.1.0; come = p.1.1 }) (λ _. refl)

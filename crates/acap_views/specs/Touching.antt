@@ -1,0 +1,21 @@
+-- Which touched entries a search looks at, before the change is committed: words of private contracts.
+use Rattle.std.specs.Prelude.{ℕ, Bool, List}
+use Rattle.std.specs.List.{filter, list_any}
+use Rattle.acap_entries.specs.Orders.{octets_eq}
+use Rattle.acap_entries.specs.declared.path.Path.{Path}
+use Rattle.acap_inherit.specs.Touched.{touched}
+use Rattle.acap_inherit.specs.declared.touched_dataset.TouchedDataset.{TouchedDataset}
+use Rattle.acap_search.specs.declared.query.Sought.{Sought}
+use Rattle.acap_views.specs.Aheads.{Planned, store_ahead}
+use Rattle.acap_views.specs.Work.{is_looked_at}
+
+-- all paths that a change touches, and those that a search looks at
+abbrev pub touched_by : Planned → List Path
+touched_by plan = touched plan.change.writes plan.old.records (store_ahead plan).records
+
+abbrev pub looked_at_by : Planned → Sought → List Path
+looked_at_by plan sought = filter (is_looked_at (store_ahead plan).records sought) (touched_by plan)
+
+-- whether a dataset is among some in which a change touches something
+abbrev pub has_dataset : List TouchedDataset → List ℕ → Bool
+has_dataset datasets dataset = list_any (λ d. octets_eq d.dataset dataset) datasets

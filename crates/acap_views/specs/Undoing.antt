@@ -1,0 +1,24 @@
+-- The list that a client was told last, as the present one with the moves since then taken back.
+use Rattle.std.specs.Prelude.{◌≡◌, ℕ, ◌-◌, List, Option, Some, None, vec_len, vec_capacity, map as each}
+use Rattle.std.specs.Borrow.{Bor}
+use Rattle.acap_moves.specs.Moves.{Undo, undone, all_undone}
+use Rattle.acap_search.specs.Matches.{Match}
+use Rattle.acap_views.specs.declared.shown.Shown.{Shown}
+use Rattle.acap_views.specs.declared.shown.Shown.TheVariants.{Moves, Written}
+
+-- hits that are lent, as their matches
+abbrev pub seen : List (Bor Match) → List Match
+seen hits = each (λ hit. hit.now) hits
+
+abbrev pub shown_in : Shown → List Match → List Match
+shown_in (Moves undos) now = all_undone undos.items now
+shown_in (Written hits) now = hits
+
+-- what was shown is what is shown now with one move more taken back
+abbrev pub IsLogged : Undo Match → Shown → Shown → Type 0
+IsLogged undo before after = (now : List Match) → shown_in after now ≡ shown_in before (undone undo now)
+
+-- how many moves more there is room for; none are kept where the list is written out
+abbrev pub room_in : Shown → Option ℕ
+room_in (Moves undos) = Some (vec_capacity undos - vec_len undos)
+room_in (Written hits) = None

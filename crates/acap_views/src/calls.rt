@@ -1,0 +1,119 @@
+//! What sessions ask of their contexts: to make and free them, to search over them and to be told of them.
+ghost use Rattle.std.specs.Prelude.{◌≡◌, ◌<◌, IsSome, IfSome, OnOk, OnErr, IfOk, IfErr, Ok, Err};
+ghost use Rattle.std.specs.FinMap as table;
+ghost use Rattle.acap_entries.specs.Ranks.{Ascending};
+ghost use Rattle.acap_search.specs.Matches.{match_cmp};
+ghost use Rattle.acap_views.specs.Answering.{IsAnswer, update_tells};
+ghost use Rattle.acap_views.specs.Contexts.{context_of};
+ghost use Rattle.acap_views.specs.Keeping.{seats_in};
+ghost use Rattle.acap_views.specs.Maps.{each_kept};
+ghost use Rattle.acap_views.specs.Opening.{opened, freed_by};
+ghost use Rattle.acap_views.specs.Ranging.{ranged};
+ghost use Rattle.acap_views.specs.Seats.{contexts_at, with_contexts};
+ghost use Rattle.acap_views.specs.Started.{as_ranged};
+ghost use Rattle.acap_views.specs.Telling.{told_of, after_updates, after_drain, drained};
+
+use crate::keyed::place_of;
+use crate::refusal::ViewRefusal;
+use crate::telling;
+use crate::views::Views;
+use acap_commands::Tolds;
+use acap_entries::{ContextName, Memory, Moment, Seat};
+
+impl Views {
+    /// Frees the context of a name; one that the server has freed too. Refused exactly where there is none (RFC 2244 section
+    /// 6.5). Takes no memory.
+    pub fn free(&mut self, seat: Seat, name: &ContextName) -> Result<(), ViewRefusal>
+        ensures ok { OnOk result (freed_by (seats_in self.old) seat name.now ≡ Ok (seats_in self.new)) }
+        ensures refused { IfErr result (λ why. freed_by (seats_in self.old) seat name.now ≡ Err why) }
+        ensures err { OnErr result (seats_in self.new ≡ seats_in self.old) }
+    {
+        let (at, tied) = place_of(self.seats.as_slice(), &seat);
+        if !tied {
+            return Err(ViewRefusal::NoContext);
+        }
+        if !self.seats[at].1.free(name) {
+            return Err(ViewRefusal::NoContext);
+        }
+        Ok(())
+    }
+
+    /// What an UPDATECONTEXT tells of the contexts of these names, one after the other. The first fault in their order refuses
+    /// all, and is found before memory is asked for (RFC 2244 section 6.5).
+    pub fn tolds_of(
+        &self,
+        seat: Seat,
+        names: &[ContextName],
+        last: Moment,
+    ) -> Result<Tolds, ViewRefusal>
+        ensures { IsAnswer (update_tells (contexts_at (seats_in self.now) seat) names.now last)
+            (λ tolds. tolds) result }
+    {
+        let contexts = self.contexts(seat);
+        if let Some(fault) = telling::fault_of(contexts, names) {
+            return Err(fault);
+        }
+        let tolds = telling::told_in_turn(self.alloc, contexts, names, last)?;
+        Ok(Tolds::from_vec(tolds))
+    }
+
+    /// The contexts of these names have been told of: live ones show their present lists (RFC 2244 section 6.5). Takes no memory.
+    pub fn tell(&mut self, seat: Seat, names: &[ContextName], last: Moment)
+        ensures { seats_in self.new ≡ with_contexts (seats_in self.old) seat
+            (after_updates (contexts_at (seats_in self.old) seat) names.now last) }
+    {
+        let (at, tied) = place_of(self.seats.as_slice(), &seat);
+        if !tied {
+            return;
+        }
+        self.seats[at].1.tell(self.alloc, names, last);
+    }
+
+    /// Tells of the contexts of these names all that waits (RFC 2244 section 6.5). The first fault in their order refuses all,
+    /// and is found before memory is asked for. At a refusal nothing has changed.
+    pub fn update(
+        &mut self,
+        seat: Seat,
+        names: &[ContextName],
+        last: Moment,
+    ) -> Result<Tolds, ViewRefusal>
+        ensures answer { IsAnswer (told_of (seats_in self.old) seat names.now last)
+            (λ tolds. (tolds, seats_in self.new)) result }
+        ensures err { OnErr result (seats_in self.new ≡ seats_in self.old) }
+    {
+        let tolds = self.tolds_of(seat, names, last)?;
+        self.tell(seat, names, last);
+        Ok(tolds)
+    }
+
+    /// What a drain tells at a seat: what waits of each context in the order of the names, and which of them the server has freed
+    /// (RFC 2244 section 6.5). Fails only for want of memory.
+    pub fn drain_tolds(&self, seat: Seat) -> Result<Tolds, Memory>
+        ensures { IfOk result (λ tolds. tolds ≡ (drained (seats_in self.now) seat).0) }
+    {
+        let tolds = telling::drained(self.alloc, self.contexts(seat))?;
+        Ok(Tolds::from_vec(tolds))
+    }
+
+    /// All that a drain tells at a seat has been told: live contexts show their present lists, and freed ones are gone (RFC 2244
+    /// section 6.5). Takes no memory.
+    pub fn drop_told(&mut self, seat: Seat)
+        ensures { seats_in self.new ≡ (drained (seats_in self.old) seat).1 }
+    {
+        let (at, tied) = place_of(self.seats.as_slice(), &seat);
+        if !tied {
+            return;
+        }
+        self.seats[at].1.drain(self.alloc);
+    }
+
+    /// Tells all that waits at a seat (RFC 2244 section 6.5). Fails only for want of memory, and then nothing has changed.
+    pub fn drain(&mut self, seat: Seat) -> Result<Tolds, Memory>
+        ensures ok { IfOk result (λ tolds. drained (seats_in self.old) seat ≡ (tolds, seats_in self.new)) }
+        ensures err { OnErr result (seats_in self.new ≡ seats_in self.old) }
+    {
+        let tolds = self.drain_tolds(seat)?;
+        self.drop_told(seat);
+        Ok(tolds)
+    }
+}

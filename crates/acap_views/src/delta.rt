@@ -1,0 +1,40 @@
+//! What a change comes to for all contexts, before it is committed.
+
+use crate::shift::Shift;
+use acap_entries::Sequence;
+use std::marker::Model;
+
+/// What becomes of each touched entry that a context looks at.
+pub(crate) type Shifts = Sequence<Shift>;
+
+/// The same for each context of a seat, in the order of their names.
+pub(crate) type Turns = Sequence<Shifts>;
+
+/// What a change of the store comes to for the contexts of all seats, made before it is committed so that it can be done afterwards
+/// without memory (RFC 2244 sections 3.3 and 6.5).
+#[derive(Drop)]
+pub struct Delta {
+    pub(crate) seats: Sequence<Turns>,
+    pub(crate) work: usize,
+}
+
+impl Model for Delta {
+    ghost use Rattle.acap_views.specs.Preparing.{Prepared, prepared_code};
+
+    ghost Value = { Prepared };
+
+    ghost coded = { prepared_code };
+
+    ghost view = { λ d. record { seats = d.seats; work = d.work } };
+}
+
+impl Delta {
+    ghost use Rattle.std.specs.Prelude.{◌≡◌};
+
+    /// How many entries were looked at for it: at most the touched ones in the scopes of live contexts, each once for each context.
+    pub fn work(&self) -> usize
+        ensures { result ≡ self.now.work }
+    {
+        self.work
+    }
+}

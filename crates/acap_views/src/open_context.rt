@@ -1,0 +1,171 @@
+//! One context as it is kept in memory.
+ghost use Rattle.std.specs.Prelude.{◌≡◌, IfOk};
+ghost use Rattle.acap_entries.specs.Ranks.{Ascending};
+ghost use Rattle.acap_search.specs.Matches.{match_cmp};
+ghost use Rattle.acap_views.specs.Contexts.{context_of, kept_of};
+ghost use Rattle.acap_views.specs.Holds.{kept_in, pending_in, is_freed};
+ghost use Rattle.acap_views.specs.Telling.{shown_now, updated_to, fault_in};
+ghost use Rattle.acap_views.specs.Waiting.{waits};
+ghost use Rattle.acap_views.specs.Work.{is_live};
+
+use crate::held::Held;
+use crate::refusal::ViewRefusal;
+use crate::watch::Watch;
+use acap_commands::MakeContext;
+use acap_entries::{Copying, Memory, Moment};
+use acap_notices::Notice;
+use acap_search::{Hits, Sought};
+use std::alloc::Global;
+use std::marker::Model;
+
+/// A context: what its search looked for, whether its entries have positions, up to which moment its client was told, and its lists
+/// (RFC 2244 section 3.3).
+#[derive(Drop)]
+pub(crate) struct OpenContext {
+    pub(crate) sought: Sought,
+    pub(crate) enumerated: bool,
+    pub(crate) told: Moment,
+    pub(crate) held: Held,
+}
+
+impl Model for OpenContext {
+    ghost use Rattle.acap_views.specs.Keeping.{RoomyContext, roomy_context_code};
+    ghost use Rattle.acap_views.specs.Holds.{kept_in, space_in};
+
+    ghost Value = { RoomyContext };
+
+    ghost coded = { roomy_context_code };
+
+    ghost view = { λ c. record {
+      context = record { sought = c.sought; enumerated = c.enumerated; told = c.told; kept = kept_in c.held };
+      space = space_in c.held;
+    } };
+}
+
+// What is kept of what a search found.
+fn held_of(alloc: Global, notify: bool, hits: Hits) -> Result<Held, Memory>
+    requires { Ascending match_cmp hits }
+    ensures { IfOk result (λ made. kept_in made ≡ kept_of notify hits) }
+{
+    if notify {
+        Ok(Held::Live(Watch::new(alloc, hits)?))
+    } else {
+        Ok(Held::Snapshot(hits))
+    }
+}
+
+// What is kept of a context, again.
+fn copied(held: &Held) -> Result<Held, Memory>
+    ensures { IfOk result (λ made. kept_in made ≡ kept_in held.now) }
+{
+    match held {
+        Held::Snapshot(hits) => Ok(Held::Snapshot(hits.copy()?)),
+        Held::Live(watch) => Ok(Held::Live(watch.copy()?)),
+        Held::Freed => Ok(Held::Freed),
+    }
+}
+
+// All that waits has been told.
+fn tell(alloc: Global, held: &mut Held)
+    ensures { kept_in held.new ≡ shown_now (kept_in held.old) }
+{
+    if let Held::Live(watch) = held {
+        watch.tell(alloc);
+    }
+}
+
+impl OpenContext {
+    /// The context that a search makes which found these hits. Fails only for want of memory.
+    pub(crate) fn new(
+        alloc: Global,
+        make: &MakeContext,
+        sought: Sought,
+        hits: Hits,
+        last: Moment,
+    ) -> Result<OpenContext, Memory>
+        requires { Ascending match_cmp hits }
+        ensures { IfOk result (λ made. made.context ≡ context_of make.now sought hits last) }
+    {
+        let held = held_of(alloc, make.notify, hits)?;
+        Ok(OpenContext {
+            sought,
+            enumerated: make.enumerate,
+            told: last,
+            held,
+        })
+    }
+
+    /// The notices that wait, the oldest first.
+    pub(crate) fn pending(&self) -> &[Notice]
+        ensures { result.now ≡ pending_in self.now.context.kept }
+    {
+        match &self.held {
+            Held::Live(watch) => watch.pending(),
+            Held::Snapshot(_) | Held::Freed => &[],
+        }
+    }
+
+    /// Whether too many notices came.
+    pub(crate) fn is_freed(&self) -> bool
+        ensures { result ≡ is_freed self.now.context.kept }
+    {
+        matches!(self.held, Held::Freed)
+    }
+
+    /// Whether it follows the store.
+    pub(crate) fn is_live(&self) -> bool
+        ensures { result ≡ is_live self.now.context.kept }
+    {
+        matches!(self.held, Held::Live(_))
+    }
+
+    /// Whether a drain tells something of it.
+    pub(crate) fn waits(&self) -> bool
+        ensures { result ≡ waits self.now.context.kept }
+    {
+        match &self.held {
+            Held::Snapshot(_) => false,
+            Held::Live(watch) => !watch.pending().is_empty(),
+            Held::Freed => true,
+        }
+    }
+
+    /// Why nothing is told of it at an UPDATECONTEXT.
+    pub(crate) fn fault(&self) -> Option<ViewRefusal>
+        ensures { result ≡ fault_in self.now.context.kept }
+    {
+        match &self.held {
+            Held::Snapshot(_) => Some(ViewRefusal::NotNotify),
+            Held::Live(_) => None,
+            Held::Freed => Some(ViewRefusal::FreedContext),
+        }
+    }
+
+    /// All that waits has been told: a live context shows its present list. Takes no memory.
+    pub(crate) fn tell(&mut self, alloc: Global)
+        ensures { self.new.context ≡ record self.old.context { kept = shown_now self.old.context.kept } }
+    {
+        tell(alloc, &mut self.held);
+    }
+
+    /// All that waits has been told, and the moment of the store's last change with it. Takes no memory.
+    pub(crate) fn tell_upto(&mut self, alloc: Global, last: Moment)
+        ensures { self.new.context ≡ updated_to last self.old.context }
+    {
+        self.told = last;
+        tell(alloc, &mut self.held);
+    }
+
+    /// An equal context. Fails only for want of memory.
+    pub(crate) fn copy(&self) -> Result<OpenContext, Memory>
+        ensures { IfOk result (λ made. made.context ≡ self.now.context) }
+    {
+        let held = copied(&self.held)?;
+        Ok(OpenContext {
+            sought: self.sought.copy()?,
+            enumerated: self.enumerated,
+            told: self.told,
+            held,
+        })
+    }
+}

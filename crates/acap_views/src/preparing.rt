@@ -1,0 +1,106 @@
+//! What a change comes to for all contexts, made before it is committed.
+ghost use Rattle.std.specs.Prelude.{◌≡◌, ◌+◌, ◌-◌, ◌≤◌, ◌^◌, ◌<◌, IfOk, length, map as each};
+ghost use Rattle.std.specs.FinMap as table;
+ghost use Rattle.acap_entries.specs.Changes.{store_after};
+ghost use Rattle.acap_inherit.specs.Index.{IsIndexOf};
+ghost use Rattle.acap_search.specs.Counting.{IsCounted};
+ghost use Rattle.acap_views.specs.Changing.{IsSoundStep};
+ghost use Rattle.acap_views.specs.Current.{IsCurrent};
+ghost use Rattle.acap_views.specs.Keeping.{seats_in};
+ghost use Rattle.acap_views.specs.Plans as rule;
+ghost use Rattle.acap_views.specs.Preparing.{IsPreparedFor, touched_for_all};
+
+use crate::ahead::Ahead;
+use crate::delta::{Delta, Shifts, Turns};
+use crate::moving::prepared_law;
+use crate::turns::turns_of;
+use crate::views::Views;
+use acap_entries::{After, Change, Memory, Sequence, Steps, Tree};
+use acap_inherit::Resolved;
+use acap_rights::Realm;
+use std::sync::ledger::Ledger;
+
+// How many more there are than so many. Memory could not hold more than are counted.
+fn and_more(count: usize, more: usize) -> Result<usize, Memory>
+    ensures { IfOk result (λ sum. sum ≡ count + more) }
+{
+    match count.checked_add(more) {
+        Some(sum) => Ok(sum),
+        None => Err(Memory),
+    }
+}
+
+// How many entries there are in what becomes of the contexts of a seat.
+fn shifts_count(turns: &[Shifts]) -> Result<usize, Memory>
+    ensures { IfOk result (λ count. count ≡ rule.shifts_count turns.now) }
+{
+    let mut count = 0;
+    for shifts in turns {
+        count = and_more(count, shifts.len())?;
+    }
+    Ok(count)
+}
+
+// The same for all seats.
+fn turns_count(seats: &[Turns]) -> Result<usize, Memory>
+    ensures { IfOk result (λ count. count ≡ rule.turns_count seats.now) }
+{
+    let mut count = 0;
+    for turns in seats {
+        count = and_more(count, shifts_count(turns.as_slice())?)?;
+    }
+    Ok(count)
+}
+
+impl Views {
+    // What becomes of the entries that the contexts of all seats look at, seat by seat.
+    fn all_turns<L: Ledger>(
+        &self,
+        ahead: &Ahead<'_>,
+        steps: &mut Steps<L>,
+    ) -> Result<Sequence<Turns>, Memory>
+        ensures count { IsCounted result steps.old steps.new (rule.work_of ahead.now (seats_in self.now)) }
+        ensures turns { IfOk result (λ turns. turns ≡ rule.turns_of ahead.now (seats_in self.now)) }
+    {
+        let mut turns = Vec::with_capacity(self.alloc, self.seats.len())?;
+        for entry in &self.seats {
+            turns.push(turns_of(self.alloc, ahead, &entry.1, steps)?)?;
+        }
+        Ok(Sequence::from_vec(turns))
+    }
+
+    /// What a change of the store comes to for all contexts, before it is committed: at `on_change` each live one is brought up to date
+    /// in its user's eyes (RFC 2244 sections 3.3, 3.5 and 6.5). Each touched entry counts as a step for each live context that looks
+    /// at it. Fails only for want of memory; nothing has changed in either case.
+    pub fn prepare<L: Ledger>(
+        &self,
+        tree: &Tree,
+        realm: &Realm,
+        index: &Resolved,
+        change: &Change,
+        steps: &mut Steps<L>,
+    ) -> Result<Delta, Memory>
+        requires current { IsCurrent tree.now.store realm.now (seats_in self.now) }
+        requires index { IsIndexOf tree.now.store.records index.now.0 }
+        requires sound { IsSoundStep tree.now.store (store_after change.now tree.now.store) }
+        ensures made { IfOk result (IsPreparedFor change.now tree.now.store realm.now (seats_in self.now)) }
+        ensures count { IsCounted result steps.old steps.new (touched_for_all change.now tree.now.store (seats_in self.now)) }
+        ensures work { IfOk result (λ delta. delta.work ≡ steps.new - steps.old) }
+    {
+        prepared_law();
+        change.writes.form_law();
+        let datasets = index.touched_in(tree, change)?;
+        let after = After::of(tree, change);
+        let ahead = Ahead {
+            tree,
+            change,
+            after: &after,
+            realm,
+            index,
+            datasets: datasets.as_slice(),
+        };
+        let seats = self.all_turns(&ahead, steps)?;
+        let work = turns_count(seats.as_slice())?;
+        Ok(Delta { seats, work })
+    }
+}

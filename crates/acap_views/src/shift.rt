@@ -1,0 +1,40 @@
+//! What a change does to one entry of a live context.
+
+use acap_entries::{Path, Row, Value};
+use acap_search::{Placed, Places};
+use std::marker::Model;
+
+/// What is told of an entry that a change touches, made ready for its notice.
+#[derive(Drop)]
+pub(crate) enum News {
+    /// The search finds it no longer, or never did: the name under which it is told.
+    Gone(Value),
+    /// The search finds it: where it stands now, and what is told of it.
+    Here(Placed, Row),
+}
+
+/// What a change does to one entry of a live context: where it stood if it was found, and what is found now (RFC 2244 section 6.5).
+/// All that takes memory has been made.
+#[derive(Drop)]
+pub(crate) struct Shift {
+    pub(crate) places: Places,
+    pub(crate) path: Path,
+    pub(crate) news: News,
+}
+
+impl Model for Shift {
+    ghost use Rattle.acap_views.specs.News.{name_in, come_in, IsTold};
+    ghost use Rattle.acap_views.specs.Shifting.{Shift as Seen, standing, shift_code};
+
+    ghost Value = { Seen };
+
+    ghost coded = { shift_code };
+
+    ghost view = { λ s. record {
+      name = name_in s.news;
+      old = standing s.path s.places;
+      come = come_in s.news;
+    } };
+
+    ghost invariant = { λ s. IsTold s.news };
+}

@@ -1,0 +1,120 @@
+//! What a change does to the entries that a live context looks at, made before the change is committed.
+ghost use Rattle.std.specs.Prelude.{◌≡◌, ◌+◌, ◌≤◌, [], IfOk, OnOk, length, map as each, None};
+ghost use Rattle.std.specs.Option.{unwrap_or};
+ghost use Rattle.acap_search.specs.Counting.{IsCounted};
+ghost use Rattle.acap_search.specs.Tuples as tuples;
+ghost use Rattle.acap_search.specs.Views.{places_at as places_of, found_at};
+ghost use Rattle.acap_views.specs.News.{name_in, come_in, name_or, IsTold};
+ghost use Rattle.acap_views.specs.Scenes.{spot_before, spot_after, shift_in};
+
+use crate::delta::Shifts;
+use crate::scene::Scene;
+use crate::shift::{News, Shift};
+use acap_entries::{Copying, Memory, Octets, Path, Paths, Steps, Value};
+use acap_inherit::chain;
+use acap_search::{Hit, Placed, Places, Sought, Viewer, places_at, row_of};
+use std::alloc::Global;
+use std::sync::ledger::Ledger;
+
+// The name under which an entry is told.
+fn name_told(alloc: Global, path: &Path, sought: &Sought) -> Result<Value, Memory>
+    ensures { IfOk result (λ name. name ≡ tuples.name_told sought.now.depth path.now) }
+{
+    let name = path.name.as_slice();
+    if sought.depth.is_none() {
+        return Value::from_slice(alloc, name);
+    }
+    let dataset = path.dataset.as_slice();
+    let mut full = Vec::with_capacity(alloc, dataset.len() + name.len())?;
+    full.extend_from_slice(dataset)?;
+    full.extend_from_slice(name)?;
+    Ok(Value::new(Octets::from_vec(full)))
+}
+
+// Where an entry stood before the change.
+fn places_before(alloc: Global, scene: &Scene<'_>, path: &Path) -> Result<Places, Memory>
+    ensures { IfOk result (λ places. places ≡ places_of (spot_before scene.now path.now) (unwrap_or scene.now.sought.sort [])) }
+{
+    let tree = scene.after.tree;
+    let sought = scene.sought;
+    let by = Viewer {
+        records: tree,
+        realm: scene.realm,
+        user: scene.user,
+        dataset: &path.dataset,
+        chain: chain(tree, &path.dataset, sought.no_inherit),
+    };
+    places_at(alloc, &by, &path.name, sought)
+}
+
+// What is found of it afterwards: one step.
+fn found_after<L: Ledger>(
+    alloc: Global,
+    scene: &Scene<'_>,
+    path: &Path,
+    steps: &mut Steps<L>,
+) -> Result<Option<Hit>, Memory>
+    ensures count { steps.new ≡ steps.old + 1 }
+    ensures found { IfOk result (λ found. found ≡ found_at scene.now.sought None (spot_after scene.now path.now)) }
+{
+    let after = scene.after;
+    let sought = scene.sought;
+    let by = Viewer {
+        records: after,
+        realm: scene.realm,
+        user: scene.user,
+        dataset: &path.dataset,
+        chain: chain(after, &path.dataset, sought.no_inherit),
+    };
+    row_of(alloc, &by, &path.name, sought, None, steps)
+}
+
+// What is to be told of an entry, of which this is found.
+fn news_of(alloc: Global, path: &Path, sought: &Sought, found: Option<Hit>) -> Result<News, Memory>
+    ensures come { IfOk result (λ news. come_in news ≡ found) }
+    ensures told { IfOk result (λ news. IsTold news) }
+    ensures name { IfOk result (λ news. name_in news ≡ name_or (tuples.name_told sought.now.depth path.now) found) }
+{
+    match found {
+        Some(hit) => {
+            let row = hit.row().copy()?;
+            Ok(News::Here(Placed::new(alloc, hit)?, row))
+        }
+        None => Ok(News::Gone(name_told(alloc, path, sought)?)),
+    }
+}
+
+// What becomes of one entry.
+fn shift_at<L: Ledger>(
+    alloc: Global,
+    scene: &Scene<'_>,
+    path: Path,
+    steps: &mut Steps<L>,
+) -> Result<Shift, Memory>
+    ensures least { steps.old ≤ steps.new }
+    ensures most { steps.new ≤ steps.old + 1 }
+    ensures count { OnOk result (steps.new ≡ steps.old + 1) }
+    ensures shift { IfOk result (λ shift. shift ≡ shift_in scene.now path) }
+{
+    let places = places_before(alloc, scene, &path)?;
+    let found = found_after(alloc, scene, &path, steps)?;
+    let news = news_of(alloc, &path, scene.sought, found)?;
+    Ok(Shift { places, path, news })
+}
+
+/// What becomes of some entries, one after the other. Each counts as a step. Fails only for want of memory.
+pub(crate) fn shifts_at<L: Ledger>(
+    alloc: Global,
+    scene: &Scene<'_>,
+    paths: Paths,
+    steps: &mut Steps<L>,
+) -> Result<Shifts, Memory>
+    ensures count { IsCounted result steps.old steps.new (length paths) }
+    ensures shifts { IfOk result (λ shifts. shifts ≡ each (shift_in scene.now) paths) }
+{
+    let mut shifts = Vec::with_capacity(alloc, paths.len())?;
+    for path in paths.into_vec() {
+        shifts.push(shift_at(alloc, scene, path, steps)?)?;
+    }
+    Ok(Shifts::from_vec(shifts))
+}

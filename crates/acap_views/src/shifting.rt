@@ -1,0 +1,230 @@
+//! How a live list goes from one store to the next: entry by entry, each hit found by where it stood.
+ghost use Rattle.std.specs.Prelude.{◌≡◌, ◌+◌, ◌<◌, ◌≤◌, ◌^◌, ◌++◌, [], None, suc, length, if◌then◌else◌, IsTrue, IsSome, IfSome, ℕ, Some, false};
+ghost use Rattle.std.specs.List.{cons_option};
+ghost use Rattle.std.specs.Option.{option_map};
+ghost use Rattle.acap_entries.specs.Ranks.{with_item};
+ghost use Rattle.acap_notices.specs.Waiting as waiting;
+ghost use Rattle.acap_notices.specs.Waiting.{most_waiting};
+ghost use Rattle.acap_moves.specs.Moves.{undone};
+ghost use Rattle.acap_search.specs.Matches.{match_cmp};
+ghost use Rattle.acap_views.specs.News.{IsGoneNotice, IsHereNotice};
+ghost use Rattle.acap_views.specs.Room.{HasRoom, Leaves};
+ghost use Rattle.acap_views.specs.Shifting as rule;
+ghost use Rattle.acap_views.specs.Undoing.{IsLogged, room_in};
+
+use crate::shift::{News, Shift};
+use crate::shown::Shown;
+use crate::undone::Undone;
+use crate::watch::Watch;
+use acap_entries::{Path, Ranked, Row, Value, Whole};
+use acap_notices::{Notice, Queue};
+use acap_search::{Placed, Places, Standing};
+
+// Takes out the hit that stood at some places, and tells how many stood before it.
+fn take_hit(now: &mut Ranked<Placed>, places: &Places, path: &Path) -> Option<(usize, Placed)>
+    ensures list { now.new.0 ≡ rule.without_old (rule.standing path.now places.now) now.old.0 }
+    ensures gone { result ≡ rule.stood (rule.standing path.now places.now) now.old.0 }
+    ensures within { IfSome result (λ gone. gone.0 + 1 < 2 ^ 64) }
+    ensures room { now.old.1 ≤ now.new.1 }
+{
+    now.ascends();
+    let _count = now.len();
+    let standing = Standing { places, path };
+    let place = now.rank(&standing);
+    let hit = now.take(&standing)?;
+    Some((place, hit))
+}
+
+// Puts a hit in its place, if none stands there, and tells how many stand before it.
+fn put_hit(now: &mut Ranked<Placed>, hit: Placed) -> Option<usize>
+    requires { 0 < now.old.1 }
+    ensures list { now.new.0 ≡ with_item match_cmp hit now.old.0 }
+    ensures within { IfSome result (λ place. place + 1 < 2 ^ 64) }
+    ensures come { result ≡ option_map (λ s. s.0) (rule.placed_among hit now.old.0) }
+    ensures room { now.old.1 ≤ now.new.1 + 1 }
+{
+    now.ascends();
+    let probe = Whole { key: &hit };
+    if now.find(&probe).is_some() {
+        return None;
+    }
+    let place = now.rank(&probe);
+    now.put(hit);
+    let _count = now.len();
+    Some(place)
+}
+
+// A position as it is told: counted from 1, or 0 where none are told.
+fn position(enumerated: bool, place: usize) -> usize
+    requires { place + 1 < 2 ^ 64 }
+    ensures { result ≡ (if enumerated then place + 1 else 0) }
+{
+    if enumerated { place + 1 } else { 0 }
+}
+
+// What is told of an entry that isn't found any longer: nothing where it wasn't found before.
+fn gone_notice(gone: &Option<(usize, Placed)>, entry: Value, enumerated: bool) -> Option<Notice>
+    requires { IfSome gone.now (λ g. g.0 + 1 < 2 ^ 64) }
+    ensures { IsGoneNotice enumerated entry gone.now (cons_option result []) }
+{
+    let (place, _) = gone.as_ref()?;
+    let position = position(enumerated, *place);
+    Some(Notice::RemoveFrom { entry, position })
+}
+
+// What is told of an entry that is found, and was found before: nothing where its place and its row are the same.
+fn change_notice(
+    place: usize,
+    hit: &Placed,
+    come: usize,
+    row: Row,
+    enumerated: bool,
+) -> Option<Notice>
+    requires from { place + 1 < 2 ^ 64 }
+    requires to { come + 1 < 2 ^ 64 }
+    ensures { IsHereNotice enumerated row (Some (place, hit.now)) (Some come) (cons_option result []) }
+{
+    if *hit.hit().row() == row && (!enumerated || place == come) {
+        return None;
+    }
+    let from = position(enumerated, place);
+    let to = position(enumerated, come);
+    Some(Notice::Change { from, to, row })
+}
+
+// What is told of an entry that is found.
+fn here_notice(
+    gone: &Option<(usize, Placed)>,
+    come: Option<usize>,
+    row: Row,
+    enumerated: bool,
+) -> Option<Notice>
+    requires gone { IfSome gone.now (λ g. g.0 + 1 < 2 ^ 64) }
+    requires come { IfSome come (λ place. place + 1 < 2 ^ 64) }
+    ensures { IsHereNotice enumerated row gone.now come (cons_option result []) }
+{
+    match (gone, come) {
+        (Some((place, hit)), Some(come)) => change_notice(*place, hit, come, row, enumerated),
+        (Some(_), None) => gone_notice(gone, row.name, enumerated),
+        (None, Some(come)) => {
+            let position = position(enumerated, come);
+            Some(Notice::AddTo { position, row })
+        }
+        (None, None) => None,
+    }
+}
+
+// Keeps a move, where moves are kept: what was shown is what there is now with it taken back.
+fn log(shown: &mut Shown, undone: Undone)
+    requires { IfSome (room_in shown.old) (λ room. 0 < room) }
+    ensures list { IsLogged undone shown.old shown.new }
+    ensures room { (more : ℕ) → IfSome (room_in shown.old) (λ room. suc more ≤ room) → IfSome (room_in shown.new) (λ room. more ≤ room) }
+{
+    if let Shown::Moves(undos) = shown {
+        undos.push(undone).unwrap();
+    }
+}
+
+// Puts a notice behind those that wait, unless too many do.
+fn add(pending: &mut Queue, told: Option<Notice>) -> bool
+    requires { waiting.HasRoom 1 pending.old }
+    ensures added { IsTrue result → pending.new.notices ≡ pending.old.notices ++ cons_option told [] }
+    ensures full { result ≡ false → most_waiting < length pending.old.notices + length (cons_option told []) }
+    ensures room { IsTrue result → (more : ℕ) → waiting.HasRoom (suc more) pending.old → waiting.HasRoom more pending.new }
+{
+    match told {
+        Some(notice) => pending.add(notice).is_ok(),
+        None => true,
+    }
+}
+
+// Takes out the hit of an entry that isn't found any longer, and tells what it comes to.
+fn swap_gone(
+    hits: &mut Ranked<Placed>,
+    places: &Places,
+    path: &Path,
+    name: Value,
+    enumerated: bool,
+) -> (Undone, Option<Notice>)
+    ensures list { hits.new.0 ≡ rule.shifted (rule.standing path.now places.now) None hits.old.0 }
+    ensures undone { result.0 ≡ rule.undo_by (rule.standing path.now places.now) None hits.old.0 }
+    ensures told { IsGoneNotice enumerated name (rule.stood (rule.standing path.now places.now) hits.old.0) (cons_option result.1 []) }
+    ensures room { hits.old.1 ≤ hits.new.1 }
+{
+    let gone = take_hit(hits, places, path);
+    let told = gone_notice(&gone, name, enumerated);
+    (Undone { gone, come: None }, told)
+}
+
+// Takes out the hit of an entry if it was found, puts in the new one, and tells what it comes to.
+fn swap_here(
+    hits: &mut Ranked<Placed>,
+    places: &Places,
+    path: &Path,
+    found: Placed,
+    row: Row,
+    enumerated: bool,
+) -> (Undone, Option<Notice>)
+    requires room { 0 < hits.old.1 }
+    requires row { row ≡ found.row }
+    ensures list { hits.new.0 ≡ rule.shifted (rule.standing path.now places.now) (Some found) hits.old.0 }
+    ensures undone { result.0 ≡ rule.undo_by (rule.standing path.now places.now) (Some found) hits.old.0 }
+    ensures told { cons_option result.1 [] ≡ rule.swap_notices enumerated row.name (rule.standing path.now places.now) (Some found) hits.old.0 }
+    ensures room { hits.old.1 ≤ hits.new.1 + 1 }
+{
+    let gone = take_hit(hits, places, path);
+    let come = put_hit(hits, found);
+    let told = here_notice(&gone, come, row, enumerated);
+    (Undone { gone, come }, told)
+}
+
+// Does what is prepared of an entry, and tells what it comes to.
+fn swap(hits: &mut Ranked<Placed>, shift: Shift, enumerated: bool) -> (Undone, Option<Notice>)
+    requires { 0 < hits.old.1 }
+    ensures list { hits.new.0 ≡ rule.after_shift shift hits.old.0 }
+    ensures undone { result.0 ≡ rule.undo_by shift.old shift.come hits.old.0 }
+    ensures told { cons_option result.1 [] ≡ rule.shift_notices enumerated shift hits.old.0 }
+    ensures room { hits.old.1 ≤ hits.new.1 + 1 }
+{
+    let Shift { places, path, news } = shift;
+    match news {
+        News::Gone(name) => swap_gone(hits, &places, &path, name, enumerated),
+        News::Here(found, row) => swap_here(hits, &places, &path, found, row, enumerated),
+    }
+}
+
+impl Watch {
+    /// Brings the list up to date for one entry, and tells of it; false where more notices would wait than may: the context is to be
+    /// freed then. Takes no memory.
+    pub(crate) fn shift(&mut self, shift: Shift, enumerated: bool) -> bool
+        requires { HasRoom 1 self.old.pending self.old.space }
+        ensures present { self.new.present ≡ rule.after_shift shift self.old.present }
+        ensures shown { self.new.shown ≡ self.old.shown }
+        ensures added { IsTrue result → self.new.pending ≡ self.old.pending ++ rule.shift_notices enumerated shift self.old.present }
+        ensures full { result ≡ false → most_waiting < length self.old.pending + length (rule.shift_notices enumerated shift self.old.present) }
+        ensures room { IsTrue result → Leaves self.old.pending self.old.space self.new.pending self.new.space }
+    {
+        self.hits.ascends();
+        let (undone, told) = swap(&mut self.hits, shift, enumerated);
+        log(&mut self.shown, undone);
+        add(&mut self.pending, told)
+    }
+
+    /// The same for one entry after the other.
+    pub(crate) fn follow(&mut self, shifts: Vec<Shift>, enumerated: bool) -> bool
+        requires { HasRoom (length shifts.items) self.old.pending self.old.space }
+        ensures present { IsTrue result → self.new.present ≡ rule.after_shifts shifts.items self.old.present }
+        ensures shown { IsTrue result → self.new.shown ≡ self.old.shown }
+        ensures added { IsTrue result → self.new.pending ≡ self.old.pending ++ rule.shifts_notices enumerated shifts.items self.old.present }
+        ensures full { result ≡ false → most_waiting < length self.old.pending + length (rule.shifts_notices enumerated shifts.items self.old.present) }
+        ensures few { IsTrue result → length self.new.pending ≤ most_waiting }
+    {
+        for shift in shifts {
+            if !self.shift(shift, enumerated) {
+                return false;
+            }
+        }
+        let _ = self.pending.len();
+        true
+    }
+}

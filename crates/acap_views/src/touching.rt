@@ -1,0 +1,64 @@
+//! Which entries that a change touches a search looks at.
+ghost use Rattle.std.specs.Prelude.{◌≡◌, None, IfOk};
+ghost use Rattle.std.specs.List.{filter};
+ghost use Rattle.acap_views.specs.Aheads.{store_ahead};
+ghost use Rattle.acap_views.specs.Touching as rule;
+ghost use Rattle.acap_views.specs.Work.{is_looked_at};
+
+use crate::ahead::Ahead;
+use acap_entries::{Dataset, Memory, Path, Paths};
+use acap_inherit::{TouchedDataset, touched_at, touched_paths_law};
+use acap_search::{Sought, looks_in};
+
+// Whether a change touches something in a dataset.
+fn has_dataset(datasets: &[TouchedDataset], dataset: &Dataset) -> bool
+    ensures { result ≡ rule.has_dataset datasets.now dataset.now }
+{
+    datasets
+        .iter()
+        .any(|touched| touched.dataset.as_slice() == dataset.as_slice())
+}
+
+// Whether a search looks through the dataset of an entry.
+fn is_looked_at(ahead: &Ahead<'_>, sought: &Sought, path: &Path) -> bool
+    ensures { result ≡ is_looked_at (store_ahead ahead.now).records sought.now path.now }
+{
+    looks_in(&sought.scope(), ahead.after, &path.dataset)
+}
+
+// Those of some paths in whose datasets a search looks.
+fn looked_at(ahead: &Ahead<'_>, sought: &Sought, paths: Paths) -> Result<Paths, Memory>
+    ensures { IfOk result (λ made. made ≡ filter (is_looked_at (store_ahead ahead.now).records sought.now) paths) }
+{
+    let mut made = Paths::new(paths.allocator());
+    for path in paths.into_vec() {
+        if is_looked_at(ahead, sought, &path) {
+            made.push(path)?;
+        }
+    }
+    Ok(made)
+}
+
+// The touched entries of the one dataset that a search without DEPTH looks through.
+fn in_dataset(ahead: &Ahead<'_>, sought: &Sought) -> Result<Paths, Memory>
+    ensures { IfOk result (λ paths. sought.now.depth ≡ None → paths ≡ rule.looked_at_by ahead.now sought.now) }
+{
+    if has_dataset(ahead.datasets, &sought.dataset) {
+        touched_at(ahead.tree, ahead.change, &sought.dataset)
+    } else {
+        Ok(Paths::new(ahead.change.deleted.allocator()))
+    }
+}
+
+/// The touched entries that a search looks at, in the order of their full octets. Where it looks through one dataset, no name of
+/// another one is listed. Fails only for want of memory.
+pub(crate) fn touched_for(ahead: &Ahead<'_>, sought: &Sought) -> Result<Paths, Memory>
+    ensures { IfOk result (λ paths. paths ≡ rule.looked_at_by ahead.now sought.now) }
+{
+    touched_paths_law();
+    if sought.depth.is_none() {
+        return in_dataset(ahead, sought);
+    }
+    let paths = ahead.index.touched(ahead.tree, ahead.change)?;
+    looked_at(ahead, sought, paths)
+}

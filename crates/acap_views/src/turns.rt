@@ -1,0 +1,75 @@
+//! What a change does to the contexts of each seat, in the order in which they are kept.
+ghost use Rattle.std.specs.Prelude.{◌≡◌, ◌+◌, ◌≤◌, IfOk, length, map as each};
+ghost use Rattle.std.specs.List.{sum_by};
+ghost use Rattle.acap_search.specs.Counting.{IsCounted};
+ghost use Rattle.acap_views.specs.Keeping.{occupant_in};
+ghost use Rattle.acap_views.specs.Plans as rule;
+
+use crate::ahead::Ahead;
+use crate::delta::{Shifts, Turns};
+use crate::open_context::OpenContext;
+use crate::scene::Scene;
+use crate::shift_making::shifts_at;
+use crate::sitting::Sitting;
+use crate::touching::touched_for;
+use acap_entries::{Memory, Sequence, Steps, UserName};
+use std::alloc::Global;
+use std::sync::ledger::Ledger;
+
+// What becomes of the entries that a live context looks at.
+fn live_turn<L: Ledger>(
+    alloc: Global,
+    ahead: &Ahead<'_>,
+    user: &UserName,
+    context: &OpenContext,
+    steps: &mut Steps<L>,
+) -> Result<Shifts, Memory>
+    ensures count { IsCounted result steps.old steps.new (length (rule.looked_at ahead.now context.now.context)) }
+    ensures shifts { IfOk result (λ shifts. shifts ≡ rule.live_shifts ahead.now user.now context.now.context) }
+{
+    let sought = &context.sought;
+    let paths = touched_for(ahead, sought)?;
+    let scene = Scene {
+        after: ahead.after,
+        realm: ahead.realm,
+        user,
+        sought,
+    };
+    shifts_at(alloc, &scene, paths, steps)
+}
+
+// What becomes of the entries that a context looks at: none where it isn't live.
+fn turn_of<L: Ledger>(
+    alloc: Global,
+    ahead: &Ahead<'_>,
+    user: &UserName,
+    context: &OpenContext,
+    steps: &mut Steps<L>,
+) -> Result<Shifts, Memory>
+    ensures count { IsCounted result steps.old steps.new (rule.work_in ahead.now context.now.context) }
+    ensures shifts { IfOk result (λ shifts. shifts ≡ rule.shifts_in ahead.now user.now context.now.context) }
+{
+    if context.is_live() {
+        live_turn(alloc, ahead, user, context, steps)
+    } else {
+        Ok(Shifts::new(alloc))
+    }
+}
+
+/// What becomes of the entries that the contexts of a seat look at, context by context. Each entry counts as a step for each context
+/// that looks at it. Fails only for want of memory.
+pub(crate) fn turns_of<L: Ledger>(
+    alloc: Global,
+    ahead: &Ahead<'_>,
+    sitting: &Sitting,
+    steps: &mut Steps<L>,
+) -> Result<Turns, Memory>
+    ensures count { IsCounted result steps.old steps.new (rule.work_at ahead.now (occupant_in sitting.now)) }
+    ensures turns { IfOk result (λ turns. turns ≡ rule.turns_at ahead.now (occupant_in sitting.now)) }
+{
+    let mut turns = Vec::with_capacity(alloc, sitting.contexts.len())?;
+    for entry in &sitting.contexts {
+        turns.push(turn_of(alloc, ahead, &sitting.user, &entry.1, steps)?)?;
+    }
+    Ok(Turns::from_vec(turns))
+}

@@ -1,0 +1,86 @@
+//! The list that was told last, written out: the present one with moves taken back.
+ghost use Rattle.std.specs.Prelude.{◌≡◌, IfOk, OnOk, map as each};
+ghost use Rattle.acap_moves.specs.Moves.{undone, all_undone, without, put_back};
+ghost use Rattle.acap_views.specs.Undoing.{shown_in, seen};
+
+use crate::shown::Shown;
+use crate::shown_list::each_hit;
+use crate::undone::Undone;
+use acap_entries::{Memory, Ranked};
+use acap_search::{Hit, Placed};
+use std::alloc::Global;
+
+// The hits of a list, one by one.
+fn each_placed<'a>(alloc: Global, now: &'a Ranked<Placed>) -> Result<Vec<&'a Hit>, Memory>
+    ensures { IfOk result (λ hits. seen hits.items ≡ now.now.0) }
+{
+    let mut hits = Vec::with_capacity(alloc, now.len())?;
+    for placed in now.iter() {
+        hits.push(placed.hit())?;
+    }
+    Ok(hits)
+}
+
+// Takes out again what a move put in.
+fn take_back(hits: &mut Vec<&Hit>, come: Option<usize>)
+    ensures { seen hits.new.items ≡ without come (seen hits.old.items) }
+{
+    if let Some(place) = come {
+        if place < hits.len() {
+            let _ = hits.remove(place);
+        }
+    }
+}
+
+// Puts in again what a move took out.
+fn give_back<'a>(hits: &mut Vec<&'a Hit>, gone: &'a Option<(usize, Placed)>) -> Result<(), Memory>
+    ensures { OnOk result (seen hits.new.items ≡ put_back gone.now (seen hits.old.items)) }
+{
+    if let Some((place, placed)) = gone {
+        if *place < hits.len() {
+            hits.insert(*place, placed.hit())?;
+        } else {
+            hits.push(placed.hit())?;
+        }
+    }
+    Ok(())
+}
+
+// Takes one move back.
+fn undo<'a>(hits: &mut Vec<&'a Hit>, move_made: &'a Undone) -> Result<(), Memory>
+    ensures { OnOk result (seen hits.new.items ≡ undone move_made.now (seen hits.old.items)) }
+{
+    take_back(hits, move_made.come);
+    give_back(hits, &move_made.gone)
+}
+
+// The present list with all moves taken back, the newest first.
+fn undone_hits<'a>(
+    alloc: Global,
+    undos: &'a Vec<Undone>,
+    now: &'a Ranked<Placed>,
+) -> Result<Vec<&'a Hit>, Memory>
+    ensures { IfOk result (λ hits. seen hits.items ≡ all_undone undos.now.items now.now.0) }
+{
+    let mut hits = each_placed(alloc, now)?;
+    let mut left = undos.len();
+    while 0 < left {
+        left -= 1;
+        undo(&mut hits, &undos[left])?;
+    }
+    Ok(hits)
+}
+
+/// The hits of the list that was told last, in order. Fails only for want of memory.
+pub(crate) fn shown_hits<'a>(
+    alloc: Global,
+    shown: &'a Shown,
+    now: &'a Ranked<Placed>,
+) -> Result<Vec<&'a Hit>, Memory>
+    ensures { IfOk result (λ hits. seen hits.items ≡ shown_in shown.now now.now.0) }
+{
+    match shown {
+        Shown::Moves(undos) => undone_hits(alloc, undos, now),
+        Shown::Written(hits) => each_hit(alloc, hits),
+    }
+}

@@ -1,0 +1,149 @@
+//! The lists of a live context: what its client was told, what a search finds now, and what waits to be told.
+ghost use Rattle.std.specs.Prelude.{◌≡◌, ◌≤◌, [], IfOk, OnOk, map as each};
+ghost use Rattle.acap_entries.specs.Ranks.{Ascending};
+ghost use Rattle.acap_search.specs.Matches.{match_cmp};
+ghost use Rattle.acap_views.specs.Room.{HasRoom};
+ghost use Rattle.acap_views.specs.Undoing.{seen};
+
+use crate::shown::Shown;
+use crate::undoing::shown_hits;
+use acap_entries::{Copying, Memory, Ranked};
+use acap_notices::{Notice, Queue};
+use acap_search::{Hit, Hits, Placed};
+use std::alloc::Global;
+use std::marker::Model;
+
+/// How many moves are kept of a context before the list that its client was told is written out.
+pub(crate) const MOST_MOVES: usize = 8_192;
+
+/// The lists of a live context: the one that was told last, the present one and the notices that wait (RFC 2244 section 3.3). The
+/// hits of the present one stand in boxes; the one that was told is the present one with moves taken back.
+#[derive(Drop)]
+pub(crate) struct Watch {
+    pub(crate) hits: Ranked<Placed>,
+    pub(crate) shown: Shown,
+    pub(crate) pending: Queue,
+}
+
+impl Model for Watch {
+    ghost use Rattle.acap_views.specs.Room.{Watched, watched_code};
+    ghost use Rattle.acap_views.specs.Undoing.{shown_in, room_in};
+
+    ghost Value = { Watched };
+
+    ghost coded = { watched_code };
+
+    ghost view = { λ w. record {
+      shown = shown_in w.shown w.hits.0;
+      present = w.hits.0;
+      pending = w.pending.notices;
+      space = record { hits = w.hits.1; moves = room_in w.shown; notices = w.pending.room };
+    } };
+}
+
+// Hits in boxes.
+fn boxed(alloc: Global, hits: Hits) -> Result<Vec<Placed>, Memory>
+    ensures { IfOk result (λ made. made.items ≡ hits) }
+{
+    let mut made = Vec::with_capacity(alloc, hits.len())?;
+    for hit in hits.into_vec() {
+        made.push(Placed::new(alloc, hit)?)?;
+    }
+    Ok(made)
+}
+
+// Copies of hits.
+fn copied(alloc: Global, hits: &Vec<&Hit>) -> Result<Hits, Memory>
+    ensures { IfOk result (λ made. made ≡ seen hits.now.items) }
+{
+    let mut made = Vec::with_capacity(alloc, hits.len())?;
+    for hit in hits {
+        made.push(hit.copy()?)?;
+    }
+    Ok(Hits::from_vec(made))
+}
+
+// Whether so many moves more may be kept, or none are.
+fn has_places(shown: &Shown, more: usize) -> bool {
+    match shown {
+        Shown::Moves(undos) => undos.len() <= MOST_MOVES && more <= MOST_MOVES - undos.len(),
+        Shown::Written(_) => true,
+    }
+}
+
+impl Watch {
+    /// A list that was told as it was found, of which nothing waits. Fails only for want of memory.
+    pub(crate) fn new(alloc: Global, hits: Hits) -> Result<Watch, Memory>
+        requires { Ascending match_cmp hits }
+        ensures shown { IfOk result (λ made. made.shown ≡ hits) }
+        ensures present { IfOk result (λ made. made.present ≡ hits) }
+        ensures pending { IfOk result (λ made. made.pending ≡ []) }
+    {
+        let Ok(hits) = Ranked::from_ascending(boxed(alloc, hits)?)? else {
+            return Err(Memory);
+        };
+        Ok(Watch {
+            hits,
+            shown: Shown::Moves(Vec::new(alloc)),
+            pending: Queue::new(alloc),
+        })
+    }
+
+    /// The notices that wait, the oldest first.
+    pub(crate) fn pending(&self) -> &[Notice]
+        ensures { result.now ≡ self.now.pending }
+    {
+        self.pending.as_slice()
+    }
+
+    /// All that waits has been told: the present list was told last. Takes no memory.
+    pub(crate) fn tell(&mut self, alloc: Global)
+        ensures shown { self.new.shown ≡ self.old.present }
+        ensures present { self.new.present ≡ self.old.present }
+        ensures pending { self.new.pending ≡ [] }
+    {
+        self.shown = Shown::Moves(Vec::new(alloc));
+        let _ = self.pending.take();
+    }
+
+    /// The list that was told last, hit by hit. Fails only for want of memory.
+    pub(crate) fn shown_hits(&self, alloc: Global) -> Result<Vec<&Hit>, Memory>
+        ensures { IfOk result (λ hits. seen hits.items ≡ self.now.shown) }
+    {
+        shown_hits(alloc, &self.shown, &self.hits)
+    }
+
+    /// Equal lists. Fails only for want of memory.
+    pub(crate) fn copy(&self) -> Result<Watch, Memory>
+        ensures shown { IfOk result (λ made. made.shown ≡ self.now.shown) }
+        ensures present { IfOk result (λ made. made.present ≡ self.now.present) }
+        ensures pending { IfOk result (λ made. made.pending ≡ self.now.pending) }
+    {
+        let hits = self.hits.copy()?;
+        let shown = self.shown.copy()?;
+        let pending = self.pending.copy()?;
+        Ok(Watch {
+            hits,
+            shown,
+            pending,
+        })
+    }
+
+    /// Makes room for so many moves. The lists stay, also where memory is refused. Where too many moves would be kept, the list that
+    /// was told is written out.
+    pub(crate) fn reserve(&mut self, alloc: Global, more: usize) -> Result<(), Memory>
+        ensures shown { self.new.shown ≡ self.old.shown }
+        ensures present { self.new.present ≡ self.old.present }
+        ensures pending { self.new.pending ≡ self.old.pending }
+        ensures room { OnOk result (HasRoom more self.new.pending self.new.space) }
+    {
+        self.hits.reserve(more)?;
+        self.pending.reserve(more)?;
+        if has_places(&self.shown, more) {
+            return self.shown.reserve(more);
+        }
+        let hits = copied(alloc, &self.shown_hits(alloc)?)?;
+        self.shown = Shown::Written(hits);
+        Ok(())
+    }
+}
