@@ -17,7 +17,9 @@ use crate::ranking::places_of;
 use crate::rows::items_of;
 use crate::spot::Spot;
 use crate::viewer::Viewer;
-use acap_entries::{Boxed, Copying, EntryName, Items, Memory, Octets, Path, Records, Row, Steps, Value};
+use acap_entries::{
+    Boxed, Copying, EntryName, Items, Memory, Octets, Path, Records, Row, Steps, Value,
+};
 use std::alloc::Global;
 use std::sync::ledger::Ledger;
 
