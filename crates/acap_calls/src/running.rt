@@ -7,60 +7,65 @@ use crate::call::Call;
 use crate::calls::read_call;
 use crate::fault::Fault;
 use crate::faults::{refuse, tell};
-use acap_entries::UserName;
+use acap_entries::{Steps, UserName};
 use acap_session::{run_pipe, run_script};
 use std::alloc::Global;
 use std::io::{self, ErrorKind, Read, Write};
+use std::sync::ledger::Ledger;
 
 /// The status of a normal end.
 const DONE: u8 = 0;
 
 // One session of a user.
-fn pipe<R: Read, W: Write, E: Write>(
+fn pipe<R: Read, W: Write, E: Write, L: Ledger>(
     alloc: Global,
     user: UserName,
     reader: &mut R,
     writer: &mut W,
     errors: &mut E,
+    steps: &mut Steps<L>,
 ) -> io::Result<u8>
     ensures { IfOk result (λ status. DoesPipe user (R.remaining reader.old) (R.remaining reader.new) (W.contents writer.old) (W.contents writer.new) (E.contents errors.old) (E.contents errors.new) status) }
 {
-    match run_pipe(alloc, reader, writer, user) {
+    match run_pipe(alloc, reader, writer, user, steps) {
         Ok(()) => Ok(DONE),
         Err(fault) => tell(Fault::from(fault), errors),
     }
 }
 
 // A script.
-fn script<R: Read, W: Write, E: Write>(
+fn script<R: Read, W: Write, E: Write, L: Ledger>(
     alloc: Global,
     reader: &mut R,
     writer: &mut W,
     errors: &mut E,
+    steps: &mut Steps<L>,
 ) -> io::Result<u8>
     ensures { IfOk result (λ status. DoesScript (R.remaining reader.old) (R.remaining reader.new) (W.contents writer.old) (W.contents writer.new) (E.contents errors.old) (E.contents errors.new) status) }
 {
-    match run_script(alloc, reader, writer) {
+    match run_script(alloc, reader, writer, steps) {
         Ok(()) => Ok(DONE),
         Err(fault) => tell(Fault::from(fault), errors),
     }
 }
 
 /// Does what the words behind the program's name ask for, and gives the status with which the call ends: 0, or 1 where a
-/// fault is told, or 2 where the words are no call, or can't be read. Fails where that can't be told.
-pub fn run_call<R: Read, W: Write, E: Write>(
+/// fault is told, or 2 where the words are no call, or can't be read. Fails where that can't be told. Each entry that a search
+/// looks at counts as a step.
+pub fn run_call<R: Read, W: Write, E: Write, L: Ledger>(
     alloc: Global,
     words: &Result<Vec<String>, ErrorKind>,
     reader: &mut R,
     writer: &mut W,
     errors: &mut E,
+    steps: &mut Steps<L>,
 ) -> io::Result<u8>
     ensures { IfOk result (λ status. Calls (words_of words.now) (R.remaining reader.old) (R.remaining reader.new) (W.contents writer.old) (W.contents writer.new) (E.contents errors.old) (E.contents errors.new) status) }
 {
     match read_call(alloc, words) {
         Call::Nothing => refuse(errors),
         Call::Refused(fault) => tell(fault, errors),
-        Call::Pipe(user) => pipe(alloc, user, reader, writer, errors),
-        Call::Script => script(alloc, reader, writer, errors),
+        Call::Pipe(user) => pipe(alloc, user, reader, writer, errors, steps),
+        Call::Script => script(alloc, reader, writer, errors, steps),
     }
 }

@@ -6,7 +6,6 @@ pub mod StoreReads
 pub mod SearchReads
 pub mod SpellingReads
 pub mod Growing
-pub mod KeySteps
 pub mod Looking
 pub mod FaultPlaces
 pub mod Computing

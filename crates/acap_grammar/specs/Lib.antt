@@ -1,3 +1,4 @@
+pub mod Appending
 pub mod Arguments
 pub mod Ascending
 pub mod Gathering
@@ -9,11 +10,14 @@ pub mod Marks
 pub mod Outcome
 pub mod Refusals
 pub mod Replies
+pub mod Rows
 pub mod Searching
 pub mod Sendable
+pub mod Series
 pub mod Several
 pub mod Spelling
 pub mod Storing
 pub mod Alike
 pub mod Texts
 pub mod Formed
+pub mod Unnamed

@@ -1,5 +1,5 @@
 -- What reading tokens comes to: a value and the tokens behind it, or the first fault from the left and where it lies.
-use Rattle.std.specs.Prelude.{◌≡◌, List, [], Result, Ok, Err}
+use Rattle.std.specs.Prelude.{◌≡◌, List, [], Bool, true, false, Option, Some, None, Result, Ok, Err}
 use Rattle.acap_lexer.specs.Token.{Token}
 use Rattle.acap_grammar.specs.declared.grammar_fault.GrammarFault.{GrammarFault}
 use Rattle.acap_grammar.specs.declared.grammar_error.GrammarError.{GrammarError}
@@ -34,10 +34,10 @@ judged tokens (Err fault) = refused tokens fault
 abbrev pub Fails : {Y : Type 0} → GrammarError → Result Y GrammarFault → Type 0
 Fails e judgement = (fault : GrammarFault) → e ≡ error.Fault fault → judgement ≡ Err fault
 
--- what a function returned, seen by view, is what is judged, unless memory was refused
-abbrev pub Gives : {X Y : Type 0} → (X → Y) → Result X GrammarError → Result Y GrammarFault → Type 0
-Gives view (Ok x) judgement = judgement ≡ Ok (view x)
-Gives view (Err e) judgement = Fails e judgement
+-- what a function returned is what is judged, unless memory was refused
+abbrev pub Gives : {X : Type 0} → Result X GrammarError → Result X GrammarFault → Type 0
+Gives (Ok x) judgement = judgement ≡ Ok x
+Gives (Err e) judgement = Fails e judgement
 
 -- the same of what is read, wherever a fault lies
 abbrev pub left_by : {Y : Type 0} → Result Y Fault → List Token
@@ -47,6 +47,20 @@ left_by (Err e) = e.left
 abbrev pub Refuses : {Y : Type 0} → GrammarError → Result Y Fault → Type 0
 Refuses e read = (fault : GrammarFault) → e ≡ error.Fault fault → read ≡ refused (left_by read) fault
 
-abbrev pub Reads : {X Y : Type 0} → (X → Y) → Result X GrammarError → Result Y Fault → Type 0
-Reads view (Ok x) read = read ≡ Ok (view x)
-Reads view (Err e) read = Refuses e read
+-- what a function returned, seen by view beside the tokens that it left, is what is read, unless memory was refused
+abbrev pub ReadsBy : {X Y : Type 0} → (X → List Token → Y) → Result X GrammarError → List Token → Result Y Fault → Type 0
+ReadsBy view (Ok x) left read = read ≡ Ok (view x left)
+ReadsBy view (Err e) left read = Refuses e read
+
+abbrev pub Reads : {X : Type 0} → Result X GrammarError → List Token → Read X → Type 0
+Reads result left read = ReadsBy (λ x rest. (x, rest)) result left read
+
+-- what a function found first among the old tokens, and what it left; where it found nothing it left them all
+abbrev pub Finds : {X : Type 0} → Option X → List Token → List Token → Option (X × List Token) → Type 0
+Finds None old left found = (found ≡ None) × (left ≡ old)
+Finds (Some x) old left found = found ≡ Some (x, left)
+
+-- the same of what has no value
+abbrev pub Passes : Bool → List Token → List Token → Option (List Token) → Type 0
+Passes false old left found = (found ≡ None) × (left ≡ old)
+Passes true old left found = found ≡ Some left

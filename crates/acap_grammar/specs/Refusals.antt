@@ -9,8 +9,6 @@ use Rattle.acap_grammar.specs.declared.grammar_fault.GrammarFault.TheVariants as
 use Rattle.acap_commands.specs.declared.object.Object.{Object}
 use Rattle.acap_commands.specs.declared.refusal.Refusal.{Refusal}
 use Rattle.acap_commands.specs.declared.refusal.Refusal.TheVariants as refusal
-use Rattle.acap_commands.specs.declared.status.Status.{Status}
-use Rattle.acap_commands.specs.declared.status.Status.TheVariants as status
 
 -- the refusal of a line with this lexical fault
 abbrev pub of_lexical : LexFault → Refusal
@@ -82,9 +80,12 @@ object_end (Some attribute) (Some name) = codes " " ++ printed attribute ++ code
 unfoldable pub object_form : Object → List ℕ
 object_form object = codes "(" ++ printed object.dataset ++ object_end object.attribute object.name ++ codes ")"
 
+abbrev pub permission_code : Object → List ℕ
+permission_code object = codes "(PERMISSION " ++ object_form object ++ codes ") "
+
 -- the code in its parenthesis and the space behind it, where there is one
 unfoldable pub code_of : Refusal → List ℕ
-code_of (refusal.Permission object) = codes "(PERMISSION " ++ object_form object ++ codes ") "
+code_of (refusal.Permission object) = permission_code object
 code_of (refusal.NoExist dataset) = codes "(NOEXIST " ++ printed dataset ++ codes ") "
 code_of (refusal.Modified path) = codes "(MODIFIED " ++ path_form path ++ codes ") "
 code_of (refusal.Invalid path attribute) = codes "(INVALID (" ++ path_form path ++ codes " " ++ printed attribute ++ codes ")) "

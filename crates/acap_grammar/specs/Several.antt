@@ -3,7 +3,7 @@ use Rattle.std.specs.Prelude.{ℕ, zero, suc, ◌-◌, List, Bool, Ok, if◌then
 use Rattle.acap_lexer.specs.Token.{Token}
 use Rattle.acap_grammar.specs.declared.grammar_fault.GrammarFault.TheVariants as fault
 use Rattle.acap_grammar.specs.Outcome.{◌>>=◌, Read, refused}
-use Rattle.acap_grammar.specs.Marks.{is_open, is_close, behind}
+use Rattle.acap_grammar.specs.Marks.{is_open, is_close, is_string, starts, behind}
 
 -- Items put one after the other behind those seen, until none comes: so many more may come, and one too many is refused
 -- at its first token, if that has the kind with which an item starts.
@@ -24,3 +24,7 @@ enclosed over fits item most none tokens = do
   items ← some_of over fits item most none inside
   left ← behind is_close items.1
   Ok (items.0, left)
+
+-- items that begin with a string, in a parenthesis
+abbrev pub strings_enclosed : {A : Type 0} → (A → List Token → Read A) → ℕ → A → List Token → Read A
+strings_enclosed item most none tokens = enclosed (starts is_close) (starts is_string) item most none tokens

@@ -75,20 +75,24 @@ store_metadata = (codes "value", metadata.Value) ∷ (codes "acl", metadata.Acl)
 abbrev pub metadata_named : List ℕ → Result StoreMetadata GrammarFault
 metadata_named text = or_fault fault.Arguments (text_in store_metadata text)
 
+-- one thing more for an attribute, behind what is given before
+abbrev pub with_gift : Gifts → StoreMetadata → Given → List StoreItem
+with_gift seen stored given = seen.items ++ record { attribute = seen.attribute; metadata = stored; given = given } ∷ []
+
 -- what an attribute is given, behind what those before it are given: metadata that it doesn't have yet, and a value
 unfoldable pub gift_at : Gifts → List Token → Read Gifts
 gift_at seen tokens = do
   metadata ← named_at metadata_named tokens
   new ← judged tokens (once (has_item seen.attribute metadata.0 seen.items))
   given ← given_at metadata.1
-  Ok (record seen { items = seen.items ++ record { attribute = seen.attribute; metadata = metadata.0; given = given.0 } ∷ [] }, given.1)
+  Ok (record seen { items = with_gift seen metadata.0 given.0 }, given.1)
 
 -- behind an attribute: what its value is given, or `(` (metadata given)+ `)`. There are two metadata and each may stand
 -- once, so that a third is refused for itself.
 unfoldable pub gifts_at : Gifts → List Token → Read (List StoreItem)
 gifts_at seen tokens =
     if starts is_open tokens then (enclosed (starts is_close) (starts is_string) gift_at 3 seen tokens >>= λ x. Ok (x.0.items, x.1))
-    else (plain_at tokens >>= λ x. Ok (seen.items ++ record { attribute = seen.attribute; metadata = metadata.Value; given = x.0 } ∷ [], x.1))
+    else (plain_at tokens >>= λ x. Ok (with_gift seen metadata.Value x.0, x.1))
 
 -- an attribute that isn't among those before, and what it is given
 unfoldable pub item_at : List StoreItem → List Token → Read (List StoreItem)

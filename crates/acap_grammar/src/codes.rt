@@ -1,16 +1,16 @@
 //! The codes of refusals, as octets (RFC 2244 section 3.6).
 
-ghost use Rattle.std.specs.Prelude.{◌≡◌, ◌++◌, ◌∷◌, OnOk, codes};
-ghost use Rattle.acap_lexer.specs.Printing.{printed, Grows};
-ghost use Rattle.acap_grammar.specs.Refusals.{object_end, object_form, path_form, code_of};
+ghost use Rattle.std.specs.Prelude.{◌∷◌};
+ghost use Rattle.acap_lexer.specs.Printing.{printed};
+ghost use Rattle.acap_grammar.specs.Appending.{Appends};
+ghost use Rattle.acap_grammar.specs.Refusals.{object_end, object_form, permission_code, code_of};
 
 use crate::strings::{append_path, append_string};
 use acap_commands::{Object, Refusal};
 use acap_entries::{Attribute, Dataset, EntryName, Memory, Path};
 
 fn append_argument(text: &[u8], out: &mut Vec<u8>) -> Result<(), Memory>
-    ensures ok { OnOk result (out.new.items ≡ out.old.items ++ 32 ∷ printed text.now) }
-    ensures grows { Grows out.old.items out.new.items }
+    ensures { Appends result out.old.items out.new.items (32 ∷ printed text.now) }
 {
     out.push(b' ')?;
     append_string(text, out)?;
@@ -22,8 +22,7 @@ fn append_object_end(
     name: &Option<EntryName>,
     out: &mut Vec<u8>,
 ) -> Result<(), Memory>
-    ensures ok { OnOk result (out.new.items ≡ out.old.items ++ object_end attribute.now name.now) }
-    ensures grows { Grows out.old.items out.new.items }
+    ensures { Appends result out.old.items out.new.items (object_end attribute.now name.now) }
 {
     let Some(attribute) = attribute else {
         return Ok(());
@@ -37,8 +36,7 @@ fn append_object_end(
 
 #[tactic(auto, unfolding(crate::specs::Refusals::object_form))]
 fn append_object(object: &Object, out: &mut Vec<u8>) -> Result<(), Memory>
-    ensures ok { OnOk result (out.new.items ≡ out.old.items ++ object_form object.now) }
-    ensures grows { Grows out.old.items out.new.items }
+    ensures { Appends result out.old.items out.new.items (object_form object.now) }
 {
     out.push(b'(')?;
     append_string(object.dataset.as_slice(), out)?;
@@ -48,8 +46,7 @@ fn append_object(object: &Object, out: &mut Vec<u8>) -> Result<(), Memory>
 }
 
 fn append_permission(object: &Object, out: &mut Vec<u8>) -> Result<(), Memory>
-    ensures ok { OnOk result (out.new.items ≡ out.old.items ++ codes "(PERMISSION " ++ object_form object.now ++ codes ") ") }
-    ensures grows { Grows out.old.items out.new.items }
+    ensures { Appends result out.old.items out.new.items (permission_code object.now) }
 {
     out.extend_from_slice(b"(PERMISSION ")?;
     append_object(object, out)?;
@@ -57,9 +54,9 @@ fn append_permission(object: &Object, out: &mut Vec<u8>) -> Result<(), Memory>
     Ok(())
 }
 
+#[tactic(auto, unfolding(crate::specs::Refusals::code_of))]
 fn append_no_exist(dataset: &Dataset, out: &mut Vec<u8>) -> Result<(), Memory>
-    ensures ok { OnOk result (out.new.items ≡ out.old.items ++ codes "(NOEXIST " ++ printed dataset.now ++ codes ") ") }
-    ensures grows { Grows out.old.items out.new.items }
+    ensures { Appends result out.old.items out.new.items (code_of (Refusal.NoExist dataset.now)) }
 {
     out.extend_from_slice(b"(NOEXIST ")?;
     append_string(dataset.as_slice(), out)?;
@@ -67,9 +64,9 @@ fn append_no_exist(dataset: &Dataset, out: &mut Vec<u8>) -> Result<(), Memory>
     Ok(())
 }
 
+#[tactic(auto, unfolding(crate::specs::Refusals::code_of))]
 fn append_modified(path: &Path, out: &mut Vec<u8>) -> Result<(), Memory>
-    ensures ok { OnOk result (out.new.items ≡ out.old.items ++ codes "(MODIFIED " ++ path_form path.now ++ codes ") ") }
-    ensures grows { Grows out.old.items out.new.items }
+    ensures { Appends result out.old.items out.new.items (code_of (Refusal.Modified path.now)) }
 {
     out.extend_from_slice(b"(MODIFIED ")?;
     append_path(path, out)?;
@@ -77,9 +74,9 @@ fn append_modified(path: &Path, out: &mut Vec<u8>) -> Result<(), Memory>
     Ok(())
 }
 
+#[tactic(auto, unfolding(crate::specs::Refusals::code_of))]
 fn append_invalid(path: &Path, attribute: &Attribute, out: &mut Vec<u8>) -> Result<(), Memory>
-    ensures ok { OnOk result (out.new.items ≡ out.old.items ++ codes "(INVALID (" ++ path_form path.now ++ codes " " ++ printed attribute.now ++ codes ")) ") }
-    ensures grows { Grows out.old.items out.new.items }
+    ensures { Appends result out.old.items out.new.items (code_of (Refusal.Invalid path.now attribute.now)) }
 {
     out.extend_from_slice(b"(INVALID (")?;
     append_path(path, out)?;
@@ -90,8 +87,7 @@ fn append_invalid(path: &Path, attribute: &Attribute, out: &mut Vec<u8>) -> Resu
 }
 
 fn append_word(word: &[u8], out: &mut Vec<u8>) -> Result<(), Memory>
-    ensures ok { OnOk result (out.new.items ≡ out.old.items ++ word.now) }
-    ensures grows { Grows out.old.items out.new.items }
+    ensures { Appends result out.old.items out.new.items word.now }
 {
     out.extend_from_slice(word)?;
     Ok(())
@@ -100,8 +96,7 @@ fn append_word(word: &[u8], out: &mut Vec<u8>) -> Result<(), Memory>
 /// The code of a refusal and the space behind it, where it has one.
 #[tactic(auto, unfolding(crate::specs::Refusals::code_of))]
 pub(crate) fn append_code(refusal: &Refusal, out: &mut Vec<u8>) -> Result<(), Memory>
-    ensures ok { OnOk result (out.new.items ≡ out.old.items ++ code_of refusal.now) }
-    ensures grows { Grows out.old.items out.new.items }
+    ensures { Appends result out.old.items out.new.items (code_of refusal.now) }
 {
     match refusal {
         Refusal::Permission(object) => append_permission(object.get(), out),

@@ -1,7 +1,6 @@
 //! The data of a row, as octets (RFC 2244 section 6.4.1).
 
-ghost use Rattle.std.specs.Prelude.{◌≡◌, ◌++◌, OnOk};
-ghost use Rattle.acap_lexer.specs.Printing.{Grows};
+ghost use Rattle.acap_grammar.specs.Appending.{Appends};
 ghost use Rattle.acap_grammar.specs.Replies.{spaced, list_form, cell_form, item_form};
 
 use crate::strings::{append_string, append_values};
@@ -9,8 +8,7 @@ use acap_entries::{Cell, CellList, Item, Memory};
 
 #[tactic(auto, unfolding(crate::specs::Replies::cell_form))]
 fn append_cell(cell: &Cell, out: &mut Vec<u8>) -> Result<(), Memory>
-    ensures ok { OnOk result (out.new.items ≡ out.old.items ++ cell_form cell.now) }
-    ensures grows { Grows out.old.items out.new.items }
+    ensures { Appends result out.old.items out.new.items (cell_form cell.now) }
 {
     match cell {
         Cell::Nil => {
@@ -23,8 +21,7 @@ fn append_cell(cell: &Cell, out: &mut Vec<u8>) -> Result<(), Memory>
 }
 
 fn append_spaced_cells(cells: &[Cell], out: &mut Vec<u8>) -> Result<(), Memory>
-    ensures ok { OnOk result (out.new.items ≡ out.old.items ++ spaced cell_form cells.now) }
-    ensures grows { Grows out.old.items out.new.items }
+    ensures { Appends result out.old.items out.new.items (spaced cell_form cells.now) }
 {
     for cell in cells {
         out.push(b' ')?;
@@ -35,8 +32,7 @@ fn append_spaced_cells(cells: &[Cell], out: &mut Vec<u8>) -> Result<(), Memory>
 
 #[tactic(auto, unfolding(crate::specs::Replies::list_form))]
 fn append_cells(cells: &[Cell], out: &mut Vec<u8>) -> Result<(), Memory>
-    ensures ok { OnOk result (out.new.items ≡ out.old.items ++ list_form cell_form cells.now) }
-    ensures grows { Grows out.old.items out.new.items }
+    ensures { Appends result out.old.items out.new.items (list_form cell_form cells.now) }
 {
     out.push(b'(')?;
     if let Some((first, others)) = cells.split_first() {
@@ -48,8 +44,7 @@ fn append_cells(cells: &[Cell], out: &mut Vec<u8>) -> Result<(), Memory>
 }
 
 fn append_spaced_lists(lists: &[CellList], out: &mut Vec<u8>) -> Result<(), Memory>
-    ensures ok { OnOk result (out.new.items ≡ out.old.items ++ spaced (list_form cell_form) lists.now) }
-    ensures grows { Grows out.old.items out.new.items }
+    ensures { Appends result out.old.items out.new.items (spaced (list_form cell_form) lists.now) }
 {
     for list in lists {
         out.push(b' ')?;
@@ -60,8 +55,7 @@ fn append_spaced_lists(lists: &[CellList], out: &mut Vec<u8>) -> Result<(), Memo
 
 #[tactic(auto, unfolding(crate::specs::Replies::list_form))]
 fn append_lists(lists: &[CellList], out: &mut Vec<u8>) -> Result<(), Memory>
-    ensures ok { OnOk result (out.new.items ≡ out.old.items ++ list_form (list_form cell_form) lists.now) }
-    ensures grows { Grows out.old.items out.new.items }
+    ensures { Appends result out.old.items out.new.items (list_form (list_form cell_form) lists.now) }
 {
     out.push(b'(')?;
     if let Some((first, others)) = lists.split_first() {
@@ -74,8 +68,7 @@ fn append_lists(lists: &[CellList], out: &mut Vec<u8>) -> Result<(), Memory>
 
 #[tactic(auto, unfolding(crate::specs::Replies::item_form))]
 fn append_item(item: &Item, out: &mut Vec<u8>) -> Result<(), Memory>
-    ensures ok { OnOk result (out.new.items ≡ out.old.items ++ item_form item.now) }
-    ensures grows { Grows out.old.items out.new.items }
+    ensures { Appends result out.old.items out.new.items (item_form item.now) }
 {
     match item {
         Item::One(cell) => append_cell(cell, out),
@@ -86,8 +79,7 @@ fn append_item(item: &Item, out: &mut Vec<u8>) -> Result<(), Memory>
 
 /// Each item behind a space.
 pub(crate) fn append_items(items: &[Item], out: &mut Vec<u8>) -> Result<(), Memory>
-    ensures ok { OnOk result (out.new.items ≡ out.old.items ++ spaced item_form items.now) }
-    ensures grows { Grows out.old.items out.new.items }
+    ensures { Appends result out.old.items out.new.items (spaced item_form items.now) }
 {
     for item in items {
         out.push(b' ')?;

@@ -3,8 +3,8 @@
 
 mod arguments;
 mod codes;
+mod cursor;
 mod data;
-mod descent;
 mod gathered;
 mod grammar_error;
 mod grammar_fault;

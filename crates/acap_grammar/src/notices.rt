@@ -1,7 +1,6 @@
 //! What is told of contexts, as octets (RFC 2244 section 6.5).
 
-ghost use Rattle.std.specs.Prelude.{◌≡◌, ◌++◌, OnOk};
-ghost use Rattle.acap_lexer.specs.Printing.{Grows};
+ghost use Rattle.acap_grammar.specs.Appending.{Appends};
 ghost use Rattle.acap_grammar.specs.Replies.{about_form, position_form, added_form, removed_form, changed_form, notice_form, upto_form, freed_form, told_form, tolds_form};
 
 use crate::data::append_items;
@@ -12,8 +11,7 @@ use acap_notices::{Notice, Told};
 // A number behind a space.
 #[tactic(auto, unfolding(crate::specs::Replies::position_form))]
 fn append_position(position: usize, out: &mut Vec<u8>) -> Result<(), Memory>
-    ensures ok { OnOk result (out.new.items ≡ out.old.items ++ position_form position) }
-    ensures grows { Grows out.old.items out.new.items }
+    ensures { Appends result out.old.items out.new.items (position_form position) }
 {
     let digits = position.to_string(*out.allocator())?;
     out.push(b' ')?;
@@ -24,13 +22,13 @@ fn append_position(position: usize, out: &mut Vec<u8>) -> Result<(), Memory>
 // The word of a line, the context, and the entry or what is told of the context.
 #[tactic(auto, unfolding(crate::specs::Replies::about_form))]
 fn append_about(word: &[u8], context: &[u8], thing: &[u8], out: &mut Vec<u8>) -> Result<(), Memory>
-    ensures ok { OnOk result (out.new.items ≡ out.old.items ++ about_form word.now context.now thing.now) }
-    ensures grows { Grows out.old.items out.new.items }
+    ensures { Appends result out.old.items out.new.items (about_form word.now context.now thing.now) }
 {
     out.extend_from_slice(word)?;
     append_string(context, out)?;
     out.push(b' ')?;
-    append_string(thing, out)
+    append_string(thing, out)?;
+    Ok(())
 }
 
 #[tactic(auto, unfolding(crate::specs::Replies::added_form))]
@@ -40,8 +38,7 @@ fn append_added(
     row: &Row,
     out: &mut Vec<u8>,
 ) -> Result<(), Memory>
-    ensures ok { OnOk result (out.new.items ≡ out.old.items ++ added_form context.now position row.now) }
-    ensures grows { Grows out.old.items out.new.items }
+    ensures { Appends result out.old.items out.new.items (added_form context.now position row.now) }
 {
     append_about(b"* ADDTO ", context.as_slice(), row.name.as_slice(), out)?;
     append_position(position, out)?;
@@ -57,8 +54,7 @@ fn append_removed(
     position: usize,
     out: &mut Vec<u8>,
 ) -> Result<(), Memory>
-    ensures ok { OnOk result (out.new.items ≡ out.old.items ++ removed_form context.now entry.now position) }
-    ensures grows { Grows out.old.items out.new.items }
+    ensures { Appends result out.old.items out.new.items (removed_form context.now entry.now position) }
 {
     append_about(b"* REMOVEFROM ", context.as_slice(), entry.as_slice(), out)?;
     append_position(position, out)?;
@@ -74,8 +70,7 @@ fn append_changed(
     row: &Row,
     out: &mut Vec<u8>,
 ) -> Result<(), Memory>
-    ensures ok { OnOk result (out.new.items ≡ out.old.items ++ changed_form context.now old new row.now) }
-    ensures grows { Grows out.old.items out.new.items }
+    ensures { Appends result out.old.items out.new.items (changed_form context.now old new row.now) }
 {
     append_about(b"* CHANGE ", context.as_slice(), row.name.as_slice(), out)?;
     append_position(old, out)?;
@@ -86,8 +81,7 @@ fn append_changed(
 }
 
 fn append_notice(context: &ContextName, notice: &Notice, out: &mut Vec<u8>) -> Result<(), Memory>
-    ensures ok { OnOk result (out.new.items ≡ out.old.items ++ notice_form context.now notice.now) }
-    ensures grows { Grows out.old.items out.new.items }
+    ensures { Appends result out.old.items out.new.items (notice_form context.now notice.now) }
 {
     match notice {
         Notice::AddTo { position, row } => append_added(context, *position, row, out),
@@ -98,8 +92,7 @@ fn append_notice(context: &ContextName, notice: &Notice, out: &mut Vec<u8>) -> R
 
 #[tactic(auto, unfolding(crate::specs::Replies::upto_form))]
 fn append_upto(context: &ContextName, moment: Moment, out: &mut Vec<u8>) -> Result<(), Memory>
-    ensures ok { OnOk result (out.new.items ≡ out.old.items ++ upto_form context.now moment) }
-    ensures grows { Grows out.old.items out.new.items }
+    ensures { Appends result out.old.items out.new.items (upto_form context.now moment) }
 {
     append_about(b"* MODTIME ", context.as_slice(), &stamp(moment), out)?;
     out.extend_from_slice(b"\r\n")?;
@@ -108,8 +101,7 @@ fn append_upto(context: &ContextName, moment: Moment, out: &mut Vec<u8>) -> Resu
 
 #[tactic(auto, unfolding(crate::specs::Replies::freed_form))]
 fn append_freed(context: &ContextName, out: &mut Vec<u8>) -> Result<(), Memory>
-    ensures ok { OnOk result (out.new.items ≡ out.old.items ++ freed_form context.now) }
-    ensures grows { Grows out.old.items out.new.items }
+    ensures { Appends result out.old.items out.new.items (freed_form context.now) }
 {
     let mut text = Vec::from_slice(*out.allocator(), b"Context freed: ")?;
     text.extend_from_slice(context.as_slice())?;
@@ -120,8 +112,7 @@ fn append_freed(context: &ContextName, out: &mut Vec<u8>) -> Result<(), Memory>
 }
 
 fn append_told(told: &Told, out: &mut Vec<u8>) -> Result<(), Memory>
-    ensures ok { OnOk result (out.new.items ≡ out.old.items ++ told_form told.now) }
-    ensures grows { Grows out.old.items out.new.items }
+    ensures { Appends result out.old.items out.new.items (told_form told.now) }
 {
     match told {
         Told::Note(context, notice) => append_notice(context, notice, out),
@@ -132,8 +123,7 @@ fn append_told(told: &Told, out: &mut Vec<u8>) -> Result<(), Memory>
 
 /// A line for each.
 pub(crate) fn append_tolds(tolds: &[Told], out: &mut Vec<u8>) -> Result<(), Memory>
-    ensures ok { OnOk result (out.new.items ≡ out.old.items ++ tolds_form tolds.now) }
-    ensures grows { Grows out.old.items out.new.items }
+    ensures { Appends result out.old.items out.new.items (tolds_form tolds.now) }
 {
     for told in tolds {
         append_told(told, out)?;

@@ -1,7 +1,7 @@
 //! Replies as octets.
 
 ghost use Rattle.std.specs.Prelude.{◌≡◌, ◌++◌, OnOk, OnErr};
-ghost use Rattle.acap_lexer.specs.Printing.{Grows};
+ghost use Rattle.acap_grammar.specs.Appending.{Appends};
 ghost use Rattle.acap_grammar.specs.Replies.{row_form, rows_form, last_form, done_of, done_form, status_form, refused_form, greeting, total_form, searched_form, found_form, deleted_name_form, deleted_names_form, deleted_form, rights_form, rights_list_form, challenge_form, good_bye_form, said_form, updated_form, tag_of, octets_of};
 
 use crate::codes::append_code;
@@ -15,8 +15,7 @@ use acap_notices::Told;
 
 #[tactic(auto, unfolding(crate::specs::Replies::row_form))]
 fn append_row(tag: &[u8], row: &Row, out: &mut Vec<u8>) -> Result<(), Memory>
-    ensures ok { OnOk result (out.new.items ≡ out.old.items ++ row_form tag.now row.now) }
-    ensures grows { Grows out.old.items out.new.items }
+    ensures { Appends result out.old.items out.new.items (row_form tag.now row.now) }
 {
     out.extend_from_slice(tag)?;
     out.extend_from_slice(b" ENTRY ")?;
@@ -27,8 +26,7 @@ fn append_row(tag: &[u8], row: &Row, out: &mut Vec<u8>) -> Result<(), Memory>
 }
 
 fn append_rows(tag: &[u8], rows: &[Row], out: &mut Vec<u8>) -> Result<(), Memory>
-    ensures ok { OnOk result (out.new.items ≡ out.old.items ++ rows_form tag.now rows.now) }
-    ensures grows { Grows out.old.items out.new.items }
+    ensures { Appends result out.old.items out.new.items (rows_form tag.now rows.now) }
 {
     for row in rows {
         append_row(tag, row, out)?;
@@ -38,8 +36,7 @@ fn append_rows(tag: &[u8], rows: &[Row], out: &mut Vec<u8>) -> Result<(), Memory
 
 #[tactic(auto, unfolding(crate::specs::Replies::last_form))]
 fn append_last(tag: &[u8], last: Option<Moment>, out: &mut Vec<u8>) -> Result<(), Memory>
-    ensures ok { OnOk result (out.new.items ≡ out.old.items ++ last_form tag.now last) }
-    ensures grows { Grows out.old.items out.new.items }
+    ensures { Appends result out.old.items out.new.items (last_form tag.now last) }
 {
     let Some(moment) = last else {
         return Ok(());
@@ -72,8 +69,7 @@ fn done_of(verb: Verb) -> &'static [u8]
 
 #[tactic(auto, unfolding(crate::specs::Replies::done_form))]
 fn append_done(tag: &[u8], verb: Verb, out: &mut Vec<u8>) -> Result<(), Memory>
-    ensures ok { OnOk result (out.new.items ≡ out.old.items ++ done_form tag.now verb) }
-    ensures grows { Grows out.old.items out.new.items }
+    ensures { Appends result out.old.items out.new.items (done_form tag.now verb) }
 {
     out.extend_from_slice(tag)?;
     out.extend_from_slice(b" OK ")?;
@@ -83,8 +79,7 @@ fn append_done(tag: &[u8], verb: Verb, out: &mut Vec<u8>) -> Result<(), Memory>
 }
 
 fn append_status(status: Status, tag: &[u8], out: &mut Vec<u8>) -> Result<(), Memory>
-    ensures ok { OnOk result (out.new.items ≡ out.old.items ++ status_form status tag.now) }
-    ensures grows { Grows out.old.items out.new.items }
+    ensures { Appends result out.old.items out.new.items (status_form status tag.now) }
 {
     match status {
         Status::No => {
@@ -102,8 +97,7 @@ fn append_status(status: Status, tag: &[u8], out: &mut Vec<u8>) -> Result<(), Me
 
 #[tactic(auto, unfolding(crate::specs::Replies::refused_form))]
 fn append_refused(tag: &[u8], refusal: &Refusal, out: &mut Vec<u8>) -> Result<(), Memory>
-    ensures ok { OnOk result (out.new.items ≡ out.old.items ++ refused_form tag.now refusal.now) }
-    ensures grows { Grows out.old.items out.new.items }
+    ensures { Appends result out.old.items out.new.items (refused_form tag.now refusal.now) }
 {
     append_status(refusal.status(), tag, out)?;
     append_code(refusal, out)?;
@@ -113,8 +107,7 @@ fn append_refused(tag: &[u8], refusal: &Refusal, out: &mut Vec<u8>) -> Result<()
 }
 
 fn append_greeting(out: &mut Vec<u8>) -> Result<(), Memory>
-    ensures ok { OnOk result (out.new.items ≡ out.old.items ++ greeting) }
-    ensures grows { Grows out.old.items out.new.items }
+    ensures { Appends result out.old.items out.new.items greeting }
 {
     out.extend_from_slice(
         b"* ACAP (IMPLEMENTATION \"acapd\") (SASL \"CRAM-MD5\") (CONTEXTLIMIT \"200\")\r\n",
@@ -124,8 +117,7 @@ fn append_greeting(out: &mut Vec<u8>) -> Result<(), Memory>
 
 #[tactic(auto, unfolding(crate::specs::Replies::total_form))]
 fn append_total(total: u32, out: &mut Vec<u8>) -> Result<(), Memory>
-    ensures ok { OnOk result (out.new.items ≡ out.old.items ++ total_form total) }
-    ensures grows { Grows out.old.items out.new.items }
+    ensures { Appends result out.old.items out.new.items (total_form total) }
 {
     let digits = total.to_string(*out.allocator())?;
     out.extend_from_slice(b"(TOOMANY ")?;
@@ -136,8 +128,7 @@ fn append_total(total: u32, out: &mut Vec<u8>) -> Result<(), Memory>
 
 #[tactic(auto, unfolding(crate::specs::Replies::searched_form))]
 fn append_searched(tag: &[u8], total: Option<u32>, out: &mut Vec<u8>) -> Result<(), Memory>
-    ensures ok { OnOk result (out.new.items ≡ out.old.items ++ searched_form tag.now total) }
-    ensures grows { Grows out.old.items out.new.items }
+    ensures { Appends result out.old.items out.new.items (searched_form tag.now total) }
 {
     let Some(total) = total else {
         return append_done(tag, Verb::Search, out);
@@ -152,8 +143,7 @@ fn append_searched(tag: &[u8], total: Option<u32>, out: &mut Vec<u8>) -> Result<
 
 #[tactic(auto, unfolding(crate::specs::Replies::found_form))]
 fn append_found(tag: &[u8], found: &SearchReply, out: &mut Vec<u8>) -> Result<(), Memory>
-    ensures ok { OnOk result (out.new.items ≡ out.old.items ++ found_form tag.now found.now) }
-    ensures grows { Grows out.old.items out.new.items }
+    ensures { Appends result out.old.items out.new.items (found_form tag.now found.now) }
 {
     append_rows(tag, found.rows.as_slice(), out)?;
     append_last(tag, found.last, out)?;
@@ -162,8 +152,7 @@ fn append_found(tag: &[u8], found: &SearchReply, out: &mut Vec<u8>) -> Result<()
 
 #[tactic(auto, unfolding(crate::specs::Replies::deleted_name_form))]
 fn append_deleted_name(tag: &[u8], name: &[u8], out: &mut Vec<u8>) -> Result<(), Memory>
-    ensures ok { OnOk result (out.new.items ≡ out.old.items ++ deleted_name_form tag.now name.now) }
-    ensures grows { Grows out.old.items out.new.items }
+    ensures { Appends result out.old.items out.new.items (deleted_name_form tag.now name.now) }
 {
     out.extend_from_slice(tag)?;
     out.extend_from_slice(b" DELETED ")?;
@@ -173,8 +162,7 @@ fn append_deleted_name(tag: &[u8], name: &[u8], out: &mut Vec<u8>) -> Result<(),
 }
 
 fn append_deleted_names(tag: &[u8], names: &[Value], out: &mut Vec<u8>) -> Result<(), Memory>
-    ensures ok { OnOk result (out.new.items ≡ out.old.items ++ deleted_names_form tag.now names.now) }
-    ensures grows { Grows out.old.items out.new.items }
+    ensures { Appends result out.old.items out.new.items (deleted_names_form tag.now names.now) }
 {
     for name in names {
         append_deleted_name(tag, name.as_slice(), out)?;
@@ -184,8 +172,7 @@ fn append_deleted_names(tag: &[u8], names: &[Value], out: &mut Vec<u8>) -> Resul
 
 #[tactic(auto, unfolding(crate::specs::Replies::deleted_form))]
 fn append_deleted(tag: &[u8], names: &[Value], out: &mut Vec<u8>) -> Result<(), Memory>
-    ensures ok { OnOk result (out.new.items ≡ out.old.items ++ deleted_form tag.now names.now) }
-    ensures grows { Grows out.old.items out.new.items }
+    ensures { Appends result out.old.items out.new.items (deleted_form tag.now names.now) }
 {
     append_deleted_names(tag, names, out)?;
     append_done(tag, Verb::DeletedSince, out)
@@ -193,32 +180,31 @@ fn append_deleted(tag: &[u8], names: &[Value], out: &mut Vec<u8>) -> Result<(), 
 
 #[tactic(auto, unfolding(crate::specs::Replies::rights_form))]
 fn append_rights(tag: &[u8], rights: &[u8], out: &mut Vec<u8>) -> Result<(), Memory>
-    ensures ok { OnOk result (out.new.items ≡ out.old.items ++ rights_form tag.now rights.now) }
-    ensures grows { Grows out.old.items out.new.items }
+    ensures { Appends result out.old.items out.new.items (rights_form tag.now rights.now) }
 {
     out.extend_from_slice(tag)?;
     out.extend_from_slice(b" MYRIGHTS ")?;
     append_string(rights, out)?;
     out.extend_from_slice(b"\r\n")?;
-    append_done(tag, Verb::MyRights, out)
+    append_done(tag, Verb::MyRights, out)?;
+    Ok(())
 }
 
 #[tactic(auto, unfolding(crate::specs::Replies::rights_list_form))]
 fn append_rights_list(tag: &[u8], rights: &[Value], out: &mut Vec<u8>) -> Result<(), Memory>
-    ensures ok { OnOk result (out.new.items ≡ out.old.items ++ rights_list_form tag.now rights.now) }
-    ensures grows { Grows out.old.items out.new.items }
+    ensures { Appends result out.old.items out.new.items (rights_list_form tag.now rights.now) }
 {
     out.extend_from_slice(tag)?;
     out.extend_from_slice(b" LISTRIGHTS")?;
     append_spaced(rights, out)?;
     out.extend_from_slice(b"\r\n")?;
-    append_done(tag, Verb::ListRights, out)
+    append_done(tag, Verb::ListRights, out)?;
+    Ok(())
 }
 
 #[tactic(auto, unfolding(crate::specs::Replies::challenge_form))]
 fn append_challenge(challenge: &[u8], out: &mut Vec<u8>) -> Result<(), Memory>
-    ensures ok { OnOk result (out.new.items ≡ out.old.items ++ challenge_form challenge.now) }
-    ensures grows { Grows out.old.items out.new.items }
+    ensures { Appends result out.old.items out.new.items (challenge_form challenge.now) }
 {
     out.extend_from_slice(b"+ ")?;
     append_string(challenge, out)?;
@@ -228,19 +214,18 @@ fn append_challenge(challenge: &[u8], out: &mut Vec<u8>) -> Result<(), Memory>
 
 #[tactic(auto, unfolding(crate::specs::Replies::good_bye_form))]
 fn append_good_bye(tag: &[u8], out: &mut Vec<u8>) -> Result<(), Memory>
-    ensures ok { OnOk result (out.new.items ≡ out.old.items ++ good_bye_form tag.now) }
-    ensures grows { Grows out.old.items out.new.items }
+    ensures { Appends result out.old.items out.new.items (good_bye_form tag.now) }
 {
     out.extend_from_slice(b"* BYE ")?;
     append_string(b"Good bye", out)?;
     out.extend_from_slice(b"\r\n")?;
-    append_done(tag, Verb::Logout, out)
+    append_done(tag, Verb::Logout, out)?;
+    Ok(())
 }
 
 #[tactic(auto, unfolding(crate::specs::Replies::updated_form))]
 fn append_updated(tag: &[u8], tolds: &[Told], out: &mut Vec<u8>) -> Result<(), Memory>
-    ensures ok { OnOk result (out.new.items ≡ out.old.items ++ updated_form tag.now tolds.now) }
-    ensures grows { Grows out.old.items out.new.items }
+    ensures { Appends result out.old.items out.new.items (updated_form tag.now tolds.now) }
 {
     append_tolds(tolds, out)?;
     append_done(tag, Verb::UpdateContext, out)
@@ -248,8 +233,7 @@ fn append_updated(tag: &[u8], tolds: &[Told], out: &mut Vec<u8>) -> Result<(), M
 
 #[tactic(auto, unfolding(crate::specs::Replies::said_form))]
 fn append_said(tag: &[u8], said: &Said, out: &mut Vec<u8>) -> Result<(), Memory>
-    ensures ok { OnOk result (out.new.items ≡ out.old.items ++ said_form tag.now said.now) }
-    ensures grows { Grows out.old.items out.new.items }
+    ensures { Appends result out.old.items out.new.items (said_form tag.now said.now) }
 {
     match said {
         Said::Greeting => append_greeting(out),

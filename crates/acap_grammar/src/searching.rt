@@ -1,92 +1,63 @@
 //! What a SEARCH asks for (RFC 2244 section 6.4.1).
 
-ghost use Rattle.std.specs.Prelude.{◌≡◌, drop, IfOk};
+ghost use Rattle.std.specs.Prelude.{◌≡◌, IfOk};
 ghost use Rattle.acap_grammar.specs.Outcome.{Gives, Reads};
-ghost use Rattle.acap_grammar.specs.Marks.{is_string, is_close, starts};
 ghost use Rattle.acap_grammar.specs.Searching as searching;
-ghost use Rattle.acap_grammar.specs.declared.words.SearchWord.TheVariants as search_word;
 
-use crate::arguments::{
-    attribute_at, attribute_named, comparator_at, context_at, number_at, target_at,
-};
-use crate::descent::{
-    behind_close, behind_open, behind_word, closes, opens, starts_string, string_at,
-};
+use crate::arguments::{Named, named_at, number_at};
+use crate::cursor::Cursor;
 use crate::grammar_error::GrammarError;
 use crate::grammar_fault::GrammarFault;
 use crate::keys::key_at;
-use crate::several::{Gather, enclosed, several};
+use crate::several::{Gather, Series, enclosed, several};
 use crate::storing::once;
-use crate::words::{SearchWord, word_at};
+use crate::words::{METADATA, SearchWord, named_by};
 use acap_commands::{
     Limit, MakeContext, Metadata, MetadataList, ReturnItem, ReturnName, Returns, Search,
     SearchModifiers, SortItem, SortItems, Target,
 };
-use acap_entries::{Memory, Value, ends_with, is_attribute};
-use acap_lexer::Tokens;
+use acap_entries::{Attribute, ContextName, Memory, Value, ends_with, is_attribute};
+use acap_order::Comparator;
 use std::alloc::Global;
 
 // ---- RETURN
 
-#[tactic(auto, unfolding(crate::specs::Searching::return_named))]
-fn return_named(alloc: Global, text: &[u8]) -> Result<ReturnName, GrammarError>
-    ensures { Gives (λ x. x) result (searching.return_named text.now) }
-{
-    if !ends_with(text, b'*') {
-        return Ok(ReturnName::Named(attribute_named(alloc, text)?));
+impl Named for ReturnName {
+    ghost named = { searching.return_named };
+
+    #[tactic(auto, unfolding(crate::specs::Searching::return_named))]
+    fn of_text(alloc: Global, text: &[u8]) -> Result<ReturnName, GrammarError> {
+        if !ends_with(text, b'*') {
+            return Ok(ReturnName::Named(Attribute::of_text(alloc, text)?));
+        }
+        let front = &text[..text.len() - 1];
+        if !front.is_empty() && !is_attribute(front) {
+            return Err(GrammarError::Fault(GrammarFault::BadName));
+        }
+        Ok(ReturnName::Beginning(Value::from_slice(alloc, front)?))
     }
-    let front = &text[..text.len() - 1];
-    if !front.is_empty() && !is_attribute(front) {
-        return Err(GrammarError::Fault(GrammarFault::BadName));
-    }
-    Ok(ReturnName::Beginning(Value::from_slice(alloc, front)?))
 }
 
-fn metadata_named(text: &[u8]) -> Result<Metadata, GrammarError>
-    ensures { Gives (λ x. x) result (searching.metadata_named text.now) }
-{
-    if text == b"acl".as_slice() {
-        Ok(Metadata::Acl)
-    } else if text == b"attribute".as_slice() {
-        Ok(Metadata::Attribute)
-    } else if text == b"myrights".as_slice() {
-        Ok(Metadata::MyRights)
-    } else if text == b"size".as_slice() {
-        Ok(Metadata::Size)
-    } else if text == b"value".as_slice() {
-        Ok(Metadata::Value)
-    } else {
-        Err(GrammarError::Fault(GrammarFault::Arguments))
+impl Named for Metadata {
+    ghost named = { searching.metadata_named };
+
+    fn of_text(_alloc: Global, text: &[u8]) -> Result<Metadata, GrammarError> {
+        match named_by(&METADATA, text) {
+            Some(metadata) => Ok(metadata),
+            None => Err(GrammarError::Fault(GrammarFault::Arguments)),
+        }
     }
 }
 
 impl Gather for MetadataList {
-    ghost over = { starts is_close };
-
-    ghost fits = { starts is_string };
-
     ghost item = { searching.metadata_at };
 
-    fn is_over(tokens: &Tokens, at: usize) -> bool {
-        closes(tokens, at)
-    }
-
-    fn may_start(tokens: &Tokens, at: usize) -> bool {
-        starts_string(tokens, at)
-    }
-
-    #[tactic(auto, unfolding(crate::specs::Searching::metadata_at, crate::specs::Arguments::named_at))]
-    fn gather(
-        self,
-        alloc: Global,
-        tokens: &Tokens,
-        at: usize,
-    ) -> Result<(MetadataList, usize), GrammarError> {
-        let (text, next) = string_at(tokens, at)?;
-        let metadata = metadata_named(text)?;
+    #[tactic(auto, unfolding(crate::specs::Searching::metadata_at))]
+    fn gather(self, cursor: &mut Cursor<'_>) -> Result<MetadataList, GrammarError> {
+        let metadata: Metadata = named_at(cursor)?;
         let mut all = self;
         all.push(metadata)?;
-        Ok((all, next))
+        Ok(all)
     }
 }
 
@@ -103,144 +74,95 @@ fn default_metadata(alloc: Global, name: &ReturnName) -> Result<MetadataList, Me
 }
 
 #[tactic(auto, unfolding(crate::specs::Searching::metadata_part))]
-fn metadata_part(
-    alloc: Global,
-    name: &ReturnName,
-    tokens: &Tokens,
-    at: usize,
-) -> Result<(MetadataList, usize), GrammarError>
-    ensures { Reads (λ x. (x.0, drop x.1 tokens.now)) result (searching.metadata_part name.now (drop at tokens.now)) }
+fn metadata_part(name: &ReturnName, cursor: &mut Cursor<'_>) -> Result<MetadataList, GrammarError>
+    ensures { Reads result cursor.new (searching.metadata_part name.now cursor.old) }
 {
-    if opens(tokens, at) {
-        return enclosed(alloc, MetadataList::new(alloc), 32, tokens, at);
+    if cursor.opens() {
+        return enclosed(MetadataList::new(cursor.alloc()), 32, cursor);
     }
-    Ok((default_metadata(alloc, name)?, at))
+    Ok(default_metadata(cursor.alloc(), name)?)
 }
 
 impl Gather for Returns {
-    ghost over = { starts is_close };
-
-    ghost fits = { starts is_string };
-
     ghost item = { searching.return_at };
 
-    fn is_over(tokens: &Tokens, at: usize) -> bool {
-        closes(tokens, at)
-    }
-
-    fn may_start(tokens: &Tokens, at: usize) -> bool {
-        starts_string(tokens, at)
-    }
-
-    #[tactic(auto, unfolding(crate::specs::Searching::return_at, crate::specs::Arguments::named_at))]
-    fn gather(
-        self,
-        alloc: Global,
-        tokens: &Tokens,
-        at: usize,
-    ) -> Result<(Returns, usize), GrammarError> {
-        let (text, next) = string_at(tokens, at)?;
-        let name = return_named(alloc, text)?;
-        let (metadata, left) = metadata_part(alloc, &name, tokens, next)?;
+    #[tactic(auto, unfolding(crate::specs::Searching::return_at))]
+    fn gather(self, cursor: &mut Cursor<'_>) -> Result<Returns, GrammarError> {
+        let name: ReturnName = named_at(cursor)?;
+        let metadata = metadata_part(&name, cursor)?;
         let mut all = self;
         all.push(ReturnItem { name, metadata })?;
-        Ok((all, left))
+        Ok(all)
     }
 }
 
 #[tactic(auto, unfolding(crate::specs::Searching::returns_at))]
-fn returns_at(alloc: Global, tokens: &Tokens, at: usize) -> Result<(Returns, usize), GrammarError>
-    ensures { Reads (λ x. (x.0, drop x.1 tokens.now)) result (searching.returns_at (drop at tokens.now)) }
+fn returns_at(cursor: &mut Cursor<'_>) -> Result<Returns, GrammarError>
+    ensures { Reads result cursor.new (searching.returns_at cursor.old) }
 {
-    let inside = behind_open(tokens, at)?;
-    let (items, next) = several(alloc, Returns::new(alloc), 256, tokens, inside)?;
-    let left = behind_close(tokens, next)?;
-    Ok((items, left))
+    cursor.pass_open()?;
+    let none = Returns::new(cursor.alloc());
+    let items = several(Series::Enclosed, none, 256, cursor)?;
+    cursor.pass_close()?;
+    Ok(items)
 }
 
 // ---- SORT
 
 impl Gather for SortItems {
-    ghost over = { starts is_close };
-
-    ghost fits = { starts is_string };
-
     ghost item = { searching.sort_at };
 
-    fn is_over(tokens: &Tokens, at: usize) -> bool {
-        closes(tokens, at)
-    }
-
-    fn may_start(tokens: &Tokens, at: usize) -> bool {
-        starts_string(tokens, at)
-    }
-
     #[tactic(auto, unfolding(crate::specs::Searching::sort_at))]
-    fn gather(
-        self,
-        alloc: Global,
-        tokens: &Tokens,
-        at: usize,
-    ) -> Result<(SortItems, usize), GrammarError> {
-        let (attribute, next) = attribute_at(alloc, tokens, at)?;
-        let (comparator, left) = comparator_at(tokens, next)?;
+    fn gather(self, cursor: &mut Cursor<'_>) -> Result<SortItems, GrammarError> {
+        let attribute: Attribute = named_at(cursor)?;
+        let comparator: Comparator = named_at(cursor)?;
         let mut all = self;
         all.push(SortItem {
             attribute,
             comparator,
         })?;
-        Ok((all, left))
+        Ok(all)
     }
 }
 
 #[tactic(auto, unfolding(crate::specs::Searching::sorts_at))]
-fn sorts_at(alloc: Global, tokens: &Tokens, at: usize) -> Result<(SortItems, usize), GrammarError>
-    ensures { Reads (λ x. (x.0, drop x.1 tokens.now)) result (searching.sorts_at (drop at tokens.now)) }
+fn sorts_at(cursor: &mut Cursor<'_>) -> Result<SortItems, GrammarError>
+    ensures { Reads result cursor.new (searching.sorts_at cursor.old) }
 {
-    enclosed(alloc, SortItems::new(alloc), 16, tokens, at)
+    enclosed(SortItems::new(cursor.alloc()), 16, cursor)
 }
 
 // ---- the other modifiers
 
 #[tactic(auto, unfolding(crate::specs::Searching::limit_at))]
-fn limit_at(tokens: &Tokens, at: usize) -> Result<(Limit, usize), GrammarError>
-    ensures { Reads (λ x. (x.0, drop x.1 tokens.now)) result (searching.limit_at (drop at tokens.now)) }
+fn limit_at(cursor: &mut Cursor<'_>) -> Result<Limit, GrammarError>
+    ensures { Reads result cursor.new (searching.limit_at cursor.old) }
 {
-    let (over, next) = number_at(tokens, at)?;
-    let (most, next) = number_at(tokens, next)?;
-    Ok((Limit { over, most }, next))
+    let over = number_at(cursor)?;
+    let most = number_at(cursor)?;
+    Ok(Limit { over, most })
 }
 
-// Whether that word stands first, and the index behind it, or the same where it doesn't.
+// Passes that word, if it stands first, and says whether it does.
 #[tactic(auto, unfolding(crate::specs::Searching::flag_at))]
-fn flag_at(tokens: &Tokens, at: usize, word: &[u8]) -> (bool, usize)
-    ensures { (result.0, drop result.1 tokens.now) ≡ searching.flag_at word.now (drop at tokens.now) }
+fn flag_at(word: &[u8], cursor: &mut Cursor<'_>) -> bool
+    ensures { (result, cursor.new) ≡ searching.flag_at word.now cursor.old }
 {
-    match behind_word(tokens, at, word) {
-        Some(next) => (true, next),
-        None => (false, at),
-    }
+    cursor.pass_word(word)
 }
 
 #[tactic(auto, unfolding(crate::specs::Searching::make_context_at))]
-fn make_context_at(
-    alloc: Global,
-    tokens: &Tokens,
-    at: usize,
-) -> Result<(MakeContext, usize), GrammarError>
-    ensures { Reads (λ x. (x.0, drop x.1 tokens.now)) result (searching.make_context_at (drop at tokens.now)) }
+fn make_context_at(cursor: &mut Cursor<'_>) -> Result<MakeContext, GrammarError>
+    ensures { Reads result cursor.new (searching.make_context_at cursor.old) }
 {
-    let (enumerate, next) = flag_at(tokens, at, b"ENUMERATE");
-    let (notify, next) = flag_at(tokens, next, b"NOTIFY");
-    let (name, next) = context_at(alloc, tokens, next)?;
-    Ok((
-        MakeContext {
-            enumerate,
-            notify,
-            name,
-        },
-        next,
-    ))
+    let enumerate = flag_at(b"ENUMERATE", cursor);
+    let notify = flag_at(b"NOTIFY", cursor);
+    let name: ContextName = named_at(cursor)?;
+    Ok(MakeContext {
+        enumerate,
+        notify,
+        name,
+    })
 }
 
 // ---- all modifiers
@@ -252,159 +174,44 @@ pub(crate) struct Scope {
     pub(crate) modifiers: SearchModifiers,
 }
 
-// Behind DEPTH: number.
-#[tactic(auto, unfolding(crate::specs::Searching::modified))]
-fn depth_at(
-    modifiers: SearchModifiers,
-    tokens: &Tokens,
-    at: usize,
-) -> Result<(SearchModifiers, usize), GrammarError>
-    ensures { Reads (λ x. (x.0, drop x.1 tokens.now)) result (searching.modified modifiers search_word.Depth (drop at tokens.now)) }
-{
-    let (depth, left) = number_at(tokens, at)?;
-    Ok((
-        SearchModifiers {
-            depth: Some(depth),
-            ..modifiers
-        },
-        left,
-    ))
-}
-
-// Behind HARDLIMIT: number.
-#[tactic(auto, unfolding(crate::specs::Searching::modified))]
-fn hard_limit_at(
-    modifiers: SearchModifiers,
-    tokens: &Tokens,
-    at: usize,
-) -> Result<(SearchModifiers, usize), GrammarError>
-    ensures { Reads (λ x. (x.0, drop x.1 tokens.now)) result (searching.modified modifiers search_word.HardLimit (drop at tokens.now)) }
-{
-    let (hard_limit, left) = number_at(tokens, at)?;
-    Ok((
-        SearchModifiers {
-            hard_limit: Some(hard_limit),
-            ..modifiers
-        },
-        left,
-    ))
-}
-
-// Behind LIMIT: number number.
-#[tactic(auto, unfolding(crate::specs::Searching::modified))]
-fn new_limit_at(
-    modifiers: SearchModifiers,
-    tokens: &Tokens,
-    at: usize,
-) -> Result<(SearchModifiers, usize), GrammarError>
-    ensures { Reads (λ x. (x.0, drop x.1 tokens.now)) result (searching.modified modifiers search_word.Limit (drop at tokens.now)) }
-{
-    let (limit, left) = limit_at(tokens, at)?;
-    Ok((
-        SearchModifiers {
-            limit: Some(limit),
-            ..modifiers
-        },
-        left,
-    ))
-}
-
-// Behind MAKECONTEXT: what context is made.
-#[tactic(auto, unfolding(crate::specs::Searching::modified))]
-fn new_context_at(
-    alloc: Global,
-    modifiers: SearchModifiers,
-    tokens: &Tokens,
-    at: usize,
-) -> Result<(SearchModifiers, usize), GrammarError>
-    ensures { Reads (λ x. (x.0, drop x.1 tokens.now)) result (searching.modified modifiers search_word.MakeContext (drop at tokens.now)) }
-{
-    let (make_context, left) = make_context_at(alloc, tokens, at)?;
-    Ok((
-        SearchModifiers {
-            make_context: Some(make_context),
-            ..modifiers
-        },
-        left,
-    ))
-}
-
-// Behind RETURN: its items.
-#[tactic(auto, unfolding(crate::specs::Searching::modified))]
-fn new_returns_at(
-    alloc: Global,
-    modifiers: SearchModifiers,
-    tokens: &Tokens,
-    at: usize,
-) -> Result<(SearchModifiers, usize), GrammarError>
-    ensures { Reads (λ x. (x.0, drop x.1 tokens.now)) result (searching.modified modifiers search_word.Return (drop at tokens.now)) }
-{
-    let (returns, left) = returns_at(alloc, tokens, at)?;
-    Ok((
-        SearchModifiers {
-            returns: Some(returns),
-            ..modifiers
-        },
-        left,
-    ))
-}
-
-// Behind SORT: its items.
-#[tactic(auto, unfolding(crate::specs::Searching::modified))]
-fn new_sort_at(
-    alloc: Global,
-    modifiers: SearchModifiers,
-    tokens: &Tokens,
-    at: usize,
-) -> Result<(SearchModifiers, usize), GrammarError>
-    ensures { Reads (λ x. (x.0, drop x.1 tokens.now)) result (searching.modified modifiers search_word.Sort (drop at tokens.now)) }
-{
-    let (sort, left) = sorts_at(alloc, tokens, at)?;
-    Ok((
-        SearchModifiers {
-            sort: Some(sort),
-            ..modifiers
-        },
-        left,
-    ))
-}
-
-// At NOINHERIT, which has nothing behind it.
-#[tactic(auto, unfolding(crate::specs::Searching::modified))]
-fn no_inherit_at(
-    modifiers: SearchModifiers,
-    tokens: &Tokens,
-    at: usize,
-) -> Result<(SearchModifiers, usize), GrammarError>
-    ensures { Reads (λ x. (x.0, drop x.1 tokens.now)) result (searching.modified modifiers search_word.NoInherit (drop at tokens.now)) }
-{
-    Ok((
-        SearchModifiers {
-            no_inherit: true,
-            ..modifiers
-        },
-        at,
-    ))
-}
-
 // Behind the word of a modifier.
+#[tactic(auto, unfolding(crate::specs::Searching::modified))]
 fn modified(
-    alloc: Global,
     modifiers: SearchModifiers,
     word: SearchWord,
-    tokens: &Tokens,
-    at: usize,
-) -> Result<(SearchModifiers, usize), GrammarError>
-    ensures { Reads (λ x. (x.0, drop x.1 tokens.now)) result (searching.modified modifiers word (drop at tokens.now)) }
+    cursor: &mut Cursor<'_>,
+) -> Result<SearchModifiers, GrammarError>
+    ensures { Reads result cursor.new (searching.modified modifiers word cursor.old) }
 {
     match word {
-        SearchWord::Depth => depth_at(modifiers, tokens, at),
-        SearchWord::HardLimit => hard_limit_at(modifiers, tokens, at),
-        SearchWord::Limit => new_limit_at(modifiers, tokens, at),
-        SearchWord::MakeContext => new_context_at(alloc, modifiers, tokens, at),
-        SearchWord::NoInherit => no_inherit_at(modifiers, tokens, at),
-        SearchWord::Return => new_returns_at(alloc, modifiers, tokens, at),
-        SearchWord::Sort => new_sort_at(alloc, modifiers, tokens, at),
+        SearchWord::Depth => Ok(SearchModifiers {
+            depth: Some(number_at(cursor)?),
+            ..modifiers
+        }),
+        SearchWord::HardLimit => Ok(SearchModifiers {
+            hard_limit: Some(number_at(cursor)?),
+            ..modifiers
+        }),
+        SearchWord::Limit => Ok(SearchModifiers {
+            limit: Some(limit_at(cursor)?),
+            ..modifiers
+        }),
+        SearchWord::MakeContext => Ok(SearchModifiers {
+            make_context: Some(make_context_at(cursor)?),
+            ..modifiers
+        }),
+        SearchWord::NoInherit => Ok(SearchModifiers {
+            no_inherit: true,
+            ..modifiers
+        }),
+        SearchWord::Return => Ok(SearchModifiers {
+            returns: Some(returns_at(cursor)?),
+            ..modifiers
+        }),
+        SearchWord::Sort => Ok(SearchModifiers {
+            sort: Some(sorts_at(cursor)?),
+            ..modifiers
+        }),
     }
 }
 
@@ -441,7 +248,7 @@ fn has_modifier(modifiers: &SearchModifiers, word: SearchWord) -> bool
 impl Scope {
     // A modifier that may stand over what is looked through, and didn't stand before.
     fn may_modify(&self, word: SearchWord) -> Result<(), GrammarError>
-        ensures { Gives (λ x. x) result (searching.may_modify self.now word) }
+        ensures { Gives result (searching.may_modify self.now word) }
     {
         if is_context(&self.target) && is_of_datasets(word) {
             return Err(GrammarError::Fault(GrammarFault::Arguments));
@@ -450,85 +257,45 @@ impl Scope {
     }
 }
 
-#[tactic(auto, unfolding(crate::specs::Searching::no_modifier))]
-fn no_modifier(tokens: &Tokens, at: usize) -> bool
-    ensures { result ≡ searching.no_modifier (drop at tokens.now) }
-{
-    let word: Option<(SearchWord, usize)> = word_at(tokens, at);
-    word.is_none()
-}
-
 impl Gather for Scope {
-    ghost over = { searching.no_modifier };
-
-    ghost fits = { searching.no_modifier };
-
     ghost item = { searching.modifier_at };
 
-    fn is_over(tokens: &Tokens, at: usize) -> bool {
-        no_modifier(tokens, at)
-    }
-
-    fn may_start(tokens: &Tokens, at: usize) -> bool {
-        no_modifier(tokens, at)
-    }
-
     #[tactic(auto, unfolding(crate::specs::Searching::modifier_at))]
-    fn gather(
-        self,
-        alloc: Global,
-        tokens: &Tokens,
-        at: usize,
-    ) -> Result<(Scope, usize), GrammarError> {
-        let Some((word, next)) = word_at(tokens, at) else {
+    fn gather(self, cursor: &mut Cursor<'_>) -> Result<Scope, GrammarError> {
+        let Some(word) = cursor.word() else {
             return Err(GrammarError::Fault(GrammarFault::Arguments));
         };
         self.may_modify(word)?;
-        let (modifiers, left) = modified(alloc, self.modifiers, word, tokens, next)?;
-        Ok((
-            Scope {
-                target: self.target,
-                modifiers,
-            },
-            left,
-        ))
+        let modifiers = modified(self.modifiers, word, cursor)?;
+        Ok(Scope {
+            target: self.target,
+            modifiers,
+        })
     }
 }
 
 #[tactic(auto, unfolding(crate::specs::Searching::modifiers_at))]
-fn modifiers_at(
-    alloc: Global,
-    target: Target,
-    tokens: &Tokens,
-    at: usize,
-) -> Result<(Scope, usize), GrammarError>
-    ensures { Reads (λ x. (x.0, drop x.1 tokens.now)) result (searching.modifiers_at target (drop at tokens.now)) }
+fn modifiers_at(target: Target, cursor: &mut Cursor<'_>) -> Result<Scope, GrammarError>
+    ensures { Reads result cursor.new (searching.modifiers_at target cursor.old) }
 {
     let scope = Scope {
         target,
         modifiers: SearchModifiers::none(),
     };
-    several(alloc, scope, 8, tokens, at)
+    several(Series::SearchModifiers, scope, 8, cursor)
 }
 
-/// What stands behind SEARCH, and the index behind it.
+/// What stands behind SEARCH.
 #[tactic(auto, unfolding(crate::specs::Searching::search_at))]
-pub(crate) fn search_at(
-    alloc: Global,
-    tokens: &Tokens,
-    at: usize,
-) -> Result<(Search, usize), GrammarError>
-    ensures { Reads (λ x. (x.0, drop x.1 tokens.now)) result (searching.search_at (drop at tokens.now)) }
+pub(crate) fn search_at(cursor: &mut Cursor<'_>) -> Result<Search, GrammarError>
+    ensures { Reads result cursor.new (searching.search_at cursor.old) }
 {
-    let (target, next) = target_at(alloc, tokens, at)?;
-    let (scope, next) = modifiers_at(alloc, target, tokens, next)?;
-    let (key, next) = key_at(alloc, 32, tokens, next)?;
-    Ok((
-        Search {
-            target: scope.target,
-            modifiers: scope.modifiers,
-            key,
-        },
-        next,
-    ))
+    let target: Target = named_at(cursor)?;
+    let scope = modifiers_at(target, cursor)?;
+    let key = key_at(32, cursor)?;
+    Ok(Search {
+        target: scope.target,
+        modifiers: scope.modifiers,
+        key,
+    })
 }

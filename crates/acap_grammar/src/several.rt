@@ -1,66 +1,87 @@
 //! Items that are read one after the other (RFC 2244 section 8).
 
-ghost use Rattle.std.specs.Prelude.{◌≡◌, ◌<◌, List, Bool, drop};
+ghost use Rattle.std.specs.Prelude.{◌≡◌, ◌<◌, List};
 ghost use Rattle.acap_lexer.specs.Token.{Token};
 ghost use Rattle.acap_grammar.specs.Outcome.{Read, Reads};
-ghost use Rattle.acap_grammar.specs.Several.{several, some_of, enclosed};
+ghost use Rattle.acap_grammar.specs.Series.{over, fits};
+ghost use Rattle.acap_grammar.specs.Several.{several, some_of, strings_enclosed};
 
-use crate::descent::{behind_close, behind_open};
+use crate::cursor::Cursor;
 use crate::grammar_error::GrammarError;
 use crate::grammar_fault::GrammarFault;
-use acap_lexer::Tokens;
-use std::alloc::Global;
+use crate::words::{SearchWord, StoreWord};
 
-/// What is gathered item by item, until no further one comes.
+/// How items stand one after the other.
+#[derive(Clone, Copy, PartialEq, Eq)]
+pub(crate) enum Series {
+    /// Each begins with a string, up to the parenthesis that closes them.
+    Enclosed,
+    /// Each begins with a string, up to the end of the line.
+    Strings,
+    /// Each begins with a parenthesis, up to the end of the line.
+    Entries,
+    /// Each begins with the word of a STORE's modifier.
+    StoreModifiers,
+    /// Each begins with the word of a SEARCH's modifier.
+    SearchModifiers,
+}
+
+impl Series {
+    // Whether no further item comes.
+    #[tactic(auto, unfolding(crate::specs::Storing::no_condition, crate::specs::Searching::no_modifier))]
+    fn is_over(self, cursor: &Cursor<'_>) -> bool
+        ensures { result ≡ over self cursor.now }
+    {
+        match self {
+            Series::Enclosed => cursor.closes(),
+            Series::Strings | Series::Entries => cursor.ends(),
+            Series::StoreModifiers => cursor.lacks_word::<StoreWord>(),
+            Series::SearchModifiers => cursor.lacks_word::<SearchWord>(),
+        }
+    }
+
+    // Whether the first token is of a kind with which an item starts, so that it is one item too many.
+    fn may_start(self, cursor: &Cursor<'_>) -> bool
+        ensures { result ≡ fits self cursor.now }
+    {
+        match self {
+            Series::Enclosed | Series::Strings => cursor.starts_string(),
+            Series::Entries => cursor.opens(),
+            Series::StoreModifiers | Series::SearchModifiers => self.is_over(cursor),
+        }
+    }
+}
+
+/// What is gathered item by item.
 pub(crate) trait Gather: Drop + Sized {
-    ghost over: { List Token → Bool };
-
-    ghost fits: { List Token → Bool };
-
     ghost item: { Self → List Token → Read Self };
 
-    /// Whether no further item comes.
-    fn is_over(tokens: &Tokens, at: usize) -> bool
-        ensures { result ≡ over (drop at tokens.now) };
-
-    /// Whether the token is of a kind with which an item starts.
-    fn may_start(tokens: &Tokens, at: usize) -> bool
-        ensures { result ≡ fits (drop at tokens.now) };
-
-    /// One item more, and the index behind it.
-    fn gather(
-        self,
-        alloc: Global,
-        tokens: &Tokens,
-        at: usize,
-    ) -> Result<(Self, usize), GrammarError>
-        ensures { Reads (λ x. (x.0, drop x.1 tokens.now)) result (item self (drop at tokens.now)) };
+    /// One item more.
+    fn gather(self, cursor: &mut Cursor<'_>) -> Result<Self, GrammarError>
+        ensures { Reads result cursor.new (item self cursor.old) };
 }
 
 /// Items behind those seen, so many at most.
+#[tactic(auto, using(crate::proofs::SeveralSteps::goes_on), unfolding(crate::specs::Several::several))]
 pub(crate) fn several<S: Gather>(
-    alloc: Global,
+    series: Series,
     seen: S,
     room: u32,
-    tokens: &Tokens,
-    at: usize,
-) -> Result<(S, usize), GrammarError>
-    ensures { Reads (λ x. (x.0, drop x.1 tokens.now)) result (several S.over S.fits S.item room seen (drop at tokens.now)) }
+    cursor: &mut Cursor<'_>,
+) -> Result<S, GrammarError>
+    ensures { Reads result cursor.new (several (over series) (fits series) S.item room seen cursor.old) }
 {
     let mut all = seen;
-    let mut next = at;
     for _ in 0..room {
-        if S::is_over(tokens, next) {
-            return Ok((all, next));
+        if series.is_over(cursor) {
+            return Ok(all);
         }
-        let (more, left) = all.gather(alloc, tokens, next)?;
-        all = more;
-        next = left;
+        all = all.gather(cursor)?;
     }
-    if S::is_over(tokens, next) {
-        return Ok((all, next));
+    if series.is_over(cursor) {
+        return Ok(all);
     }
-    if S::may_start(tokens, next) {
+    if series.may_start(cursor) {
         return Err(GrammarError::Fault(GrammarFault::TooMany));
     }
     Err(GrammarError::Fault(GrammarFault::Arguments))
@@ -69,33 +90,30 @@ pub(crate) fn several<S: Gather>(
 /// One item or more, and so many at most.
 #[tactic(auto, unfolding(crate::specs::Several::some_of))]
 pub(crate) fn some_of<S: Gather>(
-    alloc: Global,
+    series: Series,
     none: S,
     most: u32,
-    tokens: &Tokens,
-    at: usize,
-) -> Result<(S, usize), GrammarError>
+    cursor: &mut Cursor<'_>,
+) -> Result<S, GrammarError>
     requires { 0 < most }
-    ensures { Reads (λ x. (x.0, drop x.1 tokens.now)) result (some_of S.over S.fits S.item most none (drop at tokens.now)) }
+    ensures { Reads result cursor.new (some_of (over series) (fits series) S.item most none cursor.old) }
 {
-    let (first, next) = none.gather(alloc, tokens, at)?;
-    several(alloc, first, most - 1, tokens, next)
+    let first = none.gather(cursor)?;
+    several(series, first, most - 1, cursor)
 }
 
 /// The same in a parenthesis.
 #[tactic(auto, unfolding(crate::specs::Several::enclosed))]
 pub(crate) fn enclosed<S: Gather>(
-    alloc: Global,
     none: S,
     most: u32,
-    tokens: &Tokens,
-    at: usize,
-) -> Result<(S, usize), GrammarError>
+    cursor: &mut Cursor<'_>,
+) -> Result<S, GrammarError>
     requires { 0 < most }
-    ensures { Reads (λ x. (x.0, drop x.1 tokens.now)) result (enclosed S.over S.fits S.item most none (drop at tokens.now)) }
+    ensures { Reads result cursor.new (strings_enclosed S.item most none cursor.old) }
 {
-    let inside = behind_open(tokens, at)?;
-    let (items, next) = some_of(alloc, none, most, tokens, inside)?;
-    let left = behind_close(tokens, next)?;
-    Ok((items, left))
+    cursor.pass_open()?;
+    let items = some_of(Series::Enclosed, none, most, cursor)?;
+    cursor.pass_close()?;
+    Ok(items)
 }

@@ -1,32 +1,30 @@
 //! The entries of a STORE (RFC 2244 section 6.6.1).
 
-ghost use Rattle.std.specs.Prelude.{◌≡◌, ◌++◌, ◌∷◌, [], drop, IfOk, Ok};
-ghost use Rattle.acap_grammar.specs.Outcome.{Gives, Reads};
-ghost use Rattle.acap_grammar.specs.Marks.{is_string, is_open, is_close, ends as ends_tokens, starts};
-ghost use Rattle.acap_grammar.specs.Several.{several as items_behind};
+ghost use Rattle.std.specs.Prelude.{◌≡◌, [], IfOk};
+ghost use Rattle.acap_grammar.specs.Outcome.{Finds, Gives, Reads};
+ghost use Rattle.acap_grammar.specs.Marks.{word_at};
 ghost use Rattle.acap_grammar.specs.Storing as storing;
+ghost use Rattle.acap_grammar.specs.Storing.{with_gift};
 
-use crate::arguments::{attribute_at, path_at, time_at};
-use crate::descent::{
-    Piece, behind_close, behind_open, closes, ends, opens, peek, starts_string, string_at,
-};
+use crate::arguments::{Named, named_at};
+use crate::cursor::Cursor;
 use crate::gathered::{GatheredEntries, GatheredItems};
 use crate::grammar_error::GrammarError;
 use crate::grammar_fault::GrammarFault;
-use crate::several::{Gather, enclosed, some_of};
-use crate::words::{StoreWord, word_at};
+use crate::several::{Gather, Series, enclosed, several, some_of};
+use crate::words::{STORE_METADATA, StoreWord, named_by};
 use acap_commands::{
     Entries, Given, StoreEntry, StoreItem, StoreItems, StoreMetadata, StoreModifiers,
 };
 use acap_entries::{Attribute, Cell, Copying, Memory, Path, Value, Values};
-use acap_lexer::{Kind, Tokens};
+use acap_lexer::Kind;
 use std::alloc::Global;
 
 // ---- what may stand once
 
 /// Goes on where what may stand once didn't stand before.
 pub(crate) fn once(stood: bool) -> Result<(), GrammarError>
-    ensures { Gives (λ x. x) result (storing.once stood) }
+    ensures { Gives result (storing.once stood) }
 {
     if stood {
         Err(GrammarError::Fault(GrammarFault::NotPermittedTwice))
@@ -39,71 +37,74 @@ pub(crate) fn once(stood: bool) -> Result<(), GrammarError>
 
 // The strings up to the parenthesis that closes them.
 #[tactic(auto, unfolding(crate::specs::Storing::strings_at))]
-fn strings_at(alloc: Global, tokens: &Tokens, at: usize) -> Result<(Values, usize), GrammarError>
-    ensures { Reads (λ x. (x.0, drop x.1 tokens.now)) result (storing.strings_at [] (drop at tokens.now)) }
+fn strings_at(cursor: &mut Cursor<'_>) -> Result<Values, GrammarError>
+    ensures { Reads result cursor.new (storing.strings_at [] cursor.old) }
 {
-    let mut strings = Values::new(alloc);
-    let mut next = at;
-    while let Some(piece) = peek(tokens, next) {
+    let mut strings = Values::new(cursor.alloc());
+    while let Some(piece) = cursor.first() {
+        cursor.pass();
         match piece.kind {
-            Kind::Close => return Ok((strings, piece.next)),
+            Kind::Close => return Ok(strings),
             Kind::Quoted | Kind::Literal => {
-                strings.push(Value::from_slice(alloc, piece.value)?)?;
+                strings.push(Value::from_slice(cursor.alloc(), piece.value)?)?;
             }
             _ => return Err(GrammarError::Fault(GrammarFault::Arguments)),
         }
-        next = piece.next;
     }
     Err(GrammarError::Fault(GrammarFault::Arguments))
 }
 
+// NIL or DEFAULT.
+#[tactic(auto, unfolding(crate::specs::Marks::word_at, crate::specs::Marks::behind_word))]
+fn given_word(cursor: &mut Cursor<'_>) -> Option<Given>
+    ensures { Finds result cursor.old cursor.new (word_at storing.given_words cursor.old) }
+{
+    if cursor.pass_word(b"NIL") {
+        return Some(Given::Put(Cell::Nil));
+    }
+    if cursor.pass_word(b"DEFAULT") {
+        return Some(Given::Default);
+    }
+    None
+}
+
 // A string, NIL or DEFAULT.
 #[tactic(auto, unfolding(crate::specs::Storing::plain_at))]
-fn plain_at(alloc: Global, tokens: &Tokens, at: usize) -> Result<(Given, usize), GrammarError>
-    ensures { Reads (λ x. (x.0, drop x.1 tokens.now)) result (storing.plain_at (drop at tokens.now)) }
+fn plain_at(cursor: &mut Cursor<'_>) -> Result<Given, GrammarError>
+    ensures { Reads result cursor.new (storing.plain_at cursor.old) }
 {
-    if starts_string(tokens, at) {
-        let (text, next) = string_at(tokens, at)?;
-        let value = Value::from_slice(alloc, text)?;
-        return Ok((Given::Put(Cell::Single(value)), next));
+    if cursor.starts_string() {
+        return Ok(Given::Put(Cell::Single(cursor.value()?)));
     }
-    match word_at(tokens, at) {
-        Some((given, next)) => Ok((given, next)),
+    match given_word(cursor) {
+        Some(given) => Ok(given),
         None => Err(GrammarError::Fault(GrammarFault::Arguments)),
     }
 }
 
 // One of these, or a list.
-#[tactic(auto, unfolding(crate::specs::Storing::given_at, crate::specs::Marks::starts))]
-fn given_at(alloc: Global, tokens: &Tokens, at: usize) -> Result<(Given, usize), GrammarError>
-    ensures { Reads (λ x. (x.0, drop x.1 tokens.now)) result (storing.given_at (drop at tokens.now)) }
+#[tactic(auto, unfolding(crate::specs::Storing::given_at))]
+fn given_at(cursor: &mut Cursor<'_>) -> Result<Given, GrammarError>
+    ensures { Reads result cursor.new (storing.given_at cursor.old) }
 {
-    match peek(tokens, at) {
-        Some(
-            Piece {
-                kind: Kind::Open,
-                next,
-                ..
-            },
-        ) => {
-            let (strings, left) = strings_at(alloc, tokens, next)?;
-            Ok((Given::Put(Cell::Multi(strings)), left))
-        }
-        _ => plain_at(alloc, tokens, at),
+    if cursor.opens() {
+        cursor.pass();
+        Ok(Given::Put(Cell::Multi(strings_at(cursor)?)))
+    } else {
+        plain_at(cursor)
     }
 }
 
 // ---- an item
 
-fn metadata_named(text: &[u8]) -> Result<StoreMetadata, GrammarError>
-    ensures { Gives (λ x. x) result (storing.metadata_named text.now) }
-{
-    if text == b"value".as_slice() {
-        Ok(StoreMetadata::Value)
-    } else if text == b"acl".as_slice() {
-        Ok(StoreMetadata::Acl)
-    } else {
-        Err(GrammarError::Fault(GrammarFault::Arguments))
+impl Named for StoreMetadata {
+    ghost named = { storing.metadata_named };
+
+    fn of_text(_alloc: Global, text: &[u8]) -> Result<StoreMetadata, GrammarError> {
+        match named_by(&STORE_METADATA, text) {
+            Some(metadata) => Ok(metadata),
+            None => Err(GrammarError::Fault(GrammarFault::Arguments)),
+        }
     }
 }
 
@@ -117,7 +118,7 @@ pub(crate) struct Gifts {
 impl Gifts {
     // One thing more for the attribute.
     fn put(self, metadata: StoreMetadata, given: Given) -> Result<Gifts, Memory>
-        ensures { IfOk result (λ made. made ≡ record self { items = self.items ++ record { attribute = self.attribute; metadata = metadata; given = given } ∷ [] }) }
+        ensures { IfOk result (λ made. made ≡ record self { items = with_gift self metadata given }) }
     {
         let attribute = self.attribute.copy()?;
         let items = self.items.with(StoreItem {
@@ -130,12 +131,10 @@ impl Gifts {
             items,
         })
     }
-}
 
-impl Gifts {
     // One last thing for the attribute, which moves there.
     fn put_last(self, metadata: StoreMetadata, given: Given) -> Result<GatheredItems, Memory>
-        ensures { IfOk result (λ made. made ≡ self.items ++ record { attribute = self.attribute; metadata = metadata; given = given } ∷ []) }
+        ensures { IfOk result (λ made. made ≡ with_gift self metadata given) }
     {
         let Gifts { attribute, items } = self;
         items.with(StoreItem {
@@ -147,92 +146,52 @@ impl Gifts {
 }
 
 impl Gather for Gifts {
-    ghost over = { starts is_close };
-
-    ghost fits = { starts is_string };
-
     ghost item = { storing.gift_at };
 
-    fn is_over(tokens: &Tokens, at: usize) -> bool {
-        closes(tokens, at)
-    }
-
-    fn may_start(tokens: &Tokens, at: usize) -> bool {
-        starts_string(tokens, at)
-    }
-
-    #[tactic(auto, unfolding(crate::specs::Storing::gift_at, crate::specs::Arguments::named_at))]
-    fn gather(
-        self,
-        alloc: Global,
-        tokens: &Tokens,
-        at: usize,
-    ) -> Result<(Gifts, usize), GrammarError> {
-        let (text, next) = string_at(tokens, at)?;
-        let metadata = metadata_named(text)?;
+    #[tactic(auto, unfolding(crate::specs::Storing::gift_at))]
+    fn gather(self, cursor: &mut Cursor<'_>) -> Result<Gifts, GrammarError> {
+        let metadata: StoreMetadata = named_at(cursor)?;
         once(self.items.has_item(&self.attribute, metadata))?;
-        let (given, left) = given_at(alloc, tokens, next)?;
-        Ok((self.put(metadata, given)?, left))
+        let given = given_at(cursor)?;
+        Ok(self.put(metadata, given)?)
     }
 }
 
 // Behind an attribute: what its value is given, or its metadata.
 #[tactic(auto, unfolding(crate::specs::Storing::gifts_at))]
-fn gifts_at(
-    alloc: Global,
-    seen: Gifts,
-    tokens: &Tokens,
-    at: usize,
-) -> Result<(GatheredItems, usize), GrammarError>
-    ensures { Reads (λ x. (x.0, drop x.1 tokens.now)) result (storing.gifts_at seen (drop at tokens.now)) }
+fn gifts_at(seen: Gifts, cursor: &mut Cursor<'_>) -> Result<GatheredItems, GrammarError>
+    ensures { Reads result cursor.new (storing.gifts_at seen cursor.old) }
 {
-    if opens(tokens, at) {
-        let (gifts, left) = enclosed(alloc, seen, 3, tokens, at)?;
-        return Ok((gifts.items, left));
+    if cursor.opens() {
+        let gifts = enclosed(seen, 3, cursor)?;
+        return Ok(gifts.items);
     }
-    let (given, left) = plain_at(alloc, tokens, at)?;
-    let items = seen.put_last(StoreMetadata::Value, given)?;
-    Ok((items, left))
+    let given = plain_at(cursor)?;
+    Ok(seen.put_last(StoreMetadata::Value, given)?)
 }
 
 impl Gather for GatheredItems {
-    ghost over = { starts is_close };
-
-    ghost fits = { starts is_string };
-
     ghost item = { storing.item_at };
 
-    fn is_over(tokens: &Tokens, at: usize) -> bool {
-        closes(tokens, at)
-    }
-
-    fn may_start(tokens: &Tokens, at: usize) -> bool {
-        starts_string(tokens, at)
-    }
-
     #[tactic(auto, unfolding(crate::specs::Storing::item_at))]
-    fn gather(
-        self,
-        alloc: Global,
-        tokens: &Tokens,
-        at: usize,
-    ) -> Result<(GatheredItems, usize), GrammarError> {
-        let (attribute, next) = attribute_at(alloc, tokens, at)?;
+    fn gather(self, cursor: &mut Cursor<'_>) -> Result<GatheredItems, GrammarError> {
+        let attribute: Attribute = named_at(cursor)?;
         once(self.has_attribute(&attribute))?;
         let seen = Gifts {
             attribute,
             items: self,
         };
-        gifts_at(alloc, seen, tokens, next)
+        gifts_at(seen, cursor)
     }
 }
 
 #[tactic(auto, unfolding(crate::specs::Storing::items_at))]
-fn items_at(alloc: Global, tokens: &Tokens, at: usize) -> Result<(StoreItems, usize), GrammarError>
-    ensures { Reads (λ x. (x.0, drop x.1 tokens.now)) result (storing.items_at (drop at tokens.now)) }
+fn items_at(cursor: &mut Cursor<'_>) -> Result<StoreItems, GrammarError>
+    ensures { Reads result cursor.new (storing.items_at cursor.old) }
 {
-    let (gathered, left) = some_of(alloc, GatheredItems::new(alloc), 256, tokens, at)?;
-    Ok((gathered.items, left))
+    let none = GatheredItems::new(cursor.alloc());
+    let gathered = some_of(Series::Enclosed, none, 256, cursor)?;
+    Ok(gathered.items)
 }
 
 // ---- modifiers
@@ -252,146 +211,83 @@ fn has_condition(seen: &StoreModifiers, word: StoreWord) -> bool
 fn conditioned(
     seen: StoreModifiers,
     word: StoreWord,
-    tokens: &Tokens,
-    at: usize,
-) -> Result<(StoreModifiers, usize), GrammarError>
-    ensures { Reads (λ x. (x.0, drop x.1 tokens.now)) result (storing.conditioned seen word (drop at tokens.now)) }
+    cursor: &mut Cursor<'_>,
+) -> Result<StoreModifiers, GrammarError>
+    ensures { Reads result cursor.new (storing.conditioned seen word cursor.old) }
 {
     match word {
-        StoreWord::NoCreate => Ok((
-            StoreModifiers {
-                no_create: true,
-                ..seen
-            },
-            at,
-        )),
-        StoreWord::UnchangedSince => {
-            let (since, left) = time_at(tokens, at)?;
-            Ok((
-                StoreModifiers {
-                    unchanged_since: Some(since),
-                    ..seen
-                },
-                left,
-            ))
-        }
+        StoreWord::NoCreate => Ok(StoreModifiers {
+            no_create: true,
+            ..seen
+        }),
+        StoreWord::UnchangedSince => Ok(StoreModifiers {
+            unchanged_since: Some(named_at(cursor)?),
+            ..seen
+        }),
     }
 }
 
-#[tactic(auto, unfolding(crate::specs::Storing::no_condition))]
-fn no_condition(tokens: &Tokens, at: usize) -> bool
-    ensures { result ≡ storing.no_condition (drop at tokens.now) }
-{
-    let word: Option<(StoreWord, usize)> = word_at(tokens, at);
-    word.is_none()
-}
+impl Gather for StoreModifiers {
+    ghost item = { storing.condition_at };
 
-#[tactic(auto, unfolding(crate::specs::Storing::condition_at))]
-fn condition_at(
-    seen: StoreModifiers,
-    tokens: &Tokens,
-    at: usize,
-) -> Result<(StoreModifiers, usize), GrammarError>
-    ensures { Reads (λ x. (x.0, drop x.1 tokens.now)) result (storing.condition_at seen (drop at tokens.now)) }
-{
-    match word_at(tokens, at) {
-        Some((word, next)) => {
-            once(has_condition(&seen, word))?;
-            conditioned(seen, word, tokens, next)
-        }
-        None => Err(GrammarError::Fault(GrammarFault::Arguments)),
+    #[tactic(auto, unfolding(crate::specs::Storing::condition_at))]
+    fn gather(self, cursor: &mut Cursor<'_>) -> Result<StoreModifiers, GrammarError> {
+        let Some(word) = cursor.word() else {
+            return Err(GrammarError::Fault(GrammarFault::Arguments));
+        };
+        once(has_condition(&self, word))?;
+        conditioned(self, word, cursor)
     }
-}
-
-// Modifiers behind those seen, so many at most.
-#[tactic(auto, unfolding(crate::specs::Several::several))]
-fn conditions_behind(
-    seen: StoreModifiers,
-    room: u32,
-    tokens: &Tokens,
-    at: usize,
-) -> Result<(StoreModifiers, usize), GrammarError>
-    ensures { Reads (λ x. (x.0, drop x.1 tokens.now)) result (items_behind storing.no_condition storing.no_condition storing.condition_at room seen (drop at tokens.now)) }
-{
-    if no_condition(tokens, at) {
-        return Ok((seen, at));
-    }
-    if room == 0 {
-        return Err(GrammarError::Fault(GrammarFault::Arguments));
-    }
-    let (more, left) = condition_at(seen, tokens, at)?;
-    conditions_behind(more, room - 1, tokens, left)
 }
 
 #[tactic(auto, unfolding(crate::specs::Storing::conditions_at))]
-fn conditions_at(tokens: &Tokens, at: usize) -> Result<(StoreModifiers, usize), GrammarError>
-    ensures { Reads (λ x. (x.0, drop x.1 tokens.now)) result (storing.conditions_at (drop at tokens.now)) }
+fn conditions_at(cursor: &mut Cursor<'_>) -> Result<StoreModifiers, GrammarError>
+    ensures { Reads result cursor.new (storing.conditions_at cursor.old) }
 {
-    conditions_behind(StoreModifiers::none(), 3, tokens, at)
+    // Written out: behind a call of `none` the prover misses the option in it.
+    let none = StoreModifiers {
+        no_create: false,
+        unchanged_since: None,
+    };
+    several(Series::StoreModifiers, none, 3, cursor)
 }
 
 // ---- entries
 
 #[tactic(auto, unfolding(crate::specs::Storing::path_at))]
-fn new_path_at(
-    alloc: Global,
-    seen: &GatheredEntries,
-    tokens: &Tokens,
-    at: usize,
-) -> Result<(Path, usize), GrammarError>
-    ensures { Reads (λ x. (x.0, drop x.1 tokens.now)) result (storing.path_at seen.now (drop at tokens.now)) }
+fn new_path_at(seen: &GatheredEntries, cursor: &mut Cursor<'_>) -> Result<Path, GrammarError>
+    ensures { Reads result cursor.new (storing.path_at seen.now cursor.old) }
 {
-    let (path, next) = path_at(alloc, tokens, at)?;
+    let path: Path = named_at(cursor)?;
     once(seen.has_path(&path))?;
-    Ok((path, next))
+    Ok(path)
 }
 
 impl Gather for GatheredEntries {
-    ghost over = { ends_tokens };
-
-    ghost fits = { starts is_open };
-
     ghost item = { storing.entry_at };
 
-    fn is_over(tokens: &Tokens, at: usize) -> bool {
-        ends(tokens, at)
-    }
-
-    fn may_start(tokens: &Tokens, at: usize) -> bool {
-        opens(tokens, at)
-    }
-
     #[tactic(auto, unfolding(crate::specs::Storing::entry_at))]
-    fn gather(
-        self,
-        alloc: Global,
-        tokens: &Tokens,
-        at: usize,
-    ) -> Result<(GatheredEntries, usize), GrammarError> {
-        let inside = behind_open(tokens, at)?;
-        let (path, next) = new_path_at(alloc, &self, tokens, inside)?;
-        let (modifiers, next) = conditions_at(tokens, next)?;
-        let (items, next) = items_at(alloc, tokens, next)?;
-        let left = behind_close(tokens, next)?;
+    fn gather(self, cursor: &mut Cursor<'_>) -> Result<GatheredEntries, GrammarError> {
+        cursor.pass_open()?;
+        let path = new_path_at(&self, cursor)?;
+        let modifiers = conditions_at(cursor)?;
+        let items = items_at(cursor)?;
+        cursor.pass_close()?;
         let entry = StoreEntry {
             path,
             modifiers,
             items,
         };
-        let entries = self.with(alloc, entry)?;
-        Ok((entries, left))
+        Ok(self.with(cursor.alloc(), entry)?)
     }
 }
 
 /// The entries up to the end of the line.
 #[tactic(auto, unfolding(crate::specs::Storing::entries_at))]
-pub(crate) fn entries_at(
-    alloc: Global,
-    tokens: &Tokens,
-    at: usize,
-) -> Result<(Entries, usize), GrammarError>
-    ensures { Reads (λ x. (x.0, drop x.1 tokens.now)) result (storing.entries_at (drop at tokens.now)) }
+pub(crate) fn entries_at(cursor: &mut Cursor<'_>) -> Result<Entries, GrammarError>
+    ensures { Reads result cursor.new (storing.entries_at cursor.old) }
 {
-    let (gathered, left) = some_of(alloc, GatheredEntries::new(alloc), 256, tokens, at)?;
-    Ok((gathered.entries, left))
+    let none = GatheredEntries::new(cursor.alloc());
+    let gathered = some_of(Series::Entries, none, 256, cursor)?;
+    Ok(gathered.entries)
 }

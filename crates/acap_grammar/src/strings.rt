@@ -1,7 +1,7 @@
 //! Strings and lists of strings, as octets.
 
-ghost use Rattle.std.specs.Prelude.{◌≡◌, ◌++◌, OnOk};
-ghost use Rattle.acap_lexer.specs.Printing.{printed, Grows};
+ghost use Rattle.acap_lexer.specs.Printing.{printed};
+ghost use Rattle.acap_grammar.specs.Appending.{Appends};
 ghost use Rattle.acap_grammar.specs.Replies.{spaced, list_form};
 ghost use Rattle.acap_grammar.specs.Refusals.{path_form};
 
@@ -9,8 +9,7 @@ use acap_entries::{Memory, Path, Value};
 use acap_lexer::print_string;
 
 pub(crate) fn append_string(text: &[u8], out: &mut Vec<u8>) -> Result<(), Memory>
-    ensures ok { OnOk result (out.new.items ≡ out.old.items ++ printed text.now) }
-    ensures grows { Grows out.old.items out.new.items }
+    ensures { Appends result out.old.items out.new.items (printed text.now) }
 {
     match print_string(text, out) {
         Ok(()) => Ok(()),
@@ -20,8 +19,7 @@ pub(crate) fn append_string(text: &[u8], out: &mut Vec<u8>) -> Result<(), Memory
 
 /// Each behind a space.
 pub(crate) fn append_spaced(values: &[Value], out: &mut Vec<u8>) -> Result<(), Memory>
-    ensures ok { OnOk result (out.new.items ≡ out.old.items ++ spaced printed values.now) }
-    ensures grows { Grows out.old.items out.new.items }
+    ensures { Appends result out.old.items out.new.items (spaced printed values.now) }
 {
     for value in values {
         out.push(b' ')?;
@@ -32,8 +30,7 @@ pub(crate) fn append_spaced(values: &[Value], out: &mut Vec<u8>) -> Result<(), M
 
 #[tactic(auto, unfolding(crate::specs::Replies::list_form))]
 pub(crate) fn append_values(values: &[Value], out: &mut Vec<u8>) -> Result<(), Memory>
-    ensures ok { OnOk result (out.new.items ≡ out.old.items ++ list_form printed values.now) }
-    ensures grows { Grows out.old.items out.new.items }
+    ensures { Appends result out.old.items out.new.items (list_form printed values.now) }
 {
     out.push(b'(')?;
     if let Some((first, others)) = values.split_first() {
@@ -46,8 +43,7 @@ pub(crate) fn append_values(values: &[Value], out: &mut Vec<u8>) -> Result<(), M
 
 #[tactic(auto, unfolding(crate::specs::Refusals::path_form))]
 pub(crate) fn append_path(path: &Path, out: &mut Vec<u8>) -> Result<(), Memory>
-    ensures ok { OnOk result (out.new.items ≡ out.old.items ++ path_form path.now) }
-    ensures grows { Grows out.old.items out.new.items }
+    ensures { Appends result out.old.items out.new.items (path_form path.now) }
 {
     let mut whole = Vec::from_slice(*out.allocator(), path.dataset.as_slice())?;
     whole.extend_from_slice(path.name.as_slice())?;

@@ -1,39 +1,10 @@
 //! The words that stand in commands beside their verbs (RFC 2244 sections 6.4.1 and 6.6.1).
 
-ghost use Rattle.std.specs.Prelude.{◌≡◌, ℕ, List, drop, option_map};
-ghost use Rattle.acap_grammar.specs.Marks.{word_in, word_at};
+ghost use Rattle.std.specs.Prelude.{◌≡◌, ℕ, List};
+ghost use Rattle.acap_grammar.specs.Marks.{text_in, word_in};
+ghost use Rattle.acap_grammar.specs.Rows.{rows_of};
 
-use crate::descent::{Piece, peek};
-use acap_commands::{Given, Relation, Verb};
-use acap_entries::Cell;
-use acap_lexer::{Kind, Tokens};
-
-/// What words stand for, which are read in any case.
-pub(crate) trait Spelled: Drop + Sized {
-    ghost table: { List (List ℕ × Self) };
-
-    /// What a word stands for.
-    fn spelled(word: &[u8]) -> Option<Self>
-        ensures { result ≡ word_in table word.now };
-}
-
-/// What the word that stands first stands for, and the index behind it.
-#[tactic(auto, unfolding(crate::specs::Marks::word_at))]
-pub(crate) fn word_at<W: Spelled>(tokens: &Tokens, at: usize) -> Option<(W, usize)>
-    ensures { option_map (λ x. (x.0, drop x.1 tokens.now)) result ≡ word_at W.table (drop at tokens.now) }
-{
-    match peek(tokens, at) {
-        Some(
-            Piece {
-                kind: Kind::Word,
-                value,
-                next,
-                ..
-            },
-        ) => Some((W::spelled(value)?, next)),
-        _ => None,
-    }
-}
+use acap_commands::{Metadata, Relation, StoreMetadata, Verb};
 
 /// The modifiers of a STORE's entry.
 #[derive(Clone, Copy, PartialEq, Eq)]
@@ -80,19 +51,102 @@ pub(crate) enum KeyWord {
     Meets(Relation),
 }
 
+const VERBS: [(&[u8], Verb); 12] = [
+    (b"NOOP", Verb::Noop),
+    (b"LOGOUT", Verb::Logout),
+    (b"AUTHENTICATE", Verb::Authenticate),
+    (b"STORE", Verb::Store),
+    (b"SEARCH", Verb::Search),
+    (b"SETACL", Verb::SetAcl),
+    (b"DELETEACL", Verb::DeleteAcl),
+    (b"MYRIGHTS", Verb::MyRights),
+    (b"LISTRIGHTS", Verb::ListRights),
+    (b"DELETEDSINCE", Verb::DeletedSince),
+    (b"FREECONTEXT", Verb::FreeContext),
+    (b"UPDATECONTEXT", Verb::UpdateContext),
+];
+
+const STORE_WORDS: [(&[u8], StoreWord); 2] = [
+    (b"NOCREATE", StoreWord::NoCreate),
+    (b"UNCHANGEDSINCE", StoreWord::UnchangedSince),
+];
+
+const SEARCH_WORDS: [(&[u8], SearchWord); 7] = [
+    (b"DEPTH", SearchWord::Depth),
+    (b"HARDLIMIT", SearchWord::HardLimit),
+    (b"LIMIT", SearchWord::Limit),
+    (b"MAKECONTEXT", SearchWord::MakeContext),
+    (b"NOINHERIT", SearchWord::NoInherit),
+    (b"RETURN", SearchWord::Return),
+    (b"SORT", SearchWord::Sort),
+];
+
+const KEY_WORDS: [(&[u8], KeyWord); 10] = [
+    (b"ALL", KeyWord::All),
+    (b"AND", KeyWord::And),
+    (b"OR", KeyWord::Or),
+    (b"NOT", KeyWord::Not),
+    (b"RANGE", KeyWord::Range),
+    (b"EQUAL", KeyWord::Meets(Relation::Equal)),
+    (b"COMPARE", KeyWord::Meets(Relation::AtLeast)),
+    (b"COMPARESTRICT", KeyWord::Meets(Relation::Greater)),
+    (b"PREFIX", KeyWord::Meets(Relation::Begins)),
+    (b"SUBSTRING", KeyWord::Meets(Relation::Contains)),
+];
+
+/// The metadata that may be stored.
+pub(crate) const STORE_METADATA: [(&[u8], StoreMetadata); 2] = [
+    (b"value", StoreMetadata::Value),
+    (b"acl", StoreMetadata::Acl),
+];
+
+/// The metadata that are told.
+pub(crate) const METADATA: [(&[u8], Metadata); 5] = [
+    (b"acl", Metadata::Acl),
+    (b"attribute", Metadata::Attribute),
+    (b"myrights", Metadata::MyRights),
+    (b"size", Metadata::Size),
+    (b"value", Metadata::Value),
+];
+
+/// What a table has beside a word, which is read in any case.
+fn meaning<W: Copy>(table: &[(&[u8], W)], word: &[u8]) -> Option<W>
+    ensures { result ≡ word_in (rows_of table.now) word.now }
+{
+    let (row, others) = table.split_first()?;
+    if word.eq_ignore_ascii_case(row.0) {
+        Some(row.1)
+    } else {
+        meaning(others, word)
+    }
+}
+
+/// What words stand for, which are read in any case.
+pub(crate) trait Spelled: Copy {
+    ghost table: { List (List ℕ × Self) };
+
+    /// What a word stands for.
+    fn spelled(word: &[u8]) -> Option<Self>
+        ensures { result ≡ word_in table word.now };
+}
+
+impl Spelled for Verb {
+    ghost use Rattle.acap_grammar.specs.Grammar.{verbs};
+
+    ghost table = { verbs };
+
+    fn spelled(word: &[u8]) -> Option<Verb> {
+        meaning(&VERBS, word)
+    }
+}
+
 impl Spelled for StoreWord {
     ghost use Rattle.acap_grammar.specs.Storing.{store_words};
 
     ghost table = { store_words };
 
     fn spelled(word: &[u8]) -> Option<StoreWord> {
-        if word.eq_ignore_ascii_case(b"NOCREATE") {
-            Some(StoreWord::NoCreate)
-        } else if word.eq_ignore_ascii_case(b"UNCHANGEDSINCE") {
-            Some(StoreWord::UnchangedSince)
-        } else {
-            None
-        }
+        meaning(&STORE_WORDS, word)
     }
 }
 
@@ -102,23 +156,7 @@ impl Spelled for SearchWord {
     ghost table = { search_words };
 
     fn spelled(word: &[u8]) -> Option<SearchWord> {
-        if word.eq_ignore_ascii_case(b"DEPTH") {
-            Some(SearchWord::Depth)
-        } else if word.eq_ignore_ascii_case(b"HARDLIMIT") {
-            Some(SearchWord::HardLimit)
-        } else if word.eq_ignore_ascii_case(b"LIMIT") {
-            Some(SearchWord::Limit)
-        } else if word.eq_ignore_ascii_case(b"MAKECONTEXT") {
-            Some(SearchWord::MakeContext)
-        } else if word.eq_ignore_ascii_case(b"NOINHERIT") {
-            Some(SearchWord::NoInherit)
-        } else if word.eq_ignore_ascii_case(b"RETURN") {
-            Some(SearchWord::Return)
-        } else if word.eq_ignore_ascii_case(b"SORT") {
-            Some(SearchWord::Sort)
-        } else {
-            None
-        }
+        meaning(&SEARCH_WORDS, word)
     }
 }
 
@@ -128,80 +166,18 @@ impl Spelled for KeyWord {
     ghost table = { key_words };
 
     fn spelled(word: &[u8]) -> Option<KeyWord> {
-        if word.eq_ignore_ascii_case(b"ALL") {
-            Some(KeyWord::All)
-        } else if word.eq_ignore_ascii_case(b"AND") {
-            Some(KeyWord::And)
-        } else if word.eq_ignore_ascii_case(b"OR") {
-            Some(KeyWord::Or)
-        } else if word.eq_ignore_ascii_case(b"NOT") {
-            Some(KeyWord::Not)
-        } else if word.eq_ignore_ascii_case(b"RANGE") {
-            Some(KeyWord::Range)
-        } else if word.eq_ignore_ascii_case(b"EQUAL") {
-            Some(KeyWord::Meets(Relation::Equal))
-        } else if word.eq_ignore_ascii_case(b"COMPARE") {
-            Some(KeyWord::Meets(Relation::AtLeast))
-        } else if word.eq_ignore_ascii_case(b"COMPARESTRICT") {
-            Some(KeyWord::Meets(Relation::Greater))
-        } else if word.eq_ignore_ascii_case(b"PREFIX") {
-            Some(KeyWord::Meets(Relation::Begins))
-        } else if word.eq_ignore_ascii_case(b"SUBSTRING") {
-            Some(KeyWord::Meets(Relation::Contains))
-        } else {
-            None
-        }
+        meaning(&KEY_WORDS, word)
     }
 }
 
-impl Spelled for Verb {
-    ghost use Rattle.acap_grammar.specs.Grammar.{verbs};
-
-    ghost table = { verbs };
-
-    fn spelled(word: &[u8]) -> Option<Verb> {
-        if word.eq_ignore_ascii_case(b"NOOP") {
-            Some(Verb::Noop)
-        } else if word.eq_ignore_ascii_case(b"LOGOUT") {
-            Some(Verb::Logout)
-        } else if word.eq_ignore_ascii_case(b"AUTHENTICATE") {
-            Some(Verb::Authenticate)
-        } else if word.eq_ignore_ascii_case(b"STORE") {
-            Some(Verb::Store)
-        } else if word.eq_ignore_ascii_case(b"SEARCH") {
-            Some(Verb::Search)
-        } else if word.eq_ignore_ascii_case(b"SETACL") {
-            Some(Verb::SetAcl)
-        } else if word.eq_ignore_ascii_case(b"DELETEACL") {
-            Some(Verb::DeleteAcl)
-        } else if word.eq_ignore_ascii_case(b"MYRIGHTS") {
-            Some(Verb::MyRights)
-        } else if word.eq_ignore_ascii_case(b"LISTRIGHTS") {
-            Some(Verb::ListRights)
-        } else if word.eq_ignore_ascii_case(b"DELETEDSINCE") {
-            Some(Verb::DeletedSince)
-        } else if word.eq_ignore_ascii_case(b"FREECONTEXT") {
-            Some(Verb::FreeContext)
-        } else if word.eq_ignore_ascii_case(b"UPDATECONTEXT") {
-            Some(Verb::UpdateContext)
-        } else {
-            None
+/// What a table has beside a text, octet by octet.
+pub(crate) fn named_by<W: Copy>(table: &[(&[u8], W)], text: &[u8]) -> Option<W>
+    ensures { result ≡ text_in (rows_of table.now) text.now }
+{
+    for row in table {
+        if text == row.0 {
+            return Some(row.1);
         }
     }
-}
-
-impl Spelled for Given {
-    ghost use Rattle.acap_grammar.specs.Storing.{given_words};
-
-    ghost table = { given_words };
-
-    fn spelled(word: &[u8]) -> Option<Given> {
-        if word.eq_ignore_ascii_case(b"NIL") {
-            Some(Given::Put(Cell::Nil))
-        } else if word.eq_ignore_ascii_case(b"DEFAULT") {
-            Some(Given::Default)
-        } else {
-            None
-        }
-    }
+    None
 }

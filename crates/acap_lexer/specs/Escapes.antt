@@ -1,5 +1,6 @@
 -- Where the first octet lies that is printed behind a backslash.
-use Rattle.std.specs.Prelude.{◌≡◌, ℕ, ◌<◌, List, ◌∷◌, ◌++◌, length}
+use Rattle.std.specs.Prelude.{◌≡◌, ℕ, ◌<◌, List, ◌∷◌, ◌++◌, length, Option, MatchOption}
+use Rattle.std.specs.Borrow.{Bor}
 use Rattle.acap_lexer.specs.Octets.{backslash}
 use Rattle.acap_lexer.specs.Printing.{escaped}
 
@@ -7,3 +8,7 @@ use Rattle.acap_lexer.specs.Printing.{escaped}
 pub record IsSplitAtEscape (text run : List ℕ) (escape : ℕ) (behind : List ℕ) : Type 0 where
   pub form : escaped text ≡ run ++ backslash ∷ escape ∷ escaped behind
   pub shorter : length behind < length text
+
+-- the parts at the first such octet, or none where no octet is printed so
+abbrev pub SplitsAtEscape : List ℕ → Option (Bor (List ℕ) × ℕ × Bor (List ℕ)) → Type 0
+SplitsAtEscape text result = MatchOption result (escaped text ≡ text) (λ x. IsSplitAtEscape text x.0.now x.1 x.2.now)

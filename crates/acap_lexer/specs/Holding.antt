@@ -1,5 +1,5 @@
 -- What a lexer stands for.
-use Rattle.std.specs.Prelude.{ℕ, List, Option}
+use Rattle.std.specs.Prelude.{ℕ, List, ◌++◌, take, Option}
 use Rattle.acap_lexer.specs.declared.fault.LexFault.{LexFault}
 
 -- the octets taken after the last item answered, how many continuations have been told since, and the fault
@@ -8,6 +8,10 @@ pub record Held : Type 0 where
   pub text : List ℕ
   pub told : ℕ
   pub fatal : Option LexFault
+
+-- so many octets of a piece behind those that are held
+abbrev pub with_taken : Held → List ℕ → ℕ → Held
+with_taken held piece n = record held { text = held.text ++ take n piece }
 
 -- so many octets are held at most
 abbrev pub held_limit : ℕ

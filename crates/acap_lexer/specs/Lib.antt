@@ -1,3 +1,4 @@
+pub mod Adding
 pub mod Octets
 pub mod Token
 pub mod Drafting

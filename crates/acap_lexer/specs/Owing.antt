@@ -1,5 +1,6 @@
 -- What is answered, and what is still owed, whatever octets come behind those that are held.
-use Rattle.std.specs.Prelude.{◌≡◌, ℕ, ◌<◌, List, [], ◌∷◌, ◌++◌, length, None}
+use Rattle.std.specs.Prelude.{◌≡◌, ℕ, ◌<◌, List, [], ◌∷◌, ◌++◌, length, None, Result, IfOk, flat_map}
+use Rattle.std.specs.Borrow.{Bor}
 use Rattle.acap_lexer.specs.declared.asked.Asked.{Asked}
 use Rattle.acap_lexer.specs.declared.asked.Asked.TheVariants as asked
 use Rattle.acap_lexer.specs.declared.lexed.Lexed.{Lexed}
@@ -40,7 +41,18 @@ pub record AsksAll (before : List Mode) (old : Held) (said : List Lexed) (after 
   pub owes : Owes before old said after new now
   pub ready : IsReady after new
 
+-- the same of the modes that a function returned, unless memory was refused
+abbrev pub LeavesAsked : {E : Type 0} → List Mode → Held → List Lexed → Result (Bor (List Mode)) E → Held → List Lexed → Type 0
+LeavesAsked before old said result new now = IfOk result (λ after. AsksAll before old said after.now new now)
+
 -- a piece was taken, and all commands that are whole then were asked for
 pub record Feeds (piece : List ℕ) (before : List Mode) (old : Held) (said : List Lexed) (after : List Mode) (new : Held) (now : List Lexed) : Type 0 where
   pub owes : (more : List ℕ) → said ++ answers_from before (with_more old (piece ++ more)) ≡ now ++ answers_from after (with_more new more)
   pub ready : IsReady after new
+
+abbrev pub LeavesFed : {E : Type 0} → List ℕ → List Mode → Held → List Lexed → Result (Bor (List Mode)) E → Held → List Lexed → Type 0
+LeavesFed piece before old said result new now = IfOk result (λ after. Feeds piece before old said after.now new now)
+
+-- the octets of pieces
+abbrev pub joined : List (Bor (List ℕ)) → List ℕ
+joined pieces = flat_map (λ piece. piece.now) pieces

@@ -1,6 +1,7 @@
 -- What stands at the front of a text that goes up to the CR LF of its part: a value and what is left behind
 -- it, or the first fault from the left. [RFC 2244, 2.2 and 2.6]
 use Rattle.std.specs.Prelude.{◌≡◌, ℕ, ◌+◌, ◌-◌, ◌*◌, List, [], ◌∷◌, ◌++◌, length, take, drop, fold, Bool, true, false, Option, Some, None, Result, Ok, Err, nat_le, ◌==◌, ◌||◌, ◌&&◌, if◌then◌else◌, slice_index, is_none}
+use Rattle.std.specs.Borrow.{Bor}
 use Rattle.std.specs.List.{prefix_len}
 use Rattle.acap_lexer.specs.declared.announced.Announced.{Announced}
 use Rattle.acap_lexer.specs.declared.fault.LexFault.{LexFault}
@@ -24,6 +25,10 @@ Fails (errors.Fault f) read = read ≡ Err f
 abbrev pub Gives : {X Y : Type 0} → (X → Y) → Result X LexError → Result Y LexFault → Type 0
 Gives view (Ok x) read = read ≡ Ok (view x)
 Gives view (Err e) read = Fails e read
+
+-- the same of what a function made beside the octets that it returned as left
+abbrev pub GivesLeft : {Y : Type 0} → Y → Result (Bor (List ℕ)) LexError → Result (Y × List ℕ) LexFault → Type 0
+GivesLeft made result read = Gives (λ left. (made, left.now)) result read
 
 -- a value, and what is left
 abbrev pub Read : Type 0 → Type 0
@@ -109,6 +114,11 @@ token_at (c ∷ rest) =
     else (if c == quote then as_string (string_at rest)
     else (if is_word c then Ok (record { kind = kinds.Word; value = take (prefix_len is_word (c ∷ rest)) (c ∷ rest) }, drop (prefix_len is_word (c ∷ rest)) (c ∷ rest))
     else Err (stray (c ∷ rest)))))
+
+-- the token of a text that begins with no string: its kind, how many octets at the front it stands for, and what is left
+abbrev pub GivesPlain : List ℕ → Result (Kind × ℕ × Bor (List ℕ)) LexError → Type 0
+GivesPlain text result =
+    (slice_index text 0 ≡ 34 → ⊥) → Gives (λ x. (record { kind = x.0; value = take x.1 text }, x.2.now)) result (token_at text)
 
 -- whether the octet may stand directly behind a token of this kind
 unfoldable pub may_touch : Kind → ℕ → Bool

@@ -1,5 +1,6 @@
 -- How far a scan has read a command.
-use Rattle.std.specs.Prelude.{◌≡◌, ℕ, ◌+◌, ◌-◌, ◌<◌, ◌≤◌, List, ◌++◌, length, drop, Option, Some, None, is_some, if◌then◌else◌}
+use Rattle.std.specs.Prelude.{◌≡◌, ℕ, ◌+◌, ◌-◌, ◌<◌, ◌≤◌, List, ◌++◌, length, drop, Option, Some, None, is_some, Result, IfOk, if◌then◌else◌}
+use Rattle.acap_lexer.specs.declared.announced.Announced.{Announced}
 use Rattle.acap_lexer.specs.declared.due.Due.{Due}
 use Rattle.acap_lexer.specs.declared.due.Due.TheVariants as dues
 use Rattle.acap_lexer.specs.declared.mode.Mode.{Mode}
@@ -8,7 +9,7 @@ use Rattle.acap_lexer.specs.declared.scan.Scan.{Scan}
 use Rattle.acap_lexer.specs.declared.stage_outcome.StageOutcome.{StageOutcome}
 use Rattle.acap_lexer.specs.declared.stage_outcome.StageOutcome.TheVariants as outcomes
 use Rattle.acap_lexer.specs.Ends.{NoEnd}
-use Rattle.acap_lexer.specs.Stream.{Front, Stage, AtPart, InLiteral, Step, Waits, Ends, Goes, progress, progress_from, waiting}
+use Rattle.acap_lexer.specs.Stream.{Front, step_by_mark, said, step_of, Stage, AtPart, InLiteral, Step, Waits, Ends, Goes, progress, progress_from, waiting}
 
 abbrev pub front_of : Scan → Front
 front_of scan = record { tokens = scan.draft.tokens; octets = scan.octets }
@@ -46,6 +47,18 @@ abbrev pub Turns : Step → Scan → Scan → StageOutcome → Type 0
 Turns step old new outcomes.Waits = Stays step old new
 Turns step old new (outcomes.Ends lexed n) = step ≡ Ends lexed n
 Turns step old new outcomes.Goes = GoesOn step old new
+
+-- a turn at the end of a part that ends in the mark of a literal
+abbrev pub TurnsAtMark : ℕ → ℕ → Announced → Scan → Scan → StageOutcome → Type 0
+TurnsAtMark end start announced old new turn = Turns (step_by_mark end old.draft.tokens (Some (start, announced))) old new turn
+
+-- a turn at a whole part, unless memory was refused
+abbrev pub ReadsWhole : {E : Type 0} → List ℕ → Scan → Scan → Result StageOutcome E → Type 0
+ReadsWhole part old new result = IfOk result (λ turn. Turns (said old.mode (front_of old) part) old new turn)
+
+-- a turn at what comes of the stage, unless memory was refused
+abbrev pub Steps : {E : Type 0} → List ℕ → Scan → Scan → Result StageOutcome E → Type 0
+Steps text old new result = IfOk result (λ turn. Turns (step_of old.mode (stage_of old) text) old new turn)
 
 -- the scan is at the octets of a literal that begin there, or an item ends there
 pub record Opens (place : ℕ) (scan : Scan) : Type 0 where

@@ -1,6 +1,7 @@
 //! The tokens of a command that is being read.
 
 ghost use Rattle.std.specs.Prelude.{◌≡◌, ◌<◌, ◌≤◌, ◌+◌, ◌-◌, ◌==◌, ◌++◌, ◌∷◌, [], length, take, drop, slice_get, option_map, OnOk, OnErr, IfOk};
+ghost use Rattle.acap_lexer.specs.Adding.{Adds, lying};
 ghost use Rattle.acap_lexer.specs.Token.{Token};
 ghost use Rattle.acap_lexer.specs.Part.{last_kind, pushed};
 ghost use Rattle.acap_lexer.specs.Places.{LiesIn};
@@ -130,7 +131,7 @@ impl Draft {
     ) -> Result<(), Memory>
         requires ordered { value.start ≤ value.end }
         requires within { value.end ≤ length self.old.text }
-        ensures ok { OnOk result (self.new.tokens ≡ self.old.tokens ++ record { kind = kind; value = take (value.end - value.start) (drop value.start self.old.text); start = span.start; end = span.end } ∷ []) }
+        ensures ok { Adds result self.old.tokens self.new.tokens kind (lying self.old.text value) span }
         ensures text { self.new.text ≡ self.old.text }
         ensures err { OnErr result (self.new ≡ self.old) }
     {
@@ -158,7 +159,7 @@ impl Draft {
     ) -> Result<(), Memory>
         requires copied { LiesIn self.old.text behind text.now }
         requires within { len ≤ length text.now }
-        ensures ok { OnOk result (self.new.tokens ≡ self.old.tokens ++ record { kind = kind; value = take len text.now; start = span.start; end = span.end } ∷ []) }
+        ensures ok { Adds result self.old.tokens self.new.tokens kind (take len text.now) span }
         ensures text { self.new.text ≡ self.old.text }
         ensures err { OnErr result (self.new ≡ self.old) }
     {
@@ -173,7 +174,7 @@ impl Draft {
         value: &[u8],
         span: Range<usize>,
     ) -> Result<(), Memory>
-        ensures { OnOk result (self.new.tokens ≡ self.old.tokens ++ record { kind = kind; value = value.now; start = span.start; end = span.end } ∷ []) }
+        ensures { Adds result self.old.tokens self.new.tokens kind value.now span }
     {
         let start = self.text.len();
         self.text.extend_from_slice(value)?;

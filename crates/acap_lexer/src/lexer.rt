@@ -2,7 +2,7 @@
 
 ghost use Rattle.std.specs.Prelude.{◌≡◌, ◌++◌, ◌+◌, ◌-◌, ◌≤◌, [], min, length, take, drop, IfOk, OnErr};
 ghost use Rattle.acap_lexer.specs.Held.{next_of, fatal_of};
-ghost use Rattle.acap_lexer.specs.Holding.{held_limit};
+ghost use Rattle.acap_lexer.specs.Holding.{held_limit, with_taken};
 
 use crate::advance::{advance, start, turn_to};
 use crate::draft::Draft;
@@ -89,7 +89,7 @@ impl Lexer {
     /// behind the last item answered at 270,336.
     pub fn push(&mut self, piece: &[u8]) -> Result<usize, Memory>
         ensures taken { IfOk result (λ n. n ≡ min (length piece.now) (held_limit - length self.old.text)) }
-        ensures held { IfOk result (λ n. self.new ≡ record self.old { text = self.old.text ++ take n piece.now }) }
+        ensures held { IfOk result (λ n. self.new ≡ with_taken self.old piece.now n) }
         ensures err { OnErr result (self.new ≡ self.old) }
     {
         let room = HELD_LIMIT.saturating_sub(self.text.len() - self.start);

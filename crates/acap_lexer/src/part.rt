@@ -5,7 +5,7 @@ ghost use Rattle.acap_lexer.specs.declared.mode.Mode.TheVariants as modes;
 ghost use Rattle.acap_lexer.specs.Part.{part_within, begun_at, tag_of};
 ghost use Rattle.acap_lexer.specs.Places.{LiesIn};
 ghost use Rattle.acap_lexer.specs.Printing.{Grows};
-ghost use Rattle.acap_lexer.specs.Reading.{Gives};
+ghost use Rattle.acap_lexer.specs.Reading.{Gives, GivesLeft};
 ghost use Rattle.acap_lexer.specs.Taking.{TakesNext, LeavesCopy};
 
 use crate::announced::Announced;
@@ -81,7 +81,7 @@ pub(crate) fn begin<'a>(
     behind: usize,
 ) -> Result<&'a [u8], LexError>
     requires { LiesIn draft.old.text behind part.now }
-    ensures gives { Gives (λ left. (draft.new.tokens, left.now)) result (begun_at mode draft.old.tokens part.now) }
+    ensures gives { GivesLeft draft.new.tokens result (begun_at mode draft.old.tokens part.now) }
     ensures within { IfOk result (λ left. length left.now ≤ length part.now) }
     ensures tagged { OnOk result (mode ≡ modes.Command → 0 < length draft.new.tokens) }
     ensures copied { IfOk result (λ left. LiesIn draft.new.text behind left.now) }

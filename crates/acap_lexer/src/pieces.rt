@@ -1,8 +1,8 @@
 //! The answers of a stream that comes in pieces.
 
-ghost use Rattle.std.specs.Prelude.{◌≡◌, ◌<◌, length, flat_map, IfOk, None};
+ghost use Rattle.std.specs.Prelude.{◌≡◌, ◌<◌, length, IfOk, None};
 ghost use Rattle.acap_lexer.specs.Held.{answers_of};
-ghost use Rattle.acap_lexer.specs.Owing.{AsksFor, AsksAll, Feeds, IsReady, how_whole};
+ghost use Rattle.acap_lexer.specs.Owing.{AsksFor, LeavesAsked, LeavesFed, IsReady, how_whole, joined};
 
 use crate::asked::Asked;
 use crate::fault::Memory;
@@ -46,7 +46,7 @@ fn ask_all<'m>(
     said: &mut Vec<Lexed>,
 ) -> Result<&'m [Mode], Memory>
     requires { 0 < length modes.now → lexer.old.fatal ≡ None }
-    ensures { IfOk result (λ left. AsksAll modes.now lexer.old said.old.items left.now lexer.new said.new.items) }
+    ensures { LeavesAsked modes.now lexer.old said.old.items result lexer.new said.new.items }
 {
     let mut left = modes;
     'commands: while let Some((mode, later)) = left.split_first() {
@@ -67,7 +67,7 @@ fn feed<'m>(
     said: &mut Vec<Lexed>,
 ) -> Result<&'m [Mode], Memory>
     requires { IsReady modes.now lexer.old }
-    ensures { IfOk result (λ left. Feeds piece.now modes.now lexer.old said.old.items left.now lexer.new said.new.items) }
+    ensures { LeavesFed piece.now modes.now lexer.old said.old.items result lexer.new said.new.items }
 {
     let mut left = modes;
     let mut rest = piece;
@@ -88,7 +88,7 @@ fn feed<'m>(
 /// The answers of a stream that comes in these pieces, its commands being asked for in these modes. They are
 /// those of the octets joined, however they were divided (RFC 2244, section 2.2).
 pub fn answers(alloc: Global, modes: &[Mode], pieces: &[&[u8]]) -> Result<Vec<Lexed>, Memory>
-    ensures { IfOk result (λ said. said.items ≡ answers_of modes.now (flat_map (λ piece. piece.now) pieces.now)) }
+    ensures { IfOk result (λ said. said.items ≡ answers_of modes.now (joined pieces.now)) }
 {
     let mut lexer = Lexer::new(alloc);
     let mut said = Vec::new(alloc);

@@ -1,11 +1,11 @@
 //! The printed form of a string.
 
-ghost use Rattle.std.specs.Prelude.{◌≡◌, ◌++◌, ◌∷◌, [], OnOk, OnErr, MatchOption, IsTrue, nat_le, length, count_by};
+ghost use Rattle.std.specs.Prelude.{◌≡◌, ◌++◌, ◌∷◌, [], OnOk, OnErr, IsTrue, nat_le, length, count_by};
 ghost use Rattle.std.specs.List.{list_all};
 ghost use Rattle.acap_lexer.specs.Octets.{is_escaped as is_escaped_octet, is_plain as is_plain_octet, quote};
 ghost use Rattle.std.specs.Str.{is_utf8};
 ghost use Rattle.acap_lexer.specs.Printing.{escaped, is_printable, may_quote, quoted, literal, printed, Grows};
-ghost use Rattle.acap_lexer.specs.Escapes.{IsSplitAtEscape};
+ghost use Rattle.acap_lexer.specs.Escapes.{SplitsAtEscape};
 
 use crate::fault::Memory;
 use crate::octets::{is_escaped, is_plain};
@@ -61,7 +61,7 @@ fn may_quote(text: &[u8]) -> bool
 
 /// What stands before the first octet that wants a backslash, that octet, and what stands behind it.
 fn split_at_escape(text: &[u8]) -> Option<(&[u8], u8, &[u8])>
-    ensures { MatchOption result (escaped text.now ≡ text.now) (λ x. IsSplitAtEscape text.now x.0.now x.1 x.2.now) }
+    ensures { SplitsAtEscape text.now result }
 {
     match memchr2(b'"', b'\\', text) {
         None => None,

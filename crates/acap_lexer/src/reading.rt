@@ -6,7 +6,7 @@ ghost use Rattle.acap_lexer.specs.Octets.{is_word as is_word_octet, is_tag as is
 ghost use Rattle.acap_lexer.specs.Part.{pushed};
 ghost use Rattle.acap_lexer.specs.Places.{LiesIn, Splits};
 ghost use Rattle.acap_lexer.specs.Printing.{Grows};
-ghost use Rattle.acap_lexer.specs.Reading.{Gives, stray, token_at, may_touch, gap_behind, gap_at, ends_tag, tag_at};
+ghost use Rattle.acap_lexer.specs.Reading.{Gives, GivesPlain, stray, token_at, may_touch, gap_behind, gap_at, ends_tag, tag_at};
 
 use crate::draft::Draft;
 use crate::fault::{LexError, LexFault};
@@ -48,7 +48,7 @@ fn stray(text: &[u8]) -> LexFault
 /// left.
 #[tactic(auto, unfolding(crate::specs::Reading::token_at))]
 fn plain_at(text: &[u8]) -> Result<(Kind, usize, &[u8]), LexError>
-    ensures gives { (slice_index text.now 0 ≡ 34 → ⊥) → Gives (λ x. (record { kind = x.0; value = take x.1 text.now }, x.2.now)) result (token_at text.now) }
+    ensures gives { GivesPlain text.now result }
     ensures value { IfOk result (λ x. x.1 ≤ length text.now) }
     ensures within { IfOk result (λ x. length x.2.now ≤ length text.now) }
 {

@@ -4,8 +4,8 @@ ghost use Rattle.std.specs.Prelude.{◌≡◌, ◌≤◌, ◌<◌, ◌+◌, ◌^
 ghost use Rattle.acap_lexer.specs.declared.mode.Mode.TheVariants as modes;
 ghost use Rattle.acap_lexer.specs.Part.{part_within, tag_of};
 ghost use Rattle.acap_lexer.specs.Places.{LiesIn};
-ghost use Rattle.acap_lexer.specs.Scanning.{IsSound, IsNearer, StaysSound, Turns, OpensOn, front_of, stage_of};
-ghost use Rattle.acap_lexer.specs.Stream.{said, step_of, step_by_mark, step_by_part};
+ghost use Rattle.acap_lexer.specs.Scanning.{IsSound, IsNearer, ReadsWhole, StaysSound, Steps, Turns, TurnsAtMark, OpensOn};
+ghost use Rattle.acap_lexer.specs.Stream.{step_by_part};
 
 use crate::announced::Announced;
 use crate::draft::Draft;
@@ -28,7 +28,7 @@ fn open_literal(scan: &mut Scan, start: usize, announced: Announced, end: usize)
     requires end { end + 2 < 2 ^ 63 }
     requires waits { scan.old.waits ≤ scan.old.octets }
     requires within { scan.old.octets ≤ end }
-    ensures turns { Turns (step_by_mark end scan.old.draft.tokens (Some (start, announced))) scan.old scan.new result }
+    ensures turns { TurnsAtMark end start announced scan.old scan.new result }
     ensures opens { OpensOn (end + 2) scan.new result }
 {
     let behind = end + 2;
@@ -83,7 +83,7 @@ fn read_rest(
 fn read_whole(alloc: Global, scan: &mut Scan, part: &[u8]) -> Result<StageOutcome, Memory>
     requires end { scan.old.octets + length part.now + 2 < 2 ^ 63 }
     requires waits { scan.old.waits ≤ scan.old.octets }
-    ensures turns { IfOk result (λ turn. Turns (said scan.old.mode (front_of scan.old) part.now) scan.old scan.new turn) }
+    ensures turns { ReadsWhole part.now scan.old scan.new result }
     ensures opens { IfOk result (λ turn. OpensOn (scan.old.octets + length part.now + 2) scan.new turn) }
 {
     let end = scan.octets + part.len();
@@ -104,7 +104,7 @@ fn part_step(alloc: Global, scan: &mut Scan, text: &[u8]) -> Result<StageOutcome
     requires sound { IsSound text.now scan.old }
     requires part { scan.old.literal ≡ None }
     requires fits { length text.now < 2 ^ 63 }
-    ensures turns { IfOk result (λ turn. Turns (step_of scan.old.mode (stage_of scan.old) text.now) scan.old scan.new turn) }
+    ensures turns { Steps text.now scan.old scan.new result }
     ensures sound { IfOk result (λ turn. StaysSound text.now scan.new turn) }
     ensures nearer { IfOk result (λ turn. IsNearer text.now scan.old scan.new turn) }
 {
@@ -128,7 +128,7 @@ fn literal_step(scan: &mut Scan, literal: Literal, text: &[u8]) -> Result<StageO
     requires sound { IsSound text.now scan.old }
     requires literal { scan.old.literal ≡ Some literal }
     requires fits { length text.now < 2 ^ 63 }
-    ensures turns { IfOk result (λ turn. Turns (step_of scan.old.mode (stage_of scan.old) text.now) scan.old scan.new turn) }
+    ensures turns { Steps text.now scan.old scan.new result }
     ensures sound { IfOk result (λ turn. StaysSound text.now scan.new turn) }
     ensures nearer { IfOk result (λ turn. IsNearer text.now scan.old scan.new turn) }
 {
@@ -148,7 +148,7 @@ fn literal_step(scan: &mut Scan, literal: Literal, text: &[u8]) -> Result<StageO
 pub(crate) fn step(alloc: Global, scan: &mut Scan, text: &[u8]) -> Result<StageOutcome, Memory>
     requires sound { IsSound text.now scan.old }
     requires fits { length text.now < 2 ^ 63 }
-    ensures turns { IfOk result (λ turn. Turns (step_of scan.old.mode (stage_of scan.old) text.now) scan.old scan.new turn) }
+    ensures turns { Steps text.now scan.old scan.new result }
     ensures sound { IfOk result (λ turn. StaysSound text.now scan.new turn) }
     ensures nearer { IfOk result (λ turn. IsNearer text.now scan.old scan.new turn) }
 {

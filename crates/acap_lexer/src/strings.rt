@@ -4,7 +4,7 @@ ghost use Rattle.std.specs.Prelude.{◌≡◌, ◌≤◌, ◌+◌, ◌++◌, len
 ghost use Rattle.std.specs.List.{prefix_len};
 ghost use Rattle.std.specs.Simd.Lanes.{mask_l};
 ghost use Rattle.acap_lexer.specs.Octets.{is_quotable as is_quotable_octet, is_special};
-ghost use Rattle.acap_lexer.specs.Reading.{Gives, behind, quoted_at, string_at};
+ghost use Rattle.acap_lexer.specs.Reading.{GivesLeft, behind, quoted_at, string_at};
 ghost use Rattle.acap_lexer.specs.Printing.{Grows};
 ghost use Rattle.acap_lexer.specs.Taking.{TakesRun, TakesEscaped, IsPlainString};
 
@@ -111,7 +111,7 @@ fn escaped_at(text: &[u8]) -> Result<(Option<&[u8]>, &[u8]), LexError>
 /// What a quoted string stands for, added to the text, and what is left behind its last quote.
 #[tactic(auto, using(crate::proofs::Quoting::behind_more))]
 fn quoted_at<'a>(rest: &'a [u8], text: &mut Vec<u8>) -> Result<&'a [u8], LexError>
-    ensures gives { Gives (λ left. (text.new.items, left.now)) result (behind text.old.items (quoted_at rest.now)) }
+    ensures gives { GivesLeft text.new.items result (behind text.old.items (quoted_at rest.now)) }
     ensures grows { Grows text.old.items text.new.items }
     ensures within { IfOk result (λ left. length left.now ≤ length rest.now) }
 {
@@ -129,7 +129,7 @@ fn quoted_at<'a>(rest: &'a [u8], text: &mut Vec<u8>) -> Result<&'a [u8], LexErro
 /// The same, where at most 1,024 octets stand between the quotes.
 #[tactic(auto, unfolding(crate::specs::Reading::string_at))]
 pub(crate) fn string_at<'a>(rest: &'a [u8], text: &mut Vec<u8>) -> Result<&'a [u8], LexError>
-    ensures gives { Gives (λ left. (text.new.items, left.now)) result (behind text.old.items (string_at rest.now)) }
+    ensures gives { GivesLeft text.new.items result (behind text.old.items (string_at rest.now)) }
     ensures grows { Grows text.old.items text.new.items }
     ensures within { IfOk result (λ left. length left.now ≤ length rest.now) }
 {

@@ -18,9 +18,14 @@ fn realm(alloc: Global) -> Realm {
 }
 
 // All that joe finds.
-fn found(alloc: Global, tree: &Tree, query: &Query) -> Result<Hits, Memory> {
+fn found<L: Ledger>(
+    alloc: Global,
+    tree: &Tree,
+    query: &Query,
+    steps: &mut Steps<L>,
+) -> Result<Hits, Memory> {
     let joe = user(alloc)?;
-    seek(alloc, tree, &realm(alloc), &joe, &query.sought)
+    seek(alloc, tree, &realm(alloc), &joe, &query.sought, steps)
 }
 
 // The hits of a list, one by one.
@@ -38,15 +43,10 @@ fn found_again<L: Ledger>(
     tree: &Tree,
     query: &Query,
     hits: &Hits,
-    blank: Blank,
-) -> Result<Hits, SearchRefusal>
-    requires name { blank.name ≡ L.name }
-    requires parts { blank.parts ≡ L.parts }
-    requires some { 0 < L.parts }
-{
+    steps: &mut Steps<L>,
+) -> Result<Hits, SearchRefusal> {
     let joe = user(alloc)?;
     let shown = each_of(alloc, hits)?;
-    let mut steps = Steps::<L>::new(blank);
     let realm = realm(alloc);
     let told = Moment::first();
     within(
@@ -58,7 +58,7 @@ fn found_again<L: Ledger>(
         shown.as_slice(),
         told,
         true,
-        &mut steps,
+        steps,
     )
 }
 
@@ -75,10 +75,11 @@ fn is_found_again<L: Ledger>(alloc: Global, blank: Blank) -> Result<bool, Search
     requires parts { blank.parts ≡ L.parts }
     requires some { 0 < L.parts }
 {
+    let mut steps = Steps::<L>::new(blank);
     let tree = store(alloc)?;
     let query = query(alloc)?;
-    let hits = found(alloc, &tree, &query)?;
-    let again = found_again::<L>(alloc, &tree, &query, &hits, blank)?;
+    let hits = found(alloc, &tree, &query, &mut steps)?;
+    let again = found_again(alloc, &tree, &query, &hits, &mut steps)?;
     Ok(is_same_start(&hits, &again) && hits.len() == 3)
 }
 
@@ -138,15 +139,21 @@ fn stands_behind(
     Ok(is_there && ranked.rank(&standing) == count && ranked.find(&standing).is_some())
 }
 
-fn is_kept_in_order(alloc: Global) -> Result<bool, Memory> {
+fn is_kept_in_order<L: Ledger>(alloc: Global, blank: Blank) -> Result<bool, Memory>
+    requires name { blank.name ≡ L.name }
+    requires parts { blank.parts ≡ L.parts }
+    requires some { 0 < L.parts }
+{
+    let mut steps = Steps::<L>::new(blank);
     let tree = store(alloc)?;
     let query = query(alloc)?;
-    let ranked = in_order(alloc, found(alloc, &tree, &query)?)?.copy()?;
+    let hits = found(alloc, &tree, &query, &mut steps)?;
+    let ranked = in_order(alloc, hits)?.copy()?;
     let is_first = stands_behind(alloc, &tree, &query, &ranked, 0)?;
     Ok(is_first && stands_behind(alloc, &tree, &query, &ranked, 2)?)
 }
 
 #[test]
 fn keeps_hits_in_order(rt: HostRuntime) {
-    assert!(rt; is_kept_in_order(rt.alloc()) == Ok(true));
+    assert!(rt; is_kept_in_order::<Brand>(rt.alloc(), Blank::new(1)) == Ok(true));
 }

@@ -1,4 +1,5 @@
 //! Tests of a search's calls that no program makes yet: what it finds, kept and copied, is what it tells.
+ghost use Rattle.std.specs.Prelude.{◌≡◌, ◌<◌};
 
 use acap_commands::{
     Key, Metadata, MetadataList, ReturnItem, ReturnName, Returns, Rows, SearchModifiers, SortItem,
@@ -6,12 +7,14 @@ use acap_commands::{
 };
 use acap_entries::{
     Acls, Attribute, Boxed, Cell, Cells, Change, Copying, Dataset, Fate, Memory, Moment, Path,
-    Paths, Record, Tree, UserName, Value, Writes,
+    Paths, Record, Steps, Tree, UserName, Value, Writes,
 };
 use acap_order::Comparator;
 use acap_rights::Realm;
 use acap_search::{Asked, Hits, Query, SearchRefusal, first_rows, fresh, tell};
 use std::alloc::Global;
+use std::marker::Brand;
+use std::sync::ledger::{Blank, Ledger};
 
 // Puts an entry with one attribute `k` into the dataset `/`.
 fn put(alloc: Global, writes: &mut Writes, name: &[u8], text: &[u8]) -> Result<(), Memory> {
@@ -84,17 +87,27 @@ pub(crate) fn query(alloc: Global) -> Result<Query, Memory> {
 }
 
 // What is found, as joe sees it.
-fn found(alloc: Global, tree: &Tree, query: &Query) -> Result<Hits, SearchRefusal> {
+fn found<L: Ledger>(
+    alloc: Global,
+    tree: &Tree,
+    query: &Query,
+    steps: &mut Steps<L>,
+) -> Result<Hits, SearchRefusal> {
     let realm = Realm::new(Vec::new(alloc), Vec::new(alloc));
     let joe = user(alloc)?;
-    fresh(alloc, tree, &realm, &joe, query)
+    fresh(alloc, tree, &realm, &joe, query, steps)
 }
 
 // What is told of it.
-fn told(alloc: Global, tree: &Tree, query: &Query) -> Result<Rows, SearchRefusal> {
+fn told<L: Ledger>(
+    alloc: Global,
+    tree: &Tree,
+    query: &Query,
+    steps: &mut Steps<L>,
+) -> Result<Rows, SearchRefusal> {
     let realm = Realm::new(Vec::new(alloc), Vec::new(alloc));
     let joe = user(alloc)?;
-    Ok(tell(alloc, tree, &realm, &joe, query, None)?.rows)
+    Ok(tell(alloc, tree, &realm, &joe, query, None, steps)?.rows)
 }
 
 // Whether the first of some hits equals the first of others, and comes by that name.
@@ -108,21 +121,32 @@ fn has_first(hits: &Hits, others: &Hits, name: &[u8]) -> bool {
 }
 
 // What is found and copied, and its rows, or the first of them.
-fn keeps_hits(alloc: Global, tree: &Tree, query: &Query) -> Result<bool, SearchRefusal> {
-    let hits = found(alloc, tree, query)?;
+fn keeps_hits<L: Ledger>(
+    alloc: Global,
+    tree: &Tree,
+    query: &Query,
+    steps: &mut Steps<L>,
+) -> Result<bool, SearchRefusal> {
+    let hits = found(alloc, tree, query, steps)?;
     let copied = hits.copy()?;
     let is_first = has_first(&hits, &copied, b"b") && hits.len() == 3;
     Ok(is_first && first_rows(alloc, copied, 1)?.len() == 1)
 }
 
-fn finds_what_it_tells(alloc: Global) -> Result<bool, SearchRefusal> {
+fn finds_what_it_tells<L: Ledger>(alloc: Global, blank: Blank) -> Result<bool, SearchRefusal>
+    requires name { blank.name ≡ L.name }
+    requires parts { blank.parts ≡ L.parts }
+    requires some { 0 < L.parts }
+{
+    let mut steps = Steps::<L>::new(blank);
     let tree = store(alloc)?;
     let query = query(alloc)?;
-    let rows = first_rows(alloc, found(alloc, &tree, &query)?, 3)?;
-    Ok(keeps_hits(alloc, &tree, &query)? && rows == told(alloc, &tree, &query)?)
+    let rows = first_rows(alloc, found(alloc, &tree, &query, &mut steps)?, 3)?;
+    let kept = keeps_hits(alloc, &tree, &query, &mut steps)?;
+    Ok(kept && rows == told(alloc, &tree, &query, &mut steps)?)
 }
 
 #[test]
 fn keeps_what_it_tells(rt: HostRuntime) {
-    assert!(rt; finds_what_it_tells(rt.alloc()) == Ok(true));
+    assert!(rt; finds_what_it_tells::<Brand>(rt.alloc(), Blank::new(1)) == Ok(true));
 }

@@ -1,5 +1,14 @@
 pub mod Completing
 pub mod Computing
+pub mod Following
 pub mod FoundLemmas
+pub mod FromLemmas
+pub mod OverLemmas
+pub mod Plain
+pub mod PlainMaps
+pub mod PlainSteps
+pub mod ReadyLemmas
 pub mod RunLemmas
+pub mod SeatLemmas
+pub mod ServedLemmas
 pub mod StepLaws

@@ -1,16 +1,17 @@
 -- Examples of what is told of matches, what is served and refused, and what a step of the machine does, by the definitions
 -- alone [RFC 2244 sections 2, 4.1, 6.4.1, 6.6.1 and 6.7].
-use Rattle.std.specs.Prelude.{◌≡◌, ℕ, ℤ, List, [], ◌∷◌, map, false, Option, None, Some, Result, Ok, Err, codes}
+use Rattle.std.specs.Prelude.{◌≡◌, ℕ, ℤ, List, [], ◌∷◌, map, true, Option, None, Some, Result, Ok, Err, codes}
 use Rattle.std.specs.FinMap as table
-use Rattle.acap_entries.specs.Changes.{store_after}
 use Rattle.acap_entries.specs.Store.{Store}
 use Rattle.acap_entries.specs.declared.change.Change.{Change}
 use Rattle.acap_commands.specs.Modifiers.{unmodified}
+use Rattle.acap_commands.specs.Wanted.{Wanted}
 use Rattle.acap_commands.specs.Wanted as key
 use Rattle.acap_commands.specs.declared.command.Command.{Command}
 use Rattle.acap_commands.specs.declared.command.Command.TheVariants as command
 use Rattle.acap_commands.specs.declared.search_reply.SearchReply.{SearchReply}
 use Rattle.acap_commands.specs.declared.limit.Limit.{Limit}
+use Rattle.acap_commands.specs.declared.make_context.MakeContext.{MakeContext}
 use Rattle.acap_commands.specs.declared.object.Object.{Object}
 use Rattle.acap_commands.specs.declared.refusal.Refusal.{Refusal}
 use Rattle.acap_commands.specs.declared.refusal.Refusal.TheVariants as refusals
@@ -23,25 +24,32 @@ use Rattle.acap_commands.specs.declared.search_modifiers.SearchModifiers.{Search
 use Rattle.acap_commands.specs.declared.store_entry.StoreEntry.{StoreEntry}
 use Rattle.acap_commands.specs.declared.target.Target.TheVariants as target
 use Rattle.acap_commands.specs.declared.test.Test.TheVariants as test
-use Rattle.acap_commands.specs.declared.verb.Verb.{Verb}
 use Rattle.acap_commands.specs.declared.verb.Verb.TheVariants as verb
-use Rattle.acap_machine.specs.Machine.{Machine}
-use Rattle.acap_machine.specs.Runs.{outcome_of, machine_after, stepped_at, run_of}
-use Rattle.acap_machine.specs.Searching.{number_told, found_of, found_unless, searched}
-use Rattle.acap_machine.specs.Seats.{seated_as}
-use Rattle.acap_machine.specs.Serving.{served}
-use Rattle.acap_machine.specs.Stepping.{step_of, plain, IsFault}
-use Rattle.acap_machine.specs.declared.answer.Answer.TheVariants.{Says, Changes}
 use Rattle.acap_commands.specs.declared.event.Event.TheVariants as event
 use Rattle.acap_commands.specs.declared.fault.Fault.{Fault}
 use Rattle.acap_commands.specs.declared.fault.Fault.TheVariants as fault
+use Rattle.acap_machine.specs.Changing.{changed_by}
+use Rattle.acap_machine.specs.Machine.{Machine, user_at}
+use Rattle.acap_machine.specs.Runs.{outcome_of, machine_after, stepped_at, run_of}
+use Rattle.acap_machine.specs.Searching.{number_told, found_of, found_unless, view_refused_as, query_within, searched}
+use Rattle.acap_machine.specs.Serving.{served}
+use Rattle.acap_machine.specs.Stepping.{step_of, plain, IsFault}
 use Rattle.acap_machine.specs.declared.step.Step.{Step}
-use Rattle.acap_rights.specs.declared.realm.Realm.{Realm}
+use Rattle.acap_notices.specs.declared.told.Told.{Told}
+use Rattle.acap_search.specs.Asking.{asked_of}
+use Rattle.acap_search.specs.Fresh.{refusal_of, matches_of}
 use Rattle.acap_search.specs.Matches.{Match}
+use Rattle.acap_search.specs.declared.query.Query.{Query}
 use Rattle.acap_search.specs.declared.query.Sought.{Sought}
 use Rattle.acap_search.specs.declared.refusal.SearchRefusal.TheVariants as refusal
 use Rattle.acap_store.specs.Planning.{planned}
 use Rattle.acap_store.specs.declared.write.Write.TheVariants as write
+use Rattle.acap_views.specs.Opening.{opened, freed_by}
+use Rattle.acap_views.specs.Ranging.{ranged}
+use Rattle.acap_views.specs.Seats.{Seated}
+use Rattle.acap_views.specs.Telling.{told_of, drained}
+use Rattle.acap_views.specs.declared.refusal.ViewRefusal.{ViewRefusal}
+use Rattle.acap_views.specs.declared.refusal.ViewRefusal.TheVariants as view
 
 abbrev pub joe : List ℕ
 joe = codes "joe"
@@ -78,63 +86,88 @@ all_in dataset modifiers = record { target = target.Dataset dataset; modifiers =
 abbrev pub whole : List ℕ → Object
 whole dataset = record { dataset = dataset; attribute = None; name = None }
 
-abbrev pub kept : SearchModifiers
-kept = record unmodified { make_context = Some (record { enumerate = false; notify = false; name = codes "c" }) }
+abbrev pub made : MakeContext
+made = record { enumerate = true; notify = true; name = codes "c" }
 
-abbrev pub unserved : List Command
-unserved =
-    command.Search (all_in home kept) ∷ command.Search (record (all_in home unmodified) { target = target.Context (codes "c") })
-    ∷ command.FreeContext (codes "c") ∷ command.UpdateContext (codes "c" ∷ []) ∷ []
+abbrev pub keeping : SearchModifiers
+keeping = record unmodified { make_context = Some made; limit = two }
+
+abbrev pub kept_query : Query
+kept_query = (asked_of joe home keeping (key.One test.All)).query
 
 pub record ServingExamples : Type 0 where
-  pub noop : (s : Store) (realm : Realm) (user : List ℕ) (clock : ℤ) → served s realm user command.Noop clock ≡ Says (said.Done verb.Noop)
-  pub logout : (s : Store) (realm : Realm) (user : List ℕ) (clock : ℤ) → served s realm user command.Logout clock ≡ Says said.GoodBye
+  pub noop : (m : Machine) (seat : ℕ) (user : List ℕ) (clock : ℤ) → served m seat user command.Noop clock ≡ (said.Done verb.Noop, m)
+  pub logout : (m : Machine) (seat : ℕ) (user : List ℕ) (clock : ℤ) → served m seat user command.Logout clock ≡ (said.GoodBye, m)
   -- who has a seat is logged in
-  pub login : (s : Store) (realm : Realm) (user mechanism : List ℕ) (clock : ℤ) → served s realm user (command.Authenticate mechanism) clock ≡ Says (said.Refused refusals.LoggedIn)
+  pub login : (m : Machine) (seat : ℕ) (user mechanism : List ℕ) (clock : ℤ) → served m seat user (command.Authenticate mechanism) clock ≡ (said.Refused refusals.LoggedIn, m)
   -- a STORE is told as done once its change is performed, or refused as it is
-  pub stores : (s : Store) (realm : Realm) (user : List ℕ) (entries : List StoreEntry) (clock : ℤ) (change : Change) →
-      planned s realm user (write.Store entries) clock ≡ Ok change → served s realm user (command.Store entries) clock ≡ Changes verb.Store change
-  pub refuses : (s : Store) (realm : Realm) (user : List ℕ) (entries : List StoreEntry) (clock : ℤ) (because : Refusal) →
-      planned s realm user (write.Store entries) clock ≡ Err because → served s realm user (command.Store entries) clock ≡ Says (said.Refused because)
+  pub stores : (m : Machine) (seat : ℕ) (user : List ℕ) (entries : List StoreEntry) (clock : ℤ) (change : Change) →
+      planned m.store m.realm user (write.Store entries) clock ≡ Ok change → served m seat user (command.Store entries) clock ≡ (said.Done verb.Store, changed_by change m)
+  pub refuses : (m : Machine) (seat : ℕ) (user : List ℕ) (entries : List StoreEntry) (clock : ℤ) (because : Refusal) →
+      planned m.store m.realm user (write.Store entries) clock ≡ Err because → served m seat user (command.Store entries) clock ≡ (said.Refused because, m)
   -- each list is changed under its own verb
-  pub sets : (s : Store) (realm : Realm) (user : List ℕ) (object : Object) (identifier letters : List ℕ) (clock : ℤ) (change : Change) →
-      planned s realm user (write.SetAcl object identifier letters) clock ≡ Ok change → served s realm user (command.SetAcl object identifier letters) clock ≡ Changes verb.SetAcl change
-  pub drops : (s : Store) (realm : Realm) (user : List ℕ) (object : Object) (identifier : Option (List ℕ)) (clock : ℤ) (change : Change) →
-      planned s realm user (write.DeleteAcl object identifier) clock ≡ Ok change → served s realm user (command.DeleteAcl object identifier) clock ≡ Changes verb.DeleteAcl change
+  pub sets : (m : Machine) (seat : ℕ) (user : List ℕ) (object : Object) (identifier letters : List ℕ) (clock : ℤ) (change : Change) →
+      planned m.store m.realm user (write.SetAcl object identifier letters) clock ≡ Ok change
+      → served m seat user (command.SetAcl object identifier letters) clock ≡ (said.Done verb.SetAcl, changed_by change m)
+  pub drops : (m : Machine) (seat : ℕ) (user : List ℕ) (object : Object) (identifier : Option (List ℕ)) (clock : ℤ) (change : Change) →
+      planned m.store m.realm user (write.DeleteAcl object identifier) clock ≡ Ok change
+      → served m seat user (command.DeleteAcl object identifier) clock ≡ (said.Done verb.DeleteAcl, changed_by change m)
   -- `~` is the user's
-  pub own : (s : Store) (realm : Realm) (modifiers : SearchModifiers) → searched s realm joe (all_in (codes "/option/~/") modifiers) ≡ searched s realm joe (all_in home modifiers)
+  pub own : (m : Machine) (seat : ℕ) (modifiers : SearchModifiers) → searched m seat joe (all_in (codes "/option/~/") modifiers) ≡ searched m seat joe (all_in home modifiers)
   -- a search that is refused tells the dataset that is missing
   pub missing : (found : SearchReply) → map (λ because. found_unless home (Some because) found) (refusal.RangeHere ∷ refusal.NoExist ∷ refusal.WayTooMany ∷ [])
       ≡ said.Refused refusals.RangeHere ∷ said.Refused (refusals.NoExist home) ∷ said.Refused refusals.WayTooMany ∷ []
-  -- contexts aren't served yet, whatever they are asked of
-  pub contexts : (s : Store) (realm : Realm) (user : List ℕ) (clock : ℤ) →
-      map (λ c. served s realm user c clock) unserved ≡ map (λ c. Says (said.Refused refusals.Unserved)) unserved
+  -- of contexts each refusal is told as itself
+  pub of_contexts : map view_refused_as (view.TryFree ∷ view.NoContext ∷ view.FreedContext ∷ view.NotNotify ∷ [])
+      ≡ refusals.TryFreeContext ∷ refusals.NoContext ∷ refusals.FreedContext ∷ refusals.NotNotify ∷ []
+  -- of three matches LIMIT 2 1 tells one, and the context keeps all three
+  pub keeps : (m : Machine) (seat : ℕ) (clock : ℤ) (a b c : Match) (seats : Seated) → refusal_of m.store.records m.realm joe kept_query ≡ None
+      → matches_of m.store.records m.realm joe kept_query.sought ≡ a ∷ b ∷ c ∷ [] → opened m.seats seat made kept_query.sought (a ∷ b ∷ c ∷ []) m.store.last ≡ Ok seats
+      → served m seat joe (command.Search (all_in home keeping)) clock ≡ (said.Searched (record { rows = []; last = None; total = Some 3 }), record m { seats = seats })
+  -- where there is no place for it nothing is told, and a search that is refused otherwise is refused so
+  pub no_place : (m : Machine) (seat : ℕ) (clock : ℤ) → refusal_of m.store.records m.realm joe kept_query ≡ None
+      → opened m.seats seat made kept_query.sought (matches_of m.store.records m.realm joe kept_query.sought) m.store.last ≡ Err view.TryFree
+      → served m seat joe (command.Search (all_in home keeping)) clock ≡ (said.Refused refusals.TryFreeContext, m)
+  pub no_dataset : (m : Machine) (seat : ℕ) (clock : ℤ) → refusal_of m.store.records m.realm joe kept_query ≡ Some refusal.NoExist
+      → served m seat joe (command.Search (all_in home keeping)) clock ≡ (said.Refused (refusals.NoExist home), m)
+  -- a context that is searched keeps its dataset, DEPTH and NOINHERIT
+  pub query_within : (own : Sought) (modifiers : SearchModifiers) (wanted : Wanted) → query_within own modifiers wanted
+      ≡ record { sought = record own { key = wanted; sort = modifiers.sort; returns = modifiers.returns }; hard_limit = modifiers.hard_limit }
+  pub searches_context : (m : Machine) (seat : ℕ) (clock : ℤ) (modifiers : SearchModifiers) (why : ViewRefusal) → ranged m.seats seat (codes "c") ≡ Err why
+      → served m seat joe (command.Search (record { target = target.Context (codes "c"); modifiers = modifiers; key = key.One test.All })) clock ≡ (said.Refused (view_refused_as why), m)
+  pub frees : (m : Machine) (seat : ℕ) (name : List ℕ) (clock : ℤ) (seats : Seated) → freed_by m.seats seat name ≡ Ok seats
+      → served m seat joe (command.FreeContext name) clock ≡ (said.Done verb.FreeContext, record m { seats = seats })
+  pub frees_none : (m : Machine) (seat : ℕ) (name : List ℕ) (clock : ℤ) → freed_by m.seats seat name ≡ Err view.NoContext
+      → served m seat joe (command.FreeContext name) clock ≡ (said.Refused refusals.NoContext, m)
+  pub updates : (m : Machine) (seat : ℕ) (names : List (List ℕ)) (clock : ℤ) (told : List Told) (seats : Seated) → told_of m.seats seat names m.store.last ≡ Ok (told, seats)
+      → served m seat joe (command.UpdateContext names) clock ≡ (said.Updated told, record m { seats = seats })
+  pub updates_none : (m : Machine) (seat : ℕ) (names : List (List ℕ)) (clock : ℤ) (why : ViewRefusal) → told_of m.seats seat names m.store.last ≡ Err why
+      → served m seat joe (command.UpdateContext names) clock ≡ (said.Refused (view_refused_as why), m)
   -- the owner of a dataset always reads and administers it, and may be given the rest
-  pub owner : (s : Store) (clock : ℤ) → served s (record { administrators = []; groups = [] }) joe (command.ListRights (whole (codes "/option/~/")) joe) clock
-      ≡ Says (said.RightsList (codes "ra" ∷ codes "x" ∷ codes "w" ∷ codes "i" ∷ []))
+  pub owner : (s : Store) (seats : Seated) (seat : ℕ) (clock : ℤ) → (served (record { realm = record { administrators = []; groups = [] }; store = s; seats = seats }) seat joe (command.ListRights (whole (codes "/option/~/")) joe) clock).0
+      ≡ said.RightsList (codes "ra" ∷ codes "x" ∷ codes "w" ∷ codes "i" ∷ [])
   -- an administrator has all
-  pub administrator : (s : Store) (clock : ℤ) → served s (record { administrators = codes "root" ∷ []; groups = [] }) joe (command.ListRights (whole home) (codes "root")) clock
-      ≡ Says (said.RightsList (codes "xrwia" ∷ []))
+  pub administrator : (s : Store) (seats : Seated) (seat : ℕ) (clock : ℤ) → (served (record { realm = record { administrators = codes "root" ∷ []; groups = [] }; store = s; seats = seats }) seat joe (command.ListRights (whole home) (codes "root")) clock).0
+      ≡ said.RightsList (codes "xrwia" ∷ [])
 
 -- ---- seats
 
 pub record SeatLaw : Type 0 where
   -- a free seat is taken, one that is taken is not, and one that is left is free
-  pub enters : (m : Machine) (seat : ℕ) (user : List ℕ) (clock : ℤ) → table.get m.seats seat ≡ None →
-      step_of m seat (event.Enter user) clock ≡ Ok (plain said.Greeting, record m { seats = table.insert m.seats seat (seated_as user) })
-  pub taken : (m : Machine) (seat : ℕ) (user other : List ℕ) (clock : ℤ) → table.get m.seats seat ≡ Some (seated_as other) → step_of m seat (event.Enter user) clock ≡ Err fault.AlreadyEntered
-  pub leaves : (m : Machine) (seat : ℕ) (user : List ℕ) (clock : ℤ) → table.get m.seats seat ≡ Some (seated_as user) →
+  pub enters : (m : Machine) (seat : ℕ) (user : List ℕ) (clock : ℤ) → user_at m seat ≡ None →
+      step_of m seat (event.Enter user) clock ≡ Ok (plain said.Greeting, record m { seats = table.insert m.seats seat (record { user = user; contexts = table.empty }) })
+  pub taken : (m : Machine) (seat : ℕ) (user other : List ℕ) (clock : ℤ) → user_at m seat ≡ Some other → step_of m seat (event.Enter user) clock ≡ Err fault.AlreadyEntered
+  pub leaves : (m : Machine) (seat : ℕ) (user : List ℕ) (clock : ℤ) → user_at m seat ≡ Some user →
       step_of m seat event.Leave clock ≡ Ok (plain said.Left, record m { seats = table.remove m.seats seat })
-  pub drains : (m : Machine) (seat : ℕ) (user : List ℕ) (clock : ℤ) → table.get m.seats seat ≡ Some (seated_as user) → step_of m seat event.Drain clock ≡ Ok (plain (said.Drained []), m)
-  -- a command is its user's: words leave the machine as it was, and a change changes the store alone
-  pub says : (m : Machine) (seat : ℕ) (user : List ℕ) (c : Command) (clock : ℤ) (words : Said) → table.get m.seats seat ≡ Some (seated_as user) →
-      served m.store m.realm user c clock ≡ Says words → step_of m seat (event.Command c) clock ≡ Ok (plain words, m)
-  pub changes : (m : Machine) (seat : ℕ) (user : List ℕ) (c : Command) (clock : ℤ) (done : Verb) (change : Change) → table.get m.seats seat ≡ Some (seated_as user) →
-      served m.store m.realm user c clock ≡ Changes done change → step_of m seat (event.Command c) clock ≡ Ok (plain (said.Done done), record m { store = store_after change m.store })
+  pub drains : (m : Machine) (seat : ℕ) (user : List ℕ) (clock : ℤ) → user_at m seat ≡ Some user →
+      step_of m seat event.Drain clock ≡ Ok (plain (said.Drained (drained m.seats seat).0), record m { seats = (drained m.seats seat).1 })
+  -- a command is its user's
+  pub asks : (m new : Machine) (seat : ℕ) (user : List ℕ) (c : Command) (clock : ℤ) (words : Said) → user_at m seat ≡ Some user →
+      served m seat user c clock ≡ (words, new) → step_of m seat (event.Command c) clock ≡ Ok (plain words, new)
   -- nobody asks from a free seat, and a fault leaves the machine as it was
-  pub nobody : (m : Machine) (seat : ℕ) (c : Command) (clock : ℤ) → table.get m.seats seat ≡ None → step_of m seat (event.Command c) clock ≡ Err fault.NotEntered
-  pub nobody_leaves : (m : Machine) (seat : ℕ) (clock : ℤ) → table.get m.seats seat ≡ None → step_of m seat event.Leave clock ≡ Err fault.NotEntered
-  pub nobody_drains : (m : Machine) (seat : ℕ) (clock : ℤ) → table.get m.seats seat ≡ None → step_of m seat event.Drain clock ≡ Err fault.NotEntered
+  pub nobody : (m : Machine) (seat : ℕ) (c : Command) (clock : ℤ) → user_at m seat ≡ None → step_of m seat (event.Command c) clock ≡ Err fault.NotEntered
+  pub nobody_leaves : (m : Machine) (seat : ℕ) (clock : ℤ) → user_at m seat ≡ None → step_of m seat event.Leave clock ≡ Err fault.NotEntered
+  pub nobody_drains : (m : Machine) (seat : ℕ) (clock : ℤ) → user_at m seat ≡ None → step_of m seat event.Drain clock ≡ Err fault.NotEntered
   pub stays : (m : Machine) (f : Fault) → machine_after m (Err f) ≡ m
   -- each step of a run is made of the machine that the one before it left
   pub second : (m : Machine) (a b : Step) → (run_of m (a ∷ b ∷ [])).0 ≡ outcome_of (stepped_at m a) ∷ outcome_of (stepped_at (machine_after m (stepped_at m a)) b) ∷ []

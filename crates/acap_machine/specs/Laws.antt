@@ -1,20 +1,17 @@
 -- What follows from the definition of a step alone.
-use Rattle.std.specs.Prelude.{◌≡◌, ℕ, ℤ, List, Ok, true, false, ◌==◌, int_lt}
+use Rattle.std.specs.Prelude.{◌≡◌, ◌⊎◌, ℕ, ℤ, List, Some, Ok, true, false, ◌==◌, int_lt}
 use Rattle.std.specs.FinMap as table
-use Rattle.acap_entries.specs.Changes.{store_after}
-use Rattle.acap_entries.specs.Store.{Store}
 use Rattle.acap_entries.specs.declared.change.Change.{Change}
 use Rattle.acap_commands.specs.declared.command.Command.{Command}
+use Rattle.acap_commands.specs.declared.event.Event.{Event}
+use Rattle.acap_commands.specs.declared.event.Event.TheVariants as event
 use Rattle.acap_commands.specs.declared.refusal.Refusal.{Refusal}
 use Rattle.acap_commands.specs.declared.reply.Reply.{Reply}
 use Rattle.acap_commands.specs.declared.said.Said.TheVariants as said
-use Rattle.acap_commands.specs.declared.verb.Verb.{Verb}
-use Rattle.acap_machine.specs.Machine.{Machine}
-use Rattle.acap_machine.specs.Serving.{served}
+use Rattle.acap_machine.specs.Changing.{changed_by}
+use Rattle.acap_machine.specs.Machine.{Machine, user_at}
+use Rattle.acap_machine.specs.Serving.{write_of}
 use Rattle.acap_machine.specs.Stepping.{step_of}
-use Rattle.acap_machine.specs.declared.answer.Answer.TheVariants.{Changes}
-use Rattle.acap_commands.specs.declared.event.Event.{Event}
-use Rattle.acap_rights.specs.declared.realm.Realm.{Realm}
 use Rattle.acap_store.specs.Planning.{planned}
 use Rattle.acap_store.specs.declared.write.Write.{Write}
 
@@ -23,17 +20,35 @@ abbrev pub RefusedLaw : Type 0
 RefusedLaw = (m : Machine) (seat : ℕ) (e : Event) (clock : ℤ) (reply : Reply) (new : Machine) (refusal : Refusal) →
     step_of m seat e clock ≡ Ok (reply, new) → reply.said ≡ said.Refused refusal → new ≡ m
 
+-- the change that an event made of the store: one that the user of its seat asked for, by a command that writes. All contexts follow
+-- it, and it is later than the one before it, whatever the clock
+pub record IsChange (m : Machine) (seat : ℕ) (e : Event) (clock : ℤ) (new : Machine) : Type 0 where
+  pub user : List ℕ
+  pub asks : Command
+  pub write : Write
+  pub change : Change
+  pub event_is : e ≡ event.Command asks
+  pub writes : write_of asks ≡ Some write
+  pub seated : user_at m seat ≡ Some user
+  pub planned_as : planned m.store m.realm user write clock ≡ Ok change
+  pub made : new ≡ changed_by change m
+  pub later : int_lt m.store.last new.store.last ≡ true
+
+-- what an event does elsewhere: where it changes the store all contexts follow that; else the store stays, and what stands at
+-- every other seat
+pub record OthersStay (m : Machine) (seat : ℕ) (new : Machine) : Type 0 where
+  pub store : new.store ≡ m.store
+  pub seats : (other : ℕ) → (other == seat) ≡ false → table.get new.seats other ≡ table.get m.seats other
+
 -- no event changes who is who, or who sits at another seat
 pub record OthersLaw : Type 0 where
   pub realm : (m : Machine) (seat : ℕ) (e : Event) (clock : ℤ) (reply : Reply) (new : Machine) →
       step_of m seat e clock ≡ Ok (reply, new) → new.realm ≡ m.realm
-  pub seats : (m : Machine) (seat : ℕ) (e : Event) (clock : ℤ) (reply : Reply) (new : Machine) →
-      step_of m seat e clock ≡ Ok (reply, new) → (other : ℕ) → (other == seat) ≡ false → table.get new.seats other ≡ table.get m.seats other
+  pub users : (m : Machine) (seat : ℕ) (e : Event) (clock : ℤ) (reply : Reply) (new : Machine) →
+      step_of m seat e clock ≡ Ok (reply, new) → (other : ℕ) → (other == seat) ≡ false → user_at new other ≡ user_at m other
 
--- each change is the one that a command which writes asks for, so that whatever holds of these holds of it: so it is later
--- than the one before it, whatever the clock
-pub record ChangeLaw : Type 0 where
-  pub planned : (s : Store) (realm : Realm) (user : List ℕ) (c : Command) (clock : ℤ) (done : Verb) (change : Change) →
-      served s realm user c clock ≡ Changes done change → (write : Write) × (planned s realm user write clock ≡ Ok change)
-  pub later : (s : Store) (realm : Realm) (user : List ℕ) (c : Command) (clock : ℤ) (done : Verb) (change : Change) →
-      served s realm user c clock ≡ Changes done change → int_lt s.last (store_after change s).last ≡ true
+-- an event makes a change of the store that a command of its seat asks for, and contexts follow it; or the store stays, and at other
+-- seats nothing changes
+abbrev pub ChangeLaw : Type 0
+ChangeLaw = (m : Machine) (seat : ℕ) (e : Event) (clock : ℤ) (reply : Reply) (new : Machine) →
+    step_of m seat e clock ≡ Ok (reply, new) → IsChange m seat e clock new ⊎ OthersStay m seat new

@@ -1,9 +1,13 @@
+pub mod Changing
 pub mod Completing
 pub mod Examples
+pub mod Following
 pub mod Laws
 pub mod Machine
+pub mod Plain
+pub mod Readied
 pub mod Runs
 pub mod Searching
-pub mod Seats
 pub mod Serving
 pub mod Stepping
+pub mod Work

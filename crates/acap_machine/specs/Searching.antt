@@ -1,5 +1,5 @@
--- What is said to a SEARCH [RFC 2244 sections 3.3 and 6.4.1].
-use Rattle.std.specs.Prelude.{ℕ, ℤ, List, [], length, min, take, Option, Some, None, option_map, map as each}
+-- What is said to a SEARCH, and which context it makes [RFC 2244 sections 3.3 and 6.4.1].
+use Rattle.std.specs.Prelude.{ℕ, ℤ, Bool, true, false, List, [], length, min, take, Option, Some, None, Result, Ok, Err, option_map, map as each}
 use Rattle.acap_entries.specs.Store.{Store}
 use Rattle.acap_entries.specs.declared.row.Row.{Row}
 use Rattle.acap_commands.specs.Wanted.{Wanted}
@@ -15,16 +15,23 @@ use Rattle.acap_commands.specs.declared.search.Search.{Search}
 use Rattle.acap_commands.specs.declared.search_modifiers.SearchModifiers.{SearchModifiers}
 use Rattle.acap_commands.specs.declared.target.Target.{Target}
 use Rattle.acap_commands.specs.declared.target.Target.TheVariants as target
+use Rattle.acap_machine.specs.Machine.{Machine}
 use Rattle.acap_rights.specs.declared.realm.Realm.{Realm}
 use Rattle.acap_search.specs.Asking.{asked_of}
 use Rattle.acap_search.specs.Cutting.{cut_of}
-use Rattle.acap_search.specs.Fresh.{fresh_of, sight_of, refusal_of}
+use Rattle.acap_search.specs.Fresh.{matches_of, refusal_of}
 use Rattle.acap_search.specs.Matches.{Match}
-use Rattle.acap_search.specs.Scopes.{scope_of}
+use Rattle.acap_search.specs.Within.{Context, context_of, matches_within, refusal_within}
+use Rattle.acap_search.specs.declared.query.Asked.{Asked}
 use Rattle.acap_search.specs.declared.query.Query.{Query}
 use Rattle.acap_search.specs.declared.query.Sought.{Sought}
 use Rattle.acap_search.specs.declared.refusal.SearchRefusal.{SearchRefusal}
 use Rattle.acap_search.specs.declared.refusal.SearchRefusal.TheVariants as refusal
+use Rattle.acap_views.specs.Opening.{opened}
+use Rattle.acap_views.specs.Ranging.{Ranged, ranged}
+use Rattle.acap_views.specs.Seats.{Seated}
+use Rattle.acap_views.specs.declared.refusal.ViewRefusal.{ViewRefusal}
+use Rattle.acap_views.specs.declared.refusal.ViewRefusal.TheVariants as view
 
 -- ---- what is told of the matches
 
@@ -63,7 +70,7 @@ found_with last sought rows total = record {
   total = option_map number_told total;
 }
 
--- ---- what is said
+-- ---- why it is refused
 
 -- a refused search, told with the dataset that was searched
 abbrev pub refused_as : List ℕ → SearchRefusal → Refusal
@@ -73,27 +80,91 @@ refused_as dataset refusal.TooOld = refusals.TooOld
 refused_as dataset refusal.WayTooMany = refusals.WayTooMany
 refused_as dataset refusal.Memory = refusals.Memory
 
+-- what is asked of a context, and refused
+abbrev pub view_refused_as : ViewRefusal → Refusal
+view_refused_as view.TryFree = refusals.TryFreeContext
+view_refused_as view.NoContext = refusals.NoContext
+view_refused_as view.FreedContext = refusals.FreedContext
+view_refused_as view.NotNotify = refusals.NotNotify
+view_refused_as view.Memory = refusals.Memory
+
 abbrev pub found_unless : List ℕ → Option SearchRefusal → SearchReply → Said
 found_unless dataset (Some refusal) found = said.Refused (refused_as dataset refusal)
 found_unless dataset None found = said.Searched found
 
--- the matches of a query over a dataset
-abbrev pub matches_of : Store → Realm → List ℕ → Query → List Match
-matches_of s realm user query = fresh_of (sight_of s.records realm user (scope_of query.sought)) query.sought
+-- that memory was refused is no refusal of the machine
+abbrev pub is_search_memory : SearchRefusal → Bool
+is_search_memory refusal.Memory = true
+is_search_memory _ = false
 
-unfoldable pub searched_by : Store → Realm → List ℕ → Query → Option Limit → Said
-searched_by s realm user query limit =
-    found_unless query.sought.dataset (refusal_of s.records realm user query) (found_of s.last query.sought limit (matches_of s realm user query))
+abbrev pub is_view_memory : ViewRefusal → Bool
+is_view_memory view.Memory = true
+is_view_memory _ = false
 
--- contexts aren't served yet: neither is one made, nor is one searched
-abbrev pub unless_kept : Option MakeContext → Said → Said
-unless_kept None words = words
-unless_kept (Some context) words = said.Refused refusals.Unserved
+-- ---- over a dataset: what is said, and the machine afterwards
 
-abbrev pub searched_in : Store → Realm → List ℕ → Target → SearchModifiers → Wanted → Said
-searched_in s realm user (target.Dataset dataset) modifiers key =
-    unless_kept modifiers.make_context (searched_by s realm user (asked_of user dataset modifiers key).query modifiers.limit)
-searched_in s realm user (target.Context name) modifiers key = said.Refused refusals.Unserved
+-- contexts as they are then, or a refusal, which leaves the machine as it was
+abbrev pub seated_or : Machine → Said → Result Seated ViewRefusal → Said × Machine
+seated_or m words (Ok seats) = (words, record m { seats = seats })
+seated_or m words (Err why) = (said.Refused (view_refused_as why), m)
 
-abbrev pub searched : Store → Realm → List ℕ → Search → Said
-searched s realm user search = searched_in s realm user search.target search.modifiers search.key
+-- MAKECONTEXT keeps all matches, whatever LIMIT tells of them; where there is no place for it nothing is told
+abbrev pub kept : Machine → ℕ → MakeContext → Sought → Option Limit → List Match → Said × Machine
+kept m seat make sought limit matches =
+    seated_or m (said.Searched (found_of m.store.last sought limit matches)) (opened m.seats seat make sought matches m.store.last)
+
+abbrev pub kept_if : Machine → ℕ → Option MakeContext → Sought → Option Limit → List Match → Said × Machine
+kept_if m seat None sought limit matches = (said.Searched (found_of m.store.last sought limit matches), m)
+kept_if m seat (Some make) sought limit matches = kept m seat make sought limit matches
+
+abbrev pub found_or : Machine → ℕ → Asked → Option SearchRefusal → List Match → Said × Machine
+found_or m seat asked (Some refusal) matches = (said.Refused (refused_as asked.query.sought.dataset refusal), m)
+found_or m seat asked None matches = kept_if m seat asked.make_context asked.query.sought asked.limit matches
+
+unfoldable pub searched_over : Machine → ℕ → List ℕ → Asked → Said × Machine
+searched_over m seat user asked =
+    found_or m seat asked (refusal_of m.store.records m.realm user asked.query) (matches_of m.store.records m.realm user asked.query.sought)
+
+-- where no context is made the machine stays as it was, and this is said
+abbrev pub searched_alone : Machine → List ℕ → Query → Option Limit → Said
+searched_alone m user query limit =
+    found_unless query.sought.dataset (refusal_of m.store.records m.realm user query)
+    (found_of m.store.last query.sought limit (matches_of m.store.records m.realm user query.sought))
+
+-- ---- over a context: what is said
+
+-- dataset, DEPTH and NOINHERIT are those of the context's own search; key, SORT, RETURN and HARDLIMIT those of the new one
+abbrev pub query_within : Sought → SearchModifiers → Wanted → Query
+query_within own modifiers key = record {
+  sought = record {
+    dataset = own.dataset;
+    depth = own.depth;
+    no_inherit = own.no_inherit;
+    key = key;
+    sort = modifiers.sort;
+    returns = modifiers.returns;
+  };
+  hard_limit = modifiers.hard_limit;
+}
+
+-- the paths that its client was told, in their order
+abbrev pub shown_within : Ranged → Context
+shown_within from = context_of (each (λ found. found.path) from.shown) from.told from.enumerated
+
+unfoldable pub searched_from : Store → Realm → List ℕ → Ranged → Query → Option Limit → Said
+searched_from s realm user from query limit =
+    found_unless query.sought.dataset (refusal_within s.records realm user query (shown_within from))
+    (found_of s.last query.sought limit (matches_within s.records realm user query.sought (shown_within from).paths))
+
+abbrev pub searched_within : Store → Realm → List ℕ → Result Ranged ViewRefusal → SearchModifiers → Wanted → Said
+searched_within s realm user (Ok from) modifiers key = searched_from s realm user from (query_within from.sought modifiers key) modifiers.limit
+searched_within s realm user (Err why) modifiers key = said.Refused (view_refused_as why)
+
+-- ---- over either
+
+abbrev pub searched_in : Machine → ℕ → List ℕ → Target → SearchModifiers → Wanted → Said × Machine
+searched_in m seat user (target.Dataset dataset) modifiers key = searched_over m seat user (asked_of user dataset modifiers key)
+searched_in m seat user (target.Context name) modifiers key = (searched_within m.store m.realm user (ranged m.seats seat name) modifiers key, m)
+
+abbrev pub searched : Machine → ℕ → List ℕ → Search → Said × Machine
+searched m seat user search = searched_in m seat user search.target search.modifiers search.key

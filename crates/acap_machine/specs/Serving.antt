@@ -1,7 +1,6 @@
--- What a command of a user comes to: words, or a change of the store [RFC 2244 sections 6.2, 6.4.1, 6.6 and 6.7].
-use Rattle.std.specs.Prelude.{ℕ, ℤ, List, Bool, true, false, Result, Ok, Err}
+-- What a command of a user comes to: what is said, and the machine afterwards [RFC 2244 sections 6.2, 6.4.1, 6.5, 6.6 and 6.7].
+use Rattle.std.specs.Prelude.{ℕ, ℤ, List, Option, Some, None, Result, Ok, Err}
 use Rattle.acap_entries.specs.Homes.{for_user}
-use Rattle.acap_entries.specs.Store.{Store}
 use Rattle.acap_entries.specs.declared.change.Change.{Change}
 use Rattle.acap_commands.specs.declared.command.Command.{Command}
 use Rattle.acap_commands.specs.declared.command.Command.TheVariants as command
@@ -12,35 +11,40 @@ use Rattle.acap_commands.specs.declared.said.Said.{Said}
 use Rattle.acap_commands.specs.declared.said.Said.TheVariants as said
 use Rattle.acap_commands.specs.declared.verb.Verb.{Verb}
 use Rattle.acap_commands.specs.declared.verb.Verb.TheVariants as verb
-use Rattle.acap_machine.specs.Searching.{searched}
-use Rattle.acap_machine.specs.declared.answer.Answer.{Answer}
-use Rattle.acap_machine.specs.declared.answer.Answer.TheVariants.{Says, Changes}
+use Rattle.acap_machine.specs.Changing.{changed_by}
+use Rattle.acap_machine.specs.Machine.{Machine}
+use Rattle.acap_machine.specs.Searching.{searched, seated_or, view_refused_as}
+use Rattle.acap_notices.specs.declared.told.Told.{Told}
 use Rattle.acap_rights.specs.Deciding.{rights_of, implicit_rights}
 use Rattle.acap_rights.specs.Rights.{letters_of, listed}
-use Rattle.acap_rights.specs.declared.realm.Realm.{Realm}
 use Rattle.acap_store.specs.Deleting.{deleted_since}
 use Rattle.acap_store.specs.Meaning.{target_for}
 use Rattle.acap_store.specs.Planning.{planned}
 use Rattle.acap_store.specs.declared.write.Write.{Write}
 use Rattle.acap_store.specs.declared.write.Write.TheVariants as write
+use Rattle.acap_views.specs.Opening.{freed_by}
+use Rattle.acap_views.specs.Seats.{Seated}
+use Rattle.acap_views.specs.Telling.{told_of}
+use Rattle.acap_views.specs.declared.refusal.ViewRefusal.{ViewRefusal}
 
--- ---- STORE, SETACL and DELETEACL: the change, or why it is refused
+-- ---- STORE, SETACL and DELETEACL: the change is made, and told as done under its verb, or it is refused
 
-abbrev pub changes_or : Verb → Result Change Refusal → Answer
-changes_or done (Ok change) = Changes done change
-changes_or done (Err refusal) = Says (said.Refused refusal)
+abbrev pub written_or : Machine → Verb → Result Change Refusal → Said × Machine
+written_or m done (Ok change) = (said.Done done, changed_by change m)
+written_or m done (Err refusal) = (said.Refused refusal, m)
 
-abbrev pub written_by : Store → Realm → List ℕ → Verb → Write → ℤ → Answer
-written_by s realm user done write clock = changes_or done (planned s realm user write clock)
+abbrev pub written : Machine → List ℕ → Verb → Write → ℤ → Said × Machine
+written m user done write clock = written_or m done (planned m.store m.realm user write clock)
 
 -- ---- MYRIGHTS and LISTRIGHTS, of any object, be it there or not
 
-abbrev pub rights_told : Store → Realm → List ℕ → Object → Said
-rights_told s realm user object = said.Rights (letters_of (rights_of s.records realm user (target_for user object)))
+abbrev pub rights_told : Machine → List ℕ → Object → Said × Machine
+rights_told m user object = (said.Rights (letters_of (rights_of m.store.records m.realm user (target_for user object))), m)
 
 -- what the identifier always has there, and then each other right apart: no list is looked at
-abbrev pub rights_listed : Realm → List ℕ → Object → List ℕ → Said
-rights_listed realm user object identifier = said.RightsList (listed (implicit_rights realm identifier (for_user user object.dataset)))
+abbrev pub rights_listed : Machine → List ℕ → Object → List ℕ → Said × Machine
+rights_listed m user object identifier =
+    (said.RightsList (listed (implicit_rights m.realm identifier (for_user user object.dataset))), m)
 
 -- ---- DELETEDSINCE
 
@@ -48,22 +52,52 @@ abbrev pub names_or : Result (List (List ℕ)) Refusal → Said
 names_or (Ok names) = said.Deleted names
 names_or (Err refusal) = said.Refused refusal
 
-abbrev pub deleted_told : Store → Realm → List ℕ → List ℕ → ℤ → Said
-deleted_told s realm user dataset since = names_or (deleted_since s realm user dataset since)
+abbrev pub deleted : Machine → List ℕ → List ℕ → ℤ → Said × Machine
+deleted m user dataset since = (names_or (deleted_since m.store m.realm user dataset since), m)
+
+-- ---- FREECONTEXT and UPDATECONTEXT
+
+abbrev pub freed : Machine → ℕ → List ℕ → Said × Machine
+freed m seat name = seated_or m (said.Done verb.FreeContext) (freed_by m.seats seat name)
+
+abbrev pub updated_or : Machine → Result (List Told × Seated) ViewRefusal → Said × Machine
+updated_or m (Ok told) = (said.Updated told.0, record m { seats = told.1 })
+updated_or m (Err why) = (said.Refused (view_refused_as why), m)
+
+-- the store's last moment is told of each context
+abbrev pub updated : Machine → ℕ → List (List ℕ) → Said × Machine
+updated m seat names = updated_or m (told_of m.seats seat names m.store.last)
 
 -- ---- every command. NOOP, LOGOUT and AUTHENTICATE concern the session alone, which answers them without the machine; to the
--- user of a seat the machine would say this. FREECONTEXT and UPDATECONTEXT aren't served yet
+-- user of a seat the machine would say this
 
-unfoldable pub served : Store → Realm → List ℕ → Command → ℤ → Answer
-served s realm user command.Noop clock = Says (said.Done verb.Noop)
-served s realm user command.Logout clock = Says said.GoodBye
-served s realm user (command.Authenticate mechanism) clock = Says (said.Refused refusals.LoggedIn)
-served s realm user (command.Store entries) clock = written_by s realm user verb.Store (write.Store entries) clock
-served s realm user (command.Search search) clock = Says (searched s realm user search)
-served s realm user (command.SetAcl object identifier letters) clock = written_by s realm user verb.SetAcl (write.SetAcl object identifier letters) clock
-served s realm user (command.DeleteAcl object identifier) clock = written_by s realm user verb.DeleteAcl (write.DeleteAcl object identifier) clock
-served s realm user (command.MyRights object) clock = Says (rights_told s realm user object)
-served s realm user (command.ListRights object identifier) clock = Says (rights_listed realm user object identifier)
-served s realm user (command.DeletedSince dataset since) clock = Says (deleted_told s realm user dataset since)
-served s realm user (command.FreeContext name) clock = Says (said.Refused refusals.Unserved)
-served s realm user (command.UpdateContext names) clock = Says (said.Refused refusals.Unserved)
+unfoldable pub served : Machine → ℕ → List ℕ → Command → ℤ → Said × Machine
+served m seat user command.Noop clock = (said.Done verb.Noop, m)
+served m seat user command.Logout clock = (said.GoodBye, m)
+served m seat user (command.Authenticate mechanism) clock = (said.Refused refusals.LoggedIn, m)
+served m seat user (command.Store entries) clock = written m user verb.Store (write.Store entries) clock
+served m seat user (command.Search search) clock = searched m seat user search
+served m seat user (command.SetAcl object identifier letters) clock =
+    written m user verb.SetAcl (write.SetAcl object identifier letters) clock
+served m seat user (command.DeleteAcl object identifier) clock =
+    written m user verb.DeleteAcl (write.DeleteAcl object identifier) clock
+served m seat user (command.MyRights object) clock = rights_told m user object
+served m seat user (command.ListRights object identifier) clock = rights_listed m user object identifier
+served m seat user (command.DeletedSince dataset since) clock = deleted m user dataset since
+served m seat user (command.FreeContext name) clock = freed m seat name
+served m seat user (command.UpdateContext names) clock = updated m seat names
+
+-- the change of the store that a command asks for, as it was sent
+abbrev pub write_of : Command → Option Write
+write_of command.Noop = None
+write_of command.Logout = None
+write_of (command.Authenticate mechanism) = None
+write_of (command.Store entries) = Some (write.Store entries)
+write_of (command.Search search) = None
+write_of (command.SetAcl object identifier letters) = Some (write.SetAcl object identifier letters)
+write_of (command.DeleteAcl object identifier) = Some (write.DeleteAcl object identifier)
+write_of (command.MyRights object) = None
+write_of (command.ListRights object identifier) = None
+write_of (command.DeletedSince dataset since) = None
+write_of (command.FreeContext name) = None
+write_of (command.UpdateContext names) = None

@@ -1,52 +1,55 @@
 -- What one event makes of a machine: a reply and the machine afterwards, or a fault and nothing else
--- [RFC 2244 sections 2 and 6].
-use Rattle.std.specs.Prelude.{◌≡◌, ⊤, ℕ, ℤ, List, [], Option, None, Some, Result, Ok, Err}
+-- [RFC 2244 sections 2, 3.3 and 6].
+use Rattle.std.specs.Prelude.{◌≡◌, ⊤, ℕ, ℤ, List, Option, None, Some, Result, Ok, Err}
 use Rattle.std.specs.Option.{option_map_or}
-use Rattle.std.specs.FinMap as table
-use Rattle.acap_entries.specs.Changes.{store_after}
-use Rattle.acap_entries.specs.declared.change.Change.{Change}
 use Rattle.acap_commands.specs.declared.reply.Reply.{Reply}
 use Rattle.acap_commands.specs.declared.said.Said.{Said}
 use Rattle.acap_commands.specs.declared.said.Said.TheVariants as said
-use Rattle.acap_commands.specs.declared.verb.Verb.{Verb}
-use Rattle.acap_machine.specs.Machine.{Machine}
-use Rattle.acap_machine.specs.Seats.{seated_as}
-use Rattle.acap_machine.specs.Serving.{served}
-use Rattle.acap_machine.specs.declared.answer.Answer.{Answer}
-use Rattle.acap_machine.specs.declared.answer.Answer.TheVariants.{Says, Changes}
 use Rattle.acap_commands.specs.declared.event.Event.{Event}
 use Rattle.acap_commands.specs.declared.event.Event.TheVariants as event
 use Rattle.acap_commands.specs.declared.fault.Fault.{Fault}
 use Rattle.acap_commands.specs.declared.fault.Fault.TheVariants as fault
-use Rattle.acap_machine.specs.declared.occupant.Occupant.{Occupant}
+use Rattle.acap_machine.specs.Machine.{Machine, user_at}
+use Rattle.acap_machine.specs.Serving.{served}
+use Rattle.acap_views.specs.Seats.{entered, left}
+use Rattle.acap_views.specs.Telling.{drained}
 
 -- what is said, without a tag
 abbrev pub plain : Said → Reply
 plain words = record { tag = None; said = words }
 
--- a user takes a seat that is free
-abbrev pub entered : Machine → ℕ → List ℕ → Option Occupant → Result (Reply × Machine) Fault
-entered m seat user None = Ok (plain said.Greeting, record m { seats = table.insert m.seats seat (seated_as user) })
-entered m seat user (Some other) = Err fault.AlreadyEntered
+abbrev pub replied : Said × Machine → Reply × Machine
+replied answer = (plain answer.0, answer.1)
 
--- a change is performed and told as done under its verb
-abbrev pub changed : Machine → Verb → Change → Reply × Machine
-changed m done change = (plain (said.Done done), record m { store = store_after change m.store })
+-- a user takes a seat that is free, and has no context there
+abbrev pub seated : Machine → ℕ → List ℕ → Option (List ℕ) → Result (Reply × Machine) Fault
+seated m seat user None = Ok (plain said.Greeting, record m { seats = entered m.seats seat user })
+seated m seat user (Some other) = Err fault.AlreadyEntered
 
--- what is said to a user leaves the machine as it was
-abbrev pub answered : Machine → Answer → Reply × Machine
-answered m (Says words) = (plain words, m)
-answered m (Changes done change) = changed m done change
+-- all that waits at a seat is told, and its live contexts show their present lists
+abbrev pub drained_at : Machine → ℕ → Reply × Machine
+drained_at m seat = (plain (said.Drained (drained m.seats seat).0), record m { seats = (drained m.seats seat).1 })
+
+-- who leaves takes all contexts along
+abbrev pub left_at : Machine → ℕ → Reply × Machine
+left_at m seat = (plain said.Left, record m { seats = left m.seats seat })
 
 -- every other event is a user's who has the seat
-abbrev pub by_user : Option Occupant → (List ℕ → Reply × Machine) → Result (Reply × Machine) Fault
-by_user seated does = option_map_or (λ occupant. Ok (does occupant.user)) seated (Err fault.NotEntered)
+abbrev pub by_user : Option (List ℕ) → (List ℕ → Reply × Machine) → Result (Reply × Machine) Fault
+by_user user does = option_map_or (λ name. Ok (does name)) user (Err fault.NotEntered)
+
+abbrev pub asked : Machine → ℕ → (Machine → List ℕ → Said × Machine) → Result (Reply × Machine) Fault
+asked m seat does = by_user (user_at m seat) (λ user. replied (does m user))
 
 abbrev pub step_of : Machine → ℕ → Event → ℤ → Result (Reply × Machine) Fault
-step_of m seat (event.Enter user) clock = entered m seat user (table.get m.seats seat)
-step_of m seat (event.Command command) clock = by_user (table.get m.seats seat) (λ user. answered m (served m.store m.realm user command clock))
-step_of m seat event.Drain clock = by_user (table.get m.seats seat) (λ user. (plain (said.Drained []), m))
-step_of m seat event.Leave clock = by_user (table.get m.seats seat) (λ user. (plain said.Left, record m { seats = table.remove m.seats seat }))
+step_of m seat (event.Enter user) clock = seated m seat user (user_at m seat)
+step_of m seat (event.Command command) clock = asked m seat (λ n user. served n seat user command clock)
+step_of m seat event.Drain clock = by_user (user_at m seat) (λ user. drained_at m seat)
+step_of m seat event.Leave clock = by_user (user_at m seat) (λ user. left_at m seat)
+
+-- a step that was performed
+pub record Stepped (old : Machine) (seat : ℕ) (e : Event) (clock : ℤ) (reply : Reply) (new : Machine) : Type 0 where
+  pub step : step_of old seat e clock ≡ Ok (reply, new)
 
 -- a fault that may be told of a step: the one that it ends in, or that memory was refused, which the definition of a
 -- step doesn't speak of

@@ -1,19 +1,24 @@
-//! The dataset machine: a store, and sessions that use it by commands (RFC 2244 sections 2, 3 and 6).
+//! The dataset machine: a store, and sessions that use it by commands and look at it through contexts (RFC 2244 sections 2, 3 and
+//! 6).
 #![tactic(auto)]
 
-mod answer;
+mod applying;
+mod deed;
 pub mod laws;
 pub mod lists;
-pub mod occupant;
+mod ready;
+mod readying;
+mod refusing;
 pub mod runs;
 mod searching;
 mod serving;
 pub mod state;
 pub mod step;
+mod writing;
 
 pub use acap_commands::{Event, Fault};
 pub use lists::{Outcomes, StepList};
-pub use occupant::Occupant;
+pub use ready::Ready;
 pub use runs::run;
 pub use state::State;
 pub use step::Step;

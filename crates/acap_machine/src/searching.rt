@@ -1,15 +1,32 @@
-//! What is said to a SEARCH.
-ghost use Rattle.std.specs.Prelude.{◌≡◌, IfOk, option_map};
+//! SEARCH over datasets and over contexts.
+ghost use Rattle.std.specs.Prelude.{◌≡◌, ◌≤◌, Some, Ok, IfOk, IsSome, option_map, length, map as each};
+ghost use Rattle.std.specs.FinMap as table;
+ghost use Rattle.acap_entries.specs.Ranks.{Ascending};
+ghost use Rattle.acap_machine.specs.Changing.{IsOpenable};
+ghost use Rattle.acap_machine.specs.Readied.{IsReadyOf};
 ghost use Rattle.acap_machine.specs.Searching as rule;
-ghost use Rattle.acap_search.specs.Asking.{asked_of};
+ghost use Rattle.acap_machine.specs.Stepping.{asked as asking, replied};
+ghost use Rattle.acap_search.specs.Cutting.{IsExcerpt};
+ghost use Rattle.acap_search.specs.Fresh.{matches_of, refusal_of};
+ghost use Rattle.acap_search.specs.Matches.{match_cmp};
+ghost use Rattle.acap_views.specs.Ranging.{ranged};
+ghost use Rattle.acap_views.specs.Started.{as_ranged};
 
+use crate::deed::Deed;
+use crate::ready::Ready;
+use crate::refusing::{search_refused, view_refused};
+use crate::state::State;
 use acap_commands::{
-    Key, Limit, Refusal, Rows, Said, Search, SearchModifiers, SearchReply, Target,
+    Fault, Key, Limit, MakeContext, Refusal, Rows, Said, Search, SearchModifiers, SearchReply,
+    Target,
 };
-use acap_entries::{Dataset, Memory, Tree, UserName};
-use acap_rights::Realm;
-use acap_search::{Asked, Excerpt, Query, SearchRefusal, Sought, tell};
+use acap_entries::{ContextName, Copying, Memory, Moment, Seat, Steps, UserName};
+use acap_search::{
+    Asked, Excerpt, Hit, Hits, Query, Sought, cut_by, first_rows, fresh, hit_law, tell, within,
+};
+use acap_views::{RangedContext, is_full};
 use std::alloc::Global;
+use std::sync::ledger::Ledger;
 
 // How many matches a reply tells.
 fn number_told(count: usize) -> u32
@@ -29,14 +46,14 @@ fn total_told(total: Option<usize>) -> Option<u32>
 }
 
 // What a reply has of what is told of the matches.
-fn found_with(alloc: Global, tree: &Tree, sought: &Sought, excerpt: Excerpt) -> SearchReply
-    ensures { result ≡ rule.found_with tree.now.store.last sought.now excerpt.rows excerpt.total }
+fn found_with(alloc: Global, last: Moment, sought: &Sought, excerpt: Excerpt) -> SearchReply
+    ensures { result ≡ rule.found_with last sought.now excerpt.rows excerpt.total }
 {
     let total = total_told(excerpt.total);
     if sought.returns.is_some() {
         SearchReply {
             rows: excerpt.rows,
-            last: Some(tree.last()),
+            last: Some(last),
             total,
         }
     } else {
@@ -48,74 +65,274 @@ fn found_with(alloc: Global, tree: &Tree, sought: &Sought, excerpt: Excerpt) -> 
     }
 }
 
-// What is said to a query over a dataset.
-#[tactic(auto, unfolding(crate::specs::Searching::searched_by), using(crate::proofs::FoundLemmas::found_is))]
-fn searched_by(
+// What is told of these hits, each row in the memory that it has.
+fn excerpt_of(alloc: Global, hits: Hits, limit: Option<Limit>) -> Result<Excerpt, Memory>
+    ensures { IfOk result (λ excerpt. IsExcerpt limit excerpt hits) }
+{
+    let cut = cut_by(limit, hits.len());
+    let rows = first_rows(alloc, hits, cut.told)?;
+    Ok(Excerpt {
+        rows,
+        total: cut.total,
+    })
+}
+
+// What is told of each of these hits, copied.
+fn rows_copied(alloc: Global, hits: &[Hit]) -> Result<Rows, Memory>
+    ensures { IfOk result (λ rows. rows ≡ each (λ hit. hit.row) hits.now) }
+{
+    let mut rows = Vec::with_capacity(alloc, hits.len())?;
+    for hit in hits {
+        rows.push(hit.row().copy()?)?;
+    }
+    Ok(Rows::from_vec(rows))
+}
+
+// What a reply has of these hits, which stay for a context. Without RETURN no row is told, and none copied.
+#[tactic(auto, using(crate::proofs::FoundLemmas::copied_is))]
+fn found_of(
     alloc: Global,
-    tree: &Tree,
-    realm: &Realm,
-    user: &UserName,
-    query: Query,
+    last: Moment,
+    sought: &Sought,
     limit: Option<Limit>,
-) -> Result<Said, Memory>
-    ensures { IfOk result (λ words. words ≡ rule.searched_by tree.now.store realm.now user.now query limit) }
+    hits: &Hits,
+) -> Result<SearchReply, Memory>
+    ensures { IfOk result (λ found. found ≡ rule.found_of last sought.now limit hits.now) }
 {
-    match tell(alloc, tree, realm, user, &query, limit) {
-        Ok(excerpt) => Ok(Said::Searched(found_with(alloc, tree, &query.sought, excerpt))),
-        Err(SearchRefusal::RangeHere) => Ok(Said::Refused(Refusal::RangeHere)),
-        Err(SearchRefusal::NoExist) => {
-            let sought = query.sought;
-            Ok(Said::Refused(Refusal::NoExist(sought.dataset)))
-        }
-        Err(SearchRefusal::TooOld) => Ok(Said::Refused(Refusal::TooOld)),
-        Err(SearchRefusal::WayTooMany) => Ok(Said::Refused(Refusal::WayTooMany)),
-        Err(SearchRefusal::Memory) => Err(Memory),
-    }
+    let cut = cut_by(limit, hits.len());
+    let told = if sought.returns.is_some() {
+        cut.told
+    } else {
+        0
+    };
+    let rows = rows_copied(alloc, &hits.as_slice()[..told.min(hits.len())])?;
+    let excerpt = Excerpt {
+        rows,
+        total: cut.total,
+    };
+    Ok(found_with(alloc, last, sought, excerpt))
 }
 
-// What is said to a search of a dataset, as sent.
-fn searched_at(
-    alloc: Global,
-    tree: &Tree,
-    realm: &Realm,
-    user: &UserName,
-    dataset: Dataset,
-    modifiers: SearchModifiers,
-    key: Key,
-) -> Result<Said, Memory>
-    ensures { IfOk result (λ words. words ≡ rule.unless_kept modifiers.make_context (rule.searched_by tree.now.store realm.now user.now (asked_of user.now dataset modifiers key).query modifiers.limit)) }
+// The query of a search over a context that another one made.
+fn query_within(own: &Sought, modifiers: SearchModifiers, key: Key) -> Result<Query, Memory>
+    ensures { IfOk result (λ query. query ≡ rule.query_within own.now modifiers key) }
 {
-    let asked = Asked::new(user, &dataset, modifiers, key)?;
-    let Asked {
-        query,
-        limit,
-        make_context,
-    } = asked;
-    if make_context.is_some() {
-        return Ok(Said::Refused(Refusal::Unserved));
-    }
-    searched_by(alloc, tree, realm, user, query, limit)
-}
-
-/// What is said to a user's SEARCH (RFC 2244 section 6.4.1).
-pub(crate) fn searched(
-    alloc: Global,
-    tree: &Tree,
-    realm: &Realm,
-    user: &UserName,
-    search: Search,
-) -> Result<Said, Memory>
-    ensures { IfOk result (λ words. words ≡ rule.searched tree.now.store realm.now user.now search) }
-{
-    let Search {
-        target,
-        modifiers,
+    let dataset = own.dataset.copy()?;
+    let SearchModifiers {
+        hard_limit,
+        returns,
+        sort,
+        ..
+    } = modifiers;
+    let sought = Sought {
+        dataset,
+        depth: own.depth,
+        no_inherit: own.no_inherit,
         key,
-    } = search;
-    match target {
-        Target::Dataset(dataset) => {
-            searched_at(alloc, tree, realm, user, dataset, modifiers, key)
+        sort,
+        returns,
+    };
+    Ok(Query { sought, hard_limit })
+}
+
+impl State {
+    /// A SEARCH (RFC 2244 section 6.4.1).
+    pub(crate) fn ready_search<L: Ledger>(
+        &mut self,
+        seat: Seat,
+        search: Search,
+        steps: &mut Steps<L>,
+    ) -> Result<Ready, Fault>
+        ensures answer { IsReadyOf result self.old
+            (asking self.old.machine seat (λ m u. rule.searched m seat u search)) self.new }
+        ensures same { self.new.machine ≡ self.old.machine }
+        ensures last { self.new.work ≡ self.old.work }
+        ensures none { IfOk result (λ r. r.work ≡ 0) }
+        ensures count { steps.old ≤ steps.new }
+    {
+        let state = &*self;
+        state.kept_law();
+        let user = state.user(seat)?;
+        let Search {
+            target,
+            modifiers,
+            key,
+        } = search;
+        match target {
+            Target::Dataset(dataset) => {
+                let asked = Asked::new(user, &dataset, modifiers, key)?;
+                self.ready_over(seat, asked, steps)
+            }
+            Target::Context(name) => {
+                let words = state.words_within(seat, user, &name, modifiers, key, steps)?;
+                Ok(Ready::new(seat, Deed::Nothing, words))
+            }
         }
-        Target::Context(_) => Ok(Said::Refused(Refusal::Unserved)),
+    }
+
+    // What is said to a search over a context.
+    fn words_within<L: Ledger>(
+        &self,
+        seat: Seat,
+        user: &UserName,
+        name: &ContextName,
+        modifiers: SearchModifiers,
+        key: Key,
+        steps: &mut Steps<L>,
+    ) -> Result<Said, Memory>
+        ensures words { IfOk result (λ words. words ≡ rule.searched_within self.now.machine.store self.now.machine.realm
+            user.now (ranged self.now.machine.seats seat name.now) modifiers key) }
+        ensures count { steps.old ≤ steps.new }
+    {
+        match self.views.range(seat, name) {
+            Ok(from) => self.words_from(user, from, modifiers, key, steps),
+            Err(why) => view_refused(why),
+        }
+    }
+
+    // What is said to a search over a context, which starts from there.
+    #[tactic(auto, unfolding(crate::specs::Searching::searched_from), using(crate::proofs::FoundLemmas::found_is))]
+    fn words_from<L: Ledger>(
+        &self,
+        user: &UserName,
+        from: RangedContext<'_>,
+        modifiers: SearchModifiers,
+        key: Key,
+        steps: &mut Steps<L>,
+    ) -> Result<Said, Memory>
+        ensures words { IfOk result (λ words. words ≡ rule.searched_from self.now.machine.store self.now.machine.realm
+            user.now (as_ranged from.entry) (rule.query_within from.entry.sought.now modifiers key) modifiers.limit) }
+        ensures count { steps.old ≤ steps.new }
+    {
+        let RangedContext {
+            sought,
+            enumerated,
+            told,
+            shown,
+        } = from;
+        let limit = modifiers.limit;
+        let query = query_within(sought, modifiers, key)?;
+        let shown = shown.hits(self.alloc)?;
+        match within(
+            self.alloc,
+            &self.tree,
+            &self.realm,
+            user,
+            &query,
+            shown.as_slice(),
+            told,
+            enumerated,
+            steps,
+        ) {
+            Ok(hits) => {
+                let excerpt = excerpt_of(self.alloc, hits, limit)?;
+                let last = self.tree.last();
+                Ok(Said::Searched(found_with(self.alloc, last, &query.sought, excerpt)))
+            }
+            Err(refusal) => {
+                let sought = query.sought;
+                search_refused(sought.dataset, refusal)
+            }
+        }
+    }
+
+    // What is said to a search over a dataset that makes no context.
+    #[tactic(auto, using(crate::proofs::FoundLemmas::found_is))]
+    fn words_over<L: Ledger>(
+        &self,
+        user: &UserName,
+        query: Query,
+        limit: Option<Limit>,
+        steps: &mut Steps<L>,
+    ) -> Result<Said, Memory>
+        ensures words { IfOk result (λ words. words ≡ rule.searched_alone self.now.machine user.now query limit) }
+        ensures count { steps.old ≤ steps.new }
+    {
+        match tell(
+            self.alloc,
+            &self.tree,
+            &self.realm,
+            user,
+            &query,
+            limit,
+            steps,
+        ) {
+            Ok(excerpt) => {
+                let last = self.tree.last();
+                Ok(Said::Searched(found_with(self.alloc, last, &query.sought, excerpt)))
+            }
+            Err(refusal) => {
+                let sought = query.sought;
+                search_refused(sought.dataset, refusal)
+            }
+        }
+    }
+
+    // A search over a dataset.
+    #[tactic(auto, unfolding(crate::specs::Searching::searched_over))]
+    fn ready_over<L: Ledger>(
+        &mut self,
+        seat: Seat,
+        asked: Asked,
+        steps: &mut Steps<L>,
+    ) -> Result<Ready, Fault>
+        ensures answer { IsReadyOf result self.old
+            (asking self.old.machine seat (λ m u. rule.searched_over m seat u asked)) self.new }
+        ensures same { self.new.machine ≡ self.old.machine }
+        ensures last { self.new.work ≡ self.old.work }
+        ensures none { IfOk result (λ r. r.work ≡ 0) }
+        ensures count { steps.old ≤ steps.new }
+    {
+        hit_law();
+        let state = &*self;
+        state.kept_law();
+        let user = state.user(seat)?;
+        let Asked {
+            query,
+            limit,
+            make_context,
+        } = asked;
+        let Some(make) = make_context else {
+            let words = state.words_over(user, query, limit, steps)?;
+            return Ok(Ready::new(seat, Deed::Nothing, words));
+        };
+        match fresh(state.alloc, &state.tree, &state.realm, user, &query, steps) {
+            Ok(hits) => self.ready_made(seat, make, query.sought, limit, hits),
+            Err(refusal) => {
+                let sought = query.sought;
+                let words = search_refused(sought.dataset, refusal)?;
+                Ok(Ready::new(seat, Deed::Nothing, words))
+            }
+        }
+    }
+
+    // The context that a search makes which found these hits.
+    fn ready_made(
+        &mut self,
+        seat: Seat,
+        make: MakeContext,
+        sought: Sought,
+        limit: Option<Limit>,
+        hits: Hits,
+    ) -> Result<Ready, Fault>
+        requires somebody { IsSome (table.get self.old.machine.seats seat) }
+        requires order { Ascending match_cmp hits }
+        requires current { IsOpenable self.old.machine seat make sought hits }
+        ensures answer { IsReadyOf result self.old (Ok (replied (rule.kept self.old.machine seat make sought limit hits))) self.new }
+        ensures same { self.new.machine ≡ self.old.machine }
+        ensures last { self.new.work ≡ self.old.work }
+        ensures none { IfOk result (λ r. r.work ≡ 0) }
+    {
+        self.kept_law();
+        if is_full(&self.views, seat, &make.name) {
+            let words = Said::Refused(Refusal::TryFreeContext);
+            return Ok(Ready::new(seat, Deed::Nothing, words));
+        }
+        let last = self.tree.last();
+        let found = found_of(self.alloc, last, &sought, limit, &hits)?;
+        match self.views.make_context(seat, make, sought, hits, last) {
+            Ok(new) => Ok(Ready::new(seat, Deed::Makes(new), Said::Searched(found))),
+            Err(why) => Ok(Ready::new(seat, Deed::Nothing, view_refused(why)?)),
+        }
     }
 }

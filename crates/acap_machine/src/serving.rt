@@ -1,139 +1,109 @@
-//! What a command of a user comes to.
-ghost use Rattle.std.specs.Prelude.{◌≡◌, false, IfOk, OnOk};
-ghost use Rattle.acap_commands.specs.Answers.{is_memory};
-ghost use Rattle.acap_commands.specs.declared.said.Said.TheVariants as saying;
+//! Commands that leave the machine as it is, and those that free contexts and tell of them.
+ghost use Rattle.std.specs.Prelude.{◌≡◌, IfOk};
+ghost use Rattle.acap_machine.specs.Readied.{IsReadyOf};
 ghost use Rattle.acap_machine.specs.Serving as rule;
+ghost use Rattle.acap_machine.specs.Stepping.{asked};
 
-use crate::answer::Answer;
-use crate::searching::searched;
-use acap_commands::{Command, Object, Refusal, Said, Verb};
-use acap_entries::{Dataset, Memory, Moment, Tree, UserName};
-use acap_rights::{Realm, implicit_rights, rights_of};
-use acap_store::{Write, deleted_since, lent_object, object_for, plan};
-use std::alloc::Global;
+use crate::deed::Deed;
+use crate::ready::Ready;
+use crate::refusing::{refused, view_refused};
+use crate::state::State;
+use acap_commands::{ContextNames, Fault, Object, Refusal, Said, Verb};
+use acap_entries::{ContextName, Dataset, Moment, Seat};
+use acap_rights::{implicit_rights, rights_of};
+use acap_store::{deleted_since, lent_object, object_for};
+use acap_views::has_context;
 
-// What is said of a refusal; that memory was refused is a fault.
-fn refused(refusal: Refusal) -> Result<Said, Memory>
-    ensures words { IfOk result (λ words. words ≡ saying.Refused refusal) }
-    ensures other { OnOk result (is_memory refusal ≡ false) }
-{
-    match refusal {
-        Refusal::Memory => Err(Memory),
-        refusal => Ok(Said::Refused(refusal)),
+impl State {
+    /// Words for who has a seat, whatever the machine.
+    pub(crate) fn ready_words(&self, seat: Seat, words: Said) -> Result<Ready, Fault>
+        ensures answer { IsReadyOf result self.now (asked self.now.machine seat (λ m u. (words, m))) self.now }
+        ensures none { IfOk result (λ r. r.work ≡ 0) }
+    {
+        self.kept_law();
+        self.user(seat)?;
+        Ok(Ready::new(seat, Deed::Nothing, words))
     }
-}
 
-// What a command that writes comes to.
-fn written_by(
-    alloc: Global,
-    tree: &Tree,
-    realm: &Realm,
-    user: &UserName,
-    verb: Verb,
-    write: Write,
-    clock: Moment,
-) -> Result<Answer, Memory>
-    ensures { IfOk result (λ answer. answer ≡ rule.written_by tree.now.store realm.now user.now verb write clock) }
-{
-    match plan(alloc, tree, realm, user, write, clock) {
-        Ok(change) => Ok(Answer::Changes(verb, change)),
-        Err(refusal) => Ok(Answer::Says(refused(refusal)?)),
+    /// A MYRIGHTS (RFC 2244 section 6.7).
+    pub(crate) fn ready_rights(&self, seat: Seat, object: Object) -> Result<Ready, Fault>
+        ensures answer { IsReadyOf result self.now
+            (asked self.now.machine seat (λ m u. rule.rights_told m u object)) self.now }
+        ensures none { IfOk result (λ r. r.work ≡ 0) }
+    {
+        self.kept_law();
+        let user = self.user(seat)?;
+        let object = object_for(user, object)?;
+        let rights = rights_of(&self.tree, &self.realm, user, &lent_object(&object));
+        let letters = rights.letters(self.alloc)?;
+        Ok(Ready::new(seat, Deed::Nothing, Said::Rights(letters)))
     }
-}
 
-// What is said to a MYRIGHTS.
-fn rights_told(
-    alloc: Global,
-    tree: &Tree,
-    realm: &Realm,
-    user: &UserName,
-    object: Object,
-) -> Result<Said, Memory>
-    ensures { IfOk result (λ words. words ≡ rule.rights_told tree.now.store realm.now user.now object) }
-{
-    let object = object_for(user, object)?;
-    let rights = rights_of(tree, realm, user, &lent_object(&object));
-    Ok(Said::Rights(rights.letters(alloc)?))
-}
-
-// What is said to a LISTRIGHTS.
-fn rights_listed(
-    alloc: Global,
-    realm: &Realm,
-    user: &UserName,
-    object: &Object,
-    identifier: &[u8],
-) -> Result<Said, Memory>
-    ensures { IfOk result (λ words. words ≡ rule.rights_listed realm.now user.now object.now identifier.now) }
-{
-    let dataset = object.dataset.for_user(user)?;
-    let rights = implicit_rights(realm, identifier, dataset.as_slice());
-    Ok(Said::RightsList(rights.listed(alloc)?))
-}
-
-// What is said to a DELETEDSINCE.
-fn deleted_told(
-    alloc: Global,
-    tree: &Tree,
-    realm: &Realm,
-    user: &UserName,
-    dataset: &Dataset,
-    since: Moment,
-) -> Result<Said, Memory>
-    ensures { IfOk result (λ words. words ≡ rule.deleted_told tree.now.store realm.now user.now dataset.now since) }
-{
-    match deleted_since(alloc, tree, realm, user, dataset, since) {
-        Ok(names) => Ok(Said::Deleted(names)),
-        Err(refusal) => refused(refusal),
+    /// A LISTRIGHTS (RFC 2244 section 6.7).
+    pub(crate) fn ready_list(
+        &self,
+        seat: Seat,
+        object: &Object,
+        identifier: &[u8],
+    ) -> Result<Ready, Fault>
+        ensures answer { IsReadyOf result self.now
+            (asked self.now.machine seat (λ m u. rule.rights_listed m u object.now identifier.now)) self.now }
+        ensures none { IfOk result (λ r. r.work ≡ 0) }
+    {
+        self.kept_law();
+        let user = self.user(seat)?;
+        let dataset = object.dataset.for_user(user)?;
+        let rights = implicit_rights(&self.realm, identifier, dataset.as_slice());
+        let list = rights.listed(self.alloc)?;
+        Ok(Ready::new(seat, Deed::Nothing, Said::RightsList(list)))
     }
-}
 
-/// What a user's command comes to when the clock shows that moment; nothing is changed yet.
-#[tactic(auto, unfolding(crate::specs::Serving::served))]
-pub(crate) fn served(
-    alloc: Global,
-    tree: &Tree,
-    realm: &Realm,
-    user: &UserName,
-    command: Command,
-    clock: Moment,
-) -> Result<Answer, Memory>
-    ensures { IfOk result (λ answer. answer ≡ rule.served tree.now.store realm.now user.now command clock) }
-{
-    match command {
-        Command::Noop => Ok(Answer::Says(Said::Done(Verb::Noop))),
-        Command::Logout => Ok(Answer::Says(Said::GoodBye)),
-        Command::Authenticate(_) => Ok(Answer::Says(Said::Refused(Refusal::LoggedIn))),
-        Command::Store(entries) => {
-            let write = Write::Store(entries);
-            written_by(alloc, tree, realm, user, Verb::Store, write, clock)
+    /// A DELETEDSINCE (RFC 2244 section 6.6.2).
+    pub(crate) fn ready_deleted(
+        &self,
+        seat: Seat,
+        dataset: &Dataset,
+        since: Moment,
+    ) -> Result<Ready, Fault>
+        ensures answer { IsReadyOf result self.now
+            (asked self.now.machine seat (λ m u. rule.deleted m u dataset.now since)) self.now }
+        ensures none { IfOk result (λ r. r.work ≡ 0) }
+    {
+        self.kept_law();
+        let user = self.user(seat)?;
+        let words = match deleted_since(self.alloc, &self.tree, &self.realm, user, dataset, since) {
+            Ok(names) => Said::Deleted(names),
+            Err(refusal) => refused(refusal)?,
+        };
+        Ok(Ready::new(seat, Deed::Nothing, words))
+    }
+
+    /// A FREECONTEXT (RFC 2244 section 6.5). Takes no memory.
+    pub(crate) fn ready_free(&self, seat: Seat, name: ContextName) -> Result<Ready, Fault>
+        ensures answer { IsReadyOf result self.now
+            (asked self.now.machine seat (λ m u. rule.freed m seat name)) self.now }
+        ensures none { IfOk result (λ r. r.work ≡ 0) }
+    {
+        self.kept_law();
+        self.user(seat)?;
+        if !has_context(&self.views, seat, &name) {
+            return Ok(Ready::new(seat, Deed::Nothing, Said::Refused(Refusal::NoContext)));
         }
-        Command::SetAcl(object, identifier, letters) => {
-            let write = Write::SetAcl(object, identifier, letters);
-            written_by(alloc, tree, realm, user, Verb::SetAcl, write, clock)
-        }
-        Command::DeleteAcl(object, identifier) => {
-            let write = Write::DeleteAcl(object, identifier);
-            written_by(alloc, tree, realm, user, Verb::DeleteAcl, write, clock)
-        }
-        Command::Search(search) => {
-            let words = searched(alloc, tree, realm, user, search.into_value())?;
-            Ok(Answer::Says(words))
-        }
-        Command::MyRights(object) => {
-            let words = rights_told(alloc, tree, realm, user, object.into_value())?;
-            Ok(Answer::Says(words))
-        }
-        Command::ListRights(object, identifier) => {
-            let words = rights_listed(alloc, realm, user, object.get(), identifier.as_slice())?;
-            Ok(Answer::Says(words))
-        }
-        Command::DeletedSince(dataset, since) => {
-            let words = deleted_told(alloc, tree, realm, user, &dataset, since)?;
-            Ok(Answer::Says(words))
-        }
-        Command::FreeContext(_) | Command::UpdateContext(_) => {
-            Ok(Answer::Says(Said::Refused(Refusal::Unserved)))
+        Ok(Ready::new(seat, Deed::Frees(name), Said::Done(Verb::FreeContext)))
+    }
+
+    /// An UPDATECONTEXT (RFC 2244 section 6.5).
+    pub(crate) fn ready_update(&self, seat: Seat, names: ContextNames) -> Result<Ready, Fault>
+        ensures answer { IsReadyOf result self.now
+            (asked self.now.machine seat (λ m u. rule.updated m seat names)) self.now }
+        ensures none { IfOk result (λ r. r.work ≡ 0) }
+    {
+        self.kept_law();
+        self.user(seat)?;
+        let last = self.tree.last();
+        match self.views.tolds_of(seat, names.as_slice(), last) {
+            Ok(tolds) => Ok(Ready::new(seat, Deed::Tells(names, last), Said::Updated(tolds))),
+            Err(refusal) => Ok(Ready::new(seat, Deed::Nothing, view_refused(refusal)?)),
         }
     }
 }

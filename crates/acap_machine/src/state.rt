@@ -1,49 +1,70 @@
 //! The machine in memory.
-ghost use Rattle.std.specs.Prelude.{◌≡◌, IfOk, IfErr, OnErr, IsOk, IsSome, Ok, Err};
-ghost use Rattle.std.specs.FinMap as table;
-ghost use Rattle.acap_machine.specs.Machine.{new_machine};
+ghost use Rattle.std.specs.Prelude.{◌≡◌, ◌↔◌, ◌≤◌, ◌<◌, ◌+◌, ℕ, false, true, IfOk, IfErr, OnErr, IsOk, IsSome, Ok, Err, option_map};
+ghost use Rattle.std.specs.Int.{bit_at};
+ghost use Rattle.std.specs.Option.{option_copied};
+ghost use Rattle.acap_machine.specs.Changing.{IsKept};
+ghost use Rattle.acap_machine.specs.Machine.{new_machine, user_at};
+ghost use Rattle.acap_views.specs.Laws.{CurrentLaw};
+ghost use Rattle.acap_views.specs.Waiting.{is_waiting};
 
-use crate::answer::Answer;
-use crate::occupant::Occupant;
-use crate::serving::served;
-use acap_commands::{Command, Event, Fault, Reply, Said, Tolds, Verb};
-use acap_entries::{Change, Copying, Memory, Moment, Seat, Seats, Tree, UserName};
+use acap_commands::{Event, Fault, Reply};
+use acap_entries::{Copying, Memory, Moment, Seat, Steps, Tree, UserName};
+use acap_inherit::Resolved;
 use acap_rights::Realm;
+use acap_store::sound_law;
+use acap_views::{Views, current_law};
 use std::alloc::Global;
 use std::marker::Model;
+use std::sync::ledger::Ledger;
 
-/// The machine in memory: seen as who is who, its store and who sits where, and beside these the number of records that
-/// there is room for, which no equality speaks of (RFC 2244 section 2).
+/// The machine in memory: seen as who is who, its store and who sits where with which contexts, and beside these how it is kept
+/// and what its last event cost, of which no equality of machines speaks (RFC 2244 sections 2 and 3.3).
 #[derive(Drop)]
 pub struct State {
-    realm: Realm,
-    tree: Tree,
-    seats: Seats<Occupant>,
+    pub(crate) alloc: Global,
+    pub(crate) realm: Realm,
+    pub(crate) tree: Tree,
+    pub(crate) index: Resolved,
+    pub(crate) views: Views,
+    pub(crate) work: usize,
 }
 
 impl Model for State {
-    ghost use Rattle.acap_machine.specs.Machine.{Roomed, roomed_code};
+    ghost use Rattle.acap_machine.specs.Changing.{IsKept};
+    ghost use Rattle.acap_machine.specs.Machine.{Roomed, roomed_code, machine_with};
 
     ghost Value = { Roomed };
 
     ghost coded = { roomed_code };
 
-    ghost view = { λ s. record { machine = record { realm = s.realm; store = s.tree.store; seats = s.seats }; spare = s.tree.spare } };
+    ghost view = { λ s. record {
+      machine = machine_with s.realm s.tree.store s.views;
+      kept = record { tree = s.tree; index = s.index; views = s.views };
+      work = s.work;
+    } };
+
+    ghost invariant = { λ s. IsKept (machine_with s.realm s.tree.store s.views) s.index.0 };
 }
 
 impl State {
-    ghost use Rattle.acap_machine.specs.Stepping.{step_of, entered, changed, IsFault};
     ghost use Rattle.acap_commands.specs.declared.fault.Fault.TheVariants as faults;
     ghost use Rattle.acap_commands.specs.declared.event.Event.TheVariants as events;
+    ghost use Rattle.acap_machine.specs.Stepping.{step_of, Stepped, IsFault};
+    ghost use Rattle.acap_machine.specs.Work.{is_search, work_of};
 
     /// The empty machine of a realm: an empty store, and nobody in any seat. Takes no memory.
     pub fn new(alloc: Global, realm: Realm) -> State
         ensures { result.machine ≡ new_machine realm }
     {
+        sound_law();
+        current_law();
         State {
+            alloc,
             realm,
             tree: Tree::new(alloc),
-            seats: Seats::new(alloc),
+            index: Resolved::new(alloc),
+            views: Views::new(alloc),
+            work: 0,
         }
     }
 
@@ -61,102 +82,78 @@ impl State {
         &self.realm
     }
 
+    /// At which seats a drain has something to tell: a bit for each, the lowest for the first (RFC 2244 section 6.5). Takes no
+    /// memory.
+    pub fn waiting(&self) -> u64
+        ensures { (n : ℕ) → n < 64 → (bit_at result n ≡ 1) ↔ (is_waiting self.now.machine.seats n ≡ true) }
+    {
+        self.views.waiting()
+    }
+
+    /// How many touched entries were looked at for contexts in the last event that was performed: none in a SEARCH.
+    pub fn work(&self) -> usize
+        ensures { result ≡ self.now.work }
+    {
+        self.work
+    }
+
     /// An equal machine. Fails only for want of memory.
     pub fn copy(&self) -> Result<State, Memory>
         ensures { IfOk result (λ made. made.machine ≡ self.now.machine) }
     {
         let realm = self.realm.copy()?;
         let tree = self.tree.copy()?;
-        let seats = self.seats.copy()?;
-        Ok(State { realm, tree, seats })
+        let index = self.index.copy()?;
+        let views = self.views.copy()?;
+        Ok(State {
+            alloc: self.alloc,
+            realm,
+            tree,
+            index,
+            views,
+            work: self.work,
+        })
     }
 
-    /// Performs one event of a seat when the clock shows that moment. A fault leaves the machine as it was.
-    pub fn step(&mut self, seat: Seat, event: Event, clock: Moment) -> Result<Reply, Fault>
-        ensures ok { IfOk result (λ reply. step_of self.old.machine seat event clock ≡ Ok (reply, self.new.machine)) }
+    /// Performs one event of a seat when the clock shows that moment. A fault leaves the machine as it was. Each entry that a
+    /// search looks at counts as a step, and so does each touched entry for each live context that looks at it.
+    pub fn step<L: Ledger>(
+        &mut self,
+        seat: Seat,
+        event: Event,
+        clock: Moment,
+        steps: &mut Steps<L>,
+    ) -> Result<Reply, Fault>
+        ensures ok { IfOk result (λ reply. Stepped self.old.machine seat event clock reply self.new.machine) }
         ensures fault { IfErr result (λ fault. IsFault (step_of self.old.machine seat event clock) fault) }
         ensures err { OnErr result (self.new.machine ≡ self.old.machine) }
-        ensures leave { event ≡ events.Leave → IsSome (table.get self.old.machine.seats seat) → IsOk result }
+        ensures leave { event ≡ events.Leave → IsSome (user_at self.old.machine seat) → IsOk result }
+        ensures count { steps.old ≤ steps.new }
+        ensures work { is_search event ≡ false
+            → steps.new ≤ steps.old + work_of self.old.machine seat event clock }
     {
-        match event {
-            Event::Enter(user) => self.enter(seat, user),
-            Event::Command(command) => self.ask(seat, command, clock),
-            Event::Drain => self.drain(seat, clock),
-            Event::Leave => self.leave(seat, clock),
-        }
+        let ready = self.ready_by(seat, event, clock, steps)?;
+        Ok(self.apply(ready))
     }
 
-    // A user takes a seat that is free.
-    fn enter(&mut self, seat: Seat, user: UserName) -> Result<Reply, Fault>
-        ensures ok { IfOk result (λ reply. entered self.old.machine seat user (table.get self.old.machine.seats seat) ≡ Ok (reply, self.new.machine)) }
-        ensures fault { IfErr result (λ fault. IsFault (entered self.old.machine seat user (table.get self.old.machine.seats seat)) fault) }
-        ensures err { OnErr result (self.new.machine ≡ self.old.machine) }
+    /// What is so of each machine between two events, and stays so whatever happens to its contexts: does nothing.
+    pub(crate) fn kept_law(&self)
+        ensures kept { IsKept self.now.machine self.now.kept.index.0 }
+        ensures contexts { CurrentLaw }
     {
-        if self.seats.get(seat).is_some() {
-            return Err(Fault::AlreadyEntered);
-        }
-        self.seats.set(seat, Occupant { user })?;
-        Ok(Reply::new(Said::Greeting))
+        current_law();
+        let _ = &self.work;
     }
 
-    // The user of a seat gives a command.
-    fn ask(&mut self, seat: Seat, command: Command, clock: Moment) -> Result<Reply, Fault>
-        ensures ok { IfOk result (λ reply. step_of self.old.machine seat (events.Command command) clock ≡ Ok (reply, self.new.machine)) }
-        ensures fault { IfErr result (λ fault. IsFault (step_of self.old.machine seat (events.Command command) clock) fault) }
-        ensures err { OnErr result (self.new.machine ≡ self.old.machine) }
+    // Who has a seat.
+    pub(crate) fn user(&self, seat: Seat) -> Result<&UserName, Fault>
+        ensures ok { IfOk result (λ user. user_at self.now.machine seat ≡ Some user.now) }
+        ensures nobody { IfErr result (λ fault. fault ≡ faults.NotEntered) }
+        ensures err { OnErr result (user_at self.now.machine seat ≡ None) }
     {
-        let Some(occupant) = self.seats.get(seat) else {
-            return Err(Fault::NotEntered);
-        };
-        let alloc = self.realm.administrators.allocator();
-        match served(
-            alloc,
-            &self.tree,
-            &self.realm,
-            &occupant.user,
-            command,
-            clock,
-        )? {
-            Answer::Says(words) => Ok(Reply::new(words)),
-            Answer::Changes(verb, change) => self.change(verb, change),
-        }
-    }
-
-    // Performs the change of a command: no other call changes the store.
-    fn change(&mut self, verb: Verb, change: Change) -> Result<Reply, Fault>
-        ensures ok { IfOk result (λ reply. changed self.old.machine verb change ≡ (reply, self.new.machine)) }
-        ensures fault { IfErr result (λ fault. fault ≡ faults.Memory) }
-        ensures err { OnErr result (self.new.machine ≡ self.old.machine) }
-    {
-        self.tree.reserve(&change)?;
-        self.tree.commit(change);
-        Ok(Reply::new(Said::Done(verb)))
-    }
-
-    // Nothing is pending, since nothing is watched yet.
-    fn drain(&self, seat: Seat, clock: Moment) -> Result<Reply, Fault>
-        ensures ok { IfOk result (λ reply. step_of self.now.machine seat events.Drain clock ≡ Ok (reply, self.now.machine)) }
-        ensures fault { IfErr result (λ fault. IsFault (step_of self.now.machine seat events.Drain clock) fault) }
-    {
-        match self.seats.get(seat) {
-            Some(_) => Ok(Reply::new(Said::Drained(Tolds::new(
-                self.realm.administrators.allocator(),
-            )))),
+        match self.views.user(seat) {
+            Some(user) => Ok(user),
             None => Err(Fault::NotEntered),
         }
-    }
-
-    // The user leaves the seat. Takes no memory.
-    fn leave(&mut self, seat: Seat, clock: Moment) -> Result<Reply, Fault>
-        ensures ok { IfOk result (λ reply. step_of self.old.machine seat events.Leave clock ≡ Ok (reply, self.new.machine)) }
-        ensures fault { IfErr result (λ fault. IsFault (step_of self.old.machine seat events.Leave clock) fault) }
-        ensures err { OnErr result (self.new.machine ≡ self.old.machine) }
-        ensures done { IsSome (table.get self.old.machine.seats seat) → IsOk result }
-    {
-        if self.seats.get(seat).is_none() {
-            return Err(Fault::NotEntered);
-        }
-        self.seats.remove(seat);
-        Ok(Reply::new(Said::Left))
     }
 }

@@ -1,5 +1,5 @@
 -- Lists that name groups, and the same written out for the members.
-use Rattle.std.proofs.Common.{◌≡◌, ℕ, Bool, true, false, not, List, [], ◌∷◌, ◌++◌, map, drop, Option, Some, None, refl, sym, ap, ◌∙◌}
+use Rattle.std.proofs.Common.{◌≡◌, ℕ, Bool, true, false, not, List, [], ◌∷◌, ◌++◌, map, drop, Some, None, refl, sym, ap, ◌∙◌}
 use Rattle.std.specs.Prelude.{◌&&◌, ◌||◌, nat_eq, codes, if◌then◌else◌}
 use Rattle.std.specs.Cmp.Lexicographic.{bytes_decides}
 use Rattle.std.specs.List.{flat_map, list_any, list_all, starts_with}
@@ -10,11 +10,11 @@ use Rattle.std.proofs.lemmas.List.Folds.{list_any-append, list_all-append}
 use Rattle.std.proofs.lemmas.Slice.Eq.{starts_is}
 use Rattle.acap_entries.specs.Names.{minus, has, begins_with, group_prefix, is_user_name}
 use Rattle.acap_entries.specs.Orders.{octets_eq}
-use Rattle.acap_rights.specs.Groups.{GroupLaw, without_groups, members_of, unsigned, signed_as, pair_written_out, written_out, are_users}
+use Rattle.acap_rights.specs.Groups.{GroupLaw, without_groups, members_of, pair_written_out, written_out, are_users}
 use Rattle.acap_rights.specs.Laws.{string_of, common}
-use Rattle.acap_rights.specs.Pairs.{Pair, pair_of, says, gives, takes, given, taken, rights_in, is_identifier, is_letter}
+use Rattle.acap_rights.specs.Pairs.{Pair, pair_of, says, gives, takes, rights_in, is_identifier, is_letter}
 use Rattle.acap_rights.specs.Realms.{has_member, names, names_in_group}
-use Rattle.acap_rights.specs.Rights.{rights_by, less}
+use Rattle.acap_rights.specs.Rights.{less}
 use Rattle.acap_rights.specs.declared.group.Group.{Group}
 use Rattle.acap_rights.specs.declared.realm.Realm.{Realm}
 use Rattle.acap_rights.proofs.GrantLemmas.{or_none}

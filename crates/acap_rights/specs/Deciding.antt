@@ -81,6 +81,11 @@ implicit_rights realm identifier dataset =
     then all_rights
     else if is_owner identifier dataset then record { x = false; r = true; w = false; i = false; a = true } else no_rights
 
+-- the rights of a user in a dataset by a stored list, if there is one
+abbrev pub rights_by_list : Realm → List ℕ → List ℕ → Option (List (List ℕ)) → Rights
+rights_by_list realm user dataset stored =
+    union (rights_in realm user (unwrap_or stored (default_list dataset))) (implicit_rights realm user dataset)
+
 -- the rights of a user
 unfoldable pub rights_of : Stored → Realm → List ℕ → Target → Rights
 rights_of records realm user target =

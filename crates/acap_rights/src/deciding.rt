@@ -10,8 +10,8 @@ use crate::object::Object;
 use acap_entries::{Cell, JoinedText, Memory, Record, Records, Value};
 use std::alloc::Global;
 
-// A value as a list: NIL is none, and one string is a list in which nothing stands.
-fn list_in(cell: Option<&Cell>) -> Option<&[Value]>
+/// A value as a list: NIL is none, and one string is a list in which nothing stands.
+pub(crate) fn list_in(cell: Option<&Cell>) -> Option<&[Value]>
     ensures { option_copied result ≡ option_and_then rule.list_in (option_copied cell.entry) }
 {
     match cell {

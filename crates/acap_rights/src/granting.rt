@@ -1,7 +1,7 @@
 //! What rights a user has. No call here takes memory.
 ghost use Rattle.std.specs.Prelude.{◌≡◌};
-ghost use Rattle.acap_rights.specs.Rights.{rights_by, union};
-ghost use Rattle.std.specs.Option.{option_copied, unwrap_or};
+ghost use Rattle.acap_rights.specs.Rights.{rights_by};
+ghost use Rattle.std.specs.Option.{option_copied};
 ghost use Rattle.acap_rights.specs.Pairs as rule;
 ghost use Rattle.acap_rights.specs.Homes.{default_list};
 ghost use Rattle.acap_rights.specs.Deciding as decided;
@@ -119,7 +119,7 @@ pub(crate) fn rights_by(
     dataset: &[u8],
     stored: Option<&[Value]>,
 ) -> Rights
-    ensures { result ≡ union (rule.rights_in realm.now user.now (unwrap_or (option_copied stored.entry) (default_list dataset.now))) (decided.implicit_rights realm.now user.now dataset.now) }
+    ensures { result ≡ decided.rights_by_list realm.now user.now dataset.now (option_copied stored.entry) }
 {
     let user = user.as_slice();
     let listed = match stored {

@@ -34,4 +34,4 @@ pub use object::Object;
 pub use pairs::{is_acl, is_pair};
 pub use realm::Realm;
 pub use rights::Rights;
-pub use sharing::shared_rights;
+pub use sharing::{SharedRights, shared_rights};

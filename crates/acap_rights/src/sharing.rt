@@ -1,54 +1,89 @@
-//! Datasets in which a user has the same rights on all attributes. No call here takes memory.
-ghost use Rattle.std.specs.Prelude.{◌≡◌};
-ghost use Rattle.std.specs.List.{list_any};
+//! The rights that a user has on the attributes of a dataset, made once for all of its entries.
+ghost use Rattle.std.specs.Prelude.{◌≡◌, IfOk};
 ghost use Rattle.std.specs.Option.{option_copied};
 ghost use Rattle.acap_rights.specs.Sharing as rule;
 
-use crate::deciding::dataset_list;
+use crate::deciding::{dataset_list, list_in};
 use crate::granting::rights_by;
 use crate::realm::Realm;
 use crate::rights::Rights;
-use acap_entries::{Attribute, Cell, Record, Records, UserName};
+use acap_entries::{Attribute, Memory, Record, Records, Table, UserName};
+use std::alloc::Global;
 
-// Whether an attribute begins as the list of an attribute alone does.
-fn is_list_name(attribute: &[u8]) -> bool
-    ensures { result ≡ rule.is_list_name attribute.now }
-{
-    attribute.starts_with(b"dataset.acl.")
+/// A user's rights on the attributes of a dataset. An entry that has a list of its own for an attribute doesn't share them
+/// (RFC 2244 section 3.5).
+#[derive(Drop)]
+pub struct SharedRights {
+    /// Those on each attribute that has a list in the dataset's management entry.
+    pub listed: Table<Rights>,
+    /// Those on all others.
+    pub others: Rights,
 }
 
-// Whether one of some attributes does.
-fn any_list_name(entries: &[(Attribute, Cell)]) -> bool
-    ensures { result ≡ list_any (λ e. rule.is_list_name e.0) entries.now }
-{
-    entries.iter().any(|entry| is_list_name(entry.0.as_slice()))
-}
-
-// Whether a management entry has such an attribute.
-#[tactic(auto, unfolding(crate::specs::Sharing::has_list_names))]
-fn has_list_names(management: Option<&Record>) -> bool
-    ensures { result ≡ rule.has_list_names (option_copied management.entry) }
-{
-    match management {
-        Some(record) => any_list_name(record.cells.entries()),
-        None => false,
+impl SharedRights {
+    /// Those on an attribute. Takes no memory.
+    pub fn on(&self, attribute: &[u8]) -> Rights
+        ensures { result ≡ rule.shared_on self.now attribute.now }
+    {
+        match self.listed.find(attribute) {
+            Some(rights) => *rights,
+            None => self.others,
+        }
     }
 }
 
-/// The rights of a user on each attribute of a dataset's entries, but for those that have a list in their entry; none where the
-/// dataset may have a list for an attribute alone (RFC 2244 section 3.5). So rights are asked once for many attributes.
-#[tactic(auto, unfolding(crate::specs::Sharing::shared_rights, crate::specs::Deciding::rights_of, crate::specs::Deciding::deciding_list))]
+// Of which attribute an attribute of a management entry is the list.
+fn named_by(attribute: &[u8]) -> Option<&[u8]>
+    ensures { option_copied result ≡ rule.named_by attribute.now }
+{
+    if !attribute.starts_with(b"dataset.acl.") {
+        return None;
+    }
+    let (_, named) = attribute.split_at(b"dataset.acl.".len());
+    Some(named)
+}
+
+// The rights by each list of an attribute in a management entry.
+#[tactic(auto, unfolding(crate::specs::Sharing::listed_in))]
+fn listed_in(
+    alloc: Global,
+    realm: &Realm,
+    user: &UserName,
+    dataset: &[u8],
+    management: Option<&Record>,
+) -> Result<Table<Rights>, Memory>
+    ensures { IfOk result (λ listed.
+        listed ≡ rule.listed_in realm.now user.now dataset.now (option_copied management.entry)) }
+{
+    let mut listed = Table::new(alloc);
+    let Some(record) = management else {
+        return Ok(listed);
+    };
+    for (attribute, cell) in record.cells.entries() {
+        if let Some(named) = named_by(attribute.as_slice())
+            && let Some(list) = list_in(Some(cell))
+        {
+            let rights = rights_by(realm, user, dataset, Some(list));
+            listed.set(Attribute::from_slice(alloc, named)?, rights)?;
+        }
+    }
+    Ok(listed)
+}
+
+/// A user's rights on the attributes of a dataset. Fails only for want of memory, of which it takes none where no attribute
+/// has a list.
 pub fn shared_rights<R: Records>(
+    alloc: Global,
     records: &R,
     realm: &Realm,
     user: &UserName,
     dataset: &[u8],
-) -> Option<Rights>
-    ensures { result ≡ rule.shared_rights (R.store records.now).records realm.now user.now dataset.now }
+) -> Result<SharedRights, Memory>
+    ensures { IfOk result (λ shared.
+        rule.AreShared (R.store records.now).records realm.now user.now dataset.now shared) }
 {
     let management = records.find(dataset, b"");
-    if has_list_names(management) {
-        return None;
-    }
-    Some(rights_by(realm, user, dataset, dataset_list(management)))
+    let listed = listed_in(alloc, realm, user, dataset, management)?;
+    let others = rights_by(realm, user, dataset, dataset_list(management));
+    Ok(SharedRights { listed, others })
 }

@@ -2,6 +2,8 @@
 //! name, and tells which are wrong and how many hold.
 #![tactic(auto)]
 
+ghost use Rattle.std.specs.Prelude.{◌≡◌, ◌<◌};
+
 mod difference;
 mod escapes;
 mod pieces;
@@ -10,7 +12,10 @@ mod running;
 
 use crate::row_file::{Row, read_rows};
 use crate::running::first_wrong;
+use acap_entries::Steps;
+use std::marker::Brand;
 use std::process::ExitCode;
+use std::sync::ledger::{Blank, Ledger};
 use std::{env, fs, io};
 
 /// The status where a row doesn't hold, or there is none.
@@ -37,8 +42,14 @@ impl Tally {
 }
 
 // Runs a row, and tells where it is wrong: how it was cut, and the first line that differs.
-fn run_row(rt: &HostRuntime, file: &str, row: &Row, tally: &mut Tally) -> io::Result<()> {
-    let wrong = first_wrong(rt.alloc(), row)?;
+fn run_row<L: Ledger>(
+    rt: &HostRuntime,
+    file: &str,
+    row: &Row,
+    tally: &mut Tally,
+    steps: &mut Steps<L>,
+) -> io::Result<()> {
+    let wrong = first_wrong(rt.alloc(), row, steps)?;
     tally.count(wrong.is_none());
     if let Some(wrong) = wrong {
         println!(rt; "{file}: {} ({})", row.name, wrong.sizes)?;
@@ -49,11 +60,17 @@ fn run_row(rt: &HostRuntime, file: &str, row: &Row, tally: &mut Tally) -> io::Re
 }
 
 // Runs the rows of a file's text; where a line can't be read, that is told, and no row is run.
-fn run_text(rt: &HostRuntime, file: &str, text: &str, tally: &mut Tally) -> io::Result<()> {
+fn run_text<L: Ledger>(
+    rt: &HostRuntime,
+    file: &str,
+    text: &str,
+    tally: &mut Tally,
+    steps: &mut Steps<L>,
+) -> io::Result<()> {
     match read_rows(rt.alloc(), text) {
         Ok(rows) => {
             for row in &rows {
-                run_row(rt, file, row, tally)?;
+                run_row(rt, file, row, tally, steps)?;
             }
             Ok(())
         }
@@ -65,9 +82,14 @@ fn run_text(rt: &HostRuntime, file: &str, text: &str, tally: &mut Tally) -> io::
 }
 
 // Runs the rows of a file; where it can't be read, that is told.
-fn run_file(rt: &HostRuntime, file: &str, tally: &mut Tally) -> io::Result<()> {
+fn run_file<L: Ledger>(
+    rt: &HostRuntime,
+    file: &str,
+    tally: &mut Tally,
+    steps: &mut Steps<L>,
+) -> io::Result<()> {
     match fs::read_to_string(rt, file) {
-        Ok(text) => run_text(rt, file, text.as_str(), tally),
+        Ok(text) => run_text(rt, file, text.as_str(), tally, steps),
         Err(_) => {
             tally.count(false);
             println!(rt; "{file}: can't be read")
@@ -75,20 +97,30 @@ fn run_file(rt: &HostRuntime, file: &str, tally: &mut Tally) -> io::Result<()> {
     }
 }
 
-fn main(rt: HostRuntime) -> io::Result<ExitCode> {
+// Runs the rows of all files that the arguments name, and tells how many hold. What their searches look at is counted.
+fn run<L: Ledger>(rt: &HostRuntime, blank: Blank) -> io::Result<ExitCode>
+    requires name { blank.name ≡ L.name }
+    requires parts { blank.parts ≡ L.parts }
+    requires some { 0 < L.parts }
+{
+    let mut steps = Steps::<L>::new(blank);
     let mut tally = Tally { rows: 0, held: 0 };
     let mut counts = true;
-    let mut words = env::args(&rt)?;
+    let mut words = env::args(rt)?;
     let _program = words.next();
     for word in words {
         let mut told = Tally { rows: 0, held: 0 };
         match word.as_str() {
             TOLD => counts = false,
-            file if counts => run_file(&rt, file, &mut tally)?,
-            file => run_file(&rt, file, &mut told)?,
+            file if counts => run_file(rt, file, &mut tally, &mut steps)?,
+            file => run_file(rt, file, &mut told, &mut steps)?,
         }
     }
     let Tally { rows, held } = tally;
     println!(rt; "{held} of {rows} rows hold")?;
     Ok(ExitCode::from(if rows > 0 && held == rows { 0 } else { WRONG }))
+}
+
+fn main(rt: HostRuntime) -> io::Result<ExitCode> {
+    run::<Brand>(&rt, Blank::new(1))
 }

@@ -4,9 +4,10 @@ use crate::difference::{Lines, first_lines};
 use crate::pieces::{PieceSizes, Pieces};
 use crate::row_file::{Kind, Row};
 use acap_calls::run_call;
-use acap_entries::UserName;
+use acap_entries::{Steps, UserName};
 use acap_session::{ScriptFault, run_pipe, run_script};
 use std::alloc::{AllocError, Global};
+use std::sync::ledger::Ledger;
 
 /// What a session says first.
 const GREETING: &[u8] =
@@ -28,10 +29,17 @@ pub(crate) struct Wrong {
 }
 
 // What a session of that user writes that reads these octets.
-fn said(alloc: Global, user: &str, sent: &[u8], sizes: PieceSizes) -> Result<Vec<u8>, AllocError> {
+fn said<L: Ledger>(
+    alloc: Global,
+    user: &str,
+    sent: &[u8],
+    sizes: PieceSizes,
+    steps: &mut Steps<L>,
+) -> Result<Vec<u8>, AllocError> {
     let mut text = Vec::new(alloc);
+    let reader = &mut Pieces { left: sent, sizes };
     let done = match UserName::read(alloc, user.as_bytes()) {
-        Ok(user) => run_pipe(alloc, &mut Pieces { left: sent, sizes }, &mut text, user).is_ok(),
+        Ok(user) => run_pipe(alloc, reader, &mut text, user, steps).is_ok(),
         Err(_) => false,
     };
     if !done {
@@ -54,16 +62,16 @@ fn add_fault(fault: ScriptFault, text: &mut Vec<u8>) -> Result<(), AllocError> {
 }
 
 // What a script writes, and, behind it, the fault that it ends by.
-fn played(alloc: Global, script: &[u8], sizes: PieceSizes) -> Result<Vec<u8>, AllocError> {
+fn played<L: Ledger>(
+    alloc: Global,
+    script: &[u8],
+    sizes: PieceSizes,
+    steps: &mut Steps<L>,
+) -> Result<Vec<u8>, AllocError> {
     let mut text = Vec::new(alloc);
-    match run_script(
-        alloc,
-        &mut Pieces {
-            left: script,
-            sizes,
-        },
-        &mut text,
-    ) {
+    let left = script;
+    let reader = &mut Pieces { left, sizes };
+    match run_script(alloc, reader, &mut text, steps) {
         Ok(()) => {}
         Err(fault) => add_fault(fault, &mut text)?,
     }
@@ -80,17 +88,18 @@ fn words_of(alloc: Global, text: &str) -> Result<Vec<String>, AllocError> {
 }
 
 // What a call writes, and, behind it, what it tells on standard error, and its status.
-fn called(
+fn called<L: Ledger>(
     alloc: Global,
     words: &str,
     sent: &[u8],
     sizes: PieceSizes,
+    steps: &mut Steps<L>,
 ) -> Result<Vec<u8>, AllocError> {
     let words = Ok(words_of(alloc, words)?);
     let mut text = Vec::new(alloc);
     let mut told = Vec::new(alloc);
     let reader = &mut Pieces { left: sent, sizes };
-    match run_call(alloc, &words, reader, &mut text, &mut told) {
+    match run_call(alloc, &words, reader, &mut text, &mut told, steps) {
         Ok(status) => {
             text.extend_from_slice(told.as_slice())?;
             let line = format!(in alloc; "status {status}\n")?;
@@ -102,11 +111,16 @@ fn called(
 }
 
 // What is written for what a row sends, cut so.
-fn answered(alloc: Global, row: &Row, sizes: PieceSizes) -> Result<Vec<u8>, AllocError> {
+fn answered<L: Ledger>(
+    alloc: Global,
+    row: &Row,
+    sizes: PieceSizes,
+    steps: &mut Steps<L>,
+) -> Result<Vec<u8>, AllocError> {
     match row.kind {
-        Kind::Session(user) => said(alloc, user, row.sent.as_slice(), sizes),
-        Kind::Script => played(alloc, row.sent.as_slice(), sizes),
-        Kind::Call(words) => called(alloc, words, row.sent.as_slice(), sizes),
+        Kind::Session(user) => said(alloc, user, row.sent.as_slice(), sizes, steps),
+        Kind::Script => played(alloc, row.sent.as_slice(), sizes, steps),
+        Kind::Call(words) => called(alloc, words, row.sent.as_slice(), sizes, steps),
     }
 }
 
@@ -121,13 +135,14 @@ fn wanted_of(alloc: Global, row: &Row) -> Result<Vec<u8>, AllocError> {
 }
 
 // How a row is wrong that is cut into such pieces, if it is.
-fn wrong_at(
+fn wrong_at<L: Ledger>(
     alloc: Global,
     row: &Row,
     wanted: &[u8],
     sizes: PieceSizes,
+    steps: &mut Steps<L>,
 ) -> Result<Option<Wrong>, AllocError> {
-    let got = answered(alloc, row, sizes)?;
+    let got = answered(alloc, row, sizes, steps)?;
     if got.as_slice() == wanted {
         return Ok(None);
     }
@@ -136,10 +151,14 @@ fn wrong_at(
 }
 
 /// How a row is wrong, if it is: whole, octet by octet, or, where it isn't long, cut in two after any octet.
-pub(crate) fn first_wrong(alloc: Global, row: &Row) -> Result<Option<Wrong>, AllocError> {
+pub(crate) fn first_wrong<L: Ledger>(
+    alloc: Global,
+    row: &Row,
+    steps: &mut Steps<L>,
+) -> Result<Option<Wrong>, AllocError> {
     let wanted = wanted_of(alloc, row)?;
     for sizes in [PieceSizes::WHOLE, PieceSizes::SINGLE] {
-        if let Some(wrong) = wrong_at(alloc, row, wanted.as_slice(), sizes)? {
+        if let Some(wrong) = wrong_at(alloc, row, wanted.as_slice(), sizes, steps)? {
             return Ok(Some(wrong));
         }
     }
@@ -150,7 +169,7 @@ pub(crate) fn first_wrong(alloc: Global, row: &Row) -> Result<Option<Wrong>, All
             first,
             size: MOST_CUT,
         };
-        if let Some(wrong) = wrong_at(alloc, row, wanted.as_slice(), sizes)? {
+        if let Some(wrong) = wrong_at(alloc, row, wanted.as_slice(), sizes, steps)? {
             return Ok(Some(wrong));
         }
     }

@@ -1,4 +1,5 @@
 pub mod ContextExampleLemmas
+pub mod CountingLemmas
 pub mod EqualLemmas
 pub mod ExampleLemmas
 pub mod FreshLemmas

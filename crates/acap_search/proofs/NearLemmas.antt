@@ -1,5 +1,5 @@
 -- What is at hand of an entry gives the answers about it.
-use Rattle.std.proofs.Common.{◌≡◌, ℕ, Bool, true, false, cond, is_some, T, ◌&&◌, ◌||◌, codes, Option, Some, None, List, [], ◌∷◌, ◌++◌, ◌==◌, take, length, refl, sym, ◌∙◌, ap, subst, append-nil, arith, map as each}
+use Rattle.std.proofs.Common.{◌≡◌, ℕ, Bool, true, false, not, cond, is_some, T, ◌&&◌, ◌||◌, codes, Option, Some, None, List, [], ◌∷◌, ◌++◌, ◌==◌, take, length, refl, sym, ◌∙◌, ap, subst, append-nil, arith, map as each}
 use Rattle.std.specs.FinMap as map
 use Rattle.std.specs.FinMap.{is_sorted, IsAntisymmetric, slice_cmp-IsAntisymmetric, nat_cmp-IsAntisymmetric}
 use Rattle.std.specs.FinMap.Entries.{below_all, find, same_entries}
@@ -23,9 +23,11 @@ use Rattle.acap_inherit.specs.Records.{record_at, cell_in, ends_inheritance}
 use Rattle.acap_inherit.specs.Resolving.{lying, by_cell, by_record, by_presence, greatest, until_end, entry_on, value_on, modtime_on, stamped, members_for, members_of, resolved}
 use Rattle.acap_rights.specs.Deciding.{OfEntry, own_list}
 use Rattle.acap_rights.proofs.SharingLemmas.{shared_law}
+use Rattle.acap_rights.specs.Sharing.{shared_on}
 use Rattle.acap_rights.specs.declared.rights.Rights.{Rights}
+use Rattle.acap_rights.specs.declared.sharing.SharedRights.{SharedRights}
 use Rattle.acap_search.specs.Near.{own_value, IsPlain, AreKept, lies_in}
-use Rattle.acap_search.specs.Sight.{may_read, may_test, is_held, cell_at}
+use Rattle.acap_search.specs.Sight.{may_read, may_test, is_held, cell_at, is_nil, is_seen}
 use Rattle.acap_search.specs.Views.{Spotted, answers_of, is_readable_at, rights_in}
 
 -- ---- the record
@@ -102,9 +104,12 @@ held_lying may rights_in dataset Nil = refl
 held_lying may rights_in dataset (Single value) = twice (may (rights_in dataset))
 held_lying may rights_in dataset (Multi values) = twice (may (rights_in dataset))
 
-module _ (spot : Spotted) (entry : Record) (rights : Rights) (plain : IsPlain spot.by rights) (kept : record_at spot.by.records spot.by.dataset spot.name ≡ Some entry) (attribute : List ℕ) (none : map.get entry.acls attribute ≡ None) where
+module _ (spot : Spotted) (entry : Record) (shared : SharedRights) (plain : IsPlain spot.by shared) (kept : record_at spot.by.records spot.by.dataset spot.name ≡ Some entry) (attribute : List ℕ) (none : map.get entry.acls attribute ≡ None) where
   abbrev value : Cell
   value = own_value entry spot.name attribute
+
+  abbrev rights : Rights
+  rights = shared_on shared attribute
 
   abbrev rights_at : List ℕ → Rights
   rights_at dataset = rights_in spot.by dataset attribute spot.name
@@ -112,7 +117,7 @@ module _ (spot : Spotted) (entry : Record) (rights : Rights) (plain : IsPlain sp
   pub near_rights : rights_at spot.by.dataset ≡ rights
   near_rights =
       let own : own_list spot.by.records (OfEntry spot.by.dataset attribute spot.name) ≡ None = ap (option_and_then (λ entry. map.get entry.acls attribute)) kept ∙ none in
-      shared_law spot.by.records spot.by.realm spot.by.user spot.by.dataset attribute spot.name rights plain.1 own
+      shared_law spot.by.records spot.by.realm spot.by.user spot.by.dataset attribute spot.name own ∙ plain.1 attribute
 
   found : resolved spot.by.records spot.by.chain spot.name attribute ≡ lying value spot.by.dataset
   found =
@@ -134,6 +139,22 @@ module _ (spot : Spotted) (entry : Record) (rights : Rights) (plain : IsPlain sp
   near_readable =
       ap (is_held may_read (rights_at spot.by.dataset) rights_at) found
       ∙ (held_lying may_read rights_at spot.by.dataset value ∙ ap (λ rights. rights.r) near_rights)
+
+seen_here : (present may : Bool) (name : List ℕ) → not (is_nil (cond may (cond present (Single name) Nil) Nil)) ≡ (present && may)
+seen_here true true name = refl
+seen_here true false name = refl
+seen_here false true name = refl
+seen_here false false name = refl
+
+pub near_seen : (spot : Spotted) (entry : Record) (shared : SharedRights) (plain : IsPlain spot.by shared) (kept : record_at spot.by.records spot.by.dataset spot.name ≡ Some entry) → map.get entry.acls (codes "entry") ≡ None
+    → is_seen (answers_of spot) ≡ (entry.present && (shared_on shared (codes "entry")).r)
+near_seen spot entry shared plain kept none = ap (λ cell. not (is_nil cell)) (near_read spot entry shared plain kept (codes "entry") none) ∙ seen_here entry.present _ spot.name
+
+pub met : (a b result : Bool) → a ≡ true → result ≡ b → result ≡ (a && b)
+met a b result h e = e ∙ ap (λ a. a && b) (sym h)
+
+pub unmet : (a b result : Bool) → a ≡ false → result ≡ false → result ≡ (a && b)
+unmet a b result h e = e ∙ ap (λ a. a && b) (sym h)
 
 -- ---- the records of a dataset
 

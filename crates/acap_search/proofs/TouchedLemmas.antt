@@ -29,7 +29,7 @@ use Rattle.acap_search.specs.Once.{IsBeneath}
 use Rattle.acap_search.specs.Rows.{attributes_at, stars_of}
 use Rattle.acap_search.specs.Scopes.{Scope, scope_of, datasets_of}
 use Rattle.acap_search.specs.Sight.{may_read, may_test, is_held, cell_at, own_acl, rights_on, is_readable, is_seen}
-use Rattle.acap_search.specs.Touched.{IsSoundStep, TouchedLaw}
+use Rattle.acap_search.specs.Touched.{AreSoundWrites, TouchedLaw}
 use Rattle.acap_search.specs.Tuples.{tuple_for}
 use Rattle.acap_search.specs.declared.query.Sought.{Sought}
 use Rattle.acap_search.proofs.OnceLemmas.{scope_law}
@@ -65,7 +65,7 @@ first_in records d false = here d _
 
 -- ---- which datasets are looked through
 
-module _ (written : Written) (old new : Stored) (step : IsSoundStep written old new) (scope : Scope) (exists : dataset_exists old scope.dataset ≡ true) (d : List ℕ) where
+module _ (written : Written) (old new : Stored) (step : AreSoundWrites written old new) (scope : Scope) (exists : dataset_exists old scope.dataset ≡ true) (d : List ℕ) where
   by_members : {P : Type 0} → Contains (datasets_of old scope) d → (d ≡ scope.dataset → P) → (IsBeneath old scope d → P) → P
   by_members k f g = either ((scope_law.members old scope d step.before exists).0 k) f g
 
@@ -134,7 +134,7 @@ module _ (nothing : NothingLaw) (old new : Stored) (realm : Realm) (user : List 
 
 -- ---- tuples and sight
 
-module _ (nothing : NothingLaw) (names : NamesLaw) (unread : UnreadLaw) (written : Written) (old new : Stored) (step : IsSoundStep written old new) (realm : Realm) (user : List ℕ) (p : Path) (untouched : is_touched written old new p ≡ false) where
+module _ (nothing : NothingLaw) (names : NamesLaw) (unread : UnreadLaw) (written : Written) (old new : Stored) (step : AreSoundWrites written old new) (realm : Realm) (user : List ℕ) (p : Path) (untouched : is_touched written old new p ≡ false) where
   housed : IsStep written old new
   housed = record { paths = step.paths; before = step.before.housed; after = step.after.housed; stays = step.stays }
 

@@ -1,13 +1,13 @@
 -- How many entries a search looks at: each counts as one step.
 use Rattle.std.specs.Prelude.{◌≡◌, ◌+◌, ◌≤◌, ℕ, length, Result, Ok, Err}
-use Rattle.acap_entries.specs.Store.{Stored}
+use Rattle.acap_entries.specs.Store.{Store}
 use Rattle.acap_search.specs.Fresh.{paths_of}
 use Rattle.acap_search.specs.Scopes.{scope_of}
 use Rattle.acap_search.specs.declared.query.Sought.{Sought}
 
 -- over a dataset: one for each path in the scope whose name has a record on the chain of its dataset
-abbrev pub paths_count : Stored → Sought → ℕ
-paths_count records sought = length (paths_of records (scope_of sought))
+abbrev pub paths_count : Store → Sought → ℕ
+paths_count store sought = length (paths_of store.records (scope_of sought))
 
 -- how far a counter rose: by so many exactly where something was answered, else by at most as many
 abbrev pub IsCounted : {X F : Type 0} → Result X F → ℕ → ℕ → ℕ → Type 0

@@ -1,7 +1,7 @@
 pub mod Asking
-pub mod Counting
 pub mod ContextExamples
 pub mod ContextLaws
+pub mod Counting
 pub mod Cutting
 pub mod Examples
 pub mod Fresh

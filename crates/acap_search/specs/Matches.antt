@@ -23,6 +23,10 @@ pub record Match : Type 0 where
 abbrev pub match_cmp : Match → Match → Ordering
 match_cmp a b = ordering_then (places_cmp a.places b.places) (full_path_cmp a.path b.path)
 
+-- how places and a path stand to a match
+abbrev pub standing_cmp : List Place → Path → Match → Ordering
+standing_cmp places path other = match_cmp (record { path = path; places = places; row = other.row }) other
+
 abbrev pub match_lt : Match → Match → Bool
 match_lt a b = is_lt (match_cmp a b)
 

@@ -9,9 +9,10 @@ use Rattle.acap_entries.specs.declared.cell.Cell.TheVariants.{Nil, Single}
 use Rattle.acap_entries.specs.declared.path.Path.{Path}
 use Rattle.acap_entries.specs.declared.record.Record.{Record}
 use Rattle.acap_inherit.specs.Records.{record_at, cell_in}
-use Rattle.acap_rights.specs.Sharing.{shared_rights}
-use Rattle.acap_rights.specs.declared.rights.Rights.{Rights}
+use Rattle.acap_rights.specs.Sharing.{AreShared}
+use Rattle.acap_rights.specs.declared.sharing.SharedRights.{SharedRights}
 use Rattle.acap_search.specs.Views.{View, Spotted}
+use Rattle.acap_search.specs.declared.kept.Kept.{Kept}
 
 -- what a record has for an attribute, where nothing is inherited
 abbrev pub own_value : Record → List ℕ → List ℕ → Cell
@@ -20,16 +21,14 @@ own_value entry name attribute =
     else (if octets_eq attribute (codes "modtime") then Single (stamp_of entry.modtime)
     else unwrap_or (cell_in entry attribute) Nil)
 
--- a dataset inherits nothing and has no list for an attribute alone, and those are the user's rights in it
-abbrev pub IsPlain : View → Rights → Type 0
-IsPlain view rights =
-    (view.chain ≡ view.dataset ∷ [])
-    × (shared_rights view.records view.realm view.user view.dataset ≡ Some rights)
+-- a dataset inherits nothing, and those are the user's rights on its attributes
+abbrev pub IsPlain : View → SharedRights → Type 0
+IsPlain view shared = (view.chain ≡ view.dataset ∷ []) × AreShared view.records view.realm view.user view.dataset shared
 
--- where the record of an entry is at hand, its dataset is such a one
-abbrev pub IsNear : Spotted → Option Record → Rights → Type 0
-IsNear spot entry rights =
-    ForSome entry (λ entry. IsPlain spot.by rights × (record_at spot.by.records spot.by.dataset spot.name ≡ Some entry))
+-- what is at hand of an entry is its record, and the rights in its dataset, which is such a one
+abbrev pub IsNear : Spotted → Option Kept → Type 0
+IsNear spot kept =
+    ForSome kept (λ kept. IsPlain spot.by kept.shared.now × (record_at spot.by.records spot.by.dataset spot.name ≡ Some kept.entry.now))
 
 -- whether a record lies in a dataset
 abbrev pub lies_in : List ℕ → Path × Record → Bool

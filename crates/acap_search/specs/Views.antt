@@ -1,7 +1,8 @@
 -- Who looks at which entry, and what is seen of it: words of contracts.
-use Rattle.std.specs.Prelude.{ℕ, Bool, List, Option, refl}
+use Rattle.std.specs.Prelude.{ℕ, Bool, List, [], Option, refl}
 use Rattle.std.specs.Coded.{Coded, code_by, coded×, coded_ℕ, coded_list}
 use Rattle.std.specs.FinMap as map
+use Rattle.std.specs.Option.{unwrap_or}
 use Rattle.acap_entries.specs.Store.{Stored}
 use Rattle.acap_entries.specs.contracts.path.Path as path
 use Rattle.acap_entries.specs.contracts.record.Record as row
@@ -61,6 +62,9 @@ acl_at spot attribute = own_acl spot.by.records spot.by.dataset spot.name attrib
 -- where it stands for a SORT
 abbrev pub places_at : Spotted → List SortItem → List Place
 places_at spot = places_in (answers_of spot).read
+
+abbrev pub standing_at : Sought → Spotted → List Place
+standing_at sought spot = places_at spot (unwrap_or sought.sort [])
 
 -- those of some attributes that begin with some octets and have a value that is read, beside what was found
 abbrev pub stars_among : Spotted → List ℕ → List (List ℕ) → Names → Names

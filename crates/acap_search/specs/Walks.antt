@@ -1,8 +1,9 @@
 -- What a search finds, dataset by dataset: words of private contracts.
-use Rattle.std.specs.Prelude.{ℕ, List, [], flat_map, None, refl}
+use Rattle.std.specs.Prelude.{◌+◌, ℕ, List, [], flat_map, length, Option, None, refl}
+use Rattle.std.specs.Borrow.{Bor}
 use Rattle.std.specs.Coded.{Coded, code_by, coded×, coded_ℕ, coded_list}
 use Rattle.std.specs.FinMap as map
-use Rattle.std.specs.List.{filter_map}
+use Rattle.std.specs.List.{filter_map, sum_by}
 use Rattle.std.specs.Option.{option_map_or}
 use Rattle.acap_entries.specs.Store.{Stored}
 use Rattle.acap_entries.specs.contracts.path.Path as path
@@ -13,10 +14,11 @@ use Rattle.acap_inherit.specs.Chains.{chain_of}
 use Rattle.acap_inherit.specs.EntryNames.{names_on}
 use Rattle.acap_rights.specs.contracts.realm.Realm as realm
 use Rattle.acap_rights.specs.declared.realm.Realm.{Realm}
-use Rattle.acap_search.specs.Fresh.{Sight, sight_of, matches_of}
+use Rattle.acap_search.specs.Fresh.{Sight, sight_of, matches_of, paths_of}
 use Rattle.acap_search.specs.Matches.{Match}
 use Rattle.acap_search.specs.Scopes.{scope_of, beneath, datasets_of, reached_by}
-use Rattle.acap_search.specs.Views.{View, spotted, found_at}
+use Rattle.acap_search.specs.Views.{View, Spotted, spotted, found_at}
+use Rattle.acap_search.specs.Within.{matches_in, numbered, paths_shown, tuple_at, tuple_within}
 use Rattle.acap_search.specs.contracts.query.Sought as query
 use Rattle.acap_search.specs.declared.query.Sought.{Sought}
 
@@ -64,6 +66,44 @@ hits_beneath quest depth = flat_map (hits_in quest) (beneath quest.records quest
 
 abbrev pub hits_over : Quest → List Match
 hits_over quest = flat_map (hits_in quest) (datasets_of quest.records (scope_of quest.sought))
+
+-- at how many paths a search looks in one dataset, in the one that an entry makes, where it is reached, beneath the searched one in so
+-- many levels, and in all of the scope
+abbrev pub names_count : View → ℕ
+names_count view = length (names_on view.records view.chain)
+
+unfoldable pub count_in : Quest → List ℕ → ℕ
+count_in quest dataset = names_count (view_in quest dataset)
+
+unfoldable pub count_by : Quest → ℕ → Path × Record → ℕ
+count_by quest depth e = option_map_or (count_in quest) (reached_by quest.sought.dataset depth e) 0
+
+abbrev pub count_beneath : Quest → ℕ → ℕ
+count_beneath quest depth = sum_by (count_in quest) (beneath quest.records quest.sought.dataset depth)
+
+unfoldable pub count_over : Quest → ℕ
+count_over quest = count_in quest quest.sought.dataset + option_map_or (count_beneath quest) quest.sought.depth 0
+
+-- where it looks for an entry, and in which datasets
+abbrev pub spotted_in : Quest → Path → Spotted
+spotted_in quest path = spotted (view_in quest path.dataset) path.name
+
+abbrev pub datasets_by : Quest → List (List ℕ)
+datasets_by quest = datasets_of quest.records (scope_of quest.sought)
+
+-- over a context, what is made of the entry at a position, of all that it shows, and of these in the order that is asked for
+abbrev pub tuple_by : Quest → Option ℕ → Path → Option Match
+tuple_by quest = tuple_at (sight_by quest) quest.sought
+
+abbrev pub tuples_by : Quest → List (Bor Match) → List Match
+tuples_by quest shown = filter_map (tuple_within (sight_by quest) quest.sought) (numbered (paths_shown shown))
+
+abbrev pub matches_among : Quest → List (Bor Match) → List Match
+matches_among quest shown = matches_in (sight_by quest) quest.sought (paths_shown shown)
+
+-- which are the paths that it looks at
+abbrev pub paths_by : Quest → ℕ
+paths_by quest = length (paths_of quest.records (scope_of quest.sought))
 
 -- all matches, in order
 abbrev pub matches_by : Quest → List Match

@@ -1,5 +1,6 @@
 -- What a search over a context finds [RFC 2244 sections 3.3 and 6.4.1].
-use Rattle.std.specs.Prelude.{◌≡◌, ℕ, suc, ℤ, int_lt, Bool, false, not, ◌&&◌, ◌||◌, nat_le, List, [], ◌∷◌, length, Option, Some, None, Result, Ok, Err, if◌then◌else◌}
+use Rattle.std.specs.Prelude.{◌≡◌, ℕ, suc, ℤ, int_lt, Bool, false, not, ◌&&◌, ◌||◌, nat_le, List, [], ◌∷◌, length, Option, Some, None, Result, Ok, Err, if◌then◌else◌, map as each}
+use Rattle.std.specs.Borrow.{Bor}
 use Rattle.std.specs.List.{filter_map}
 use Rattle.acap_entries.specs.Store.{Stored}
 use Rattle.acap_entries.specs.declared.path.Path.{Path}
@@ -26,6 +27,13 @@ pub record Context : Type 0 where
 
 abbrev pub context_of : List Path → ℤ → Bool → Context
 context_of paths told enumerated = record { paths = paths; told = told; enumerated = enumerated }
+
+-- the same of a context that is lent as its hits
+abbrev pub paths_shown : List (Bor Match) → List Path
+paths_shown shown = each (λ hit. hit.now.path) shown
+
+abbrev pub context_shown : List (Bor Match) → ℤ → Bool → Context
+context_shown shown = context_of (paths_shown shown)
 
 -- the paths of a context with their positions, from 1 on. An entry that went keeps the positions of those behind it
 abbrev pub numbered_from : ℕ → List Path → List (ℕ × Path)

@@ -1,9 +1,9 @@
 //! Searches over contexts.
-ghost use Rattle.std.specs.Prelude.{◌≡◌, ◌↔◌, ◌+◌, ◌≤◌, suc, length, IsTrue, IfOk, OnOk, OnErr, map as each};
-ghost use Rattle.std.specs.List.{filter_map, Contains};
-ghost use Rattle.acap_search.specs.Scopes.{scope_of, datasets_of};
-ghost use Rattle.acap_search.specs.Views.{found_at, spotted};
-ghost use Rattle.acap_search.specs.Walks.{view_in, sight_by};
+ghost use Rattle.std.specs.Prelude.{◌≡◌, ◌↔◌, ◌+◌, suc, length, IsTrue, IfOk};
+ghost use Rattle.std.specs.List.{Contains};
+ghost use Rattle.acap_search.specs.Counting.{IsCounted};
+ghost use Rattle.acap_search.specs.Views.{found_at};
+ghost use Rattle.acap_search.specs.Walks as walks;
 ghost use Rattle.acap_search.specs.Within as rule;
 
 use crate::finding::{Finding, hits_of};
@@ -58,7 +58,7 @@ fn found_there<'a, L: Ledger>(
     steps: &mut Steps<L>,
 ) -> Result<Option<Finding<'a>>, Memory>
     ensures count { steps.new ≡ steps.old + 1 }
-    ensures made { IfOk result (λ made. made ≡ found_at search.now.sought place (spotted (view_in search.now path.now.dataset) path.now.name)) }
+    ensures made { IfOk result (λ made. made ≡ found_at search.now.sought place (walks.spotted_in search.now path.now)) }
 {
     let sought = search.sought;
     let by = Viewer {
@@ -71,13 +71,12 @@ fn found_there<'a, L: Ledger>(
     let near = near_by(&by, &path.name);
     let nearer = by.over(&near);
     let spot = Spot::far(&nearer, &path.name);
-    steps.tick();
-    finding_at(alloc, &spot, Some(path), sought, place)
+    finding_at(alloc, &spot, Some(path), sought, place, steps)
 }
 
 // Whether the dataset of an entry is one that is looked through.
 fn looks_at(search: &Search<'_>, path: &Path) -> bool
-    ensures { IsTrue result ↔ Contains (datasets_of search.now.records (scope_of search.now.sought)) path.now.dataset }
+    ensures { IsTrue result ↔ Contains (walks.datasets_by search.now) path.now.dataset }
 {
     search.tree.form_law();
     looks_in(&search.sought.scope(), search.tree, &path.dataset)
@@ -92,7 +91,7 @@ fn found_in<'a, L: Ledger>(
     steps: &mut Steps<L>,
 ) -> Result<Option<Finding<'a>>, Memory>
     ensures count { steps.new ≡ steps.old + 1 }
-    ensures made { IfOk result (λ made. made ≡ rule.tuple_at (sight_by search.now) search.now.sought place path.now) }
+    ensures made { IfOk result (λ made. made ≡ walks.tuple_by search.now place path.now) }
 {
     nothing_law();
     names_law();
@@ -111,10 +110,8 @@ fn found_among<'a, L: Ledger>(
     shown: &'a [&'a Hit],
     steps: &mut Steps<L>,
 ) -> Result<Vec<Finding<'a>>, Memory>
-    ensures found { IfOk result (λ found. found.items ≡ filter_map (rule.tuple_within (sight_by search.now) search.now.sought) (rule.numbered (each (λ hit. hit.now.path) shown.now))) }
-    ensures ok { OnOk result (steps.new ≡ steps.old + length shown.now) }
-    ensures least { steps.old ≤ steps.new }
-    ensures most { steps.new ≤ steps.old + length shown.now }
+    ensures found { IfOk result (λ found. found.items ≡ walks.tuples_by search.now shown.now) }
+    ensures count { IsCounted result steps.old steps.new (length shown.now) }
 {
     let mut found = Vec::new(alloc);
     for (count, hit) in shown.iter().enumerate() {
@@ -133,10 +130,8 @@ fn found_within<'a, L: Ledger>(
     shown: &'a [&'a Hit],
     steps: &mut Steps<L>,
 ) -> Result<Vec<Finding<'a>>, Memory>
-    ensures found { IfOk result (λ found. found.items ≡ rule.matches_in (sight_by search.now) search.now.sought (each (λ hit. hit.now.path) shown.now)) }
-    ensures ok { OnOk result (steps.new ≡ steps.old + length shown.now) }
-    ensures least { steps.old ≤ steps.new }
-    ensures most { steps.new ≤ steps.old + length shown.now }
+    ensures found { IfOk result (λ found. found.items ≡ walks.matches_among search.now shown.now) }
+    ensures count { IsCounted result steps.old steps.new (length shown.now) }
 {
     let mut found = found_among(alloc, search, shown, steps)?;
     let sought = search.sought;
@@ -164,10 +159,9 @@ pub fn within<L: Ledger>(
     enumerated: bool,
     steps: &mut Steps<L>,
 ) -> Result<Hits, SearchRefusal>
-    ensures answer { rule.IsWithin tree.now.store.records realm.now user.now query.now (rule.context_of (each (λ hit. hit.now.path) shown.now) told enumerated) result }
-    ensures ok { OnOk result (steps.new ≡ steps.old + length shown.now) }
-    ensures least { steps.old ≤ steps.new }
-    ensures most { steps.new ≤ steps.old + length shown.now }
+    ensures answer { let context = rule.context_shown shown.now told enumerated in
+        rule.IsWithin tree.now.store.records realm.now user.now query.now context result }
+    ensures count { IsCounted result steps.old steps.new (length shown.now) }
 {
     if !enumerated && has_range(&query.sought.key) {
         return Err(SearchRefusal::RangeHere);

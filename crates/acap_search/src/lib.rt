@@ -8,6 +8,7 @@ mod cutting;
 mod finding;
 mod front;
 mod hit;
+mod kept;
 mod laws;
 mod looking;
 mod lying;

@@ -170,12 +170,12 @@ pub(crate) fn look<'a, R: Records>(spot: &Spot<'a, R>, attribute: &[u8]) -> Show
     ensures rights { result.rights ≡ (answers_of spot.now).rights attribute.now }
     ensures is_readable { result.is_readable ≡ is_readable_at spot.now attribute.now }
 {
-    if let Some(entry) = spot.entry
-        && !has_list(entry, attribute)
+    if let Some(kept) = spot.kept
+        && !has_list(kept.entry, attribute)
     {
-        let rights = spot.rights;
+        let rights = kept.shared.on(attribute);
         return Shown {
-            value: own_value(entry, spot.name, attribute),
+            value: own_value(kept.entry, spot.name, attribute),
             is_testable: may_test(rights),
             is_readable: rights.r,
             rights,
@@ -184,9 +184,29 @@ pub(crate) fn look<'a, R: Records>(spot: &Spot<'a, R>, attribute: &[u8]) -> Show
     look_far(spot, attribute)
 }
 
+/// What a user may read of an attribute of an entry that is looked at. Takes no memory.
+pub(crate) fn read<'a, R: Records>(spot: &Spot<'a, R>, attribute: &[u8]) -> Option<Lent<'a>>
+    ensures { shown.cell_of result ≡ (answers_of spot.now).read attribute.now }
+{
+    if let Some(kept) = spot.kept
+        && !has_list(kept.entry, attribute)
+    {
+        if kept.shared.on(attribute).r {
+            return own_value(kept.entry, spot.name, attribute);
+        }
+        return None;
+    }
+    look_far(spot, attribute).read()
+}
+
 /// Whether the user sees an entry that is looked at.
 pub(crate) fn sees<R: Records>(spot: &Spot<'_, R>) -> bool
     ensures { result ≡ rule.is_seen (answers_of spot.now) }
 {
-    !is_nil(look(spot, b"entry").read())
+    if let Some(kept) = spot.kept
+        && !has_list(kept.entry, b"entry")
+    {
+        return kept.entry.present && kept.shared.on(b"entry").r;
+    }
+    !is_nil(look_far(spot, b"entry").read())
 }

@@ -1,5 +1,5 @@
 //! Whether a key wants an entry.
-ghost use Rattle.std.specs.Prelude.{◌≡◌};
+ghost use Rattle.std.specs.Prelude.{◌≡◌, ◌+◌};
 ghost use Rattle.std.specs.List.{list_any};
 ghost use Rattle.acap_search.specs.Keys as rule;
 ghost use Rattle.acap_search.specs.Keys.{some_text};
@@ -10,9 +10,10 @@ use crate::looking::{is_nil, look};
 use crate::spot::Spot;
 use crate::viewer::Viewer;
 use acap_commands::{Key, Node, Relation, Test};
-use acap_entries::{EntryName, Records, Value};
+use acap_entries::{EntryName, Records, Steps, Value};
 use acap_inherit::Lent;
 use acap_order::{Collation, Comparator};
+use std::sync::ledger::Ledger;
 
 // How a string stands to the string of a key.
 fn stands_so(relation: Relation, comparator: &Comparator, wanted: &[u8], text: &[u8]) -> bool
@@ -122,13 +123,17 @@ pub(crate) fn wants<R: Records>(spot: &Spot<'_, R>, key: &Key, place: Option<u32
 
 /// Whether a key wants an entry, by what the user sees of it (RFC 2244 section 6.4.1). The place is the entry's position in
 /// the context that is searched, and none over a dataset; RANGE asks for it, and is false where there is none. Takes no memory.
-pub fn matches<'a, R: Records>(
+/// It counts as one step.
+pub fn matches<'a, R: Records, L: Ledger>(
     by: &Viewer<'a, R>,
     name: &'a EntryName,
     key: &Key,
     place: Option<u32>,
+    steps: &mut Steps<L>,
 ) -> bool
-    ensures { result ≡ rule.holds key.now place (answers_of (spotted by.now name.now)) }
+    ensures count { steps.new ≡ steps.old + 1 }
+    ensures wanted { result ≡ rule.holds key.now place (answers_of (spotted by.now name.now)) }
 {
+    steps.tick();
     wants(&Spot::far(by, name), key, place)
 }

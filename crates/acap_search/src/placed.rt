@@ -5,7 +5,7 @@ ghost use Rattle.std.specs.Ordering.{as_partial_cmp, eq_by_cmp};
 ghost use Rattle.std.proofs.Common.{refl};
 ghost use Rattle.std.proofs.lemmas.Cmp.{eq_by_cmp_equiv};
 ghost use Rattle.acap_search.specs.Totals.{match_total};
-ghost use Rattle.acap_search.specs.Matches.{match_cmp};
+ghost use Rattle.acap_search.specs.Matches.{match_cmp, standing_cmp};
 
 use crate::hit::Hit;
 use crate::ordering::places_order;
@@ -34,7 +34,7 @@ impl Model for Placed {
 
 // How two places and paths compare: by the places, and then by the full paths in octets.
 fn order(places: &Places, path: &Path, other: &Hit) -> Ordering
-    ensures { result ≡ match_cmp (record { path = path.now; places = places.now; row = other.now.row }) other.now }
+    ensures { result ≡ standing_cmp places.now path.now other.now }
 {
     match places_order(places.as_slice(), other.places.as_slice()) {
         Ordering::Equal => path.cmp_full(&other.path),

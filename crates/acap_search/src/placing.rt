@@ -1,7 +1,6 @@
 //! Where an entry stands, whether it is wanted or not.
-ghost use Rattle.std.specs.Prelude.{◌≡◌, [], IfOk};
-ghost use Rattle.std.specs.Option.{unwrap_or};
-ghost use Rattle.acap_search.specs.Views.{places_at as places_of, spotted};
+ghost use Rattle.std.specs.Prelude.{◌≡◌, IfOk};
+ghost use Rattle.acap_search.specs.Views.{standing_at, spotted};
 
 use crate::query::Sought;
 use crate::rank::Places;
@@ -19,7 +18,7 @@ pub fn places_at<'a, R: Records>(
     name: &'a EntryName,
     sought: &Sought,
 ) -> Result<Places, Memory>
-    ensures { IfOk result (λ places. places ≡ places_of (spotted by.now name.now) (unwrap_or sought.now.sort [])) }
+    ensures { IfOk result (λ places. places ≡ standing_at sought.now (spotted by.now name.now)) }
 {
     places_by(alloc, &Spot::far(by, name), sought)
 }

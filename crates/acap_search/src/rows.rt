@@ -5,7 +5,7 @@ ghost use Rattle.acap_search.specs.Rows as rule;
 ghost use Rattle.acap_search.specs.Shown as shown;
 ghost use Rattle.acap_search.specs.Views.{acl_at, answers_of, data_at, item_at, items_at, stars_along, stars_among, stars_at, stars_by};
 
-use crate::looking::{is_nil, look};
+use crate::looking::{is_nil, look, read};
 use crate::spot::Spot;
 use acap_commands::{Metadata, ReturnItem, ReturnName};
 use acap_entries::{
@@ -96,8 +96,8 @@ fn datum<R: Records>(
         Metadata::Acl => seen_acl(spot, attribute),
         Metadata::Attribute => Ok(Cell::Single(Value::from_slice(alloc, attribute)?)),
         Metadata::MyRights => Ok(Cell::Single(look(spot, attribute).rights.letters(alloc)?)),
-        Metadata::Size => sizes_of(alloc, look(spot, attribute).read()),
-        Metadata::Value => value_of(alloc, look(spot, attribute).read()),
+        Metadata::Size => sizes_of(alloc, read(spot, attribute)),
+        Metadata::Value => value_of(alloc, read(spot, attribute)),
     }
 }
 
@@ -128,7 +128,7 @@ fn add_star<R: Records>(
 ) -> Result<(), Memory>
     ensures { OnOk result (stars.new ≡ stars_among spot.now front.now (attribute.now ∷ []) stars.old) }
 {
-    if attribute.starts_with(front) && !is_nil(look(spot, attribute).read()) {
+    if attribute.starts_with(front) && !is_nil(read(spot, attribute)) {
         stars.set(Attribute::from_slice(alloc, attribute)?, true)?;
     }
     Ok(())

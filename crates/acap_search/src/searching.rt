@@ -2,6 +2,7 @@
 ghost use Rattle.std.specs.Prelude.{◌≡◌, ◌++◌, IfOk, IsTrue, None, OnOk};
 ghost use Rattle.std.specs.List.{filter};
 ghost use Rattle.std.specs.FinMap as map;
+ghost use Rattle.acap_search.specs.Counting.{IsCounted, paths_count};
 ghost use Rattle.acap_search.specs.Fresh as rule;
 ghost use Rattle.acap_search.specs.Fresh.{IsAnswer, matches_of};
 ghost use Rattle.acap_search.specs.Near as near;
@@ -10,9 +11,10 @@ ghost use Rattle.acap_search.specs.Walks as walks;
 use crate::finding::{Finding, hits_of};
 use crate::front::Front;
 use crate::hit::Hits;
+use crate::kept::Kept;
 use crate::near::Near;
 use crate::ordering::sort_found;
-use crate::plain::plain_rights;
+use crate::plain::is_alone;
 use crate::query::{Query, Sought};
 use crate::reaching::reached_by;
 use crate::refusal::SearchRefusal;
@@ -21,10 +23,11 @@ use crate::spot::Spot;
 use crate::tuples::finding_at;
 use crate::viewer::Viewer;
 use acap_commands::{Key, Node, Test};
-use acap_entries::{Dataset, Listing, Memory, Records, Tree, UserName};
+use acap_entries::{Dataset, Listing, Memory, Records, Steps, Tree, UserName};
 use acap_inherit::{Lineage, chain, names_law, names_on};
-use acap_rights::{Realm, Rights};
+use acap_rights::{Realm, SharedRights, shared_rights};
 use std::alloc::Global;
+use std::sync::ledger::Ledger;
 
 /// Whether a key asks for positions.
 pub(crate) fn has_range(key: &Key) -> bool
@@ -49,27 +52,28 @@ pub(crate) fn is_over(most: Option<u32>, count: usize) -> bool
     }
 }
 
-// Adds what is found among the records of a dataset that inherits nothing and has no list for an attribute alone.
-fn add_own<'a: 'b, 'b>(
+// Adds what is found among the records of a dataset that inherits nothing.
+fn add_own<'a: 'b, 'b, L: Ledger>(
     alloc: Global,
     by: &'b Viewer<'b, Tree>,
     entries: Listing<'a>,
-    rights: Rights,
+    shared: &'b SharedRights,
     sought: &Sought,
     found: &mut Vec<Finding<'a>>,
+    steps: &mut Steps<L>,
 ) -> Result<(), Memory>
-    requires plain { near.IsPlain by.now rights }
+    requires plain { near.IsPlain by.now shared.now }
     requires all { entries ≡ filter (near.lies_in by.now.dataset) (map.entries by.now.records) }
-    ensures { OnOk result (found.new.items ≡ found.old.items ++ walks.hits_along by.now sought.now) }
+    ensures count { IsCounted result steps.old steps.new (walks.names_count by.now) }
+    ensures found { OnOk result (found.new.items ≡ found.old.items ++ walks.hits_along by.now sought.now) }
 {
     for (path, entry) in entries {
         let spot = Spot {
             by,
             name: &path.name,
-            entry: Some(entry),
-            rights,
+            kept: Some(Kept { entry, shared }),
         };
-        if let Some(finding) = finding_at(alloc, &spot, Some(path), sought, None)? {
+        if let Some(finding) = finding_at(alloc, &spot, Some(path), sought, None, steps)? {
             found.push(finding)?;
         }
     }
@@ -85,13 +89,15 @@ pub(crate) fn base_of<'a>(chain: &Lineage<'a>) -> &'a [u8] {
 }
 
 // Adds what is found at all names along a chain.
-fn add_far<'a>(
+fn add_far<'a, L: Ledger>(
     alloc: Global,
     by: &Viewer<'_, Tree>,
     sought: &Sought,
     found: &mut Vec<Finding<'a>>,
+    steps: &mut Steps<L>,
 ) -> Result<(), Memory>
-    ensures { OnOk result (found.new.items ≡ found.old.items ++ walks.hits_along by.now sought.now) }
+    ensures count { IsCounted result steps.old steps.new (walks.names_count by.now) }
+    ensures found { OnOk result (found.new.items ≡ found.old.items ++ walks.hits_along by.now sought.now) }
 {
     let own = Front::of(by.records, by.dataset.as_slice());
     let base = Front::of(by.records, base_of(&by.chain));
@@ -105,7 +111,7 @@ fn add_far<'a>(
             chain: by.chain.again(),
         };
         let spot = Spot::far(&nearer, name);
-        if let Some(finding) = finding_at(alloc, &spot, None, sought, None)? {
+        if let Some(finding) = finding_at(alloc, &spot, None, sought, None, steps)? {
             found.push(finding)?;
         }
     }
@@ -113,14 +119,16 @@ fn add_far<'a>(
 }
 
 // Adds what is found in one dataset, whose chain is made once.
-#[tactic(auto, unfolding(crate::specs::Walks::hits_in))]
-fn add_in<'a>(
+#[tactic(auto, unfolding(crate::specs::Walks::hits_in, crate::specs::Walks::count_in))]
+fn add_in<'a, L: Ledger>(
     alloc: Global,
     search: &Search<'a>,
     dataset: &Dataset,
     found: &mut Vec<Finding<'a>>,
+    steps: &mut Steps<L>,
 ) -> Result<(), Memory>
-    ensures { OnOk result (found.new.items ≡ found.old.items ++ walks.hits_in search.now dataset.now) }
+    ensures count { IsCounted result steps.old steps.new (walks.count_in search.now dataset.now) }
+    ensures found { OnOk result (found.new.items ≡ found.old.items ++ walks.hits_in search.now dataset.now) }
 {
     let sought = search.sought;
     let by = Viewer {
@@ -130,24 +138,25 @@ fn add_in<'a>(
         dataset,
         chain: chain(search.tree, dataset, sought.no_inherit),
     };
-    match plain_rights(&by) {
-        Some(rights) => {
-            let entries = search.tree.entries_of(dataset.as_slice());
-            add_own(alloc, &by, entries, rights, sought, found)
-        }
-        None => add_far(alloc, &by, sought, found),
+    if !is_alone(&by.chain, dataset.as_slice()) {
+        return add_far(alloc, &by, sought, found, steps);
     }
+    let shared = shared_rights(alloc, by.records, by.realm, by.user, dataset.as_slice())?;
+    let entries = search.tree.entries_of(dataset.as_slice());
+    add_own(alloc, &by, entries, &shared, sought, found, steps)
 }
 
 // Adds what is found beneath the searched dataset, in so many levels: with one level nothing, and nothing is walked through.
-#[tactic(auto, unfolding(crate::specs::Walks::hits_by))]
-fn add_beneath<'a>(
+#[tactic(auto, unfolding(crate::specs::Walks::hits_by, crate::specs::Walks::count_by))]
+fn add_beneath<'a, L: Ledger>(
     alloc: Global,
     search: &Search<'a>,
     depth: u32,
     found: &mut Vec<Finding<'a>>,
+    steps: &mut Steps<L>,
 ) -> Result<(), Memory>
-    ensures { OnOk result (found.new.items ≡ found.old.items ++ walks.hits_beneath search.now depth) }
+    ensures count { IsCounted result steps.old steps.new (walks.count_beneath search.now depth) }
+    ensures found { OnOk result (found.new.items ≡ found.old.items ++ walks.hits_beneath search.now depth) }
 {
     if depth == 1 {
         return Ok(());
@@ -155,21 +164,27 @@ fn add_beneath<'a>(
     let sought = search.sought;
     for (path, entry) in search.tree.entries_beneath(&sought.dataset) {
         if let Some(dataset) = reached_by(&sought.dataset, depth, path, entry)? {
-            add_in(alloc, search, &dataset, found)?;
+            add_in(alloc, search, &dataset, found, steps)?;
         }
     }
     Ok(())
 }
 
 // What is found, in the order of the store.
-fn walked<'a>(alloc: Global, search: &Search<'a>) -> Result<Vec<Finding<'a>>, Memory>
-    ensures { IfOk result (λ found. found.items ≡ walks.hits_over search.now) }
+#[tactic(auto, unfolding(crate::specs::Walks::count_over))]
+fn walked<'a, L: Ledger>(
+    alloc: Global,
+    search: &Search<'a>,
+    steps: &mut Steps<L>,
+) -> Result<Vec<Finding<'a>>, Memory>
+    ensures count { IsCounted result steps.old steps.new (walks.count_over search.now) }
+    ensures found { IfOk result (λ found. found.items ≡ walks.hits_over search.now) }
 {
     let mut found = Vec::new(alloc);
     let sought = search.sought;
-    add_in(alloc, search, &sought.dataset, &mut found)?;
+    add_in(alloc, search, &sought.dataset, &mut found, steps)?;
     if let Some(depth) = sought.depth {
-        add_beneath(alloc, search, depth, &mut found)?;
+        add_beneath(alloc, search, depth, &mut found, steps)?;
     }
     Ok(found)
 }
@@ -184,11 +199,17 @@ fn is_in_order(search: &Search<'_>) -> bool
 }
 
 // What is found, in order: without DEPTH and SORT it comes so.
-fn found_by<'a>(alloc: Global, search: &Search<'a>) -> Result<Vec<Finding<'a>>, Memory>
-    ensures { IfOk result (λ found. found.items ≡ walks.matches_by search.now) }
+#[tactic(auto, using(crate::proofs::CountingLemmas::count_over_is))]
+fn found_by<'a, L: Ledger>(
+    alloc: Global,
+    search: &Search<'a>,
+    steps: &mut Steps<L>,
+) -> Result<Vec<Finding<'a>>, Memory>
+    ensures count { IsCounted result steps.old steps.new (walks.paths_by search.now) }
+    ensures found { IfOk result (λ found. found.items ≡ walks.matches_by search.now) }
 {
     names_law();
-    let mut found = walked(alloc, search)?;
+    let mut found = walked(alloc, search, steps)?;
     if is_in_order(search) {
         return Ok(found);
     }
@@ -197,15 +218,18 @@ fn found_by<'a>(alloc: Global, search: &Search<'a>) -> Result<Vec<Finding<'a>>, 
 }
 
 /// All that is sought: every entry that the user sees and the key wants, in order (RFC 2244 section 6.4.1). Nothing is refused, since
-/// a context's list is this one too: RANGE finds nothing. Fails only for want of memory.
-pub fn seek(
+/// a context's list is this one too: RANGE finds nothing. Fails only for want of memory. Each path in the scope at which a record
+/// is or may be inherited counts as a step.
+pub fn seek<L: Ledger>(
     alloc: Global,
     tree: &Tree,
     realm: &Realm,
     user: &UserName,
     sought: &Sought,
+    steps: &mut Steps<L>,
 ) -> Result<Hits, Memory>
-    ensures { IfOk result (λ hits. hits ≡ matches_of tree.now.store.records realm.now user.now sought.now) }
+    ensures count { IsCounted result steps.old steps.new (paths_count tree.now.store sought.now) }
+    ensures found { IfOk result (λ h. h ≡ matches_of tree.now.store.records realm.now user.now sought.now) }
 {
     let search = Search {
         tree,
@@ -213,20 +237,22 @@ pub fn seek(
         user,
         sought,
     };
-    let found = found_by(alloc, &search)?;
+    let found = found_by(alloc, &search, steps)?;
     Ok(Hits::from_vec(hits_of(alloc, found)?))
 }
 
 /// What is answered to a search over a dataset, whose paths need not be made.
 #[tactic(auto, using(crate::proofs::RefusalLemmas::refused))]
-pub(crate) fn answer<'a>(
+pub(crate) fn answer<'a, L: Ledger>(
     alloc: Global,
     tree: &'a Tree,
     realm: &'a Realm,
     user: &'a UserName,
     query: &'a Query,
+    steps: &mut Steps<L>,
 ) -> Result<Vec<Finding<'a>>, SearchRefusal>
-    ensures { IsAnswer tree.now.store.records realm.now user.now query.now (λ f all. f.items ≡ all) result }
+    ensures count { IsCounted result steps.old steps.new (paths_count tree.now.store query.now.sought) }
+    ensures found { IsAnswer tree.now.store.records realm.now user.now query.now (λ f m. f.items ≡ m) result }
 {
     if has_range(&query.sought.key) {
         return Err(SearchRefusal::RangeHere);
@@ -240,7 +266,7 @@ pub(crate) fn answer<'a>(
         user,
         sought: &query.sought,
     };
-    let found = found_by(alloc, &search)?;
+    let found = found_by(alloc, &search, steps)?;
     if is_over(query.hard_limit, found.len()) {
         return Err(SearchRefusal::WayTooMany);
     }
@@ -249,17 +275,20 @@ pub(crate) fn answer<'a>(
 
 /// What a search over a dataset finds: all entries that the user sees and the key wants, in order, whatever LIMIT says (RFC 2244
 /// section 6.4.1). It is refused where the key asks for positions, where the dataset doesn't exist, where more entries match
-/// than HARDLIMIT allows, and for want of memory: the first of these is told.
-pub fn fresh(
+/// than HARDLIMIT allows, and for want of memory: the first of these is told. Each path in the scope at which a record is or may
+/// be inherited counts as a step.
+pub fn fresh<L: Ledger>(
     alloc: Global,
     tree: &Tree,
     realm: &Realm,
     user: &UserName,
     query: &Query,
+    steps: &mut Steps<L>,
 ) -> Result<Hits, SearchRefusal>
-    ensures { IsAnswer tree.now.store.records realm.now user.now query.now (λ hits all. hits ≡ all) result }
+    ensures count { IsCounted result steps.old steps.new (paths_count tree.now.store query.now.sought) }
+    ensures found { IsAnswer tree.now.store.records realm.now user.now query.now (λ h m. h ≡ m) result }
 {
-    match answer(alloc, tree, realm, user, query) {
+    match answer(alloc, tree, realm, user, query, steps) {
         Ok(found) => match hits_of(alloc, found) {
             Ok(hits) => Ok(Hits::from_vec(hits)),
             Err(_) => Err(SearchRefusal::Memory),

@@ -1,5 +1,6 @@
 //! What a search tells.
-ghost use Rattle.acap_search.specs.Cutting as cutting;
+ghost use Rattle.acap_search.specs.Counting.{IsCounted, paths_count};
+ghost use Rattle.acap_search.specs.Cutting.{IsExcerpt};
 ghost use Rattle.acap_search.specs.Fresh.{IsAnswer};
 
 use crate::cutting::cut_by;
@@ -8,9 +9,10 @@ use crate::query::Query;
 use crate::refusal::SearchRefusal;
 use crate::searching::answer;
 use acap_commands::{Limit, Rows};
-use acap_entries::{Tree, UserName};
+use acap_entries::{Steps, Tree, UserName};
 use acap_rights::Realm;
 use std::alloc::Global;
+use std::sync::ledger::Ledger;
 
 /// What a SEARCH over a dataset tells of its matches (RFC 2244 section 6.4.1).
 #[derive(Drop)]
@@ -22,18 +24,20 @@ pub struct Excerpt {
 }
 
 /// What a SEARCH over a dataset tells: the rows of what `fresh` finds, of which LIMIT may keep some back. It is refused as
-/// `fresh` is. Takes less memory than the hits would.
-pub fn tell(
+/// `fresh` is, and counts as `fresh` does. Takes less memory than the hits would.
+pub fn tell<L: Ledger>(
     alloc: Global,
     tree: &Tree,
     realm: &Realm,
     user: &UserName,
     query: &Query,
     limit: Option<Limit>,
+    steps: &mut Steps<L>,
 ) -> Result<Excerpt, SearchRefusal>
-    ensures { IsAnswer tree.now.store.records realm.now user.now query.now (cutting.IsExcerpt limit) result }
+    ensures count { IsCounted result steps.old steps.new (paths_count tree.now.store query.now.sought) }
+    ensures told { IsAnswer tree.now.store.records realm.now user.now query.now (IsExcerpt limit) result }
 {
-    match answer(alloc, tree, realm, user, query) {
+    match answer(alloc, tree, realm, user, query, steps) {
         Ok(found) => {
             let cut = cut_by(limit, found.len());
             match told_first(alloc, found, cut.told) {

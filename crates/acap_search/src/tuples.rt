@@ -91,17 +91,20 @@ fn is_found<R: Records>(spot: &Spot<'_, R>, sought: &Sought, place: Option<u32>)
     sees(spot) && wants(spot, &sought.key, place)
 }
 
-/// What a search makes of an entry that is looked at. The path is that of its record, where it is at hand.
-pub(crate) fn finding_at<'p, R: Records>(
+/// What a search makes of an entry that is looked at: one step. The path is that of its record, where it is at hand.
+pub(crate) fn finding_at<'p, R: Records, L: Ledger>(
     alloc: Global,
     spot: &Spot<'_, R>,
     path: Option<&'p Path>,
     sought: &Sought,
     place: Option<u32>,
+    steps: &mut Steps<L>,
 ) -> Result<Option<Finding<'p>>, Memory>
     requires { IfSome path (λ path. path.now ≡ path_of spot.now) }
-    ensures { IfOk result (λ found. found ≡ found_at sought.now place spot.now) }
+    ensures count { steps.new ≡ steps.old + 1 }
+    ensures made { IfOk result (λ found. found ≡ found_at sought.now place spot.now) }
 {
+    steps.tick();
     if !is_found(spot, sought, place) {
         return Ok(None);
     }
@@ -127,10 +130,10 @@ pub fn row_of<'a, R: Records, L: Ledger>(
     ensures count { steps.new ≡ steps.old + 1 }
     ensures made { IfOk result (λ hit. hit ≡ found_at sought.now place (spotted by.now name.now)) }
 {
-    steps.tick();
     let near = near_by(by, name);
     let nearer = by.over(&near);
-    match finding_at(alloc, &Spot::far(&nearer, name), None, sought, place)? {
+    let spot = Spot::far(&nearer, name);
+    match finding_at(alloc, &spot, None, sought, place, steps)? {
         Some(found) => Ok(Some(found.into_hit()?)),
         None => Ok(None),
     }

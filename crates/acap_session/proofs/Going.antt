@@ -1,6 +1,6 @@
 -- What is next completes the command in hand, or the machine is asked for its answer.
 use Rattle.std.proofs.Common.{◌≡◌, inl, inr, ℕ, ℤ, Bool, true, false, if◌then◌else◌, List, [], ◌∷◌, ◌++◌, Option, Some, None, Result, Ok, Err, refl, sym, ap, subst, ◌∙◌}
-use Rattle.std.specs.Prelude.{codes, IsSome, is_some, map, option_map}
+use Rattle.std.specs.Prelude.{codes, IsSome, is_some, map}
 use Rattle.std.specs.Str.{bytes_eq, str_eq_ignore_ascii_case, is_utf8, chars}
 use Rattle.std.specs.Char.{encode_utf8}
 use Rattle.std.proofs.lemmas.List.{append-nil}
@@ -30,10 +30,8 @@ use Rattle.acap_commands.specs.declared.refusal.Refusal.TheVariants as refusals
 use Rattle.acap_commands.specs.declared.reply.Reply.{Reply}
 use Rattle.acap_commands.specs.declared.said.Said.TheVariants as said
 use Rattle.acap_machine.specs.Completing.{completes}
-use Rattle.acap_machine.specs.Seats.{seated_as}
 use Rattle.acap_commands.specs.declared.event.Event.{Event}
 use Rattle.acap_commands.specs.declared.event.Event.TheVariants as event
-use Rattle.acap_machine.specs.declared.occupant.Occupant.{Occupant}
 use Rattle.acap_session.specs.Completing.{Call, plain_call, login_call, is_login, called_wrong, called, called_at, completed_by, going_on, farewell, IsLeft, IsEnd, AreCompleted}
 use Rattle.acap_dialogue.specs.Listening.{Listening}
 use Rattle.acap_dialogue.specs.Hearing.{challenged, refuses, heard, heard_line, heard_command, heard_answer, answer_line, answer_token, asks, authenticated, logs_in, mechanism_name, opening, ready_line, refusal_of, tag_of, who}
@@ -47,8 +45,8 @@ use Rattle.acap_dialogue.specs.declared.stage.Stage.TheVariants as stage
 -- ---- how a session stands between turns
 
 -- with who has its seat
-abbrev pub At : Stage → Option (List ℕ) → Option Occupant → Type 0
-At stage.Ready user seated = seated ≡ option_map seated_as user
+abbrev pub At : Stage → Option (List ℕ) → Option (List ℕ) → Type 0
+At stage.Ready user seated = seated ≡ user
 At (stage.Challenged tag challenge) user seated = (user ≡ None) × (seated ≡ None)
 At stage.Closed user seated = seated ≡ None
 At other user seated = ⊥
@@ -58,9 +56,9 @@ IsOpen stage.Ready user = Unit {0}
 IsOpen (stage.Challenged tag challenge) user = user ≡ None
 IsOpen other user = ⊥
 
-pub at_open : (x : Stage) (user : Option (List ℕ)) (seated : Option Occupant) → IsOpen x user → seated ≡ option_map seated_as user → At x user seated
+pub at_open : (x : Stage) (user : Option (List ℕ)) (seated : Option (List ℕ)) → IsOpen x user → seated ≡ user → At x user seated
 at_open stage.Ready user seated o e = e
-at_open (stage.Challenged tag challenge) user seated o e = (o, e ∙ ap (option_map seated_as) o)
+at_open (stage.Challenged tag challenge) user seated o e = (o, e ∙ o)
 at_open stage.Opening user seated o e = o
 at_open stage.Entering user seated o e = o
 at_open (stage.Asked tag) user seated o e = o
@@ -81,16 +79,16 @@ left_open fatal stage.Closed user left o e = absurd o
 -- ---- what is next, of commands in hand
 
 -- the machine is asked by who may ask it
-abbrev pub Asks : List Call → Option (List ℕ) → Option Occupant → Event → Stage → Type 0
-Asks b user seated e (stage.Asked tag) = (map (λ c. c.tag) b ≡ tag ∷ []) × ((name : List ℕ) × (user ≡ Some name) × (seated ≡ Some (seated_as name))) × ((c : Command) × (e ≡ event.Command c))
+abbrev pub Asks : List Call → Option (List ℕ) → Option (List ℕ) → Event → Stage → Type 0
+Asks b user seated e (stage.Asked tag) = (map (λ c. c.tag) b ≡ tag ∷ []) × ((name : List ℕ) × (user ≡ Some name) × (seated ≡ Some name)) × ((c : Command) × (e ≡ event.Command c))
 Asks b user seated e (stage.LoggingIn tag name) = (map (λ c. c.tag) b ≡ tag ∷ []) × (user ≡ None) × (seated ≡ None) × (e ≡ event.Enter name)
 Asks b user seated e stage.Entering = (b ≡ []) × ((name : List ℕ) × (user ≡ Some name) × (seated ≡ None) × (e ≡ event.Enter name))
-Asks b user seated e stage.Draining = (b ≡ []) × ((name : List ℕ) × (user ≡ Some name) × (seated ≡ Some (seated_as name))) × (e ≡ event.Drain)
+Asks b user seated e stage.Draining = (b ≡ []) × ((name : List ℕ) × (user ≡ Some name) × (seated ≡ Some name)) × (e ≡ event.Drain)
 Asks b user seated e other = ⊥
 
-abbrev pub Goes : List Call → Option (List ℕ) → Option Occupant → Option LexFault → Next → Stage → Type 0
-Goes b user seated fatal next.More x = IsOpen x user × (b ≡ going_on x) × (seated ≡ option_map seated_as user)
-Goes b user seated fatal (next.Say octets) x = IsOpen x user × AreCompleted b octets fatal x × (seated ≡ option_map seated_as user)
+abbrev pub Goes : List Call → Option (List ℕ) → Option (List ℕ) → Option LexFault → Next → Stage → Type 0
+Goes b user seated fatal next.More x = IsOpen x user × (b ≡ going_on x) × (seated ≡ user)
+Goes b user seated fatal (next.Say octets) x = IsOpen x user × AreCompleted b octets fatal x × (seated ≡ user)
 Goes b user seated fatal (next.Ask e) x = Asks b user seated e x
 Goes b user seated fatal (next.Close octets) x = (x ≡ stage.Closed) × AreCompleted b octets fatal x
 
@@ -155,28 +153,28 @@ pub ended : (tag : Option (List ℕ)) (r : Reply) (s : Bool) → s ≡ true → 
 ended tag r s e = sym (ap (λ b. if b then (tag ∷ []) else []) e)
 
 -- by the user, and who has the seat
-abbrev GoesTo : List Call → Option (List ℕ) → Option Occupant → Option LexFault → Next × Stage → Type 0
+abbrev GoesTo : List Call → Option (List ℕ) → Option (List ℕ) → Option LexFault → Next × Stage → Type 0
 GoesTo b user seated fatal x = Goes b user seated fatal x.0 x.1
 
-if_goes : (b : List Call) (user : Option (List ℕ)) (seated : Option Occupant) (fatal : Option LexFault) (c : Bool) (x y : Next × Stage) →
+if_goes : (b : List Call) (user : Option (List ℕ)) (seated : Option (List ℕ)) (fatal : Option LexFault) (c : Bool) (x y : Next × Stage) →
     GoesTo b user seated fatal x → GoesTo b user seated fatal y → GoesTo b user seated fatal (if c then x else y)
 if_goes b user seated fatal true x y p q = p
 if_goes b user seated fatal false x y p q = q
 
-authenticated_goes : (l : Listening) (tag : Option (List ℕ)) (m : List ℕ) (seated : Option Occupant) (fatal : Option LexFault) →
-    seated ≡ option_map seated_as l.user → GoesTo (login_call tag ∷ []) l.user seated fatal (authenticated l tag m)
+authenticated_goes : (l : Listening) (tag : Option (List ℕ)) (m : List ℕ) (seated : Option (List ℕ)) (fatal : Option LexFault) →
+    seated ≡ l.user → GoesTo (login_call tag ∷ []) l.user seated fatal (authenticated l tag m)
 authenticated_goes l tag m seated fatal e = elim l.user as (λ u. l.user ≡ u → GoesTo (login_call tag ∷ []) l.user seated fatal (if is_some u then refuses tag refusals.LoggedIn else challenged l tag m)) [
   | None ↦ λ none. if_goes (login_call tag ∷ []) l.user seated fatal (str_eq_ignore_ascii_case m mechanism_name) _ _ (none, waits _ _ fatal _ refl refl, e) (tt, one _ _ fatal stage.Ready refl refl, e)
   | Some user ↦ λ some. (tt, one _ _ fatal stage.Ready refl refl, e)
 ] refl
 
-asks_goes : (user tag : Option (List ℕ)) (c : Command) (seated : Option Occupant) (fatal : Option LexFault) →
-    seated ≡ option_map seated_as user → GoesTo (plain_call tag ∷ []) user seated fatal (asks user tag c)
+asks_goes : (user tag : Option (List ℕ)) (c : Command) (seated : Option (List ℕ)) (fatal : Option LexFault) →
+    seated ≡ user → GoesTo (plain_call tag ∷ []) user seated fatal (asks user tag c)
 asks_goes None tag c seated fatal e = (tt, one _ _ fatal stage.Ready refl refl, e)
 asks_goes (Some user) tag c seated fatal e = (refl, (user, refl, e), (c, refl))
 
-command_goes : (l : Listening) (tag : Option (List ℕ)) (c : Command) (seated : Option Occupant) (fatal : Option LexFault) →
-    seated ≡ option_map seated_as l.user → GoesTo (record { tag = tag; is_login = is_login (Ok c) } ∷ []) l.user seated fatal (heard_command l tag c)
+command_goes : (l : Listening) (tag : Option (List ℕ)) (c : Command) (seated : Option (List ℕ)) (fatal : Option LexFault) →
+    seated ≡ l.user → GoesTo (record { tag = tag; is_login = is_login (Ok c) } ∷ []) l.user seated fatal (heard_command l tag c)
 unfolding heard_command
 command_goes l tag command.Noop seated fatal e = (tt, one _ _ fatal stage.Ready refl refl, e)
 command_goes l tag command.Logout seated fatal e = (refl, one _ _ fatal stage.Closed refl (inl refl))
@@ -191,15 +189,15 @@ command_goes l tag (command.DeletedSince dataset since) seated fatal e = asks_go
 command_goes l tag (command.FreeContext name) seated fatal e = asks_goes l.user tag (command.FreeContext name) seated fatal e
 command_goes l tag (command.UpdateContext names) seated fatal e = asks_goes l.user tag (command.UpdateContext names) seated fatal e
 
-line_goes : (l : Listening) (tag : Option (List ℕ)) (r : Result Command GrammarFault) (seated : Option Occupant) (fatal : Option LexFault) →
-    seated ≡ option_map seated_as l.user → GoesTo (record { tag = tag; is_login = is_login r } ∷ []) l.user seated fatal (heard_line l tag r)
+line_goes : (l : Listening) (tag : Option (List ℕ)) (r : Result Command GrammarFault) (seated : Option (List ℕ)) (fatal : Option LexFault) →
+    seated ≡ l.user → GoesTo (record { tag = tag; is_login = is_login r } ∷ []) l.user seated fatal (heard_line l tag r)
 line_goes l tag (Ok c) seated fatal e = command_goes l tag c seated fatal e
 line_goes l tag (Err f) seated fatal e =
     let r : Reply = record { tag = tag; said = said.Refused (of_grammar f) } in
     (tt, one _ r fatal stage.Ready (ended tag r (completes r.said) (grammar_completes f)) refl, e)
 
-pub heard_goes : (l : Listening) (x : Lexed) (seated : Option Occupant) (fatal : Option LexFault) → ((f : LexFault) → x ≡ lexed.Fatal f → fatal ≡ Some f) →
-    seated ≡ option_map seated_as l.user → GoesTo (called x) l.user seated fatal (heard l x)
+pub heard_goes : (l : Listening) (x : Lexed) (seated : Option (List ℕ)) (fatal : Option LexFault) → ((f : LexFault) → x ≡ lexed.Fatal f → fatal ≡ Some f) →
+    seated ≡ l.user → GoesTo (called x) l.user seated fatal (heard l x)
 unfolding heard
 heard_goes l lexed.More seated fatal f e = (tt, refl, e)
 heard_goes l lexed.Plus seated fatal f e = (tt, continues [] fatal stage.Ready refl, e)
@@ -210,10 +208,10 @@ heard_goes l (lexed.Fatal g) seated fatal f e = (refl, ending [] g fatal (f g re
 
 -- ---- an answer to a challenge is heard
 
-nobody : (seated : Option Occupant) (user : Option (List ℕ)) → user ≡ None → seated ≡ None → seated ≡ option_map seated_as user
-nobody seated user p e = e ∙ sym (ap (option_map seated_as) p)
+nobody : (seated : Option (List ℕ)) (user : Option (List ℕ)) → user ≡ None → seated ≡ None → seated ≡ user
+nobody seated user p e = e ∙ sym p
 
-logs_goes : (user : Option (List ℕ)) (tag : Option (List ℕ)) (name : Option (List ℕ)) (seated : Option Occupant) (fatal : Option LexFault) →
+logs_goes : (user : Option (List ℕ)) (tag : Option (List ℕ)) (name : Option (List ℕ)) (seated : Option (List ℕ)) (fatal : Option LexFault) →
     user ≡ None → seated ≡ None → GoesTo (login_call tag ∷ []) user seated fatal (logs_in tag name)
 logs_goes user tag None seated fatal p e = (tt, one _ _ fatal stage.Ready refl refl, nobody seated user p e)
 logs_goes user tag (Some name) seated fatal p e = (refl, p, e, refl)
@@ -222,7 +220,7 @@ word_completes : (b : Bool) (tag : Option (List ℕ)) → (tag ∷ []) ≡ compl
 word_completes true tag = refl
 word_completes false tag = refl
 
-token_goes : (users : List User) (user tag : Option (List ℕ)) (challenge : List ℕ) (k : Kind) (text : List ℕ) (seated : Option Occupant) (fatal : Option LexFault) →
+token_goes : (users : List User) (user tag : Option (List ℕ)) (challenge : List ℕ) (k : Kind) (text : List ℕ) (seated : Option (List ℕ)) (fatal : Option LexFault) →
     user ≡ None → seated ≡ None → GoesTo (login_call tag ∷ []) user seated fatal (answer_token users tag challenge k text)
 token_goes users user tag challenge kind.Quoted text seated fatal p e = logs_goes user tag (who users challenge text) seated fatal p e
 token_goes users user tag challenge kind.Literal text seated fatal p e = logs_goes user tag (who users challenge text) seated fatal p e
@@ -232,13 +230,13 @@ token_goes users user tag challenge kind.Tag text seated fatal p e = (tt, one _ 
 token_goes users user tag challenge kind.Open text seated fatal p e = (tt, one _ _ fatal stage.Ready refl refl, nobody seated user p e)
 token_goes users user tag challenge kind.Close text seated fatal p e = (tt, one _ _ fatal stage.Ready refl refl, nobody seated user p e)
 
-answer_goes : (users : List User) (user tag : Option (List ℕ)) (challenge : List ℕ) (tokens : List Token) (seated : Option Occupant) (fatal : Option LexFault) →
+answer_goes : (users : List User) (user tag : Option (List ℕ)) (challenge : List ℕ) (tokens : List Token) (seated : Option (List ℕ)) (fatal : Option LexFault) →
     user ≡ None → seated ≡ None → GoesTo (login_call tag ∷ []) user seated fatal (answer_line users tag challenge tokens)
 answer_goes users user tag challenge [] seated fatal p e = (tt, one _ _ fatal stage.Ready refl refl, nobody seated user p e)
 answer_goes users user tag challenge (token ∷ []) seated fatal p e = token_goes users user tag challenge token.kind token.value seated fatal p e
 answer_goes users user tag challenge (token ∷ other ∷ tokens) seated fatal p e = (tt, one _ _ fatal stage.Ready refl refl, nobody seated user p e)
 
-challenged_goes : (users : List User) (user tag : Option (List ℕ)) (challenge : List ℕ) (x : Lexed) (seated : Option Occupant) (fatal : Option LexFault) →
+challenged_goes : (users : List User) (user tag : Option (List ℕ)) (challenge : List ℕ) (x : Lexed) (seated : Option (List ℕ)) (fatal : Option LexFault) →
     ((f : LexFault) → x ≡ lexed.Fatal f → fatal ≡ Some f) → user ≡ None → seated ≡ None → GoesTo (login_call tag ∷ []) user seated fatal (heard_answer users tag challenge x)
 unfolding heard_answer
 challenged_goes users user tag challenge lexed.More seated fatal f p e = (p, refl, nobody seated user p e)
@@ -260,7 +258,7 @@ fatal_by m h None f e k = elim (next_cases m h e) [
 
 -- ---- what is next
 
-pub next_goes : (users : List User) (nonce : ℕ) (clock : ℤ) (x : Stage) (t : Talking) (seated : Option Occupant) → At x t.user seated → (x ≡ stage.Closed → ⊥) →
+pub next_goes : (users : List User) (nonce : ℕ) (clock : ℤ) (x : Stage) (t : Talking) (seated : Option (List ℕ)) → At x t.user seated → (x ≡ stage.Closed → ⊥) →
     Goes (going_on x ++ called_at x t.held) (next_at users nonce clock x t).1.user seated (next_at users nonce clock x t).1.held.fatal (next_at users nonce clock x t).0 (next_at users nonce clock x t).1.stage
 next_goes users nonce clock stage.Ready t seated e o = heard_goes (listening t nonce clock) (next_of mode.Command t.held).0 seated _ (λ f k. fatal_by mode.Command t.held t.held.fatal f refl k) e
 next_goes users nonce clock (stage.Challenged tag challenge) t seated e o =
@@ -274,17 +272,17 @@ next_goes users nonce clock (stage.LoggingIn tag user) t seated e o = absurd e
 next_goes users nonce clock stage.Draining t seated e o = absurd e
 next_goes users nonce clock stage.Closed t seated e o = absurd (o refl)
 
-pub opening_goes : (user : Option (List ℕ)) (seated : Option Occupant) (fatal : Option LexFault) → seated ≡ None → GoesTo [] user seated fatal (opening user)
+pub opening_goes : (user : Option (List ℕ)) (seated : Option (List ℕ)) (fatal : Option LexFault) → seated ≡ None → GoesTo [] user seated fatal (opening user)
 unfolding opening
 opening_goes None seated fatal e = (tt, waits [] _ fatal stage.Ready refl refl, e)
 opening_goes (Some user) seated fatal e = (refl, (user, refl, e, refl))
 
-drain_by : (user : Option (List ℕ)) (t : Talking) (seated : Option Occupant) → t.user ≡ user → t.stage ≡ stage.Ready → seated ≡ option_map seated_as user →
+drain_by : (user : Option (List ℕ)) (t : Talking) (seated : Option (List ℕ)) → t.user ≡ user → t.stage ≡ stage.Ready → seated ≡ user →
     Goes [] (drain_for user t).1.user seated (drain_for user t).1.held.fatal (drain_for user t).0 (drain_for user t).1.stage
-drain_by None t seated u s e = subst (λ k. Goes [] t.user seated t.held.fatal next.More k) (sym s) (tt, refl, e ∙ sym (ap (option_map seated_as) u))
+drain_by None t seated u s e = subst (λ k. Goes [] t.user seated t.held.fatal next.More k) (sym s) (tt, refl, e ∙ sym u)
 drain_by (Some user) t seated u s e = (refl, (user, u, e), refl)
 
-pub drain_goes : (x : Stage) (t : Talking) (seated : Option Occupant) → t.stage ≡ x → At x t.user seated → (x ≡ stage.Closed → ⊥) →
+pub drain_goes : (x : Stage) (t : Talking) (seated : Option (List ℕ)) → t.stage ≡ x → At x t.user seated → (x ≡ stage.Closed → ⊥) →
     Goes (going_on x) (drain_at x t).1.user seated (drain_at x t).1.held.fatal (drain_at x t).0 (drain_at x t).1.stage
 drain_goes stage.Ready t seated s e o = drain_by t.user t seated refl s e
 drain_goes (stage.Challenged tag challenge) t seated s e o = subst (λ k. Goes (login_call tag ∷ []) t.user seated t.held.fatal next.More k) (sym s) (e.0, refl, nobody seated t.user e.0 e.1)

@@ -1,21 +1,13 @@
 -- What a session's first turn leaves: where its user isn't let in, or memory is refused, the machine is as it was.
-use Rattle.std.proofs.Common.{◌≡◌, inl, inr, ℕ, Bool, true, false, ◌||◌, is_ok, cond, List, Option, Some, None, Result, Ok, Err, OnErr, refl, sym, ap, subst, ◌∙◌, eq-eqb, append-nil}
-use Rattle.std.specs.Cmp.{nat_cmp_total, unsigned_tied}
-use Rattle.std.specs.FinMap.{get, get-insert, get-remove, get_tied, same_map, nat_cmp-IsAntisymmetric}
-use Rattle.std.specs.FinMap as table
-use Rattle.std.specs.Ordering.{nat_cmp, is_eq}
-use Rattle.std.specs.declared.cmp.Ordering.{Ordering}
-use Rattle.std.specs.declared.cmp.Ordering.TheVariants as order
+use Rattle.std.proofs.Common.{◌≡◌, inl, inr, ℕ, Bool, true, false, ◌||◌, is_ok, List, Option, Some, None, Result, Ok, Err, OnErr, refl, sym, ap, subst, ◌∙◌, append-nil}
 use Rattle.acap_login.specs.Login.{User}
 use Rattle.acap_commands.specs.declared.reply.Reply.{Reply}
-use Rattle.acap_machine.specs.Machine.{Machine}
+use Rattle.acap_machine.specs.Machine.{Machine, user_at}
 use Rattle.acap_machine.specs.Runs.{outcome_of, machine_after}
-use Rattle.acap_machine.specs.Seats.{Seated, seated_as}
-use Rattle.acap_machine.specs.Stepping.{entered, by_user, plain}
+use Rattle.acap_machine.proofs.SeatLemmas.{entered_user, left_again}
+use Rattle.acap_machine.specs.Stepping.{seated as seating, by_user, left_at}
 use Rattle.acap_commands.specs.declared.event.Event.TheVariants as events
 use Rattle.acap_commands.specs.declared.fault.Fault.{Fault}
-use Rattle.acap_machine.specs.declared.occupant.Occupant.{Occupant}
-use Rattle.acap_commands.specs.declared.said.Said.TheVariants as said
 use Rattle.acap_dialogue.specs.Hearing.{opening}
 use Rattle.acap_dialogue.specs.Session.{session_next, next_at, answered, has_seat, has_seat_at, is_closed, comes_to}
 use Rattle.acap_dialogue.specs.Talking.{Talking}
@@ -26,33 +18,21 @@ use Rattle.acap_session.specs.declared.turn.Turn.{Turn}
 
 -- ---- a user who enters a free seat, and leaves it
 
-removed_at : (s : Seated) (seat : ℕ) (x : Occupant) (q : ℕ) (r : Ordering) → nat_cmp q seat ≡ r → get s seat ≡ None → cond (is_eq r) None (get (table.insert s seat x) q) ≡ get s q
-removed_at s seat x q order.Less e f = get-insert nat_cmp_total s seat x q ∙ ap (λ r. cond (is_eq r) (Some x) (get s q)) e
-removed_at s seat x q order.Equal e f = sym f ∙ get_tied nat_cmp_total s q seat e
-removed_at s seat x q order.Greater e f = get-insert nat_cmp_total s seat x q ∙ ap (λ r. cond (is_eq r) (Some x) (get s q)) e
+abbrev pub entered_as : Machine → ℕ → List ℕ → Machine
+entered_as m seat name = machine_after m (seating m seat name None)
 
-same_seats : (s : Seated) (seat : ℕ) (x : Occupant) → get s seat ≡ None → table.remove (table.insert s seat x) seat ≡ s
-same_seats s seat x f = same_map nat_cmp_total nat_cmp-IsAntisymmetric _ _ (λ q. get-remove nat_cmp_total (table.insert s seat x) seat q ∙ removed_at s seat x q (nat_cmp q seat) refl f)
-
-pub seated : (s : Seated) (seat : ℕ) (x : Occupant) → get (table.insert s seat x) seat ≡ Some x
-seated s seat x = get-insert nat_cmp_total s seat x seat ∙ ap (λ b. cond b (Some x) (get s seat)) (unsigned_tied seat seat ∙ eq-eqb seat seat refl)
-
-abbrev entered_as : Machine → ℕ → List ℕ → Machine
-entered_as m seat name = record m { seats = table.insert m.seats seat (seated_as name) }
-
-left_again : (m : Machine) (o : Occasion) (name : List ℕ) → get m.seats o.seat ≡ None → left_by true o (entered_as m o.seat name) ≡ m
-left_again m o name e =
+left_at_once : (m : Machine) (o : Occasion) (name : List ℕ) → user_at m o.seat ≡ None → left_by true o (entered_as m o.seat name) ≡ m
+left_at_once m o name e =
     let n = entered_as m o.seat name in
-    ap (λ x. machine_after n (by_user x (λ user. (plain said.Left, record n { seats = table.remove n.seats o.seat })))) (seated m.seats o.seat (seated_as name))
-    ∙ ap (λ s. record m { seats = s }) (same_seats m.seats o.seat (seated_as name) e)
+    ap (λ x. machine_after n (by_user x (λ user. left_at n o.seat))) (entered_user m o.seat name) ∙ left_again m o.seat name e
 
-entered_left : (m : Machine) (o : Occasion) (name : List ℕ) (x : Option Occupant) → get m.seats o.seat ≡ x → (let r = entered m o.seat name x in left_by (is_ok r) o (machine_after m r)) ≡ m
-entered_left m o name None e = left_again m o name e
+entered_left : (m : Machine) (o : Occasion) (name : List ℕ) (x : Option (List ℕ)) → user_at m o.seat ≡ x → (let r = seating m o.seat name x in left_by (is_ok r) o (machine_after m r)) ≡ m
+entered_left m o name None e = left_at_once m o name e
 entered_left m o name (Some other) e = refl
 
 performed_left : (m : Machine) (o : Occasion) (name : List ℕ) (refused : Bool) → (let r = performed refused m o (events.Enter name) in left_by (is_ok r) o (machine_after m r)) ≡ m
 performed_left m o name true = refl
-performed_left m o name false = entered_left m o name (get m.seats o.seat) refl
+performed_left m o name false = entered_left m o name (user_at m o.seat) refl
 
 -- ---- the first turn
 

@@ -4,7 +4,7 @@ use Rattle.acap_login.specs.Login.{User}
 use Rattle.acap_commands.specs.declared.reply.Reply.{Reply}
 use Rattle.acap_machine.specs.Machine.{Machine}
 use Rattle.acap_machine.specs.Runs.{outcome_of, machine_after}
-use Rattle.acap_machine.specs.Stepping.{step_of, IsFault}
+use Rattle.acap_machine.specs.Stepping.{step_of, Stepped, IsFault}
 use Rattle.acap_commands.specs.declared.event.Event.{Event}
 use Rattle.acap_commands.specs.declared.event.Event.TheVariants as events
 use Rattle.acap_commands.specs.declared.fault.Fault.{Fault}
@@ -38,16 +38,16 @@ ok_of (Err f) = refl
 performs : (m : Machine) (o : Occasion) (event : Event) (outcome : Result Reply Fault) (new : Machine) (refused : Bool) → outcome_of (performed refused m o event) ≡ outcome → machine_after m (performed refused m o event) ≡ new → IsPerformed m o event outcome new
 performs m o event outcome new refused e f = record { refused = refused; outcome_is = e; machine_is = f; ok_is = ok_of (performed refused m o event) ∙ ap is_ok e }
 
-pub performed_by : (m : Machine) (o : Occasion) (event : Event) (outcome : Result Reply Fault) (new : Machine) → IfOk outcome (λ reply. step_of m o.seat event o.clock ≡ Ok (reply, new)) → IfErr outcome (λ f. IsFault (step_of m o.seat event o.clock) f) → OnErr outcome (new ≡ m)
+pub performed_by : (m : Machine) (o : Occasion) (event : Event) (outcome : Result Reply Fault) (new : Machine) → IfOk outcome (λ reply. Stepped m o.seat event o.clock reply new) → IfErr outcome (λ f. IsFault (step_of m o.seat event o.clock) f) → OnErr outcome (new ≡ m)
     → IsPerformed m o event outcome new
-performed_by m o event (Ok reply) new ok err same = performs m o event (Ok reply) new false (ap outcome_of ok) (ap (machine_after m) ok)
+performed_by m o event (Ok reply) new ok err same = performs m o event (Ok reply) new false (ap outcome_of ok.step) (ap (machine_after m) ok.step)
 performed_by m o event (Err fault.Memory) new ok err same = performs m o event (Err fault.Memory) new true refl (sym same)
 performed_by m o event (Err fault.NotEntered) new ok err same = performs m o event (Err fault.NotEntered) new false (ap outcome_of err) (ap (machine_after m) err ∙ sym same)
 performed_by m o event (Err fault.AlreadyEntered) new ok err same = performs m o event (Err fault.AlreadyEntered) new false (ap outcome_of err) (ap (machine_after m) err ∙ sym same)
 performed_by m o event (Err fault.HistoryFull) new ok err same = absurd err
 
 -- it is refused where memory was
-pub stood : (m : Machine) (o : Occasion) (event : Event) (outcome : Result Reply Fault) (new : Machine) (ok : IfOk outcome (λ reply. step_of m o.seat event o.clock ≡ Ok (reply, new))) (err : IfErr outcome (λ f. IsFault (step_of m o.seat event o.clock) f)) (same : OnErr outcome (new ≡ m))
+pub stood : (m : Machine) (o : Occasion) (event : Event) (outcome : Result Reply Fault) (new : Machine) (ok : IfOk outcome (λ reply. Stepped m o.seat event o.clock reply new)) (err : IfErr outcome (λ f. IsFault (step_of m o.seat event o.clock) f)) (same : OnErr outcome (new ≡ m))
     → (performed_by m o event outcome new ok err same).refused ≡ is_refused outcome
 unfolding performed_by performs
 stood m o event (Ok reply) new ok err same = refl

@@ -1,8 +1,6 @@
 -- What is written where events are refused memory.
 use Rattle.std.proofs.Common.{◌≡◌, ℕ, pos, Bool, true, false, ◌||◌, is_ok, List, [], ◌∷◌, ◌++◌, Option, Some, None, Err, refl, sym, ap, subst, ◌∙◌, append_assoc}
-use Rattle.std.specs.FinMap.{get-empty}
 use Rattle.std.specs.List.{list_any}
-use Rattle.std.specs.Ordering.{nat_cmp}
 use Rattle.std.specs.Prelude.{codes}
 use Rattle.std.proofs.lemmas.List.{append-nil}
 use Rattle.acap_login.specs.Login.{User}
@@ -14,10 +12,10 @@ use Rattle.acap_lexer.specs.Stream.{end_of, part_end, progress, progress_from, p
 use Rattle.acap_lexer.specs.declared.lexed.Lexed.TheVariants as lexed
 use Rattle.acap_lexer.specs.declared.mode.Mode.TheVariants as mode
 use Rattle.acap_machine.specs.Machine.{Machine, new_machine}
+use Rattle.acap_machine.proofs.SeatLemmas.{nobody_at}
 use Rattle.acap_machine.specs.Runs.{machine_after, outcome_of}
-use Rattle.acap_machine.specs.Stepping.{entered as seating}
+use Rattle.acap_machine.specs.Stepping.{seated as seating}
 use Rattle.acap_commands.specs.declared.fault.Fault.TheVariants as fault
-use Rattle.acap_machine.specs.declared.occupant.Occupant.{Occupant}
 use Rattle.acap_dialogue.specs.Hearing.{heard, opening}
 use Rattle.acap_session.specs.Laws.{IsUnder, RefusedTurns, WrittenLaw, told_first, refused_in, refused_of}
 use Rattle.acap_session.specs.Piping.{Fed, AreAnswered, IsQuiet, IsWritten, always, entered, fed, fed_all, hears, joined, turns, without_administrators}
@@ -217,14 +215,14 @@ pieces_meet users a b s e q g h k =
 abbrev nobody : Machine
 nobody = new_machine without_administrators
 
-abbrev welcomed : List ℕ → Option Occupant → Scene
+abbrev welcomed : List ℕ → Option (List ℕ) → Scene
 welcomed user x =
     let r = seating nobody 0 user x in
     (shown always (false || is_ok r) (machine_after nobody r) [] (answered (record (begun (codes "localhost") (Some user)) { stage = stage.Entering }) (outcome_of r))).1
 
 entered_is : (user : List ℕ) → entered user ≡ welcomed user None
 unfolding entered turn_of session_next opening
-entered_is user = ap (welcomed user) (get-empty nat_cmp 0)
+entered_is user = ap (welcomed user) (nobody_at without_administrators 0)
 
 nothing_held : (next_of mode.Command (record { text = []; told = 0; fatal = None })).0 ≡ lexed.More
 unfolding next_of progress progress_from progress_within step_of part_end end_of

@@ -1,9 +1,5 @@
 -- Who has a seat after a step, and what the step says.
-use Rattle.std.proofs.Common.{◌≡◌, ◌⊎◌, inl, inr, ℕ, ℤ, ◌==◌, ◌||◌, Bool, true, false, is_ok, cond, List, [], ◌++◌, Option, Some, None, Result, Ok, Err, refl, sym, ap, subst, ◌∙◌, eq-eqb}
-use Rattle.std.specs.Prelude.{option_map}
-use Rattle.std.specs.Cmp.{nat_cmp_total, unsigned_tied}
-use Rattle.std.specs.FinMap as table
-use Rattle.std.specs.FinMap.{get-remove}
+use Rattle.std.proofs.Common.{◌≡◌, ◌⊎◌, inl, inr, ℕ, ℤ, ◌==◌, ◌||◌, Bool, true, false, is_ok, List, [], ◌∷◌, ◌++◌, Option, Some, None, Result, Ok, Err, refl, sym, ap, subst, ◌∙◌, if◌then◌else◌}
 use Rattle.std.proofs.lemmas.List.{append-nil}
 use Rattle.acap_commands.specs.declared.command.Command.{Command}
 use Rattle.acap_commands.specs.declared.refusal.Refusal.TheVariants as refusals
@@ -11,20 +7,17 @@ use Rattle.acap_commands.specs.declared.reply.Reply.{Reply}
 use Rattle.acap_commands.specs.declared.said.Said.TheVariants as said
 use Rattle.acap_commands.specs.declared.verb.Verb.TheVariants as verb
 use Rattle.acap_machine.specs.Completing.{completes}
-use Rattle.acap_machine.specs.Machine.{Machine}
+use Rattle.acap_machine.specs.Machine.{Machine, user_at}
 use Rattle.acap_machine.specs.Runs.{machine_after, outcome_of}
-use Rattle.acap_machine.specs.Seats.{seated_as}
 use Rattle.acap_machine.specs.Serving.{served}
-use Rattle.acap_machine.specs.Stepping.{answered as machine_answered, by_user, entered, plain, step_of}
-use Rattle.acap_machine.specs.declared.answer.Answer.{Answer}
-use Rattle.acap_machine.specs.declared.answer.Answer.TheVariants.{Says, Changes}
+use Rattle.acap_machine.specs.Stepping.{by_user, drained_at, left_at, plain, replied, seated as seating, step_of}
 use Rattle.acap_commands.specs.declared.event.Event.{Event}
 use Rattle.acap_commands.specs.declared.event.Event.TheVariants as event
 use Rattle.acap_commands.specs.declared.fault.Fault.{Fault}
 use Rattle.acap_commands.specs.declared.fault.Fault.TheVariants as fault
-use Rattle.acap_machine.specs.declared.occupant.Occupant.{Occupant}
 use Rattle.acap_machine.proofs.Completing.{completing}
-use Rattle.acap_machine.proofs.StepLaws.{others}
+use Rattle.acap_machine.proofs.SeatLemmas.{entered_user, left_user}
+use Rattle.acap_machine.proofs.StepLaws.{others, stay_served, stay_drained}
 use Rattle.acap_session.specs.Completing.{Call, completed_by, AreCompleted}
 use Rattle.acap_dialogue.specs.Session.{answered, answer_said, answer_user, comes_to, has_seat, has_seat_at}
 use Rattle.acap_dialogue.specs.Talking.{Talking}
@@ -35,15 +28,15 @@ use Rattle.acap_session.specs.declared.occasion.Occasion.{Occasion}
 use Rattle.acap_dialogue.specs.declared.stage.Stage.{Stage}
 use Rattle.acap_dialogue.specs.declared.stage.Stage.TheVariants as stage
 use Rattle.acap_session.proofs.Going.{At, Asks, Goes, at_open, left_open, one, waits, silent, ended}
-use Rattle.acap_session.proofs.Opening.{seated}
+use Rattle.acap_session.proofs.Opening.{entered_as}
 
 -- ---- the other seats
 
 abbrev pub SameElse : ℕ → Machine → Machine → Type 0
-SameElse seat m n = (q : ℕ) → (q == seat) ≡ false → table.get n.seats q ≡ table.get m.seats q
+SameElse seat m n = (q : ℕ) → (q == seat) ≡ false → user_at n q ≡ user_at m q
 
 after_else : (m : Machine) (seat : ℕ) (e : Event) (clock : ℤ) (r : Result (Reply × Machine) Fault) → step_of m seat e clock ≡ r → SameElse seat m (machine_after m r)
-after_else m seat e clock (Ok x) k q apart = others.seats m seat e clock x.0 x.1 k q apart
+after_else m seat e clock (Ok x) k q apart = others.users m seat e clock x.0 x.1 k q apart
 after_else m seat e clock (Err f) k q apart = refl
 
 pub performed_else : (refused : Bool) (m : Machine) (o : Occasion) (e : Event) → SameElse o.seat m (machine_after m (performed refused m o e))
@@ -56,16 +49,15 @@ left_else false o m q apart = refl
 
 -- ---- a seat that is left
 
-leave_by : (m : Machine) (seat : ℕ) (x : Option Occupant) → table.get m.seats seat ≡ x →
-    table.get (machine_after m (by_user x (λ user. (plain said.Left, record m { seats = table.remove m.seats seat })))).seats seat ≡ None
+leave_by : (m : Machine) (seat : ℕ) (x : Option (List ℕ)) → user_at m seat ≡ x → user_at (machine_after m (by_user x (λ user. left_at m seat))) seat ≡ None
 leave_by m seat None e = e
-leave_by m seat (Some x) e = get-remove nat_cmp_total m.seats seat seat ∙ ap (λ b. cond b None (table.get m.seats seat)) (unsigned_tied seat seat ∙ eq-eqb seat seat refl)
+leave_by m seat (Some x) e = left_user m seat
 
-pub left_empty : (has : Bool) (o : Occasion) (m : Machine) → (has ≡ false → table.get m.seats o.seat ≡ None) → table.get (left_by has o m).seats o.seat ≡ None
-left_empty true o m e = leave_by m o.seat (table.get m.seats o.seat) refl
+pub left_empty : (has : Bool) (o : Occasion) (m : Machine) → (has ≡ false → user_at m o.seat ≡ None) → user_at (left_by has o m) o.seat ≡ None
+left_empty true o m e = leave_by m o.seat (user_at m o.seat) refl
 left_empty false o m e = e refl
 
-pub unseated : (x : Stage) (user : Option (List ℕ)) (has : Option Occupant) → At x user has → has_seat_at x user ≡ false → has ≡ None
+pub unseated : (x : Stage) (user : Option (List ℕ)) (has : Option (List ℕ)) → At x user has → has_seat_at x user ≡ false → has ≡ None
 unseated stage.Ready None has e f = e
 unseated stage.Ready (Some user) has e f = cc
 unseated (stage.Challenged tag challenge) user has e f = e.1
@@ -84,57 +76,60 @@ record Answers (m : Machine) (seat : ℕ) (name : List ℕ) (Fits : Reply → Ty
   new : Machine
   is : r ≡ Ok (reply, new)
   fits : Fits reply
-  has : table.get new.seats seat ≡ Some (seated_as name)
+  has : user_at new seat ≡ Some name
 
 abbrev MayAnswer : Machine → ℕ → List ℕ → (Reply → Type 0) → Result (Reply × Machine) Fault → Type 0
 MayAnswer m seat name Fits r = (r ≡ Err fault.Memory) ⊎ Answers m seat name Fits r
 
-same_answered : (m : Machine) (answer : Answer) → (machine_answered m answer).1.seats ≡ m.seats
-same_answered m (Says words) = refl
-same_answered m (Changes done change) = refl
-
-command_by : (m : Machine) (o : Occasion) (c : Command) (name : List ℕ) (x : Option Occupant) → table.get m.seats o.seat ≡ x → x ≡ Some (seated_as name) →
-    Answers m o.seat name (λ r. completes r.said ≡ true) (by_user x (λ user. machine_answered m (served m.store m.realm user c o.clock)))
+command_by : (m : Machine) (o : Occasion) (c : Command) (name : List ℕ) (x : Option (List ℕ)) → user_at m o.seat ≡ x → x ≡ Some name →
+    Answers m o.seat name (λ r. completes r.said ≡ true) (by_user x (λ user. replied (served m o.seat user c o.clock)))
 command_by m o c name None e f = absurd cc
 command_by m o c name (Some x) e f =
-    let y = machine_answered m (served m.store m.realm x.user c o.clock) in
+    let y = replied (served m o.seat x c o.clock) in
     record {
       reply = y.0;
       new = y.1;
       is = refl;
-      fits = completing m o.seat c o.clock y.0 y.1 (ap (λ z. by_user z (λ user. machine_answered m (served m.store m.realm user c o.clock))) e);
-      has = ap (λ s. table.get s o.seat) (same_answered m (served m.store m.realm x.user c o.clock)) ∙ e ∙ f;
+      fits = completing m o.seat c o.clock y.0 y.1 (ap (λ z. by_user z (λ user. replied (served m o.seat user c o.clock))) e);
+      has = stay_served m o.seat x c o.clock o.seat ∙ e ∙ f;
     }
 
-asks_command : (refused : Bool) (m : Machine) (o : Occasion) (c : Command) (name : List ℕ) → table.get m.seats o.seat ≡ Some (seated_as name) →
+asks_command : (refused : Bool) (m : Machine) (o : Occasion) (c : Command) (name : List ℕ) → user_at m o.seat ≡ Some name →
     MayAnswer m o.seat name (λ r. completes r.said ≡ true) (performed refused m o (event.Command c))
 asks_command true m o c name e = inl refl
-asks_command false m o c name e = inr (command_by m o c name (table.get m.seats o.seat) refl e)
+asks_command false m o c name e = inr (command_by m o c name (user_at m o.seat) refl e)
 
-drain_by : (m : Machine) (o : Occasion) (name : List ℕ) (x : Option Occupant) → table.get m.seats o.seat ≡ x → x ≡ Some (seated_as name) →
-    Answers m o.seat name (λ r. r.said ≡ said.Drained []) (by_user x (λ user. (plain (said.Drained []), m)))
+drain_by : (m : Machine) (o : Occasion) (name : List ℕ) (x : Option (List ℕ)) → user_at m o.seat ≡ x → x ≡ Some name →
+    Answers m o.seat name (λ r. completes r.said ≡ false) (by_user x (λ user. drained_at m o.seat))
 drain_by m o name None e f = absurd cc
-drain_by m o name (Some x) e f = record { reply = plain (said.Drained []); new = m; is = refl; fits = refl; has = e ∙ f }
+drain_by m o name (Some x) e f =
+    record { reply = (drained_at m o.seat).0; new = (drained_at m o.seat).1; is = refl; fits = refl; has = stay_drained m o.seat o.seat ∙ e ∙ f }
 
-asks_drain : (refused : Bool) (m : Machine) (o : Occasion) (name : List ℕ) → table.get m.seats o.seat ≡ Some (seated_as name) →
-    MayAnswer m o.seat name (λ r. r.said ≡ said.Drained []) (performed refused m o event.Drain)
+asks_drain : (refused : Bool) (m : Machine) (o : Occasion) (name : List ℕ) → user_at m o.seat ≡ Some name →
+    MayAnswer m o.seat name (λ r. completes r.said ≡ false) (performed refused m o event.Drain)
 asks_drain true m o name e = inl refl
-asks_drain false m o name e = inr (drain_by m o name (table.get m.seats o.seat) refl e)
+asks_drain false m o name e = inr (drain_by m o name (user_at m o.seat) refl e)
 
-enter_by : (m : Machine) (seat : ℕ) (name : List ℕ) (x : Option Occupant) → x ≡ None → Answers m seat name (λ r. r.said ≡ said.Greeting) (entered m seat name x)
-enter_by m seat name None e = record { reply = plain said.Greeting; new = record m { seats = table.insert m.seats seat (seated_as name) }; is = refl; fits = refl; has = seated m.seats seat (seated_as name) }
+enter_by : (m : Machine) (seat : ℕ) (name : List ℕ) (x : Option (List ℕ)) → x ≡ None → Answers m seat name (λ r. r.said ≡ said.Greeting) (seating m seat name x)
+enter_by m seat name None e = record {
+  reply = plain said.Greeting;
+  new = entered_as m seat name;
+  is = refl;
+  fits = refl;
+  has = entered_user m seat name;
+}
 enter_by m seat name (Some x) e = absurd cc
 
-asks_entry : (refused : Bool) (m : Machine) (o : Occasion) (name : List ℕ) → table.get m.seats o.seat ≡ None →
+asks_entry : (refused : Bool) (m : Machine) (o : Occasion) (name : List ℕ) → user_at m o.seat ≡ None →
     MayAnswer m o.seat name (λ r. r.said ≡ said.Greeting) (performed refused m o (event.Enter name))
 asks_entry true m o name e = inl refl
-asks_entry false m o name e = inr (enter_by m o.seat name (table.get m.seats o.seat) e)
+asks_entry false m o name e = inr (enter_by m o.seat name (user_at m o.seat) e)
 
 -- ---- what the session makes of it
 
 -- how a session stands at its seat then, and what it said of commands in hand
 pub record Made (b : List Call) (seat : ℕ) (out : List ℕ) (new : Scene) : Type 0 where
-  pub at : At new.talk.stage new.talk.user (table.get new.machine.seats seat)
+  pub at : At new.talk.stage new.talk.user (user_at new.machine seat)
   pub said : List ℕ
   pub out_is : new.out ≡ out ++ said
   pub completed : AreCompleted b said new.talk.held.fatal new.talk.stage
@@ -144,17 +139,17 @@ Tells b o m out t x r =
     Made b o.seat out (shown o (has_seat_at x t.user || is_ok r) (machine_after m r) out (comes_to (record t { user = answer_user x t.user (outcome_of r) }) (answer_said x (outcome_of r)))).1
 
 tells_of : (b : List Call) (o : Occasion) (m : Machine) (out : List ℕ) (t : Talking) (x : Stage) (name : List ℕ) (Fits : Reply → Type 0) (r : Result (Reply × Machine) Fault) →
-    Tells b o m out t x (Err fault.Memory) → ((reply : Reply) (new : Machine) → Fits reply → table.get new.seats o.seat ≡ Some (seated_as name) → Tells b o m out t x (Ok (reply, new))) →
+    Tells b o m out t x (Err fault.Memory) → ((reply : Reply) (new : Machine) → Fits reply → user_at new o.seat ≡ Some name → Tells b o m out t x (Ok (reply, new))) →
     MayAnswer m o.seat name Fits r → Tells b o m out t x r
 tells_of b o m out t x name Fits r refused good (inl e) = subst (λ y. Tells b o m out t x y) (sym e) refused
 tells_of b o m out t x name Fits r refused good (inr a) = subst (λ y. Tells b o m out t x y) (sym a.is) (good a.reply a.new a.fits a.has)
 
-asked_made : (b : List Call) (o : Occasion) (refused : Bool) (m : Machine) (out : List ℕ) (t : Talking) (e : Event) (x : Stage) → Asks b t.user (table.get m.seats o.seat) e x → Tells b o m out t x (performed refused m o e)
+asked_made : (b : List Call) (o : Occasion) (refused : Bool) (m : Machine) (out : List ℕ) (t : Talking) (e : Event) (x : Stage) → Asks b t.user (user_at m o.seat) e x → Tells b o m out t x (performed refused m o e)
 asked_made b o refused m out t e (stage.Asked tag) (b_is, (name, u, has), (c, e_is)) =
     tells_of b o m out t (stage.Asked tag) name (λ r. completes r.said ≡ true) (performed refused m o e)
-    (record { at = has ∙ sym (ap (option_map seated_as) u); said = _; out_is = refl; completed = one b (record { tag = tag; said = said.Refused refusals.Memory }) t.held.fatal stage.Ready b_is refl })
+    (record { at = has ∙ sym u; said = _; out_is = refl; completed = one b (record { tag = tag; said = said.Refused refusals.Memory }) t.held.fatal stage.Ready b_is refl })
     (λ reply new fits is. record {
-      at = is ∙ sym (ap (option_map seated_as) u);
+      at = is ∙ sym u;
       said = _;
       out_is = refl;
       completed = one b (record { tag = tag; said = reply.said }) t.held.fatal stage.Ready (b_is ∙ ended tag (record { tag = tag; said = reply.said }) (completes reply.said) fits) refl;
@@ -162,29 +157,29 @@ asked_made b o refused m out t e (stage.Asked tag) (b_is, (name, u, has), (c, e_
     (subst (λ y. MayAnswer m o.seat name (λ r. completes r.said ≡ true) (performed refused m o y)) (sym e_is) (asks_command refused m o c name has))
 asked_made b o refused m out t e (stage.LoggingIn tag name) (b_is, u, has, e_is) =
     tells_of b o m out t (stage.LoggingIn tag name) name (λ r. r.said ≡ said.Greeting) (performed refused m o e)
-    (record { at = has ∙ sym (ap (option_map seated_as) u); said = _; out_is = refl; completed = one b (record { tag = tag; said = said.Refused refusals.Memory }) t.held.fatal stage.Ready b_is refl })
+    (record { at = has ∙ sym u; said = _; out_is = refl; completed = one b (record { tag = tag; said = said.Refused refusals.Memory }) t.held.fatal stage.Ready b_is refl })
     (λ reply new fits is. record { at = is; said = _; out_is = refl; completed = one b (record { tag = tag; said = said.Done verb.Authenticate }) t.held.fatal stage.Ready b_is refl })
     (subst (λ y. MayAnswer m o.seat name (λ r. r.said ≡ said.Greeting) (performed refused m o y)) (sym e_is) (asks_entry refused m o name has))
 asked_made b o refused m out t e stage.Entering (b_is, (name, u, has, e_is)) =
     tells_of b o m out t stage.Entering name (λ r. r.said ≡ said.Greeting) (performed refused m o e)
     (record { at = has; said = []; out_is = refl; completed = silent b t.held.fatal stage.Closed (inl b_is) })
     (λ reply new fits is. record {
-      at = is ∙ sym (ap (option_map seated_as) u);
+      at = is ∙ sym u;
       said = _;
       out_is = refl;
       completed = waits b (record { tag = None; said = reply.said }) t.held.fatal stage.Ready (ap (λ w. completed_by (record { tag = None; said = w })) fits) b_is;
     })
     (subst (λ y. MayAnswer m o.seat name (λ r. r.said ≡ said.Greeting) (performed refused m o y)) (sym e_is) (asks_entry refused m o name has))
 asked_made b o refused m out t e stage.Draining (b_is, (name, u, has), e_is) =
-    tells_of b o m out t stage.Draining name (λ r. r.said ≡ said.Drained []) (performed refused m o e)
-    (record { at = has ∙ sym (ap (option_map seated_as) u); said = []; out_is = refl; completed = silent b t.held.fatal stage.Ready b_is })
+    tells_of b o m out t stage.Draining name (λ r. completes r.said ≡ false) (performed refused m o e)
+    (record { at = has ∙ sym u; said = []; out_is = refl; completed = silent b t.held.fatal stage.Ready b_is })
     (λ reply new fits is. record {
-      at = is ∙ sym (ap (option_map seated_as) u);
+      at = is ∙ sym u;
       said = _;
       out_is = refl;
-      completed = waits b (record { tag = None; said = reply.said }) t.held.fatal stage.Ready (ap (λ w. completed_by (record { tag = None; said = w })) fits) b_is;
+      completed = waits b (record { tag = None; said = reply.said }) t.held.fatal stage.Ready (ap (λ c. if c then None ∷ [] else []) fits) b_is;
     })
-    (subst (λ y. MayAnswer m o.seat name (λ r. r.said ≡ said.Drained []) (performed refused m o y)) (sym e_is) (asks_drain refused m o name has))
+    (subst (λ y. MayAnswer m o.seat name (λ r. completes r.said ≡ false) (performed refused m o y)) (sym e_is) (asks_drain refused m o name has))
 asked_made b o refused m out t e stage.Opening a = absurd a
 asked_made b o refused m out t e stage.Ready a = absurd a
 asked_made b o refused m out t e (stage.Challenged tag challenge) a = absurd a
@@ -193,19 +188,19 @@ asked_made b o refused m out t e stage.Closed a = absurd a
 -- ---- a turn or a drain, by what is next
 
 pub made : (b : List Call) (o : Occasion) (refused : Bool) (s : Scene) (n : Next) (t : Talking) →
-    (has_seat s.talk ≡ false → table.get s.machine.seats o.seat ≡ None) → Goes b t.user (table.get s.machine.seats o.seat) t.held.fatal n t.stage →
+    (has_seat s.talk ≡ false → user_at s.machine o.seat ≡ None) → Goes b t.user (user_at s.machine o.seat) t.held.fatal n t.stage →
     Made b o.seat s.out (turn_by o refused s (n, t)).1
 unfolding answered
 made b o refused s next.More t free g = record {
-  at = at_open t.stage t.user (table.get s.machine.seats o.seat) g.0 g.2;
+  at = at_open t.stage t.user (user_at s.machine o.seat) g.0 g.2;
   said = [];
   out_is = sym (append-nil s.out);
   completed = silent b t.held.fatal t.stage (left_open t.held.fatal t.stage t.user b g.0 g.1);
 }
-made b o refused s (next.Say octets) t free g = record { at = at_open t.stage t.user (table.get s.machine.seats o.seat) g.0 g.2; said = octets; out_is = refl; completed = g.1 }
+made b o refused s (next.Say octets) t free g = record { at = at_open t.stage t.user (user_at s.machine o.seat) g.0 g.2; said = octets; out_is = refl; completed = g.1 }
 made b o refused s (next.Ask e) t free g = asked_made b o refused s.machine s.out t e t.stage g
 made b o refused s (next.Close octets) t free g = record {
-  at = subst (λ x. At x t.user (table.get (left_by (has_seat s.talk) o s.machine).seats o.seat)) (sym g.0) (left_empty (has_seat s.talk) o s.machine free);
+  at = subst (λ x. At x t.user (user_at (left_by (has_seat s.talk) o s.machine) o.seat)) (sym g.0) (left_empty (has_seat s.talk) o s.machine free);
   said = octets;
   out_is = refl;
   completed = g.1;
@@ -240,7 +235,7 @@ may_be : (m : Machine) (seat : ℕ) (name : List ℕ) (Fits : Reply → Type 0) 
 may_be m seat name Fits r (inl e) = subst (λ y. IsPlaced (Some (outcome_of y))) (sym e) tt
 may_be m seat name Fits r (inr a) = subst (λ y. IsPlaced (Some (outcome_of y))) (sym a.is) tt
 
-pub asks_placed : (b : List Call) (user : Option (List ℕ)) (refused : Bool) (m : Machine) (o : Occasion) (e : Event) (x : Stage) → Asks b user (table.get m.seats o.seat) e x → IsPlaced (Some (outcome_of (performed refused m o e)))
+pub asks_placed : (b : List Call) (user : Option (List ℕ)) (refused : Bool) (m : Machine) (o : Occasion) (e : Event) (x : Stage) → Asks b user (user_at m o.seat) e x → IsPlaced (Some (outcome_of (performed refused m o e)))
 asks_placed b user refused m o e (stage.Asked tag) (b_is, (name, u, has), (c, e_is)) =
     subst (λ y. IsPlaced (Some (outcome_of (performed refused m o y)))) (sym e_is) (may_be m o.seat name _ _ (asks_command refused m o c name has))
 asks_placed b user refused m o e (stage.LoggingIn tag name) (b_is, u, has, e_is) =

@@ -1,20 +1,17 @@
 -- Who has which seat after the steps of a world, and what its sessions have said.
 use Rattle.std.proofs.Common.{◌≡◌, ◌⊎◌, inl, inr, ℕ, ◌==◌, ◌||◌, Bool, true, false, not, if◌then◌else◌, List, [], ◌∷◌, ◌++◌, Option, Some, None, refl, sym, ap, subst, ◌∙◌, append_assoc}
 use Rattle.std.specs.Prelude.{flat_map, option_map}
-use Rattle.std.specs.FinMap as table
-use Rattle.std.specs.Ordering.{nat_cmp}
 use Rattle.std.proofs.lemmas.Bool.{and_parts, eqb-true, eqb-false}
 use Rattle.std.proofs.lemmas.Grind.{flat_map-append}
 use Rattle.std.proofs.lemmas.List.{append-nil, map-append}
 use Rattle.acap_lexer.specs.declared.fault.LexFault.{LexFault}
 use Rattle.acap_login.specs.Login.{User}
 use Rattle.acap_grammar.specs.Replies.{octets_of}
-use Rattle.acap_machine.specs.Machine.{Machine}
+use Rattle.acap_machine.proofs.SeatLemmas.{nobody_at}
+use Rattle.acap_machine.specs.Machine.{Machine, user_at}
 use Rattle.acap_machine.specs.Runs.{outcome_of}
-use Rattle.acap_machine.specs.Seats.{seated_as}
-use Rattle.acap_machine.specs.declared.occupant.Occupant.{Occupant}
 use Rattle.acap_rights.specs.declared.realm.Realm.{Realm}
-use Rattle.acap_session.specs.Completing.{Call, called_at, called_by, all_called, completed_by, completed, going_on, IsEnd, IsLeft, AreCompleted, goes_on, all_go_on, HasCompleted, CompletionLaw}
+use Rattle.acap_session.specs.Completing.{Call, called_at, called_by, all_called, completed_by, going_on, IsEnd, IsLeft, AreCompleted, goes_on, all_go_on, HasCompleted, CompletionLaw}
 use Rattle.acap_session.specs.Laws.{event_in, reply_of}
 use Rattle.acap_session.specs.Places.{Place, place_at, placed, if_open}
 use Rattle.acap_session.specs.Seating.{SeatingLaw, occupant_by}
@@ -35,14 +32,14 @@ use Rattle.acap_session.proofs.Seating.{SameElse, Made, IsPlaced, asks_placed, l
 
 -- ---- how all sessions of a world stand
 
-abbrev AtPlace : Option Place → Option Occupant → Type 0
+abbrev AtPlace : Option Place → Option (List ℕ) → Type 0
 AtPlace None has = has ≡ None
 AtPlace (Some p) has = At p.talk.stage p.talk.user has
 
 abbrev AllSeated : World → Type 0
-AllSeated w = (q : ℕ) → AtPlace (place_at w.places q) (table.get w.machine.seats q)
+AllSeated w = (q : ℕ) → AtPlace (place_at w.places q) (user_at w.machine q)
 
-free_at : (x : Stage) (p : Place) (user : Option (List ℕ)) (has : Option Occupant) → (if is_closed x then None else Some p) ≡ None → At x user has → has ≡ None
+free_at : (x : Stage) (p : Place) (user : Option (List ℕ)) (has : Option (List ℕ)) → (if is_closed x then None else Some p) ≡ None → At x user has → has ≡ None
 free_at stage.Closed p user has e a = a
 free_at stage.Ready p user has e a = absurd cc
 free_at (stage.Challenged tag challenge) p user has e a = a.1
@@ -52,7 +49,7 @@ free_at (stage.Asked tag) p user has e a = absurd a
 free_at (stage.LoggingIn tag name) p user has e a = absurd a
 free_at stage.Draining p user has e a = absurd a
 
-free : (x : Option Place) (has : Option Occupant) → if_open x ≡ None → AtPlace x has → has ≡ None
+free : (x : Option Place) (has : Option (List ℕ)) → if_open x ≡ None → AtPlace x has → has ≡ None
 free None has e a = a
 free (Some p) has e a = free_at p.talk.stage p p.talk.user has e a
 
@@ -64,12 +61,12 @@ opened : (x : Option Place) (p : Place) → if_open x ≡ Some p → (x ≡ Some
 opened None p e = absurd cc
 opened (Some y) p e = opened_by y p (is_closed y.talk.stage) refl e
 
-at_of : (w : World) (k : ℕ) (p : Place) → AllSeated w → open_at w k ≡ Some p → At p.talk.stage p.talk.user (table.get w.machine.seats k)
-at_of w k p a e = subst (λ x. AtPlace x (table.get w.machine.seats k)) (opened (place_at w.places k) p e).0 (a k)
+at_of : (w : World) (k : ℕ) (p : Place) → AllSeated w → open_at w k ≡ Some p → At p.talk.stage p.talk.user (user_at w.machine k)
+at_of w k p a e = subst (λ x. AtPlace x (user_at w.machine k)) (opened (place_at w.places k) p e).0 (a k)
 
 -- ---- turns, drains and openings
 
-turned : (users : List User) (o : Occasion) (refused : Bool) (s : Scene) → At s.talk.stage s.talk.user (table.get s.machine.seats o.seat) → (s.talk.stage ≡ stage.Closed → ⊥) →
+turned : (users : List User) (o : Occasion) (refused : Bool) (s : Scene) → At s.talk.stage s.talk.user (user_at s.machine o.seat) → (s.talk.stage ≡ stage.Closed → ⊥) →
     Made (going_on s.talk.stage ++ called_at s.talk.stage s.talk.held) o.seat s.out (turn_of users o refused s).1
 unfolding turn_of session_next
 turned users o refused s a c =
@@ -80,7 +77,7 @@ turned_else : (users : List User) (o : Occasion) (refused : Bool) (s : Scene) �
 unfolding turn_of
 turned_else users o refused s q apart = let x = session_next users o.nonce o.clock s.talk in made_else o refused s x.0 x.1 q apart
 
-drained : (o : Occasion) (refused : Bool) (s : Scene) → At s.talk.stage s.talk.user (table.get s.machine.seats o.seat) → (s.talk.stage ≡ stage.Closed → ⊥) →
+drained : (o : Occasion) (refused : Bool) (s : Scene) → At s.talk.stage s.talk.user (user_at s.machine o.seat) → (s.talk.stage ≡ stage.Closed → ⊥) →
     Made (going_on s.talk.stage) o.seat s.out (drain_of o refused s).1
 unfolding drain_of session_drain
 drained o refused s a c =
@@ -91,7 +88,7 @@ drained_else : (o : Occasion) (refused : Bool) (s : Scene) → SameElse o.seat s
 unfolding drain_of
 drained_else o refused s q apart = let x = session_drain s.talk in made_else o refused s x.0 x.1 q apart
 
-begins : (users : List User) (o : Occasion) (refused : Bool) (m : Machine) (host : List ℕ) (user : Option (List ℕ)) (out : List ℕ) → table.get m.seats o.seat ≡ None →
+begins : (users : List User) (o : Occasion) (refused : Bool) (m : Machine) (host : List ℕ) (user : Option (List ℕ)) (out : List ℕ) → user_at m o.seat ≡ None →
     Made [] o.seat out (turn_of users o refused (scene m (begun host user) out)).1
 unfolding turn_of session_next
 begins users o refused m host user out e =
@@ -103,7 +100,7 @@ begins users o refused m host user out e =
 record Sets (w : World) (k : ℕ) (v : World) : Type 0 where
   after : Scene
   is : v ≡ with_scene w k after
-  at : At after.talk.stage after.talk.user (table.get after.machine.seats k)
+  at : At after.talk.stage after.talk.user (user_at after.machine k)
   apart : SameElse k w.machine after.machine
 
 abbrev Effect : World → ℕ → World → Type 0
@@ -143,13 +140,13 @@ did_is o refused world.Turn w = refl
 did_is o refused world.Drain w = refl
 did_is o refused world.Leave w = refl
 
-set_at : (w : World) (k q : ℕ) (s : Scene) (b : Bool) → (q == k) ≡ b → At s.talk.stage s.talk.user (table.get s.machine.seats k) → SameElse k w.machine s.machine → AllSeated w →
-    AtPlace (place_at (placed w.places k (place_of s)) q) (table.get s.machine.seats q)
+set_at : (w : World) (k q : ℕ) (s : Scene) (b : Bool) → (q == k) ≡ b → At s.talk.stage s.talk.user (user_at s.machine k) → SameElse k w.machine s.machine → AllSeated w →
+    AtPlace (place_at (placed w.places k (place_of s)) q) (user_at s.machine q)
 set_at w k q s true e at apart a =
-    subst (λ j. AtPlace (place_at (placed w.places k (place_of s)) j) (table.get s.machine.seats j)) (sym (eqb-true q k e))
-    (subst (λ x. AtPlace x (table.get s.machine.seats k)) (sym (placed_there w.places k (place_of s))) at)
+    subst (λ j. AtPlace (place_at (placed w.places k (place_of s)) j) (user_at s.machine j)) (sym (eqb-true q k e))
+    (subst (λ x. AtPlace x (user_at s.machine k)) (sym (placed_there w.places k (place_of s))) at)
 set_at w k q s false e at apart a =
-    subst (λ x. AtPlace x (table.get s.machine.seats q)) (sym (placed_other w.places k q (place_of s) (eqb-false q k e)))
+    subst (λ x. AtPlace x (user_at s.machine q)) (sym (placed_other w.places k q (place_of s) (eqb-false q k e)))
     (subst (λ h. AtPlace (place_at w.places q) h) (sym (apart q e)) (a q))
 
 after_effect : (w v : World) (k : ℕ) → Effect w k v → AllSeated w → AllSeated v
@@ -166,11 +163,11 @@ run_seated [] w a = a
 run_seated (x ∷ steps) w a = run_seated steps (did x.occasion x.refused x.deed w) (step_seated x w a)
 
 new_seated : (realm : Realm) (users : List User) (host : List ℕ) → AllSeated (new_world realm users host)
-new_seated realm users host q = table.get-empty nat_cmp q
+new_seated realm users host q = nobody_at realm q
 
 -- ---- the law of seats
 
-occupant_at : (x : Stage) (user : Option (List ℕ)) (has : Option Occupant) → At x user has → has ≡ (if has_seat_at x user then option_map seated_as user else None)
+occupant_at : (x : Stage) (user : Option (List ℕ)) (has : Option (List ℕ)) → At x user has → has ≡ (if has_seat_at x user then user else None)
 occupant_at stage.Ready None has a = a
 occupant_at stage.Ready (Some user) has a = a
 occupant_at (stage.Challenged tag challenge) None has a = a.1
@@ -182,12 +179,12 @@ occupant_at (stage.Asked tag) user has a = absurd a
 occupant_at (stage.LoggingIn tag name) user has a = absurd a
 occupant_at stage.Draining user has a = absurd a
 
-occupant_is : (x : Option Place) (has : Option Occupant) → AtPlace x has → has ≡ occupant_by x
+occupant_is : (x : Option Place) (has : Option (List ℕ)) → AtPlace x has → has ≡ occupant_by x
 occupant_is None has a = a
 occupant_is (Some p) has a = occupant_at p.talk.stage p.talk.user has a
 
 goes_placed : (b : List Call) (user : Option (List ℕ)) (fatal : Option LexFault) (refused : Bool) (m : Machine) (o : Occasion) (n : Next) (t : Talking) →
-    Goes b user (table.get m.seats o.seat) fatal n t.stage → IsPlaced (option_map (λ event. outcome_of (performed refused m o event)) (event_in (n, t)))
+    Goes b user (user_at m o.seat) fatal n t.stage → IsPlaced (option_map (λ event. outcome_of (performed refused m o event)) (event_in (n, t)))
 goes_placed b user fatal refused m o next.More t g = tt
 goes_placed b user fatal refused m o (next.Say octets) t g = tt
 goes_placed b user fatal refused m o (next.Ask e) t g = asks_placed b user refused m o e t.stage g

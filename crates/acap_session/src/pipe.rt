@@ -16,12 +16,13 @@ use crate::pipe_fault::PipeFault;
 use crate::turn::Turn;
 use crate::turns::turn;
 use acap_dialogue::Session;
-use acap_entries::{Memory, Moment, Octets, Seat, UserName};
+use acap_entries::{Memory, Moment, Octets, Seat, Steps, UserName};
 use acap_login::Users;
 use acap_machine::State;
 use acap_rights::Realm;
 use std::alloc::Global;
 use std::io::{Read, Write};
+use std::sync::ledger::Ledger;
 
 /// After so many reads a session ends as if the reader had failed.
 const READS: u32 = 1_000_000_000;
@@ -79,12 +80,13 @@ fn ease<W: Write>(writer: &mut W, out: &mut Vec<u8>) -> Result<(), PipeFault>
 }
 
 // Makes all turns that can be made. What they say waits, and is written as soon as it is much.
-fn settle<W: Write>(
+fn settle<W: Write, L: Ledger>(
     session: &mut Session,
     state: &mut State,
     users: &Users,
     writer: &mut W,
     out: &mut Vec<u8>,
+    steps: &mut Steps<L>,
 ) -> Result<(), PipeFault>
     requires { Goes session.old }
     ensures ok { OnOk result (IsOut (W.contents writer.old) (W.contents writer.new) out.new.items (λ said. IsSettled users.now (scene state.old.machine session.old out.old.items) (scene state.new.machine session.new said))) }
@@ -92,7 +94,7 @@ fn settle<W: Write>(
     ensures fault { IfErr result IsLater }
 {
     'turns: loop {
-        match turn(session, state, users, always(), out)? {
+        match turn(session, state, users, always(), out, steps)? {
             Turn::Said => ease(writer, out)?,
             Turn::More => return Ok(()),
             Turn::Closed => return Ok(()),
@@ -101,13 +103,14 @@ fn settle<W: Write>(
 }
 
 // Gives a session a piece, and makes all turns that can be made. What comes behind a close isn't heard.
-fn feed<W: Write>(
+fn feed<W: Write, L: Ledger>(
     session: &mut Session,
     state: &mut State,
     users: &Users,
     piece: &[u8],
     writer: &mut W,
     out: &mut Vec<u8>,
+    steps: &mut Steps<L>,
 ) -> Result<(), PipeFault>
     requires { HasRoom session.old }
     ensures ok { OnOk result (IsOut (W.contents writer.old) (W.contents writer.new) out.new.items (λ said. IsFed users.now piece.now (scene state.old.machine session.old out.old.items) (scene state.new.machine session.new said))) }
@@ -119,21 +122,22 @@ fn feed<W: Write>(
         let taken = session.push(rest)?;
         let (_, behind) = rest.split_at(taken);
         rest = behind;
-        settle(session, state, users, writer, out)?;
+        settle(session, state, users, writer, out, steps)?;
     }
     Ok(())
 }
 
 // The first turn: the user enters, and is greeted.
-fn enter(
+fn enter<L: Ledger>(
     session: &mut Session,
     state: &mut State,
     users: &Users,
     out: &mut Vec<u8>,
+    steps: &mut Steps<L>,
 ) -> Result<(), Memory>
     ensures { OnOk result (HasTurned users.now (scene state.old.machine session.old out.old.items) (scene state.new.machine session.new out.new.items)) }
 {
-    let _ = turn(session, state, users, always(), out)?;
+    let _ = turn(session, state, users, always(), out, steps)?;
     if session.is_closed() {
         return Err(Memory);
     }
@@ -141,13 +145,14 @@ fn enter(
 }
 
 // Hears a piece, and writes what is said to it, also where memory is refused then.
-fn answer<W: Write>(
+fn answer<W: Write, L: Ledger>(
     session: &mut Session,
     state: &mut State,
     users: &Users,
     piece: &[u8],
     writer: &mut W,
     out: &mut Vec<u8>,
+    steps: &mut Steps<L>,
 ) -> Result<(), PipeFault>
     requires room { HasRoom session.old }
     requires sent { out.old.items ≡ [] }
@@ -156,7 +161,7 @@ fn answer<W: Write>(
     ensures empty { OnOk result (out.new.items ≡ []) }
     ensures fault { IfErr result IsLater }
 {
-    match feed(session, state, users, piece, writer, out) {
+    match feed(session, state, users, piece, writer, out, steps) {
         Ok(()) => send(writer, out),
         Err(PipeFault::Write) => Err(PipeFault::Write),
         Err(fault) => {
@@ -167,13 +172,14 @@ fn answer<W: Write>(
 }
 
 // Reads piece by piece, and writes what is said to each before the next is read.
-fn serve<R: Input, W: Write>(
+fn serve<R: Input, W: Write, L: Ledger>(
     session: &mut Session,
     state: &mut State,
     users: &Users,
     reader: &mut R,
     writer: &mut W,
     out: &mut Vec<u8>,
+    steps: &mut Steps<L>,
 ) -> Result<(), PipeFault>
     requires room { HasRoom session.old }
     requires going { is_closed session.old.stage ≡ false }
@@ -191,7 +197,7 @@ fn serve<R: Input, W: Write>(
             return Ok(());
         }
         let piece = &buffer[..count];
-        answer(session, state, users, piece, writer, out)?;
+        answer(session, state, users, piece, writer, out, steps)?;
         if session.is_closed() {
             return Ok(());
         }
@@ -203,12 +209,13 @@ fn serve<R: Input, W: Write>(
 /// (RFC 2244 section 2). It writes what it says as soon as the octets for it have come, and ends at a close or at the
 /// end of what is read; a command that isn't whole then is dropped. Where the reader fails, or has given 1,000,000,000
 /// times, what it gave before is answered. After a fault of the writer or of memory a front of what is to be written is
-/// written.
-pub fn run_pipe_from<R: Input, W: Write>(
+/// written. Each entry that a search looks at counts as a step.
+pub fn run_pipe_from<R: Input, W: Write, L: Ledger>(
     alloc: Global,
     reader: &mut R,
     writer: &mut W,
     user: UserName,
+    steps: &mut Steps<L>,
 ) -> Result<(), PipeFault>
     ensures pipes { Pipes user (R.remaining reader.old) (R.remaining reader.new) (W.contents writer.old) (W.contents writer.new) result }
     ensures reads { PipeReads (R.told reader.old) (R.told reader.new) result }
@@ -218,19 +225,28 @@ pub fn run_pipe_from<R: Input, W: Write>(
     let mut session = Session::new(alloc, host, Some(user));
     let mut state = State::new(alloc, without_administrators(alloc));
     let mut out = Vec::new(alloc);
-    enter(&mut session, &mut state, &users, &mut out)?;
+    enter(&mut session, &mut state, &users, &mut out, steps)?;
     send(writer, &mut out)?;
-    serve(&mut session, &mut state, &users, reader, writer, &mut out)
+    serve(
+        &mut session,
+        &mut state,
+        &users,
+        reader,
+        writer,
+        &mut out,
+        steps,
+    )
 }
 
 /// The same over a reader of std, which doesn't tell of its failures.
-pub fn run_pipe<R: Read, W: Write>(
+pub fn run_pipe<R: Read, W: Write, L: Ledger>(
     alloc: Global,
     reader: &mut R,
     writer: &mut W,
     user: UserName,
+    steps: &mut Steps<L>,
 ) -> Result<(), PipeFault>
     ensures { Pipes user (R.remaining reader.old) (R.remaining reader.new) (W.contents writer.old) (W.contents writer.new) result }
 {
-    run_pipe_from(alloc, reader, writer, user)
+    run_pipe_from(alloc, reader, writer, user, steps)
 }

@@ -12,12 +12,13 @@ use crate::occasion::Occasion;
 use crate::turn::Turn;
 use crate::turns::{drain, leave, turn};
 use acap_dialogue::Session;
-use acap_entries::{Memory, Seat};
+use acap_entries::{Memory, Seat, Steps};
 use acap_login::Users;
 use acap_machine::State;
 use std::alloc::Global;
 use std::marker::Model;
 use std::mem;
+use std::sync::ledger::Ledger;
 
 /// The session of a seat, with what was said to its client and isn't taken yet.
 #[derive(Drop)]
@@ -50,24 +51,33 @@ impl Place {
     }
 
     /// Makes one turn.
-    pub(crate) fn turn(
+    pub(crate) fn turn<L: Ledger>(
         &mut self,
         state: &mut State,
         users: &Users,
         occasion: Occasion,
+        steps: &mut Steps<L>,
     ) -> Result<Turn, Memory>
         ensures ok { IfOk result (λ turn. IsTurn users.now occasion (scene state.old.machine self.old.talk self.old.out) turn (scene state.new.machine self.new.talk self.new.out)) }
         ensures err { OnErr result (WasCut occasion (scene state.old.machine self.old.talk self.old.out) (session_next users.now occasion.nonce occasion.clock self.old.talk) (scene state.new.machine self.new.talk self.new.out)) }
     {
-        turn(&mut self.session, state, users, occasion, &mut self.out)
+        turn(
+            &mut self.session,
+            state,
+            users,
+            occasion,
+            &mut self.out,
+            steps,
+        )
     }
 
     /// Makes the first turn of a session, which is open then. Where memory is refused nothing was done but to the session.
-    pub(crate) fn begin(
+    pub(crate) fn begin<L: Ledger>(
         &mut self,
         state: &mut State,
         users: &Users,
         occasion: Occasion,
+        steps: &mut Steps<L>,
     ) -> Result<(), Memory>
         requires { self.old.talk.stage ≡ stages.Opening }
         ensures ok { OnOk result (scene state.new.machine self.new.talk self.new.out ≡ (turn_of users.now occasion false (scene state.old.machine self.old.talk self.old.out)).1) }
@@ -75,7 +85,7 @@ impl Place {
         ensures machine { OnErr result (state.new.machine ≡ state.old.machine) }
         ensures out { OnErr result (self.new.out ≡ self.old.out) }
     {
-        let _turn = self.turn(state, users, occasion)?;
+        let _turn = self.turn(state, users, occasion, steps)?;
         if self.is_closed() {
             return Err(Memory);
         }
@@ -83,11 +93,16 @@ impl Place {
     }
 
     /// Asks for what is pending.
-    pub(crate) fn drain(&mut self, state: &mut State, occasion: Occasion) -> Result<Turn, Memory>
+    pub(crate) fn drain<L: Ledger>(
+        &mut self,
+        state: &mut State,
+        occasion: Occasion,
+        steps: &mut Steps<L>,
+    ) -> Result<Turn, Memory>
         ensures ok { IfOk result (λ turn. (turn, scene state.new.machine self.new.talk self.new.out) ≡ drain_of occasion false (scene state.old.machine self.old.talk self.old.out)) }
         ensures err { OnErr result ((scene state.new.machine self.new.talk self.new.out ≡ scene state.old.machine self.old.talk self.old.out) ⊎ CutInDraining occasion (scene state.old.machine self.old.talk self.old.out) (scene state.new.machine self.new.talk self.new.out)) }
     {
-        drain(&mut self.session, state, occasion, &mut self.out)
+        drain(&mut self.session, state, occasion, &mut self.out, steps)
     }
 
     /// Takes a front of a piece, and says how many octets that is.
@@ -100,10 +115,15 @@ impl Place {
     }
 
     /// Ends the session, which leaves its seat if it has it.
-    pub(crate) fn end(&mut self, state: &mut State, occasion: Occasion)
+    pub(crate) fn end<L: Ledger>(
+        &mut self,
+        state: &mut State,
+        occasion: Occasion,
+        steps: &mut Steps<L>,
+    )
         ensures { scene state.new.machine self.new.talk self.new.out ≡ world.ends occasion (scene state.old.machine self.old.talk self.old.out) }
     {
-        leave(state, occasion, self.session.has_seat());
+        leave(state, occasion, self.session.has_seat(), steps);
         self.session.close();
     }
 
@@ -151,13 +171,14 @@ fn give_said(standing: &mut Option<Place>, said: Vec<u8>)
 
 /// Sets a session at its seat, with what was said there before, and makes its first turn. Where memory is refused nothing
 /// was done.
-pub(crate) fn begin(
+pub(crate) fn begin<L: Ledger>(
     alloc: Global,
     standing: &mut Option<Place>,
     session: Session,
     state: &mut State,
     users: &Users,
     occasion: Occasion,
+    steps: &mut Steps<L>,
 ) -> Result<(), Memory>
     requires { session.stage ≡ stages.Opening }
     ensures ok { OnOk result (HasBegun users.now occasion (scene state.old.machine session (said_before standing.old)) standing.new state.new.machine) }
@@ -166,7 +187,7 @@ pub(crate) fn begin(
 {
     let out = take_said(alloc, standing);
     let mut place = Place::new(session, out);
-    let Ok(()) = place.begin(state, users, occasion) else {
+    let Ok(()) = place.begin(state, users, occasion, steps) else {
         give_said(standing, place.take(alloc));
         return Err(Memory);
     };

@@ -9,26 +9,37 @@ ghost use Rattle.acap_script.specs.declared.seat_line.SeatLine.TheVariants as ac
 use crate::occasion::Occasion;
 use crate::script_hearing::hear;
 use crate::world::World;
-use acap_entries::{Octets, UserName};
+use acap_entries::{Octets, Steps, UserName};
 use acap_script::{LineFault, SeatLine};
+use std::sync::ledger::Ledger;
 
 // A session opens, of that user if there is one.
-fn open(world: &mut World, at: &Occasion, user: Option<UserName>) -> Result<(), LineFault>
+fn open<L: Ledger>(
+    world: &mut World,
+    at: &Occasion,
+    user: Option<UserName>,
+    steps: &mut Steps<L>,
+) -> Result<(), LineFault>
     ensures { Done (not (is_some (open_at world.old at.now.seat))) (λ done. world.new ≡ did at.now false (deed.Open user) world.old) result }
 {
-    world.open(at.seat, user, at.clock, at.nonce)?;
+    world.open(at.seat, user, at.clock, at.nonce, steps)?;
     Ok(())
 }
 
 // The client sends a line.
-fn send(world: &mut World, at: &Occasion, text: Octets) -> Result<(), LineFault>
+fn send<L: Ledger>(
+    world: &mut World,
+    at: &Occasion,
+    text: Octets,
+    steps: &mut Steps<L>,
+) -> Result<(), LineFault>
     ensures { Done (is_some (open_at world.old at.now.seat)) (λ done. Acts (act.Send text) at.now world.old world.new) result }
 {
     let mut sent = text.into_vec();
     let Ok(()) = sent.extend_from_slice(b"\r\n") else {
         return Err(LineFault::Memory);
     };
-    hear(world, at, &sent)
+    hear(world, at, &sent, steps)
 }
 
 // Octets come from the client.
@@ -40,41 +51,46 @@ fn push(world: &mut World, at: &Occasion, octets: &[u8]) -> Result<(), LineFault
 }
 
 // The session makes a turn.
-fn turn(world: &mut World, at: &Occasion) -> Result<(), LineFault>
+fn turn<L: Ledger>(world: &mut World, at: &Occasion, steps: &mut Steps<L>) -> Result<(), LineFault>
     ensures { Done (is_some (open_at world.old at.now.seat)) (λ done. Acts act.Turn at.now world.old world.new) result }
 {
-    world.turn(at.seat, at.clock, at.nonce)?;
+    world.turn(at.seat, at.clock, at.nonce, steps)?;
     Ok(())
 }
 
 // The session is asked for what is pending.
-fn drain(world: &mut World, at: &Occasion) -> Result<(), LineFault>
+fn drain<L: Ledger>(world: &mut World, at: &Occasion, steps: &mut Steps<L>) -> Result<(), LineFault>
     ensures { Done (is_some (open_at world.old at.now.seat)) (λ done. Acts act.Drain at.now world.old world.new) result }
 {
-    world.drain(at.seat, at.clock)?;
+    world.drain(at.seat, at.clock, steps)?;
     Ok(())
 }
 
 // The session ends.
-fn leave(world: &mut World, at: &Occasion) -> Result<(), LineFault>
+fn leave<L: Ledger>(world: &mut World, at: &Occasion, steps: &mut Steps<L>) -> Result<(), LineFault>
     ensures { Done (is_some (open_at world.old at.now.seat)) (λ done. Acts act.Leave at.now world.old world.new) result }
 {
-    world.leave(at.seat, at.clock)?;
+    world.leave(at.seat, at.clock, steps)?;
     Ok(())
 }
 
 /// Does that at a seat. `Wrong` where a session opens and one is open there, or where none is open for all else.
-pub(crate) fn do_at(world: &mut World, at: &Occasion, line: SeatLine) -> Result<(), LineFault>
+pub(crate) fn do_at<L: Ledger>(
+    world: &mut World,
+    at: &Occasion,
+    line: SeatLine,
+    steps: &mut Steps<L>,
+) -> Result<(), LineFault>
     ensures { Done (may line (is_some (open_at world.old at.now.seat))) (λ done. Acts line at.now world.old world.new) result }
 {
     match line {
-        SeatLine::Open => open(world, at, None),
-        SeatLine::Enter(user) => open(world, at, Some(user)),
-        SeatLine::Send(text) => send(world, at, text),
-        SeatLine::Raw(octets) => hear(world, at, octets.as_slice()),
+        SeatLine::Open => open(world, at, None, steps),
+        SeatLine::Enter(user) => open(world, at, Some(user), steps),
+        SeatLine::Send(text) => send(world, at, text, steps),
+        SeatLine::Raw(octets) => hear(world, at, octets.as_slice(), steps),
         SeatLine::Piece(octets) => push(world, at, octets.as_slice()),
-        SeatLine::Turn => turn(world, at),
-        SeatLine::Drain => drain(world, at),
-        SeatLine::Leave => leave(world, at),
+        SeatLine::Turn => turn(world, at, steps),
+        SeatLine::Drain => drain(world, at, steps),
+        SeatLine::Leave => leave(world, at, steps),
     }
 }

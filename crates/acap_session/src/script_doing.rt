@@ -12,10 +12,11 @@ use crate::script_output::shown;
 use crate::setup::Setup;
 use crate::standing::Standing;
 use crate::world::World;
-use acap_entries::{Memory, Moment, Octets, Seat, UserName};
+use acap_entries::{Memory, Moment, Octets, Seat, Steps, UserName};
 use acap_script::{LineFault, ScriptLine, SeatLine, read_line};
 use std::alloc::Global;
 use std::mem;
+use std::sync::ledger::Ledger;
 
 /// A script before its first line.
 pub(crate) fn begin(alloc: Global) -> Result<Script, Memory>
@@ -99,11 +100,12 @@ fn set_host(alloc: Global, script: &mut Script, text: Octets) -> Result<Vec<u8>,
 }
 
 // Does something at a seat, and gives what is said there then.
-fn speak(
+fn speak<L: Ledger>(
     alloc: Global,
     script: &mut Script,
     seat: Seat,
     line: SeatLine,
+    steps: &mut Steps<L>,
 ) -> Result<Vec<u8>, LineFault>
     ensures { Done (may line (is_some (open_at (world_of script.old.standing) seat))) (λ out. Speaks seat line script.old out.items script.new) result }
 {
@@ -113,7 +115,7 @@ fn speak(
         nonce: script.nonce,
     };
     let mut world = take_world(alloc, &mut script.standing);
-    do_at(&mut world, &at, line)?;
+    do_at(&mut world, &at, line, steps)?;
     let said = world.take_output(seat);
     script.standing = Standing::Since(world);
     let out = shown(alloc, seat, said.as_slice())?;
@@ -121,7 +123,12 @@ fn speak(
 }
 
 // Does a line, and gives what it says.
-fn do_line(alloc: Global, script: &mut Script, line: ScriptLine) -> Result<Vec<u8>, LineFault>
+fn do_line<L: Ledger>(
+    alloc: Global,
+    script: &mut Script,
+    line: ScriptLine,
+    steps: &mut Steps<L>,
+) -> Result<Vec<u8>, LineFault>
     ensures { Done (fits line script.old.standing) (λ out. Does line script.old out.items script.new) result }
 {
     match line {
@@ -138,15 +145,20 @@ fn do_line(alloc: Global, script: &mut Script, line: ScriptLine) -> Result<Vec<u
             script.nonce = nonce;
             Ok(Vec::new(alloc))
         }
-        ScriptLine::At(seat, line) => speak(alloc, script, seat, line),
+        ScriptLine::At(seat, line) => speak(alloc, script, seat, line, steps),
     }
 }
 
 /// Does the line that a text is, and gives what it says. `Wrong` where it is none, or may not stand there.
-pub(crate) fn do_text(alloc: Global, script: &mut Script, text: &[u8]) -> Result<Vec<u8>, LineFault>
+pub(crate) fn do_text<L: Ledger>(
+    alloc: Global,
+    script: &mut Script,
+    text: &[u8],
+    steps: &mut Steps<L>,
+) -> Result<Vec<u8>, LineFault>
     ensures ok { IfOk result (λ out. IsDone text.now script.old out.items script.new) }
     ensures wrong { (result ≡ Err faults.Wrong) → is_wrong text.now script.old ≡ true }
 {
     let line = read_line(alloc, text)?;
-    do_line(alloc, script, line)
+    do_line(alloc, script, line, steps)
 }

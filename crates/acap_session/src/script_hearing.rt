@@ -7,14 +7,15 @@ ghost use Rattle.acap_session.specs.World.{open_at};
 use crate::occasion::Occasion;
 use crate::world::World;
 use crate::world_fault::WorldFault;
-use acap_entries::Memory;
+use acap_entries::{Memory, Steps};
 use acap_script::LineFault;
+use std::sync::ledger::Ledger;
 
 // Makes a turn, and tells whether it came to anything. No turn is made where the session is closed.
-fn turn(world: &mut World, at: &Occasion) -> Result<bool, Memory>
+fn turn<L: Ledger>(world: &mut World, at: &Occasion, steps: &mut Steps<L>) -> Result<bool, Memory>
     ensures { IfOk result (λ goes. HasTurned at.now goes world.old world.new) }
 {
-    match world.turn(at.seat, at.clock, at.nonce) {
+    match world.turn(at.seat, at.clock, at.nonce, steps) {
         Ok(goes) => Ok(goes),
         Err(WorldFault::NoSeat) => Ok(false),
         Err(_) => Err(Memory),
@@ -22,11 +23,11 @@ fn turn(world: &mut World, at: &Occasion) -> Result<bool, Memory>
 }
 
 // Makes all turns that can be made.
-fn settle(world: &mut World, at: &Occasion) -> Result<(), Memory>
+fn settle<L: Ledger>(world: &mut World, at: &Occasion, steps: &mut Steps<L>) -> Result<(), Memory>
     ensures { OnOk result (HasSettled at.now world.old world.new) }
 {
     loop {
-        if !turn(world, at)? {
+        if !turn(world, at, steps)? {
             return Ok(());
         }
     }
@@ -34,12 +35,17 @@ fn settle(world: &mut World, at: &Occasion) -> Result<(), Memory>
 
 // Offers octets, of which as many are taken as there is room for, and makes all turns that can be made. Says how many
 // were taken.
-fn offer(world: &mut World, at: &Occasion, octets: &[u8]) -> Result<usize, LineFault>
+fn offer<L: Ledger>(
+    world: &mut World,
+    at: &Occasion,
+    octets: &[u8],
+    steps: &mut Steps<L>,
+) -> Result<usize, LineFault>
     ensures offered { Done (is_some (open_at world.old at.now.seat)) (λ taken. HasOffered at.now octets.now world.old world.new (drop taken octets.now)) result }
     ensures within { IfOk result (λ taken. taken ≤ length octets.now) }
 {
     let taken = world.piece(at.seat, octets)?;
-    settle(world, at)?;
+    settle(world, at, steps)?;
     Ok(taken)
 }
 
@@ -50,17 +56,22 @@ fn is_open(world: &World, at: &Occasion) -> bool
 }
 
 /// Gives a seat's session octets, and makes all turns that can be made, until all is taken or the session is closed.
-pub(crate) fn hear(world: &mut World, at: &Occasion, octets: &[u8]) -> Result<(), LineFault>
+pub(crate) fn hear<L: Ledger>(
+    world: &mut World,
+    at: &Occasion,
+    octets: &[u8],
+    steps: &mut Steps<L>,
+) -> Result<(), LineFault>
     ensures { Done (is_some (open_at world.old at.now.seat)) (λ done. HasHeard at.now octets.now world.old world.new) result }
 {
-    let taken = offer(world, at, octets)?;
+    let taken = offer(world, at, octets, steps)?;
     let (_, behind) = octets.split_at(taken);
     let mut rest = behind;
     'offers: while !rest.is_empty() {
         if !is_open(world, at) {
             return Ok(());
         }
-        let taken = offer(world, at, rest)?;
+        let taken = offer(world, at, rest, steps)?;
         if taken == 0 {
             return Err(LineFault::Memory);
         }

@@ -11,9 +11,11 @@ use crate::output::send_all;
 use crate::script::Script;
 use crate::script_doing::{begin, do_text};
 use crate::script_fault::ScriptFault;
+use acap_entries::Steps;
 use acap_script::LineFault;
 use std::alloc::Global;
 use std::io::{Read, Write};
+use std::sync::ledger::Ledger;
 
 /// After so many reads a script ends as if the reader had failed.
 const READS: u32 = 1_000_000_000;
@@ -44,16 +46,17 @@ fn send<W: Write>(writer: &mut W, out: &[u8]) -> Result<(), ScriptFault>
 }
 
 // Does the line with that number, and writes what it says.
-fn run_line<W: Write>(
+fn run_line<W: Write, L: Ledger>(
     alloc: Global,
     script: &mut Script,
     text: &[u8],
     number: u64,
     writer: &mut W,
+    steps: &mut Steps<L>,
 ) -> Result<(), ScriptFault>
     ensures { RunsLine text.now number script.old script.new (W.contents writer.old) (W.contents writer.new) result }
 {
-    match do_text(alloc, script, text) {
+    match do_text(alloc, script, text, steps) {
         Ok(out) => send(writer, out.as_slice()),
         Err(LineFault::Wrong) => Err(ScriptFault::Line(number)),
         Err(LineFault::Memory) => Err(ScriptFault::Memory),
@@ -61,13 +64,14 @@ fn run_line<W: Write>(
 }
 
 // Does the lines that a piece ends, the first of which begins with what is held, and holds what stands behind them.
-fn run_lines<W: Write>(
+fn run_lines<W: Write, L: Ledger>(
     alloc: Global,
     script: &mut Script,
     held: &mut Vec<u8>,
     number: &mut u64,
     piece: &[u8],
     writer: &mut W,
+    steps: &mut Steps<L>,
 ) -> Result<(), ScriptFault>
     requires line { IsLine held.old.items }
     requires count { number.old + length piece.now < 2 ^ 64 }
@@ -82,7 +86,7 @@ fn run_lines<W: Write>(
             return Err(ScriptFault::Memory);
         };
         *number += 1;
-        run_line(alloc, script, held.as_slice(), *number, writer)?;
+        run_line(alloc, script, held.as_slice(), *number, writer, steps)?;
         held.clear();
         rest = behind;
     }
@@ -93,29 +97,31 @@ fn run_lines<W: Write>(
 }
 
 // Does the last line, which has no LF, if there is one.
-fn run_last<W: Write>(
+fn run_last<W: Write, L: Ledger>(
     alloc: Global,
     script: &mut Script,
     text: &[u8],
     number: u64,
     writer: &mut W,
+    steps: &mut Steps<L>,
 ) -> Result<(), ScriptFault>
     ensures { RunsLast text.now number script.old script.new (W.contents writer.old) (W.contents writer.new) result }
 {
     if text.is_empty() {
         return Ok(());
     }
-    run_line(alloc, script, text, number, writer)
+    run_line(alloc, script, text, number, writer, steps)
 }
 
 /// Runs the script that is read, over a world of its own, and writes what its sessions say: what a line says is written
 /// before the next line is read. Where the reader fails, or has given 1,000,000,000 times, the lines that had ended by then
 /// are done; where a line is wrong, those before it. After a fault of the writer or of memory a front of the lines is done,
-/// and a front of what they say is written.
-pub fn run_script_from<R: Input, W: Write>(
+/// and a front of what they say is written. Each entry that a search looks at counts as a step.
+pub fn run_script_from<R: Input, W: Write, L: Ledger>(
     alloc: Global,
     reader: &mut R,
     writer: &mut W,
+    steps: &mut Steps<L>,
 ) -> Result<(), ScriptFault>
     ensures runs { Runs (R.remaining reader.old) (R.remaining reader.new) (W.contents writer.old) (W.contents writer.new) result }
     ensures reads { ScriptReads (R.told reader.old) (R.told reader.new) result }
@@ -129,21 +135,37 @@ pub fn run_script_from<R: Input, W: Write>(
             return Err(ScriptFault::Read);
         };
         if count == 0 {
-            return run_last(alloc, &mut script, held.as_slice(), number + 1, writer);
+            return run_last(
+                alloc,
+                &mut script,
+                held.as_slice(),
+                number + 1,
+                writer,
+                steps,
+            );
         }
         let piece = &buffer[..count];
-        run_lines(alloc, &mut script, &mut held, &mut number, piece, writer)?;
+        run_lines(
+            alloc,
+            &mut script,
+            &mut held,
+            &mut number,
+            piece,
+            writer,
+            steps,
+        )?;
     }
     Err(ScriptFault::Read)
 }
 
 /// The same over a reader of std, which doesn't tell of its failures.
-pub fn run_script<R: Read, W: Write>(
+pub fn run_script<R: Read, W: Write, L: Ledger>(
     alloc: Global,
     reader: &mut R,
     writer: &mut W,
+    steps: &mut Steps<L>,
 ) -> Result<(), ScriptFault>
     ensures { Runs (R.remaining reader.old) (R.remaining reader.new) (W.contents writer.old) (W.contents writer.new) result }
 {
-    run_script_from(alloc, reader, writer)
+    run_script_from(alloc, reader, writer, steps)
 }

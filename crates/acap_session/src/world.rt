@@ -9,12 +9,13 @@ use crate::occasion::Occasion;
 use crate::place::{Place, begin, reach};
 use crate::world_fault::WorldFault;
 use acap_dialogue::Session;
-use acap_entries::{Copying, Memory, Moment, Octets, Seat, UserName};
+use acap_entries::{Copying, Memory, Moment, Octets, Seat, Steps, UserName};
 use acap_login::Users;
 use acap_machine::State;
 use acap_rights::Realm;
 use std::alloc::Global;
 use std::marker::Model;
+use std::sync::ledger::Ledger;
 
 /// One machine, and the sessions of up to 64 seats over it: any step of one session may stand between any two of
 /// another (RFC 2244 section 2). What a session says is kept until it is taken.
@@ -73,13 +74,15 @@ impl World {
     }
 
     /// Opens a session at a seat, of that user if there is one, and makes its first turn: its user enters, and it greets.
-    /// `Taken` where one is open there. Where memory is refused nothing was done.
-    pub fn open(
+    /// `Taken` where one is open there. Where memory is refused nothing was done. Here and below each entry that a search of a
+    /// session looks at counts as a step.
+    pub fn open<L: Ledger>(
         &mut self,
         seat: Seat,
         user: Option<UserName>,
         clock: Moment,
         nonce: u64,
+        steps: &mut Steps<L>,
     ) -> Result<(), WorldFault>
         ensures { Opens (record { seat = seat; clock = clock; nonce = nonce }) user self.old self.new result }
     {
@@ -100,6 +103,7 @@ impl World {
             &mut self.state,
             &self.users,
             occasion,
+            steps,
         ) else {
             self.places.truncate(count);
             return Err(WorldFault::Memory);
@@ -126,7 +130,13 @@ impl World {
     /// Makes one turn of a seat's session, keeps what it says, and tells whether it came to anything: where it didn't, more
     /// octets are needed. `NoSeat` where none is open there; where memory is refused to the session it is closed, and an
     /// event that it had asked stands.
-    pub fn turn(&mut self, seat: Seat, clock: Moment, nonce: u64) -> Result<bool, WorldFault>
+    pub fn turn<L: Ledger>(
+        &mut self,
+        seat: Seat,
+        clock: Moment,
+        nonce: u64,
+        steps: &mut Steps<L>,
+    ) -> Result<bool, WorldFault>
         ensures { Turns (record { seat = seat; clock = clock; nonce = nonce }) self.old self.new result }
     {
         if !self.is_open(seat) {
@@ -135,7 +145,7 @@ impl World {
         let occasion = Occasion { seat, clock, nonce };
         let index = usize::from(seat.number());
         match &mut self.places[index] {
-            Some(place) => match place.turn(&mut self.state, &self.users, occasion) {
+            Some(place) => match place.turn(&mut self.state, &self.users, occasion, steps) {
                 Ok(turn) => Ok(turn.went_on()),
                 Err(_refusal) => Err(WorldFault::Memory),
             },
@@ -146,7 +156,12 @@ impl World {
     /// Asks for what is pending for the user of a seat's session, if it may be asked, and keeps what is said. `NoSeat`
     /// where none is open there. Where the asking is refused memory nothing was done; where what it says is, the session is
     /// closed, and the asking stands.
-    pub fn drain(&mut self, seat: Seat, clock: Moment) -> Result<(), WorldFault>
+    pub fn drain<L: Ledger>(
+        &mut self,
+        seat: Seat,
+        clock: Moment,
+        steps: &mut Steps<L>,
+    ) -> Result<(), WorldFault>
         ensures { Drains (record { seat = seat; clock = clock; nonce = 0 }) self.old self.new result }
     {
         if !self.is_open(seat) {
@@ -159,7 +174,7 @@ impl World {
         };
         let index = usize::from(seat.number());
         match &mut self.places[index] {
-            Some(place) => match place.drain(&mut self.state, occasion) {
+            Some(place) => match place.drain(&mut self.state, occasion, steps) {
                 Ok(_turn) => Ok(()),
                 Err(_refusal) => Err(WorldFault::Memory),
             },
@@ -185,7 +200,12 @@ impl World {
 
     /// Ends a seat's session, which leaves its seat. What it said may still be taken. `NoSeat` where none is open
     /// there. Takes no memory.
-    pub fn leave(&mut self, seat: Seat, clock: Moment) -> Result<(), WorldFault>
+    pub fn leave<L: Ledger>(
+        &mut self,
+        seat: Seat,
+        clock: Moment,
+        steps: &mut Steps<L>,
+    ) -> Result<(), WorldFault>
         ensures { Leaves (record { seat = seat; clock = clock; nonce = 0 }) self.old self.new result }
     {
         if !self.is_open(seat) {
@@ -199,7 +219,7 @@ impl World {
         let index = usize::from(seat.number());
         match &mut self.places[index] {
             Some(place) => {
-                place.end(&mut self.state, occasion);
+                place.end(&mut self.state, occasion, steps);
                 Ok(())
             }
             None => Err(WorldFault::NoSeat),

@@ -8,10 +8,11 @@ use Rattle.acap_commands.specs.declared.refusal.Refusal.{Refusal}
 use Rattle.acap_commands.specs.declared.store_entry.StoreEntry.{StoreEntry}
 use Rattle.acap_commands.specs.declared.store_item.StoreItem.{StoreItem}
 use Rattle.acap_rights.specs.Deciding.{Target, OfEntry, dataset_in, rights_of}
-use Rattle.acap_rights.specs.Sharing.{shared_rights}
+use Rattle.acap_rights.specs.Sharing as rights
 use Rattle.acap_rights.specs.contracts.realm.Realm as realm
 use Rattle.acap_rights.specs.declared.realm.Realm.{Realm}
 use Rattle.acap_rights.specs.declared.rights.Rights.{Rights}
+use Rattle.acap_rights.specs.declared.sharing.SharedRights.{SharedRights}
 use Rattle.acap_store.specs.Permission.{may_touch, may_store, denied_in, name_in, permission_in, permission}
 use Rattle.acap_store.specs.Planning.{refusals_by_terms}
 use Rattle.acap_store.specs.Refusing.{first_of}
@@ -28,10 +29,10 @@ pub record Asking : Type 0 where
 abbrev pub rights_for : Asking → Target → Rights
 rights_for asking target = rights_of asking.store.records asking.realm asking.user target
 
-abbrev pub rights_shared : Asking → List ℕ → Option Rights
-rights_shared asking dataset = shared_rights asking.store.records asking.realm asking.user dataset
+abbrev pub AreSharedIn : Asking → List ℕ → SharedRights → Type 0
+AreSharedIn asking dataset shared = rights.AreShared asking.store.records asking.realm asking.user dataset shared
 
-abbrev pub AreSharedAt : Asking → Path → Option Rights → Type 0
+abbrev pub AreSharedAt : Asking → Path → Option SharedRights → Type 0
 AreSharedAt asking p shared = AreShared asking.store.records asking.realm asking.user p shared
 
 abbrev pub target_denied : Asking → StoreEntry → Option Target

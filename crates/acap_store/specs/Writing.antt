@@ -7,7 +7,7 @@ use Rattle.acap_entries.specs.Datasets.{dataset_exists}
 use Rattle.acap_entries.specs.Homes.{for_user}
 use Rattle.acap_entries.specs.Names.{own_entry, closed, is_dataset_argument}
 use Rattle.acap_entries.specs.Orders.{octets_cmp, octets_eq}
-use Rattle.acap_entries.specs.Store.{Stored, Written, after_fate}
+use Rattle.acap_entries.specs.Store.{Store, Stored, Written, after_fate}
 use Rattle.acap_entries.specs.declared.cell.Cell.{Cell}
 use Rattle.acap_entries.specs.declared.cell.Cell.TheVariants.{Nil, Single, Multi}
 use Rattle.acap_entries.specs.declared.fate.Fate.{Fate}
@@ -171,6 +171,9 @@ entry_at records user steps moment e = (e.path, fate_of user (stepped records st
 
 abbrev pub entries_at : Stored → List ℕ → Written → ℤ → List StoreEntry → List (Path × Fate)
 entries_at records user steps moment entries = map (entry_at records user steps moment) entries
+
+abbrev pub fates_in : Store → List ℕ → Written → ℤ → List StoreEntry → List (Path × Fate)
+fates_in store = entries_at store.records
 
 -- ---- all that a STORE writes: the entries, and the own entries of missing datasets
 

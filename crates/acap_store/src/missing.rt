@@ -4,6 +4,7 @@ ghost use Rattle.acap_entries.specs.Names.{is_closed_dataset, own_entry};
 ghost use Rattle.std.specs.Prelude.{◌≡◌, [], ◌∷◌, map, codes, IfOk, IsTrue, OnOk};
 ghost use Rattle.acap_entries.specs.declared.cell.Cell.TheVariants as cell;
 ghost use Rattle.acap_store.specs.Writing as writing;
+ghost use Rattle.acap_store.specs.Writing.{with_own_step, with_steps_to};
 
 use crate::records::{acls_of, cells_of, renewed};
 use acap_commands::StoreEntry;
@@ -43,7 +44,7 @@ fn write_step(
     moment: Moment,
 ) -> Result<(), Memory>
     requires { IsTrue (is_closed_dataset dataset.now) }
-    ensures { OnOk result (writes.new ≡ writing.with_own_step tree.now.store.records moment dataset.now writes.old) }
+    ensures { OnOk result (writes.new ≡ with_own_step tree.now.store.records moment dataset.now writes.old) }
 {
     if tree.dataset_exists(dataset) {
         return Ok(());
@@ -64,7 +65,7 @@ fn write_steps(
     moment: Moment,
 ) -> Result<(), Memory>
     requires { IsTrue (is_closed_dataset dataset.now) }
-    ensures { OnOk result (writes.new ≡ writing.with_steps_to tree.now.store.records moment dataset.now writes.old) }
+    ensures { OnOk result (writes.new ≡ with_steps_to tree.now.store.records moment dataset.now writes.old) }
 {
     let mut way = dataset;
     while let Some((parent, _)) = own_entry_of(way) {

@@ -12,7 +12,7 @@ use crate::forms::{exists_at, is_management, is_nil_at, is_value};
 use crate::subject::Subject;
 use acap_commands::{Refusal, StoreEntry, StoreItem};
 use acap_entries::{Attribute, Boxed, Copying, Memory, Path, Tree};
-use acap_rights::{Object, Rights, object_of_list, rights_of, shared_rights};
+use acap_rights::{Object, Rights, SharedRights, object_of_list, rights_of, shared_rights};
 use std::alloc::Global;
 
 // The object that is an entry's `entry`.
@@ -36,13 +36,13 @@ fn has_no_lists(tree: &Tree, path: &Path) -> bool
     }
 }
 
-// The rights on all attributes of the entry at a path, where no list is for one of them: those that its dataset shares.
-fn shared_at(by: &Asker<'_>, path: &Path, shared: Option<Rights>) -> Option<Rights>
-    requires { shared ≡ asking.rights_shared by.now path.now.dataset }
-    ensures { asking.AreSharedAt by.now path.now result }
+// The rights on the attributes of the entry at a path, where it has no list for one of them: those in its dataset.
+fn shared_at<'a>(by: &Asker<'_>, path: &Path, shared: &'a SharedRights) -> Option<&'a SharedRights>
+    requires { asking.AreSharedIn by.now path.now.dataset shared.now }
+    ensures { asking.AreSharedAt by.now path.now (option_copied result) }
 {
     if has_no_lists(by.tree, path) {
-        shared
+        Some(shared)
     } else {
         None
     }
@@ -53,7 +53,7 @@ fn rights_on<'a>(subject: &'a Subject<'a>, attribute: &'a [u8]) -> Rights
     ensures { result ≡ asking.rights_on subject.now attribute.now }
 {
     match subject.shared {
-        Some(rights) => rights,
+        Some(shared) => shared.on(attribute),
         None => {
             let object = Object::Entry {
                 dataset: subject.path.dataset.as_slice(),
@@ -143,12 +143,8 @@ fn denied_item<'a>(subject: &Subject<'_>, items: &'a [StoreItem]) -> Option<&'a 
 
 // The first object of an entry on which rights are missing.
 #[tactic(auto, unfolding(crate::specs::Permission::denied_in))]
-fn denied_in<'a>(
-    by: &Asker<'_>,
-    entry: &'a StoreEntry,
-    shared: Option<Rights>,
-) -> Option<Object<'a>>
-    requires { shared ≡ asking.rights_shared by.now entry.now.path.dataset }
+fn denied_in<'a>(by: &Asker<'_>, entry: &'a StoreEntry, shared: &SharedRights) -> Option<Object<'a>>
+    requires { asking.AreSharedIn by.now entry.now.path.dataset shared.now }
     ensures target { option_map decided.target_of result ≡ asking.target_denied by.now entry.now }
     ensures inside { IfSome result (λ object. asking.IsAt entry.now.path (decided.target_of object)) }
 {
@@ -195,9 +191,9 @@ fn check_entry(
     alloc: Global,
     by: &Asker<'_>,
     entry: &StoreEntry,
-    shared: Option<Rights>,
+    shared: &SharedRights,
 ) -> Result<(), Refusal>
-    requires { shared ≡ asking.rights_shared by.now entry.now.path.dataset }
+    requires { asking.AreSharedIn by.now entry.now.path.dataset shared.now }
     ensures { IsCheck (asking.entry_refusal by.now entry.now) result }
 {
     match denied_in(by, entry, shared) {
@@ -209,26 +205,31 @@ fn check_entry(
     }
 }
 
-// A dataset, and the rights on all attributes of its entries, but for those that have lists, where these are the same.
-#[derive(Clone, Copy, Drop)]
-struct Shared<'a> {
+// A dataset, and the rights on the attributes of its entries, but for those that have lists.
+#[derive(Drop)]
+struct Known<'a> {
     dataset: &'a [u8],
-    rights: Option<Rights>,
+    shared: SharedRights,
 }
 
-// The rights that a dataset shares: those known, where they are known of this dataset.
-fn shared_in<'a>(by: &Asker<'_>, known: Option<Shared<'a>>, dataset: &'a [u8]) -> Shared<'a>
-    requires { IfSome known (λ shared. shared.rights ≡ asking.rights_shared by.now shared.dataset.now) }
-    ensures dataset { result.dataset.now ≡ dataset.now }
-    ensures rights { result.rights ≡ asking.rights_shared by.now dataset.now }
+// The rights in a dataset: those known, where they are known of this dataset.
+fn known_in<'a>(
+    alloc: Global,
+    by: &Asker<'_>,
+    known: Option<Known<'a>>,
+    dataset: &'a [u8],
+) -> Result<Known<'a>, Memory>
+    requires { IfSome known (λ known. asking.AreSharedIn by.now known.dataset.now known.shared) }
+    ensures dataset { IfOk result (λ known. known.dataset.now ≡ dataset.now) }
+    ensures shared { IfOk result (λ known. asking.AreSharedIn by.now dataset.now known.shared) }
 {
-    match known {
-        Some(shared) if shared.dataset == dataset => shared,
-        _ => Shared {
-            dataset,
-            rights: shared_rights(by.tree, by.realm, by.user, dataset),
-        },
+    if let Some(known) = known
+        && known.dataset == dataset
+    {
+        return Ok(known);
     }
+    let shared = shared_rights(alloc, by.tree, by.realm, by.user, dataset)?;
+    Ok(Known { dataset, shared })
 }
 
 /// That rights are missing on no object of all entries, or the refusal for the first (RFC 2244 section 3.5).
@@ -239,11 +240,11 @@ pub(crate) fn check_rights(
 ) -> Result<(), Refusal>
     ensures { IsCheck (asking.rights_refusal by.now entries.now) result }
 {
-    let mut known: Option<Shared<'_>> = None;
+    let mut known: Option<Known<'_>> = None;
     for entry in entries {
-        let shared = shared_in(by, known, entry.path.dataset.as_slice());
-        check_entry(alloc, by, entry, shared.rights)?;
-        known = Some(shared);
+        let here = known_in(alloc, by, known, entry.path.dataset.as_slice())?;
+        check_entry(alloc, by, entry, &here.shared)?;
+        known = Some(here);
     }
     Ok(())
 }

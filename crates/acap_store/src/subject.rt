@@ -2,10 +2,10 @@
 
 use crate::asker::Asker;
 use acap_entries::Path;
-use acap_rights::Rights;
+use acap_rights::SharedRights;
 use std::marker::Model;
 
-/// An entry that is asked about, and the rights on all of its attributes, where they are the same.
+/// An entry that is asked about, and the rights on its attributes, where it has no list of its own for one of them.
 #[derive(Drop)]
 pub(crate) struct Subject<'a> {
     /// Who asks.
@@ -13,10 +13,11 @@ pub(crate) struct Subject<'a> {
     /// The entry's path.
     pub(crate) path: &'a Path,
     /// These rights.
-    pub(crate) shared: Option<Rights>,
+    pub(crate) shared: Option<&'a SharedRights>,
 }
 
 impl<'a> Model for Subject<'a> {
+    ghost use Rattle.std.specs.Option.{option_copied};
     ghost use Rattle.acap_store.specs.Asking.{Matter, AreSharedAt, matter_code};
 
     ghost Value = { Matter };
@@ -25,5 +26,5 @@ impl<'a> Model for Subject<'a> {
 
     ghost view = { λ s. record { by = s.by.now; path = s.path.now } };
 
-    ghost invariant = { λ s. AreSharedAt s.by.now s.path.now s.shared };
+    ghost invariant = { λ s. AreSharedAt s.by.now s.path.now (option_copied s.shared) };
 }

@@ -5,6 +5,7 @@ ghost use Rattle.std.specs.Option.{option_copied};
 ghost use Rattle.acap_entries.specs.Made.{IsMade};
 ghost use Rattle.acap_store.specs.Forms.{is_of};
 ghost use Rattle.acap_store.specs.Writing as writing;
+ghost use Rattle.acap_store.specs.Writing.{fates_in};
 
 use crate::forms::{is_ending, is_of};
 use crate::missing::steps_for;
@@ -128,7 +129,7 @@ fn entries_at(
     entries: Entries,
     moment: Moment,
 ) -> Result<Vec<(Path, Fate)>, Memory>
-    ensures { IfOk result (λ made. made.items ≡ writing.entries_at tree.now.store.records user.now steps.now moment entries) }
+    ensures { IfOk result (λ all. all.items ≡ fates_in tree.now.store user.now steps.now moment entries) }
 {
     let mut made = Vec::with_capacity(alloc, entries.len())?;
     for entry in entries.into_vec() {

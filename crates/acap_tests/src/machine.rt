@@ -1,13 +1,15 @@
 //! Tests of the machine: copies, runs, and events that are refused memory. What is answered is in the rows.
-ghost use Rattle.std.specs.Prelude.{◌<◌};
+ghost use Rattle.std.specs.Prelude.{◌≡◌, ◌<◌};
 
 use acap_commands::{Command, Event, Fault, Reply};
-use acap_entries::{Copying, Memory, Moment, Seat, UserName};
+use acap_entries::{Copying, Memory, Moment, Seat, Steps, UserName};
 use acap_grammar::{GrammarError, parse, render};
 use acap_lexer::{Lexed, Lexer, Mode};
 use acap_machine::{Outcomes, State, Step, StepList, run};
 use acap_rights::Realm;
 use std::alloc::Global;
+use std::marker::Brand;
+use std::sync::ledger::{Blank, Ledger};
 
 /// An event as a test writes it, its seat, what the clock shows, and what is said to it.
 type Line = (u8, i64, &'static [u8], &'static [u8]);
@@ -79,10 +81,15 @@ fn prints(alloc: Global, reply: &Reply, text: &[u8]) -> Result<bool, Memory> {
 }
 
 // Whether an event of a seat is answered so. A seat over 63 is 63.
-fn says(alloc: Global, state: &mut State, line: &Line) -> Result<bool, Fault> {
+fn says<L: Ledger>(
+    alloc: Global,
+    state: &mut State,
+    line: &Line,
+    steps: &mut Steps<L>,
+) -> Result<bool, Fault> {
     let (number, clock, text, wanted) = *line;
     let event = event_of(alloc, text)?;
-    let reply = state.step(seat(number.min(63)), event, moment(clock))?;
+    let reply = state.step(seat(number.min(63)), event, moment(clock), steps)?;
     Ok(prints(alloc, &reply, wanted)?)
 }
 
@@ -98,20 +105,25 @@ fn is_right(answer: Result<bool, Fault>, text: &[u8]) -> bool {
 
 // Whether an event is answered so, at once or, where memory is refused, when it comes once more; the refusal leaves
 // the store as it was.
-fn answers(alloc: Global, state: &mut State, line: &Line) -> bool {
+fn answers<L: Ledger>(alloc: Global, state: &mut State, line: &Line, steps: &mut Steps<L>) -> bool {
     let (count, last) = (state.tree().len(), state.tree().last());
-    let answer = says(alloc, state, line);
+    let answer = says(alloc, state, line, steps);
     if answer != Err(Fault::Memory) {
         return is_right(answer, line.3);
     }
     let kept = state.tree().len() == count && state.tree().last() == last;
-    kept && is_right(says(alloc, state, line), line.3)
+    kept && is_right(says(alloc, state, line, steps), line.3)
 }
 
 // The first of the events that is answered in another way, if one is.
-fn first_wrong(alloc: Global, state: &mut State, lines: &[Line]) -> Option<&'static [u8]> {
+fn first_wrong<L: Ledger>(
+    alloc: Global,
+    state: &mut State,
+    lines: &[Line],
+    steps: &mut Steps<L>,
+) -> Option<&'static [u8]> {
     for line in lines {
-        if !answers(alloc, state, line) {
+        if !answers(alloc, state, line, steps) {
             return Some(line.2);
         }
     }
@@ -182,19 +194,41 @@ const SHARING: [Line; 6] = [
 ];
 
 // The first of the events that a copy answers in another way, if one is.
-fn copied_wrong(alloc: Global, state: &State, lines: &[Line]) -> Option<&'static [u8]> {
+fn copied_wrong<L: Ledger>(
+    alloc: Global,
+    state: &State,
+    lines: &[Line],
+    steps: &mut Steps<L>,
+) -> Option<&'static [u8]> {
     let mut copied = state.copy().ok()?;
-    first_wrong(alloc, &mut copied, lines)
+    first_wrong(alloc, &mut copied, lines, steps)
+}
+
+// The first of the events that the machine answers in another way, or two copies of it, one after the other. What is done to
+// the first isn't done to the other.
+fn copied_twice<L: Ledger>(alloc: Global, blank: Blank) -> Option<&'static [u8]>
+    requires name { blank.name ≡ L.name }
+    requires parts { blank.parts ≡ L.parts }
+    requires some { 0 < L.parts }
+{
+    let mut steps = Steps::<L>::new(blank);
+    let mut state = empty(alloc);
+    if let Some(wrong) = first_wrong(alloc, &mut state, &USERS, &mut steps) {
+        return Some(wrong);
+    }
+    if let Some(wrong) = copied_wrong(alloc, &state, &SHARING, &mut steps) {
+        return Some(wrong);
+    }
+    if state.tree().last() != moment(9) {
+        return Some(b"last");
+    }
+    copied_wrong(alloc, &state, &SHARING, &mut steps)
 }
 
 // A copy goes its own way: what is done to the one isn't done to the other.
 #[test]
 fn copies_the_machine(rt: HostRuntime) {
-    let mut state = empty(rt.alloc());
-    assert_eq!(rt; first_wrong(rt.alloc(), &mut state, &USERS), None);
-    assert_eq!(rt; copied_wrong(rt.alloc(), &state, &SHARING), None);
-    assert!(rt; state.tree().last() == moment(9));
-    assert_eq!(rt; copied_wrong(rt.alloc(), &state, &SHARING), None);
+    assert_eq!(rt; copied_twice::<Brand>(rt.alloc(), Blank::new(1)), None);
 }
 
 // Commands with all that they can have, whose texts are sought where memory may be refused.
@@ -226,13 +260,20 @@ const LONG: [Line; 5] = [
     ),
 ];
 
+// The first of these that is answered in another way by an empty machine.
+fn long_wrong<L: Ledger>(alloc: Global, blank: Blank) -> Option<&'static [u8]>
+    requires name { blank.name ≡ L.name }
+    requires parts { blank.parts ≡ L.parts }
+    requires some { 0 < L.parts }
+{
+    let mut steps = Steps::<L>::new(blank);
+    first_wrong(alloc, &mut empty(alloc), &LONG, &mut steps)
+}
+
 // Whichever allocation is refused: a command that is refused memory changes nothing, and goes on when it comes again.
 #[test]
 fn goes_on_after_a_refusal(rt: HostRuntime) {
-    assert_eq!(rt;
-        first_wrong(rt.alloc(), &mut empty(rt.alloc()), &LONG),
-        None
-    );
+    assert_eq!(rt; long_wrong::<Brand>(rt.alloc(), Blank::new(1)), None);
 }
 
 // The steps of these events.
@@ -267,22 +308,40 @@ fn are_said(alloc: Global, outcomes: &Outcomes, lines: &[Line]) -> bool {
 }
 
 // A run performs all its steps, or those up to one that is refused memory.
-fn runs(alloc: Global, steps: StepList, lines: &[Line], count: usize) -> bool {
+fn runs<L: Ledger>(
+    alloc: Global,
+    list: StepList,
+    lines: &[Line],
+    count: usize,
+    steps: &mut Steps<L>,
+) -> bool {
     let mut state = empty(alloc);
-    match run(alloc, &mut state, steps) {
+    match run(alloc, &mut state, list, steps) {
         Ok(outcomes) => are_said(alloc, &outcomes, lines) && state.tree().len() == count,
         Err(Memory) => state.tree().len() <= count,
     }
 }
 
+// Whether some steps are answered so, and a copy of them alike.
+fn runs_alike<L: Ledger>(alloc: Global, blank: Blank) -> bool
+    requires name { blank.name ≡ L.name }
+    requires parts { blank.parts ≡ L.parts }
+    requires some { 0 < L.parts }
+{
+    let mut steps = Steps::<L>::new(blank);
+    let lines: [Line; 4] = [USERS[0], (2, 0, b"drain", NOBODY), USERS[2], SHARING[3]];
+    let Ok(list) = steps_of(alloc, &lines) else {
+        return true;
+    };
+    let is_alike = match list.copy() {
+        Ok(copied) => runs(alloc, copied, &lines, 5, &mut steps),
+        Err(Memory) => true,
+    };
+    runs(alloc, list, &lines, 5, &mut steps) && is_alike
+}
+
 // A run answers each step in its order, and goes on behind a fault; a copy of its steps is answered alike.
 #[test]
 fn runs_steps(rt: HostRuntime) {
-    let lines: [Line; 4] = [USERS[0], (2, 0, b"drain", NOBODY), USERS[2], SHARING[3]];
-    if let Ok(steps) = steps_of(rt.alloc(), &lines) {
-        if let Ok(copied) = steps.copy() {
-            assert!(rt; runs(rt.alloc(), copied, &lines, 5));
-        }
-        assert!(rt; runs(rt.alloc(), steps, &lines, 5));
-    }
+    assert!(rt; runs_alike::<Brand>(rt.alloc(), Blank::new(1)));
 }

@@ -1,9 +1,12 @@
 //! Tests of sessions whose reader or writer fails, also where the reader tells it, and of one where an allocation is refused.
+ghost use Rattle.std.specs.Prelude.{◌≡◌, ◌<◌};
 
-use acap_entries::{NameFault, UserName};
+use acap_entries::{NameFault, Steps, UserName};
 use acap_session::{Input, PipeFault, ReadFailed, run_pipe, run_pipe_from};
 use std::alloc::Global;
 use std::io::{self, Read, Write};
+use std::marker::Brand;
+use std::sync::ledger::{Blank, Ledger};
 
 /// The greeting that begins each session.
 const GREETING: &[u8] =
@@ -96,14 +99,19 @@ impl Write for Sink {
 }
 
 /// How a session of joe ends that reads these pieces, and what it writes.
-fn session(alloc: Global, pieces: Pieces, writes: usize) -> (Result<(), PipeFault>, Vec<u8>) {
+fn session<L: Ledger>(
+    alloc: Global,
+    pieces: Pieces,
+    writes: usize,
+    steps: &mut Steps<L>,
+) -> (Result<(), PipeFault>, Vec<u8>) {
     let mut pieces = pieces;
     let mut sink = Sink {
         text: Vec::new(alloc),
         writes,
     };
     let done = match UserName::read(alloc, b"joe") {
-        Ok(user) => run_pipe(alloc, &mut pieces, &mut sink, user),
+        Ok(user) => run_pipe(alloc, &mut pieces, &mut sink, user, steps),
         Err(NameFault::BadName) => Ok(()),
         Err(NameFault::Memory) => Err(PipeFault::Memory),
     };
@@ -112,11 +120,12 @@ fn session(alloc: Global, pieces: Pieces, writes: usize) -> (Result<(), PipeFaul
 }
 
 /// The same where nothing fails, a first piece being of that size and all others of another.
-fn said(
+fn said<L: Ledger>(
     alloc: Global,
     input: &[u8],
     first: usize,
     size: usize,
+    steps: &mut Steps<L>,
 ) -> (Result<(), PipeFault>, Vec<u8>) {
     let pieces = Pieces {
         left: input,
@@ -124,7 +133,7 @@ fn said(
         size,
         reads: MANY,
     };
-    session(alloc, pieces, MANY)
+    session(alloc, pieces, MANY, steps)
 }
 
 /// A STORE and a SEARCH, and then a second of each (RFC 2244 sections 6.4.1 and 6.6.1).
@@ -140,44 +149,81 @@ fn begins(text: &[u8], front: &[u8]) -> bool {
     text.starts_with(front)
 }
 
+/// Whether a failure after so many reads or writes ends a session in another way than by its fault, and by a front of what is
+/// said where nothing fails.
+fn wrong_end<L: Ledger>(
+    alloc: Global,
+    whole: &[u8],
+    reads: usize,
+    writes: usize,
+    steps: &mut Steps<L>,
+) -> bool {
+    let pieces = Pieces {
+        left: STORES,
+        first: 0,
+        size: 7,
+        reads,
+    };
+    let (done, text) = session(alloc, pieces, writes, steps);
+    let fault = if reads == MANY {
+        PipeFault::Write
+    } else {
+        PipeFault::Read
+    };
+    let is_ended = done == Err(fault) || text.as_slice() == whole;
+    !is_ended || !begins(whole, text.as_slice())
+}
+
+/// After how many reads a failure ends a session in another way, if so.
+fn wrong_read<L: Ledger>(alloc: Global, blank: Blank) -> Option<usize>
+    requires name { blank.name ≡ L.name }
+    requires parts { blank.parts ≡ L.parts }
+    requires some { 0 < L.parts }
+{
+    let mut steps = Steps::<L>::new(blank);
+    let (_, whole) = said(alloc, STORES, 0, 7, &mut steps);
+    for reads in 0..(STORES.len() / 7 + 2) {
+        if wrong_end(alloc, whole.as_slice(), reads, MANY, &mut steps) {
+            return Some(reads);
+        }
+    }
+    None
+}
+
 #[test]
 fn ends_where_a_reader_fails(rt: HostRuntime) {
-    let alloc = rt.alloc();
-    let (_, whole) = said(alloc, STORES, 0, 7);
-    for reads in 0..(STORES.len() / 7 + 2) {
-        let pieces = Pieces {
-            left: STORES,
-            first: 0,
-            size: 7,
-            reads,
-        };
-        let (done, text) = session(alloc, pieces, MANY);
-        assert!(rt; done == Err(PipeFault::Read) || text == whole);
-        assert!(rt; begins(whole.as_slice(), text.as_slice()));
+    assert_eq!(rt; wrong_read::<Brand>(rt.alloc(), Blank::new(1)), None);
+}
+
+/// After how many writes a failure ends a session in another way, if so.
+fn wrong_write<L: Ledger>(alloc: Global, blank: Blank) -> Option<usize>
+    requires name { blank.name ≡ L.name }
+    requires parts { blank.parts ≡ L.parts }
+    requires some { 0 < L.parts }
+{
+    let mut steps = Steps::<L>::new(blank);
+    let (_, whole) = said(alloc, STORES, 0, 7, &mut steps);
+    for writes in 0..6usize {
+        if wrong_end(alloc, whole.as_slice(), MANY, writes, &mut steps) {
+            return Some(writes);
+        }
     }
+    None
 }
 
 #[test]
 fn ends_where_a_writer_fails(rt: HostRuntime) {
-    let alloc = rt.alloc();
-    let (_, whole) = said(alloc, STORES, 0, 7);
-    for writes in 0..6 {
-        let pieces = Pieces {
-            left: STORES,
-            first: 0,
-            size: 7,
-            reads: MANY,
-        };
-        let (done, text) = session(alloc, pieces, writes);
-        assert!(rt; done == Err(PipeFault::Write) || text == whole);
-        assert!(rt; begins(whole.as_slice(), text.as_slice()));
-    }
+    assert_eq!(rt; wrong_write::<Brand>(rt.alloc(), Blank::new(1)), None);
 }
 
-#[test]
-fn tells_a_failed_read(rt: HostRuntime) {
-    let alloc = rt.alloc();
-    for fails_at in 1..4 {
+/// Which failed read isn't told, if one isn't.
+fn untold_read<L: Ledger>(alloc: Global, blank: Blank) -> Option<u64>
+    requires name { blank.name ≡ L.name }
+    requires parts { blank.parts ≡ L.parts }
+    requires some { 0 < L.parts }
+{
+    let mut steps = Steps::<L>::new(blank);
+    for fails_at in 1..4u64 {
         let mut reader = Counted {
             left: STORES,
             fails_at,
@@ -189,11 +235,20 @@ fn tells_a_failed_read(rt: HostRuntime) {
             writes: MANY,
         };
         if let Ok(user) = UserName::read(alloc, b"joe") {
-            let done = run_pipe_from(alloc, &mut reader, &mut sink, user);
-            assert!(rt; done == Err(PipeFault::Read) || reader.failures == 0);
-            assert!(rt; done == Ok(()) || reader.failures == 1);
+            let done = run_pipe_from(alloc, &mut reader, &mut sink, user, &mut steps);
+            let is_failed = done == Err(PipeFault::Read) && reader.failures == 1;
+            let is_done = done == Ok(()) && reader.failures == 0;
+            if !is_failed && !is_done {
+                return Some(fails_at);
+            }
         }
     }
+    None
+}
+
+#[test]
+fn tells_a_failed_read(rt: HostRuntime) {
+    assert_eq!(rt; untold_read::<Brand>(rt.alloc(), Blank::new(1)), None);
 }
 
 /// What is said to `STORES` where the Nth of its commands is refused memory, for each of the four: nothing of it is
@@ -219,23 +274,34 @@ fn is_allowed(done: &Result<(), PipeFault>, text: &[u8]) -> bool {
     }
 }
 
-#[test]
-fn goes_on_after_a_refused_allocation(rt: HostRuntime) {
-    let alloc = rt.alloc();
-    let pieces = Pieces {
+/// Whether a session ends as it may.
+fn is_ended<L: Ledger>(alloc: Global, blank: Blank) -> bool
+    requires name { blank.name ≡ L.name }
+    requires parts { blank.parts ≡ L.parts }
+    requires some { 0 < L.parts }
+{
+    let mut steps = Steps::<L>::new(blank);
+    let mut pieces = Pieces {
         left: STORES,
         first: 0,
         size: 64,
         reads: MANY,
     };
-    let mut pieces = pieces;
     let mut text = Vec::new(alloc);
     if text.reserve(4096).is_err() {
-        return;
+        return true;
     }
     let mut sink = Sink { text, writes: MANY };
-    if let Ok(user) = UserName::read(alloc, b"joe") {
-        let done = run_pipe(alloc, &mut pieces, &mut sink, user);
-        assert!(rt; is_allowed(&done, sink.text.as_slice()));
+    match UserName::read(alloc, b"joe") {
+        Ok(user) => {
+            let done = run_pipe(alloc, &mut pieces, &mut sink, user, &mut steps);
+            is_allowed(&done, sink.text.as_slice())
+        }
+        Err(_) => true,
     }
+}
+
+#[test]
+fn goes_on_after_a_refused_allocation(rt: HostRuntime) {
+    assert!(rt; is_ended::<Brand>(rt.alloc(), Blank::new(1)));
 }

@@ -1,12 +1,14 @@
 //! Tests of a world's calls: sessions side by side, and seats that are free or taken. What is said is in the rows of scripts.
-ghost use Rattle.std.specs.Prelude.{◌<◌};
+ghost use Rattle.std.specs.Prelude.{◌≡◌, ◌<◌};
 
 use crate::machine::seat;
-use acap_entries::{Memory, Moment, Octets, UserName};
+use acap_entries::{Memory, Moment, Octets, Steps, UserName};
 use acap_login::Users;
 use acap_rights::Realm;
 use acap_session::{World, WorldFault};
 use std::alloc::Global;
+use std::marker::Brand;
+use std::sync::ledger::{Blank, Ledger};
 
 /// What is done at a seat, and what its session writes then.
 type Line = (u8, &'static [u8], &'static [u8]);
@@ -36,20 +38,31 @@ fn world(alloc: Global) -> Result<World, Memory> {
 }
 
 /// A session of a user begins at a seat.
-fn enter(alloc: Global, world: &mut World, number: u8, name: &[u8]) -> Result<(), WorldFault>
+fn enter<L: Ledger>(
+    alloc: Global,
+    world: &mut World,
+    number: u8,
+    name: &[u8],
+    steps: &mut Steps<L>,
+) -> Result<(), WorldFault>
     requires { number < 64 }
 {
     let user = UserName::read(alloc, name).map_err(|_| WorldFault::Memory)?;
-    world.open(seat(number), Some(user), Moment::first(), NONCE)
+    world.open(seat(number), Some(user), Moment::first(), NONCE, steps)
 }
 
 /// A seat's session is given octets, and makes turns until it wants more or is closed.
-fn send(world: &mut World, number: u8, text: &[u8]) -> Result<(), WorldFault>
+fn send<L: Ledger>(
+    world: &mut World,
+    number: u8,
+    text: &[u8],
+    steps: &mut Steps<L>,
+) -> Result<(), WorldFault>
     requires { number < 64 }
 {
     let _count = world.piece(seat(number), text)?;
     for _ in 0..20u32 {
-        match world.turn(seat(number), Moment::first(), NONCE) {
+        match world.turn(seat(number), Moment::first(), NONCE, steps) {
             Ok(true) => {}
             Ok(false) | Err(WorldFault::NoSeat) => break,
             Err(fault) => return Err(fault),
@@ -59,29 +72,35 @@ fn send(world: &mut World, number: u8, text: &[u8]) -> Result<(), WorldFault>
 }
 
 /// Does at a seat what a text says: `open`, `enter` and a user's name, `drain`, `leave`, or octets that are sent.
-fn perform(alloc: Global, world: &mut World, number: u8, text: &[u8]) -> Result<(), WorldFault>
+fn perform<L: Ledger>(
+    alloc: Global,
+    world: &mut World,
+    number: u8,
+    text: &[u8],
+    steps: &mut Steps<L>,
+) -> Result<(), WorldFault>
     requires { number < 64 }
 {
     if let Some(name) = text.strip_prefix(b"enter ") {
-        return enter(alloc, world, number, name);
+        return enter(alloc, world, number, name, steps);
     }
     if text == b"open".as_slice() {
-        return world.open(seat(number), None, Moment::first(), NONCE);
+        return world.open(seat(number), None, Moment::first(), NONCE, steps);
     }
     if text == b"drain".as_slice() {
-        return world.drain(seat(number), Moment::first());
+        return world.drain(seat(number), Moment::first(), steps);
     }
     if text == b"leave".as_slice() {
-        return world.leave(seat(number), Moment::first());
+        return world.leave(seat(number), Moment::first(), steps);
     }
-    send(world, number, text)
+    send(world, number, text, steps)
 }
 
 /// Whether that is written at a seat. A seat over 63 is 63.
-fn writes(alloc: Global, world: &mut World, line: &Line) -> bool {
+fn writes<L: Ledger>(alloc: Global, world: &mut World, line: &Line, steps: &mut Steps<L>) -> bool {
     let (number, text, wanted) = *line;
     let number = number.min(63);
-    match perform(alloc, world, number, text) {
+    match perform(alloc, world, number, text, steps) {
         Ok(()) => world.take_output(seat(number)).as_slice() == wanted,
         Err(WorldFault::NoSeat) => wanted == NO_SEAT,
         Err(WorldFault::Taken) => wanted == TAKEN,
@@ -90,10 +109,19 @@ fn writes(alloc: Global, world: &mut World, line: &Line) -> bool {
 }
 
 /// The first of these lines at which something else is written, if one is.
-fn first_wrong(alloc: Global, lines: &[Line]) -> Result<Option<&'static [u8]>, Memory> {
+fn first_wrong<L: Ledger>(
+    alloc: Global,
+    lines: &[Line],
+    blank: Blank,
+) -> Result<Option<&'static [u8]>, Memory>
+    requires name { blank.name ≡ L.name }
+    requires parts { blank.parts ≡ L.parts }
+    requires some { 0 < L.parts }
+{
+    let mut steps = Steps::<L>::new(blank);
     let mut made = world(alloc)?;
     for line in lines {
-        if !writes(alloc, &mut made, line) {
+        if !writes(alloc, &mut made, line, &mut steps) {
             return Ok(Some(line.1));
         }
     }
@@ -121,5 +149,5 @@ fn keeps_seats_apart(rt: HostRuntime) {
         (2, b"A3 NOOP\r\n", NO_SEAT),
         (2, b"enter joe", GREETING),
     ];
-    assert!(rt; first_wrong(rt.alloc(), &lines) == Ok(None));
+    assert!(rt; first_wrong::<Brand>(rt.alloc(), &lines, Blank::new(1)) == Ok(None));
 }

@@ -151,7 +151,7 @@ module _ (nothing : NothingLaw) (names : NamesLaw) (listed : TouchedPathsLaw) (s
   still : dataset_exists new.records sought.dataset ≡ true
   still = taken.sound.kept sought.dataset exists
 
-  step : search.IsSoundStep written old.records new.records
+  step : search.AreSoundWrites written old.records new.records
   step = record { paths = taken.paths; before = taken.sound.old_sound; after = taken.sound.new_sound; stays = taken.sound.kept }
 
   -- ---- touched paths

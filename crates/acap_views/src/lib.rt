@@ -17,6 +17,7 @@ mod moving;
 mod new_context;
 mod open_context;
 mod opening;
+mod places;
 mod preparing;
 mod ranged_context;
 mod ranging;
@@ -46,6 +47,7 @@ pub use laws::{
 pub use moving::{prepared_law, touched_moves_law};
 pub use new_context::NewContext;
 pub use opening::MOST_CONTEXTS;
+pub use places::{has_context, is_full};
 pub use ranged_context::RangedContext;
 pub use ranging::ranged_law;
 pub use refusal::ViewRefusal;

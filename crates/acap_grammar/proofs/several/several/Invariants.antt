@@ -1,6 +1,7 @@
-use Rattle.std.proofs.Common.{◌≡◌, ◌-◌, drop}
+use Rattle.std.proofs.Common.{◌≡◌, ◌-◌}
+use Rattle.acap_grammar.specs.Series.{over, fits}
 use Rattle.acap_grammar.specs.Several.{several}
 use Rattle.acap_grammar.proofs.several.several.Given as goal
 
 abbrev pub invariant-loop : goal.invariant-loop
-invariant-loop g l = several g.S.Gather.over g.S.Gather.fits g.S.Gather.item (l.room - l.counter) l.all (drop l.next l.tokens) ≡ several g.S.Gather.over g.S.Gather.fits g.S.Gather.item l.room l.fn.seen (drop l.at l.tokens)
+invariant-loop g l = several (over l.series) (fits l.series) g.S.Gather.item (l.room - l.counter) l.all l.cursor ≡ several (over l.series) (fits l.series) g.S.Gather.item l.room l.fn.seen l.initial.cursor

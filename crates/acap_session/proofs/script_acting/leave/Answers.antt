@@ -3,4 +3,4 @@ use Rattle.acap_session.proofs.ScriptActing.{leaves}
 use Rattle.acap_session.proofs.script_acting.leave.Goals as goal
 
 pub returns : goal.returns
-returns c = leaves c.args.world.now c.leave.new.self (unasked c.args.at.now) c.in_ok-leave.ensures
+returns g c = leaves c.args.world.now c.leave.new.self (unasked c.args.at.now) c.in_ok-leave.ensures

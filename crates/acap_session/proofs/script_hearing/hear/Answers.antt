@@ -6,15 +6,15 @@ use Rattle.acap_session.proofs.ScriptOutput.{not_empty}
 use Rattle.acap_session.proofs.script_hearing.hear.Goals as goal
 
 pub offers-init : goal.offers-init
-offers-init c = offered_first c.args.at.now c.args.octets.now c.split_at.result.1.now c.in_ok-taken.taken c.args.world.now c.offer.new.world c.split_at.ensures.back c.in_ok-taken.ensures.offered
+offers-init g c = offered_first c.args.at.now c.args.octets.now c.split_at.result.1.now c.in_ok-taken.taken c.args.world.now c.offer.new.world c.split_at.ensures.back c.in_ok-taken.ensures.offered
 
 pub returns-then-not-is_open : goal.returns-then-not-is_open
-returns-then-not-is_open c = (c.offers.invariant.may, c.offers.invariant.ended (inr (not_open c.offers.world c.args.at.now.seat c.if-not-is_open.ensures)))
+returns-then-not-is_open g c = (c.offers.invariant.may, c.offers.invariant.ended (inr (not_open c.offers.world c.args.at.now.seat c.if-not-is_open.ensures)))
 
 pub offers-preserved : goal.offers-preserved
-offers-preserved c =
+offers-preserved g c =
     offered_again c.args.at.now c.args.octets.now c.offers.rest.now c.split_at-in-offers.result.1.now c.in_ok-taken-2.taken c.args.world.now c.offers.world c.offer-in-offers.new.world c.offers.invariant
     (not_empty c.offers.rest.now (some_octets c.offers.rest.now c.offers-test.ensures), sym c.if-not-is_open.ensures) c.split_at-in-offers.ensures.back c.in_ok-taken-2.ensures.offered
 
 pub returns : goal.returns
-returns c = (c.offers.invariant.may, c.offers.invariant.ended (inl (none_left c.offers.rest.now c.offers-test.ensures)))
+returns g c = (c.offers.invariant.may, c.offers.invariant.ended (inl (none_left c.offers.rest.now c.offers-test.ensures)))

@@ -3,7 +3,7 @@ use Rattle.acap_session.proofs.ScriptHearing.{IsHearing}
 use Rattle.acap_session.proofs.script_hearing.hear.Given as goal
 
 abbrev pub invariant-offers : goal.invariant-offers
-invariant-offers l = IsHearing l.at l.octets l.rest l.fn.world l.world
+invariant-offers g l = IsHearing l.at l.octets l.rest l.fn.world l.world
 
 abbrev pub decreases-offers : goal.decreases-offers
-decreases-offers l = length l.rest
+decreases-offers g l = length l.rest

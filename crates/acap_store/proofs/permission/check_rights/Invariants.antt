@@ -5,5 +5,5 @@ use Rattle.acap_store.proofs.permission.check_rights.Given as goal
 abbrev pub invariant-loop-entry : goal.invariant-loop-entry
 invariant-loop-entry l = record {
   asked : asking.rights_refusal l.by (drop l.entry-index l.entries) ≡ asking.rights_refusal l.by l.entries;
-  known : IfSome l.known (λ shared. shared.rights ≡ asking.rights_shared l.by shared.dataset.now);
+  known : IfSome l.known (λ known. asking.AreSharedIn l.by known.dataset.now known.shared);
 }

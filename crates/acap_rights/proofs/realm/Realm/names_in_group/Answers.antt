@@ -1,4 +1,4 @@
-use Rattle.std.proofs.Common.{◌≡◌, true, take, sym, ap, ◌∙◌}
+use Rattle.std.proofs.Common.{◌≡◌, true, take, sym, ap}
 use Rattle.acap_entries.specs.Names.{group_prefix}
 use Rattle.acap_entries.specs.Orders.{octets_eq}
 use Rattle.acap_rights.proofs.RealmLemmas.{in_no_group}

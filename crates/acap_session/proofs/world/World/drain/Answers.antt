@@ -6,10 +6,10 @@ use Rattle.acap_session.proofs.world.World.drain.Goals.{in-Ok, in-Err}
 use Rattle.acap_session.proofs.world.World.drain.Goals as goal
 
 pub index_mut-requires : goal.index_mut-requires
-index_mut-requires c = subst (λ n. c.from-index.result < n) (sym c.self.inside.places.ok.0) (is_within (the_view c.self.inside) c.from-index.result c.args.seat (c.from-index.ensures ∙ c.number.ensures.value) (now_open (the_view c.self.inside) c.args.self.now c.args.seat c.is_open.result c.self.view_is c.if-not-is_open.false c.is_open.ensures))
+index_mut-requires g c = subst (λ n. c.from-index.result < n) (sym c.self.inside.places.ok.0) (is_within (the_view c.self.inside) c.from-index.result c.args.seat (c.from-index.ensures ∙ c.number.ensures.value) (now_open (the_view c.self.inside) c.args.self.now c.args.seat c.is_open.result c.self.view_is c.if-not-is_open.false c.is_open.ensures))
 
 pub returns-after-drain : goal.returns-after-drain
-returns-after-drain c =
+returns-after-drain g c =
     let open_ = now_open (the_view c.self.inside) c.args.self.now c.args.seat c.is_open.result c.self.view_is c.if-not-is_open.false c.is_open.ensures in
     let there = open_there (the_view c.self.inside) c.from-index.result c.args.seat c.index_mut.result.now c.index_mut.result.now c.in-Some.place (c.from-index.ensures ∙ c.number.ensures.value) open_ c.index_mut.ensures.value c.in-Some.is in
     let put = put_is (the_view c.self.inside) c.drain.new.state.machine c.from-index.result c.args.seat c.drain.new.self (c.from-index.ensures ∙ c.number.ensures.value) open_ in
@@ -19,5 +19,5 @@ returns-after-drain c =
     ]
 
 pub returns-in-None : goal.returns-in-None
-returns-in-None c =
+returns-in-None g c =
     absurd (none_there (the_view c.self.inside) c.from-index.result c.args.seat c.index_mut.result.now c.index_mut.result.now (c.from-index.ensures ∙ c.number.ensures.value) (now_open (the_view c.self.inside) c.args.self.now c.args.seat c.is_open.result c.self.view_is c.if-not-is_open.false c.is_open.ensures) c.index_mut.ensures.value c.in-None.is)

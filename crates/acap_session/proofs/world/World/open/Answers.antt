@@ -5,13 +5,13 @@ use Rattle.acap_session.proofs.Placing.{reached_within, now_none, stood, starts,
 use Rattle.acap_session.proofs.world.World.open.Goals as goal
 
 pub index_mut-standing-requires : goal.index_mut-standing-requires
-index_mut-standing-requires c =
+index_mut-standing-requires g c =
     let there = reached_within c.self.inside.places.items c.args.seat in
     let index = subst (λ n. n < length (reached c.self.inside.places.items c.args.seat)) (sym (c.from-index.ensures ∙ c.number.ensures.value)) there in
     subst (λ n. c.from-index.result < n) (ap length (sym c.in_ok-reach.ensures.reached) ∙ sym c.reach.new.places.ok.0) index
 
 pub returns : goal.returns
-returns c =
+returns g c =
     let w = the_view c.self.inside in
     let free = now_none w c.args.self.now c.args.seat c.is_open.result c.self.view_is c.if-is_open.false c.is_open.ensures in
     let index = c.from-index.ensures ∙ c.number.ensures.value in
@@ -20,7 +20,7 @@ returns c =
     open_made c.args.self.now w (record { seat = c.args.seat; clock = c.args.clock; nonce = c.args.nonce }) c.args.user _ c.reach.new.places.items c.from-index.result c.begin.new.standing c.begin.new.state.machine c.self.view_is free first c.in_ok-reach.ensures.reached index c.in-Ok.ensures.ok
 
 pub returns-in_default : goal.returns-in_default
-returns-in_default c =
+returns-in_default g c =
     let w = the_view c.self.inside in
     let free = now_none w c.args.self.now c.args.seat c.is_open.result c.self.view_is c.if-is_open.false c.is_open.ensures in
     let index = c.from-index.ensures ∙ c.number.ensures.value in

@@ -1,0 +1,10 @@
+-- How a string that is no name, or no memory for it, is told.
+use Rattle.acap_entries.specs.declared.name_fault.NameFault.{NameFault}
+use Rattle.acap_entries.specs.declared.name_fault.NameFault.TheVariants as unread
+use Rattle.acap_grammar.specs.declared.grammar_fault.GrammarFault.TheVariants as fault
+use Rattle.acap_grammar.specs.declared.grammar_error.GrammarError.{GrammarError}
+use Rattle.acap_grammar.specs.declared.grammar_error.GrammarError.TheVariants as error
+
+abbrev pub unnamed : NameFault → GrammarError
+unnamed unread.BadName = error.Fault fault.BadName
+unnamed unread.Memory = error.Memory

@@ -1,0 +1,9 @@
+use Rattle.std.proofs.Common.{refl}
+use Rattle.acap_machine.proofs.ReadyLemmas.{ready_for, leaves}
+use Rattle.acap_machine.proofs.state.State.ready_leave.Goals as goal
+
+pub returns-clause-answer : goal.returns-clause-answer
+returns-clause-answer c =
+    let s = c.args.self.now in
+    ready_for s s c.args.seat _ c.in_ok-user.field-0.now c.new.result _ _ c.in_ok-user.ensures.ok c.new.ensures refl refl refl tt
+    (leaves c.kept_law.ensures.contexts s.machine s.kept.index.0 c.args.seat c.kept_law.ensures.kept)

@@ -1,0 +1,94 @@
+-- An event that was made ready: what is said, and what is yet to be put in place.
+use Rattle.std.specs.Prelude.{◌≡◌, ◌<◌, ◌≤◌, ◌+◌, ℕ, true, List, length, Result, Ok, Err, refl}
+use Rattle.std.specs.Coded.{Coded, code_by, coded×, coded_ℕ}
+use Rattle.std.specs.FinMap as table
+use Rattle.acap_entries.specs.Changes.{store_after}
+use Rattle.acap_entries.specs.Changes as tree
+use Rattle.acap_commands.specs.contracts.reply.Reply as reply
+use Rattle.acap_commands.specs.declared.fault.Fault.{Fault}
+use Rattle.acap_commands.specs.declared.reply.Reply.{Reply}
+use Rattle.acap_inherit.specs.Index.{settled}
+use Rattle.acap_inherit.specs.declared.link.Link.{Link}
+use Rattle.acap_machine.specs.Changing.{IsKept}
+use Rattle.acap_machine.specs.Machine.{Machine, Kept, Roomed}
+use Rattle.acap_machine.specs.Stepping.{IsFault}
+use Rattle.acap_machine.specs.contracts.deed.Deed as deeds
+use Rattle.acap_machine.specs.declared.deed.Deed.{Deed}
+use Rattle.acap_machine.specs.declared.deed.Deed.TheVariants as deed
+use Rattle.acap_views.specs.Answering.{HasPlace, with_context}
+use Rattle.acap_views.specs.Followed as views
+use Rattle.acap_views.specs.Keeping.{seats_in}
+use Rattle.acap_views.specs.Preparing.{with_delta}
+use Rattle.acap_views.specs.Seats.{contexts_at, with_contexts, entered, left}
+use Rattle.acap_views.specs.Telling.{after_updates, drained}
+
+-- the seat, what is put in place there, what is said, and how many touched entries were looked at
+pub record Pending : Type 0 where
+  pub seat : ℕ
+  pub deed : Deed
+  pub reply : Reply
+  pub work : ℕ
+
+abbrev pub pending_of : ℕ → Deed → Reply → ℕ → Pending
+pending_of seat deed reply work = record { seat = seat; deed = deed; reply = reply; work = work }
+
+-- what putting it in place makes of a machine
+abbrev pub performed : Deed → ℕ → Machine → Machine
+performed deed.Nothing seat m = m
+performed (deed.Enters user) seat m = record m { seats = entered m.seats seat user }
+performed (deed.Changes change links delta) seat m = record m { store = store_after change m.store; seats = with_delta delta m.seats }
+performed (deed.Makes new) seat m = record m { seats = with_context m.seats seat new }
+performed (deed.Frees name) seat m = record m { seats = with_contexts m.seats seat (table.remove (contexts_at m.seats seat) name) }
+performed (deed.Tells names last) seat m =
+    record m { seats = with_contexts m.seats seat (after_updates (contexts_at m.seats seat) names last) }
+performed deed.Drains seat m = record m { seats = (drained m.seats seat).1 }
+performed deed.Leaves seat m = record m { seats = left m.seats seat }
+
+-- what it makes of the index of heirs
+abbrev pub links_after : Deed → List Link → List Link
+links_after deed.Nothing links = links
+links_after (deed.Enters user) links = links
+links_after (deed.Changes change prepared delta) links = settled prepared links
+links_after (deed.Makes new) links = links
+links_after (deed.Frees name) links = links
+links_after (deed.Tells names last) links = links
+links_after deed.Drains links = links
+links_after deed.Leaves links = links
+
+-- there is room for it, and what is to be freed is there
+abbrev pub HasRoom : Deed → ℕ → Kept → Type 0
+HasRoom deed.Nothing seat kept = Unit {0}
+HasRoom (deed.Enters user) seat kept = 0 < kept.views.spare
+HasRoom (deed.Changes change links delta) seat kept =
+    tree.HasRoom change kept.tree × (length links.1 ≤ kept.index.1) × views.HasRoom delta kept.views
+HasRoom (deed.Makes new) seat kept = HasPlace kept.views seat
+HasRoom (deed.Frees name) seat kept = table.contains_key (contexts_at (seats_in kept.views) seat) name ≡ true
+HasRoom (deed.Tells names last) seat kept = Unit {0}
+HasRoom deed.Drains seat kept = Unit {0}
+HasRoom deed.Leaves seat kept = Unit {0}
+
+-- the state is one for which it was made ready: there is room, and what is so of machines between two events is so afterwards
+pub record IsReadied (pending : Pending) (state : Roomed) : Type 0 where
+  pub room : HasRoom pending.deed pending.seat state.kept
+  pub sound : IsKept (performed pending.deed pending.seat state.machine) (links_after pending.deed state.kept.index.0)
+
+-- it was made ready of a step: that is what the step says and leaves, and the state is one for which it is ready
+pub record IsReady (old : Roomed) (stepped : Result (Reply × Machine) Fault) (pending : Pending) (new : Roomed) : Type 0 where
+  pub step : stepped ≡ Ok (pending.reply, performed pending.deed pending.seat old.machine)
+  pub readied : IsReadied pending new
+
+-- what is made ready of a step, or the fault in which it ends
+abbrev pub IsReadyOf : Result Pending Fault → Roomed → Result (Reply × Machine) Fault → Roomed → Type 0
+IsReadyOf (Ok pending) old stepped new = IsReady old stepped pending new
+IsReadyOf (Err fault) old stepped new = IsFault stepped fault
+
+-- how far a counter rose meanwhile: so far as is told, and at most so far
+abbrev pub IsWork : Result Pending Fault → ℕ → ℕ → ℕ → Type 0
+IsWork (Ok pending) old new most = (new ≡ old + pending.work) × (pending.work ≤ most)
+IsWork (Err fault) old new most = (old ≤ new) × (new ≤ old + most)
+
+-- how they are told apart in proofs
+abbrev pub pending_code : Coded Pending
+pending_code =
+    code_by (ℕ × (Deed × (Reply × ℕ))) (coded× coded_ℕ (coded× deeds.the_row.coded (coded× reply.the_row.coded coded_ℕ)))
+    (λ p. (p.seat, (p.deed, (p.reply, p.work)))) (λ q. record { seat = q.0; deed = q.1.0; reply = q.1.1.0; work = q.1.1.1 }) (λ _. refl)

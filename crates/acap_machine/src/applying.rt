@@ -1,0 +1,55 @@
+//! What was made ready is put in place.
+ghost use Rattle.std.specs.Prelude.{◌≡◌};
+ghost use Rattle.acap_machine.specs.Changing.{IsKept};
+ghost use Rattle.acap_machine.specs.Readied.{IsReadied, HasRoom, performed, links_after};
+
+use crate::deed::Deed;
+use crate::ready::Ready;
+use crate::state::State;
+use acap_commands::Reply;
+use acap_entries::Seat;
+
+impl State {
+    /// Puts in place what was made ready, and tells its reply. The state is the one for which it was made ready. Takes no memory
+    /// and cannot fail.
+    pub fn apply(&mut self, ready: Ready) -> Reply
+        requires { IsReadied ready self.old }
+        ensures machine { self.new.machine ≡ performed ready.deed ready.seat self.old.machine }
+        ensures reply { result ≡ ready.reply }
+        ensures work { self.new.work ≡ ready.work }
+    {
+        let Ready {
+            seat,
+            deed,
+            reply,
+            work,
+        } = ready;
+        self.perform(seat, deed);
+        self.work = work;
+        reply
+    }
+
+    // Puts something in place at a seat, in the room that there is.
+    fn perform(&mut self, seat: Seat, deed: Deed)
+        requires room { HasRoom deed seat self.old.kept }
+        requires sound { IsKept (performed deed seat self.old.machine) (links_after deed self.old.kept.index.0) }
+        ensures { self.new.machine ≡ performed deed seat self.old.machine }
+    {
+        match deed {
+            Deed::Nothing => {}
+            Deed::Enters(user) => self.views.take_seat(seat, user),
+            Deed::Changes(change, links, delta) => {
+                self.tree.commit(change);
+                self.index.commit(links);
+                self.views.on_change(delta);
+            }
+            Deed::Makes(new) => self.views.put_context(seat, new),
+            Deed::Frees(name) => {
+                let _ = self.views.free(seat, &name);
+            }
+            Deed::Tells(names, last) => self.views.tell(seat, names.as_slice(), last),
+            Deed::Drains => self.views.drop_told(seat),
+            Deed::Leaves => self.views.leave(seat),
+        }
+    }
+}

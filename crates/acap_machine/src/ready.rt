@@ -1,0 +1,50 @@
+//! An event that was made ready.
+
+use crate::deed::Deed;
+use acap_commands::{Reply, Said};
+use acap_entries::Seat;
+use std::marker::Model;
+
+/// An event that was made ready: its reply, and all that is yet to be put in place, for which there is room (RFC 2244 section 6).
+#[derive(Drop)]
+pub struct Ready {
+    pub(crate) seat: Seat,
+    pub(crate) deed: Deed,
+    pub(crate) reply: Reply,
+    pub(crate) work: usize,
+}
+
+impl Model for Ready {
+    ghost use Rattle.acap_machine.specs.Readied.{Pending, pending_code};
+
+    ghost Value = { Pending };
+
+    ghost coded = { pending_code };
+
+    ghost view = { λ r. record { seat = r.seat; deed = r.deed; reply = r.reply; work = r.work } };
+}
+
+impl Ready {
+    ghost use Rattle.std.specs.Prelude.{◌≡◌};
+    ghost use Rattle.acap_machine.specs.Readied.{pending_of};
+    ghost use Rattle.acap_machine.specs.Stepping.{plain};
+
+    // What is said, and what is yet to be put in place; no touched entry was looked at for it.
+    pub(crate) fn new(seat: Seat, deed: Deed, words: Said) -> Ready
+        ensures { result ≡ pending_of seat deed (plain words) 0 }
+    {
+        Ready {
+            seat,
+            deed,
+            reply: Reply::new(words),
+            work: 0,
+        }
+    }
+
+    /// What is answered once it is put in place.
+    pub fn reply(&self) -> &Reply
+        ensures { result.now ≡ self.now.reply }
+    {
+        &self.reply
+    }
+}
