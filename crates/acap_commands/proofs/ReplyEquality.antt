@@ -11,7 +11,8 @@ use Rattle.acap_notices.specs.declared.told.Told.{Told}
 use Rattle.acap_notices.specs.contracts.told.ToldPartialEq.TheImpl as told_eq
 use Rattle.acap_notices.proofs.NoticeEquality.{told_exact}
 use Rattle.acap_commands.specs.declared.search_reply.SearchReply.{SearchReply}
-use Rattle.acap_commands.specs.declared.object.Object.{Object}
+use Rattle.acap_commands.specs.declared.object_name.ObjectName.{ObjectName}
+use Rattle.acap_commands.specs.declared.object_name.ObjectName.TheVariants as object_name
 use Rattle.acap_commands.specs.declared.refusal.Refusal.{Refusal}
 use Rattle.acap_commands.specs.declared.refusal.Refusal.TheVariants as refusal
 use Rattle.acap_commands.specs.declared.reply.Reply.{Reply}
@@ -21,8 +22,8 @@ use Rattle.acap_commands.specs.declared.verb.Verb.{Verb}
 use Rattle.acap_commands.specs.declared.verb.Verb.TheVariants as verb
 use Rattle.acap_commands.specs.contracts.search_reply.SearchReplyPartialEq.TheImpl as found_eq
 use Rattle.acap_commands.specs.contracts.search_reply.SearchReplyEq.TheImpl.Laws as found_laws
-use Rattle.acap_commands.specs.contracts.object.ObjectPartialEq.TheImpl as object_eq
-use Rattle.acap_commands.specs.contracts.object.ObjectEq.TheImpl.Laws as object_laws
+use Rattle.acap_commands.specs.contracts.object_name.ObjectNamePartialEq.TheImpl as object_name_eq
+use Rattle.acap_commands.specs.contracts.object_name.ObjectNameEq.TheImpl.Laws as object_name_laws
 use Rattle.acap_commands.specs.contracts.refusal.RefusalPartialEq.TheImpl as refusal_eq
 use Rattle.acap_commands.specs.contracts.refusal.RefusalEq.TheImpl.Laws as refusal_laws
 use Rattle.acap_commands.specs.contracts.reply.ReplyPartialEq.TheImpl as reply_eq
@@ -41,13 +42,18 @@ path_same a b e =
 pub path_exact : (a b : Path) → Decides (path_eq.ghosts.eq a b) (a ≡ b)
 path_exact = exact_of path_laws.laws-law path_same
 
-object_same : (a b : Object) → object_eq.ghosts.eq a b ≡ true → a ≡ b
-object_same a b e =
-    let h = (pair_exact bytes_decides (pair_exact (option_exact bytes_decides) (option_exact bytes_decides)) (a.dataset, (a.attribute, a.name)) (b.dataset, (b.attribute, b.name))).0 e in
-    λ i. record { dataset = (h i).0; attribute = (h i).1.0; name = (h i).1.1 }
+object_name_same : (a b : ObjectName) → object_name_eq.ghosts.eq a b ≡ true → a ≡ b
+object_name_same (object_name.Dataset p) (object_name.Dataset u) e = ap object_name.Dataset ((bytes_decides p u).0 e)
+object_name_same (object_name.Attribute p q) (object_name.Attribute u v) e =
+    let h = (pair_exact bytes_decides bytes_decides (p, q) (u, v)).0 e in
+    λ i. object_name.Attribute (h i).0 (h i).1
+object_name_same (object_name.Entry p q r) (object_name.Entry u v w) e =
+    let h = (pair_exact bytes_decides (pair_exact bytes_decides bytes_decides) (p, (q, r)) (u, (v, w))).0 e in
+    λ i. object_name.Entry (h i).0 (h i).1.0 (h i).1.1
+object_name_same a b e = absurd (true≢false (sym e))
 
-pub object_exact : (a b : Object) → Decides (object_eq.ghosts.eq a b) (a ≡ b)
-object_exact = exact_of object_laws.laws-law object_same
+pub object_name_exact : (a b : ObjectName) → Decides (object_name_eq.ghosts.eq a b) (a ≡ b)
+object_name_exact = exact_of object_name_laws.laws-law object_name_same
 
 found_same : (a b : SearchReply) → found_eq.ghosts.eq a b ≡ true → a ≡ b
 found_same a b e =
@@ -94,7 +100,7 @@ refusal_same refusal.LoggedIn refusal.LoggedIn e = refl
 refusal_same refusal.Cancelled refusal.Cancelled e = refl
 refusal_same refusal.NoMechanism refusal.NoMechanism e = refl
 refusal_same refusal.LoginFailed refusal.LoginFailed e = refl
-refusal_same (refusal.Permission x) (refusal.Permission y) e = ap refusal.Permission ((object_exact x y).0 e)
+refusal_same (refusal.Permission x) (refusal.Permission y) e = ap refusal.Permission ((object_name_exact x y).0 e)
 refusal_same (refusal.NoExist x) (refusal.NoExist y) e = ap refusal.NoExist ((bytes_decides x y).0 e)
 refusal_same (refusal.Modified x) (refusal.Modified y) e = ap refusal.Modified ((path_exact x y).0 e)
 refusal_same (refusal.Invalid p x) (refusal.Invalid q y) e =
@@ -112,7 +118,6 @@ refusal_same refusal.NotNotify refusal.NotNotify e = refl
 refusal_same refusal.Memory refusal.Memory e = refl
 refusal_same refusal.HistoryFull refusal.HistoryFull e = refl
 refusal_same refusal.TooManySessions refusal.TooManySessions e = refl
-refusal_same refusal.Unserved refusal.Unserved e = refl
 refusal_same a b e = absurd (true≢false (sym e))
 
 pub refusal_exact : (a b : Refusal) → Decides (refusal_eq.ghosts.eq a b) (a ≡ b)

@@ -24,5 +24,4 @@ status_of refusal.LoggedIn = status.Bad
 status_of refusal.Cancelled = status.Bad
 status_of refusal.RangeHere = status.Bad
 status_of refusal.TooManySessions = status.Bye
-status_of refusal.Unserved = status.Bad
 status_of _ = status.No

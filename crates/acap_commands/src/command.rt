@@ -2,7 +2,7 @@
 ghost use Rattle.std.specs.Prelude.{◌≡◌, ◌↔◌, IsTrue};
 
 use crate::lists::{ContextNames, Entries};
-use crate::object::Object;
+use crate::object_name::ObjectName;
 use crate::search::Search;
 use acap_entries::{Boxed, ContextName, Copying, Dataset, Memory, Moment, Value};
 
@@ -20,13 +20,13 @@ pub enum Command {
     /// SEARCH: entries are to be found (section 6.4.1). It stands in a box, so that the other commands are short.
     Search(Boxed<Search>),
     /// SETACL: the identifier is to have these rights on the object, both as sent (section 6.7). Objects stand in boxes too.
-    SetAcl(Boxed<Object>, Value, Value),
+    SetAcl(Boxed<ObjectName>, Value, Value),
     /// DELETEACL: the identifier is to be taken off the object's list, or the whole list to be removed (section 6.7).
-    DeleteAcl(Boxed<Object>, Option<Value>),
+    DeleteAcl(Boxed<ObjectName>, Option<Value>),
     /// MYRIGHTS: the rights are to be told that the user has on the object (section 6.7).
-    MyRights(Boxed<Object>),
+    MyRights(Boxed<ObjectName>),
     /// LISTRIGHTS: the rights are to be told that the identifier may have on the object (section 6.7).
-    ListRights(Boxed<Object>, Value),
+    ListRights(Boxed<ObjectName>, Value),
     /// DELETEDSINCE: the entries of the dataset are to be told that were deleted later than the time (section 6.6.2).
     DeletedSince(Dataset, Moment),
     /// FREECONTEXT: the context is to be given up (section 6.5).

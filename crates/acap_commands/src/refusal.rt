@@ -3,7 +3,7 @@ ghost use Rattle.std.specs.Prelude.{◌≡◌, ◌↔◌, IsTrue};
 ghost use Rattle.acap_commands.specs.Plain.{is_plain};
 ghost use Rattle.acap_commands.specs.Statuses.{status_of};
 
-use crate::object::Object;
+use crate::object_name::ObjectName;
 use crate::status::Status;
 use acap_entries::{Attribute, Boxed, Copying, Dataset, Memory, Path};
 
@@ -47,7 +47,7 @@ pub enum Refusal {
     /// The answer to the challenge isn't the user's.
     LoginFailed,
     /// The rights on the object are missing. What is long stands in a box, so that a refusal is short.
-    Permission(Boxed<Object>),
+    Permission(Boxed<ObjectName>),
     /// The dataset doesn't exist.
     NoExist(Dataset),
     /// The entry was changed later than the client says.
@@ -78,8 +78,6 @@ pub enum Refusal {
     HistoryFull,
     /// There are as many sessions as there may be; this one is closed.
     TooManySessions,
-    /// What is asked for isn't served.
-    Unserved,
 }
 
 impl Refusal {
@@ -105,8 +103,7 @@ impl Refusal {
             | Refusal::NotLoggedIn
             | Refusal::LoggedIn
             | Refusal::Cancelled
-            | Refusal::RangeHere
-            | Refusal::Unserved => Status::Bad,
+            | Refusal::RangeHere => Status::Bad,
             _ => Status::No,
         }
     }
@@ -172,7 +169,6 @@ fn plain(refusal: &Refusal) -> Refusal
         Refusal::NotNotify => Refusal::NotNotify,
         Refusal::Memory => Refusal::Memory,
         Refusal::HistoryFull => Refusal::HistoryFull,
-        Refusal::TooManySessions => Refusal::TooManySessions,
-        _ => Refusal::Unserved,
+        _ => Refusal::TooManySessions,
     }
 }

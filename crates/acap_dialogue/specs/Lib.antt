@@ -4,3 +4,4 @@ pub mod Listening
 pub mod Saying
 pub mod Session
 pub mod Talking
+pub mod Telling

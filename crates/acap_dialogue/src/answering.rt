@@ -1,6 +1,7 @@
 //! What is said to the machine's answers.
 
 ghost use Rattle.std.specs.Prelude.{◌≡◌, [], IfOk, OnOk, OnErr};
+ghost use Rattle.acap_grammar.specs.Lent.{lent_tag};
 ghost use Rattle.acap_dialogue.specs.Saying.{Hears};
 ghost use Rattle.acap_dialogue.specs.Session as talk;
 
@@ -10,19 +11,31 @@ use crate::stage::Stage;
 use acap_commands::{Fault, Refusal, Reply, Said, Verb};
 use acap_entries::{Memory, Octets, UserName};
 
+/// The octets of a tag.
+pub(crate) fn lent(tag: &Option<Octets>) -> Option<&[u8]>
+    ensures { lent_tag result ≡ tag.now }
+{
+    match tag {
+        Some(tag) => Some(tag.as_slice()),
+        None => None,
+    }
+}
+
 // The machine's answer to a command is said under its tag.
 fn replied(
-    tag: Option<Octets>,
+    tag: &Option<Octets>,
     outcome: Result<Reply, Fault>,
     stage: &mut Stage,
     out: &mut Vec<u8>,
 ) -> Result<Heard, Memory>
-    ensures { Hears (talk.replied tag outcome) result stage.old stage.new out.old out.new }
+    ensures { Hears (talk.replied tag.now outcome) result stage.old stage.new out.old out.new }
 {
     match outcome {
-        Ok(reply) => says(tag, reply.said, stage, out),
-        Err(Fault::Memory) => says(tag, Said::Refused(Refusal::Memory), stage, out),
-        Err(Fault::HistoryFull) => says(tag, Said::Refused(Refusal::HistoryFull), stage, out),
+        Ok(reply) => says(lent(tag), &reply.said, stage, out),
+        Err(Fault::Memory) => says(lent(tag), &Said::Refused(Refusal::Memory), stage, out),
+        Err(Fault::HistoryFull) => {
+            says(lent(tag), &Said::Refused(Refusal::HistoryFull), stage, out)
+        }
         Err(Fault::NotEntered) | Err(Fault::AlreadyEntered) => {
             *stage = Stage::Closed;
             Ok(Heard::Closes)
@@ -39,7 +52,7 @@ fn welcomed(
     ensures { Hears (talk.welcomed outcome) result stage.old stage.new out.old out.new }
 {
     match outcome {
-        Ok(reply) => says(None, reply.said, stage, out),
+        Ok(reply) => says(None, &reply.said, stage, out),
         Err(_) => {
             *stage = Stage::Closed;
             Ok(Heard::Closes)
@@ -49,20 +62,20 @@ fn welcomed(
 
 // Who has entered after a login is the session's user.
 fn logged_in(
-    tag: Option<Octets>,
+    tag: &Option<Octets>,
     name: UserName,
     user: &mut Option<UserName>,
     outcome: Result<Reply, Fault>,
     stage: &mut Stage,
     out: &mut Vec<u8>,
 ) -> Result<Heard, Memory>
-    ensures told { Hears (talk.login_said tag outcome) result stage.old stage.new out.old out.new }
+    ensures told { Hears (talk.login_said tag.now outcome) result stage.old stage.new out.old out.new }
     ensures user { OnOk result (user.new ≡ talk.login_user name user.old outcome) }
 {
     match outcome {
         Ok(_) => {
             *user = Some(name);
-            says(tag, Said::Done(Verb::Authenticate), stage, out)
+            says(lent(tag), &Said::Done(Verb::Authenticate), stage, out)
         }
         Err(fault) => replied(tag, Err(fault), stage, out),
     }
@@ -77,7 +90,7 @@ fn drained(
     ensures { Hears (talk.drained outcome) result stage.old stage.new out.old out.new }
 {
     match outcome {
-        Ok(reply) => says(None, reply.said, stage, out),
+        Ok(reply) => says(None, &reply.said, stage, out),
         Err(_) => {
             *stage = Stage::Ready;
             Ok(Heard::Said)
@@ -98,8 +111,8 @@ pub(crate) fn answered(
 {
     match was {
         Stage::Entering => welcomed(outcome, stage, out),
-        Stage::Asked(tag) => replied(tag, outcome, stage, out),
-        Stage::LoggingIn(tag, name) => logged_in(tag, name, user, outcome, stage, out),
+        Stage::Asked(tag) => replied(&tag, outcome, stage, out),
+        Stage::LoggingIn(tag, name) => logged_in(&tag, name, user, outcome, stage, out),
         Stage::Draining => drained(outcome, stage, out),
         other => {
             *stage = other;

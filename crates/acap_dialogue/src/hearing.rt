@@ -2,69 +2,80 @@
 
 ghost use Rattle.std.specs.Prelude.{◌≡◌, ◌++◌, [], None, IfOk, OnOk, OnErr};
 ghost use Rattle.acap_grammar.specs.Grammar.{command_of};
-ghost use Rattle.acap_grammar.specs.Replies.{octets_of};
+ghost use Rattle.acap_grammar.specs.Lent.{lent_tag};
 ghost use Rattle.acap_login.specs.Login.{challenge_of};
 ghost use Rattle.acap_lexer.specs.declared.lexed.Lexed.TheVariants.{Line};
 ghost use Rattle.acap_dialogue.specs.Hearing as hearing;
-ghost use Rattle.acap_dialogue.specs.Hearing.{asks, authenticated, challenges, closes, heard, heard_command, opening, says};
+ghost use Rattle.acap_dialogue.specs.Hearing.{challenges, closes, heard, opening, says};
 ghost use Rattle.acap_dialogue.specs.Saying.{Hears};
+ghost use Rattle.acap_dialogue.specs.Telling.{asks_by, command_by, login_by};
 ghost use Rattle.acap_dialogue.specs.declared.heard.Heard.TheVariants as hears;
 ghost use Rattle.acap_dialogue.specs.declared.stage.Stage.TheVariants as stages;
 
 use crate::heard::Heard;
 use crate::listener::Listener;
 use crate::stage::Stage;
-use acap_commands::{Command, Event, Refusal, Reply, Said, Verb};
+use acap_commands::{Command, Event, Refusal, Said, Verb};
 use acap_entries::{Copying, Memory, Moment, Octets, UserName, Value};
-use acap_grammar::{GrammarError, lexical_refusal, parse, render};
+use acap_grammar::{GrammarError, is_noop, lexical_refusal, parse, render_said};
 use acap_lexer::{Lexed, Tag, Tokens};
 use acap_login::challenge;
 use std::alloc::Global;
 
 /// Words are said under a tag, and the session is ready again. Where memory is refused its stage stays, as in each call below.
 pub(crate) fn says(
-    tag: Option<Octets>,
-    said: Said,
+    tag: Option<&[u8]>,
+    said: &Said,
     stage: &mut Stage,
     out: &mut Vec<u8>,
 ) -> Result<Heard, Memory>
-    ensures { Hears (says tag said) result stage.old stage.new out.old out.new }
+    ensures { Hears (says (lent_tag tag.entry) said.now) result stage.old stage.new out.old out.new }
 {
-    render(&Reply { tag, said }, out)?;
+    render_said(tag, said, out)?;
     *stage = Stage::Ready;
     Ok(Heard::Said)
 }
 
 /// Words are said under a tag, and the session is closed.
 pub(crate) fn closes(
-    tag: Option<Octets>,
-    said: Said,
+    tag: Option<&[u8]>,
+    said: &Said,
     stage: &mut Stage,
     out: &mut Vec<u8>,
 ) -> Result<Heard, Memory>
-    ensures { Hears (closes tag said) result stage.old stage.new out.old out.new }
+    ensures { Hears (closes (lent_tag tag.entry) said.now) result stage.old stage.new out.old out.new }
 {
-    render(&Reply { tag, said }, out)?;
+    render_said(tag, said, out)?;
     *stage = Stage::Closed;
     Ok(Heard::Closes)
 }
 
+/// A tag in memory of its own.
+fn owned(alloc: Global, tag: Option<&[u8]>) -> Result<Option<Octets>, Memory>
+    ensures { IfOk result (λ made. made ≡ lent_tag tag.entry) }
+{
+    match tag {
+        Some(tag) => Ok(Some(Octets::from_slice(alloc, tag)?)),
+        None => Ok(None),
+    }
+}
+
 // A command that concerns the store is the machine's, if there is a user.
 fn asks(
-    user: &Option<UserName>,
-    tag: Option<Octets>,
+    listener: &Listener,
+    tag: Option<&[u8]>,
     command: Command,
     stage: &mut Stage,
     out: &mut Vec<u8>,
 ) -> Result<Heard, Memory>
-    ensures { Hears (asks user.now tag command) result stage.old stage.new out.old out.new }
+    ensures { Hears (asks_by listener.now tag.entry command) result stage.old stage.new out.old out.new }
 {
-    match user {
+    match listener.user {
         Some(_) => {
-            *stage = Stage::Asked(tag);
+            *stage = Stage::Asked(owned(listener.alloc, tag)?);
             Ok(Heard::Asks(Event::Command(command)))
         }
-        None => says(tag, Said::Refused(Refusal::NotLoggedIn), stage, out),
+        None => says(tag, &Said::Refused(Refusal::NotLoggedIn), stage, out),
     }
 }
 
@@ -88,8 +99,7 @@ fn challenges(
 ) -> Result<Heard, Memory>
     ensures { Hears (challenges tag told) result stage.old stage.new out.old out.new }
 {
-    let reply = Reply::new(Said::Challenge(told.copy()?));
-    render(&reply, out)?;
+    render_said(None, &Said::Challenge(told.copy()?), out)?;
     *stage = Stage::Challenged(tag, told);
     Ok(Heard::Said)
 }
@@ -97,18 +107,18 @@ fn challenges(
 // A user who is logged in needs no mechanism; another is challenged, if the mechanism is CRAM-MD5.
 fn authenticates(
     listener: &Listener,
-    tag: Option<Octets>,
+    tag: Option<&[u8]>,
     mechanism: &Value,
     stage: &mut Stage,
     out: &mut Vec<u8>,
 ) -> Result<Heard, Memory>
-    ensures { Hears (authenticated listener.now tag mechanism.now) result stage.old stage.new out.old out.new }
+    ensures { Hears (login_by listener.now tag.entry mechanism.now) result stage.old stage.new out.old out.new }
 {
     if listener.user.is_some() {
-        return says(tag, Said::Refused(Refusal::LoggedIn), stage, out);
+        return says(tag, &Said::Refused(Refusal::LoggedIn), stage, out);
     }
     if !mechanism.as_slice().eq_ignore_ascii_case(b"CRAM-MD5") {
-        return says(tag, Said::Refused(Refusal::NoMechanism), stage, out);
+        return says(tag, &Said::Refused(Refusal::NoMechanism), stage, out);
     }
     let told = challenge(
         listener.alloc,
@@ -116,41 +126,47 @@ fn authenticates(
         seconds(listener.clock),
         listener.host.as_slice(),
     )?;
-    challenges(tag, Octets::from_vec(told), stage, out)
+    challenges(
+        owned(listener.alloc, tag)?,
+        Octets::from_vec(told),
+        stage,
+        out,
+    )
 }
 
 #[tactic(auto, unfolding(crate::specs::Hearing::heard_command))]
 fn heard_command(
     listener: &Listener,
-    tag: Option<Octets>,
+    tag: Option<&[u8]>,
     command: Command,
     stage: &mut Stage,
     out: &mut Vec<u8>,
 ) -> Result<Heard, Memory>
-    ensures { Hears (heard_command listener.now tag command) result stage.old stage.new out.old out.new }
+    ensures { Hears (command_by listener.now tag.entry command) result stage.old stage.new out.old out.new }
 {
     match command {
-        Command::Noop => says(tag, Said::Done(Verb::Noop), stage, out),
-        Command::Logout => closes(tag, Said::GoodBye, stage, out),
+        Command::Noop => says(tag, &Said::Done(Verb::Noop), stage, out),
+        Command::Logout => closes(tag, &Said::GoodBye, stage, out),
         Command::Authenticate(mechanism) => {
             authenticates(listener, tag, &mechanism, stage, out)
         },
-        command => asks(listener.user, tag, command, stage, out),
+        command => asks(listener, tag, command, stage, out),
     }
 }
 
 // The tag of a line is its first token.
-fn tag_of(alloc: Global, tokens: &Tokens) -> Result<Option<Octets>, Memory>
-    ensures { IfOk result (λ tag. tag ≡ hearing.tag_of tokens.now) }
+fn tag_of(tokens: &Tokens) -> Option<&[u8]>
+    ensures { lent_tag result ≡ hearing.tag_of tokens.now }
 {
     if tokens.is_empty() {
-        return Ok(None);
+        return None;
     }
-    Ok(Some(Octets::from_slice(alloc, tokens.value(0))?))
+    Some(tokens.value(0))
 }
 
-#[tactic(auto, unfolding(crate::specs::Hearing::heard))]
-fn heard_line(
+/// What is said to a whole line, or asked of the machine then.
+#[tactic(auto, unfolding(crate::specs::Hearing::heard, crate::specs::Hearing::heard_command))]
+pub(crate) fn heard_line(
     listener: &Listener,
     tokens: &Tokens,
     stage: &mut Stage,
@@ -158,16 +174,16 @@ fn heard_line(
 ) -> Result<Heard, Memory>
     ensures { Hears (heard listener.now (Line tokens.now)) result stage.old stage.new out.old out.new }
 {
-    let tag = tag_of(listener.alloc, tokens)?;
+    let tag = tag_of(tokens);
+    if is_noop(listener.alloc, tokens) {
+        return says(tag, &Said::Done(Verb::Noop), stage, out);
+    }
     match parse(listener.alloc, tokens) {
         Ok(command) => heard_command(listener, tag, command, stage, out),
         Err(GrammarError::Memory) => Err(Memory),
-        Err(GrammarError::Fault(fault)) => says(
-            tag,
-            Said::Refused(Refusal::from(fault)),
-            stage,
-            out,
-        ),
+        Err(GrammarError::Fault(fault)) => {
+            says(tag, &Said::Refused(Refusal::from(fault)), stage, out)
+        }
     }
 }
 
@@ -182,12 +198,12 @@ pub(crate) fn continues(out: &mut Vec<u8>) -> Result<(), Memory>
     }
 }
 
-fn copied(alloc: Global, tag: &Option<Tag>) -> Result<Option<Octets>, Memory>
-    ensures { IfOk result (λ made. made ≡ tag.now) }
+fn lent(tag: &Option<Tag>) -> Option<&[u8]>
+    ensures { lent_tag result ≡ tag.now }
 {
     match tag {
-        Some(tag) => Ok(Some(Octets::from_slice(alloc, tag.as_slice())?)),
-        None => Ok(None),
+        Some(tag) => Some(tag.as_slice()),
+        None => None,
     }
 }
 
@@ -213,10 +229,14 @@ pub(crate) fn heard(
         }
         Lexed::Line(tokens) => heard_line(listener, tokens, stage, out),
         Lexed::Bad(fault, tag) => {
-            let tag = copied(listener.alloc, tag)?;
-            says(tag, Said::Refused(lexical_refusal(*fault)), stage, out)
+            says(
+                lent(tag),
+                &Said::Refused(lexical_refusal(*fault)),
+                stage,
+                out,
+            )
         }
-        Lexed::Fatal(fault) => closes(None, Said::Refused(lexical_refusal(*fault)), stage, out),
+        Lexed::Fatal(fault) => closes(None, &Said::Refused(lexical_refusal(*fault)), stage, out),
     }
 }
 
@@ -235,6 +255,6 @@ pub(crate) fn opening(
             *stage = Stage::Entering;
             Ok(Heard::Asks(enters))
         }
-        None => says(None, Said::Greeting, stage, out),
+        None => says(None, &Said::Greeting, stage, out),
     }
 }

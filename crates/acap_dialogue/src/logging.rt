@@ -5,6 +5,7 @@ ghost use Rattle.acap_dialogue.specs.Hearing as hearing;
 ghost use Rattle.acap_dialogue.specs.Hearing.{answer_line, answer_token, heard_answer, logs_in, who};
 ghost use Rattle.acap_dialogue.specs.Saying.{Hears};
 
+use crate::answering::lent;
 use crate::heard::Heard;
 use crate::hearing::{closes, continues, says};
 use crate::stage::Stage;
@@ -44,7 +45,7 @@ fn logs_in(
             *stage = Stage::LoggingIn(tag, user);
             Ok(Heard::Asks(enters))
         }
-        None => says(tag, Said::Refused(Refusal::LoginFailed), stage, out),
+        None => says(lent(&tag), &Said::Refused(Refusal::LoginFailed), stage, out),
     }
 }
 
@@ -71,7 +72,12 @@ fn answer_token(
 {
     match kind {
         Kind::Quoted | Kind::Literal => logs_in(users, tag, challenge, text, stage, out),
-        kind => says(tag, Said::Refused(refusal_of(kind, text)), stage, out),
+        kind => says(
+            lent(&tag),
+            &Said::Refused(refusal_of(kind, text)),
+            stage,
+            out,
+        ),
     }
 }
 
@@ -87,7 +93,7 @@ fn answer_line(
     ensures { Hears (answer_line users.now tag challenge.now tokens.now) result stage.old stage.new out.old out.new }
 {
     if tokens.len() != 1 {
-        return says(tag, Said::Refused(Refusal::Arguments), stage, out);
+        return says(lent(&tag), &Said::Refused(Refusal::Arguments), stage, out);
     }
     answer_token(
         users,
@@ -123,7 +129,7 @@ pub(crate) fn heard_answer(
             Ok(Heard::Said)
         }
         Lexed::Line(tokens) => answer_line(users, tag, &challenge, tokens, stage, out),
-        Lexed::Bad(_, _) => says(tag, Said::Refused(Refusal::Arguments), stage, out),
-        Lexed::Fatal(fault) => closes(None, Said::Refused(lexical_refusal(*fault)), stage, out),
+        Lexed::Bad(_, _) => says(lent(&tag), &Said::Refused(Refusal::Arguments), stage, out),
+        Lexed::Fatal(fault) => closes(None, &Said::Refused(lexical_refusal(*fault)), stage, out),
     }
 }

@@ -1,16 +1,16 @@
 //! One session between a client and the machine.
 
-ghost use Rattle.std.specs.Prelude.{◌≡◌, ◌-◌, ◌++◌, [], true, None, min, length, take, IfOk, OnOk, OnErr};
-ghost use Rattle.acap_lexer.specs.Holding.{held_limit};
+ghost use Rattle.std.specs.Prelude.{◌≡◌, true, IfOk, OnErr};
 ghost use Rattle.acap_dialogue.specs.Saying as saying;
 ghost use Rattle.acap_dialogue.specs.Saying.{Makes};
+ghost use Rattle.acap_dialogue.specs.Telling.{HearsOf, heard_by, room_for, with_front};
 ghost use Rattle.acap_dialogue.specs.Session.{Awaits, answer_at, answered, drain_in, has_seat, heard_at, is_asked, is_closed, session_drain, session_next};
 ghost use Rattle.acap_dialogue.specs.Talking.{begun};
 ghost use Rattle.acap_dialogue.specs.declared.stage.Stage.TheVariants as stages;
 
 use crate::answering::answered;
 use crate::heard::Heard;
-use crate::hearing::{heard, opening};
+use crate::hearing::{heard, heard_line, opening};
 use crate::listener::Listener;
 use crate::logging::heard_answer;
 use crate::next::Next;
@@ -81,8 +81,8 @@ impl Session {
     /// Takes a front of a piece of the client's octets, and says how many octets that is: all of it, or as much as
     /// keeps the octets behind the last command at 270,336. Where memory is refused nothing is taken.
     pub fn push(&mut self, piece: &[u8]) -> Result<usize, Memory>
-        ensures taken { IfOk result (λ n. n ≡ min (length piece.now) (held_limit - length self.old.held.text)) }
-        ensures held { IfOk result (λ n. self.new ≡ record self.old { held = record self.old.held { text = self.old.held.text ++ take n piece.now } }) }
+        ensures taken { IfOk result (λ n. n ≡ room_for self.old piece.now) }
+        ensures held { IfOk result (λ n. self.new ≡ with_front self.old n piece.now) }
         ensures err { OnErr result (self.new ≡ self.old) }
     {
         match self.lexer.push(piece) {
@@ -114,9 +114,11 @@ impl Session {
     ) -> Result<Heard, Memory>
         ensures { Makes (session_next users.now nonce clock self.old) result self.new out.old out.new }
     {
+        if let Stage::Ready = self.stage {
+            return self.hear_command(nonce, clock, out);
+        }
         match mem::replace(&mut self.stage, Stage::Closed) {
             Stage::Opening => opening(&self.user, &mut self.stage, out),
-            Stage::Ready => self.hear_command(nonce, clock, out),
             Stage::Challenged(tag, challenge) => self.hear_answer(users, tag, challenge, out),
             stage => {
                 self.stage = stage;
@@ -125,20 +127,18 @@ impl Session {
         }
     }
 
-    // Hears the lexer's next answer where no answer to a challenge is awaited. The memory of a line's tokens is the
-    // next line's.
-    fn hear_command(
+    // What is said to an answer of the lexer where no answer to a challenge is awaited. The memory of a line's tokens
+    // is the next line's.
+    fn hear_lexed(
         &mut self,
+        lexed: Lexed,
         nonce: u64,
         clock: Moment,
         out: &mut Vec<u8>,
     ) -> Result<Heard, Memory>
-        requires { self.old.stage ≡ stages.Closed }
-        ensures { Makes (heard_at self.old nonce clock) result self.new out.old out.new }
+        ensures hears { HearsOf (heard_by self.old nonce clock lexed) result self.old self.new out.old out.new }
+        ensures rest { self.new ≡ record self.old { stage = self.new.stage } }
     {
-        let Ok(lexed) = self.lexer.next(Mode::Command) else {
-            return Err(Memory);
-        };
         let listener = Listener {
             alloc: self.alloc,
             host: &self.host,
@@ -146,8 +146,33 @@ impl Session {
             nonce,
             clock,
         };
-        let came = heard(&listener, &lexed, &mut self.stage, out);
-        hand_back(&mut self.lexer, lexed);
+        match lexed {
+            Lexed::Line(tokens) => {
+                let came = heard_line(&listener, &tokens, &mut self.stage, out);
+                self.lexer.take_back(tokens);
+                came
+            }
+            other => heard(&listener, &other, &mut self.stage, out),
+        }
+    }
+
+    // Hears the lexer's next answer where no answer to a challenge is awaited.
+    fn hear_command(
+        &mut self,
+        nonce: u64,
+        clock: Moment,
+        out: &mut Vec<u8>,
+    ) -> Result<Heard, Memory>
+        ensures { Makes (heard_at self.old nonce clock) result self.new out.old out.new }
+    {
+        let Ok(lexed) = self.lexer.next(Mode::Command) else {
+            self.close();
+            return Err(Memory);
+        };
+        let came = self.hear_lexed(lexed, nonce, clock, out);
+        if came.is_err() {
+            self.close();
+        }
         came
     }
 

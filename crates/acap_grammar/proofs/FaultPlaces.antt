@@ -49,17 +49,17 @@ number = by_token _ (begins _ refl) (λ t. by_kind t (mark.is_word t.kind) refl 
   by_kind t true e None n = Stops (refused [] fault.Arguments) (λ rest. rw (e, n) refl)
   by_kind t true e (Some x) n = Goes (λ rest. Ok (x, rest)) (value x) (λ rest. rw (e, n) refl)
 
-entry_part : (dataset : List ℕ) → Looks (argument.entry_part dataset)
+entry_part : (dataset attribute : List ℕ) → Looks (argument.entry_part dataset attribute)
 unfolding argument.entry_part
-entry_part dataset = choose _ _ _ (starting mark.is_close) (value _) (bind _ _ (named _) (λ x. value _))
+entry_part dataset attribute = choose _ _ _ (starting mark.is_close) (value _) (bind _ _ (named _) (λ x. value _))
 
 attribute_part : (dataset : List ℕ) → Looks (argument.attribute_part dataset)
 unfolding argument.attribute_part
-attribute_part dataset = choose _ _ _ (starting mark.is_close) (value _) (bind _ _ (named _) (λ a. bind _ _ (entry_part dataset) (λ n. value _)))
+attribute_part dataset = choose _ _ _ (starting mark.is_close) (value _) (bind _ _ (named _) (λ a. entry_part dataset a))
 
 object : Looks argument.object_at
 unfolding argument.object_at
-object = behind mark.is_open _ (bind _ _ (named _) (λ d. bind _ _ (attribute_part d) (λ p. behind mark.is_close _ (value _))))
+object = behind mark.is_open _ (bind _ _ (named _) (λ d. bind _ _ (attribute_part d) (λ o. behind mark.is_close _ (value _))))
 
 -- ---- STORE
 

@@ -1,25 +1,23 @@
 -- The paths and datasets of a command that can be sent are well formed.
-use Rattle.std.proofs.Common.{ℕ, List, [], ◌∷◌, ◌++◌, Option, Some, None}
-use Rattle.std.specs.Prelude.{IfSome}
+use Rattle.std.proofs.Common.{List, [], ◌∷◌, ◌++◌}
 use Rattle.std.specs.List.{AllByRecursion}
 use Rattle.acap_commands.specs.declared.command.Command.{Command}
 use Rattle.acap_commands.specs.declared.command.Command.TheVariants as command
-use Rattle.acap_commands.specs.declared.object.Object.{Object}
+use Rattle.acap_commands.specs.declared.object_name.ObjectName.{ObjectName}
+use Rattle.acap_commands.specs.declared.object_name.ObjectName.TheVariants as object_name
 use Rattle.acap_commands.specs.declared.store_entry.StoreEntry.{StoreEntry}
 use Rattle.acap_grammar.specs.Formed.{IsFormed, IsFormedObject, HasFormedPaths, ReadsFormed}
-use Rattle.acap_grammar.specs.Sendable.{Within, IsObject, Each, IsEntry, IsSendable}
+use Rattle.acap_grammar.specs.Sendable.{IsObject, Each, IsEntry, IsSendable}
 use Rattle.acap_grammar.specs.Spelling.{target_text}
 use Rattle.acap_grammar.proofs.FormedNames.{formed_dataset, formed_path, formed_entry, target_is}
 use Rattle.acap_grammar.proofs.SendableReads.{reads_sendable}
 
 -- ---- commands
 
-formed_object : (o : Object) → IsObject o → IsFormedObject o
-formed_object o h = (formed_dataset o.dataset h.0, by_place o.attribute o.name h.1) where
-  by_place : (a n : Option (List ℕ)) → Within o.dataset a n → IfSome n (λ m. IsFormed (record { dataset = o.dataset; name = m }))
-  by_place a None w = tt
-  by_place None (Some n) w = absurd cc
-  by_place (Some a) (Some n) w = formed_entry o.dataset n h.0 w.1
+formed_object : (o : ObjectName) → IsObject o → IsFormedObject o
+formed_object (object_name.Dataset dataset) h = formed_dataset dataset h
+formed_object (object_name.Attribute dataset attribute) h = formed_dataset dataset h.0
+formed_object (object_name.Entry dataset attribute name) h = (formed_dataset dataset h.0, formed_entry dataset name h.0 h.2)
 
 formed_entries : (before entries : List StoreEntry) → Each IsEntry before entries → AllByRecursion (λ (e : StoreEntry). IsFormed e.path) entries
 formed_entries before [] h = tt

@@ -17,3 +17,4 @@ pub mod SendableReads
 pub mod TextReads
 pub mod FormedNames
 pub mod FormedReads
+pub mod NoopReads

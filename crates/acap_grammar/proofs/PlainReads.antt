@@ -246,17 +246,17 @@ enclosed_items item p most none =
 
 -- ---- objects
 
-entry_part : (dataset : List ℕ) → Blind (argument.entry_part dataset)
+entry_part : (dataset attribute : List ℕ) → Blind (argument.entry_part dataset attribute)
 unfolding argument.entry_part
-entry_part dataset = choose _ _ _ (starting mark.is_close closes_kind) (value _) (bind _ _ (named _) (λ x. value _))
+entry_part dataset attribute = choose _ _ _ (starting mark.is_close closes_kind) (value _) (bind _ _ (named _) (λ x. value _))
 
 attribute_part : (dataset : List ℕ) → Blind (argument.attribute_part dataset)
 unfolding argument.attribute_part
-attribute_part dataset = choose _ _ _ (starting mark.is_close closes_kind) (value _) (bind _ _ (named _) (λ a. bind _ _ (entry_part dataset) (λ n. value _)))
+attribute_part dataset = choose _ _ _ (starting mark.is_close closes_kind) (value _) (bind _ _ (named _) (λ a. entry_part dataset a))
 
 object : Blind argument.object_at
 unfolding argument.object_at
-object = behind mark.is_open _ opens_kind (bind _ _ (named _) (λ d. bind _ _ (attribute_part d) (λ p. behind mark.is_close _ closes_kind (value _))))
+object = behind mark.is_open _ opens_kind (bind _ _ (named _) (λ d. bind _ _ (attribute_part d) (λ o. behind mark.is_close _ closes_kind (value _))))
 
 -- ---- STORE
 

@@ -23,6 +23,7 @@ use Rattle.acap_commands.specs.declared.command.Command.TheVariants as command
 use Rattle.acap_grammar.specs.declared.grammar_fault.GrammarFault.{GrammarFault}
 use Rattle.acap_grammar.specs.declared.grammar_fault.GrammarFault.TheVariants as fault
 use Rattle.acap_commands.specs.declared.metadata.Metadata.{Metadata}
+use Rattle.acap_commands.specs.declared.object_name.ObjectName.TheVariants as object_name
 use Rattle.acap_commands.specs.declared.relation.Relation.{Relation}
 use Rattle.acap_commands.specs.declared.relation.Relation.TheVariants as relation
 use Rattle.acap_commands.specs.declared.return_item.ReturnItem.{ReturnItem}
@@ -55,7 +56,7 @@ use Rattle.acap_grammar.specs.Keys as keys
 use Rattle.acap_grammar.specs.Marks as mark
 use Rattle.acap_grammar.specs.Outcome.{◌>>=◌, Fault, Read, refused, judged}
 use Rattle.acap_grammar.specs.Searching as searching
-use Rattle.acap_grammar.specs.Sendable.{Names, IsNumber, Each, OneTo, InCase, IsAttribute, IsDataset, Within, IsObject, IsNew, AreItems, IsEntry, IsStore, IsLimit, IsContextName, IsContext, IsReturn, AreReturns, AreSorts, AreModifiers, Fits, IsTest, IsKey, levels, IsSearch, IsSendable}
+use Rattle.acap_grammar.specs.Sendable.{Names, IsNumber, Each, OneTo, InCase, IsAttribute, IsDataset, IsObject, IsNew, AreItems, IsEntry, IsStore, IsLimit, IsContextName, IsContext, IsReturn, AreReturns, AreSorts, AreModifiers, Fits, IsTest, IsKey, levels, IsSearch, IsSendable}
 use Rattle.acap_grammar.specs.Several.{several, some_of, enclosed}
 use Rattle.acap_grammar.specs.Spelling.{target_text}
 use Rattle.acap_grammar.specs.Storing as storing
@@ -143,30 +144,23 @@ number = record { gives = gives } where
 
 -- ---- objects
 
-abbrev IsPlace : List ℕ → Option (List ℕ) → Type 0
-IsPlace dataset None = Unit {0}
-IsPlace dataset (Some n) = Names (argument.entry_named dataset) n n
-
-entry_part : (dataset : List ℕ) → Yields (argument.entry_part dataset) (IsPlace dataset)
+entry_part : (dataset attribute : List ℕ) → IsDataset dataset → IsAttribute attribute → Yields (argument.entry_part dataset attribute) IsObject
 unfolding argument.entry_part
-entry_part dataset = choose _ _ _ _ (value _ None tt) (bind _ (IsPlace dataset) _ _ (named _) (λ n h. value (IsPlace dataset) (Some n) (entry_is dataset n h)))
+entry_part dataset attribute d a =
+    choose IsObject _ _ _ (value IsObject (object_name.Attribute dataset attribute) (d, a))
+    (bind _ IsObject _ _ (named _) (λ n h. value IsObject (object_name.Entry dataset attribute n) (d, a, entry_is dataset n h)))
 
-placed : (dataset a : List ℕ) (n : Option (List ℕ)) → IsAttribute a → IsPlace dataset n → Within dataset (Some a) n
-placed dataset a None h p = h
-placed dataset a (Some n) h p = (h, p)
-
-attribute_part : (dataset : List ℕ) → Yields (argument.attribute_part dataset) (λ place. Within dataset place.0 place.1)
+attribute_part : (dataset : List ℕ) → IsDataset dataset → Yields (argument.attribute_part dataset) IsObject
 unfolding argument.attribute_part
-attribute_part dataset =
-    let P = λ (place : Option (List ℕ) × Option (List ℕ)). Within dataset place.0 place.1 in
-    choose P _ _ _ (value P (None, None) refl)
-    (bind _ P _ _ (named _) (λ a h. bind _ P _ _ (entry_part dataset) (λ n p. value P (Some a, n) (placed dataset a n (attribute_is a h) p))))
+attribute_part dataset d =
+    choose IsObject _ _ _ (value IsObject (object_name.Dataset dataset) d)
+    (bind _ IsObject _ _ (named _) (λ a h. entry_part dataset a d (attribute_is a h)))
 
 object : Yields argument.object_at IsObject
 unfolding argument.object_at
 object =
     behind _ mark.is_open _
-    (bind _ IsObject _ _ (named _) (λ d h. bind _ IsObject _ _ (attribute_part d) (λ p w. behind _ mark.is_close _ (value IsObject (record { dataset = d; attribute = p.0; name = p.1 }) (dataset_is d h, w)))))
+    (bind _ IsObject _ _ (named _) (λ d h. bind IsObject IsObject _ _ (attribute_part d (dataset_is d h)) (λ o w. behind _ mark.is_close _ (value IsObject o w))))
 
 -- ---- STORE
 

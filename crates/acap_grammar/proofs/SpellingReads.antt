@@ -1,28 +1,24 @@
 -- What is spelled is read back.
-use Rattle.std.proofs.Common.{◌≡◌, ℕ, true, List, [], Option, Some, None, Ok, refl}
+use Rattle.std.proofs.Common.{◌≡◌, ℕ, true, List, [], Some, None, Ok, refl}
 use Rattle.acap_lexer.specs.Token.{Token}
 use Rattle.acap_entries.proofs.TimeLaws.{time_law}
 use Rattle.acap_commands.specs.declared.command.Command.TheVariants as command
-use Rattle.acap_commands.specs.declared.object.Object.{Object}
+use Rattle.acap_commands.specs.declared.object_name.ObjectName.{ObjectName}
+use Rattle.acap_commands.specs.declared.object_name.ObjectName.TheVariants as object_name
 use Rattle.acap_grammar.specs.Marks.{is_string, ends, starts, behind, string_at, word_at}
 use Rattle.acap_grammar.specs.Arguments.{context_named, named_at, entry_part, attribute_part, object_at}
 use Rattle.acap_grammar.specs.Grammar.{set_acl_at, delete_acl_at, list_rights_at, deleted_since_at, context_at, contexts_at, arguments_at, command_of}
-use Rattle.acap_grammar.specs.Sendable.{Names, IsDataset, Within, IsObject, IsSendable, SpellsCommands}
+use Rattle.acap_grammar.specs.Sendable.{Names, IsObject, IsSendable, SpellsCommands}
 use Rattle.acap_grammar.specs.Spelling.{object, string, tokens_of}
 use Rattle.acap_grammar.proofs.StoreReads.{entries_read}
 use Rattle.acap_grammar.proofs.SearchReads.{search_reads}
 use Rattle.acap_grammar.proofs.ListReads.{ReadsEach, some_read}
 
-parts : (dataset : List ℕ) (attribute name : Option (List ℕ)) (rest : List Token) → IsDataset dataset → Within dataset attribute name
-    → object_at (object (record { dataset = dataset; attribute = attribute; name = name }) rest) ≡ Ok (record { dataset = dataset; attribute = attribute; name = name }, rest)
+object_reads : (o : ObjectName) (rest : List Token) → IsObject o → object_at (object o rest) ≡ Ok (o, rest)
 unfolding object_at named_at string_at behind starts attribute_part entry_part
-parts d None None rest p q = rw p refl
-parts d None (Some n) rest p q = absurd cc
-parts d (Some a) None rest p q = rw (p, q) refl
-parts d (Some a) (Some n) rest p q = rw (p, q.0, q.1) refl
-
-object_reads : (o : Object) (rest : List Token) → IsObject o → object_at (object o rest) ≡ Ok (o, rest)
-object_reads o rest p = parts o.dataset o.attribute o.name rest p.0 p.1
+object_reads (object_name.Dataset dataset) rest h = rw h refl
+object_reads (object_name.Attribute dataset attribute) rest h = rw (h.0, h.1) refl
+object_reads (object_name.Entry dataset attribute name) rest h = rw (h.0, h.1, h.2) refl
 
 contexts_read : ReadsEach {X = List ℕ} ends (λ ts. true) context_at string (λ before name. Names context_named name name)
 unfolding ends context_at named_at string_at

@@ -30,7 +30,8 @@ use Rattle.acap_commands.specs.declared.given.Given.TheVariants as given
 use Rattle.acap_commands.specs.declared.limit.Limit.{Limit}
 use Rattle.acap_commands.specs.declared.make_context.MakeContext.{MakeContext}
 use Rattle.acap_commands.specs.declared.metadata.Metadata.{Metadata}
-use Rattle.acap_commands.specs.declared.object.Object.{Object}
+use Rattle.acap_commands.specs.declared.object_name.ObjectName.{ObjectName}
+use Rattle.acap_commands.specs.declared.object_name.ObjectName.TheVariants as object_name
 use Rattle.acap_commands.specs.declared.relation.Relation.TheVariants as relation
 use Rattle.acap_commands.specs.declared.return_item.ReturnItem.{ReturnItem}
 use Rattle.acap_commands.specs.declared.search_modifiers.SearchModifiers.{SearchModifiers}
@@ -121,8 +122,10 @@ in_order false x y p q = q
 string_stands : (text : List ℕ) (rest : List Token) → AllStand rest → AllStand (spelling.string text rest)
 string_stands text rest r = (tt, r)
 
-object_stands : (o : Object) (rest : List Token) → AllStand rest → AllStand (spelling.object o rest)
-object_stands o rest r = (refl, (tt, maybe spelling.string string_stands o.attribute _ (maybe spelling.string string_stands o.name _ (refl, r))))
+object_stands : (o : ObjectName) (rest : List Token) → AllStand rest → AllStand (spelling.object o rest)
+object_stands (object_name.Dataset dataset) rest r = (refl, (tt, (refl, r)))
+object_stands (object_name.Attribute dataset attribute) rest r = (refl, (tt, (tt, (refl, r))))
+object_stands (object_name.Entry dataset attribute name) rest r = (refl, (tt, (tt, (tt, (refl, r)))))
 
 -- ---- STORE
 

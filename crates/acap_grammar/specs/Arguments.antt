@@ -12,7 +12,8 @@ use Rattle.acap_entries.specs.Times.{time_of}
 use Rattle.acap_entries.specs.declared.path.Path.{Path}
 use Rattle.acap_grammar.specs.declared.grammar_fault.GrammarFault.{GrammarFault}
 use Rattle.acap_grammar.specs.declared.grammar_fault.GrammarFault.TheVariants as fault
-use Rattle.acap_commands.specs.declared.object.Object.{Object}
+use Rattle.acap_commands.specs.declared.object_name.ObjectName.{ObjectName}
+use Rattle.acap_commands.specs.declared.object_name.ObjectName.TheVariants as object_name
 use Rattle.acap_commands.specs.declared.relation.Relation.{Relation}
 use Rattle.acap_commands.specs.declared.relation.Relation.TheVariants as relation
 use Rattle.acap_commands.specs.declared.target.Target.{Target}
@@ -90,23 +91,20 @@ comparator_for relation text = do
   if is_of_texts relation && is_numeric comparator.collation then Err fault.BadComparator else Ok comparator
 
 -- an object: `(` dataset [attribute [entry name]] `)`
-unfoldable pub entry_part : List ℕ → List Token → Read (Option (List ℕ))
-entry_part dataset tokens =
-    if starts is_close tokens then Ok (None, tokens)
-    else (named_at (entry_named dataset) tokens >>= λ name. Ok (Some name.0, name.1))
+unfoldable pub entry_part : List ℕ → List ℕ → List Token → Read ObjectName
+entry_part dataset attribute tokens =
+    if starts is_close tokens then Ok (object_name.Attribute dataset attribute, tokens)
+    else (named_at (entry_named dataset) tokens >>= λ name. Ok (object_name.Entry dataset attribute name.0, name.1))
 
-unfoldable pub attribute_part : List ℕ → List Token → Read (Option (List ℕ) × Option (List ℕ))
+unfoldable pub attribute_part : List ℕ → List Token → Read ObjectName
 attribute_part dataset tokens =
-    if starts is_close tokens then Ok ((None, None), tokens)
-    else (do
-      attribute ← named_at attribute_named tokens
-      name ← entry_part dataset attribute.1
-      Ok ((Some attribute.0, name.0), name.1))
+    if starts is_close tokens then Ok (object_name.Dataset dataset, tokens)
+    else (named_at attribute_named tokens >>= λ attribute. entry_part dataset attribute.0 attribute.1)
 
-unfoldable pub object_at : List Token → Read Object
+unfoldable pub object_at : List Token → Read ObjectName
 object_at tokens = do
   inside ← behind is_open tokens
   dataset ← named_at dataset_named inside
-  place ← attribute_part dataset.0 dataset.1
-  left ← behind is_close place.1
-  Ok (record { dataset = dataset.0; attribute = place.0.0; name = place.0.1 }, left)
+  object ← attribute_part dataset.0 dataset.1
+  left ← behind is_close object.1
+  Ok (object.0, left)

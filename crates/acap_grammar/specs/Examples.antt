@@ -18,7 +18,8 @@ use Rattle.acap_commands.specs.declared.command.Command.TheVariants as command
 use Rattle.acap_commands.specs.declared.given.Given.TheVariants as given
 use Rattle.acap_grammar.specs.declared.grammar_fault.GrammarFault.TheVariants as fault
 use Rattle.acap_commands.specs.declared.metadata.Metadata.TheVariants as metadata
-use Rattle.acap_commands.specs.declared.object.Object.{Object}
+use Rattle.acap_commands.specs.declared.object_name.ObjectName.{ObjectName}
+use Rattle.acap_commands.specs.declared.object_name.ObjectName.TheVariants as object_name
 use Rattle.acap_commands.specs.declared.refusal.Refusal.{Refusal}
 use Rattle.acap_commands.specs.declared.refusal.Refusal.TheVariants as refusal
 use Rattle.acap_commands.specs.declared.relation.Relation.TheVariants as relation
@@ -57,8 +58,8 @@ line verb behind = record { kind = kind.Tag; value = codes "A1"; start = 0; end 
 abbrev pub a_object : List Token → List Token
 a_object behind = opened (string (codes "/a/") (shut behind))
 
-abbrev pub a_named : Object
-a_named = record { dataset = codes "/a/"; attribute = None; name = None }
+abbrev pub a_named : ObjectName
+a_named = object_name.Dataset (codes "/a/")
 
 -- `STORE ("/a/b" ..`
 abbrev pub store : List Token → List Token
@@ -236,8 +237,8 @@ pub record TextExamples : Type 0 where
       ∷ codes "A1 BAD \"Bad comparator\"" ∷ codes "A1 BAD \"Too deep\"" ∷ codes "A1 BAD \"Too many\"" ∷ [])
   pub of_octets : refusals_of (refusal.BadToken ∷ refusal.BadLiteral ∷ refusal.LineTooLong ∷ refusal.TooManySessions ∷ [])
       ≡ lines (codes "A1 BAD \"Bad token\"" ∷ codes "A1 BAD \"Bad literal\"" ∷ codes "* BYE \"Line too long\"" ∷ codes "* BYE \"Too many sessions\"" ∷ [])
-  pub of_users : refusals_of (refusal.NotLoggedIn ∷ refusal.LoggedIn ∷ refusal.Cancelled ∷ refusal.NoMechanism ∷ refusal.LoginFailed ∷ refusal.Unserved ∷ [])
-      ≡ lines (codes "A1 BAD \"Log in first\"" ∷ codes "A1 BAD \"Already logged in\"" ∷ codes "A1 BAD \"Login cancelled\"" ∷ codes "A1 NO \"Mechanism not offered\"" ∷ codes "A1 NO \"Login failed\"" ∷ codes "A1 BAD \"Not served yet\"" ∷ [])
+  pub of_users : refusals_of (refusal.NotLoggedIn ∷ refusal.LoggedIn ∷ refusal.Cancelled ∷ refusal.NoMechanism ∷ refusal.LoginFailed ∷ [])
+      ≡ lines (codes "A1 BAD \"Log in first\"" ∷ codes "A1 BAD \"Already logged in\"" ∷ codes "A1 BAD \"Login cancelled\"" ∷ codes "A1 NO \"Mechanism not offered\"" ∷ codes "A1 NO \"Login failed\"" ∷ [])
   pub of_stores : refusals_of (refusal.Limit ∷ refusal.ClockEnd ∷ refusal.RangeHere ∷ refusal.NoContext ∷ refusal.FreedContext ∷ refusal.NotNotify ∷ [])
       ≡ lines (codes "A1 NO \"Limit reached\"" ∷ codes "A1 NO \"Clock at its end\"" ∷ codes "A1 BAD \"RANGE needs an enumerated context\"" ∷ codes "A1 NO \"No such context\"" ∷ codes "A1 NO \"Context was freed\"" ∷ codes "A1 NO \"Context has no NOTIFY\"" ∷ [])
   pub done : flat_map (λ v. octets_of (under (codes "A1") (said.Done v))) (verb.Noop ∷ verb.Logout ∷ verb.Authenticate ∷ verb.Store ∷ verb.SetAcl ∷ verb.DeleteAcl ∷ verb.FreeContext ∷ verb.UpdateContext ∷ [])

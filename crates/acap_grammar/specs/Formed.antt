@@ -1,6 +1,6 @@
 -- Which names are well formed, paths and datasets from their components on, and that those of a command are [RFC 2244
 -- sections 3.1, 3.1.1, 3.3 and 4.1].
-use Rattle.std.specs.Prelude.{◌≡◌, ℕ, ◌<◌, ◌≤◌, ◌⊎◌, ◌↔◌, List, [], ◌∷◌, ◌++◌, length, slice_get, Some, IfSome, Ok}
+use Rattle.std.specs.Prelude.{◌≡◌, ℕ, ◌<◌, ◌≤◌, ◌⊎◌, ◌↔◌, List, [], ◌∷◌, ◌++◌, length, slice_get, Some, Ok}
 use Rattle.std.specs.List.{AllByRecursion}
 use Rattle.std.specs.Str.{IsUtf8}
 use Rattle.acap_lexer.specs.Token.{Token}
@@ -8,7 +8,8 @@ use Rattle.acap_entries.specs.Names.{slash, dot, star, percent, nul}
 use Rattle.acap_entries.specs.declared.path.Path.{Path}
 use Rattle.acap_commands.specs.declared.command.Command.{Command}
 use Rattle.acap_commands.specs.declared.command.Command.TheVariants as command
-use Rattle.acap_commands.specs.declared.object.Object.{Object}
+use Rattle.acap_commands.specs.declared.object_name.ObjectName.{ObjectName}
+use Rattle.acap_commands.specs.declared.object_name.ObjectName.TheVariants as object_name
 use Rattle.acap_commands.specs.declared.return_name.ReturnName.{ReturnName}
 use Rattle.acap_commands.specs.declared.return_name.ReturnName.TheVariants as name
 use Rattle.acap_commands.specs.declared.target.Target.{Target}
@@ -95,8 +96,10 @@ pub record NamesLaw : Type 0 where
 -- ---- commands
 
 -- an object's dataset, and the path of its entry
-abbrev pub IsFormedObject : Object → Type 0
-IsFormedObject o = IsFormedDataset o.dataset × IfSome o.name (λ n. IsFormed (record { dataset = o.dataset; name = n }))
+abbrev pub IsFormedObject : ObjectName → Type 0
+IsFormedObject (object_name.Dataset dataset) = IsFormedDataset dataset
+IsFormedObject (object_name.Attribute dataset attribute) = IsFormedDataset dataset
+IsFormedObject (object_name.Entry dataset attribute name) = IsFormedDataset dataset × IsFormed (record { dataset = dataset; name = name })
 
 abbrev pub IsFormedTarget : Target → Type 0
 IsFormedTarget (target.Dataset dataset) = IsFormedDataset dataset

@@ -13,6 +13,7 @@ use Rattle.acap_commands.specs.declared.given.Given.TheVariants as given
 use Rattle.acap_grammar.specs.declared.grammar_fault.GrammarFault.{GrammarFault}
 use Rattle.acap_grammar.specs.declared.grammar_fault.GrammarFault.TheVariants as fault
 use Rattle.acap_commands.specs.declared.metadata.Metadata.TheVariants as metadata
+use Rattle.acap_commands.specs.declared.object_name.ObjectName.TheVariants as object_name
 use Rattle.acap_commands.specs.declared.reply.Reply.{Reply}
 use Rattle.acap_commands.specs.declared.refusal.Refusal.{Refusal}
 use Rattle.acap_commands.specs.declared.refusal.Refusal.TheVariants as refusal
@@ -99,7 +100,7 @@ delete_tokens =
     ∷ at kind.Quoted (codes "b") 19 22 ∷ at kind.Quoted [] 23 25 ∷ at kind.Close [] 25 26 ∷ at kind.Quoted (codes "joe") 27 32 ∷ []
 
 abbrev pub delete_command : Command
-delete_command = command.DeleteAcl (record { dataset = codes "/a/"; attribute = Some (codes "b"); name = Some [] }) (Some (codes "joe"))
+delete_command = command.DeleteAcl (object_name.Entry (codes "/a/") (codes "b") []) (Some (codes "joe"))
 
 pub record CommandExamples : Type 0 where
   pub store : command_of store_tokens ≡ Ok store_command
@@ -160,11 +161,11 @@ pub record ReplyExamples : Type 0 where
       ≡ codes "A4 NO (NOEXIST \"/option/user/joe/\") \"No such dataset\"" ++ crlf
   pub invalid : octets_of (refused (codes "A1") (refusal.Invalid (record { dataset = codes "/option/user/joe/"; name = codes "n" }) (codes "modtime")))
       ≡ codes "A1 NO (INVALID (\"/option/user/joe/n\" \"modtime\")) \"Invalid value\"" ++ crlf
-  pub permission : octets_of (refused (codes "A5") (refusal.Permission (record { dataset = codes "/option/site/"; attribute = Some (codes "entry"); name = Some (codes "b") })))
+  pub permission : octets_of (refused (codes "A5") (refusal.Permission (object_name.Entry (codes "/option/site/") (codes "entry") (codes "b"))))
       ≡ codes "A5 NO (PERMISSION (\"/option/site/\" \"entry\" \"b\")) \"Permission denied\"" ++ crlf
-  pub permission_dataset : octets_of (refused (codes "A5") (refusal.Permission (record { dataset = codes "/option/site/"; attribute = None; name = None })))
+  pub permission_dataset : octets_of (refused (codes "A5") (refusal.Permission (object_name.Dataset (codes "/option/site/"))))
       ≡ codes "A5 NO (PERMISSION (\"/option/site/\")) \"Permission denied\"" ++ crlf
-  pub permission_attribute : octets_of (refused (codes "A5") (refusal.Permission (record { dataset = codes "/option/site/"; attribute = Some (codes "entry"); name = None })))
+  pub permission_attribute : octets_of (refused (codes "A5") (refusal.Permission (object_name.Attribute (codes "/option/site/") (codes "entry"))))
       ≡ codes "A5 NO (PERMISSION (\"/option/site/\" \"entry\")) \"Permission denied\"" ++ crlf
   pub modified : octets_of (refused (codes "A6") (refusal.Modified (record { dataset = codes "/option/user/joe/"; name = codes "n" })))
       ≡ codes "A6 NO (MODIFIED \"/option/user/joe/n\") \"Entry was changed\"" ++ crlf

@@ -21,3 +21,4 @@ pub mod Alike
 pub mod Texts
 pub mod Formed
 pub mod Unnamed
+pub mod Lent

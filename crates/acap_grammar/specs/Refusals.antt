@@ -1,12 +1,13 @@
 -- How a refusal is told: NO, BAD or BYE, a code in some, and a text [RFC 2244 sections 3.6 and 6.2].
-use Rattle.std.specs.Prelude.{ℕ, List, [], ◌++◌, codes, Option, Some, None}
+use Rattle.std.specs.Prelude.{ℕ, List, [], ◌++◌, codes}
 use Rattle.acap_lexer.specs.declared.fault.LexFault.{LexFault}
 use Rattle.acap_lexer.specs.declared.fault.LexFault.TheVariants as lexical
 use Rattle.acap_lexer.specs.Printing.{printed}
 use Rattle.acap_entries.specs.declared.path.Path.{Path}
 use Rattle.acap_grammar.specs.declared.grammar_fault.GrammarFault.{GrammarFault}
 use Rattle.acap_grammar.specs.declared.grammar_fault.GrammarFault.TheVariants as fault
-use Rattle.acap_commands.specs.declared.object.Object.{Object}
+use Rattle.acap_commands.specs.declared.object_name.ObjectName.{ObjectName}
+use Rattle.acap_commands.specs.declared.object_name.ObjectName.TheVariants as object_name
 use Rattle.acap_commands.specs.declared.refusal.Refusal.{Refusal}
 use Rattle.acap_commands.specs.declared.refusal.Refusal.TheVariants as refusal
 
@@ -64,23 +65,19 @@ text_of refusal.NotNotify = codes "Context has no NOTIFY"
 text_of refusal.Memory = codes "No memory"
 text_of refusal.HistoryFull = codes "History is full"
 text_of refusal.TooManySessions = codes "Too many sessions"
-text_of refusal.Unserved = codes "Not served yet"
 
 -- a path is printed as one string: its dataset and then its name
 unfoldable pub path_form : Path → List ℕ
 path_form path = printed (path.dataset ++ path.name)
 
--- an entry's name counts only behind an attribute
-abbrev pub object_end : Option (List ℕ) → Option (List ℕ) → List ℕ
-object_end None name = []
-object_end (Some attribute) None = codes " " ++ printed attribute
-object_end (Some attribute) (Some name) = codes " " ++ printed attribute ++ codes " " ++ printed name
-
 -- an object: `(` dataset [attribute [entry name]] `)`
-unfoldable pub object_form : Object → List ℕ
-object_form object = codes "(" ++ printed object.dataset ++ object_end object.attribute object.name ++ codes ")"
+unfoldable pub object_form : ObjectName → List ℕ
+object_form (object_name.Dataset dataset) = codes "(" ++ printed dataset ++ codes ")"
+object_form (object_name.Attribute dataset attribute) = codes "(" ++ printed dataset ++ codes " " ++ printed attribute ++ codes ")"
+object_form (object_name.Entry dataset attribute name) =
+    codes "(" ++ printed dataset ++ codes " " ++ printed attribute ++ codes " " ++ printed name ++ codes ")"
 
-abbrev pub permission_code : Object → List ℕ
+abbrev pub permission_code : ObjectName → List ℕ
 permission_code object = codes "(PERMISSION " ++ object_form object ++ codes ") "
 
 -- the code in its parenthesis and the space behind it, where there is one

@@ -1,6 +1,6 @@
 -- The commands that can be sent: names that are names, and no more of anything than the limits allow [RFC 2244
 -- sections 3, 6 and 8].
-use Rattle.std.specs.Prelude.{◌≡◌, ℕ, zero, suc, ◌+◌, ◌≤◌, ◌<◌, List, [], ◌∷◌, ◌++◌, length, Bool, true, false, ◌&&◌, Option, Some, None, IfSome, Result, Ok, max}
+use Rattle.std.specs.Prelude.{◌≡◌, ℕ, zero, suc, ◌+◌, ◌≤◌, ◌<◌, List, [], ◌∷◌, ◌++◌, length, Bool, true, false, ◌&&◌, None, IfSome, Result, Ok, max}
 use Rattle.std.specs.Str.{bytes_eq}
 use Rattle.acap_lexer.specs.Token.{Token}
 use Rattle.acap_order.specs.Ranks.{is_numeric}
@@ -10,7 +10,8 @@ use Rattle.acap_commands.specs.declared.command.Command.TheVariants as command
 use Rattle.acap_grammar.specs.declared.grammar_fault.GrammarFault.{GrammarFault}
 use Rattle.acap_commands.specs.declared.limit.Limit.{Limit}
 use Rattle.acap_commands.specs.declared.make_context.MakeContext.{MakeContext}
-use Rattle.acap_commands.specs.declared.object.Object.{Object}
+use Rattle.acap_commands.specs.declared.object_name.ObjectName.{ObjectName}
+use Rattle.acap_commands.specs.declared.object_name.ObjectName.TheVariants as object_name
 use Rattle.acap_commands.specs.declared.return_item.ReturnItem.{ReturnItem}
 use Rattle.acap_commands.specs.declared.search.Search.{Search}
 use Rattle.acap_commands.specs.declared.search_modifiers.SearchModifiers.{SearchModifiers}
@@ -60,14 +61,10 @@ IsDataset name = Names dataset_named (dataset_text name) name
 
 -- ---- objects
 
--- an attribute, and an entry's name, which stands only behind an attribute
-abbrev pub Within : List ℕ → Option (List ℕ) → Option (List ℕ) → Type 0
-Within dataset None name = name ≡ None
-Within dataset (Some attribute) None = IsAttribute attribute
-Within dataset (Some attribute) (Some name) = IsAttribute attribute × Names (entry_named dataset) name name
-
-abbrev pub IsObject : Object → Type 0
-IsObject o = IsDataset o.dataset × Within o.dataset o.attribute o.name
+abbrev pub IsObject : ObjectName → Type 0
+IsObject (object_name.Dataset dataset) = IsDataset dataset
+IsObject (object_name.Attribute dataset attribute) = IsDataset dataset × IsAttribute attribute
+IsObject (object_name.Entry dataset attribute name) = IsDataset dataset × IsAttribute attribute × Names (entry_named dataset) name name
 
 -- ---- STORE
 

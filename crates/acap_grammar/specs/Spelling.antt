@@ -21,7 +21,8 @@ use Rattle.acap_commands.specs.declared.limit.Limit.{Limit}
 use Rattle.acap_commands.specs.declared.make_context.MakeContext.{MakeContext}
 use Rattle.acap_commands.specs.declared.metadata.Metadata.{Metadata}
 use Rattle.acap_commands.specs.declared.metadata.Metadata.TheVariants as metadata
-use Rattle.acap_commands.specs.declared.object.Object.{Object}
+use Rattle.acap_commands.specs.declared.object_name.ObjectName.{ObjectName}
+use Rattle.acap_commands.specs.declared.object_name.ObjectName.TheVariants as object_name
 use Rattle.acap_commands.specs.declared.relation.Relation.{Relation}
 use Rattle.acap_commands.specs.declared.relation.Relation.TheVariants as relation
 use Rattle.acap_commands.specs.declared.return_item.ReturnItem.{ReturnItem}
@@ -103,8 +104,10 @@ abbrev pub dataset : List ℕ → List Token → List Token
 dataset name behind = string (dataset_text name) behind
 
 -- object: `(` dataset [attribute [entry name]] `)`
-abbrev pub object : Object → List Token → List Token
-object o behind = opened (dataset o.dataset (if_there string o.attribute (if_there string o.name (shut behind))))
+abbrev pub object : ObjectName → List Token → List Token
+object (object_name.Dataset of) behind = opened (dataset of (shut behind))
+object (object_name.Attribute of attribute) behind = opened (dataset of (string attribute (shut behind)))
+object (object_name.Entry of attribute name) behind = opened (dataset of (string attribute (string name (shut behind))))
 
 -- ---- STORE
 

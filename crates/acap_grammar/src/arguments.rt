@@ -12,7 +12,7 @@ ghost use Rattle.acap_grammar.specs.Unnamed.{unnamed};
 use crate::cursor::{Cursor, Piece};
 use crate::grammar_error::GrammarError;
 use crate::grammar_fault::GrammarFault;
-use acap_commands::{Object, Relation, Target};
+use acap_commands::{ObjectName, Relation, Target};
 use acap_entries::{
     Attribute, ContextName, Dataset, EntryName, Memory, Moment, NameFault, Path, begins_with,
     is_path, read_time,
@@ -230,45 +230,46 @@ fn entry_name_at(dataset: &Dataset, cursor: &mut Cursor<'_>) -> Result<EntryName
     entry_named(cursor.alloc(), dataset, text)
 }
 
-// The entry's name in an object, where it is there.
+// An object behind its attribute: the name of an entry, where it is there.
 #[tactic(auto, unfolding(crate::specs::Arguments::entry_part))]
-fn entry_part(dataset: &Dataset, cursor: &mut Cursor<'_>) -> Result<Option<EntryName>, GrammarError>
-    ensures { Reads result cursor.new (argument.entry_part dataset.now cursor.old) }
-{
-    if cursor.closes() {
-        return Ok(None);
-    }
-    Ok(Some(entry_name_at(dataset, cursor)?))
-}
-
-// The attribute in an object, and the entry's name behind it, where they are there.
-#[tactic(auto, unfolding(crate::specs::Arguments::attribute_part))]
-fn attribute_part(
-    dataset: &Dataset,
+fn entry_part(
+    dataset: Dataset,
+    attribute: Attribute,
     cursor: &mut Cursor<'_>,
-) -> Result<(Option<Attribute>, Option<EntryName>), GrammarError>
-    ensures { Reads result cursor.new (argument.attribute_part dataset.now cursor.old) }
+) -> Result<ObjectName, GrammarError>
+    ensures { Reads result cursor.new (argument.entry_part dataset attribute cursor.old) }
 {
     if cursor.closes() {
-        return Ok((None, None));
+        return Ok(ObjectName::Attribute { dataset, attribute });
     }
-    let attribute = named_at(cursor)?;
-    let name = entry_part(dataset, cursor)?;
-    Ok((Some(attribute), name))
-}
-
-/// An object.
-#[tactic(auto, unfolding(crate::specs::Arguments::object_at))]
-pub(crate) fn object_at(cursor: &mut Cursor<'_>) -> Result<Object, GrammarError>
-    ensures { Reads result cursor.new (argument.object_at cursor.old) }
-{
-    cursor.pass_open()?;
-    let dataset = named_at(cursor)?;
-    let (attribute, name) = attribute_part(&dataset, cursor)?;
-    cursor.pass_close()?;
-    Ok(Object {
+    let name = entry_name_at(&dataset, cursor)?;
+    Ok(ObjectName::Entry {
         dataset,
         attribute,
         name,
     })
+}
+
+// An object behind its dataset: an attribute, and the name of an entry behind it, where they are there.
+#[tactic(auto, unfolding(crate::specs::Arguments::attribute_part))]
+fn attribute_part(dataset: Dataset, cursor: &mut Cursor<'_>) -> Result<ObjectName, GrammarError>
+    ensures { Reads result cursor.new (argument.attribute_part dataset cursor.old) }
+{
+    if cursor.closes() {
+        return Ok(ObjectName::Dataset { dataset });
+    }
+    let attribute = named_at(cursor)?;
+    entry_part(dataset, attribute, cursor)
+}
+
+/// An object: `(` dataset [attribute [entry name]] `)` (RFC 2244 section 3.5).
+#[tactic(auto, unfolding(crate::specs::Arguments::object_at))]
+pub(crate) fn object_at(cursor: &mut Cursor<'_>) -> Result<ObjectName, GrammarError>
+    ensures { Reads result cursor.new (argument.object_at cursor.old) }
+{
+    cursor.pass_open()?;
+    let dataset = named_at(cursor)?;
+    let object = attribute_part(dataset, cursor)?;
+    cursor.pass_close()?;
+    Ok(object)
 }

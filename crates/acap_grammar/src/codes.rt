@@ -3,11 +3,11 @@
 ghost use Rattle.std.specs.Prelude.{◌∷◌};
 ghost use Rattle.acap_lexer.specs.Printing.{printed};
 ghost use Rattle.acap_grammar.specs.Appending.{Appends};
-ghost use Rattle.acap_grammar.specs.Refusals.{object_end, object_form, permission_code, code_of};
+ghost use Rattle.acap_grammar.specs.Refusals.{object_form, permission_code, code_of};
 
 use crate::strings::{append_path, append_string};
-use acap_commands::{Object, Refusal};
-use acap_entries::{Attribute, Dataset, EntryName, Memory, Path};
+use acap_commands::{ObjectName, Refusal};
+use acap_entries::{Attribute, Dataset, Memory, Path};
 
 fn append_argument(text: &[u8], out: &mut Vec<u8>) -> Result<(), Memory>
     ensures { Appends result out.old.items out.new.items (32 ∷ printed text.now) }
@@ -17,35 +17,32 @@ fn append_argument(text: &[u8], out: &mut Vec<u8>) -> Result<(), Memory>
     Ok(())
 }
 
-fn append_object_end(
-    attribute: &Option<Attribute>,
-    name: &Option<EntryName>,
-    out: &mut Vec<u8>,
-) -> Result<(), Memory>
-    ensures { Appends result out.old.items out.new.items (object_end attribute.now name.now) }
-{
-    let Some(attribute) = attribute else {
-        return Ok(());
-    };
-    append_argument(attribute.as_slice(), out)?;
-    let Some(name) = name else {
-        return Ok(());
-    };
-    append_argument(name.as_slice(), out)
-}
-
 #[tactic(auto, unfolding(crate::specs::Refusals::object_form))]
-fn append_object(object: &Object, out: &mut Vec<u8>) -> Result<(), Memory>
+fn append_object(object: &ObjectName, out: &mut Vec<u8>) -> Result<(), Memory>
     ensures { Appends result out.old.items out.new.items (object_form object.now) }
 {
     out.push(b'(')?;
-    append_string(object.dataset.as_slice(), out)?;
-    append_object_end(&object.attribute, &object.name, out)?;
+    match object {
+        ObjectName::Dataset { dataset } => append_string(dataset.as_slice(), out)?,
+        ObjectName::Attribute { dataset, attribute } => {
+            append_string(dataset.as_slice(), out)?;
+            append_argument(attribute.as_slice(), out)?;
+        }
+        ObjectName::Entry {
+            dataset,
+            attribute,
+            name,
+        } => {
+            append_string(dataset.as_slice(), out)?;
+            append_argument(attribute.as_slice(), out)?;
+            append_argument(name.as_slice(), out)?;
+        }
+    }
     out.push(b')')?;
     Ok(())
 }
 
-fn append_permission(object: &Object, out: &mut Vec<u8>) -> Result<(), Memory>
+fn append_permission(object: &ObjectName, out: &mut Vec<u8>) -> Result<(), Memory>
     ensures { Appends result out.old.items out.new.items (permission_code object.now) }
 {
     out.extend_from_slice(b"(PERMISSION ")?;

@@ -22,13 +22,13 @@ mod words;
 
 pub use acap_commands::{
     Command, ContextNames, Entries, Given, Key, Limit, MakeContext, Metadata, MetadataList, Node,
-    Object, Refusal, Relation, Reply, ReturnItem, ReturnName, Returns, Rows, Said, Search,
+    ObjectName, Refusal, Relation, Reply, ReturnItem, ReturnName, Returns, Rows, Said, Search,
     SearchModifiers, SearchReply, SortItem, SortItems, Status, StoreEntry, StoreItem, StoreItems,
     StoreMetadata, StoreModifiers, Target, Test, Tolds, Verb,
 };
 pub use acap_entries::{Copying, Memory};
 pub use grammar_error::GrammarError;
 pub use grammar_fault::GrammarFault;
-pub use parsing::parse;
+pub use parsing::{is_noop, parse};
 pub use refusing::lexical_refusal;
-pub use rendering::render;
+pub use rendering::{render, render_said};

@@ -1,6 +1,7 @@
 //! Commands from the tokens of a line.
 
-ghost use Rattle.std.specs.Prelude.{◌≡◌};
+ghost use Rattle.std.specs.Prelude.{◌≡◌, Ok, true};
+ghost use Rattle.acap_commands.specs.declared.command.Command.TheVariants as commands;
 ghost use Rattle.acap_grammar.specs.Outcome.{Gives, Reads};
 ghost use Rattle.acap_grammar.specs.Arguments.{object_at as object_in};
 ghost use Rattle.acap_grammar.specs.Grammar as grammar;
@@ -12,13 +13,13 @@ use crate::grammar_fault::GrammarFault;
 use crate::searching::search_at;
 use crate::several::{Gather, Series, some_of};
 use crate::storing::entries_at;
-use acap_commands::{Command, ContextNames, Object, Verb};
+use acap_commands::{Command, ContextNames, ObjectName, Verb};
 use acap_entries::{Boxed, ContextName, Dataset, Moment, Value};
 use acap_lexer::Tokens;
 use std::alloc::Global;
 
 // An object, in a box.
-fn boxed_object_at(cursor: &mut Cursor<'_>) -> Result<Boxed<Object>, GrammarError>
+fn boxed_object_at(cursor: &mut Cursor<'_>) -> Result<Boxed<ObjectName>, GrammarError>
     ensures { Reads result cursor.new (object_in cursor.old) }
 {
     let object = object_at(cursor)?;
@@ -118,6 +119,17 @@ fn arguments_at(verb: Verb, cursor: &mut Cursor<'_>) -> Result<Command, GrammarE
         Verb::FreeContext => Ok(Command::FreeContext(named_at(cursor)?)),
         Verb::UpdateContext => Ok(Command::UpdateContext(contexts_at(cursor)?)),
     }
+}
+
+/// Whether the tokens of a line are known at once to stand for a NOOP, which needs nothing read. Takes no memory.
+pub fn is_noop(alloc: Global, tokens: &Tokens) -> bool
+    ensures { result ≡ true → grammar.command_of tokens.now ≡ Ok commands.Noop }
+{
+    let mut cursor = Cursor::new(alloc, tokens, 1);
+    if cursor.pass_word(b"NOOP") {
+        return cursor.ends();
+    }
+    false
 }
 
 /// The command that the tokens of a line stand for, of which the first is its tag, or the first fault from the

@@ -76,6 +76,5 @@ pub(crate) fn text_of(refusal: &Refusal) -> &'static [u8]
         Refusal::Memory => b"No memory",
         Refusal::HistoryFull => b"History is full",
         Refusal::TooManySessions => b"Too many sessions",
-        Refusal::Unserved => b"Not served yet",
     }
 }

@@ -2,6 +2,8 @@
 
 ghost use Rattle.std.specs.Prelude.{◌≡◌, ◌++◌, OnOk, OnErr};
 ghost use Rattle.acap_grammar.specs.Appending.{Appends};
+ghost use Rattle.acap_commands.specs.declared.verb.Verb.TheVariants as verbs;
+ghost use Rattle.acap_grammar.specs.Lent.{completion_of, lent_tag, reply_of};
 ghost use Rattle.acap_grammar.specs.Replies.{row_form, rows_form, last_form, done_of, done_form, status_form, refused_form, greeting, total_form, searched_form, found_form, deleted_name_form, deleted_names_form, deleted_form, rights_form, rights_list_form, challenge_form, good_bye_form, said_form, updated_form, tag_of, octets_of};
 
 use crate::codes::append_code;
@@ -48,22 +50,23 @@ fn append_last(tag: &[u8], last: Option<Moment>, out: &mut Vec<u8>) -> Result<()
     Ok(())
 }
 
-fn done_of(verb: Verb) -> &'static [u8]
-    ensures { result.now ≡ done_of verb }
+// How a completion goes on behind its tag.
+fn completion_of(verb: Verb) -> &'static [u8]
+    ensures { result.now ≡ completion_of verb }
 {
     match verb {
-        Verb::Noop => b"NOOP done",
-        Verb::Logout => b"LOGOUT done",
-        Verb::Authenticate => b"AUTHENTICATE done",
-        Verb::Search => b"SEARCH done",
-        Verb::FreeContext => b"FREECONTEXT done",
-        Verb::UpdateContext => b"UPDATECONTEXT done",
-        Verb::Store => b"STORE done",
-        Verb::DeletedSince => b"DELETEDSINCE done",
-        Verb::SetAcl => b"SETACL done",
-        Verb::DeleteAcl => b"DELETEACL done",
-        Verb::MyRights => b"MYRIGHTS done",
-        Verb::ListRights => b"LISTRIGHTS done",
+        Verb::Noop => b" OK \"NOOP done\"\r\n",
+        Verb::Logout => b" OK \"LOGOUT done\"\r\n",
+        Verb::Authenticate => b" OK \"AUTHENTICATE done\"\r\n",
+        Verb::Search => b" OK \"SEARCH done\"\r\n",
+        Verb::FreeContext => b" OK \"FREECONTEXT done\"\r\n",
+        Verb::UpdateContext => b" OK \"UPDATECONTEXT done\"\r\n",
+        Verb::Store => b" OK \"STORE done\"\r\n",
+        Verb::DeletedSince => b" OK \"DELETEDSINCE done\"\r\n",
+        Verb::SetAcl => b" OK \"SETACL done\"\r\n",
+        Verb::DeleteAcl => b" OK \"DELETEACL done\"\r\n",
+        Verb::MyRights => b" OK \"MYRIGHTS done\"\r\n",
+        Verb::ListRights => b" OK \"LISTRIGHTS done\"\r\n",
     }
 }
 
@@ -72,9 +75,7 @@ fn append_done(tag: &[u8], verb: Verb, out: &mut Vec<u8>) -> Result<(), Memory>
     ensures { Appends result out.old.items out.new.items (done_form tag.now verb) }
 {
     out.extend_from_slice(tag)?;
-    out.extend_from_slice(b" OK ")?;
-    append_string(done_of(verb), out)?;
-    out.extend_from_slice(b"\r\n")?;
+    out.extend_from_slice(completion_of(verb))?;
     Ok(())
 }
 
@@ -126,6 +127,13 @@ fn append_total(total: u32, out: &mut Vec<u8>) -> Result<(), Memory>
     Ok(())
 }
 
+// The text of a SEARCH's completion.
+fn search_done() -> &'static [u8]
+    ensures { result.now ≡ done_of verbs.Search }
+{
+    b"SEARCH done"
+}
+
 #[tactic(auto, unfolding(crate::specs::Replies::searched_form))]
 fn append_searched(tag: &[u8], total: Option<u32>, out: &mut Vec<u8>) -> Result<(), Memory>
     ensures { Appends result out.old.items out.new.items (searched_form tag.now total) }
@@ -136,7 +144,7 @@ fn append_searched(tag: &[u8], total: Option<u32>, out: &mut Vec<u8>) -> Result<
     out.extend_from_slice(tag)?;
     out.extend_from_slice(b" OK ")?;
     append_total(total, out)?;
-    append_string(done_of(Verb::Search), out)?;
+    append_string(search_done(), out)?;
     out.extend_from_slice(b"\r\n")?;
     Ok(())
 }
@@ -251,26 +259,43 @@ fn append_said(tag: &[u8], said: &Said, out: &mut Vec<u8>) -> Result<(), Memory>
     }
 }
 
-fn tag_of(tag: &Option<Octets>) -> &[u8]
-    ensures { result.now ≡ tag_of tag.now }
+fn tag_of(tag: Option<&[u8]>) -> &[u8]
+    ensures { result.now ≡ tag_of (lent_tag tag.entry) }
 {
     match tag {
-        Some(tag) => tag.as_slice(),
+        Some(tag) => tag,
         None => b"*",
     }
 }
 
-/// Appends the printed form of a reply (RFC 2244 sections 2.2 and 6.2): the whole of it, or nothing where memory
-/// was refused.
+/// Appends the printed form of what is said under a tag (RFC 2244 sections 2.2 and 6.2): the whole of it, or nothing where
+/// memory was refused.
 #[tactic(auto, unfolding(crate::specs::Replies::octets_of))]
-pub fn render(reply: &Reply, out: &mut Vec<u8>) -> Result<(), Memory>
-    ensures ok { OnOk result (out.new.items ≡ out.old.items ++ octets_of reply.now) }
+pub fn render_said(tag: Option<&[u8]>, said: &Said, out: &mut Vec<u8>) -> Result<(), Memory>
+    ensures ok { OnOk result (out.new.items ≡ out.old.items ++ octets_of (reply_of tag.entry said.now)) }
     ensures err { OnErr result (out.new.items ≡ out.old.items) }
 {
     let len = out.len();
-    let done = append_said(tag_of(&reply.tag), &reply.said, out);
+    let done = append_said(tag_of(tag), said, out);
     if done.is_err() {
         out.truncate(len);
     }
     done
+}
+
+fn lent(tag: &Option<Octets>) -> Option<&[u8]>
+    ensures { lent_tag result ≡ tag.now }
+{
+    match tag {
+        Some(tag) => Some(tag.as_slice()),
+        None => None,
+    }
+}
+
+/// Appends the printed form of a reply (RFC 2244 sections 2.2 and 6.2): the whole of it, or nothing where memory was refused.
+pub fn render(reply: &Reply, out: &mut Vec<u8>) -> Result<(), Memory>
+    ensures ok { OnOk result (out.new.items ≡ out.old.items ++ octets_of reply.now) }
+    ensures err { OnErr result (out.new.items ≡ out.old.items) }
+{
+    render_said(lent(&reply.tag), &reply.said, out)
 }

@@ -10,7 +10,7 @@ ghost use Rattle.acap_lexer.specs.Reading.{Gives, as_string, string_at};
 
 use crate::fault::{LexError, Memory};
 use crate::kind::Kind;
-use crate::place::{Place, kept};
+use crate::place::Place;
 use crate::strings::{plain_string_at, string_at};
 use crate::tokens::Tokens;
 use std::alloc::Global;
@@ -18,7 +18,7 @@ use std::marker::Model;
 use std::ops::Range;
 
 /// So many octets of a part are taken to make a token, so that room is made at once.
-const OCTETS_A_TOKEN: usize = 8;
+const OCTETS_A_TOKEN: usize = 2;
 
 /// Room is made for so many tokens at least.
 const TOKENS_AT_ONCE: usize = 4;
@@ -26,8 +26,11 @@ const TOKENS_AT_ONCE: usize = 4;
 /// Memory for so many octets of values is kept for the next command.
 const OCTETS_KEPT: usize = 16384;
 
-/// Memory for so many tokens is kept for the next command.
-const TOKENS_KEPT: usize = 2048;
+/// Memory for so many tokens is kept for the next command: as many as room is made for behind a part.
+const TOKENS_KEPT: usize = 4100;
+
+/// The greatest index that is kept of a token. One behind it is refused as want of memory; no command comes there.
+const INDEX_LIMIT: usize = 4294967295;
 
 /// The tokens of a command so far, and the text in which their values lie: copies of its parts and literals, and what
 /// strings with escapes stand for.
@@ -123,6 +126,7 @@ impl Draft {
     }
 
     // Adds a token that lies there in the command, whose value is already in the text.
+    #[inline]
     fn push_copied(
         &mut self,
         kind: Kind,
@@ -135,14 +139,16 @@ impl Draft {
         ensures text { self.new.text ≡ self.old.text }
         ensures err { OnErr result (self.new ≡ self.old) }
     {
-        let place = Place {
+        if value.end > INDEX_LIMIT || span.start > INDEX_LIMIT || span.end > INDEX_LIMIT {
+            return Err(Memory);
+        }
+        self.places.push(Place {
             kind,
-            value_start: kept(value.start)?,
-            value_end: kept(value.end)?,
-            start: kept(span.start)?,
-            end: kept(span.end)?,
-        };
-        self.places.push(place)?;
+            value_start: value.start as u32,
+            value_end: value.end as u32,
+            start: span.start as u32,
+            end: span.end as u32,
+        })?;
         Ok(())
     }
 

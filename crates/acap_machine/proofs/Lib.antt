@@ -1,8 +1,11 @@
+pub mod ClientLaws
+pub mod ClientSteps
 pub mod Completing
 pub mod Computing
 pub mod Following
 pub mod FoundLemmas
 pub mod FromLemmas
+pub mod NamedLemmas
 pub mod OverLemmas
 pub mod Plain
 pub mod PlainMaps

@@ -41,7 +41,7 @@ use Rattle.acap_store.specs.Deleting.{deleted_in, is_too_old, may_read, names_de
 use Rattle.acap_store.specs.Invalid.{first_invalid, invalid, is_invalid}
 use Rattle.acap_store.specs.Limits.{gives_large, is_too_much}
 use Rattle.acap_store.specs.Meaning.{meaning}
-use Rattle.acap_store.specs.Permission.{denied_in, object_of, permission}
+use Rattle.acap_store.specs.Permission.{denied_in, object_name_of, permission}
 use Rattle.acap_store.specs.Planning.{planned, planned_for, refusals_of, change_of, unless_refused, written_at}
 use Rattle.acap_store.specs.Refusing.{first_of, has_changed, has_twice, lacks_dataset, modified, no_exist, refused_if}
 use Rattle.acap_store.specs.Writing.{written_for}
@@ -75,7 +75,7 @@ where_so false refusal e = tt
 permission_good : (records : Stored) (realm : Realm) (user : List ℕ) (entries : List StoreEntry) → Good (permission records realm user entries)
 permission_good records realm user [] = tt
 permission_good records realm user (e ∷ entries) =
-    either _ _ (told (λ target. refusals.Permission (object_of target)) (λ target. refl) (denied_in records realm user e)) (permission_good records realm user entries)
+    either _ _ (told (λ target. refusals.Permission (object_name_of target)) (λ target. refl) (denied_in records realm user e)) (permission_good records realm user entries)
 
 invalid_good : (records : Stored) (user : List ℕ) (write : Write) (entries : List StoreEntry) → Good (first_invalid records (meaning records user write) entries)
 invalid_good records user write [] = tt

@@ -16,7 +16,7 @@ use Rattle.acap_views.specs.Seats.{entered}
 
 -- ---- what holds of each thing that a step may do holds of the step
 
-seated_keeps : (P : Reply → Machine → Type 0) (m : Machine) (seat : ℕ) (user : List ℕ) (at : Option (List ℕ)) (reply : Reply) (new : Machine) →
+pub seated_keeps : (P : Reply → Machine → Type 0) (m : Machine) (seat : ℕ) (user : List ℕ) (at : Option (List ℕ)) (reply : Reply) (new : Machine) →
     P (plain said.Greeting) (record m { seats = entered m.seats seat user }) → seated m seat user at ≡ Ok (reply, new) → P reply new
 seated_keeps P m seat user None reply new p e =
     let entered_is : Reply × Machine = (plain said.Greeting, record m { seats = entered m.seats seat user }) in

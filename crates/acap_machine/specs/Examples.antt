@@ -12,7 +12,8 @@ use Rattle.acap_commands.specs.declared.command.Command.TheVariants as command
 use Rattle.acap_commands.specs.declared.search_reply.SearchReply.{SearchReply}
 use Rattle.acap_commands.specs.declared.limit.Limit.{Limit}
 use Rattle.acap_commands.specs.declared.make_context.MakeContext.{MakeContext}
-use Rattle.acap_commands.specs.declared.object.Object.{Object}
+use Rattle.acap_commands.specs.declared.object_name.ObjectName.{ObjectName}
+use Rattle.acap_commands.specs.declared.object_name.ObjectName.TheVariants as object_name
 use Rattle.acap_commands.specs.declared.refusal.Refusal.{Refusal}
 use Rattle.acap_commands.specs.declared.refusal.Refusal.TheVariants as refusals
 use Rattle.acap_commands.specs.declared.reply.Reply.{Reply}
@@ -83,9 +84,6 @@ pub record FoundExamples : Type 0 where
 abbrev pub all_in : List ℕ → SearchModifiers → Search
 all_in dataset modifiers = record { target = target.Dataset dataset; modifiers = modifiers; key = key.One test.All }
 
-abbrev pub whole : List ℕ → Object
-whole dataset = record { dataset = dataset; attribute = None; name = None }
-
 abbrev pub made : MakeContext
 made = record { enumerate = true; notify = true; name = codes "c" }
 
@@ -106,10 +104,10 @@ pub record ServingExamples : Type 0 where
   pub refuses : (m : Machine) (seat : ℕ) (user : List ℕ) (entries : List StoreEntry) (clock : ℤ) (because : Refusal) →
       planned m.store m.realm user (write.Store entries) clock ≡ Err because → served m seat user (command.Store entries) clock ≡ (said.Refused because, m)
   -- each list is changed under its own verb
-  pub sets : (m : Machine) (seat : ℕ) (user : List ℕ) (object : Object) (identifier letters : List ℕ) (clock : ℤ) (change : Change) →
+  pub sets : (m : Machine) (seat : ℕ) (user : List ℕ) (object : ObjectName) (identifier letters : List ℕ) (clock : ℤ) (change : Change) →
       planned m.store m.realm user (write.SetAcl object identifier letters) clock ≡ Ok change
       → served m seat user (command.SetAcl object identifier letters) clock ≡ (said.Done verb.SetAcl, changed_by change m)
-  pub drops : (m : Machine) (seat : ℕ) (user : List ℕ) (object : Object) (identifier : Option (List ℕ)) (clock : ℤ) (change : Change) →
+  pub drops : (m : Machine) (seat : ℕ) (user : List ℕ) (object : ObjectName) (identifier : Option (List ℕ)) (clock : ℤ) (change : Change) →
       planned m.store m.realm user (write.DeleteAcl object identifier) clock ≡ Ok change
       → served m seat user (command.DeleteAcl object identifier) clock ≡ (said.Done verb.DeleteAcl, changed_by change m)
   -- `~` is the user's
@@ -144,10 +142,10 @@ pub record ServingExamples : Type 0 where
   pub updates_none : (m : Machine) (seat : ℕ) (names : List (List ℕ)) (clock : ℤ) (why : ViewRefusal) → told_of m.seats seat names m.store.last ≡ Err why
       → served m seat joe (command.UpdateContext names) clock ≡ (said.Refused (view_refused_as why), m)
   -- the owner of a dataset always reads and administers it, and may be given the rest
-  pub owner : (s : Store) (seats : Seated) (seat : ℕ) (clock : ℤ) → (served (record { realm = record { administrators = []; groups = [] }; store = s; seats = seats }) seat joe (command.ListRights (whole (codes "/option/~/")) joe) clock).0
+  pub owner : (s : Store) (seats : Seated) (seat : ℕ) (clock : ℤ) → (served (record { realm = record { administrators = []; groups = [] }; store = s; seats = seats }) seat joe (command.ListRights (object_name.Dataset (codes "/option/~/")) joe) clock).0
       ≡ said.RightsList (codes "ra" ∷ codes "x" ∷ codes "w" ∷ codes "i" ∷ [])
   -- an administrator has all
-  pub administrator : (s : Store) (seats : Seated) (seat : ℕ) (clock : ℤ) → (served (record { realm = record { administrators = codes "root" ∷ []; groups = [] }; store = s; seats = seats }) seat joe (command.ListRights (whole home) (codes "root")) clock).0
+  pub administrator : (s : Store) (seats : Seated) (seat : ℕ) (clock : ℤ) → (served (record { realm = record { administrators = codes "root" ∷ []; groups = [] }; store = s; seats = seats }) seat joe (command.ListRights (object_name.Dataset home) (codes "root")) clock).0
       ≡ said.RightsList (codes "xrwia" ∷ [])
 
 -- ---- seats

@@ -1,4 +1,5 @@
 pub mod Changing
+pub mod Client
 pub mod Completing
 pub mod Examples
 pub mod Following

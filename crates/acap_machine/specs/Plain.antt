@@ -6,7 +6,6 @@ use Rattle.std.specs.Option.{option_map_or, option_or}
 use Rattle.std.specs.Ordering.{nat_cmp}
 use Rattle.std.specs.FinMap as table
 use Rattle.acap_entries.specs.Changes.{store_after}
-use Rattle.acap_entries.specs.Homes.{for_user}
 use Rattle.acap_entries.specs.Orders.{octets_cmp}
 use Rattle.acap_entries.specs.Store.{Store, empty_store}
 use Rattle.acap_entries.specs.declared.change.Change.{Change}
@@ -39,7 +38,7 @@ use Rattle.acap_notices.specs.Waiting.{most_waiting}
 use Rattle.acap_notices.specs.declared.notice.Notice.{Notice}
 use Rattle.acap_notices.specs.declared.told.Told.{Told}
 use Rattle.acap_notices.specs.declared.told.Told.TheVariants as told
-use Rattle.acap_rights.specs.Deciding.{rights_of, implicit_rights}
+use Rattle.acap_rights.specs.Deciding.{dataset_in, rights_of, implicit_rights}
 use Rattle.acap_rights.specs.Rights.{letters_of, listed}
 use Rattle.acap_rights.specs.declared.realm.Realm.{Realm}
 use Rattle.acap_search.specs.Asking.{asked_of}
@@ -250,7 +249,7 @@ served m seat user (command.DeleteAcl object identifier) clock =
 served m seat user (command.MyRights object) clock =
     (said.Rights (letters_of (rights_of m.store.records m.realm user (target_for user object))), m)
 served m seat user (command.ListRights object identifier) clock =
-    (said.RightsList (listed (implicit_rights m.realm identifier (for_user user object.dataset))), m)
+    (said.RightsList (listed (implicit_rights m.realm identifier (dataset_in (target_for user object)))), m)
 served m seat user (command.DeletedSince dataset since) clock = (names_or (deleted_since m.store m.realm user dataset since), m)
 served m seat user (command.FreeContext name) clock =
     if table.contains_key (contexts_at m.seats seat) name

@@ -1,10 +1,9 @@
 -- What a command of a user comes to: what is said, and the machine afterwards [RFC 2244 sections 6.2, 6.4.1, 6.5, 6.6 and 6.7].
 use Rattle.std.specs.Prelude.{ℕ, ℤ, List, Option, Some, None, Result, Ok, Err}
-use Rattle.acap_entries.specs.Homes.{for_user}
 use Rattle.acap_entries.specs.declared.change.Change.{Change}
 use Rattle.acap_commands.specs.declared.command.Command.{Command}
 use Rattle.acap_commands.specs.declared.command.Command.TheVariants as command
-use Rattle.acap_commands.specs.declared.object.Object.{Object}
+use Rattle.acap_commands.specs.declared.object_name.ObjectName.{ObjectName}
 use Rattle.acap_commands.specs.declared.refusal.Refusal.{Refusal}
 use Rattle.acap_commands.specs.declared.refusal.Refusal.TheVariants as refusals
 use Rattle.acap_commands.specs.declared.said.Said.{Said}
@@ -15,7 +14,7 @@ use Rattle.acap_machine.specs.Changing.{changed_by}
 use Rattle.acap_machine.specs.Machine.{Machine}
 use Rattle.acap_machine.specs.Searching.{searched, seated_or, view_refused_as}
 use Rattle.acap_notices.specs.declared.told.Told.{Told}
-use Rattle.acap_rights.specs.Deciding.{rights_of, implicit_rights}
+use Rattle.acap_rights.specs.Deciding.{dataset_in, rights_of, implicit_rights}
 use Rattle.acap_rights.specs.Rights.{letters_of, listed}
 use Rattle.acap_store.specs.Deleting.{deleted_since}
 use Rattle.acap_store.specs.Meaning.{target_for}
@@ -38,13 +37,13 @@ written m user done write clock = written_or m done (planned m.store m.realm use
 
 -- ---- MYRIGHTS and LISTRIGHTS, of any object, be it there or not
 
-abbrev pub rights_told : Machine → List ℕ → Object → Said × Machine
+abbrev pub rights_told : Machine → List ℕ → ObjectName → Said × Machine
 rights_told m user object = (said.Rights (letters_of (rights_of m.store.records m.realm user (target_for user object))), m)
 
 -- what the identifier always has there, and then each other right apart: no list is looked at
-abbrev pub rights_listed : Machine → List ℕ → Object → List ℕ → Said × Machine
+abbrev pub rights_listed : Machine → List ℕ → ObjectName → List ℕ → Said × Machine
 rights_listed m user object identifier =
-    (said.RightsList (listed (implicit_rights m.realm identifier (for_user user object.dataset))), m)
+    (said.RightsList (listed (implicit_rights m.realm identifier (dataset_in (target_for user object)))), m)
 
 -- ---- DELETEDSINCE
 

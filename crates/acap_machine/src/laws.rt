@@ -1,10 +1,12 @@
 //! What follows from the definitions alone: each function does nothing, and its contract is the law.
+ghost use Rattle.acap_machine.specs.Client.{HeldLaw, SeenLaw};
 ghost use Rattle.acap_machine.specs.Completing.{CompletingLaw};
 ghost use Rattle.acap_machine.specs.Examples.{FoundExamples, ServingExamples, SeatLaw};
 ghost use Rattle.acap_machine.specs.Following.{CurrentLaw, FollowedLaw};
 ghost use Rattle.acap_machine.specs.Laws.{RefusedLaw, OthersLaw, ChangeLaw};
 ghost use Rattle.acap_machine.specs.Plain.{PlainLaw};
 
+use acap_search::sight_law;
 use acap_store::sound_law;
 use acap_views::current_law as contexts_law;
 
@@ -39,6 +41,21 @@ pub fn followed_law()
 {
     sound_law();
     contexts_law();
+}
+
+/// The client of a live context that begins with the whole list of the SEARCH which made it, and applies the notices of that context as
+/// its session is told them, holds the rows that it was told last; where an UPDATECONTEXT of its name ends, and after a drain, these are
+/// what a search finds then (RFC 2244 sections 3.3 and 6.5).
+pub fn held_law()
+    ensures { HeldLaw }
+{}
+
+/// What a client holds that is told all comes of what its user sees: where two see the same for a search, they hold the same rows in the
+/// same places (RFC 2244 sections 3.3 and 3.5).
+pub fn seen_law()
+    ensures { SeenLaw }
+{
+    sight_law();
 }
 
 /// For every list of steps the machine answers as the one that keeps no list beside its contexts and searches anew, and it is that machine

@@ -137,7 +137,7 @@ impl State {
             Command::Search(search) => self.ready_search(seat, search.into_value(), steps),
             Command::MyRights(object) => self.ready_rights(seat, object.into_value()),
             Command::ListRights(object, identifier) => {
-                self.ready_list(seat, object.get(), identifier.as_slice())
+                self.ready_list(seat, object.into_value(), identifier.as_slice())
             }
             Command::DeletedSince(dataset, since) => self.ready_deleted(seat, &dataset, since),
             Command::FreeContext(name) => self.ready_free(seat, name),

@@ -8,7 +8,7 @@ use crate::deed::Deed;
 use crate::ready::Ready;
 use crate::refusing::{refused, view_refused};
 use crate::state::State;
-use acap_commands::{ContextNames, Fault, Object, Refusal, Said, Verb};
+use acap_commands::{ContextNames, Fault, ObjectName, Refusal, Said, Verb};
 use acap_entries::{ContextName, Dataset, Moment, Seat};
 use acap_rights::{implicit_rights, rights_of};
 use acap_store::{deleted_since, lent_object, object_for};
@@ -26,7 +26,7 @@ impl State {
     }
 
     /// A MYRIGHTS (RFC 2244 section 6.7).
-    pub(crate) fn ready_rights(&self, seat: Seat, object: Object) -> Result<Ready, Fault>
+    pub(crate) fn ready_rights(&self, seat: Seat, object: ObjectName) -> Result<Ready, Fault>
         ensures answer { IsReadyOf result self.now
             (asked self.now.machine seat (λ m u. rule.rights_told m u object)) self.now }
         ensures none { IfOk result (λ r. r.work ≡ 0) }
@@ -43,17 +43,17 @@ impl State {
     pub(crate) fn ready_list(
         &self,
         seat: Seat,
-        object: &Object,
+        object: ObjectName,
         identifier: &[u8],
     ) -> Result<Ready, Fault>
         ensures answer { IsReadyOf result self.now
-            (asked self.now.machine seat (λ m u. rule.rights_listed m u object.now identifier.now)) self.now }
+            (asked self.now.machine seat (λ m u. rule.rights_listed m u object identifier.now)) self.now }
         ensures none { IfOk result (λ r. r.work ≡ 0) }
     {
         self.kept_law();
         let user = self.user(seat)?;
-        let dataset = object.dataset.for_user(user)?;
-        let rights = implicit_rights(&self.realm, identifier, dataset.as_slice());
+        let meant = object_for(user, object)?;
+        let rights = implicit_rights(&self.realm, identifier, lent_object(&meant).dataset());
         let list = rights.listed(self.alloc)?;
         Ok(Ready::new(seat, Deed::Nothing, Said::RightsList(list)))
     }

@@ -1,11 +1,10 @@
 //! The machine in memory.
-ghost use Rattle.std.specs.Prelude.{◌≡◌, ◌↔◌, ◌≤◌, ◌<◌, ◌+◌, ℕ, false, true, IfOk, IfErr, OnErr, IsOk, IsSome, Ok, Err, option_map};
-ghost use Rattle.std.specs.Int.{bit_at};
+ghost use Rattle.std.specs.Prelude.{◌≡◌, ◌≤◌, ◌+◌, false, IfOk, IfErr, OnErr, IsOk, IsSome, Ok, Err, option_map};
 ghost use Rattle.std.specs.Option.{option_copied};
 ghost use Rattle.acap_machine.specs.Changing.{IsKept};
 ghost use Rattle.acap_machine.specs.Machine.{new_machine, user_at};
 ghost use Rattle.acap_views.specs.Laws.{CurrentLaw};
-ghost use Rattle.acap_views.specs.Waiting.{is_waiting};
+ghost use Rattle.acap_views.specs.Waiting.{waiting};
 
 use acap_commands::{Event, Fault, Reply};
 use acap_entries::{Copying, Memory, Moment, Seat, Steps, Tree, UserName};
@@ -85,7 +84,7 @@ impl State {
     /// At which seats a drain has something to tell: a bit for each, the lowest for the first (RFC 2244 section 6.5). Takes no
     /// memory.
     pub fn waiting(&self) -> u64
-        ensures { (n : ℕ) → n < 64 → (bit_at result n ≡ 1) ↔ (is_waiting self.now.machine.seats n ≡ true) }
+        ensures { result ≡ waiting self.now.machine.seats }
     {
         self.views.waiting()
     }

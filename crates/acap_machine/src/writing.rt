@@ -21,7 +21,7 @@ use crate::deed::Deed;
 use crate::ready::Ready;
 use crate::refusing::refused;
 use crate::state::State;
-use acap_commands::{Fault, Object, Reply, Said, StoreEntry, Verb};
+use acap_commands::{Fault, ObjectName, Reply, Said, StoreEntry, Verb};
 use acap_entries::{Change, Memory, Moment, Seat, Steps};
 use acap_inherit::Prepared;
 use acap_store::{Write, plan, sound_law};
@@ -40,12 +40,20 @@ fn form_entries(entries: &[StoreEntry])
 }
 
 // The path at which the list of an object is kept is well formed: does nothing.
-fn form_object(object: &Object)
+fn form_object(object: &ObjectName)
     ensures { is_well_formed (list_path (target_in object.now)) ≡ true }
 {
-    let _octets = object.dataset.as_slice();
-    if let Some(name) = &object.name {
-        name.form_law();
+    match object {
+        ObjectName::Dataset { dataset } => {
+            let _octets = dataset.as_slice();
+        }
+        ObjectName::Attribute { dataset, .. } => {
+            let _octets = dataset.as_slice();
+        }
+        ObjectName::Entry { dataset, name, .. } => {
+            let _octets = dataset.as_slice();
+            name.form_law();
+        }
     }
 }
 

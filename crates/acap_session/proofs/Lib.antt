@@ -2,7 +2,10 @@ pub mod Alone
 pub mod Completing
 pub mod Counting
 pub mod Cutting
+pub mod Forming
 pub mod Going
+pub mod Living
+pub mod Naming
 pub mod Opening
 pub mod Performing
 pub mod PipeFronts

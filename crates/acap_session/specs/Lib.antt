@@ -1,5 +1,6 @@
 pub mod Completing
 pub mod Laws
+pub mod Live
 pub mod PipeSteps
 pub mod Piping
 pub mod Places

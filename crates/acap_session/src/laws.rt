@@ -1,8 +1,11 @@
 //! What follows from the definitions alone: each function does nothing, and its contract is the law.
 ghost use Rattle.acap_session.specs.Completing.{CompletionExamples, CompletionForm, CompletionLaw};
+ghost use Rattle.acap_session.specs.Live.{LiveLaw};
 ghost use Rattle.acap_session.specs.Seating.{SeatingLaw};
 ghost use Rattle.acap_session.specs.PipeSteps.{PipeRuns};
 ghost use Rattle.acap_session.specs.Laws.{PiecesJoin, TurnsKeep, CuttingLaw, JoiningLaw, OthersStay, StepAlone, AloneLaw, RefusedTurns, WrittenLaw};
+
+use acap_machine::laws::{current_law, held_law, seen_law};
 
 /// What is written for what a pipe reads is what the only session of a world says, opened at seat 0 and given the same
 /// pieces, each with its turns behind it (RFC 2244 section 2).
@@ -78,3 +81,15 @@ pub fn completion_examples()
 pub fn completion_form()
     ensures { CompletionForm }
 {}
+
+/// Whatever sessions do, and in whichever order: the client of a live context that begins with the whole list of the SEARCH which made
+/// it, and applies the notices of that context as its session is told them, meets none that misfits; and where an UPDATECONTEXT of its
+/// name ends, and after a drain, it holds exactly what a search finds then. All of that comes of what its user sees (RFC 2244 sections
+/// 3.3, 3.5 and 6.5).
+pub fn live_law()
+    ensures { LiveLaw }
+{
+    current_law();
+    held_law();
+    seen_law();
+}

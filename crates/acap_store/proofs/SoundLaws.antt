@@ -10,19 +10,19 @@ use Rattle.acap_entries.proofs.Formed.{formed}
 use Rattle.acap_entries.specs.Changes.{store_after}
 use Rattle.acap_entries.specs.Datasets.{dataset_exists}
 use Rattle.acap_entries.specs.FullPaths.{IsWellFormed, is_well_formed}
-use Rattle.acap_entries.specs.Homes.{for_user}
 use Rattle.acap_entries.specs.Names.{slash, begins_with, ends_with, is_closed_dataset, is_user_name, own_entry}
 use Rattle.acap_entries.specs.Sound.{IsSoundStore}
 use Rattle.acap_entries.specs.Store.{Stored, Store, path_cmp}
 use Rattle.acap_entries.specs.declared.change.Change.{Change}
 use Rattle.acap_entries.specs.declared.path.Path.{Path}
 use Rattle.acap_entries.specs.declared.record.Record.{Record}
-use Rattle.acap_commands.specs.declared.object.Object.{Object}
+use Rattle.acap_commands.specs.declared.object_name.ObjectName.{ObjectName}
+use Rattle.acap_commands.specs.declared.object_name.ObjectName.TheVariants as object_name
 use Rattle.acap_commands.specs.declared.store_entry.StoreEntry.{StoreEntry}
 use Rattle.acap_rights.specs.declared.realm.Realm.{Realm}
 use Rattle.acap_store.specs.DatasetLaws.{SoundLaw, own_path, is_absolute, paths_named}
 use Rattle.acap_store.specs.Laws.{entries_of}
-use Rattle.acap_store.specs.Meaning.{entries_for, list_path, meaning, path_for, target_for, target_named}
+use Rattle.acap_store.specs.Meaning.{entries_for, list_path, meaning, path_for, target_for, target_in}
 use Rattle.acap_store.specs.Planning.{planned}
 use Rattle.acap_store.specs.Refusing.{same_path}
 use Rattle.acap_store.specs.Writing.{missing_for, missing_to, missing_within, own_if_missing}
@@ -48,14 +48,14 @@ all_meant : (user : List ℕ) (entries : List StoreEntry) → is_user_name user 
 all_meant user [] u h = refl
 all_meant user (e ∷ entries) u h = both_true _ _ (meant_formed user e.path u (first_true _ _ h)) (all_meant user entries u (second_true _ _ h))
 
-path_meant : (user dataset : List ℕ) (attribute name : Option (List ℕ)) → path_for user (list_path (target_named dataset attribute name)) ≡ list_path (target_named (for_user user dataset) attribute name)
-path_meant user dataset None name = refl
-path_meant user dataset (Some attribute) None = refl
-path_meant user dataset (Some attribute) (Some name) = refl
+path_meant : (user : List ℕ) (object : ObjectName) → path_for user (list_path (target_in object)) ≡ list_path (target_for user object)
+path_meant user (object_name.Dataset dataset) = refl
+path_meant user (object_name.Attribute dataset attribute) = refl
+path_meant user (object_name.Entry dataset attribute name) = refl
 
-list_meant : (user : List ℕ) (object : Object) → is_user_name user ≡ true → list_all is_well_formed (list_path (target_named object.dataset object.attribute object.name) ∷ []) ≡ true → list_all is_well_formed (list_path (target_for user object) ∷ []) ≡ true
+list_meant : (user : List ℕ) (object : ObjectName) → is_user_name user ≡ true → list_all is_well_formed (list_path (target_in object) ∷ []) ≡ true → list_all is_well_formed (list_path (target_for user object) ∷ []) ≡ true
 list_meant user object u h =
-    both_true _ _ (ap is_well_formed (sym (path_meant user object.dataset object.attribute object.name)) ∙ meant_formed user (list_path (target_named object.dataset object.attribute object.name)) u (first_true _ _ h)) refl
+    both_true _ _ (ap is_well_formed (sym (path_meant user object)) ∙ meant_formed user (list_path (target_in object)) u (first_true _ _ h)) refl
 
 -- so are the paths of its entries
 entries_formed : (records : Stored) (user : List ℕ) (sent : Write) → is_user_name user ≡ true → list_all is_well_formed (paths_named sent) ≡ true → list_all (λ e. is_well_formed e.path) (meaning records user sent).entries ≡ true

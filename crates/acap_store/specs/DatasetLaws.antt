@@ -17,7 +17,7 @@ use Rattle.acap_commands.specs.declared.store_entry.StoreEntry.{StoreEntry}
 use Rattle.acap_rights.specs.declared.realm.Realm.{Realm}
 use Rattle.acap_store.specs.Forms.{is_of}
 use Rattle.acap_store.specs.Laws.{entries_of}
-use Rattle.acap_store.specs.Meaning.{target_named, list_path}
+use Rattle.acap_store.specs.Meaning.{target_in, list_path}
 use Rattle.acap_store.specs.Planning.{planned}
 use Rattle.acap_store.specs.Refusing.{same_path}
 use Rattle.acap_store.specs.declared.write.Write.{Write}
@@ -80,8 +80,8 @@ pub record HousedLaw : Type 0 where
 -- the paths that a command names, `~` standing where it was sent
 abbrev pub paths_named : Write → List Path
 paths_named (write.Store entries) = map (λ e. e.path) entries
-paths_named (write.SetAcl object identifier letters) = list_path (target_named object.dataset object.attribute object.name) ∷ []
-paths_named (write.DeleteAcl object identifier) = list_path (target_named object.dataset object.attribute object.name) ∷ []
+paths_named (write.SetAcl object identifier letters) = list_path (target_in object) ∷ []
+paths_named (write.DeleteAcl object identifier) = list_path (target_in object) ∷ []
 
 -- the empty store is sound, and so is what commands leave that name well-formed paths for a user with a name; no dataset is
 -- taken away

@@ -15,7 +15,7 @@ use Rattle.acap_entries.specs.declared.path.Path.{Path}
 use Rattle.acap_entries.specs.declared.record.Record.{Record}
 use Rattle.acap_commands.specs.declared.given.Given.{Given}
 use Rattle.acap_commands.specs.declared.given.Given.TheVariants.{Put, Default}
-use Rattle.acap_commands.specs.declared.object.Object.{Object}
+use Rattle.acap_commands.specs.declared.object_name.ObjectName.TheVariants as object_name
 use Rattle.acap_commands.specs.declared.refusal.Refusal.{Refusal}
 use Rattle.acap_commands.specs.declared.refusal.Refusal.TheVariants as refusals
 use Rattle.acap_commands.specs.declared.store_entry.StoreEntry.{StoreEntry}
@@ -113,8 +113,9 @@ pub record ItemExamples (records : Stored) : Type 0 where
 
 -- ---- what SETACL and DELETEACL mean
 
-abbrev pub object : Option (List ℕ) → Option (List ℕ) → Object
-object attribute name = record { dataset = codes "/option/~/"; attribute = attribute; name = name }
+-- joe's home, as he sends it
+abbrev pub own_home : List ℕ
+own_home = codes "/option/~/"
 
 -- one item, with NOCREATE
 abbrev pub one : List ℕ → StoreItem → List StoreEntry
@@ -124,24 +125,24 @@ abbrev pub decided : Stored → Target → List (List ℕ)
 decided records target = deciding_list records target
 
 pub record MeaningExamples (records : Stored) : Type 0 where
-  pub of_dataset : meaning records joe (write.SetAcl (object None None) (codes "ann") (codes "r"))
+  pub of_dataset : meaning records joe (write.SetAcl (object_name.Dataset own_home) (codes "ann") (codes "r"))
       ≡ record { entries = one [] (value (codes "dataset.acl") (list (with_pair (codes "ann") (codes "r") (decided records (OfDataset home))))); drops_dataset_list = false }
-  pub of_attribute : meaning records joe (write.SetAcl (object (Some (codes "k")) None) (codes "ann") (codes "r"))
+  pub of_attribute : meaning records joe (write.SetAcl (object_name.Attribute own_home (codes "k")) (codes "ann") (codes "r"))
       ≡ record { entries = one [] (value (codes "dataset.acl.k") (list (with_pair (codes "ann") (codes "r") (decided records (OfAttribute home (codes "k")))))); drops_dataset_list = false }
-  pub of_entry : meaning records joe (write.SetAcl (object (Some (codes "k")) (Some (codes "a"))) (codes "ann") (codes "r"))
+  pub of_entry : meaning records joe (write.SetAcl (object_name.Entry own_home (codes "k") (codes "a")) (codes "ann") (codes "r"))
       ≡ record { entries = one (codes "a") (acl (codes "k") (list (with_pair (codes "ann") (codes "r") (decided records (OfEntry home (codes "k") (codes "a")))))); drops_dataset_list = false }
-  pub taken_off : meaning records joe (write.DeleteAcl (object (Some (codes "k")) None) (Some (codes "ann")))
+  pub taken_off : meaning records joe (write.DeleteAcl (object_name.Attribute own_home (codes "k")) (Some (codes "ann")))
       ≡ record { entries = one [] (value (codes "dataset.acl.k") (list (without (codes "ann") (decided records (OfAttribute home (codes "k")))))); drops_dataset_list = false }
-  pub dropped : meaning records joe (write.DeleteAcl (object (Some (codes "k")) None) None) ≡ record { entries = one [] (value (codes "dataset.acl.k") Default); drops_dataset_list = false }
-  pub dropped_of_entry : meaning records joe (write.DeleteAcl (object (Some (codes "k")) (Some (codes "a"))) None) ≡ record { entries = one (codes "a") (acl (codes "k") Default); drops_dataset_list = false }
+  pub dropped : meaning records joe (write.DeleteAcl (object_name.Attribute own_home (codes "k")) None) ≡ record { entries = one [] (value (codes "dataset.acl.k") Default); drops_dataset_list = false }
+  pub dropped_of_entry : meaning records joe (write.DeleteAcl (object_name.Entry own_home (codes "k") (codes "a")) None) ≡ record { entries = one (codes "a") (acl (codes "k") Default); drops_dataset_list = false }
   -- a STORE stores its entries as they are, at the paths that its user means
   pub entries : (modifiers : StoreModifiers) (items : List StoreItem) → meaning records joe (write.Store (record { path = record { dataset = codes "/option/~/"; name = codes "a" }; modifiers = modifiers; items = items } ∷ []))
       ≡ record { entries = record { path = at (codes "a"); modifiers = modifiers; items = items } ∷ []; drops_dataset_list = false }
   -- the list of a dataset is not dropped as a whole, though a STORE may do that
-  pub whole : invalid records (meaning records joe (write.DeleteAcl (object None None) None)) ≡ Some (refusals.Invalid (at []) (codes "dataset.acl"))
+  pub whole : invalid records (meaning records joe (write.DeleteAcl (object_name.Dataset own_home) None)) ≡ Some (refusals.Invalid (at []) (codes "dataset.acl"))
   pub stored : invalid records (record { entries = one [] (value (codes "dataset.acl") Default); drops_dataset_list = false }) ≡ None
   -- letters that are no rights make no list, and `modtime` of an entry has none
-  pub no_rights : invalid records (meaning records joe (write.SetAcl (object (Some (codes "modtime")) (Some (codes "a"))) (codes "ann") (codes "r"))) ≡ Some (refusals.Invalid (at (codes "a")) (codes "modtime"))
+  pub no_rights : invalid records (meaning records joe (write.SetAcl (object_name.Entry own_home (codes "modtime") (codes "a")) (codes "ann") (codes "r"))) ≡ Some (refusals.Invalid (at (codes "a")) (codes "modtime"))
 
 -- ---- rights
 
@@ -158,7 +159,7 @@ denied_items records realm items = permission records realm joe (entry (codes "a
 
 -- the answer where a right is missing on an attribute of that entry
 abbrev pub missing_on : List ℕ → Option Refusal
-missing_on attribute = Some (refusals.Permission (record { dataset = home; attribute = Some attribute; name = Some (codes "a") }))
+missing_on attribute = Some (refusals.Permission (object_name.Entry home attribute (codes "a")))
 
 pub record PermissionExamples : Type 0 where
   -- an entry: r where it exists, and where it doesn't r with w or i

@@ -1,13 +1,14 @@
 -- What a command that writes means: the entries that it stores. SETACL and DELETEACL are the STORE, with NOCREATE, of one
 -- access control list [RFC 2244 sections 4.1, 6.6.1 and 6.7].
-use Rattle.std.specs.Prelude.{ℕ, List, [], ◌∷◌, map, Bool, true, false, Option, Some, None}
+use Rattle.std.specs.Prelude.{ℕ, List, [], ◌∷◌, map, Bool, true, false, Some, None}
 use Rattle.acap_entries.specs.Homes.{for_user}
 use Rattle.acap_entries.specs.Store.{Stored}
 use Rattle.acap_entries.specs.declared.cell.Cell.TheVariants.{Multi}
 use Rattle.acap_entries.specs.declared.path.Path.{Path}
 use Rattle.acap_commands.specs.declared.given.Given.{Given}
 use Rattle.acap_commands.specs.declared.given.Given.TheVariants.{Put, Default}
-use Rattle.acap_commands.specs.declared.object.Object.{Object}
+use Rattle.acap_commands.specs.declared.object_name.ObjectName.{ObjectName}
+use Rattle.acap_commands.specs.declared.object_name.ObjectName.TheVariants as object_name
 use Rattle.acap_commands.specs.declared.store_entry.StoreEntry.{StoreEntry}
 use Rattle.acap_commands.specs.declared.store_item.StoreItem.{StoreItem}
 use Rattle.acap_commands.specs.declared.store_metadata.StoreMetadata.TheVariants as metadata
@@ -31,17 +32,17 @@ entries_for user entries = map (entry_for user) entries
 
 -- ---- the STORE of one list
 
--- the object that is named
-abbrev pub target_named : List ℕ → Option (List ℕ) → Option (List ℕ) → Target
-target_named dataset None name = OfDataset dataset
-target_named dataset (Some attribute) None = OfAttribute dataset attribute
-target_named dataset (Some attribute) (Some name) = OfEntry dataset attribute name
+-- what an object that is named is
+abbrev pub target_in : ObjectName → Target
+target_in (object_name.Dataset dataset) = OfDataset dataset
+target_in (object_name.Attribute dataset attribute) = OfAttribute dataset attribute
+target_in (object_name.Entry dataset attribute name) = OfEntry dataset attribute name
 
-abbrev pub target_in : Object → Target
-target_in object = target_named object.dataset object.attribute object.name
-
-abbrev pub target_for : List ℕ → Object → Target
-target_for user object = target_named (for_user user object.dataset) object.attribute object.name
+-- `~` being replaced in its dataset
+abbrev pub target_for : List ℕ → ObjectName → Target
+target_for user (object_name.Dataset dataset) = OfDataset (for_user user dataset)
+target_for user (object_name.Attribute dataset attribute) = OfAttribute (for_user user dataset) attribute
+target_for user (object_name.Entry dataset attribute name) = OfEntry (for_user user dataset) attribute name
 
 -- the list of a dataset, and that of an attribute in it, are values of its management entry; that of an entry's attribute is
 -- kept with the entry
@@ -84,13 +85,13 @@ edited target acl = record { entries = list_entry target (Put (Multi acl)) ∷ [
 abbrev pub with_pair_in : Stored → Target → List ℕ → List ℕ → Meant
 with_pair_in records target identifier letters = edited target (with_pair identifier letters (deciding_list records target))
 
-abbrev pub set_in : Stored → Object → List ℕ → List ℕ → Meant
+abbrev pub set_in : Stored → ObjectName → List ℕ → List ℕ → Meant
 set_in records object identifier letters = with_pair_in records (target_in object) identifier letters
 
 abbrev pub without_in : Stored → Target → List ℕ → Meant
 without_in records target identifier = edited target (without identifier (deciding_list records target))
 
-abbrev pub taken_off_in : Stored → Object → List ℕ → Meant
+abbrev pub taken_off_in : Stored → ObjectName → List ℕ → Meant
 taken_off_in records object identifier = without_in records (target_in object) identifier
 
 abbrev pub dropped : Target → Meant

@@ -3,7 +3,8 @@ use Rattle.std.specs.Prelude.{ℕ, List, [], ◌∷◌, Bool, not, ◌&&◌, ◌
 use Rattle.std.specs.Option.{option_or, unwrap_or}
 use Rattle.acap_entries.specs.Store.{Stored}
 use Rattle.acap_entries.specs.declared.path.Path.{Path}
-use Rattle.acap_commands.specs.declared.object.Object.{Object}
+use Rattle.acap_commands.specs.declared.object_name.ObjectName.{ObjectName}
+use Rattle.acap_commands.specs.declared.object_name.ObjectName.TheVariants as object_name
 use Rattle.acap_commands.specs.declared.refusal.Refusal.{Refusal}
 use Rattle.acap_commands.specs.declared.refusal.Refusal.TheVariants as refusals
 use Rattle.acap_commands.specs.declared.store_entry.StoreEntry.{StoreEntry}
@@ -62,14 +63,14 @@ name_in name (OfAttribute dataset attribute) = name
 name_in name (OfEntry dataset attribute entry) = entry
 
 -- named as a client names it
-abbrev pub object_of : Target → Object
-object_of (OfDataset dataset) = record { dataset = dataset; attribute = None; name = None }
-object_of (OfAttribute dataset attribute) = record { dataset = dataset; attribute = Some attribute; name = None }
-object_of (OfEntry dataset attribute name) = record { dataset = dataset; attribute = Some attribute; name = Some name }
+abbrev pub object_name_of : Target → ObjectName
+object_name_of (OfDataset dataset) = object_name.Dataset dataset
+object_name_of (OfAttribute dataset attribute) = object_name.Attribute dataset attribute
+object_name_of (OfEntry dataset attribute name) = object_name.Entry dataset attribute name
 
 abbrev pub permission_in : Stored → Realm → List ℕ → StoreEntry → Option Refusal
 permission_in records realm user e =
-    option_map (λ target. refusals.Permission (object_of target)) (denied_in records realm user e)
+    option_map (λ target. refusals.Permission (object_name_of target)) (denied_in records realm user e)
 
 -- the first of all entries'
 abbrev pub permission : Stored → Realm → List ℕ → List StoreEntry → Option Refusal

@@ -7,7 +7,7 @@ use crate::meant::Meant;
 use crate::objects::{lent_object, object_for};
 use crate::write::Write;
 use acap_commands::{
-    Entries, Given, Object, StoreEntry, StoreItem, StoreItems, StoreMetadata, StoreModifiers,
+    Entries, Given, ObjectName, StoreEntry, StoreItem, StoreItems, StoreMetadata, StoreModifiers,
 };
 use acap_entries::{
     Attribute, Cell, Copying, Dataset, EntryName, Memory, Path, Tree, UserName, Value,
@@ -64,32 +64,35 @@ fn management_store(
 }
 
 // The STORE of the list of an object.
-fn list_store(alloc: Global, object: Object, given: Given) -> Result<Entries, Memory>
+fn list_store(alloc: Global, object: ObjectName, given: Given) -> Result<Entries, Memory>
     ensures { IsMade (rule.list_entry (rule.target_in object) given ∷ []) result }
 {
-    let Object {
-        dataset,
-        attribute,
-        name,
-    } = object;
-    let Some(attribute) = attribute else {
-        let attribute = Attribute::from_slice(alloc, b"dataset.acl")?;
-        return management_store(alloc, dataset, attribute, given);
-    };
-    let Some(name) = name else {
-        let attribute = list_attribute(alloc, attribute.as_slice())?;
-        return management_store(alloc, dataset, attribute, given);
-    };
-    let item = StoreItem {
-        attribute,
-        metadata: StoreMetadata::Acl,
-        given,
-    };
-    one_entry(alloc, Path { dataset, name }, item)
+    match object {
+        ObjectName::Dataset { dataset } => {
+            let attribute = Attribute::from_slice(alloc, b"dataset.acl")?;
+            management_store(alloc, dataset, attribute, given)
+        }
+        ObjectName::Attribute { dataset, attribute } => {
+            let attribute = list_attribute(alloc, attribute.as_slice())?;
+            management_store(alloc, dataset, attribute, given)
+        }
+        ObjectName::Entry {
+            dataset,
+            attribute,
+            name,
+        } => {
+            let item = StoreItem {
+                attribute,
+                metadata: StoreMetadata::Acl,
+                given,
+            };
+            one_entry(alloc, Path { dataset, name }, item)
+        }
+    }
 }
 
 // The STORE of a list that was edited.
-fn edited(alloc: Global, object: Object, acl: Acl) -> Result<Meant, Memory>
+fn edited(alloc: Global, object: ObjectName, acl: Acl) -> Result<Meant, Memory>
     ensures { IsMade (rule.edited (rule.target_in object) acl) result }
 {
     let given = Given::Put(Cell::Multi(acl.into_values()));
@@ -104,7 +107,7 @@ fn edited(alloc: Global, object: Object, acl: Acl) -> Result<Meant, Memory>
 fn set(
     alloc: Global,
     tree: &Tree,
-    object: Object,
+    object: ObjectName,
     identifier: &[u8],
     letters: &[u8],
 ) -> Result<Meant, Memory>
@@ -116,7 +119,12 @@ fn set(
 }
 
 // The STORE that DELETEACL of an identifier is.
-fn take_off(alloc: Global, tree: &Tree, object: Object, identifier: &[u8]) -> Result<Meant, Memory>
+fn take_off(
+    alloc: Global,
+    tree: &Tree,
+    object: ObjectName,
+    identifier: &[u8],
+) -> Result<Meant, Memory>
     ensures { IsMade (rule.taken_off_in tree.now.store.records object identifier.now) result }
 {
     let acl = decided_list(alloc, tree, &lent_object(&object))?;
@@ -125,10 +133,10 @@ fn take_off(alloc: Global, tree: &Tree, object: Object, identifier: &[u8]) -> Re
 }
 
 // The STORE that DELETEACL of a whole list is.
-fn dropped(alloc: Global, object: Object) -> Result<Meant, Memory>
+fn dropped(alloc: Global, object: ObjectName) -> Result<Meant, Memory>
     ensures { IsMade (rule.dropped (rule.target_in object)) result }
 {
-    let drops_dataset_list = object.attribute.is_none();
+    let drops_dataset_list = matches!(&object, ObjectName::Dataset { .. });
     let entries = list_store(alloc, object, Given::Default)?;
     Ok(Meant {
         entries,

@@ -10,7 +10,7 @@ ghost use Rattle.acap_store.specs.Sharing.{HasNoLists};
 use crate::asker::Asker;
 use crate::forms::{exists_at, is_management, is_nil_at, is_value};
 use crate::subject::Subject;
-use acap_commands::{Refusal, StoreEntry, StoreItem};
+use acap_commands::{ObjectName, Refusal, StoreEntry, StoreItem};
 use acap_entries::{Attribute, Boxed, Copying, Memory, Path, Tree};
 use acap_rights::{Object, Rights, SharedRights, object_of_list, rights_of, shared_rights};
 use std::alloc::Global;
@@ -163,27 +163,27 @@ fn denied_in<'a>(by: &Asker<'_>, entry: &'a StoreEntry, shared: &SharedRights) -
 }
 
 // The object as a refusal names it.
-fn named(alloc: Global, path: &Path, object: &Object<'_>) -> Result<acap_commands::Object, Memory>
+fn named(alloc: Global, path: &Path, object: &Object<'_>) -> Result<ObjectName, Memory>
     requires { asking.IsAt path.now (decided.target_of object.now) }
-    ensures { IfOk result (λ made. made ≡ rule.object_of (decided.target_of object.now)) }
+    ensures { IfOk result (λ made. made ≡ rule.object_name_of (decided.target_of object.now)) }
 {
     let dataset = path.dataset.copy()?;
-    let (attribute, name) = match object {
-        Object::Dataset { .. } => (None, None),
-        Object::Attribute { attribute, .. } => (
-            Some(Attribute::from_slice(alloc, attribute)?),
-            None,
-        ),
+    match object {
+        Object::Dataset { .. } => Ok(ObjectName::Dataset { dataset }),
+        Object::Attribute { attribute, .. } => {
+            let attribute = Attribute::from_slice(alloc, attribute)?;
+            Ok(ObjectName::Attribute { dataset, attribute })
+        }
         Object::Entry { attribute, .. } => {
             let attribute = Attribute::from_slice(alloc, attribute)?;
-            (Some(attribute), Some(path.name.copy()?))
+            let name = path.name.copy()?;
+            Ok(ObjectName::Entry {
+                dataset,
+                attribute,
+                name,
+            })
         }
-    };
-    Ok(acap_commands::Object {
-        dataset,
-        attribute,
-        name,
-    })
+    }
 }
 
 // That no object of an entry is one on which rights are missing, or the refusal for the first.

@@ -1,6 +1,6 @@
 //! The commands that write.
 
-use acap_commands::{Entries, Object};
+use acap_commands::{Entries, ObjectName};
 use acap_entries::{Boxed, Value};
 
 /// A command that writes, as sent: `~` stands (RFC 2244 sections 6.6.1 and 6.7).
@@ -9,7 +9,7 @@ pub enum Write {
     /// STORE: the entries are stored, all or none.
     Store(Entries),
     /// SETACL: the identifier gets these rights on the object.
-    SetAcl(Boxed<Object>, Value, Value),
+    SetAcl(Boxed<ObjectName>, Value, Value),
     /// DELETEACL: the identifier is taken off the object's list, or the whole list is removed.
-    DeleteAcl(Boxed<Object>, Option<Value>),
+    DeleteAcl(Boxed<ObjectName>, Option<Value>),
 }

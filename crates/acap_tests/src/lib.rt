@@ -6,4 +6,6 @@ mod machine;
 #[cfg(test)]
 mod pipe;
 #[cfg(test)]
+mod work;
+#[cfg(test)]
 mod world;

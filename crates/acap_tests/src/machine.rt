@@ -46,8 +46,8 @@ fn command_of(alloc: Global, line: &[u8]) -> Result<Command, GrammarError> {
     }
 }
 
-// The event of a text: `enter` and a user's name, `drain`, `leave`, or a command's line.
-fn event_of(alloc: Global, text: &[u8]) -> Result<Event, Fault> {
+/// The event of a text: `enter` and a user's name, `drain`, `leave`, or a command's line.
+pub(crate) fn event_of(alloc: Global, text: &[u8]) -> Result<Event, Fault> {
     if let Some(user) = text.strip_prefix(b"enter ") {
         let user = UserName::read(alloc, user).map_err(|_| Fault::Memory)?;
         return Ok(Event::Enter(user));
@@ -130,8 +130,8 @@ fn first_wrong<L: Ledger>(
     None
 }
 
-// An empty machine without administrators.
-fn empty(alloc: Global) -> State {
+/// An empty machine without administrators.
+pub(crate) fn empty(alloc: Global) -> State {
     State::new(alloc, Realm::new(Vec::new(alloc), Vec::new(alloc)))
 }
 

@@ -6,6 +6,7 @@ pub mod ShownLemmas
 pub mod ExampleLemmas
 pub mod PathLemmas
 pub mod MovingLemmas
+pub mod BitLemmas
 pub mod WaitingLemmas
 pub mod ClientLemmas
 pub mod RangingLemmas

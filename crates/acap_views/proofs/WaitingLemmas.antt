@@ -19,6 +19,7 @@ use Rattle.acap_views.specs.Maps.{each_kept}
 use Rattle.acap_views.specs.Seats.{Occupant, Seated, contexts_at}
 use Rattle.acap_views.specs.Telling.{drain_told, kept_drained, after_drain, drained}
 use Rattle.acap_views.specs.Waiting.{any_wait, waits, is_waiting}
+use Rattle.acap_views.proofs.BitLemmas.{waiting_bits}
 use Rattle.acap_views.specs.WaitingLaws.{WaitingLaw}
 use Rattle.acap_views.proofs.ListLemmas.{so, less}
 use Rattle.acap_views.proofs.ShownLemmas.{get_kept}
@@ -137,5 +138,6 @@ waiting_law = record {
       let none = nothing_told (drained seats seat).0 in
       (λ e. none.0 (same ∙ e), λ e. sym same ∙ none.1 e);
   none_left = none_left;
+  bits = waiting_bits;
   elsewhere = λ seats seat other apart. ap any_in (elsewhere seats seat other apart (each_kept after_drain (contexts_at seats seat)) (table.get seats seat));
 }

@@ -1,5 +1,5 @@
 //! The contexts of all seats: who comes and goes, and where something waits.
-ghost use Rattle.std.specs.Prelude.{◌≡◌, ◌≢◌, ◌↔◌, ◌<◌, ℕ, true, false, IsTrue, OnOk, OnErr, IfOk, map as each};
+ghost use Rattle.std.specs.Prelude.{◌≡◌, ◌≢◌, ◌<◌, ℕ, false, IsTrue, OnOk, OnErr, IfOk, map as each};
 ghost use Rattle.std.specs.FinMap as table;
 ghost use Rattle.std.specs.Int.{bit_at};
 ghost use Rattle.std.specs.Option.{option_copied, option_map};
@@ -8,7 +8,7 @@ ghost use Rattle.acap_entries.specs.Sorted.{InOrder};
 ghost use Rattle.acap_views.specs.Keeping.{seats_in};
 ghost use Rattle.acap_views.specs.Listing.{as_contexts, bare_seat};
 ghost use Rattle.acap_views.specs.Seats as rule;
-ghost use Rattle.acap_views.specs.Waiting.{is_waiting};
+ghost use Rattle.acap_views.specs.Waiting.{is_waiting, waiting};
 
 use crate::keyed::{lookup, make_room, put_in_room, take_out};
 use crate::open_context::OpenContext;
@@ -163,7 +163,7 @@ impl Views {
     /// At which seats a drain has something to tell: a bit for each, the lowest for the first (RFC 2244 section 6.5). Takes no
     /// memory.
     pub fn waiting(&self) -> u64
-        ensures { (n : ℕ) → n < 64 → (bit_at result n ≡ 1) ↔ (is_waiting (seats_in self.now) n ≡ true) }
+        ensures { result ≡ waiting (seats_in self.now) }
     {
         let mut bits = 0u64;
         for number in 0..64u8 {

@@ -26,5 +26,5 @@ returns c = record {
     key = tt;
     levels = omega arith;
   };
-  delete_sendable = (refl, (refl, refl));
+  delete_sendable = (refl, refl, refl);
 }

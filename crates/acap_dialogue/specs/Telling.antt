@@ -1,0 +1,40 @@
+-- Words of the contracts: what is said by a tag that is lent, and what a session takes of a piece.
+use Rattle.std.specs.Prelude.{ℕ, ℤ, ◌-◌, List, ◌++◌, length, take, min, Option, Result, Vec}
+use Rattle.std.specs.Borrow.{Bor}
+use Rattle.std.specs.declared.alloc.Global.{Global}
+use Rattle.acap_lexer.specs.Holding.{held_limit}
+use Rattle.acap_lexer.specs.declared.lexed.Lexed.{Lexed}
+use Rattle.acap_entries.specs.declared.memory.Memory.{Memory}
+use Rattle.acap_commands.specs.declared.command.Command.{Command}
+use Rattle.acap_grammar.specs.Lent.{lent_tag}
+use Rattle.acap_dialogue.specs.Hearing.{asks, authenticated, heard, heard_command}
+use Rattle.acap_dialogue.specs.Listening.{Listening}
+use Rattle.acap_dialogue.specs.Saying.{Hears}
+use Rattle.acap_dialogue.specs.Session.{listening}
+use Rattle.acap_dialogue.specs.Talking.{Talking}
+use Rattle.acap_dialogue.specs.declared.heard.Heard.{Heard}
+use Rattle.acap_dialogue.specs.declared.next.Next.{Next}
+use Rattle.acap_dialogue.specs.declared.stage.Stage.{Stage}
+
+abbrev pub asks_by : Listening → Option (Bor (List ℕ)) → Command → Next × Stage
+asks_by l tag command = asks l.user (lent_tag tag) command
+
+abbrev pub login_by : Listening → Option (Bor (List ℕ)) → List ℕ → Next × Stage
+login_by l tag mechanism = authenticated l (lent_tag tag) mechanism
+
+abbrev pub command_by : Listening → Option (Bor (List ℕ)) → Command → Next × Stage
+command_by l tag command = heard_command l (lent_tag tag) command
+
+abbrev pub heard_by : Talking → ℕ → ℤ → Lexed → Next × Stage
+heard_by t nonce clock lexed = heard (listening t nonce clock) lexed
+
+-- what a call makes of a session's stage
+abbrev pub HearsOf : Next × Stage → Result Heard Memory → Talking → Talking → Vec ℕ Global → Vec ℕ Global → Type 0
+HearsOf turn result before after out written = Hears turn result before.stage after.stage out written
+
+-- how many octets of a piece a session takes, and the session with so many
+abbrev pub room_for : Talking → List ℕ → ℕ
+room_for t piece = min (length piece) (held_limit - length t.held.text)
+
+abbrev pub with_front : Talking → ℕ → List ℕ → Talking
+with_front t n piece = record t { held = record t.held { text = t.held.text ++ take n piece } }

@@ -1,0 +1,120 @@
+-- The client of a context over all that happens in a world: it holds what a search finds [RFC 2244 sections 3.3 and 6.5].
+use Rattle.std.specs.Prelude.{◌≡◌, ℕ, ◌==◌, Bool, true, false, ◌&&◌, List, [], ◌∷◌, ◌++◌, Option, Some, None, Result, Ok, Err, if◌then◌else◌}
+use Rattle.std.specs.List.{list_all}
+use Rattle.std.specs.Option.{option_and_then}
+use Rattle.acap_commands.specs.declared.event.Event.{Event}
+use Rattle.acap_commands.specs.declared.fault.Fault.{Fault}
+use Rattle.acap_commands.specs.declared.reply.Reply.{Reply}
+use Rattle.acap_commands.specs.declared.said.Said.{Said}
+use Rattle.acap_entries.specs.Names.{is_user_name}
+use Rattle.acap_login.specs.Login.{User}
+use Rattle.acap_machine.specs.Client.{Client, View, IsFresh, IsSeenAlike, client_after, whole_after, tells, live_at, with_rows}
+use Rattle.acap_rights.specs.declared.realm.Realm.{Realm}
+use Rattle.acap_session.specs.Laws.{AloneLaw, event_in, next_in, own_of}
+use Rattle.acap_session.specs.Places.{place_at}
+use Rattle.acap_session.specs.World as world
+use Rattle.acap_session.specs.World.{World, Deed, Step, did, run, new_world, open_at}
+
+-- ---- what the session of a seat is told
+
+-- the event that it asks in a step, if it asks one
+abbrev pub asked_in : World → Step → Option Event
+asked_in w x =
+    let seat = x.occasion.seat in
+    option_and_then (λ y. event_in y.1) (next_in w.users w.host x.occasion x.deed (place_at w.places seat) (open_at w seat))
+
+-- with what the machine says to it; a fault says nothing. These replies are those of the seat's own steps, of which its octets are made
+abbrev pub told_with : Event → Result Reply Fault → Option (Event × Said)
+told_with e (Ok reply) = Some (e, reply.said)
+told_with e (Err fault) = None
+
+abbrev pub told_in : World → Step → Option (Event × Said)
+told_in w x = option_and_then (λ e. option_and_then (told_with e) (own_of w x).reply) (asked_in w x)
+
+-- ---- the client of a seat's context, and whether the list that it began with was told whole: over a list of steps, from
+-- what is so before them
+
+abbrev pub client_told : List ℕ → Option (Event × Said) → Client → Client
+client_told name None held = held
+client_told name (Some told) held = client_after name told.0 told.1 held
+
+abbrev pub whole_told : List ℕ → Option (Event × Said) → Bool → Bool
+whole_told name None whole = whole
+whole_told name (Some told) whole = whole_after name told.0 told.1 whole
+
+abbrev pub client_in : ℕ → List ℕ → List Step → World → Client → Client
+client_in seat name [] w held = held
+client_in seat name (x ∷ xs) w held =
+    client_in seat name xs (did x.occasion x.refused x.deed w) (if x.occasion.seat == seat then client_told name (told_in w x) held else held)
+
+abbrev pub whole_in : ℕ → List ℕ → List Step → World → Bool → Bool
+whole_in seat name [] w whole = whole
+whole_in seat name (x ∷ xs) w whole =
+    whole_in seat name xs (did x.occasion x.refused x.deed w) (if x.occasion.seat == seat then whole_told name (told_in w x) whole else whole)
+
+-- ---- the law
+
+-- who may log in, and whose sessions open, have names of users
+abbrev pub has_name : Option (List ℕ) → Bool
+has_name None = true
+has_name (Some user) = is_user_name user
+
+abbrev pub is_named_deed : Deed → Bool
+is_named_deed (world.Open user) = has_name user
+is_named_deed other = true
+
+abbrev pub are_named : List User → List Step → Bool
+are_named users steps = list_all (λ user. is_user_name user.0) users && list_all (λ x. is_named_deed x.deed) steps
+
+-- whether the client of that context is told all in this step
+abbrev pub told_all : List ℕ → Option (Event × Said) → Bool
+told_all name None = false
+told_all name (Some told) = tells name told.0 told.1
+
+abbrev pub tells_in : ℕ → List ℕ → World → Step → Bool
+tells_in seat name w x = x.occasion.seat == seat && told_all name (told_in w x)
+
+-- a run of a new world, and in its last step the client of a context is told all
+pub record Telling : Type 0 where
+  pub realm : Realm
+  pub users : List User
+  pub host : List ℕ
+  pub steps : List Step
+  pub last : Step
+  pub seat : ℕ
+  pub name : List ℕ
+
+abbrev pub start : Telling → World
+start t = new_world t.realm t.users t.host
+
+abbrev pub all_steps : Telling → List Step
+all_steps t = t.steps ++ t.last ∷ []
+
+abbrev pub after : Telling → World
+after t = run (all_steps t) (start t)
+
+-- what its client then holds
+abbrev pub client : Telling → Client
+client t = client_in t.seat t.name (all_steps t) (start t) None
+
+-- the context is live, and its client began with a whole list
+pub record IsTelling (t : Telling) (x : View) : Type 0 where
+  pub named : are_named t.users (all_steps t) ≡ true
+  pub tells : tells_in t.seat t.name (run t.steps (start t)) t.last ≡ true
+  pub live : live_at (after t).machine t.seat t.name ≡ Some x
+  pub whole : whole_in t.seat t.name (all_steps t) (start t) false ≡ true
+
+pub record LiveLaw : Type 0 where
+  -- whatever the sessions do, in whichever order: as long as the context is live, the client that began with a whole list met no
+  -- notice that misfits, and holds the rows of the list that it was told last
+  pub holds : (realm : Realm) (users : List User) (host : List ℕ) (steps : List Step) (seat : ℕ) (name : List ℕ) (x : View) →
+      let w = new_world realm users host in
+      are_named users steps ≡ true → live_at (run steps w).machine seat name ≡ Some x → whole_in seat name steps w false ≡ true
+      → client_in seat name steps w None ≡ with_rows x
+  -- and where an UPDATECONTEXT of its name has just ended, or a drain, these are what a search finds then
+  pub told : (t : Telling) (x : View) → IsTelling t x → (client t ≡ with_rows x) × IsFresh (after t).machine t.seat x
+  -- every row, place and membership of which comes of what the user sees: two clients whose users see the same hold the same
+  pub seen : (t u : Telling) (x y : View) → IsTelling t x → IsTelling u y → x.0 ≡ y.0 → x.1.0 ≡ y.1.0
+      → IsSeenAlike (after t).machine t.seat (after u).machine u.seat x.0 → client t ≡ client u
+  -- what is said at a seat comes of its steps and of these replies
+  pub octets : AloneLaw

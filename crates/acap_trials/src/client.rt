@@ -1,0 +1,131 @@
+//! A client that follows what it is told of a context.
+
+use crate::dice::Quest;
+use crate::world::World;
+use crate::wrong::Wrong;
+use acap_commands::{Refusal, Rows, Said, Tolds};
+use acap_entries::{Row, Steps};
+use acap_notices::{Held, Notice, Told, is_each_once};
+use std::alloc::Global;
+use std::sync::ledger::Ledger;
+
+/// A client's context, whose name is one letter.
+#[derive(Drop)]
+pub(crate) struct Client {
+    pub(crate) seat: u8,
+    pub(crate) name: u8,
+    quest: Quest,
+    held: Held,
+}
+
+// Whether a client holds these rows, in their order where they have positions.
+fn has_rows(held: &[Row], rows: &[Row], enumerated: bool) -> bool {
+    if enumerated {
+        return held == rows;
+    }
+    held.len() == rows.len() && rows.iter().all(|row| held.contains(row))
+}
+
+// What a client holds that was told some rows.
+fn held_of(rows: Rows, enumerated: bool) -> Result<Held, Wrong> {
+    if is_each_once(rows.as_slice()) {
+        Ok(Held::start(rows, enumerated))
+    } else {
+        Err(Wrong::Twice)
+    }
+}
+
+impl Client {
+    /// The client of a context that is made now, unless the dataset doesn't exist.
+    pub(crate) fn open<L: Ledger>(
+        world: &mut World,
+        seat: u8,
+        name: u8,
+        quest: Quest,
+        steps: &mut Steps<L>,
+    ) -> Result<Option<Client>, Wrong> {
+        let line = quest.making(world.alloc, name)?;
+        match world.send(seat, line.as_slice(), steps)? {
+            Said::Searched(found) => {
+                let held = held_of(found.rows, quest.enumerated)?;
+                Ok(Some(Client {
+                    seat,
+                    name,
+                    quest,
+                    held,
+                }))
+            }
+            Said::Refused(Refusal::NoExist(_)) => Ok(None),
+            _ => Err(Wrong::Answer),
+        }
+    }
+
+    // The rows that its user finds now.
+    fn found<L: Ledger>(&self, world: &mut World, steps: &mut Steps<L>) -> Result<Rows, Wrong> {
+        let line = self.quest.searching(world.alloc)?;
+        match world.send(self.seat, line.as_slice(), steps)? {
+            Said::Searched(found) => Ok(found.rows),
+            Said::Refused(Refusal::NoExist(_)) => Ok(Rows::new(world.alloc)),
+            _ => Err(Wrong::Answer),
+        }
+    }
+
+    // The rows that its user finds in the context.
+    fn shown<L: Ledger>(&self, world: &mut World, steps: &mut Steps<L>) -> Result<Rows, Wrong> {
+        let line = self.quest.within(world.alloc, self.name)?;
+        match world.send(self.seat, line.as_slice(), steps)? {
+            Said::Searched(found) => Ok(found.rows),
+            _ => Err(Wrong::Answer),
+        }
+    }
+
+    /// When it was told all: it holds what its user finds, and so does its context.
+    pub(crate) fn check<L: Ledger>(
+        &self,
+        world: &mut World,
+        steps: &mut Steps<L>,
+    ) -> Result<(), Wrong> {
+        let rows = self.found(world, steps)?;
+        if !has_rows(self.held.rows(), rows.as_slice(), self.quest.enumerated) {
+            return Err(Wrong::Held);
+        }
+        if self.shown(world, steps)? != rows {
+            return Err(Wrong::Range);
+        }
+        Ok(())
+    }
+
+    // It hears a notice at a seat, if it is of its context.
+    fn hear(&mut self, seat: u8, name: &[u8], notice: &Notice) -> Result<(), Wrong> {
+        if self.seat != seat || name != [self.name].as_slice() {
+            return Ok(());
+        }
+        Ok(self.held.apply(notice)?)
+    }
+}
+
+// All clients hear a notice at a seat.
+fn hear_notice(
+    clients: &mut Vec<Client>,
+    seat: u8,
+    name: &[u8],
+    notice: &Notice,
+) -> Result<(), Wrong> {
+    for client in clients.iter_mut() {
+        client.hear(seat, name, notice)?;
+    }
+    Ok(())
+}
+
+/// All clients hear what is told at a seat. For how many contexts it ends with a moment.
+pub(crate) fn hear(clients: &mut Vec<Client>, seat: u8, tolds: &Tolds) -> Result<usize, Wrong> {
+    let mut moments = 0usize;
+    for told in tolds.as_slice() {
+        match told {
+            Told::Note(name, notice) => hear_notice(clients, seat, name.as_slice(), notice)?,
+            Told::Upto(_, _) => moments = moments.saturating_add(1),
+            Told::Freed(_) => return Err(Wrong::Freed),
+        }
+    }
+    Ok(moments)
+}

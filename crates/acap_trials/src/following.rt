@@ -1,0 +1,235 @@
+//! Clients follow random changes of a store with inheritance and lists of rights.
+ghost use Rattle.std.specs.Prelude.{◌≡◌, ◌<◌};
+
+use crate::client::{Client, hear};
+use crate::dice::{Dice, joined};
+use crate::world::World;
+use crate::wrong::Wrong;
+use acap_commands::Said;
+use acap_entries::{Memory, Steps};
+use std::alloc::Global;
+use std::marker::Brand;
+use std::sync::ledger::{Blank, Ledger};
+
+/// What stands before the first random change.
+const FIRST: [(u8, &[u8]); 6] = [
+    (
+        1,
+        b"T STORE (\"/option/user/joe/a/m\" \"k\" \"1\") (\"/option/user/joe/a/x/m\" \"k\" \"2\")",
+    ),
+    (1, b"T STORE (\"/option/user/joe/b/m\" \"k\" \"1\")"),
+    (3, b"T STORE (\"/option/user/ann/a/m\" \"k\" \"3\")"),
+    (1, b"T SETACL (\"/option/user/joe/a/\") \"ann\" \"xrwi\""),
+    (3, b"T SETACL (\"/option/user/ann/a/\") \"joe\" \"xrwi\""),
+    (
+        1,
+        b"T STORE (\"/option/user/joe/b/\" \"dataset.inherit\" \"/option/user/joe/a/\")",
+    ),
+];
+
+/// The names of each seat's contexts.
+const NAMES: &[u8] = b"de";
+
+/// A machine, its clients, and what is sent next.
+#[derive(Drop)]
+struct Trial {
+    world: World,
+    dice: Dice,
+    clients: Vec<Client>,
+}
+
+impl Trial {
+    fn new(alloc: Global, seed: u64) -> Trial {
+        Trial {
+            world: World::new(alloc),
+            dice: Dice::new(seed),
+            clients: Vec::new(alloc),
+        }
+    }
+
+    // Three seats of two users, and the first datasets.
+    fn begin<L: Ledger>(&mut self, steps: &mut Steps<L>) -> Result<(), Wrong> {
+        for number in 1..4u8 {
+            let name: &[u8] = if number < 3 { b"joe" } else { b"ann" };
+            let _said = self.world.enter(number, name, steps)?;
+        }
+        for (number, line) in &FIRST {
+            match self.world.send(*number, *line, steps)? {
+                Said::Done(_) => {}
+                _ => return Err(Wrong::Answer),
+            }
+        }
+        Ok(())
+    }
+
+    // A client makes a random context of a name, unless the dataset doesn't exist.
+    fn open<L: Ledger>(&mut self, seat: u8, name: u8, steps: &mut Steps<L>) -> Result<(), Wrong> {
+        let quest = self.dice.quest(self.world.alloc)?;
+        if let Some(client) = Client::open(&mut self.world, seat, name, quest, steps)? {
+            self.clients.push(client).map_err(|_| Wrong::Memory)?;
+        }
+        Ok(())
+    }
+
+    // A seat's clients make their contexts.
+    fn open_seat<L: Ledger>(&mut self, seat: u8, steps: &mut Steps<L>) -> Result<(), Wrong> {
+        for name in NAMES {
+            self.open(seat, *name, steps)?;
+        }
+        Ok(())
+    }
+
+    // All clients make theirs.
+    fn open_all<L: Ledger>(&mut self, steps: &mut Steps<L>) -> Result<(), Wrong> {
+        for seat in 1..4u8 {
+            self.open_seat(seat, steps)?;
+        }
+        Ok(())
+    }
+
+    // Each client of a seat is told all: it holds what is found.
+    fn check<L: Ledger>(&mut self, seat: u8, steps: &mut Steps<L>) -> Result<(), Wrong> {
+        for client in &self.clients {
+            if client.seat == seat {
+                client.check(&mut self.world, steps)?;
+            }
+        }
+        Ok(())
+    }
+
+    // A seat is told what waits.
+    fn drain<L: Ledger>(&mut self, seat: u8, steps: &mut Steps<L>) -> Result<(), Wrong> {
+        let waits = self.world.waits(seat);
+        let Said::Drained(tolds) = self.world.drain(seat, steps)? else {
+            return Err(Wrong::Answer);
+        };
+        if waits == tolds.is_empty() || hear(&mut self.clients, seat, &tolds)? != 0 {
+            return Err(Wrong::Waiting);
+        }
+        self.check(seat, steps)
+    }
+
+    // The line that asks for what waits of a seat's contexts, and how many these are.
+    fn update_line(&self, seat: u8) -> Result<(Vec<u8>, usize), Memory> {
+        let mut line = Vec::new(self.world.alloc);
+        line.extend_from_slice(b"T UPDATECONTEXT")?;
+        let mut count = 0usize;
+        for client in &self.clients {
+            if client.seat == seat {
+                line.extend_from_slice(&[b' ', b'"', client.name, b'"'])?;
+                count = count.saturating_add(1);
+            }
+        }
+        Ok((line, count))
+    }
+
+    // A seat asks for what waits.
+    fn update<L: Ledger>(&mut self, seat: u8, steps: &mut Steps<L>) -> Result<(), Wrong> {
+        let (line, count) = self.update_line(seat)?;
+        if count == 0 {
+            return Ok(());
+        }
+        let Said::Updated(tolds) = self.world.send(seat, line.as_slice(), steps)? else {
+            return Err(Wrong::Answer);
+        };
+        if hear(&mut self.clients, seat, &tolds)? != count {
+            return Err(Wrong::Moments);
+        }
+        self.check(seat, steps)
+    }
+
+    // A random change. Whether it isn't refused.
+    fn change<L: Ledger>(&mut self, steps: &mut Steps<L>) -> Result<bool, Wrong> {
+        let line = self.dice.command(self.world.alloc)?;
+        let seat = if self.dice.under(3) == 0 { 3 } else { 1 };
+        match self.world.send(seat, line.as_slice(), steps)? {
+            Said::Done(_) => Ok(true),
+            Said::Refused(_) => Ok(false),
+            _ => Err(Wrong::Answer),
+        }
+    }
+
+    // Some seats are told what waits.
+    fn tell<L: Ledger>(&mut self, steps: &mut Steps<L>) -> Result<(), Wrong> {
+        for seat in 1..4u8 {
+            match self.dice.under(12) {
+                0 => self.drain(seat, steps)?,
+                1 => self.update(seat, steps)?,
+                _ => {}
+            }
+        }
+        Ok(())
+    }
+
+    // A random client gives up its context and makes another one.
+    fn renew<L: Ledger>(&mut self, steps: &mut Steps<L>) -> Result<(), Wrong> {
+        let at = self.dice.under(self.clients.len().max(1));
+        if at >= self.clients.len() {
+            return Ok(());
+        }
+        let client = self.clients.swap_remove(at);
+        let name = [client.name];
+        let line = joined(
+            self.world.alloc,
+            &[b"T FREECONTEXT \"", name.as_slice(), b"\""],
+        )?;
+        match self.world.send(client.seat, line.as_slice(), steps)? {
+            Said::Done(_) => self.open(client.seat, client.name, steps),
+            _ => Err(Wrong::Answer),
+        }
+    }
+
+    // So many changes.
+    fn follow<L: Ledger>(&mut self, changes: usize, steps: &mut Steps<L>) -> Result<(), Wrong> {
+        self.begin(steps)?;
+        self.open_all(steps)?;
+        let mut done = 0usize;
+        for _ in 0..10_000usize {
+            if !self.change(steps)? {
+                continue;
+            }
+            done = done.saturating_add(1);
+            self.tell(steps)?;
+            if self.dice.under(16) == 0 {
+                self.renew(steps)?;
+            }
+            if done >= changes {
+                return Ok(());
+            }
+        }
+        Err(Wrong::Refused)
+    }
+}
+
+// What goes wrong in so many changes by a seed, and what was sent until then.
+fn trouble<L: Ledger>(
+    alloc: Global,
+    blank: Blank,
+    seed: u64,
+    changes: usize,
+) -> Option<(Wrong, Vec<u8>)>
+    requires name { blank.name ≡ L.name }
+    requires parts { blank.parts ≡ L.parts }
+    requires some { 0 < L.parts }
+{
+    let mut steps = Steps::<L>::new(blank);
+    let mut trial = Trial::new(alloc, seed);
+    match trial.follow(changes, &mut steps) {
+        Ok(()) => None,
+        Err(wrong) => Some((wrong, trial.world.into_sent())),
+    }
+}
+
+/// So many changes follow each seed. With checked memory a change takes up to a tenth of a second.
+const CHANGES: usize = 50;
+
+#[test]
+fn follows_changes(rt: HostRuntime) {
+    for seed in 1..5u64 {
+        if let Some((wrong, sent)) = trouble::<Brand>(rt.alloc(), Blank::new(1), seed, CHANGES) {
+            let text = String::from_utf8(sent).unwrap_or(String::new(rt.alloc()));
+            let _printed = println!(rt; "seed {seed}\n{text}");
+            assert_eq!(rt; Some(wrong), None);
+        }
+    }
+}

@@ -1,0 +1,121 @@
+//! A machine, and what was sent to it.
+
+use crate::wrong::Wrong;
+use acap_commands::{Command, Event, Said};
+use acap_entries::{Memory, Moment, Seat, Steps, UserName};
+use acap_grammar::{GrammarError, parse};
+use acap_lexer::{Lexed, Lexer, Mode};
+use acap_machine::State;
+use acap_rights::Realm;
+use std::alloc::Global;
+use std::sync::ledger::Ledger;
+
+/// A machine, and what was sent to it, as a script says it.
+#[derive(Drop)]
+pub(crate) struct World {
+    pub(crate) alloc: Global,
+    machine: State,
+    sent: Vec<u8>,
+}
+
+// The seat with that number; one over 63 is 63.
+fn seat(number: u8) -> Seat {
+    Seat::new(number.min(63)).unwrap()
+}
+
+// What a line comes to that must be read.
+fn command_of(alloc: Global, line: &[u8]) -> Result<Command, Wrong> {
+    let mut lexer = Lexer::new(alloc);
+    if lexer.push(line).is_err() || lexer.push(b"\r\n").is_err() {
+        return Err(Wrong::Memory);
+    }
+    match lexer.next(Mode::Command) {
+        Ok(Lexed::Line(tokens)) => match parse(alloc, &tokens) {
+            Ok(command) => Ok(command),
+            Err(GrammarError::Memory) => Err(Wrong::Memory),
+            Err(_) => Err(Wrong::Unread),
+        },
+        _ => Err(Wrong::Unread),
+    }
+}
+
+impl World {
+    /// An empty machine without administrators.
+    pub(crate) fn new(alloc: Global) -> World {
+        World {
+            alloc,
+            machine: State::new(alloc, Realm::new(Vec::new(alloc), Vec::new(alloc))),
+            sent: Vec::new(alloc),
+        }
+    }
+
+    /// What was sent.
+    pub(crate) fn into_sent(self) -> Vec<u8> {
+        self.sent
+    }
+
+    // Keeps what is sent at a seat.
+    fn keep(&mut self, verb: &[u8], number: u8, text: &[u8]) -> Result<(), Memory> {
+        self.sent.extend_from_slice(b"> ")?;
+        self.sent.extend_from_slice(verb)?;
+        self.sent
+            .extend_from_slice(&[b' ', b'0'.saturating_add(number), b' '])?;
+        self.sent.extend_from_slice(text)?;
+        self.sent.extend_from_slice(b"\n")?;
+        Ok(())
+    }
+
+    // What the machine says to an event of a seat.
+    fn answer<L: Ledger>(
+        &mut self,
+        number: u8,
+        event: Event,
+        steps: &mut Steps<L>,
+    ) -> Result<Said, Wrong> {
+        let reply = self
+            .machine
+            .step(seat(number), event, Moment::first(), steps)?;
+        Ok(reply.said)
+    }
+
+    /// A user takes a seat.
+    pub(crate) fn enter<L: Ledger>(
+        &mut self,
+        number: u8,
+        name: &[u8],
+        steps: &mut Steps<L>,
+    ) -> Result<Said, Wrong> {
+        self.keep(b"enter", number, name)?;
+        match UserName::read(self.alloc, name) {
+            Ok(user) => self.answer(number, Event::Enter(user), steps),
+            Err(_) => Err(Wrong::Unread),
+        }
+    }
+
+    /// What is said to a line of a seat.
+    pub(crate) fn send<L: Ledger>(
+        &mut self,
+        number: u8,
+        line: &[u8],
+        steps: &mut Steps<L>,
+    ) -> Result<Said, Wrong> {
+        self.keep(b"send", number, line)?;
+        let command = command_of(self.alloc, line)?;
+        self.answer(number, Event::Command(command), steps)
+    }
+
+    /// What is told at a seat without being asked for.
+    pub(crate) fn drain<L: Ledger>(
+        &mut self,
+        number: u8,
+        steps: &mut Steps<L>,
+    ) -> Result<Said, Wrong> {
+        self.keep(b"drain", number, b"")?;
+        self.answer(number, Event::Drain, steps)
+    }
+
+    /// Whether something is to be told at a seat.
+    pub(crate) fn waits(&self, number: u8) -> bool {
+        (self.machine.waiting() >> number.min(63)) & 1 == 1
+    }
+}
