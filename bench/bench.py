@@ -2,25 +2,35 @@
 """Measures `acapd pipe`: processor time and memory of an operation, and allocations where a C compiler is at hand.
 
     python3 bench/bench.py PROGRAM [OTHER]
+    python3 bench/bench.py PROGRAM [OTHER] --contexts
 
 Each input is made here and read from a file; what is printed is thrown away. A line has the time of one operation (user
 and system, the least of the rounds, less that of the input's preparation alone), of both programs where two are given, and
 the ratio of the first to the second. With two programs their outputs are compared octet by octet as well.
 
+With --contexts the rows of contexts are measured instead. A line has how often the operation takes what another takes, in
+instructions where valgrind is at hand and in time, and the bound that is to be kept. S is a STORE of one item of an
+existing entry, at as many entries, without any context. OTHER, of before contexts were served, has a row of S alone.
+
     --rounds N     how many rounds each input is run (5)
     --only WORD    only the inputs whose names have the word
     --no-compare   doesn't compare outputs
+    --contexts     the rows of contexts
+    --large        of these also the rows at 60,000 entries, which take minutes
 """
 import argparse
 import filecmp
 import os
 import random
+import re
 import shutil
 import subprocess
 import sys
 import tempfile
+import typing
 
 USER = "joe"
+PIPE, SCRIPT = ("pipe", USER), ("script",)
 
 
 # ---- inputs: a name, a unit, what is prepared, what is measured, and how many operations that is
@@ -111,12 +121,138 @@ def allocation_inputs():
     yield "allocations a STORE of ten items, existing entry", lines([ten("e", "v")]), 1000
 
 
+# ---- rows of contexts: a name, what is measured, what it is measured beside, and its bounds
+
+class Work(typing.NamedTuple):
+    """What is measured, behind what is prepared, and how many operations that is."""
+    words: tuple
+    prepared: bytes
+    measured: bytes
+    count: int
+
+
+DATASET = "/option/~/"
+NUMBERED = 'SORT ("option.a0" "+i;ascii-numeric") '
+
+
+def search(of=DATASET, more=""):
+    return f'SEARCH "{of}" {more}RETURN ("option.a0") ALL'
+
+
+def make(name, dataset=DATASET, more="", enumerate_="ENUMERATE "):
+    return search(dataset, f'MAKECONTEXT {enumerate_}NOTIFY "{name}" {more}')
+
+
+def update(names):
+    return "UPDATECONTEXT " + " ".join(f'"{it}"' for it in names)
+
+
+def changes(count, entries):
+    """STOREs of a shown value, each to any of the entries. By their numbers they come to stand anywhere."""
+    mixed = random.Random(2)
+    any_of = lambda: mixed.randrange(entries)
+    return ["STORE " + entry(f"e{any_of():06}", [("option.a0", f"{any_of():08}")]) for _ in range(count)]
+
+
+def with_updates(texts, names, step=100):
+    """An UPDATECONTEXT of all behind every so many, since a context with more than 4,096 waiting notices is freed."""
+    for i in range(0, len(texts), step):
+        yield from texts[i:i + step]
+        yield update(names)
+
+
+def sent(seat, octets):
+    """The same lines as a script has them."""
+    return b"".join(b"send %d %s\n" % (seat, line) for line in octets.splitlines())
+
+
+def plain(entries):
+    """S."""
+    return Work(PIPE, filled(entries), lines(changes(10_000, entries)), 10_000)
+
+
+def watched(entries, more="", count=2000):
+    names = [f"c{k}" for k in range(20)]
+    prepared = filled(entries) + lines(make(it, more=more) for it in names)
+    return Work(PIPE, prepared, lines(with_updates(changes(count, entries), names)), count)
+
+
+def watched_growth(entries):
+    """From an empty dataset to so many entries, in random order."""
+    names, order = [f"c{k}" for k in range(20)], list(range(entries))
+    random.Random(1).shuffle(order)
+    stores = ["STORE " + entry(f"e{k:06}", [("option.a0", f"{k:08}")]) for k in order]
+    prepared = lines([f'STORE ("{DATASET}" "option.a0" "0")']) + lines(make(it) for it in names)
+    return Work(PIPE, prepared, lines(with_updates(stores, names)), entries)
+
+
+def inherited(entries):
+    """50 datasets inherit one, and 50 notices are told of each STORE to it."""
+    numbers = range(50)
+    inherit = lines(f'STORE ("/c{k}/~/" "dataset.inherit" "{DATASET}")' for k in numbers)
+    contexts = lines(make(f"c{k}", f"/c{k}/~/") for k in numbers)
+    stores = with_updates(changes(1000, entries), [f"c{k}" for k in numbers], 50)
+    return Work(PIPE, filled(entries) + inherit + contexts, lines(stores), 1000)
+
+
+def beside_others(entries, contexts):
+    """By a script: so many of 310 datasets have a context, at two seats, and a third seat stores to another dataset."""
+    prepared = b"".join(b"enter %d joe\n" % seat for seat in range(3)) + sent(0, filled(entries))
+    prepared += sent(0, lines(f'STORE ("/c{k}/~/e" "option.a0" "1")' for k in range(310)))
+    for k in range(contexts):
+        prepared += sent(1 + k % 2, lines([make(f"c{k}", f"/c{k}/~/")]))
+    return Work(SCRIPT, prepared, sent(0, lines(changes(5000, entries))), 5000)
+
+
+def store_rows():
+    stored = plain(10_000)
+    yield "STORE of a shown value, 20 contexts", watched(10_000), stored, [("S", 1, 18), ("S a notice", 20, 0.9)]
+    yield "the same, SORT by a number", watched(10_000, NUMBERED), stored, [("S", 1, 40)]
+    yield "STORE of new entries, 20 contexts", watched_growth(10_000), stored, [("S", 1, 19)]
+    yield "STORE to what 50 datasets inherit, 1,000 entries", inherited(1000), plain(1000), [("S", 1, 32)]
+    yield "STORE beside 310 contexts of other datasets", beside_others(10_000, 310), beside_others(10_000, 0), [("S", 1, 2)]
+
+
+def size_rows(large):
+    sizes = [(10_000, 1000, 2.2)] + ([(60_000, 10_000, 1.6)] if large else [])
+    for many, few, bound in sizes:
+        for name, more in (("20 contexts", ""), ("20 with SORT", NUMBERED)):
+            yield f"STORE, {name}, {many:,} entries", watched(many, more), watched(few, more), [(f"of {few:,}", 1, bound)]
+
+
+def quiet_rows():
+    """Nothing waits in the context."""
+    prepared = filled(10_000) + lines([make("c")])
+    noop, count = lines(["NOOP"] * 20_000), 20_000
+    yield "UPDATECONTEXT, nothing waits", Work(PIPE, prepared, lines([update("c")] * count), count), Work(PIPE, prepared, noop, count), [("NOOPs", 1, 2)]
+    prepared = b"enter 1 joe\n" + sent(1, prepared)
+    yield "drain, nothing waits", Work(SCRIPT, prepared, b"drain 1\n" * count, count), Work(SCRIPT, prepared, sent(1, noop), count), [("NOOPs", 1, 2)]
+
+
+def search_rows():
+    searched = Work(PIPE, filled(10_000), lines([search()] * 10), 10)
+    for name, more in (("MAKECONTEXT NOTIFY", ""), ("MAKECONTEXT ENUMERATE NOTIFY", "ENUMERATE ")):
+        made = lines(make(f"c{k}", enumerate_=more) for k in range(10))
+        yield f"{name} of 10,000", searched._replace(measured=made), searched, [("SEARCHes", 1, 1.6)]
+    for name, waiting, bound in (("nothing", 0, 1.3), ("4,096 notices", 4096, 4)):
+        prepared = filled(10_000) + lines([make("c")]) + lines(changes(waiting, 10_000))
+        over = Work(PIPE, prepared, lines([search("c")] * 10), 10)
+        yield f"SEARCH over a context of 10,000, {name} waiting", over, over._replace(measured=searched.measured), [("SEARCHes", 1, bound)]
+
+
+def context_rows(large):
+    yield from store_rows()
+    yield from size_rows(large)
+    yield from search_rows()
+    yield from quiet_rows()
+
+
 # ---- runs
 
-def run(program, file, out=os.devnull, **env):
+def run(program, file, out=os.devnull, words=PIPE, **env):
     """Processor seconds of one run."""
     with open(file, "rb") as given, open(out, "wb") as taken:
-        child = subprocess.Popen([program, "pipe", USER], stdin=given, stdout=taken, env={**os.environ, **env})
+        child = subprocess.Popen([program, *words], stdin=given, stdout=taken, env={**os.environ, **env})
         _, status, used = os.wait4(child.pid, 0)
         child.returncode = os.waitstatus_to_exitcode(status)
     if child.returncode:
@@ -145,14 +281,110 @@ def peak(program, octets, folder):
     return int(told.stdout)
 
 
-def least(programs, files, rounds):
+def least(programs, files, rounds, words=PIPE):
     """The least time of each program on each file, all of them in turn in each round."""
     times = [[float("inf")] * len(files) for _ in programs]
     for _ in range(rounds):
         for i, program in enumerate(programs):
             for j, file in enumerate(files):
-                times[i][j] = min(times[i][j], run(program, file))
+                times[i][j] = min(times[i][j], run(program, file, words=words))
     return times
+
+
+def instructions(program, words, file):
+    """The instructions of one run."""
+    valgrind = ["valgrind", "--tool=cachegrind", "--cache-sim=no", "--cachegrind-out-file=/dev/null", program, *words]
+    with open(file, "rb") as given:
+        told = subprocess.run(valgrind, stdin=given, stdout=subprocess.DEVNULL, stderr=subprocess.PIPE, check=False)
+    found = re.search(rb"I +refs: +([0-9,]+)", told.stderr)
+    if told.returncode or not found:
+        sys.exit(f"{program} {' '.join(words)} ended with status {told.returncode}: {told.stderr.decode()[-300:]}")
+    return int(found.group(1).replace(b",", b""))
+
+
+REFUSED = re.compile(rb"^(?:\d+: )?(?:\S+ (?:NO|BAD)|\* (?:ALERT|BYE)) .*", re.MULTILINE)
+
+
+def check_answers(program, words, file, folder):
+    out = f"{folder}/answers"
+    run(program, file, out, words)
+    with open(out, "rb") as it:
+        refused = REFUSED.search(it.read())
+    if refused:
+        sys.exit(f"{program} refuses what is measured: {refused.group().decode()}")
+
+
+class Bench:
+    """Measures works with one program or two."""
+
+    def __init__(self, programs, folder, rounds):
+        self.programs, self.folder, self.rounds = programs, folder, rounds
+        self.counts = {}
+        self.counts_any = shutil.which("valgrind") is not None
+
+    def files(self, works):
+        """Of each work a file of what is prepared, and one with what is measured as well."""
+        files = []
+        for i, work in enumerate(works):
+            for name, octets in (("ready", work.prepared), ("whole", work.prepared + work.measured)):
+                files.append(f"{self.folder}/{name}{i}")
+                with open(files[-1], "wb") as it:
+                    it.write(octets)
+        return files
+
+    def counted(self, program, words, file):
+        with open(file, "rb") as it:
+            key = program, words, it.read()
+        if key not in self.counts:
+            self.counts[key] = instructions(*key[:2], file)
+        return self.counts[key]
+
+    def costs(self, works):
+        """Of each program and each work: instructions and seconds of one operation."""
+        files, words = self.files(works), works[0].words
+        for program in self.programs:
+            for file in files[1::2]:
+                check_answers(program, words, file, self.folder)
+        times = least(self.programs, files, self.rounds, words)
+        counts = [[self.counted(it, words, file) for file in files] if self.counts_any else None for it in self.programs]
+        each = lambda of: [(of[2 * i + 1] - of[2 * i]) / work.count for i, work in enumerate(works)]
+        return [each(it) if it else None for it in counts], [each(it) for it in times]
+
+
+def shown_bound(name, by_count, by_time, unit, bound):
+    """How often it is what it stands beside, by both measures, and whether the bound is kept. Instructions tell where they are counted."""
+    kept = "met" if (by_time if by_count is None else by_count) <= bound else "not met"
+    count = f"{'-':>10}" if by_count is None else f"{by_count:10.2f}"
+    print(f"{name:58}{count}{by_time:10.2f} {unit:12}{bound:8,} {kept}", flush=True)
+
+
+def measure_context_rows(programs, folder, given):
+    one_program, all_programs = (Bench(it, folder, given.rounds) for it in (programs[:1], programs))
+    print(f"{'':58}{'counted':>10}{'time':>10} {'':12}{'at most':>8}", flush=True)
+    for name, work, beside, bounds in context_rows(given.large):
+        if given.only not in name:
+            continue
+        (counts,), (times,) = one_program.costs([work, beside])
+        for unit, parts, bound in bounds:
+            shown_bound(name, counts and counts[0] / counts[1] / parts, times[0] / times[1] / parts, unit, bound)
+        microseconds = " and ".join(f"{it * 1e6:,.2f} us" for it in times)
+        told = " and ".join(f"{it:,.0f}" for it in counts) + " instructions, " if counts else ""
+        print(f"    {told}{microseconds}", flush=True)
+    name = "STORE without contexts, beside the other program"
+    if len(programs) == 2 and given.only in name:
+        counts, times = all_programs.costs([plain(10_000)])
+        shown_bound(name, counts[0] and counts[0][0] / counts[1][0], times[0][0] / times[1][0], "S", 1.05)
+    measure_context_memory(programs[0], folder, given.only)
+
+
+def measure_context_memory(program, folder, only):
+    """Ten contexts more over the same entries: what a SEARCH takes for a while doesn't count."""
+    name = "octets an entry in a live context, one attribute"
+    if only not in name:
+        return
+    few, many = (filled(10_000) + lines(make(f"c{k}") for k in range(count)) for count in (1, 11))
+    octets = (peak(program, many, folder) - peak(program, few, folder)) / 100_000
+    shown_bound(name, None, octets, "octets", 320)
 
 
 def shown(name, values, unit, digits=3):
@@ -215,10 +447,13 @@ def main():
     words.add_argument("programs", nargs="+")
     words.add_argument("--rounds", type=int, default=5)
     words.add_argument("--only", default="")
-    words.add_argument("--no-compare", action="store_true")
+    for flag in ("--no-compare", "--contexts", "--large"):
+        words.add_argument(flag, action="store_true")
     given = words.parse_args()
     programs = [os.path.abspath(it) for it in given.programs]
     with tempfile.TemporaryDirectory(prefix="acapd-bench-") as folder:
+        if given.contexts:
+            return measure_context_rows(programs, folder, given)
         ready, whole, nothing = (f"{folder}/{it}" for it in ("ready", "whole", "nothing"))
         open(nothing, "wb").close()
         for name, unit, prepared, measured, count in inputs():

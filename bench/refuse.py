@@ -7,8 +7,10 @@ FILE has one command a line, tags A1, A2, .., and is sent with CR LF; or it is a
 tags that stand once each, and the answers to challenges. The Nth allocation alone is refused, by a library that is loaded before
 the C library's. Allowed is: the honest answers (where the program did without); one command answered `NO (TRYLATER) "No memory"`,
 and every other one as if that command were never sent (for the answer to a challenge: as if there had been no login); or a
-front of the honest answers, with status 1 and `acapd: no memory`; or status 2 where the arguments couldn't be read. It ends
-when a run asks for fewer allocations than N, or after so many seconds, and then prints the number to go on from.
+front of the honest answers, with status 1 and `acapd: no memory` (of a script: the honest answers to all lines before one, and
+nothing of that one's); or status 2 where the arguments couldn't be read. A command that is refused so is sent once more, in a
+run of its own: then it and all others must be answered honestly. It ends when a run asks for fewer allocations than N, or after
+so many seconds, and then prints the number to go on from.
 """
 import argparse
 import os
@@ -58,6 +60,11 @@ class Pipe:
         """What is printed but for that refusal."""
         return out.replace(refusal, b"", 1)
 
+    @staticmethod
+    def ended(honest, fronts, out):
+        """What is said of an end for want of memory, or None where it isn't allowed."""
+        return b"the end" if honest.startswith(out) else None
+
 
 class Script:
     """A script of several sessions."""
@@ -90,70 +97,104 @@ class Script:
             shown.pop()
         return b"".join(shown) + behind
 
-
-def run(program, kind, lines, **env):
-    """What is printed, said of a fault, and the status."""
-    given = b"".join(line + kind.end for line in lines)
-    done = subprocess.run([program, *kind.words], input=given, capture_output=True, env={**os.environ, **env})
-    return done.stdout, done.stderr, done.returncode
+    @staticmethod
+    def ended(honest, fronts, out):
+        return b"the end at " + fronts[out].split()[0] if out in fronts else None
 
 
-def allowed(program, kind, lines, honest, outcome, without):
-    """The name of the command that was refused, nothing where none was, or None where the outcome isn't allowed."""
-    out, err, status = outcome
-    if status == 2:
-        return b""
-    if status == 1:
-        return b"" if err == b"acapd: no memory\n" and honest.startswith(out) else None
-    if out == honest:
-        return b""
-    for name, took, refusal in kind.commands(lines):
-        if refusal in out:
-            if took not in without:
-                left = [line for at, line in enumerate(lines) if at not in took]
-                without[took] = run(program, kind, left)[0]
-            if kind.rest(out, refusal) == without[took]:
-                return name
-    return None
+class Trial:
+    """The runs of some lines."""
+
+    def __init__(self, program, kind, lines):
+        self.program, self.kind, self.lines = program, kind, lines
+        self.honest, _, status = self.run(lines)
+        if status:
+            sys.exit(f"without a refusal the status is {status}")
+        # what is printed before each line, and the last line before which it is
+        self.fronts = {self.run(lines[:at])[0]: line for at, line in enumerate(lines)}
+        self.without = {}
+
+    def run(self, lines, **env):
+        """What is printed, said of a fault, and the status."""
+        given = b"".join(line + self.kind.end for line in lines)
+        words = [self.program, *self.kind.words]
+        done = subprocess.run(words, input=given, capture_output=True, env={**os.environ, **env})
+        return done.stdout, done.stderr, done.returncode
+
+    def is_left_out(self, took, refusal, out):
+        """Whether what is printed is that refusal and, else, what is printed without the lines of the command."""
+        if refusal not in out:
+            return False
+        if took not in self.without:
+            left = [line for at, line in enumerate(self.lines) if at not in took]
+            self.without[took] = self.run(left)[0]
+        return self.kind.rest(out, refusal) == self.without[took]
+
+    def goes_on(self, took, refusal, env):
+        """Whether the command that is refused, sent once more, is answered honestly, and all others are."""
+        end = took[-1] + 1
+        out, _, _ = self.run(self.lines[:end] + [self.lines[at] for at in took] + self.lines[end:], **env)
+        return refusal in out and self.kind.rest(out, refusal) == self.honest
+
+    def judged(self, outcome, env):
+        """What was refused, or None where the outcome isn't allowed."""
+        out, err, status = outcome
+        if status == 2:
+            return b"the arguments"
+        if status == 1:
+            return self.kind.ended(self.honest, self.fronts, out) if err == b"acapd: no memory\n" else None
+        if out == self.honest:
+            return b"nothing"
+        for name, took, refusal in self.kind.commands(self.lines):
+            if self.is_left_out(took, refusal, out):
+                return name if self.goes_on(took, refusal, env) else None
+        return None
 
 
-def main():
+def arguments():
     words = argparse.ArgumentParser()
     words.add_argument("program")
     words.add_argument("file")
     words.add_argument("--script", action="store_true")
     words.add_argument("--from", dest="first", type=int, default=1)
     words.add_argument("--seconds", type=float, default=500)
-    asked = words.parse_args()
-    kind = Script if asked.script else Pipe
+    return words.parse_args()
+
+
+def refuse_all(trial, folder, first, end):
+    """Refuses one allocation after the other. How many, what was refused how often, and whether it came to its end."""
+    source, refuser, told = f"{folder}/refuser.c", f"{folder}/refuser.so", f"{folder}/told"
+    with open(source, "w", encoding="ascii") as it:
+        it.write(REFUSER)
+    subprocess.run(["cc", "-O1", "-shared", "-fPIC", "-o", refuser, source, "-ldl"], check=True)
+    counts, n = {}, first
+    while time.monotonic() < end:
+        env = {"LD_PRELOAD": refuser, "REFUSE_AT": str(n), "REFUSE_TOLD": told}
+        outcome = trial.run(trial.lines, **env)
+        with open(told, encoding="ascii") as it:
+            if int(it.read()) < n:
+                return n, counts, True
+        name = trial.judged(outcome, env)
+        if name is None:
+            out, err, status = outcome
+            sys.exit(f"allocation {n}: not allowed: status {status}, {err!r}\n{out.decode('latin-1')}")
+        counts[name] = counts.get(name, 0) + 1
+        n += 1
+    return n, counts, False
+
+
+def main():
+    asked = arguments()
     with open(asked.file, "rb") as it:
         lines = [line.rstrip(b"\r\n") for line in it if line.strip()]
     end = time.monotonic() + asked.seconds
+    trial = Trial(asked.program, Script if asked.script else Pipe, lines)
     with tempfile.TemporaryDirectory() as folder:
-        source, refuser, told = f"{folder}/refuser.c", f"{folder}/refuser.so", f"{folder}/told"
-        with open(source, "w", encoding="ascii") as it:
-            it.write(REFUSER)
-        subprocess.run(["cc", "-O1", "-shared", "-fPIC", "-o", refuser, source, "-ldl"], check=True)
-        honest, _, status = run(asked.program, kind, lines)
-        if status:
-            sys.exit(f"without a refusal the status is {status}")
-        without, commands, n = {}, {}, asked.first
-        while time.monotonic() < end:
-            outcome = run(asked.program, kind, lines, LD_PRELOAD=refuser, REFUSE_AT=str(n), REFUSE_TOLD=told)
-            name = allowed(asked.program, kind, lines, honest, outcome, without)
-            if name is None:
-                out, err, status = outcome
-                sys.exit(f"allocation {n}: not allowed: status {status}, {err!r}\n{out.decode('latin-1')}")
-            commands[name] = commands.get(name, 0) + 1
-            with open(told, encoding="ascii") as it:
-                if int(it.read()) < n:
-                    break
-            n += 1
-        else:
-            print(f"not ended: go on with --from {n}")
-            return
-    told = ", ".join(f"{name.decode()} {count}" for name, count in commands.items() if name)
-    print(f"{n - asked.first} allocations refused, each with an allowed outcome; commands answered TRYLATER: {told or 'none'}")
+        n, counts, is_whole = refuse_all(trial, folder, asked.first, end)
+    told = ", ".join(f"{name.decode()} {count}" for name, count in counts.items())
+    print(f"{n - asked.first} allocations refused, each with an allowed outcome. Refused: {told or 'nothing'}")
+    if not is_whole:
+        print(f"not ended: go on with --from {n}")
 
 
 if __name__ == "__main__":
