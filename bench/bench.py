@@ -320,7 +320,7 @@ class Bench:
     def __init__(self, programs, folder, rounds):
         self.programs, self.folder, self.rounds = programs, folder, rounds
         self.counts = {}
-        self.counts_any = shutil.which("valgrind") is not None
+        self.has_valgrind = shutil.which("valgrind") is not None
 
     def files(self, works):
         """Of each work a file of what is prepared, and one with what is measured as well."""
@@ -346,16 +346,17 @@ class Bench:
             for file in files[1::2]:
                 check_answers(program, words, file, self.folder)
         times = least(self.programs, files, self.rounds, words)
-        counts = [[self.counted(it, words, file) for file in files] if self.counts_any else None for it in self.programs]
+        counts = [[self.counted(it, words, file) for file in files] if self.has_valgrind else None for it in self.programs]
         each = lambda of: [(of[2 * i + 1] - of[2 * i]) / work.count for i, work in enumerate(works)]
         return [each(it) if it else None for it in counts], [each(it) for it in times]
 
 
 def shown_bound(name, by_count, by_time, unit, bound):
-    """How often it is what it stands beside, by both measures, and whether the bound is kept. Instructions tell where they are counted."""
-    kept = "met" if (by_time if by_count is None else by_count) <= bound else "not met"
+    """How often it is what it stands beside, by both measures, and whether the bound is kept."""
+    kept = [it is None or it <= bound for it in (by_count, by_time)]
+    told = {(True, True): "met", (False, False): "not met"}.get(tuple(kept), "met as counted" if kept[0] else "met in time")
     count = f"{'-':>10}" if by_count is None else f"{by_count:10.2f}"
-    print(f"{name:58}{count}{by_time:10.2f} {unit:12}{bound:8,} {kept}", flush=True)
+    print(f"{name:58}{count}{by_time:10.2f} {unit:12}{bound:8,} {told}", flush=True)
 
 
 def measure_context_rows(programs, folder, given):
