@@ -3,6 +3,7 @@ pub mod ToldLemmas
 pub mod NoticeLemmas
 pub mod CurrentLemmas
 pub mod ShownLemmas
+pub mod QuietLemmas
 pub mod ExampleLemmas
 pub mod PathLemmas
 pub mod MovingLemmas

@@ -1,5 +1,5 @@
 -- Contexts and seats as the lists in which they are kept, in the order of their names and numbers.
-use Rattle.std.specs.Prelude.{ℕ, ℤ, List, []}
+use Rattle.std.specs.Prelude.{ℕ, ℤ, Bool, List, []}
 use Rattle.std.specs.FinMap as table
 use Rattle.std.specs.Option.{option_map_or}
 use Rattle.acap_notices.specs.declared.told.Told.{Told}
@@ -8,6 +8,7 @@ use Rattle.acap_views.specs.Keeping.{RoomyContext, RoomyOccupant, contexts_in, o
 use Rattle.acap_views.specs.Maps.{each_value}
 use Rattle.acap_views.specs.Seats.{Occupant, Seated}
 use Rattle.acap_views.specs.Telling.{shown_now, notes_of, after_updates}
+use Rattle.acap_views.specs.Work.{is_live, any_live}
 
 -- without the room
 abbrev pub bare : List ℕ × RoomyContext → List ℕ × Context
@@ -15,6 +16,13 @@ bare entry = (entry.0, entry.1.context)
 
 abbrev pub bare_seat : ℕ × RoomyOccupant → ℕ × Occupant
 bare_seat entry = (entry.0, occupant_in entry.1)
+
+-- whether it follows the store
+abbrev pub live_entry : List ℕ × RoomyContext → Bool
+live_entry entry = is_live entry.1.context.kept
+
+abbrev pub live_seat : ℕ × RoomyOccupant → Bool
+live_seat entry = any_live (contexts_in entry.1.contexts)
 
 -- a context of which all has been told that waited
 abbrev pub told_entry : List ℕ × Context → List ℕ × Context

@@ -8,13 +8,20 @@ use Rattle.acap_entries.specs.declared.path.Path.{Path}
 use Rattle.acap_inherit.specs.Touched.{touched}
 use Rattle.acap_search.specs.Scopes.{scope_of, datasets_of}
 use Rattle.acap_search.specs.declared.query.Sought.{Sought}
-use Rattle.acap_views.specs.Contexts.{Kept, Snapshot, Live, Freed, Context}
+use Rattle.acap_views.specs.Contexts.{Kept, Snapshot, Live, Freed, Context, Contexts}
 use Rattle.acap_views.specs.Seats.{Seated}
 
 abbrev pub is_live : Kept → Bool
 is_live (Snapshot shown) = false
 is_live (Live shown now pending) = true
 is_live Freed = false
+
+-- whether a context of a session follows the store, and whether one of any session does
+abbrev pub any_live : Contexts → Bool
+any_live contexts = list_any (λ context. is_live context.kept) (table.values contexts)
+
+abbrev pub has_live : Seated → Bool
+has_live seats = list_any (λ occupant. any_live occupant.contexts) (table.values seats)
 
 -- whether a search looks through the dataset of an entry
 abbrev pub is_looked_at : Stored → Sought → Path → Bool

@@ -2,6 +2,7 @@
 
 use crate::shift::Shift;
 use acap_entries::Sequence;
+use std::alloc::Global;
 use std::marker::Model;
 
 /// What becomes of each touched entry that a context looks at.
@@ -29,7 +30,18 @@ impl Model for Delta {
 }
 
 impl Delta {
-    ghost use Rattle.std.specs.Prelude.{◌≡◌};
+    ghost use Rattle.std.specs.Prelude.{◌≡◌, []};
+
+    /// What a change comes to that no context follows. Takes no memory.
+    pub(crate) fn nothing(alloc: Global) -> Delta
+        ensures seats { result.seats ≡ [] }
+        ensures work { result.work ≡ 0 }
+    {
+        Delta {
+            seats: Sequence::new(alloc),
+            work: 0,
+        }
+    }
 
     /// How many entries were looked at for it: at most the touched ones in the scopes of live contexts, each once for each context.
     pub fn work(&self) -> usize

@@ -19,6 +19,7 @@ mod open_context;
 mod opening;
 mod places;
 mod preparing;
+mod quiet;
 mod ranged_context;
 mod ranging;
 mod refusal;

@@ -87,6 +87,9 @@ impl Views {
         ensures count { IsCounted result steps.old steps.new (touched_for_all change.now tree.now.store (seats_in self.now)) }
         ensures work { IfOk result (λ delta. delta.work ≡ steps.new - steps.old) }
     {
+        if !self.has_live() {
+            return Ok(Delta::nothing(self.alloc));
+        }
         prepared_law();
         change.writes.form_law();
         let datasets = index.touched_in(tree, change)?;

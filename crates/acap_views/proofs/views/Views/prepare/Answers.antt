@@ -1,8 +1,11 @@
-use Rattle.std.proofs.Common.{◌∙◌, ap}
+use Rattle.std.proofs.Common.{◌∙◌, ap, arith, sym}
+use Rattle.std.specs.FinMap as table
+use Rattle.acap_entries.specs.Changes.{store_after}
 use Rattle.acap_entries.proofs.StoreLaws.{value_after}
 use Rattle.acap_views.specs.Aheads.{Planned}
 use Rattle.acap_views.specs.Keeping.{seats_in}
-use Rattle.acap_views.specs.Preparing.{with_delta}
+use Rattle.acap_views.specs.Preparing.{seats_after, with_delta}
+use Rattle.acap_views.proofs.QuietLemmas.{quiet_same, quiet_work, same_seats}
 use Rattle.acap_views.proofs.views.Views.prepare.Goals as goal
 
 pub returns-clause-made : goal.returns-clause-made
@@ -11,3 +14,15 @@ returns-clause-made g c =
     ap (λ turns. with_delta (record { seats = turns; work = c.in_ok-work.work }) (seats_in c.args.self.now)) c.in_ok-seats.ensures.turns
     ∙ c.prepared_law.ensures.changed plan (seats_in c.args.self.now) c.in_ok-work.work
     (record { sound = c.requires.sound; paths = (value_after c.args.change.now c.args.tree.now.store).paths; formed = c.form_law.ensures }) c.requires.current
+
+pub returns-then-not-has_live-clause-made : goal.returns-then-not-has_live-clause-made
+returns-then-not-has_live-clause-made g c =
+    let seats = seats_in c.args.self.now in
+    ap (λ turns. table.from_entries (seats_after turns (table.entries seats))) c.nothing.ensures.seats
+    ∙ (same_seats seats ∙ sym (quiet_same c.args.realm.now c.args.tree.now.store (store_after c.args.change.now c.args.tree.now.store) seats (sym c.has_live.ensures ∙ c.if-not-has_live.true)))
+
+pub returns-then-not-has_live-clause-count : goal.returns-then-not-has_live-clause-count
+returns-then-not-has_live-clause-count g c =
+    let seats = seats_in c.args.self.now in
+    let none = quiet_work c.args.change.now.writes c.args.tree.now.store (store_after c.args.change.now c.args.tree.now.store) seats (sym c.has_live.ensures ∙ c.if-not-has_live.true) in
+    omega (arith, none)
