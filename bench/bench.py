@@ -96,6 +96,9 @@ def inputs():
     yield "SEARCH of 10,000 entries, key over two attributes", "us", filled(10_000, 2), lines([keyed] * 20), 20
     listed = lines(['SETACL ("/option/~/" "option.a0") "joe" "rwxia"'])
     yield "SEARCH of 10,000 entries, the attribute has a list", "us", filled(10_000) + listed, lines([search(1)] * 20), 20
+    heir = lines(['STORE ("/c/~/" "dataset.inherit" "/option/user/joe/")'])
+    of_heir = 'SEARCH "/c/~/" RETURN ("option.a0") ALL'
+    yield "SEARCH of 10,000 entries, all inherited", "us", filled(10_000, 1) + heir, lines([of_heir] * 20), 20
     yield "SEARCH of 2,000 rows of 1,000 octets", "us", filled(2000, 1, 1000), lines([search(1)] * 80), 80
     for name, octets in (
         ("short tokens", line_of(" ab (cd ef) ghi") * 2500),
