@@ -92,11 +92,17 @@ impl Lexer {
         ensures held { IfOk result (λ n. self.new ≡ with_taken self.old piece.now n) }
         ensures err { OnErr result (self.new ≡ self.old) }
     {
-        let room = HELD_LIMIT.saturating_sub(self.text.len() - self.start);
-        let taken = piece.len().min(room);
+        let taken = piece.len().min(self.room());
         self.start = compact(&mut self.text, self.start);
         self.text.extend_from_slice(&piece[..taken])?;
         Ok(taken)
+    }
+
+    /// How many octets there is room for: `push` takes so many of a longer piece, and all of any other.
+    pub fn room(&self) -> usize
+        ensures { result ≡ held_limit - length self.now.text }
+    {
+        HELD_LIMIT.saturating_sub(self.text.len() - self.start)
     }
 
     /// What comes next, where a command that isn't whole is read in this mode from its beginning on: `More` only
