@@ -21,8 +21,9 @@ use Rattle.acap_grammar.specs.Grammar.{arguments_at, command_of}
 use Rattle.acap_grammar.specs.Marks.{ends, string_at, word_at}
 use Rattle.acap_grammar.specs.Refusals.{code_of}
 use Rattle.acap_grammar.specs.Replies.{challenge_form, done_form, refused_form, good_bye_form, said_form, octets_of, crlf}
-use Rattle.acap_dialogue.specs.Examples.{AnswerExamples, HearingExamples, LoginExamples, NextExamples, tims, asked, talking}
+use Rattle.acap_dialogue.specs.Examples.{AnswerExamples, HearingExamples, LoginExamples, NextExamples, RunExamples, tims, asked, talking}
 use Rattle.acap_dialogue.specs.Hearing.{challenges, heard, heard_command, heard_answer, logs_in, opening}
+use Rattle.acap_dialogue.specs.Running.{did}
 use Rattle.acap_dialogue.specs.Session.{answered, comes_to, session_next, session_drain}
 use Rattle.acap_dialogue.specs.declared.next.Next.{Next}
 use Rattle.acap_dialogue.specs.declared.stage.Stage.{Stage}
@@ -104,4 +105,21 @@ next_examples = record {
   drains = refl;
   nobody_drains = refl;
   no_drain = refl;
+}
+
+pub run_examples : RunExamples
+unfolding did answered heard heard_command heard_answer opening session_next session_drain challenge_form command_of word_at arguments_at ends string_at named_at context_named is_context_name octets_of said_form done_form refused_form good_bye_form code_of printed quoted may_quote is_printable is_escaped is_utf8 chars encode_utf8 is_word is_tag is_quotable is_digit quoted_at escaped_at reading.string_at is_count count_of closing_of mark_of stray token_at may_touch gap_behind ends_tag tag_at part_within end_of part_end said step_of progress_within progress_from progress next_of
+run_examples = record {
+  enters = refl;
+  leaves = refl;
+  must_leave = refl;
+  nothing_left = refl;
+  no_leave = refl;
+  refused = refl;
+  unanswered = refl;
+  not_asked = refl;
+  drains = refl;
+  nobody_drains = refl;
+  no_drain = refl;
+  ends = refl;
 }

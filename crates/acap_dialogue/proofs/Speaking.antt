@@ -24,7 +24,7 @@ use Rattle.acap_commands.specs.declared.fault.Fault.TheVariants as fault
 use Rattle.acap_dialogue.specs.Listening.{Listening}
 use Rattle.acap_dialogue.specs.Hearing.{heard, heard_line, heard_command, heard_answer, answer_line, answer_token, authenticated, mechanism_name, logs_in, who, asks, opening, tag_of, ready_line}
 use Rattle.acap_dialogue.specs.Session.{listening, session_next, next_at, answer_said, is_asked, is_hearing, Awaits}
-use Rattle.acap_dialogue.specs.Saying.{heard_of, next_of as told}
+use Rattle.acap_dialogue.specs.Saying.{IfMore, heard_of, next_of as told}
 use Rattle.acap_dialogue.specs.Talking.{Talking}
 use Rattle.acap_dialogue.specs.declared.heard.Heard.{Heard}
 use Rattle.acap_dialogue.specs.declared.next.Next.{Next}
@@ -233,3 +233,14 @@ same_at users nonce clock stage.Closed t e m = refl
 pub same_talk : (users : List User) (nonce : ℕ) (clock : ℤ) (t : Talking) → (session_next users nonce clock t).0 ≡ next.More → (session_next users nonce clock t).1 ≡ t
 unfolding session_next
 same_talk users nonce clock t m = same_at users nonce clock t.stage t refl m
+
+more_told : (n : Next) (octets : List ℕ) (t old : Talking) → (n ≡ next.More → t ≡ old) → IfMore (told (heard_of n) octets) (t ≡ old)
+more_told next.More octets t old f = f refl
+more_told (next.Say said) octets t old f = tt
+more_told (next.Ask event) octets t old f = tt
+more_told (next.Close said) octets t old f = tt
+
+-- the same of what was told apart
+pub more_as : (x : Next × Talking) (h : Heard) (octets : List ℕ) (old t : Talking) (n : Next) → (x.0 ≡ next.More → x.1 ≡ old) → h ≡ heard_of x.0 → t ≡ x.1 → n ≡ told h octets → IfMore n (t ≡ old)
+more_as x h octets old t n same e f g =
+    subst (λ k. IfMore k (t ≡ old)) (sym (g ∙ ap (λ k. told k octets) e)) (more_told x.0 octets t old (λ m. f ∙ same m))

@@ -1,6 +1,6 @@
 -- Examples of what a session says, by the definitions alone [RFC 2244 sections 2.2, 2.6.3, 3.6, 6.2 and 6.3.1; RFC 2195
 -- section 2].
-use Rattle.std.specs.Prelude.{◌≡◌, ℕ, List, [], ◌∷◌, ◌++◌, map, replicate, codes, pos, negsuc, true, false, Option, Some, None, Ok, Err}
+use Rattle.std.specs.Prelude.{◌≡◌, ℕ, List, [], ◌∷◌, ◌++◌, map, replicate, codes, pos, negsuc, Bool, true, false, Option, Some, None, Ok, Err}
 use Rattle.acap_lexer.specs.Token.{Token}
 use Rattle.acap_lexer.specs.declared.fault.LexFault.TheVariants as lexical
 use Rattle.acap_lexer.specs.declared.kind.Kind.TheVariants as kind
@@ -16,6 +16,7 @@ use Rattle.acap_commands.specs.declared.verb.Verb.TheVariants as verb
 use Rattle.acap_commands.specs.declared.event.Event.TheVariants as event
 use Rattle.acap_commands.specs.declared.fault.Fault.TheVariants as fault
 use Rattle.acap_dialogue.specs.Hearing.{heard, heard_answer, opening, seconds_of}
+use Rattle.acap_dialogue.specs.Running.{At, Did, Drain, Leave, Outcome, Piece, Turn, run, start}
 use Rattle.acap_dialogue.specs.Session.{answered, is_asked, session_next, session_drain}
 use Rattle.acap_dialogue.specs.Talking.{Talking}
 use Rattle.acap_dialogue.specs.declared.next.Next.{Next}
@@ -168,3 +169,46 @@ pub record NextExamples : Type 0 where
   pub drains : session_drain (talking joe stage.Ready []) ≡ (next.Ask event.Drain, talking joe stage.Draining [])
   pub nobody_drains : session_drain (talking None stage.Ready []) ≡ (next.More, talking None stage.Ready [])
   pub no_drain : session_drain (talking joe waiting []) ≡ (next.More, talking joe waiting [])
+
+-- ---- runs
+
+-- what a run of a session comes to, of that user if there is one
+abbrev pub runs : Option (List ℕ) → List Did → Option At
+runs user dids = run tims dids (start (codes "postoffice.reston.mci.net") user)
+
+-- where it stands then
+abbrev pub stands : Option (List ℕ) → Stage → List ℕ → Bool → Option At
+stands user stage out seated = Some (record { talk = talking user stage []; out = out; seated = seated })
+
+abbrev pub replies : Said → Outcome
+replies words = Some (Ok (plain words))
+
+-- a turn at the beginning of 1970
+abbrev pub turn : Outcome → Outcome → Did
+turn asked left = Turn (pos 0) 0 asked left
+
+abbrev pub logout : Did
+logout = Piece (codes "A1 LOGOUT" ++ crlf)
+
+abbrev pub farewell : List ℕ
+farewell = codes "* BYE \"Good bye\"" ++ crlf ++ codes "A1 OK \"LOGOUT done\"" ++ crlf
+
+pub record RunExamples : Type 0 where
+  -- a user enters, and is heard
+  pub enters : runs joe (turn (replies said.Greeting) None ∷ []) ≡ stands joe stage.Ready greeting true
+  -- who is closed leaves the seat in the same turn, and that Leave is answered
+  pub leaves : runs joe (turn (replies said.Greeting) None ∷ logout ∷ turn None (replies said.Left) ∷ []) ≡ stands joe stage.Closed (greeting ++ farewell) false
+  pub must_leave : runs joe (turn (replies said.Greeting) None ∷ logout ∷ turn None None ∷ []) ≡ None
+  -- who never entered has nothing to leave
+  pub nothing_left : runs None (turn None None ∷ logout ∷ turn None None ∷ []) ≡ stands None stage.Closed (greeting ++ farewell) false
+  pub no_leave : runs None (turn None None ∷ logout ∷ turn None (replies said.Left) ∷ []) ≡ None
+  pub refused : runs joe (turn (Some (Err fault.AlreadyEntered)) None ∷ []) ≡ stands joe stage.Closed [] false
+  -- an event that is asked is answered, and nothing else is
+  pub unanswered : runs joe (turn None None ∷ []) ≡ None
+  pub not_asked : runs None (turn (replies said.Greeting) None ∷ []) ≡ None
+  -- a drain before a login asks nothing
+  pub drains : runs joe (turn (replies said.Greeting) None ∷ Drain (pos 0) (replies (said.Drained [])) None ∷ []) ≡ stands joe stage.Ready greeting true
+  pub nobody_drains : runs None (turn None None ∷ Drain (pos 0) None None ∷ []) ≡ stands None stage.Ready greeting false
+  pub no_drain : runs None (turn None None ∷ Drain (pos 0) (replies (said.Drained [])) None ∷ []) ≡ None
+  -- a session ends without a word
+  pub ends : runs joe (turn (replies said.Greeting) None ∷ Leave (pos 0) (replies said.Left) ∷ []) ≡ stands joe stage.Closed greeting false

@@ -38,7 +38,22 @@ abbrev pub Hears : Next × Stage → Result Heard Memory → Stage → Stage →
 Hears turn (Ok told) before after out written = (told ≡ heard_of turn.0) × (after ≡ turn.1) × (written.items ≡ added out.items turn.0)
 Hears turn (Err memory) before after out written = (after ≡ before) × (written.items ≡ out.items)
 
--- What a call makes of a session: where memory was refused it is closed without a word.
-abbrev pub Makes : Next × Talking → Result Heard Memory → Talking → Vec ℕ Global → Vec ℕ Global → Type 0
-Makes turn (Ok told) after out written = (told ≡ heard_of turn.0) × (after ≡ turn.1) × (written.items ≡ added out.items turn.0)
-Makes turn (Err memory) after out written = (after.stage ≡ stage.Closed) × (written.items ≡ out.items)
+-- the same host's session, of the same user
+abbrev pub KeepsUser : Talking → Talking → Type 0
+KeepsUser before after = (after.host ≡ before.host) × (after.user ≡ before.user)
+
+-- What a call makes of a session: where memory was refused it is closed without a word, and has the user that it had.
+abbrev pub Makes : Next × Talking → Result Heard Memory → Talking → Talking → Vec ℕ Global → Vec ℕ Global → Type 0
+Makes turn (Ok told) before after out written = (told ≡ heard_of turn.0) × (after ≡ turn.1) × (written.items ≡ added out.items turn.0)
+Makes turn (Err memory) before after out written = (after.stage ≡ stage.Closed) × (written.items ≡ out.items) × KeepsUser before after
+
+-- memory was refused: the session is closed, and has the user that it had
+abbrev pub IsCutOff : Talking → Talking → Type 0
+IsCutOff before after = (after.stage ≡ stage.Closed) × KeepsUser before after
+
+-- where nothing is next
+abbrev pub IfMore : Next → Type 0 → Type 0
+IfMore next.More P = P
+IfMore (next.Say octets) P = Unit {0}
+IfMore (next.Ask event) P = Unit {0}
+IfMore (next.Close octets) P = Unit {0}

@@ -32,9 +32,12 @@ heard_by t nonce clock lexed = heard (listening t nonce clock) lexed
 abbrev pub HearsOf : Next × Stage → Result Heard Memory → Talking → Talking → Vec ℕ Global → Vec ℕ Global → Type 0
 HearsOf turn result before after out written = Hears turn result before.stage after.stage out written
 
--- how many octets of a piece a session takes, and the session with so many
+-- how many octets a session has room for, how many of a piece it takes, and the session with so many
+abbrev pub room_in : Talking → ℕ
+room_in t = held_limit - length t.held.text
+
 abbrev pub room_for : Talking → List ℕ → ℕ
-room_for t piece = min (length piece) (held_limit - length t.held.text)
+room_for t piece = min (length piece) (room_in t)
 
 abbrev pub with_front : Talking → ℕ → List ℕ → Talking
 with_front t n piece = record t { held = record t.held { text = t.held.text ++ take n piece } }

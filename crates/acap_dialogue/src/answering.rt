@@ -71,11 +71,13 @@ fn logged_in(
 ) -> Result<Heard, Memory>
     ensures told { Hears (talk.login_said tag.now outcome) result stage.old stage.new out.old out.new }
     ensures user { OnOk result (user.new ≡ talk.login_user name user.old outcome) }
+    ensures kept { OnErr result (user.new ≡ user.old) }
 {
     match outcome {
         Ok(_) => {
+            let heard = says(lent(tag), &Said::Done(Verb::Authenticate), stage, out)?;
             *user = Some(name);
-            says(lent(tag), &Said::Done(Verb::Authenticate), stage, out)
+            Ok(heard)
         }
         Err(fault) => replied(tag, Err(fault), stage, out),
     }
@@ -98,7 +100,7 @@ fn drained(
     }
 }
 
-/// What a session at that stage says to the machine's answer, and who is its user then.
+/// What a session at that stage says to the machine's answer, and who is its user then: where memory is refused, the same.
 pub(crate) fn answered(
     was: Stage,
     user: &mut Option<UserName>,
@@ -108,6 +110,7 @@ pub(crate) fn answered(
 ) -> Result<Heard, Memory>
     ensures told { Hears (talk.answer_said was outcome) result stage.old stage.new out.old out.new }
     ensures user { OnOk result (user.new ≡ talk.answer_user was user.old outcome) }
+    ensures kept { OnErr result (user.new ≡ user.old) }
 {
     match was {
         Stage::Entering => welcomed(outcome, stage, out),

@@ -1,5 +1,6 @@
 //! What follows from the definitions alone: each function does nothing, and its contract is the law.
-ghost use Rattle.acap_dialogue.specs.Examples.{AnswerExamples, HearingExamples, LoginExamples, NextExamples};
+ghost use Rattle.acap_dialogue.specs.Examples.{AnswerExamples, HearingExamples, LoginExamples, NextExamples, RunExamples};
+ghost use Rattle.acap_dialogue.specs.Running.{SeatedLaw};
 
 /// What is said to the machine's answers and faults, also after a login (RFC 2244 sections 3.6, 6.2 and 6.3.1).
 pub fn answer_examples()
@@ -19,4 +20,15 @@ pub fn login_examples()
 /// What is next at each stage of a session.
 pub fn next_examples()
     ensures { NextExamples }
+{}
+
+/// What runs of a session come to, and which can't be made (RFC 2244 section 2).
+pub fn run_examples()
+    ensures { RunExamples }
+{}
+
+/// In a run in which no memory was refused, an Enter stands exactly where the session says that its user has the seat
+/// (RFC 2244 section 2).
+pub fn seated_law()
+    ensures { SeatedLaw }
 {}

@@ -12,7 +12,9 @@ mod session;
 mod stage;
 
 pub use heard::Heard;
-pub use laws::{answer_examples, hearing_examples, login_examples, next_examples};
+pub use laws::{
+    answer_examples, hearing_examples, login_examples, next_examples, run_examples, seated_law,
+};
 pub use next::Next;
 pub use session::Session;
 pub use stage::Stage;

@@ -2,8 +2,8 @@
 
 ghost use Rattle.std.specs.Prelude.{◌≡◌, true, IfOk, OnErr};
 ghost use Rattle.acap_dialogue.specs.Saying as saying;
-ghost use Rattle.acap_dialogue.specs.Saying.{Makes};
-ghost use Rattle.acap_dialogue.specs.Telling.{HearsOf, heard_by, room_for, with_front};
+ghost use Rattle.acap_dialogue.specs.Saying.{IfMore, IsCutOff, Makes};
+ghost use Rattle.acap_dialogue.specs.Telling.{HearsOf, heard_by, room_for, room_in, with_front};
 ghost use Rattle.acap_dialogue.specs.Session.{Awaits, answer_at, answered, drain_in, has_seat, heard_at, is_asked, is_closed, session_drain, session_next};
 ghost use Rattle.acap_dialogue.specs.Talking.{begun};
 ghost use Rattle.acap_dialogue.specs.declared.stage.Stage.TheVariants as stages;
@@ -91,12 +91,21 @@ impl Session {
         }
     }
 
+    /// How many octets there is room for: `push` takes so many of a longer piece, and all of any other. Takes no memory.
+    pub fn room(&self) -> usize
+        ensures { result ≡ room_in self.now }
+    {
+        self.lexer.room()
+    }
+
     /// What is next, where the clock shows that moment; a login that begins is told that nonce (RFC 2195 section 2),
-    /// and one that ends is judged by those users. Where memory is refused the session is closed.
+    /// and one that ends is judged by those users. Where nothing is next the session is as it was. Where memory is refused
+    /// it is closed, and has the user that it had.
     pub fn next(&mut self, users: &Users, nonce: u64, clock: Moment) -> Result<Next, Memory>
         ensures ok { IfOk result (λ next. (next, self.new) ≡ session_next users.now nonce clock self.old) }
         ensures asked { IfOk result (λ next. Awaits next self.new) }
-        ensures err { OnErr result (self.new.stage ≡ stages.Closed) }
+        ensures more { IfOk result (λ next. IfMore next (self.new ≡ self.old)) }
+        ensures err { OnErr result (IsCutOff self.old self.new) }
     {
         let mut octets = Vec::new(self.alloc);
         let heard = self.hear(users, nonce, clock, &mut octets)?;
@@ -112,7 +121,8 @@ impl Session {
         clock: Moment,
         out: &mut Vec<u8>,
     ) -> Result<Heard, Memory>
-        ensures { Makes (session_next users.now nonce clock self.old) result self.new out.old out.new }
+        ensures { Makes (session_next users.now nonce clock self.old) result self.old self.new
+            out.old out.new }
     {
         if let Stage::Ready = self.stage {
             return self.hear_command(nonce, clock, out);
@@ -136,7 +146,8 @@ impl Session {
         clock: Moment,
         out: &mut Vec<u8>,
     ) -> Result<Heard, Memory>
-        ensures hears { HearsOf (heard_by self.old nonce clock lexed) result self.old self.new out.old out.new }
+        ensures hears { HearsOf (heard_by self.old nonce clock lexed) result self.old self.new
+            out.old out.new }
         ensures rest { self.new ≡ record self.old { stage = self.new.stage } }
     {
         let listener = Listener {
@@ -163,7 +174,7 @@ impl Session {
         clock: Moment,
         out: &mut Vec<u8>,
     ) -> Result<Heard, Memory>
-        ensures { Makes (heard_at self.old nonce clock) result self.new out.old out.new }
+        ensures { Makes (heard_at self.old nonce clock) result self.old self.new out.old out.new }
     {
         let Ok(lexed) = self.lexer.next(Mode::Command) else {
             self.close();
@@ -185,7 +196,8 @@ impl Session {
         out: &mut Vec<u8>,
     ) -> Result<Heard, Memory>
         requires { self.old.stage ≡ stages.Closed }
-        ensures { Makes (answer_at users.now tag challenge self.old) result self.new out.old out.new }
+        ensures { Makes (answer_at users.now tag challenge self.old) result self.old self.new
+            out.old out.new }
     {
         let Ok(lexed) = self.lexer.next(Mode::Answer) else {
             return Err(Memory);
@@ -196,11 +208,11 @@ impl Session {
     }
 
     /// Takes the machine's answer to the event that was asked, and gives what is said then: `Say` or `Close`. Where
-    /// memory is refused the session is closed, and the event stands.
+    /// memory is refused the session is closed, and has the user that it had; the event stands.
     pub fn answer(&mut self, outcome: Result<Reply, Fault>) -> Result<Next, Memory>
         requires { is_asked self.old.stage ≡ true }
         ensures ok { IfOk result (λ next. (next, self.new) ≡ answered self.old outcome) }
-        ensures err { OnErr result (self.new.stage ≡ stages.Closed) }
+        ensures err { OnErr result (IsCutOff self.old self.new) }
     {
         let mut octets = Vec::new(self.alloc);
         let heard = self.reply(outcome, &mut octets)?;
@@ -215,7 +227,7 @@ impl Session {
         out: &mut Vec<u8>,
     ) -> Result<Heard, Memory>
         requires { is_asked self.old.stage ≡ true }
-        ensures { Makes (answered self.old outcome) result self.new out.old out.new }
+        ensures { Makes (answered self.old outcome) result self.old self.new out.old out.new }
     {
         let stage = mem::replace(&mut self.stage, Stage::Closed);
         answered(stage, &mut self.user, outcome, &mut self.stage, out)

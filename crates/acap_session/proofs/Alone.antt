@@ -1,13 +1,23 @@
--- What stands at a seat comes of its own steps.
-use Rattle.std.proofs.Common.{◌≡◌, inl, inr, ℕ, zero, suc, Bool, true, false, ◌==◌, List, [], ◌∷◌, Option, Some, None, refl, sym, ap, subst, ◌∙◌, if◌then◌else◌}
-use Rattle.std.specs.Prelude.{◌≢◌, ◌⊎◌, option_map}
+-- What stands at a seat comes of its own steps, and the machine of their events.
+use Rattle.std.proofs.Common.{◌≡◌, inl, inr, ℕ, zero, suc, Bool, true, false, not, ◌&&◌, ◌||◌, ◌==◌, List, [], ◌∷◌, ◌++◌, Option, Some, None, Result, Ok, Err, refl, sym, ap, subst, ◌∙◌, if◌then◌else◌}
+use Rattle.std.specs.Prelude.{◌≢◌, ◌⊎◌, is_ok, option_map}
+use Rattle.std.specs.Option.{option_and_then, option_or}
 use Rattle.std.proofs.lemmas.Bool.{eqb-true, eqb-false}
-use Rattle.acap_machine.specs.Runs.{outcome_of}
-use Rattle.acap_session.specs.Laws.{OwnStep, next_in, answered_by, spoken, own_by, own, own_run, event_in, reply_of, own_of, own_steps, OthersStay, StepAlone, AloneLaw}
+use Rattle.acap_commands.specs.declared.event.Event.{Event}
+use Rattle.acap_commands.specs.declared.event.Event.TheVariants as event
+use Rattle.acap_commands.specs.declared.fault.Fault.{Fault}
+use Rattle.acap_commands.specs.declared.reply.Reply.{Reply}
+use Rattle.acap_machine.specs.Machine.{Machine}
+use Rattle.acap_machine.specs.Runs.{machine_after, outcome_of, run_of}
+use Rattle.acap_machine.specs.Stepping.{step_of}
+use Rattle.acap_session.specs.Laws.{OwnStep, did_in, maker_in, place_in, leave_of, own, own_run, own_at, own_of, own_steps, replies_in, steps_in, IsStepOf, SessionLaw, OthersStay, StepAlone, AloneLaw}
 use Rattle.acap_session.specs.Places.{Place, Places, place_at, placed}
-use Rattle.acap_dialogue.specs.Session.{session_next, session_drain}
+use Rattle.acap_dialogue.specs.Running as dialogue
+use Rattle.acap_dialogue.specs.Running.{At, Call, Outcome, call_of, calls_with, closes, event_in, is_left, leaves_by, leaving, seated_by, spoken, turned}
+use Rattle.acap_dialogue.specs.Session.{answered, has_seat, has_seat_at, session_next, session_drain}
 use Rattle.acap_dialogue.specs.Talking.{Talking, begun}
-use Rattle.acap_session.specs.Turning.{Scene, scene, turn_by, turn_of, drain_of, performed}
+use Rattle.acap_dialogue.proofs.Running.{Seats, next_seats, drain_seats, answered_seat, reply_goes_on}
+use Rattle.acap_session.specs.Turning.{Scene, scene, shown, left_by, turn_by, turn_of, drain_of, performed}
 use Rattle.acap_session.specs.World as world
 use Rattle.acap_session.specs.World.{World, Deed, Step, at_open, did, ends, open_at, opened_at, run, said_before, scene_of, takes, with_scene}
 use Rattle.acap_dialogue.specs.declared.next.Next.{Next}
@@ -27,19 +37,11 @@ placed_other (x ∷ xs) zero (suc j) p e = refl
 placed_other (x ∷ xs) (suc k) zero p e = refl
 placed_other (x ∷ xs) (suc k) (suc j) p e = placed_other xs k j p (λ s. e (ap suc s))
 
--- ---- one step
+-- ---- one step, by the session that is open, if one is
 
 abbrev pub place_of : Scene → Place
 place_of s = record { talk = s.talk; out = s.out }
 
-some_spoken : (o : Occasion) (refused : Bool) (s : Scene) (x : Next × Talking) →
-    Some (spoken s.out (answered_by (option_map (λ event. outcome_of (performed refused s.machine o event)) (event_in x)) x)) ≡ Some (place_of (turn_by o refused s x).1)
-some_spoken o refused s (next.More, t) = refl
-some_spoken o refused s (next.Say octets, t) = refl
-some_spoken o refused s (next.Ask event, t) = refl
-some_spoken o refused s (next.Close octets, t) = refl
-
--- by the session that is open, if one is
 abbrev pub did_by : Occasion → Bool → Deed → World → Option Place → World
 did_by o refused (world.Open user) w now = opened_at w o refused user now
 did_by o refused (world.Piece octets) w now = at_open w o.seat (takes octets) now
@@ -47,51 +49,197 @@ did_by o refused world.Turn w now = at_open w o.seat (λ s. (turn_of w.users o r
 did_by o refused world.Drain w now = at_open w o.seat (λ s. (drain_of o refused s).1) now
 did_by o refused world.Leave w now = at_open w o.seat (ends o) now
 
-abbrev owned : Step → World → Option Place → Option Place
-owned x w now =
-    let old = place_at w.places x.occasion.seat in
-    own_by (record { occasion = x.occasion; deed = x.deed; reply = reply_of w x now }) old now (next_in w.users w.host x.occasion x.deed old now)
+pub did_is : (o : Occasion) (refused : Bool) (deed : Deed) (w : World) → did o refused deed w ≡ did_by o refused deed w (open_at w o.seat)
+unfolding did
+did_is o refused (world.Open user) w = refl
+did_is o refused (world.Piece octets) w = refl
+did_is o refused world.Turn w = refl
+did_is o refused world.Drain w = refl
+did_is o refused world.Leave w = refl
 
--- the world is left, and so is what stands at the seat; or that is set
-abbrev Makes : World → ℕ → World → Option Place → Type 0
-Makes w k v now = ((v ≡ w) × (now ≡ place_at w.places k)) ⊎ ((s : Scene) × (v ≡ with_scene w k s) × (now ≡ Some (place_of s)))
+-- the world is left, or something is set at the seat
+abbrev Sets : World → ℕ → World → Type 0
+Sets w k v = (v ≡ w) ⊎ ((s : Scene) × (v ≡ with_scene w k s))
 
-makes : (o : Occasion) (refused : Bool) (deed : Deed) (w : World) (now : Option Place) → Makes w o.seat (did_by o refused deed w now) (owned (record { occasion = o; refused = refused; deed = deed }) w now)
-unfolding turn_of drain_of
-makes o refused (world.Open user) w None =
-    let s = scene w.machine (begun w.host user) (said_before (place_at w.places o.seat)) in
-    inr ((turn_of w.users o refused s).1, refl, some_spoken o refused s (session_next w.users o.nonce o.clock s.talk))
-makes o refused (world.Open user) w (Some p) = inl (refl, refl)
-makes o refused (world.Piece octets) w None = inl (refl, refl)
-makes o refused (world.Piece octets) w (Some p) = inr (takes octets (scene_of w p), refl, refl)
-makes o refused world.Turn w None = inl (refl, refl)
-makes o refused world.Turn w (Some p) = inr ((turn_of w.users o refused (scene_of w p)).1, refl, some_spoken o refused (scene_of w p) (session_next w.users o.nonce o.clock p.talk))
-makes o refused world.Drain w None = inl (refl, refl)
-makes o refused world.Drain w (Some p) = inr ((drain_of o refused (scene_of w p)).1, refl, some_spoken o refused (scene_of w p) (session_drain p.talk))
-makes o refused world.Leave w None = inl (refl, refl)
-makes o refused world.Leave w (Some p) = inr (ends o (scene_of w p), refl, refl)
+sets : (o : Occasion) (refused : Bool) (deed : Deed) (w : World) (now : Option Place) → Sets w o.seat (did_by o refused deed w now)
+sets o refused (world.Open user) w None = inr (_, refl)
+sets o refused (world.Open user) w (Some p) = inl refl
+sets o refused (world.Piece octets) w None = inl refl
+sets o refused (world.Piece octets) w (Some p) = inr (_, refl)
+sets o refused world.Turn w None = inl refl
+sets o refused world.Turn w (Some p) = inr (_, refl)
+sets o refused world.Drain w None = inl refl
+sets o refused world.Drain w (Some p) = inr (_, refl)
+sets o refused world.Leave w None = inl refl
+sets o refused world.Leave w (Some p) = inr (_, refl)
 
-makes_own : (o : Occasion) (refused : Bool) (deed : Deed) (w : World) → Makes w o.seat (did o refused deed w) (own w.users w.host (own_of w (record { occasion = o; refused = refused; deed = deed })) (place_at w.places o.seat))
-unfolding did own
-makes_own o refused (world.Open user) w = makes o refused (world.Open user) w (open_at w o.seat)
-makes_own o refused (world.Piece octets) w = makes o refused (world.Piece octets) w (open_at w o.seat)
-makes_own o refused world.Turn w = makes o refused world.Turn w (open_at w o.seat)
-makes_own o refused world.Drain w = makes o refused world.Drain w (open_at w o.seat)
-makes_own o refused world.Leave w = makes o refused world.Leave w (open_at w o.seat)
-
-stays : (w v : World) (k : ℕ) (now : Option Place) → Makes w k v now → ((seat : ℕ) → seat ≢ k → place_at v.places seat ≡ place_at w.places seat) × (v.users ≡ w.users) × (v.host ≡ w.host)
-stays w v k now (inl (e, f)) = ((λ seat ne. ap (λ (u : World). place_at u.places seat) e), ap (λ (u : World). u.users) e, ap (λ (u : World). u.host) e)
-stays w v k now (inr (s, e, f)) = ((λ seat ne. ap (λ (u : World). place_at u.places seat) e ∙ placed_other w.places k seat (place_of s) ne), ap (λ (u : World). u.users) e, ap (λ (u : World). u.host) e)
+stays : (w v : World) (k : ℕ) → Sets w k v → ((seat : ℕ) → seat ≢ k → place_at v.places seat ≡ place_at w.places seat) × (v.users ≡ w.users) × (v.host ≡ w.host)
+stays w v k (inl e) = ((λ seat ne. ap (λ (u : World). place_at u.places seat) e), ap (λ (u : World). u.users) e, ap (λ (u : World). u.host) e)
+stays w v k (inr (s, e)) = ((λ seat ne. ap (λ (u : World). place_at u.places seat) e ∙ placed_other w.places k seat (place_of s) ne), ap (λ (u : World). u.users) e, ap (λ (u : World). u.host) e)
 
 pub others_stay : OthersStay
-others_stay x w = stays w (did x.occasion x.refused x.deed w) x.occasion.seat _ (makes_own x.occasion x.refused x.deed w)
+others_stay x w =
+    stays w (did x.occasion x.refused x.deed w) x.occasion.seat
+    (subst (λ v. Sets w x.occasion.seat v) (sym (did_is x.occasion x.refused x.deed w)) (sets x.occasion x.refused x.deed w (open_at w x.occasion.seat)))
 
-stands : (w v : World) (k : ℕ) (now : Option Place) → Makes w k v now → place_at v.places k ≡ now
-stands w v k now (inl (e, f)) = ap (λ (u : World). place_at u.places k) e ∙ sym f
-stands w v k now (inr (s, e, f)) = ap (λ (u : World). place_at u.places k) e ∙ placed_there w.places k (place_of s) ∙ sym f
+-- ---- the events of a step lead the machine on
+
+abbrev Leads : Machine → ℕ → List Call → Machine → Type 0
+Leads m seat calls n = run_of m (steps_in seat calls) ≡ (replies_in calls, n)
+
+one_leads : (m : Machine) (o : Occasion) (e : Event) (r : Result (Reply × Machine) Fault) (rest : List Call) (n : Machine) → step_of m o.seat e o.clock ≡ r
+    → Leads (machine_after m r) o.seat rest n → Leads m o.seat (call_of o.clock (Some e) (Some (outcome_of r)) ++ rest) n
+one_leads m o e (Ok stepped) rest n k h =
+    ap (λ r. (outcome_of r ∷ (run_of (machine_after m r) (steps_in o.seat rest)).0, (run_of (machine_after m r) (steps_in o.seat rest)).1)) k
+    ∙ (λ i. (Ok stepped.0 ∷ (h i).0, (h i).1))
+one_leads m o e (Err f) rest n k h = h
+
+event_leads : (refused : Bool) (m : Machine) (o : Occasion) (e : Event) (rest : List Call) (n : Machine) → let r = performed refused m o e in
+    Leads (machine_after m r) o.seat rest n → Leads m o.seat (call_of o.clock (Some e) (Some (outcome_of r)) ++ rest) n
+event_leads true m o e rest n h = h
+event_leads false m o e rest n h = one_leads m o e (step_of m o.seat e o.clock) rest n refl h
+
+last_leads : (m : Machine) (o : Occasion) (e : Event) (r : Result (Reply × Machine) Fault) → step_of m o.seat e o.clock ≡ r
+    → Leads m o.seat (call_of o.clock (Some e) (Some (outcome_of r))) (machine_after m r)
+last_leads m o e (Ok stepped) k = ap (λ r. (outcome_of r ∷ [], machine_after m r)) k
+last_leads m o e (Err f) k = refl
+
+leave_leads : (b : Bool) (m : Machine) (o : Occasion) → Leads m o.seat (call_of o.clock (Some event.Leave) (leave_of b m o)) (left_by b o m)
+leave_leads true m o = last_leads m o event.Leave (step_of m o.seat event.Leave o.clock) refl
+leave_leads false m o = refl
+
+-- ---- a turn or a drain
+
+abbrev at_scene : Scene → At
+at_scene s = record { talk = s.talk; out = s.out; seated = has_seat s.talk }
+
+leave_made : (b : Bool) (m : Machine) (o : Occasion) (at : At) → leaving b (leave_of b m o) at ≡ Some at
+leave_made true m o at = refl
+leave_made false m o at = refl
+
+-- once what is next is said, and the session has left where it is closed
+record Ends (o : Occasion) (m : Machine) (out : List ℕ) (b c : Bool) (n : Next) (t : Talking) : Type 0 where
+  is : leaving (is_left (b, (n, t))) (leave_of (is_left (b, (n, t))) m o) (spoken out (b, (n, t))) ≡ Some (at_scene (shown o c m out (n, t)).1)
+  leads : Leads m o.seat (call_of o.clock (Some event.Leave) (leave_of (is_left (b, (n, t))) m o)) (shown o c m out (n, t)).1.machine
+
+ended : (o : Occasion) (m : Machine) (out : List ℕ) (b c : Bool) (n : Next) (t : Talking) → has_seat t ≡ (not (closes n) && b) → (closes n ≡ true → b ≡ c) → Ends o m out b c n t
+ended o m out b c next.More t h f = record { is = ap (λ k. Some (record { talk = t; out = out; seated = k })) (sym h); leads = refl }
+ended o m out b c (next.Say octets) t h f = record { is = ap (λ k. Some (record { talk = t; out = out ++ octets; seated = k })) (sym h); leads = refl }
+ended o m out b c (next.Ask e) t h f = record { is = ap (λ k. Some (record { talk = t; out = out; seated = k })) (sym h); leads = refl }
+ended o m out b c (next.Close octets) t h f = record {
+  is = leave_made b m o (spoken out (b, (next.Close octets, t))) ∙ ap (λ k. Some (record { talk = t; out = out ++ octets; seated = k })) (sym h);
+  leads = subst (λ k. Leads m o.seat (call_of o.clock (Some event.Leave) (leave_of b m o)) (left_by k o m)) (f refl) (leave_leads b m o);
+}
+
+fault_leaves : (e : Event) (f : Fault) (b : Bool) → seated_by e (Err f) b ≡ b
+fault_leaves (event.Enter user) f b = refl
+fault_leaves (event.Command command) f b = refl
+fault_leaves event.Drain f b = refl
+fault_leaves event.Leave f b = refl
+
+or_false : (b : Bool) → (b || false) ≡ b
+or_false true = refl
+or_false false = refl
+
+-- who is closed by an answer was answered with a fault
+same_seat : (t : Talking) (e : Event) (b : Bool) (r : Result (Reply × Machine) Fault) → has_seat t ≡ b → closes (answered t (outcome_of r)).0 ≡ true
+    → seated_by e (outcome_of r) b ≡ (has_seat t || is_ok r)
+same_seat t e b (Ok stepped) h c = absurd (let k : false ≡ true = sym (reply_goes_on t stepped.0) ∙ c in cc)
+same_seat t e b (Err f) h c = fault_leaves e f b ∙ sym h ∙ sym (or_false (has_seat t))
+
+abbrev answer_to : Bool → Machine → Occasion → Option Event → Outcome
+answer_to refused m o asks = option_map (λ e. outcome_of (performed refused m o e)) asks
+
+abbrev after_event : Bool → Machine → Occasion → Option Event → Machine
+after_event refused m o None = m
+after_event refused m o (Some e) = machine_after m (performed refused m o e)
+
+abbrev leave_behind : Occasion → Bool → Scene → Next × Talking → Outcome
+leave_behind o refused s x =
+    leave_of (leaves_by (has_seat s.talk) x (answer_to refused s.machine o (event_in x))) (after_event refused s.machine o (event_in x)) o
+
+record Turns (o : Occasion) (refused : Bool) (s : Scene) (x : Next × Talking) : Type 0 where
+  is : turned (at_scene s) x (answer_to refused s.machine o (event_in x)) (leave_behind o refused s x) ≡ Some (at_scene (turn_by o refused s x).1)
+  leads : Leads s.machine o.seat (calls_with o.clock (event_in x) (answer_to refused s.machine o (event_in x)) (leave_behind o refused s x)) (turn_by o refused s x).1.machine
+
+turns : (o : Occasion) (refused : Bool) (s : Scene) (n : Next) (t : Talking) → Seats (has_seat s.talk) t.user n t.stage → Turns o refused s (n, t)
+turns o refused s next.More t h =
+    let b = has_seat s.talk in
+    let made = ended o s.machine s.out b b next.More t h (λ c. refl) in
+    record { is = made.is; leads = made.leads }
+turns o refused s (next.Say octets) t h =
+    let b = has_seat s.talk in
+    let made = ended o s.machine s.out b b (next.Say octets) t h (λ c. refl) in
+    record { is = made.is; leads = made.leads }
+turns o refused s (next.Ask e) t h =
+    let b = has_seat s.talk in
+    let r = performed refused s.machine o e in
+    let y = answered t (outcome_of r) in
+    let seat = answered_seat e b t (outcome_of r) h.0 h.1 in
+    let made = ended o (machine_after s.machine r) s.out (seated_by e (outcome_of r) b) (has_seat t || is_ok r) y.0 y.1 seat (same_seat t e b r h.0) in
+    record { is = made.is; leads = event_leads refused s.machine o e _ _ made.leads }
+turns o refused s (next.Close octets) t h =
+    let b = has_seat s.talk in
+    let made = ended o s.machine s.out b b (next.Close octets) t (ap (λ k. has_seat_at k t.user) h) (λ c. refl) in
+    record { is = made.is; leads = made.leads }
+
+-- ---- a step of a world
+
+abbrev step_on : Occasion → Bool → Deed → Step
+step_on o refused deed = record { occasion = o; refused = refused; deed = deed }
+
+session_by : (o : Occasion) (refused : Bool) (deed : Deed) (w : World) (now : Option Place) →
+    IsStepOf (own_at w (step_on o refused deed) now) (maker_in w (step_on o refused deed) now) w (did_by o refused deed w now)
+unfolding dialogue.did turn_of drain_of
+session_by o refused (world.Open user) w None =
+    let s = scene w.machine (begun w.host user) (said_before (place_at w.places o.seat)) in
+    let x = session_next w.users o.nonce o.clock s.talk in
+    let made = turns o refused s x.0 x.1 (next_seats w.users o.nonce o.clock s.talk) in
+    let end = (turn_by o refused s x).1 in
+    record { end = at_scene end; is = made.is; seated = refl; stands = placed_there w.places o.seat (place_of end); machine = made.leads }
+session_by o refused (world.Open user) w (Some p) = refl
+session_by o refused (world.Piece octets) w None = refl
+session_by o refused (world.Piece octets) w (Some p) =
+    let end = takes octets (scene_of w p) in
+    record { end = at_scene end; is = refl; seated = refl; stands = placed_there w.places o.seat (place_of end); machine = refl }
+session_by o refused world.Turn w None = refl
+session_by o refused world.Turn w (Some p) =
+    let s = scene_of w p in
+    let x = session_next w.users o.nonce o.clock s.talk in
+    let made = turns o refused s x.0 x.1 (next_seats w.users o.nonce o.clock s.talk) in
+    let end = (turn_by o refused s x).1 in
+    record { end = at_scene end; is = made.is; seated = refl; stands = placed_there w.places o.seat (place_of end); machine = made.leads }
+session_by o refused world.Drain w None = refl
+session_by o refused world.Drain w (Some p) =
+    let s = scene_of w p in
+    let x = session_drain s.talk in
+    let made = turns o refused s x.0 x.1 (drain_seats s.talk) in
+    let end = (turn_by o refused s x).1 in
+    record { end = at_scene end; is = made.is; seated = refl; stands = placed_there w.places o.seat (place_of end); machine = made.leads }
+session_by o refused world.Leave w None = refl
+session_by o refused world.Leave w (Some p) =
+    let end = ends o (scene_of w p) in
+    record {
+      end = at_scene end;
+      is = leave_made (has_seat p.talk) w.machine o (at_scene end);
+      seated = refl;
+      stands = placed_there w.places o.seat (place_of end);
+      machine = leave_leads (has_seat p.talk) w.machine o;
+    }
+
+pub session_law : SessionLaw
+session_law x w =
+    subst (λ v. IsStepOf (own_of w x) (maker_in w x (open_at w x.occasion.seat)) w v) (sym (did_is x.occasion x.refused x.deed w))
+    (session_by x.occasion x.refused x.deed w (open_at w x.occasion.seat))
+
+stands : (x : OwnStep) (at : Option At) (w v : World) → IsStepOf x at w v →
+    place_at v.places x.occasion.seat ≡ option_or (option_map place_in (option_and_then (dialogue.did w.users (did_in x)) at)) (place_at w.places x.occasion.seat)
+stands x None w v e = ap (λ (u : World). place_at u.places x.occasion.seat) e
+stands x (Some at) w v h = h.stands ∙ sym (ap (λ o. option_or (option_map place_in o) (place_at w.places x.occasion.seat)) h.is)
 
 pub step_alone : StepAlone
-step_alone x w = stands w (did x.occasion x.refused x.deed w) x.occasion.seat _ (makes_own x.occasion x.refused x.deed w)
+unfolding own
+step_alone x w = stands (own_of w x) (maker_in w x (open_at w x.occasion.seat)) w (did x.occasion x.refused x.deed w) (session_law x w)
 
 -- ---- all steps
 

@@ -25,7 +25,8 @@ use Rattle.acap_machine.specs.Following.{is_named, IsCurrentMachine, CurrentLaw}
 use Rattle.acap_machine.specs.Machine.{Machine}
 use Rattle.acap_machine.specs.Runs.{outcome_of, machine_after}
 use Rattle.acap_machine.specs.Stepping.{step_of}
-use Rattle.acap_session.specs.Laws.{event_in, next_in}
+use Rattle.acap_session.specs.Laws.{asked_by}
+use Rattle.acap_dialogue.specs.Running.{event_in}
 use Rattle.acap_session.specs.Live.{asked_in, told_with, told_in, client_told, whole_told, told_all, tells_in, client_in, whole_in, is_named_deed, are_named, Telling, IsTelling, start, all_steps, after, client, LiveLaw}
 use Rattle.acap_session.specs.Places.{Place, place_at}
 use Rattle.acap_session.specs.Turning.{Scene, scene, performed, left_at, left_by, turn_by, turn_of, drain_of}
@@ -60,10 +61,10 @@ turned_to o refused s (next.Ask event, t) =
     closing (heard_of (answered t (outcome_of r)).0) (has_seat t || is_ok r) o (machine_after s.machine r)
 turned_to o refused s (next.Close octets, t) = record { left = has_seat s.talk; is = refl }
 
-abbrev asked_by : World → Occasion → Deed → Option Place → Option Event
-asked_by w o deed now = option_and_then (λ y. event_in y.1) (next_in w.users w.host o deed (place_at w.places o.seat) now)
+abbrev asked_on : World → Occasion → Deed → Option Place → Option Event
+asked_on w o deed now = asked_by w (record { occasion = o; refused = false; deed = deed }) now
 
-moved_by : (o : Occasion) (refused : Bool) (deed : Deed) (w : World) (now : Option Place) → MovedTo o (machine_by (asked_by w o deed now) o refused w.machine) (did_by o refused deed w now).machine
+moved_by : (o : Occasion) (refused : Bool) (deed : Deed) (w : World) (now : Option Place) → MovedTo o (machine_by (asked_on w o deed now) o refused w.machine) (did_by o refused deed w now).machine
 unfolding turn_of drain_of
 moved_by o refused (world.Open user) w None = turned_to o refused (scene w.machine (begun w.host user) (said_before (place_at w.places o.seat))) (session_next w.users o.nonce o.clock (begun w.host user))
 moved_by o refused (world.Open user) w (Some p) = record { left = false; is = refl }
@@ -76,7 +77,7 @@ moved_by o refused world.Drain w (Some p) = turned_to o refused (scene_of w p) (
 moved_by o refused world.Leave w None = record { left = false; is = refl }
 moved_by o refused world.Leave w (Some p) = record { left = has_seat p.talk; is = refl }
 
-moved_in : (o : Occasion) (refused : Bool) (deed : Deed) (w : World) → MovedTo o (machine_by (asked_by w o deed (open_at w o.seat)) o refused w.machine) (did o refused deed w).machine
+moved_in : (o : Occasion) (refused : Bool) (deed : Deed) (w : World) → MovedTo o (machine_by (asked_on w o deed (open_at w o.seat)) o refused w.machine) (did o refused deed w).machine
 unfolding did
 moved_in o refused (world.Open user) w = moved_by o refused (world.Open user) w (open_at w o.seat)
 moved_in o refused (world.Piece octets) w = moved_by o refused (world.Piece octets) w (open_at w o.seat)

@@ -1,9 +1,9 @@
 -- The events that sessions ask name users and well-formed paths.
 use Rattle.std.proofs.Common.{◌≡◌, ℕ, zero, suc, ◌==◌, ℤ, Bool, true, false, List, [], ◌∷◌, Option, Some, None, Result, Ok, Err, refl, sym, ap, subst, ◌∙◌, if◌then◌else◌}
-use Rattle.std.specs.Prelude.{is_some}
+use Rattle.std.specs.Prelude.{is_some, option_map}
 use Rattle.std.specs.List.{list_all}
 use Rattle.std.specs.Str.{str_eq_ignore_ascii_case}
-use Rattle.std.specs.Option.{option_and_then}
+use Rattle.std.specs.Option.{option_and_then, option_or}
 use Rattle.std.proofs.lemmas.Bool.{and_parts, eqb-true, eqb-false}
 use Rattle.acap_commands.specs.declared.command.Command.{Command}
 use Rattle.acap_commands.specs.declared.command.Command.TheVariants as command
@@ -34,7 +34,9 @@ use Rattle.acap_lexer.specs.declared.mode.Mode.TheVariants as mode
 use Rattle.acap_login.specs.Login.{User, name_at, accepted, challenge_of}
 use Rattle.acap_machine.specs.Following.{is_named}
 use Rattle.acap_rights.specs.declared.realm.Realm.{Realm}
-use Rattle.acap_session.specs.Laws.{OwnStep, event_in, next_in, without_next, answered_by, own_by, own, own_of}
+use Rattle.acap_session.specs.Laws.{OwnStep, asked_by, did_in, maker, own, own_of, place_in}
+use Rattle.acap_dialogue.specs.Running as alone
+use Rattle.acap_dialogue.specs.Running.{At, Did, Outcome, event_in, is_left, leaving, over, seated_by, spoken, turned}
 use Rattle.acap_session.specs.Live.{asked_in, has_name, is_named_deed}
 use Rattle.acap_session.specs.Places.{Place, place_at, if_open}
 use Rattle.acap_session.specs.World as world
@@ -262,51 +264,62 @@ module _ (formed : (tokens : List Token) (c : Command) → command_of tokens ≡
   begun_named : (host : List ℕ) (user : Option (List ℕ)) → has_name user ≡ true → NamedTalk (begun host user)
   begun_named host user named = record { user = named; stage = refl }
 
-  abbrev GoodNext : Option (List ℕ × (Next × Talking)) → Type 0
-  GoodNext None = Unit {0}
-  GoodNext (Some n) = GoodTalk n.1
+  abbrev NamedAt : Option At → Type 0
+  NamedAt None = Unit {0}
+  NamedAt (Some at) = NamedTalk at.talk
 
-  next_in_good : (users : List User) (host : List ℕ) (o : Occasion) (deed : Deed) (old now : Option Place) → list_all (λ user. is_user_name user.0) users ≡ true → is_named_deed deed ≡ true → NamedPlace now
-      → GoodNext (next_in users host o deed old now)
-  next_in_good users host o (world.Open user) old None all named is = session_next_good users o.nonce o.clock (begun host user) all (begun_named host user named)
-  next_in_good users host o (world.Open user) old (Some p) all named is = tt
-  next_in_good users host o (world.Piece octets) old None all named is = tt
-  next_in_good users host o (world.Piece octets) old (Some p) all named is = tt
-  next_in_good users host o world.Turn old None all named is = tt
-  next_in_good users host o world.Turn old (Some p) all named is = session_next_good users o.nonce o.clock p.talk all is
-  next_in_good users host o world.Drain old None all named is = tt
-  next_in_good users host o world.Drain old (Some p) all named is = session_drain_good p.talk is
-  next_in_good users host o world.Leave old None all named is = tt
-  next_in_good users host o world.Leave old (Some p) all named is = tt
+  maker_named : (host : List ℕ) (deed : Deed) (old now : Option Place) → is_named_deed deed ≡ true → NamedPlace now → NamedAt (maker host deed old now)
+  maker_named host (world.Open user) old None named is = begun_named host user named
+  maker_named host (world.Open user) old (Some p) named is = tt
+  maker_named host (world.Piece octets) old None named is = tt
+  maker_named host (world.Piece octets) old (Some p) named is = is
+  maker_named host world.Turn old None named is = tt
+  maker_named host world.Turn old (Some p) named is = is
+  maker_named host world.Drain old None named is = tt
+  maker_named host world.Drain old (Some p) named is = is
+  maker_named host world.Leave old None named is = tt
+  maker_named host world.Leave old (Some p) named is = is
 
-  answers_good : (reply : Option (Result Reply Fault)) (x : Next × Talking) → GoodTalk x → NamedTalk (answered_by reply x).1
-  answers_good None (n, t) is = is.talk
-  answers_good (Some r) (next.More, t) is = is.talk
-  answers_good (Some r) (next.Say octets, t) is = is.talk
-  answers_good (Some r) (next.Ask event, t) is = (answered_good t r is.talk).talk
-  answers_good (Some r) (next.Close octets, t) is = is.talk
+  leaving_named : (b : Bool) (left : Outcome) (at : At) → NamedTalk at.talk → NamedAt (leaving b left at)
+  leaving_named true None at is = tt
+  leaving_named true (Some outcome) at is = is
+  leaving_named false None at is = is
+  leaving_named false (Some outcome) at is = tt
 
-  without_named : (deed : Deed) (old now : Option Place) → NamedPlace old → NamedPlace now → NamedPlace (without_next deed old now)
-  without_named (world.Open user) old None is at = is
-  without_named (world.Open user) old (Some p) is at = is
-  without_named (world.Piece octets) old None is at = is
-  without_named (world.Piece octets) old (Some p) is at = record { user = at.user; stage = at.stage }
-  without_named world.Turn old None is at = is
-  without_named world.Turn old (Some p) is at = is
-  without_named world.Drain old None is at = is
-  without_named world.Drain old (Some p) is at = is
-  without_named world.Leave old None is at = is
-  without_named world.Leave old (Some p) is at = record { user = at.user; stage = refl }
+  said_named : (out : List ℕ) (left : Outcome) (seated : Bool) (n : Next) (t : Talking) → NamedTalk t → NamedAt (leaving (is_left (seated, (n, t))) left (spoken out (seated, (n, t))))
+  said_named out left seated n t is = leaving_named (is_left (seated, (n, t))) left (spoken out (seated, (n, t))) is
 
-  by_named : (x : OwnStep) (old now : Option Place) (n : Option (List ℕ × (Next × Talking))) → NamedPlace old → NamedPlace now → GoodNext n → NamedPlace (own_by x old now n)
-  by_named x old now None is at good = without_named x.deed old now is at
-  by_named x old now (Some n) is at good = answers_good x.reply n.1 good
+  turned_named : (at : At) (n : Next) (t : Talking) (asked left : Outcome) → GoodTalk (n, t) → NamedAt (turned at (n, t) asked left)
+  turned_named at next.More t None left good = said_named at.out left at.seated next.More t good.talk
+  turned_named at next.More t (Some r) left good = tt
+  turned_named at (next.Say octets) t None left good = said_named at.out left at.seated (next.Say octets) t good.talk
+  turned_named at (next.Say octets) t (Some r) left good = tt
+  turned_named at (next.Ask event) t None left good = tt
+  turned_named at (next.Ask event) t (Some r) left good = said_named at.out left (seated_by event r at.seated) (answered t r).0 (answered t r).1 (answered_good t r good.talk).talk
+  turned_named at (next.Close octets) t None left good = said_named at.out left at.seated (next.Close octets) t good.talk
+  turned_named at (next.Close octets) t (Some r) left good = tt
+
+  did_named : (users : List User) (d : Did) (at : At) → list_all (λ user. is_user_name user.0) users ≡ true → NamedTalk at.talk → NamedAt (alone.did users d at)
+  unfolding alone.did
+  did_named users (alone.Piece octets) at all is = record { user = is.user; stage = is.stage }
+  did_named users (alone.Turn clock nonce asked left) at all is =
+      let x = session_next users nonce clock at.talk in turned_named at x.0 x.1 asked left (session_next_good users nonce clock at.talk all is)
+  did_named users (alone.Drain clock asked left) at all is =
+      let x = session_drain at.talk in turned_named at x.0 x.1 asked left (session_drain_good at.talk is)
+  did_named users (alone.Leave clock left) at all is = leaving_named at.seated left (record { talk = over at.talk; out = at.out; seated = false }) (record { user = is.user; stage = refl })
+
+  then_named : (users : List User) (d : Did) (o : Option At) → list_all (λ user. is_user_name user.0) users ≡ true → NamedAt o → NamedAt (option_and_then (alone.did users d) o)
+  then_named users d None all is = tt
+  then_named users d (Some at) all is = did_named users d at all is
+
+  or_named : (o : Option At) (old : Option Place) → NamedAt o → NamedPlace old → NamedPlace (option_or (option_map place_in o) old)
+  or_named None old is was = was
+  or_named (Some at) old is was = is
 
   own_named : (users : List User) (host : List ℕ) (x : OwnStep) (old : Option Place) → list_all (λ user. is_user_name user.0) users ≡ true → is_named_deed x.deed ≡ true → NamedPlace old → NamedPlace (own users host x old)
   unfolding own
   own_named users host x old all named is =
-      by_named x old (if_open old) (next_in users host x.occasion x.deed old (if_open old)) is (open_named old is)
-      (next_in_good users host x.occasion x.deed old (if_open old) all named (open_named old is))
+      or_named _ old (then_named users (did_in x) (maker host x.deed old (if_open old)) all (maker_named host x.deed old (if_open old) named (open_named old is))) is
 
   -- ---- a world
 
@@ -323,11 +336,19 @@ module _ (formed : (tokens : List Token) (c : Command) → command_of tokens ≡
     places = λ q. place_named w x q (x.occasion.seat == q) refl is named;
   }
 
-  event_named : (n : Option (List ℕ × (Next × Talking))) → GoodNext n → (e : Event) → option_and_then (λ y. event_in y.1) n ≡ Some e → is_named e ≡ true
-  event_named None good e f = absurd cc
-  event_named (Some n) good e f = good.asks e f
+  asks_named : (w : World) (o : Occasion) (refused : Bool) (deed : Deed) (now : Option Place) → list_all (λ user. is_user_name user.0) w.users ≡ true → is_named_deed deed ≡ true → NamedPlace now
+      → (e : Event) → asked_by w (record { occasion = o; refused = refused; deed = deed }) now ≡ Some e → is_named e ≡ true
+  asks_named w o refused (world.Open user) None all named is = (session_next_good w.users o.nonce o.clock (begun w.host user) all (begun_named w.host user named)).asks
+  asks_named w o refused (world.Open user) (Some p) all named is = λ e f. absurd cc
+  asks_named w o refused (world.Piece octets) None all named is = λ e f. absurd cc
+  asks_named w o refused (world.Piece octets) (Some p) all named is = λ e f. absurd cc
+  asks_named w o refused world.Turn None all named is = λ e f. absurd cc
+  asks_named w o refused world.Turn (Some p) all named is = (session_next_good w.users o.nonce o.clock p.talk all is).asks
+  asks_named w o refused world.Drain None all named is = λ e f. absurd cc
+  asks_named w o refused world.Drain (Some p) all named is = (session_drain_good p.talk is).asks
+  asks_named w o refused world.Leave None all named is = λ e f. absurd cc
+  asks_named w o refused world.Leave (Some p) all named is = λ e f. absurd cc
 
   pub asked_named : (w : World) (x : Step) → NamedWorld w → is_named_deed x.deed ≡ true → (e : Event) → asked_in w x ≡ Some e → is_named e ≡ true
   asked_named w x is named =
-      event_named (next_in w.users w.host x.occasion x.deed (place_at w.places x.occasion.seat) (open_at w x.occasion.seat))
-      (next_in_good w.users w.host x.occasion x.deed (place_at w.places x.occasion.seat) (open_at w x.occasion.seat) is.users named (open_named (place_at w.places x.occasion.seat) (is.places x.occasion.seat)))
+      asks_named w x.occasion x.refused x.deed (open_at w x.occasion.seat) is.users named (open_named (place_at w.places x.occasion.seat) (is.places x.occasion.seat))

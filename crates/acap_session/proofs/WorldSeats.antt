@@ -12,7 +12,8 @@ use Rattle.acap_machine.specs.Machine.{Machine, user_at}
 use Rattle.acap_machine.specs.Runs.{outcome_of}
 use Rattle.acap_rights.specs.declared.realm.Realm.{Realm}
 use Rattle.acap_session.specs.Completing.{Call, called_at, called_by, all_called, completed_by, going_on, IsEnd, IsLeft, AreCompleted, goes_on, all_go_on, HasCompleted, CompletionLaw}
-use Rattle.acap_session.specs.Laws.{event_in, reply_of}
+use Rattle.acap_session.specs.Laws.{reply_of}
+use Rattle.acap_dialogue.specs.Running.{event_in}
 use Rattle.acap_session.specs.Places.{Place, place_at, placed, if_open}
 use Rattle.acap_session.specs.Seating.{SeatingLaw, occupant_by}
 use Rattle.acap_dialogue.specs.Session.{has_seat, has_seat_at, is_closed, session_next, session_drain}
@@ -25,7 +26,7 @@ use Rattle.acap_dialogue.specs.declared.next.Next.TheVariants as next
 use Rattle.acap_session.specs.declared.occasion.Occasion.{Occasion}
 use Rattle.acap_dialogue.specs.declared.stage.Stage.{Stage}
 use Rattle.acap_dialogue.specs.declared.stage.Stage.TheVariants as stage
-use Rattle.acap_session.proofs.Alone.{did_by, others_stay, place_of, placed_other}
+use Rattle.acap_session.proofs.Alone.{did_by, did_is, others_stay, place_of, placed_other}
 use Rattle.acap_session.proofs.Going.{At, Goes, next_goes, drain_goes, opening_goes, silent}
 use Rattle.acap_session.proofs.Placing.{placed_there}
 use Rattle.acap_session.proofs.Seating.{SameElse, Made, IsPlaced, asks_placed, left_else, left_empty, made, made_else, unseated}
@@ -131,14 +132,6 @@ effect_by o refused world.Leave w (Some p) e a =
       at = left_empty (has_seat p.talk) o w.machine (unseated p.talk.stage p.talk.user _ (at_of w o.seat p a e));
       apart = left_else (has_seat p.talk) o w.machine;
     })
-
-did_is : (o : Occasion) (refused : Bool) (deed : Deed) (w : World) → did o refused deed w ≡ did_by o refused deed w (open_at w o.seat)
-unfolding did
-did_is o refused (world.Open user) w = refl
-did_is o refused (world.Piece octets) w = refl
-did_is o refused world.Turn w = refl
-did_is o refused world.Drain w = refl
-did_is o refused world.Leave w = refl
 
 set_at : (w : World) (k q : ℕ) (s : Scene) (b : Bool) → (q == k) ≡ b → At s.talk.stage s.talk.user (user_at s.machine k) → SameElse k w.machine s.machine → AllSeated w →
     AtPlace (place_at (placed w.places k (place_of s)) q) (user_at s.machine q)

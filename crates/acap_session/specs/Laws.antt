@@ -1,25 +1,30 @@
 -- Laws of the definitions: how a client's octets are cut makes no difference, and a session depends on the others
 -- through the machine's replies alone [RFC 2244 section 2].
-use Rattle.std.specs.Prelude.{◌≡◌, ◌≢◌, ◌⊎◌, ℕ, pos, List, [], ◌∷◌, ◌++◌, ◌==◌, length, map, replicate, flat_map, Bool, true, false, Option, Some, None, option_map, Result, if◌then◌else◌}
+use Rattle.std.specs.Prelude.{◌≡◌, ◌≢◌, ◌⊎◌, ℕ, pos, List, [], ◌∷◌, ◌++◌, ◌==◌, length, map, replicate, flat_map, Bool, true, false, Option, Some, None, option_map, Result, Ok, if◌then◌else◌}
 use Rattle.std.specs.List.{list_any}
-use Rattle.std.specs.Option.{option_and_then}
+use Rattle.std.specs.Option.{option_and_then, option_map_or, option_or}
 use Rattle.acap_grammar.specs.Replies.{octets_of}
 use Rattle.acap_commands.specs.declared.refusal.Refusal.TheVariants as refusals
 use Rattle.acap_commands.specs.declared.reply.Reply.{Reply}
 use Rattle.acap_commands.specs.declared.said.Said.TheVariants as said
 use Rattle.acap_login.specs.Login.{User}
-use Rattle.acap_machine.specs.Runs.{outcome_of}
+use Rattle.acap_machine.specs.Machine.{Machine}
+use Rattle.acap_machine.specs.Runs.{machine_after, outcome_of, run_of}
+use Rattle.acap_machine.specs.Stepping.{step_of}
+use Rattle.acap_machine.specs.declared.step.Step.{Step as MachineStep}
 use Rattle.acap_commands.specs.declared.event.Event.{Event}
+use Rattle.acap_commands.specs.declared.event.Event.TheVariants as events
 use Rattle.acap_commands.specs.declared.fault.Fault.{Fault}
 use Rattle.acap_session.specs.Piping.{Fed, IsWritten, always, entered, fed, hears}
 use Rattle.acap_session.specs.Places.{Place, place_at, if_open}
-use Rattle.acap_dialogue.specs.Saying.{added}
 use Rattle.acap_session.specs.Script.{IsQuiet}
-use Rattle.acap_dialogue.specs.Session.{session_next, session_drain, answered}
-use Rattle.acap_dialogue.specs.Talking.{Talking, begun}
+use Rattle.acap_dialogue.specs.Running as alone
+use Rattle.acap_dialogue.specs.Running.{At, Call, Did, Outcome, asked_in, calls_in, leaves_in, start}
+use Rattle.acap_dialogue.specs.Session.{has_seat, session_next}
+use Rattle.acap_dialogue.specs.Talking.{Talking}
 use Rattle.acap_session.specs.Turning.{Scene, turn_of, performed}
 use Rattle.acap_session.specs.World as world
-use Rattle.acap_session.specs.World.{World, Deed, Step, did, run, open_at, scene_of, with_scene, with_octets, room_of, said_before, went_on}
+use Rattle.acap_session.specs.World.{World, Deed, Step, did, run, open_at, scene_of, with_scene, room_of, said_before, went_on}
 use Rattle.acap_dialogue.specs.declared.next.Next.{Next}
 use Rattle.acap_dialogue.specs.declared.next.Next.TheVariants as next
 use Rattle.acap_session.specs.declared.occasion.Occasion.{Occasion}
@@ -121,59 +126,82 @@ JoiningLaw = (o : Occasion) (moves : List Move) (old new : World) → IsHeard o 
 
 -- ---- a session alone
 
--- a step of a session, and what is answered to the event that it asks, if it asks one
+-- a step of a session, and what the event that it asks, and a Leave behind it, are answered, where they are made
 pub record OwnStep : Type 0 where
   pub occasion : Occasion
   pub deed : Deed
-  pub reply : Option (Result Reply Fault)
+  pub asked : Outcome
+  pub left : Outcome
 
--- What was said before and what is next, where a session opens, makes a turn or drains: by what stands at its seat, and
--- by that again if it is open.
-abbrev pub next_in : List User → List ℕ → Occasion → Deed → Option Place → Option Place → Option (List ℕ × (Next × Talking))
-next_in users host o (world.Open user) old None = Some (said_before old, session_next users o.nonce o.clock (begun host user))
-next_in users host o world.Turn old (Some place) = Some (place.out, session_next users o.nonce o.clock place.talk)
-next_in users host o world.Drain old (Some place) = Some (place.out, session_drain place.talk)
-next_in users host o deed old now = None
+-- what is done: a session that opens makes a turn
+abbrev pub did_of : Occasion → Deed → Outcome → Outcome → Did
+did_of o (world.Open user) asked left = alone.Turn o.clock o.nonce asked left
+did_of o (world.Piece octets) asked left = alone.Piece octets
+did_of o world.Turn asked left = alone.Turn o.clock o.nonce asked left
+did_of o world.Drain asked left = alone.Drain o.clock asked left
+did_of o world.Leave asked left = alone.Leave o.clock left
 
--- else an open session takes octets, or ends
-abbrev pub without_next : Deed → Option Place → Option Place → Option Place
-without_next (world.Piece octets) old (Some place) = Some (record place { talk = with_octets place.talk (room_of place.talk octets) octets })
-without_next world.Leave old (Some place) = Some (record place { talk = record place.talk { stage = stage.Closed } })
-without_next deed old now = old
+abbrev pub did_in : OwnStep → Did
+did_in x = did_of x.occasion x.deed x.asked x.left
 
--- an event that was asked is answered
-abbrev pub answered_by : Option (Result Reply Fault) → Next × Talking → Next × Talking
-answered_by (Some reply) (next.Ask event, t) = answered t reply
-answered_by reply x = x
+-- how the session of a place stands; what stands at the place then
+abbrev pub at_place : Place → At
+at_place place = record { talk = place.talk; out = place.out; seated = has_seat place.talk }
 
--- what is next is said behind what was said
-abbrev pub spoken : List ℕ → Next × Talking → Place
-spoken out x = record { talk = x.1; out = added out x.0 }
+abbrev pub place_in : At → Place
+place_in at = record { talk = at.talk; out = at.out }
 
-abbrev pub own_by : OwnStep → Option Place → Option Place → Option (List ℕ × (Next × Talking)) → Option Place
-own_by x old now None = without_next x.deed old now
-own_by x old now (Some n) = Some (spoken n.0 (answered_by x.reply n.1))
+-- Whose step it is, by what stands at its seat, and by that again if it is open: the session's that is open, or, where
+-- none is, that of one which opens behind what was said there.
+abbrev pub maker : List ℕ → Deed → Option Place → Option Place → Option At
+maker host (world.Open user) old None = Some (record (start host user) { out = said_before old })
+maker host (world.Open user) old (Some place) = None
+maker host deed old None = None
+maker host deed old (Some place) = Some (at_place place)
 
 -- A step of a session makes this of what stands at its seat. There is no machine.
 unfoldable pub own : List User → List ℕ → OwnStep → Option Place → Option Place
-own users host x old = own_by x old (if_open old) (next_in users host x.occasion x.deed old (if_open old))
+own users host x old = option_or (option_map place_in (option_and_then (alone.did users (did_in x)) (maker host x.deed old (if_open old)))) old
 
 abbrev pub own_run : List User → List ℕ → List OwnStep → Option Place → Option Place
 own_run users host [] old = old
 own_run users host (x ∷ xs) old = own_run users host xs (own users host x old)
 
-abbrev pub event_in : Next × Talking → Option Event
-event_in (next.Ask event, t) = Some event
-event_in x = None
+-- whose step it is in a world, by the session that is open
+abbrev pub maker_in : World → Step → Option Place → Option At
+maker_in w x now = maker w.host x.deed (place_at w.places x.occasion.seat) now
 
--- what the machine of a world answers in a step, by the session that is open
-abbrev pub reply_of : World → Step → Option Place → Option (Result Reply Fault)
-reply_of w x now =
-    let n = next_in w.users w.host x.occasion x.deed (place_at w.places x.occasion.seat) now in
-    option_map (λ event. outcome_of (performed x.refused w.machine x.occasion event)) (option_and_then (λ y. event_in y.1) n)
+-- the event that it asks, if it asks one
+abbrev pub asked_by : World → Step → Option Place → Option Event
+asked_by w x now = option_and_then (λ at. asked_in w.users (did_of x.occasion x.deed None None) at.talk) (maker_in w x now)
+
+-- what the machine answers to it, and the machine then
+abbrev pub reply_to : World → Step → Option Event → Outcome
+reply_to w x asks = option_map (λ event. outcome_of (performed x.refused w.machine x.occasion event)) asks
+
+abbrev pub reply_of : World → Step → Option Place → Outcome
+reply_of w x now = reply_to w x (asked_by w x now)
+
+abbrev pub machine_by : World → Step → Option Event → Machine
+machine_by w x None = w.machine
+machine_by w x (Some event) = machine_after w.machine (performed x.refused w.machine x.occasion event)
+
+-- and to a Leave behind it, if one is made
+abbrev pub leave_of : Bool → Machine → Occasion → Outcome
+leave_of true m o = Some (outcome_of (step_of m o.seat events.Leave o.clock))
+leave_of false m o = None
+
+abbrev pub left_of : World → Step → Option Place → Outcome
+left_of w x now =
+    let step = did_of x.occasion x.deed (reply_of w x now) None in
+    leave_of (option_map_or (leaves_in w.users step) (maker_in w x now) false) (machine_by w x (asked_by w x now)) x.occasion
+
+-- a step with what the machine of a world answers, by the session that is open
+abbrev pub own_at : World → Step → Option Place → OwnStep
+own_at w x now = record { occasion = x.occasion; deed = x.deed; asked = reply_of w x now; left = left_of w x now }
 
 abbrev pub own_of : World → Step → OwnStep
-own_of w x = record { occasion = x.occasion; deed = x.deed; reply = reply_of w x (open_at w x.occasion.seat) }
+own_of w x = own_at w x (open_at w x.occasion.seat)
 
 -- the steps of a seat in a run, with what the machine answered there
 abbrev pub own_steps : ℕ → List Step → World → List OwnStep
@@ -191,6 +219,33 @@ OthersStay = (x : Step) (w : World) → let v = did x.occasion x.refused x.deed 
 abbrev pub StepAlone : Type 0
 StepAlone = (x : Step) (w : World) →
     place_at (did x.occasion x.refused x.deed w).places x.occasion.seat ≡ own w.users w.host (own_of w x) (place_at w.places x.occasion.seat)
+
+-- what events were answered with, and the same events as steps of the machine
+abbrev pub replies_in : List Call → List (Result Reply Fault)
+replies_in calls = map (λ call. Ok call.reply) calls
+
+abbrev pub steps_in : ℕ → List Call → List MachineStep
+steps_in seat calls = map (λ call. record { seat = seat; event = call.event; clock = call.clock }) calls
+
+-- A step of a session makes one world of another: the session alone can make it; what it comes to stands at the seat; and
+-- the events that were answered with replies lead the machine to where it is then, and have these replies on the way.
+pub record IsOwnStep (x : OwnStep) (at : At) (old new : World) : Type 0 where
+  pub end : At
+  pub is : alone.did old.users (did_in x) at ≡ Some end
+  pub seated : end.seated ≡ has_seat end.talk
+  pub stands : place_at new.places x.occasion.seat ≡ Some (place_in end)
+  pub machine : let calls = calls_in old.users (did_in x) at in
+      run_of old.machine (steps_in x.occasion.seat calls) ≡ (replies_in calls, new.machine)
+
+-- what is no session's step leaves the world as it was
+abbrev pub IsStepOf : OwnStep → Option At → World → World → Type 0
+IsStepOf x None old new = new ≡ old
+IsStepOf x (Some at) old new = IsOwnStep x at old new
+
+-- One step of a world is one step of the session at its seat, with the machine's own answers.
+abbrev pub SessionLaw : Type 0
+SessionLaw = (x : Step) (w : World) →
+    IsStepOf (own_of w x) (maker_in w x (open_at w x.occasion.seat)) w (did x.occasion x.refused x.deed w)
 
 -- What stands at a seat after a run, with all that was said there, comes of the steps of that seat and of what the
 -- machine answered to them.

@@ -10,8 +10,7 @@ use Rattle.acap_entries.specs.Names.{is_user_name}
 use Rattle.acap_login.specs.Login.{User}
 use Rattle.acap_machine.specs.Client.{Client, View, IsFresh, IsSeenAlike, client_after, whole_after, tells, live_at, with_rows}
 use Rattle.acap_rights.specs.declared.realm.Realm.{Realm}
-use Rattle.acap_session.specs.Laws.{AloneLaw, event_in, next_in, own_of}
-use Rattle.acap_session.specs.Places.{place_at}
+use Rattle.acap_session.specs.Laws.{AloneLaw, asked_by, own_of}
 use Rattle.acap_session.specs.World as world
 use Rattle.acap_session.specs.World.{World, Deed, Step, did, run, new_world, open_at}
 
@@ -19,9 +18,7 @@ use Rattle.acap_session.specs.World.{World, Deed, Step, did, run, new_world, ope
 
 -- the event that it asks in a step, if it asks one
 abbrev pub asked_in : World → Step → Option Event
-asked_in w x =
-    let seat = x.occasion.seat in
-    option_and_then (λ y. event_in y.1) (next_in w.users w.host x.occasion x.deed (place_at w.places seat) (open_at w seat))
+asked_in w x = asked_by w x (open_at w x.occasion.seat)
 
 -- with what the machine says to it; a fault says nothing. These replies are those of the seat's own steps, of which its octets are made
 abbrev pub told_with : Event → Result Reply Fault → Option (Event × Said)
@@ -29,7 +26,7 @@ told_with e (Ok reply) = Some (e, reply.said)
 told_with e (Err fault) = None
 
 abbrev pub told_in : World → Step → Option (Event × Said)
-told_in w x = option_and_then (λ e. option_and_then (told_with e) (own_of w x).reply) (asked_in w x)
+told_in w x = option_and_then (λ e. option_and_then (told_with e) (own_of w x).asked) (asked_in w x)
 
 -- ---- the client of a seat's context, and whether the list that it began with was told whole: over a list of steps, from
 -- what is so before them

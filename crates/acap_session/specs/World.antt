@@ -1,13 +1,13 @@
 -- The world: one machine, and the sessions of its seats. Its steps, and what a list of them comes to
 -- [RFC 2244 section 2].
-use Rattle.std.specs.Prelude.{◌≡◌, ◌⊎◌, ◌-◌, ℕ, List, [], ◌∷◌, ◌++◌, length, take, min, Bool, true, false, Option, Some, None, Result, Ok, Err, IsSome}
-use Rattle.acap_lexer.specs.Holding.{held_limit}
+use Rattle.std.specs.Prelude.{◌≡◌, ◌⊎◌, ℕ, List, [], ◌∷◌, Bool, true, false, Option, Some, None, Result, Ok, Err, IsSome}
 use Rattle.acap_login.specs.Login.{User}
 use Rattle.acap_machine.specs.Machine.{Machine, new_machine}
 use Rattle.acap_rights.specs.declared.realm.Realm.{Realm}
 use Rattle.acap_session.specs.Places.{Place, Places, place_at, placed, if_open}
 use Rattle.acap_dialogue.specs.Session.{has_seat, is_closed, session_next}
 use Rattle.acap_dialogue.specs.Talking.{Talking, begun}
+use Rattle.acap_dialogue.specs.Telling.{room_for, with_front}
 use Rattle.acap_session.specs.Turning.{Scene, scene, turn_of, drain_of, left_by, CutInDraining, WasCut}
 use Rattle.acap_session.specs.declared.occasion.Occasion.{Occasion}
 use Rattle.acap_dialogue.specs.declared.stage.Stage.TheVariants as stage
@@ -63,11 +63,11 @@ output_taken w seat = record w { places = taken_from w.places seat (place_at w.p
 
 -- so many octets of a piece are taken
 abbrev pub room_of : Talking → List ℕ → ℕ
-room_of t piece = min (length piece) (held_limit - length t.held.text)
+room_of t piece = room_for t piece
 
 -- a session with so many octets of a piece behind those that it holds
 abbrev pub with_octets : Talking → ℕ → List ℕ → Talking
-with_octets t n piece = record t { held = record t.held { text = t.held.text ++ take n piece } }
+with_octets t n piece = with_front t n piece
 
 abbrev pub takes : List ℕ → Scene → Scene
 takes piece s = record s { talk = with_octets s.talk (room_of s.talk piece) piece }

@@ -3,7 +3,7 @@ ghost use Rattle.acap_session.specs.Completing.{CompletionExamples, CompletionFo
 ghost use Rattle.acap_session.specs.Live.{LiveLaw};
 ghost use Rattle.acap_session.specs.Seating.{SeatingLaw};
 ghost use Rattle.acap_session.specs.PipeSteps.{PipeRuns};
-ghost use Rattle.acap_session.specs.Laws.{PiecesJoin, TurnsKeep, CuttingLaw, JoiningLaw, OthersStay, StepAlone, AloneLaw, RefusedTurns, WrittenLaw};
+ghost use Rattle.acap_session.specs.Laws.{PiecesJoin, TurnsKeep, CuttingLaw, JoiningLaw, OthersStay, SessionLaw, StepAlone, AloneLaw, RefusedTurns, WrittenLaw};
 
 use acap_machine::laws::{current_law, held_law, seen_law};
 
@@ -36,6 +36,12 @@ pub fn joining_law()
 /// A step at one seat leaves what stands at every other (RFC 2244 section 2).
 pub fn others_stay()
     ensures { OthersStay }
+{}
+
+/// One step of a world is one step of the session at its seat, with the machine's own answers: its octets, the session and the
+/// machine are what the session alone makes of these (RFC 2244 section 2).
+pub fn session_law()
+    ensures { SessionLaw }
 {}
 
 /// A step makes of its seat what the session makes of the machine's answer, without the machine (RFC 2244 section 2).
