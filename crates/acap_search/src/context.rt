@@ -1,26 +1,22 @@
 //! Searches over contexts.
-ghost use Rattle.std.specs.Prelude.{◌≡◌, ◌↔◌, ◌+◌, suc, length, IsTrue, IfOk};
-ghost use Rattle.std.specs.List.{Contains};
+ghost use Rattle.std.specs.Prelude.{◌≡◌, ◌+◌, ◌++◌, [], suc, length, IfOk, OnOk};
+ghost use Rattle.std.specs.List.{cons_option};
 ghost use Rattle.acap_search.specs.Counting.{IsCounted};
-ghost use Rattle.acap_search.specs.Views.{found_at};
+ghost use Rattle.acap_search.specs.Grounds.{IsGroundOf};
 ghost use Rattle.acap_search.specs.Walks as walks;
 ghost use Rattle.acap_search.specs.Within as rule;
 
 use crate::finding::{Finding, hits_of};
+use crate::ground::Ground;
 use crate::hit::{Hit, Hits};
-use crate::near::near_by;
 use crate::ordering::sort_found;
 use crate::query::Query;
 use crate::refusal::SearchRefusal;
-use crate::scope::looks_in;
 use crate::search::Search;
 use crate::searching::{has_range, is_over};
-use crate::spot::Spot;
-use crate::tuples::finding_at;
-use crate::viewer::Viewer;
 use acap_commands::{Key, Node, Test};
 use acap_entries::{Memory, Moment, Path, Steps, Tree, UserName};
-use acap_inherit::{chain, names_law, nothing_law};
+use acap_inherit::{names_law, nothing_law};
 use acap_rights::Realm;
 use std::alloc::Global;
 use std::sync::ledger::Ledger;
@@ -49,61 +45,56 @@ fn position_behind(count: usize) -> Option<u32>
     }
 }
 
-// What is made of an entry, if it is seen and wanted: one step.
-fn found_there<'a, L: Ledger>(
+// What is made of an entry at its position, in the dataset where it lies: one step.
+fn found_here<'a, L: Ledger>(
     alloc: Global,
     search: &Search<'a>,
+    here: &mut Ground<'a>,
     path: &'a Path,
     place: Option<u32>,
     steps: &mut Steps<L>,
 ) -> Result<Option<Finding<'a>>, Memory>
-    ensures count { steps.new ≡ steps.old + 1 }
-    ensures made { IfOk result (λ made. made ≡ found_at search.now.sought place (walks.spotted_in search.now path.now)) }
-{
-    let sought = search.sought;
-    let by = Viewer {
-        records: search.tree,
-        realm: search.realm,
-        user: search.user,
-        dataset: &path.dataset,
-        chain: chain(search.tree, &path.dataset, sought.no_inherit),
-    };
-    let near = near_by(&by, &path.name);
-    let nearer = by.over(&near);
-    let spot = Spot::far(&nearer, &path.name);
-    finding_at(alloc, &spot, Some(path), sought, place, steps)
-}
-
-// Whether the dataset of an entry is one that is looked through.
-fn looks_at(search: &Search<'_>, path: &Path) -> bool
-    ensures { IsTrue result ↔ Contains (walks.datasets_by search.now) path.now.dataset }
-{
-    search.tree.form_law();
-    looks_in(&search.sought.scope(), search.tree, &path.dataset)
-}
-
-// What is made of an entry of a context, at its position: one step.
-fn found_in<'a, L: Ledger>(
-    alloc: Global,
-    search: &Search<'a>,
-    path: &'a Path,
-    place: Option<u32>,
-    steps: &mut Steps<L>,
-) -> Result<Option<Finding<'a>>, Memory>
+    requires here { IsGroundOf search.now here.old }
+    requires at { here.old.view.dataset ≡ path.now.dataset }
+    ensures same { here.new ≡ here.old }
     ensures count { steps.new ≡ steps.old + 1 }
     ensures made { IfOk result (λ made. made ≡ walks.tuple_by search.now place path.now) }
 {
     nothing_law();
     names_law();
-    if looks_at(search, path) {
-        found_there(alloc, search, path, place, steps)
+    if here.is_searched() {
+        here.found(alloc, path, search.sought, place, steps)
     } else {
         steps.tick();
         Ok(None)
     }
 }
 
-// What is found among the entries of a context, in its order.
+// Adds what is made of an entry of a context, at its position, wherever it lies: one step.
+fn add_found<'a, L: Ledger>(
+    alloc: Global,
+    search: &Search<'a>,
+    here: &mut Ground<'a>,
+    path: &'a Path,
+    place: Option<u32>,
+    found: &mut Vec<Finding<'a>>,
+    steps: &mut Steps<L>,
+) -> Result<(), Memory>
+    requires here { IsGroundOf search.now here.old }
+    ensures here { OnOk result (IsGroundOf search.now here.new) }
+    ensures count { IsCounted result steps.old steps.new 1 }
+    ensures found { OnOk result
+        (found.new.items ≡ found.old.items ++ cons_option (walks.tuple_by search.now place path.now) []) }
+{
+    here.go_to(alloc, search, &path.dataset)?;
+    if let Some(finding) = found_here(alloc, search, here, path, place, steps)? {
+        found.push(finding)?;
+    }
+    Ok(())
+}
+
+// What is found among the entries of a context, in its order. Those that lie in one dataset one after the other share what is
+// made for it.
 fn found_among<'a, L: Ledger>(
     alloc: Global,
     search: &Search<'a>,
@@ -114,11 +105,15 @@ fn found_among<'a, L: Ledger>(
     ensures count { IsCounted result steps.old steps.new (length shown.now) }
 {
     let mut found = Vec::new(alloc);
+    let Some(first) = shown.first() else {
+        return Ok(found);
+    };
+    let mut here = Ground::at(alloc, search, &first.path.dataset)?;
     for (count, hit) in shown.iter().enumerate() {
         let place = position_behind(count);
-        if let Some(finding) = found_in(alloc, search, &hit.path, place, steps)? {
-            found.push(finding)?;
-        }
+        add_found(
+            alloc, search, &mut here, &hit.path, place, &mut found, steps,
+        )?;
     }
     Ok(found)
 }

@@ -1,0 +1,28 @@
+-- A dataset whose entries are looked at one after the other: words of private contracts.
+use Rattle.std.specs.Prelude.{◌≡◌, ◌↔◌, Bool, List, ◌∷◌, Option, Some, None, IsTrue, refl}
+use Rattle.std.specs.Borrow.{Bor}
+use Rattle.std.specs.Coded.{Coded, code_by, coded×, coded_bool}
+use Rattle.std.specs.List.{Contains}
+use Rattle.acap_entries.specs.declared.path.Path.{Path}
+use Rattle.acap_entries.specs.declared.record.Record.{Record}
+use Rattle.acap_search.specs.Views.{View, view_code}
+use Rattle.acap_search.specs.Walks.{Quest, datasets_by, view_in}
+
+-- who looks at its entries, and whether it is one that is searched
+pub record Ground : Type 0 where
+  pub view : View
+  pub is_searched : Bool
+
+-- it is that of its dataset, in one search
+pub record IsGroundOf (quest : Quest) (g : Ground) : Type 0 where
+  pub view : g.view ≡ view_in quest g.view.dataset
+  pub searched : IsTrue g.is_searched ↔ Contains (datasets_by quest) g.view.dataset
+
+-- records with their paths, the first of them apart
+abbrev pub listed : Option (Bor Path × Bor Record) → List (Path × Record) → List (Path × Record)
+listed None others = others
+listed (Some e) others = (e.0.now, e.1.now) ∷ others
+
+-- how grounds are told apart in proofs
+abbrev pub ground_code : Coded Ground
+ground_code = code_by (View × Bool) (coded× view_code coded_bool) (λ g. (g.view, g.is_searched)) (λ p. record { view = p.0; is_searched = p.1 }) (λ _. refl)

@@ -1,0 +1,224 @@
+//! A dataset whose entries are looked at one after the other.
+ghost use Rattle.std.specs.Prelude.{◌≡◌, ◌↔◌, ◌+◌, IfOk, IsTrue, OnOk};
+ghost use Rattle.std.specs.List.{Contains};
+ghost use Rattle.std.specs.Option.{option_copied, ForSome};
+ghost use Rattle.acap_inherit.specs.Records.{record_at};
+ghost use Rattle.acap_search.specs.Grounds.{IsGroundOf, listed};
+ghost use Rattle.acap_search.specs.Near as near;
+ghost use Rattle.acap_search.specs.Views.{found_at, spotted};
+ghost use Rattle.acap_search.specs.Walks as walks;
+
+use crate::finding::Finding;
+use crate::front::Front;
+use crate::kept::Kept;
+use crate::near::Near;
+use crate::plain::is_alone;
+use crate::query::Sought;
+use crate::scope::looks_in;
+use crate::search::Search;
+use crate::searching::base_of;
+use crate::spot::Spot;
+use crate::tuples::finding_at;
+use crate::viewer::Viewer;
+use acap_entries::{Dataset, EntryName, Listing, Memory, Path, Record, Records, Steps, Tree};
+use acap_inherit::chain;
+use acap_rights::{SharedRights, shared_rights};
+use std::alloc::Global;
+use std::marker::Model;
+use std::sync::ledger::Ledger;
+
+/// A dataset whose entries are looked at one after the other, with what is made once for all of them. Its records lie at hand in
+/// their order: the next is found at once, if it is the one that is asked for.
+#[derive(Drop)]
+pub(crate) struct Ground<'a> {
+    by: Viewer<'a, Tree>,
+    is_searched: bool,
+    own: Front<'a>,
+    base: Front<'a>,
+    shared: Option<SharedRights>,
+    next: Option<(&'a Path, &'a Record)>,
+    others: Listing<'a>,
+}
+
+impl<'a> Model for Ground<'a> {
+    ghost use Rattle.std.specs.Option.{ForSome};
+    ghost use Rattle.acap_search.specs.Fronts.{IsFront};
+    ghost use Rattle.acap_search.specs.Grounds.{Ground, ground_code, listed};
+    ghost use Rattle.acap_search.specs.Near.{AreKept, IsPlain};
+
+    ghost Value = { Ground };
+
+    ghost coded = { ground_code };
+
+    ghost view = { λ g. record { view = g.by; is_searched = g.is_searched } };
+
+    ghost invariant = { λ g. IsFront g.by.records g.own × IsFront g.by.records g.base × ForSome g.shared (IsPlain g.by)
+        × AreKept g.by.records g.by.dataset (listed g.next g.others) };
+}
+
+// The rights that the entries of a dataset share, where it inherits nothing.
+fn shared_by(alloc: Global, by: &Viewer<'_, Tree>) -> Result<Option<SharedRights>, Memory>
+    ensures { IfOk result (λ shared. ForSome shared (near.IsPlain by.now)) }
+{
+    let dataset = by.dataset.as_slice();
+    if !is_alone(&by.chain, dataset) {
+        return Ok(None);
+    }
+    Ok(Some(shared_rights(alloc, by.records, by.realm, by.user, dataset)?))
+}
+
+// Whether a dataset is one that is looked through.
+fn is_searched(search: &Search<'_>, dataset: &Dataset) -> bool
+    ensures { IsTrue result ↔ Contains (walks.datasets_by search.now) dataset.now }
+{
+    search.tree.form_law();
+    looks_in(&search.sought.scope(), search.tree, dataset)
+}
+
+// The first of some records whose name doesn't come before another one.
+#[tactic(auto, using(crate::proofs::GroundLemmas::others_kept))]
+fn first_from<'a>(
+    tree: &Tree,
+    dataset: &Dataset,
+    next: Option<(&'a Path, &'a Record)>,
+    others: &mut Listing<'a>,
+    name: &EntryName,
+) -> Option<(&'a Path, &'a Record)>
+    requires { near.AreKept tree.now.store.records dataset.now (listed next others.old) }
+    ensures { near.AreKept tree.now.store.records dataset.now (listed result others.new) }
+{
+    if let Some((path, _)) = next
+        && *name <= path.name
+    {
+        return next;
+    }
+    'passed: while let Some(entry) = others.next() {
+        if *name <= entry.0.name {
+            return Some(entry);
+        }
+    }
+    None
+}
+
+impl<'a> Ground<'a> {
+    /// That of a dataset. Fails only for want of memory.
+    pub(crate) fn at(
+        alloc: Global,
+        search: &Search<'a>,
+        dataset: &'a Dataset,
+    ) -> Result<Ground<'a>, Memory>
+        ensures made { IfOk result (λ made. IsGroundOf search.now made) }
+        ensures at { IfOk result (λ made. made.view.dataset ≡ dataset.now) }
+    {
+        let sought = search.sought;
+        let by = Viewer {
+            records: search.tree,
+            realm: search.realm,
+            user: search.user,
+            dataset,
+            chain: chain(search.tree, dataset, sought.no_inherit),
+        };
+        let shared = shared_by(alloc, &by)?;
+        let own = Front::of(by.records, dataset.as_slice());
+        let base = Front::of(by.records, base_of(&by.chain));
+        Ok(Ground {
+            by,
+            is_searched: is_searched(search, dataset),
+            own,
+            base,
+            shared,
+            next: None,
+            others: search.tree.entries_of(dataset.as_slice()),
+        })
+    }
+
+    /// Goes to a dataset, where it stands in another one. Fails only for want of memory.
+    pub(crate) fn go_to(
+        &mut self,
+        alloc: Global,
+        search: &Search<'a>,
+        dataset: &'a Dataset,
+    ) -> Result<(), Memory>
+        requires { IsGroundOf search.now self.old }
+        ensures made { OnOk result (IsGroundOf search.now self.new) }
+        ensures at { OnOk result (self.new.view.dataset ≡ dataset.now) }
+    {
+        if self.by.dataset.as_slice() != dataset.as_slice() {
+            *self = Ground::at(alloc, search, dataset)?;
+        }
+        Ok(())
+    }
+
+    /// Whether it is one that is searched.
+    pub(crate) fn is_searched(&self) -> bool
+        ensures { result ≡ self.now.is_searched }
+    {
+        self.is_searched
+    }
+
+    // The record of an entry of it, which is often the next.
+    fn record_of(&mut self, name: &EntryName) -> Option<&'a Record>
+        ensures same { self.new ≡ self.old }
+        ensures found { option_copied result ≡ record_at self.old.view.records self.old.view.dataset name.now }
+    {
+        let tree = self.by.records;
+        let dataset = self.by.dataset;
+        let next = first_from(tree, dataset, self.next, &mut self.others, name);
+        self.next = next;
+        if let Some((path, record)) = next
+            && path.name == *name
+        {
+            return Some(record);
+        }
+        tree.find(dataset.as_slice(), name.as_slice())
+    }
+
+    // What a search makes of an entry of it whose record is at hand, if there is one: one step.
+    fn found_by<L: Ledger>(
+        &self,
+        alloc: Global,
+        path: &'a Path,
+        entry: Option<&'a Record>,
+        sought: &Sought,
+        place: Option<u32>,
+        steps: &mut Steps<L>,
+    ) -> Result<Option<Finding<'a>>, Memory>
+        requires here { self.now.view.dataset ≡ path.now.dataset }
+        requires entry { option_copied entry ≡ record_at self.now.view.records self.now.view.dataset path.now.name }
+        ensures count { steps.new ≡ steps.old + 1 }
+        ensures made { IfOk result (λ made. made ≡ found_at sought.now place (spotted self.now.view path.now.name)) }
+    {
+        if let Some(shared) = &self.shared
+            && let Some(entry) = entry
+        {
+            let spot = Spot {
+                by: &self.by,
+                name: &path.name,
+                kept: Some(Kept { entry, shared }),
+            };
+            return finding_at(alloc, &spot, Some(path), sought, place, steps);
+        }
+        let near = Near::new(self.by.records, self.own, self.base, path.name.as_slice());
+        let nearer = self.by.over(&near);
+        let spot = Spot::far(&nearer, &path.name);
+        finding_at(alloc, &spot, Some(path), sought, place, steps)
+    }
+
+    /// What a search makes of an entry of it: one step.
+    pub(crate) fn found<L: Ledger>(
+        &mut self,
+        alloc: Global,
+        path: &'a Path,
+        sought: &Sought,
+        place: Option<u32>,
+        steps: &mut Steps<L>,
+    ) -> Result<Option<Finding<'a>>, Memory>
+        requires here { self.old.view.dataset ≡ path.now.dataset }
+        ensures same { self.new ≡ self.old }
+        ensures count { steps.new ≡ steps.old + 1 }
+        ensures made { IfOk result (λ made. made ≡ found_at sought.now place (spotted self.old.view path.now.name)) }
+    {
+        let entry = self.record_of(&path.name);
+        self.found_by(alloc, path, entry, sought, place, steps)
+    }
+}
