@@ -16,6 +16,7 @@ pub mod FollowLemmas
 pub mod LoopShiftLemmas
 pub mod UndoLemmas
 pub mod TouchingLemmas
+pub mod StillLemmas
 pub mod PreparedLemmas
 pub mod ValueLemmas
 pub mod KeepingLemmas

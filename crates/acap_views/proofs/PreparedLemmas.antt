@@ -1,10 +1,10 @@
 -- What is prepared of each touched entry comes to the change.
-use Rattle.std.proofs.Common.{◌≡◌, ℕ, suc, ◌+◌, Bool, true, false, cond, Option, Some, None, List, [], ◌∷◌, length, refl, sym, ◌∙◌, ap, subst, arith, map as each}
+use Rattle.std.proofs.Common.{◌≡◌, ℕ, suc, true, cond, Option, Some, None, List, [], ◌∷◌, length, refl, sym, ◌∙◌, ap, subst, arith, map as each}
 use Rattle.std.specs.Cmp.{nat_cmp_total, tied_itself}
 use Rattle.std.specs.Cmp.Lexicographic.{nat_list_cmp_total}
 use Rattle.std.specs.FinMap as table
 use Rattle.std.specs.List.{filter_map, sum_by, Contains}
-use Rattle.std.specs.Option.{option_map, unwrap_or}
+use Rattle.std.specs.Option.{option_map}
 use Rattle.acap_entries.specs.Datasets.{dataset_exists}
 use Rattle.std.proofs.lemmas.List.Sums.{sum_by-cons}
 use Rattle.acap_entries.specs.FullPaths.{IsSplit}
@@ -14,11 +14,10 @@ use Rattle.acap_entries.specs.declared.path.Path.{Path}
 use Rattle.acap_inherit.specs.Laws.{NothingLaw, NamesLaw}
 use Rattle.acap_inherit.specs.TouchedLaws.{TouchedPathsLaw}
 use Rattle.acap_moves.specs.Hits.{Name, IsBelow, IsAscending}
-use Rattle.acap_moves.specs.Moves.{Move, after_moves, moves_notices}
-use Rattle.acap_notices.specs.declared.notice.Notice.{Notice}
+use Rattle.acap_moves.specs.Moves.{after_moves, moves_notices}
 use Rattle.acap_rights.specs.declared.realm.Realm.{Realm}
 use Rattle.acap_search.specs.ContextLaws.{HitLaw}
-use Rattle.acap_search.specs.Fresh.{Sight, tuple_of, matches_of, is_among, answers_on}
+use Rattle.acap_search.specs.Fresh.{Sight, tuple_of, matches_of, is_among}
 use Rattle.acap_search.specs.Keys.{holds}
 use Rattle.acap_search.specs.Laws.{SeenLaw, TupleLaw}
 use Rattle.acap_search.specs.Matches.{Match}
@@ -26,30 +25,31 @@ use Rattle.acap_search.specs.Rows.{stars_of}
 use Rattle.acap_search.specs.Sight.{is_seen}
 use Rattle.acap_search.specs.Touched.{TouchedLaw}
 use Rattle.acap_search.specs.Tuples.{name_told, match_of}
-use Rattle.acap_search.specs.Views.{answers_of, stars_at, found_at as found_of}
+use Rattle.acap_search.specs.Views.{answers_of, stars_at}
 use Rattle.acap_search.specs.declared.query.Sought.{Sought}
 use Rattle.acap_search.specs.declared.rank.Place.{Place}
 use Rattle.acap_search.proofs.OnceLemmas.{from_made, found_at, in_one, from_ordered}
 use Rattle.acap_search.proofs.SeenLemmas.{here, there, first_or, nowhere, either}
 use Rattle.acap_search.proofs.TupleLemmas.{made_is}
 use Rattle.acap_views.specs.Aheads.{Planned, store_ahead}
-use Rattle.acap_views.specs.Changing.{sight_for, follows, changed_context, changed_occupant, changed}
-use Rattle.acap_views.specs.Contexts.{Kept, Snapshot, Live, Freed, Context, Contexts}
-use Rattle.acap_views.specs.Current.{IsCurrentKept, IsCurrentContext, IsCurrentOccupant, IsCurrent}
+use Rattle.acap_views.specs.Changing.{sight_for, follows, changed_context, changed_occupant}
+use Rattle.acap_views.specs.Contexts.{Kept, Snapshot, Live, Freed, Context}
+use Rattle.acap_views.specs.Current.{IsCurrentKept, IsCurrentContext, IsCurrentOccupant}
 use Rattle.acap_views.specs.Laws.{ChangedLaw, FoundLaw}
 use Rattle.acap_views.specs.Moving.{moves_of, IsTaken, TouchedMovesLaw}
 use Rattle.acap_views.specs.Notices.{told_shape, event_notices}
-use Rattle.acap_views.specs.Plans.{live_shifts, shifts_in, turns_at, turns_of, work_in, work_at, shifts_count, turns_count}
+use Rattle.acap_views.specs.Plans.{live_shifts, shifts_in, turns_at, work_in, work_at, shifts_count}
 use Rattle.acap_views.specs.PreparedLaws.{PreparedLaw}
 use Rattle.acap_views.specs.Preparing.{seen_at, shift_for, shifts_if, shifts_for, kept_after, context_after, contexts_after, occupant_after, seats_after}
-use Rattle.acap_views.specs.Seats.{Occupant, Seated}
+use Rattle.acap_views.specs.Seats.{Occupant}
 use Rattle.acap_views.specs.Shifting.{Shift, after_shifts, shifts_notices}
-use Rattle.acap_views.specs.Work.{is_live, touched_for, work_for}
+use Rattle.acap_views.specs.Work.{is_live, touched_for}
 use Rattle.acap_views.proofs.CurrentLemmas.{find_own}
-use Rattle.acap_views.proofs.FollowLemmas.{Apart, told, shift_by, move_of, IsNamed, AreNamed, IsAsked, StoodThere, follow}
+use Rattle.acap_views.proofs.FollowLemmas.{Apart, move_of, IsNamed, AreNamed, IsAsked, StoodThere, follow}
 use Rattle.acap_views.proofs.ListLemmas.{so}
 use Rattle.acap_views.proofs.MovingLemmas.{split_seen, looked_split, looked_in, alone, looked_rise}
 use Rattle.acap_views.proofs.PathLemmas.{IsIn}
+use Rattle.acap_views.proofs.StillLemmas.{contexts_trimmed, count_trimmed}
 
 -- ---- names that ascend are apart
 
@@ -178,11 +178,16 @@ module _ (nothing : NothingLaw) (names : NamesLaw) (listed : TouchedPathsLaw) (s
   all_contexts written old new realm user (e ∷ es) taken current = λ i.
       (e.0, one_context written old new realm user e.1 taken (current e (here e es)) i) ∷ all_contexts written old new realm user es taken (λ x k. current x (there e x es k)) i
 
+  are_current : (plan : Planned) (occupant : Occupant) → IsCurrentOccupant plan.old plan.realm occupant → (e : List ℕ × Context) → Contains (table.entries occupant.contexts) e
+      → IsCurrentContext plan.old plan.realm occupant.user e.1
+  are_current plan occupant current e k =
+      current.each e.0 e.1 (table.get-entries occupant.contexts e.0 ∙ find_own nat_list_cmp_total (table.entries occupant.contexts) e (so _ (table.entries_sorted occupant.contexts)) k)
+
   one_occupant : (plan : Planned) (occupant : Occupant) → IsTaken plan.change.writes plan.old (store_ahead plan) → IsCurrentOccupant plan.old plan.realm occupant
       → occupant_after (turns_at plan occupant) occupant ≡ changed_occupant plan.realm plan.old (store_ahead plan) occupant
   one_occupant plan occupant taken current = λ i. record occupant {
-    contexts = table.from_entries (all_contexts plan.change.writes plan.old (store_ahead plan) plan.realm occupant.user (table.entries occupant.contexts) taken
-        (λ e k. current.each e.0 e.1 (table.get-entries occupant.contexts e.0 ∙ find_own nat_list_cmp_total (table.entries occupant.contexts) e (so _ (table.entries_sorted occupant.contexts)) k)) i);
+    contexts = table.from_entries ((contexts_trimmed plan.old plan.realm occupant.user (each (shifts_in plan occupant.user) (table.values occupant.contexts)) (table.entries occupant.contexts) (are_current plan occupant current)
+        ∙ all_contexts plan.change.writes plan.old (store_ahead plan) plan.realm occupant.user (table.entries occupant.contexts) taken (are_current plan occupant current)) i);
   }
 
   all_occupants : (plan : Planned) (es : List (ℕ × Occupant)) → IsTaken plan.change.writes plan.old (store_ahead plan)
@@ -216,5 +221,7 @@ module _ (nothing : NothingLaw) (names : NamesLaw) (listed : TouchedPathsLaw) (s
     changed = λ plan seats work taken current.
         ap table.from_entries (all_occupants plan (table.entries seats) taken
         (λ e k. current.all e.0 e.1 (table.get-entries seats e.0 ∙ find_own nat_cmp_total (table.entries seats) e (so _ (table.entries_sorted seats)) k)));
-    count = λ plan seats. sum_each shifts_count (turns_at plan) (work_at plan) (table.values seats) (λ occupant. sum_each length (shifts_in plan occupant.user) (work_in plan) (table.values occupant.contexts) (one_count plan occupant.user));
+    count = λ plan seats. sum_each shifts_count (turns_at plan) (work_at plan) (table.values seats) (λ occupant.
+        count_trimmed (each (shifts_in plan occupant.user) (table.values occupant.contexts))
+        ∙ sum_each length (shifts_in plan occupant.user) (work_in plan) (table.values occupant.contexts) (one_count plan occupant.user));
   }

@@ -354,3 +354,51 @@ placed_if false n found = refl
 -- a match beside its place, from the place alone
 pub placed_back : (found : Match) (others : List Match) → option_map (λ place. counted_as place found) (option_map place_in (placed_among found others)) ≡ placed_among found others
 placed_back found others = placed_if (is_some (item_at match_cmp found others)) (rank_of match_cmp found others) found
+
+-- ---- what stands where another match stood
+
+-- as many stand before it
+same_side : (old found x : Match) → match_cmp old found ≡ Equal → match_cmp x found ≡ match_cmp x old
+same_side old found x e = match_total.antisymm x found ∙ (ap ordering_reverse (sym (match_total.congr old found x e)) ∙ sym (match_total.antisymm x old))
+
+rank_tied : (old found : Match) (xs : List Match) → match_cmp old found ≡ Equal → rank_of match_cmp found xs ≡ rank_of match_cmp old xs
+unfolding rank_of
+rank_tied old found [] e = refl
+rank_tied old found (x ∷ xs) e =
+    rank_cons match_cmp found x xs
+    ∙ (ap (λ o. cond {A = ℕ} (is_lt o) 1 0 + rank_of match_cmp found xs) (same_side old found x e)
+    ∙ (ap (λ n. cond {A = ℕ} (is_lt (match_cmp x old)) 1 0 + n) (rank_tied old found xs e) ∙ sym (rank_cons match_cmp old x xs)))
+
+-- what is taken out stood before nothing
+pub rank_left : (old : Match) (hits : List Match) → rank_of match_cmp old (without_old old hits) ≡ rank_of match_cmp old hits
+unfolding without_item
+rank_left old [] = refl
+rank_left old (h ∷ hs) = elim (eq_by_cmp match_cmp old h) as (λ b. eq_by_cmp match_cmp old h ≡ b
+    → rank_of match_cmp old (cond (not b) (h ∷ filter (λ x. not (eq_by_cmp match_cmp old x)) hs) (filter (λ x. not (eq_by_cmp match_cmp old x)) hs)) ≡ rank_of match_cmp old (h ∷ hs)) [
+      | true ↦ λ e.
+          let own : match_cmp h old ≡ Equal = match_total.antisymm h old ∙ ap ordering_reverse (tied _ e) in
+          let first : cond {A = ℕ} (is_lt (match_cmp h old)) 1 0 ≡ 0 = ap (λ o. cond {A = ℕ} (is_lt o) 1 0) own in
+          rank_left old hs ∙ sym (rank_cons match_cmp old h hs ∙ omega (arith, first))
+      | false ↦ λ e.
+          rank_cons match_cmp old h (without_old old hs)
+          ∙ (ap (λ n. cond {A = ℕ} (is_lt (match_cmp h old)) 1 0 + n) (rank_left old hs) ∙ sym (rank_cons match_cmp old h hs))
+    ] refl
+
+pub stood_left : (old : Match) (hits : List Match) (place : ℕ) (found : Option Match) → place ≡ rank_of match_cmp old (without_old old hits) → found ≡ item_at match_cmp old hits
+    → option_map (counted_as place) found ≡ stood old hits
+stood_left old hits place found p f = ap (λ n. option_map (counted_as n) found) (p ∙ rank_left old hits) ∙ ap (option_map (counted_as (rank_of match_cmp old hits))) f
+
+pub free_there : (old found : Match) (hits : List Match) → eq_by_cmp match_cmp old found ≡ true → is_some (item_at match_cmp found (without_old old hits)) ≡ false
+unfolding item_at
+free_there old found hits e =
+    ap is_some (none_found (eq_by_cmp match_cmp found) (without_old old hits) (λ x k.
+    sym (ap is_eq (match_total.congr old found x (tied _ e))) ∙ (left_of old hits x k).1))
+
+pub stood_there : (old come : Match) (hits : List Match) (place : ℕ) (found : Option Match) → eq_by_cmp match_cmp old come ≡ true
+    → place ≡ rank_of match_cmp come (without_old old hits) → found ≡ item_at match_cmp old hits → option_map (counted_as place) found ≡ stood old hits
+stood_there old come hits place found e p f = stood_left old hits place found (p ∙ rank_tied old come (without_old old hits) (tied _ e)) f
+
+pub stands_there : (old found : Match) (hits : List Match) (place : ℕ) → eq_by_cmp match_cmp old found ≡ true → place ≡ rank_of match_cmp found (without_old old hits)
+    → Some place ≡ option_map place_in (stands old (Some found) hits)
+stands_there old found hits place e p =
+    ap Some p ∙ sym (ap (λ b. option_map place_in (cond {A = Option (ℕ × Match)} b None (Some (rank_of match_cmp found (without_old old hits), found)))) (free_there old found hits e))

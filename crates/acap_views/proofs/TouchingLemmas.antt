@@ -1,5 +1,5 @@
 -- Which touched entries a search looks at.
-use Rattle.std.proofs.Common.{◌≡◌, ℕ, Bool, true, false, cond, ◌||◌, Option, Some, None, List, [], ◌∷◌, ◌⊎◌, inl, inr, refl, sym, ◌∙◌, ap, subst, IsTrue, map as each}
+use Rattle.std.proofs.Common.{◌≡◌, ℕ, Bool, true, false, ◌||◌, Option, Some, None, List, [], ◌∷◌, ◌⊎◌, inl, inr, refl, sym, ◌∙◌, ap, subst, map as each}
 use Rattle.std.specs.Cmp.{both_ways}
 use Rattle.std.specs.Cmp.Lexicographic.{bytes_decides, nat_list_eq_equiv}
 use Rattle.std.specs.List.{filter, list_any, Contains}
@@ -20,10 +20,12 @@ use Rattle.acap_inherit.specs.Leaving.{AreTouched, AreTouchedAt, AreTouchedDatas
 use Rattle.acap_inherit.specs.Touched.{ordered_among, touched, datasets_touched}
 use Rattle.acap_inherit.specs.declared.touched_dataset.TouchedDataset.{TouchedDataset}
 use Rattle.acap_search.specs.Scoped.{SaysWhether}
-use Rattle.acap_search.specs.Scopes.{Scope, scope_of, datasets_of, beneath}
+use Rattle.acap_search.specs.Scopes.{Scope, datasets_of, beneath}
 use Rattle.acap_search.specs.declared.query.Sought.{Sought}
 use Rattle.acap_search.proofs.SeenLemmas.{here, there, first_or, nowhere, either, at_first, in_map, same_name}
-use Rattle.acap_views.specs.Touching.{has_dataset}
+use Rattle.acap_views.specs.Aheads.{Planned}
+use Rattle.acap_views.specs.Touching.{has_dataset, looked_at_by, IsNoted}
+use Rattle.acap_views.specs.declared.noted.Noted.{Noted}
 use Rattle.acap_views.specs.Work.{is_looked_at}
 
 pub whether : (records : Stored) (scope : Scope) (dataset : List ℕ) (answer : Bool) → AreWellFormed records → SaysWhether records scope dataset answer
@@ -101,3 +103,11 @@ in_no_dataset change old sought datasets are lacks none =
 pub all_looked_at : (change : Change) (old : Store) (sought : Sought) (paths made : List Path) → AreTouched change old paths → made ≡ filter (is_looked_at (store_after change old).records sought) paths
     → made ≡ filter (is_looked_at (store_after change old).records sought) (touched change.writes old.records (store_after change old).records)
 all_looked_at change old sought paths made are m = m ∙ ap (filter (is_looked_at (store_after change old).records sought)) (are (store_after change old) (value_after change old))
+
+-- ---- a dataset of which they are kept
+
+pub known_is : (plan : Planned) (sought : Sought) (noted : Option Noted) (known : Noted) → noted ≡ Some known → IsNoted plan noted → known.dataset.now ≡ sought.dataset → sought.depth ≡ None
+    → known.paths ≡ looked_at_by plan sought
+known_is plan sought noted known e is same none =
+    in_one_dataset plan.change plan.old sought known.paths
+    (subst (λ d. AreTouchedAt plan.change plan.old d known.paths) same (subst (λ n. IsNoted plan n) e is)) none

@@ -1,5 +1,5 @@
 -- What a change that is about to be committed comes to, context by context and seat by seat.
-use Rattle.std.proofs.Common.{◌≡◌, ℕ, ◌+◌, ◌<◌, ◌≤◌, List, [], ◌∷◌, ◌++◌, length, take, get_or, Result, Ok, Err, refl, sym, ◌∙◌, ap, subst, arith, map as each}
+use Rattle.std.proofs.Common.{◌≡◌, ℕ, ◌+◌, ◌<◌, ◌≤◌, List, [], ◌∷◌, length, take, get_or, Result, Ok, Err, refl, sym, ◌∙◌, ap, subst, arith, map as each}
 use Rattle.std.proofs.lemmas.List.Sums.{sum_by-cons, sum_by_more, sum_by_more_le}
 use Rattle.std.specs.Cmp.{nat_cmp_total}
 use Rattle.std.specs.FinMap as table
@@ -15,7 +15,7 @@ use Rattle.acap_views.specs.Aheads.{Planned, store_ahead}
 use Rattle.acap_views.specs.Contexts.{Context}
 use Rattle.acap_views.specs.Keeping.{RoomyContext, RoomyContexts, RoomyOccupant, contexts_in, occupant_in}
 use Rattle.acap_views.specs.Listing.{as_seated, bare, bare_seat}
-use Rattle.acap_views.specs.Plans.{looked_at, live_shifts, work_in, shifts_in, work_at, turns_at, work_of, turns_of}
+use Rattle.acap_views.specs.Plans.{looked_at, live_shifts, work_in, shifts_in, work_at, turns_at, trimmed, work_of, turns_of}
 use Rattle.acap_views.specs.Preparing.{shift_for}
 use Rattle.acap_views.specs.Scenes.{Scene, shift_in}
 use Rattle.acap_views.specs.Seats.{Occupant, Seated}
@@ -61,11 +61,11 @@ module _ (plan : Planned) (es : List (List ℕ × RoomyContext)) (o : RoomyOccup
       ∙ (ap (λ (xs : List (List ℕ × Context)). sum_by (work_in plan) (each (λ (x : List ℕ × Context). x.1) xs)) (listed_entries es h)
       ∙ (sum_each (λ (x : List ℕ × Context). x.1) (work_in plan) (each bare es) ∙ sum_each bare (λ (x : List ℕ × Context). work_in plan x.1) es))
 
-  pub turns_listed : turns_at plan (occupant_in o) ≡ each (shifts_there plan o.user) es
-  turns_listed =
+  pub turns_listed : turns_at plan (occupant_in o) ≡ trimmed (each (shifts_there plan o.user) es)
+  turns_listed = ap trimmed (
       ap (λ (cs : RoomyContexts). each (shifts_in plan o.user) (table.values (contexts_in cs))) (sym v)
       ∙ (ap (λ (xs : List (List ℕ × Context)). each (shifts_in plan o.user) (each (λ (x : List ℕ × Context). x.1) xs)) (listed_entries es h)
-      ∙ (each_each (λ (x : List ℕ × Context). x.1) (shifts_in plan o.user) (each bare es) ∙ each_each bare (λ (x : List ℕ × Context). shifts_in plan o.user x.1) es))
+      ∙ (each_each (λ (x : List ℕ × Context). x.1) (shifts_in plan o.user) (each bare es) ∙ each_each bare (λ (x : List ℕ × Context). shifts_in plan o.user x.1) es)))
 
 module _ (plan : Planned) (es : List (ℕ × RoomyOccupant)) (s : Seated) (h : InOrder nat_cmp es) (v : as_seated es ≡ s) where
   pub seats_work : work_of plan s ≡ sum_by (seat_work plan) es

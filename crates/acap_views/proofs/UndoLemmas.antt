@@ -1,5 +1,5 @@
 -- Moves taken back in a list of hits that are lent.
-use Rattle.std.proofs.Common.{◌≡◌, ℕ, zero, suc, ◌+◌, ◌-◌, ◌<◌, ◌≤◌, Option, Some, None, List, [], ◌∷◌, ◌++◌, length, take, drop, get_or, refl, sym, ◌∙◌, ap, arith, append_assoc, map as each}
+use Rattle.std.proofs.Common.{◌≡◌, ℕ, zero, suc, ◌+◌, ◌-◌, ◌<◌, ◌≤◌, Option, Some, None, List, [], ◌∷◌, ◌++◌, length, take, drop, set, get_or, refl, sym, ◌∙◌, ap, arith, append_assoc, map as each}
 use Rattle.std.specs.Borrow.{Bor}
 use Rattle.std.specs.List.{insert, remove}
 use Rattle.std.proofs.lemmas.List.{map-append}
@@ -64,3 +64,9 @@ pub next_undone : (undos : List (Undo Match)) (left : ℕ) (undo : Undo Match) (
     → left - 1 + 1 ≡ left → hits ≡ all_undone (drop left undos) now → more ≡ undone undo hits → more ≡ all_undone (drop (left - 1) undos) now
 next_undone undos left undo now hits more within at back h m =
     one_undone_more undos (left - 1) undo now hits more (one_dropped undos (left - 1) undo within at) (h ∙ ap (λ n. all_undone (drop n undos) now) (sym back)) m
+
+-- another hit where one stands: that one is taken out, and this one put in
+pub seen_set : (xs : List (Bor Match)) (n : ℕ) (x : Bor Match) → n < length xs → seen (set xs n x) ≡ insert (remove (seen xs) n) n x.now
+seen_set [] n x h = absurd (omega (arith, h))
+seen_set (y ∷ xs) zero x h = refl
+seen_set (y ∷ xs) (suc n) x h = ap (λ t. y.now ∷ t) (seen_set xs n x (omega (arith, h)))

@@ -26,12 +26,13 @@ abbrev pub store_ahead : Planned → Store
 store_ahead plan = store_after plan.change plan.old
 
 -- the change may be made, and what is known of it is so
-pub record IsAhead (change : Change) (old : Store) (after : After) (links : List Link) (datasets : List TouchedDataset) : Type 0 where
+pub record IsAhead (change : Change) (old : Store) (after : After) (beside : Store) (links : List Link) (datasets : List TouchedDataset) : Type 0 where
   pub sound : IsSoundStep old (store_after change old)
   pub formed : AreWellFormed change.writes
   pub index : IsIndexOf old.records links
   pub touched : AreTouchedDatasets change old datasets
   pub before : records_before after ≡ old.records
+  pub near : beside.records ≡ (store_after change old).records
   pub ahead : records_ahead after ≡ (store_after change old).records
 
 -- how they are told apart in proofs

@@ -1,7 +1,7 @@
 -- What a change that is about to be committed comes to, seat by seat and context by context: words of private contracts.
-use Rattle.std.specs.Prelude.{ℕ, List, length, map as each}
+use Rattle.std.specs.Prelude.{ℕ, ◌==◌, Bool, List, [], length, map as each, if◌then◌else◌}
 use Rattle.std.specs.FinMap as table
-use Rattle.std.specs.List.{sum_by}
+use Rattle.std.specs.List.{list_all, sum_by}
 use Rattle.acap_entries.specs.declared.path.Path.{Path}
 use Rattle.acap_views.specs.Aheads.{Planned, store_ahead}
 use Rattle.acap_views.specs.Contexts.{Context}
@@ -26,8 +26,15 @@ shifts_in plan user context = shifts_for plan.change.writes plan.old (store_ahea
 abbrev pub work_at : Planned → Occupant → ℕ
 work_at plan occupant = sum_by (work_in plan) (table.values occupant.contexts)
 
+-- nothing is kept of a seat of which no context looks at a touched entry
+abbrev pub is_still : List (List Shift) → Bool
+is_still turns = list_all (λ shifts. length shifts == 0) turns
+
+abbrev pub trimmed : List (List Shift) → List (List Shift)
+trimmed turns = if is_still turns then [] else turns
+
 abbrev pub turns_at : Planned → Occupant → List (List Shift)
-turns_at plan occupant = each (shifts_in plan occupant.user) (table.values occupant.contexts)
+turns_at plan occupant = trimmed (each (shifts_in plan occupant.user) (table.values occupant.contexts))
 
 abbrev pub work_of : Planned → Seated → ℕ
 work_of plan seats = sum_by (work_at plan) (table.values seats)

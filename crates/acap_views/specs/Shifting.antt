@@ -8,6 +8,7 @@ use Rattle.acap_notices.specs.declared.notice.Notice.{Notice}
 use Rattle.acap_moves.specs.Moves.{Move, Undo}
 use Rattle.acap_moves.specs.Notices.{notice_between}
 use Rattle.acap_search.specs.Matches.{Match, match_cmp, match_code}
+use Rattle.acap_search.specs.declared.placed.Standing.{Standing}
 use Rattle.acap_search.specs.declared.rank.Place.{Place}
 use Rattle.acap_views.specs.Notices.{told_shape}
 
@@ -20,6 +21,9 @@ pub record Shift : Type 0 where
 -- a match at some places and a path, whatever is told of it
 abbrev pub standing : Path → List Place → Match
 standing path places = record { path = path; places = places; row = record { name = []; items = [] } }
+
+abbrev pub match_by : Standing → Match
+match_by old = standing old.path.now old.places.now
 
 abbrev pub with_match : Option Match → List Match → List Match
 with_match None matches = matches

@@ -34,6 +34,9 @@ impl OpenContext {
         ensures same { self.new.context ≡ self.old.context }
         ensures room { OnOk result (rule.HasRoomFor more self.new) }
     {
+        if more == 0 {
+            return Ok(());
+        }
         match &mut self.held {
             Held::Live(watch) => watch.reserve(alloc, more),
             Held::Snapshot(_) | Held::Freed => Ok(()),

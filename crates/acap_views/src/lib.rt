@@ -3,6 +3,7 @@
 #![tactic(auto)]
 
 mod ahead;
+mod beside;
 mod calls;
 mod client;
 mod contexts;
@@ -15,6 +16,7 @@ mod lending;
 mod listed;
 mod moving;
 mod new_context;
+mod noted;
 mod open_context;
 mod opening;
 mod places;

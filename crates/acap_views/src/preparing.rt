@@ -11,6 +11,7 @@ ghost use Rattle.acap_views.specs.Plans as rule;
 ghost use Rattle.acap_views.specs.Preparing.{IsPreparedFor, touched_for_all};
 
 use crate::ahead::Ahead;
+use crate::beside::Beside;
 use crate::delta::{Delta, Shifts, Turns};
 use crate::moving::prepared_law;
 use crate::turns::turns_of;
@@ -52,6 +53,14 @@ fn turns_count(seats: &[Turns]) -> Result<usize, Memory>
     Ok(count)
 }
 
+// A dataset that a change writes, if there is one. Any is right: it only saves look-ups.
+fn written_dataset(change: &Change) -> &[u8] {
+    match change.writes.entries().first() {
+        Some((path, _)) => path.dataset.as_slice(),
+        None => b"/",
+    }
+}
+
 impl Views {
     // What becomes of the entries that the contexts of all seats look at, seat by seat.
     fn all_turns<L: Ledger>(
@@ -63,8 +72,9 @@ impl Views {
         ensures turns { IfOk result (λ turns. turns ≡ rule.turns_of ahead.now (seats_in self.now)) }
     {
         let mut turns = Vec::with_capacity(self.alloc, self.seats.len())?;
+        let mut noted = None;
         for entry in &self.seats {
-            turns.push(turns_of(self.alloc, ahead, &entry.1, steps)?)?;
+            turns.push(turns_of(self.alloc, ahead, &entry.1, &mut noted, steps)?)?;
         }
         Ok(Sequence::from_vec(turns))
     }
@@ -94,10 +104,12 @@ impl Views {
         change.writes.form_law();
         let datasets = index.touched_in(tree, change)?;
         let after = After::of(tree, change);
+        let beside = Beside::of(&after, written_dataset(change));
         let ahead = Ahead {
             tree,
             change,
             after: &after,
+            beside: &beside,
             realm,
             index,
             datasets: datasets.as_slice(),

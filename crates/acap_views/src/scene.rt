@@ -1,5 +1,6 @@
 //! Whose context is looked at, when a change is about to be committed.
-use acap_entries::{After, UserName};
+use crate::beside::Beside;
+use acap_entries::{After, Tree, UserName};
 use acap_rights::Realm;
 use acap_search::Sought;
 use std::marker::Model;
@@ -7,14 +8,14 @@ use std::marker::Model;
 /// What is looked at for a context: the store before a change and after it, who is who, whose context it is, and what it looks for.
 #[derive(Drop)]
 pub(crate) struct Scene<'a> {
-    pub(crate) after: &'a After<'a>,
+    pub(crate) before: &'a Tree,
+    pub(crate) after: &'a Beside<'a, Beside<'a, After<'a>>>,
     pub(crate) realm: &'a Realm,
     pub(crate) user: &'a UserName,
     pub(crate) sought: &'a Sought,
 }
 
 impl<'a> Model for Scene<'a> {
-    ghost use Rattle.acap_entries.specs.Leaving.{records_before, records_ahead};
     ghost use Rattle.acap_views.specs.Scenes as scenes;
     ghost use Rattle.acap_views.specs.Scenes.{scene_code};
 
@@ -23,8 +24,8 @@ impl<'a> Model for Scene<'a> {
     ghost coded = { scene_code };
 
     ghost view = { λ s. record {
-      old = records_before s.after.now;
-      new = records_ahead s.after.now;
+      old = s.before.now.store.records;
+      new = s.after.now.records;
       realm = s.realm.now;
       user = s.user.now;
       sought = s.sought.now;

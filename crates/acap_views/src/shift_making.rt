@@ -35,8 +35,11 @@ fn name_told(alloc: Global, path: &Path, sought: &Sought) -> Result<Value, Memor
 fn places_before(alloc: Global, scene: &Scene<'_>, path: &Path) -> Result<Places, Memory>
     ensures { IfOk result (λ places. places ≡ places_of (spot_before scene.now path.now) (unwrap_or scene.now.sought.sort [])) }
 {
-    let tree = scene.after.tree;
     let sought = scene.sought;
+    if sought.sort.is_none() {
+        return Ok(Places::new(alloc));
+    }
+    let tree = scene.before;
     let by = Viewer {
         records: tree,
         realm: scene.realm,

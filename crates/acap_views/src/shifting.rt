@@ -1,8 +1,9 @@
 //! How a live list goes from one store to the next: entry by entry, each hit found by where it stood.
-ghost use Rattle.std.specs.Prelude.{◌≡◌, ◌+◌, ◌<◌, ◌≤◌, ◌^◌, ◌++◌, [], None, suc, length, if◌then◌else◌, IsTrue, IsSome, IfSome, ℕ, Some, false};
+ghost use Rattle.std.specs.Prelude.{◌≡◌, ◌+◌, ◌<◌, ◌≤◌, ◌^◌, ◌++◌, [], None, suc, length, if◌then◌else◌, is_some, IsTrue, IsSome, IfSome, ℕ, Some, false};
 ghost use Rattle.std.specs.List.{cons_option};
 ghost use Rattle.std.specs.Option.{option_map};
-ghost use Rattle.acap_entries.specs.Ranks.{with_item};
+ghost use Rattle.std.specs.Ordering.{eq_by_cmp};
+ghost use Rattle.acap_entries.specs.Ranks.{item_at, rank_of, with_item};
 ghost use Rattle.acap_notices.specs.Waiting as waiting;
 ghost use Rattle.acap_notices.specs.Waiting.{most_waiting};
 ghost use Rattle.acap_moves.specs.Moves.{undone};
@@ -10,29 +11,44 @@ ghost use Rattle.acap_search.specs.Matches.{match_cmp};
 ghost use Rattle.acap_views.specs.News.{IsGoneNotice, IsHereNotice};
 ghost use Rattle.acap_views.specs.Room.{HasRoom, Leaves};
 ghost use Rattle.acap_views.specs.Shifting as rule;
+ghost use Rattle.acap_views.specs.Shifting.{match_by};
 ghost use Rattle.acap_views.specs.Undoing.{IsLogged, room_in};
 
 use crate::shift::{News, Shift};
 use crate::shown::Shown;
 use crate::undone::Undone;
 use crate::watch::Watch;
-use acap_entries::{Path, Ranked, Row, Value, Whole};
+use acap_entries::{Probe, Ranked, Row, Value, Whole};
 use acap_notices::{Notice, Queue};
-use acap_search::{Placed, Places, Standing};
+use acap_search::{Placed, Standing};
 
 // Takes out the hit that stood at some places, and tells how many stood before it.
-fn take_hit(now: &mut Ranked<Placed>, places: &Places, path: &Path) -> Option<(usize, Placed)>
-    ensures list { now.new.0 ≡ rule.without_old (rule.standing path.now places.now) now.old.0 }
-    ensures gone { result ≡ rule.stood (rule.standing path.now places.now) now.old.0 }
+fn take_hit(now: &mut Ranked<Placed>, old: &Standing<'_>) -> Option<(usize, Placed)>
+    ensures list { now.new.0 ≡ rule.without_old (match_by old.now) now.old.0 }
+    ensures gone { result ≡ rule.stood (match_by old.now) now.old.0 }
     ensures within { IfSome result (λ gone. gone.0 + 1 < 2 ^ 64) }
     ensures room { now.old.1 ≤ now.new.1 }
 {
     now.ascends();
     let _count = now.len();
-    let standing = Standing { places, path };
-    let place = now.rank(&standing);
-    let hit = now.take(&standing)?;
+    let hit = now.take(old)?;
+    let place = now.rank(old);
     Some((place, hit))
+}
+
+// Puts a hit where none stands, and tells how many stand before it.
+fn put_free(now: &mut Ranked<Placed>, hit: Placed) -> usize
+    requires room { 0 < now.old.1 }
+    requires free { is_some (item_at match_cmp hit now.old.0) ≡ false }
+    ensures list { now.new.0 ≡ with_item match_cmp hit now.old.0 }
+    ensures place { result ≡ rank_of match_cmp hit now.old.0 }
+    ensures within { result + 1 < 2 ^ 64 }
+    ensures room { now.old.1 ≤ now.new.1 + 1 }
+{
+    let place = now.rank(&Whole { key: &hit });
+    now.put(hit);
+    let _count = now.len();
+    place
 }
 
 // Puts a hit in its place, if none stands there, and tells how many stand before it.
@@ -44,14 +60,49 @@ fn put_hit(now: &mut Ranked<Placed>, hit: Placed) -> Option<usize>
     ensures room { now.old.1 ≤ now.new.1 + 1 }
 {
     now.ascends();
-    let probe = Whole { key: &hit };
-    if now.find(&probe).is_some() {
+    if now.find(&Whole { key: &hit }).is_some() {
         return None;
     }
-    let place = now.rank(&probe);
-    now.put(hit);
-    let _count = now.len();
-    Some(place)
+    Some(put_free(now, hit))
+}
+
+// A hit, if there was one, beside its place.
+fn beside(place: usize, hit: Option<Placed>) -> Option<(usize, Placed)>
+    requires { place + 1 < 2 ^ 64 }
+    ensures hit { result ≡ option_map (λ found. (place, found)) hit }
+    ensures within { IfSome result (λ found. found.0 + 1 < 2 ^ 64) }
+{
+    match hit {
+        Some(hit) => Some((place, hit)),
+        None => None,
+    }
+}
+
+// Whether a hit stands where another one stood.
+fn is_there(old: &Standing<'_>, hit: &Placed) -> bool
+    ensures { result ≡ eq_by_cmp match_cmp (match_by old.now) hit.now }
+{
+    old.compare(hit).is_eq()
+}
+
+// Puts a hit in the place of the one that stood there, if one did: tells that one, and how many stand before it.
+fn replace_hit(
+    now: &mut Ranked<Placed>,
+    old: &Standing<'_>,
+    hit: Placed,
+) -> (Option<(usize, Placed)>, usize)
+    requires room { 0 < now.old.1 }
+    requires same { IsTrue (eq_by_cmp match_cmp (match_by old.now) hit) }
+    ensures list { now.new.0 ≡ rule.shifted (match_by old.now) (Some hit) now.old.0 }
+    ensures gone { result.0 ≡ rule.stood (match_by old.now) now.old.0 }
+    ensures from { IfSome result.0 (λ gone. gone.0 + 1 < 2 ^ 64) }
+    ensures come { Some result.1 ≡ option_map (λ s. s.0) (rule.stands (match_by old.now) (Some hit) now.old.0) }
+    ensures to { result.1 + 1 < 2 ^ 64 }
+    ensures room { now.old.1 ≤ now.new.1 + 1 }
+{
+    let gone = now.take(old);
+    let place = put_free(now, hit);
+    (beside(place, gone), place)
 }
 
 // A position as it is told: counted from 1, or 0 where none are told.
@@ -141,39 +192,59 @@ fn add(pending: &mut Queue, told: Option<Notice>) -> bool
 // Takes out the hit of an entry that isn't found any longer, and tells what it comes to.
 fn swap_gone(
     hits: &mut Ranked<Placed>,
-    places: &Places,
-    path: &Path,
+    old: &Standing<'_>,
     name: Value,
     enumerated: bool,
 ) -> (Undone, Option<Notice>)
-    ensures list { hits.new.0 ≡ rule.shifted (rule.standing path.now places.now) None hits.old.0 }
-    ensures undone { result.0 ≡ rule.undo_by (rule.standing path.now places.now) None hits.old.0 }
-    ensures told { IsGoneNotice enumerated name (rule.stood (rule.standing path.now places.now) hits.old.0) (cons_option result.1 []) }
+    ensures list { hits.new.0 ≡ rule.shifted (match_by old.now) None hits.old.0 }
+    ensures undone { result.0 ≡ rule.undo_by (match_by old.now) None hits.old.0 }
+    ensures told { IsGoneNotice enumerated name (rule.stood (match_by old.now) hits.old.0) (cons_option result.1 []) }
     ensures room { hits.old.1 ≤ hits.new.1 }
 {
-    let gone = take_hit(hits, places, path);
+    let gone = take_hit(hits, old);
     let told = gone_notice(&gone, name, enumerated);
     (Undone { gone, come: None }, told)
+}
+
+// Takes out the hit that stood at some places, if one did, and puts in a new one: in its place, where it stands there.
+fn swap_hit(
+    hits: &mut Ranked<Placed>,
+    old: &Standing<'_>,
+    found: Placed,
+) -> (Option<(usize, Placed)>, Option<usize>)
+    requires { 0 < hits.old.1 }
+    ensures list { hits.new.0 ≡ rule.shifted (match_by old.now) (Some found) hits.old.0 }
+    ensures gone { result.0 ≡ rule.stood (match_by old.now) hits.old.0 }
+    ensures from { IfSome result.0 (λ gone. gone.0 + 1 < 2 ^ 64) }
+    ensures come { result.1 ≡ option_map (λ s. s.0) (rule.stands (match_by old.now) (Some found) hits.old.0) }
+    ensures to { IfSome result.1 (λ place. place + 1 < 2 ^ 64) }
+    ensures room { hits.old.1 ≤ hits.new.1 + 1 }
+{
+    if is_there(old, &found) {
+        let (gone, come) = replace_hit(hits, old, found);
+        return (gone, Some(come));
+    }
+    let gone = take_hit(hits, old);
+    let come = put_hit(hits, found);
+    (gone, come)
 }
 
 // Takes out the hit of an entry if it was found, puts in the new one, and tells what it comes to.
 fn swap_here(
     hits: &mut Ranked<Placed>,
-    places: &Places,
-    path: &Path,
+    old: &Standing<'_>,
     found: Placed,
     row: Row,
     enumerated: bool,
 ) -> (Undone, Option<Notice>)
     requires room { 0 < hits.old.1 }
     requires row { row ≡ found.row }
-    ensures list { hits.new.0 ≡ rule.shifted (rule.standing path.now places.now) (Some found) hits.old.0 }
-    ensures undone { result.0 ≡ rule.undo_by (rule.standing path.now places.now) (Some found) hits.old.0 }
-    ensures told { cons_option result.1 [] ≡ rule.swap_notices enumerated row.name (rule.standing path.now places.now) (Some found) hits.old.0 }
+    ensures list { hits.new.0 ≡ rule.shifted (match_by old.now) (Some found) hits.old.0 }
+    ensures undone { result.0 ≡ rule.undo_by (match_by old.now) (Some found) hits.old.0 }
+    ensures told { cons_option result.1 [] ≡ rule.swap_notices enumerated row.name (match_by old.now) (Some found) hits.old.0 }
     ensures room { hits.old.1 ≤ hits.new.1 + 1 }
 {
-    let gone = take_hit(hits, places, path);
-    let come = put_hit(hits, found);
+    let (gone, come) = swap_hit(hits, old, found);
     let told = here_notice(&gone, come, row, enumerated);
     (Undone { gone, come }, told)
 }
@@ -187,9 +258,13 @@ fn swap(hits: &mut Ranked<Placed>, shift: Shift, enumerated: bool) -> (Undone, O
     ensures room { hits.old.1 ≤ hits.new.1 + 1 }
 {
     let Shift { places, path, news } = shift;
+    let old = Standing {
+        places: &places,
+        path: &path,
+    };
     match news {
-        News::Gone(name) => swap_gone(hits, &places, &path, name, enumerated),
-        News::Here(found, row) => swap_here(hits, &places, &path, found, row, enumerated),
+        News::Gone(name) => swap_gone(hits, &old, name, enumerated),
+        News::Here(found, row) => swap_here(hits, &old, found, row, enumerated),
     }
 }
 

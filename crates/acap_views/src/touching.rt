@@ -1,12 +1,13 @@
 //! Which entries that a change touches a search looks at.
-ghost use Rattle.std.specs.Prelude.{◌≡◌, None, IfOk};
+ghost use Rattle.std.specs.Prelude.{◌≡◌, None, IfOk, IfSome};
 ghost use Rattle.std.specs.List.{filter};
 ghost use Rattle.acap_views.specs.Aheads.{store_ahead};
 ghost use Rattle.acap_views.specs.Touching as rule;
 ghost use Rattle.acap_views.specs.Work.{is_looked_at};
 
 use crate::ahead::Ahead;
-use acap_entries::{Dataset, Memory, Path, Paths};
+use crate::noted::Noted;
+use acap_entries::{Copying, Dataset, Memory, Path, Paths};
 use acap_inherit::{TouchedDataset, touched_at, touched_paths_law};
 use acap_search::{Sought, looks_in};
 
@@ -39,25 +40,75 @@ fn looked_at(ahead: &Ahead<'_>, sought: &Sought, paths: Paths) -> Result<Paths, 
     Ok(made)
 }
 
-// The touched entries of the one dataset that a search without DEPTH looks through.
-fn in_dataset(ahead: &Ahead<'_>, sought: &Sought) -> Result<Paths, Memory>
-    ensures { IfOk result (λ paths. sought.now.depth ≡ None → paths ≡ rule.looked_at_by ahead.now sought.now) }
+// The touched entries of a dataset, where it is the one of which they are kept.
+fn known_paths<'n>(
+    ahead: &Ahead<'_>,
+    sought: &Sought,
+    noted: &'n Option<Noted<'_>>,
+) -> Option<&'n Paths>
+    requires { rule.IsNoted ahead.now noted.now }
+    ensures { IfSome result (λ paths. sought.now.depth ≡ None → paths.now ≡ rule.looked_at_by ahead.now sought.now) }
 {
-    if has_dataset(ahead.datasets, &sought.dataset) {
-        touched_at(ahead.tree, ahead.change, &sought.dataset)
+    let known = noted.as_ref()?;
+    if known.dataset == sought.dataset.as_slice() {
+        Some(&known.paths)
     } else {
-        Ok(Paths::new(ahead.change.deleted.allocator()))
+        None
     }
 }
 
+// Lists the touched entries of a dataset, and keeps them.
+fn note_paths<'a>(
+    ahead: &Ahead<'_>,
+    sought: &'a Sought,
+    noted: &mut Option<Noted<'a>>,
+) -> Result<Paths, Memory>
+    requires { rule.IsNoted ahead.now noted.old }
+    ensures noted { rule.IsNoted ahead.now noted.new }
+    ensures paths { IfOk result (λ paths. sought.now.depth ≡ None → paths ≡ rule.looked_at_by ahead.now sought.now) }
+{
+    let paths = touched_at(ahead.tree, ahead.change, &sought.dataset)?;
+    let dataset = sought.dataset.as_slice();
+    *noted = Some(Noted {
+        dataset,
+        paths: paths.copy()?,
+    });
+    Ok(paths)
+}
+
+// The touched entries of the one dataset that a search without DEPTH looks through.
+fn in_dataset<'a>(
+    ahead: &Ahead<'_>,
+    sought: &'a Sought,
+    noted: &mut Option<Noted<'a>>,
+) -> Result<Paths, Memory>
+    requires { rule.IsNoted ahead.now noted.old }
+    ensures noted { rule.IsNoted ahead.now noted.new }
+    ensures paths { IfOk result (λ paths. sought.now.depth ≡ None → paths ≡ rule.looked_at_by ahead.now sought.now) }
+{
+    if has_dataset(ahead.datasets, &sought.dataset) {
+        if let Some(paths) = known_paths(ahead, sought, noted) {
+            return paths.copy();
+        }
+        return note_paths(ahead, sought, noted);
+    }
+    Ok(Paths::new(ahead.change.deleted.allocator()))
+}
+
 /// The touched entries that a search looks at, in the order of their full octets. Where it looks through one dataset, no name of
-/// another one is listed. Fails only for want of memory.
-pub(crate) fn touched_for(ahead: &Ahead<'_>, sought: &Sought) -> Result<Paths, Memory>
-    ensures { IfOk result (λ paths. paths ≡ rule.looked_at_by ahead.now sought.now) }
+/// another one is listed, and those that are listed are kept for the next search. Fails only for want of memory.
+pub(crate) fn touched_for<'a>(
+    ahead: &Ahead<'_>,
+    sought: &'a Sought,
+    noted: &mut Option<Noted<'a>>,
+) -> Result<Paths, Memory>
+    requires { rule.IsNoted ahead.now noted.old }
+    ensures noted { rule.IsNoted ahead.now noted.new }
+    ensures paths { IfOk result (λ paths. paths ≡ rule.looked_at_by ahead.now sought.now) }
 {
     touched_paths_law();
     if sought.depth.is_none() {
-        return in_dataset(ahead, sought);
+        return in_dataset(ahead, sought, noted);
     }
     let paths = ahead.index.touched(ahead.tree, ahead.change)?;
     looked_at(ahead, sought, paths)

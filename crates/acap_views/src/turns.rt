@@ -4,9 +4,12 @@ ghost use Rattle.std.specs.List.{sum_by};
 ghost use Rattle.acap_search.specs.Counting.{IsCounted};
 ghost use Rattle.acap_views.specs.Keeping.{occupant_in};
 ghost use Rattle.acap_views.specs.Plans as rule;
+ghost use Rattle.acap_views.specs.Touching.{IsNoted};
 
 use crate::ahead::Ahead;
+use crate::beside::Beside;
 use crate::delta::{Shifts, Turns};
+use crate::noted::Noted;
 use crate::open_context::OpenContext;
 use crate::scene::Scene;
 use crate::shift_making::shifts_at;
@@ -17,20 +20,28 @@ use std::alloc::Global;
 use std::sync::ledger::Ledger;
 
 // What becomes of the entries that a live context looks at.
-fn live_turn<L: Ledger>(
+fn live_turn<'a, L: Ledger>(
     alloc: Global,
     ahead: &Ahead<'_>,
     user: &UserName,
-    context: &OpenContext,
+    context: &'a OpenContext,
+    noted: &mut Option<Noted<'a>>,
     steps: &mut Steps<L>,
 ) -> Result<Shifts, Memory>
+    requires { IsNoted ahead.now noted.old }
+    ensures noted { IsNoted ahead.now noted.new }
     ensures count { IsCounted result steps.old steps.new (length (rule.looked_at ahead.now context.now.context)) }
     ensures shifts { IfOk result (λ shifts. shifts ≡ rule.live_shifts ahead.now user.now context.now.context) }
 {
     let sought = &context.sought;
-    let paths = touched_for(ahead, sought)?;
+    let paths = touched_for(ahead, sought, noted)?;
+    if paths.is_empty() {
+        return Ok(Shifts::new(alloc));
+    }
+    let after = Beside::of(ahead.beside, sought.dataset.as_slice());
     let scene = Scene {
-        after: ahead.after,
+        before: ahead.tree,
+        after: &after,
         realm: ahead.realm,
         user,
         sought,
@@ -39,37 +50,61 @@ fn live_turn<L: Ledger>(
 }
 
 // What becomes of the entries that a context looks at: none where it isn't live.
-fn turn_of<L: Ledger>(
+fn turn_of<'a, L: Ledger>(
     alloc: Global,
     ahead: &Ahead<'_>,
     user: &UserName,
-    context: &OpenContext,
+    context: &'a OpenContext,
+    noted: &mut Option<Noted<'a>>,
     steps: &mut Steps<L>,
 ) -> Result<Shifts, Memory>
+    requires { IsNoted ahead.now noted.old }
+    ensures noted { IsNoted ahead.now noted.new }
     ensures count { IsCounted result steps.old steps.new (rule.work_in ahead.now context.now.context) }
     ensures shifts { IfOk result (λ shifts. shifts ≡ rule.shifts_in ahead.now user.now context.now.context) }
 {
     if context.is_live() {
-        live_turn(alloc, ahead, user, context, steps)
+        live_turn(alloc, ahead, user, context, noted, steps)
     } else {
         Ok(Shifts::new(alloc))
     }
 }
 
+// Whether no context of a seat looks at a touched entry.
+fn are_still(turns: &[Shifts]) -> bool
+    ensures { result ≡ rule.is_still turns.now }
+{
+    turns.iter().all(|shifts| shifts.is_empty())
+}
+
+// What becomes of the contexts of a seat: nothing where none of them looks at a touched entry.
+fn trimmed(alloc: Global, turns: Turns) -> Turns
+    ensures { result ≡ rule.trimmed turns }
+{
+    if are_still(turns.as_slice()) {
+        Turns::new(alloc)
+    } else {
+        turns
+    }
+}
+
 /// What becomes of the entries that the contexts of a seat look at, context by context. Each entry counts as a step for each context
 /// that looks at it. Fails only for want of memory.
-pub(crate) fn turns_of<L: Ledger>(
+pub(crate) fn turns_of<'a, L: Ledger>(
     alloc: Global,
     ahead: &Ahead<'_>,
-    sitting: &Sitting,
+    sitting: &'a Sitting,
+    noted: &mut Option<Noted<'a>>,
     steps: &mut Steps<L>,
 ) -> Result<Turns, Memory>
+    requires { IsNoted ahead.now noted.old }
+    ensures noted { IsNoted ahead.now noted.new }
     ensures count { IsCounted result steps.old steps.new (rule.work_at ahead.now (occupant_in sitting.now)) }
     ensures turns { IfOk result (λ turns. turns ≡ rule.turns_at ahead.now (occupant_in sitting.now)) }
 {
     let mut turns = Vec::with_capacity(alloc, sitting.contexts.len())?;
     for entry in &sitting.contexts {
-        turns.push(turn_of(alloc, ahead, &sitting.user, &entry.1, steps)?)?;
+        turns.push(turn_of(alloc, ahead, &sitting.user, &entry.1, noted, steps)?)?;
     }
-    Ok(Turns::from_vec(turns))
+    Ok(trimmed(alloc, Turns::from_vec(turns)))
 }

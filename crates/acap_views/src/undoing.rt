@@ -1,5 +1,5 @@
 //! The list that was told last, written out: the present one with moves taken back.
-ghost use Rattle.std.specs.Prelude.{◌≡◌, IfOk, OnOk, map as each};
+ghost use Rattle.std.specs.Prelude.{◌≡◌, IfOk, IfSome, OnOk, Some, map as each};
 ghost use Rattle.acap_moves.specs.Moves.{undone, all_undone, without, put_back};
 ghost use Rattle.acap_views.specs.Undoing.{shown_in, seen};
 
@@ -46,10 +46,26 @@ fn give_back<'a>(hits: &mut Vec<&'a Hit>, gone: &'a Option<(usize, Placed)>) -> 
     Ok(())
 }
 
-// Takes one move back.
+// The hit that a move took out where it put the new one, if it did so.
+fn replaced(move_made: &Undone) -> Option<(usize, &Placed)>
+    ensures { IfSome result (λ r. move_made.now ≡ record { gone = Some (r.0, r.1.now); come = Some r.0 }) }
+{
+    match (&move_made.gone, move_made.come) {
+        (Some((place, placed)), Some(come)) if *place == come => Some((come, placed)),
+        _ => None,
+    }
+}
+
+// Takes one move back: at one place nothing else is moved.
 fn undo<'a>(hits: &mut Vec<&'a Hit>, move_made: &'a Undone) -> Result<(), Memory>
     ensures { OnOk result (seen hits.new.items ≡ undone move_made.now (seen hits.old.items)) }
 {
+    if let Some((place, placed)) = replaced(move_made)
+        && place < hits.len()
+    {
+        hits[place] = placed.hit();
+        return Ok(());
+    }
     take_back(hits, move_made.come);
     give_back(hits, &move_made.gone)
 }

@@ -9,7 +9,7 @@ pub returns : goal.returns
 returns c =
     IfOk-weaker c.places_at.result _ _ (λ places e.
     e ∙ (ap (λ chain. places_at (spotted (record {
-      records = c.scene.inside.after.now.tree.now.store.records;
+      records = c.scene.inside.before.now.store.records;
       realm = c.scene.inside.realm.now;
       user = c.scene.inside.user.now;
       dataset = c.args.path.now.dataset;

@@ -7,8 +7,8 @@ use Rattle.acap_views.specs.Work.{is_looked_at}
 use Rattle.acap_views.proofs.TouchingLemmas.{all_looked_at}
 use Rattle.acap_views.proofs.touching.touched_for.Goals as goal
 
-pub returns : goal.returns
-returns c =
+pub returns-clause-paths : goal.returns-clause-paths
+returns-clause-paths c =
     IfOk-weaker c.looked_at.result _ _ (λ made e.
     all_looked_at c.ahead.inside.change.now c.ahead.inside.tree.now.store c.args.sought.now c.in_ok-paths.paths made c.in_ok-paths.ensures
     (e ∙ ap (λ plan. filter (is_looked_at (store_ahead plan).records c.args.sought.now) c.in_ok-paths.paths) (sym c.ahead.view_is))

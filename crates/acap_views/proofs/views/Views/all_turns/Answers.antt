@@ -1,4 +1,4 @@
-use Rattle.std.proofs.Common.{◌≡◌, ◌+◌, List, take, sym, ap, ◌∙◌, arith, map as each}
+use Rattle.std.proofs.Common.{◌≡◌, ◌+◌, take, sym, ap, ◌∙◌, map as each}
 use Rattle.std.proofs.lemmas.List.{take_all}
 use Rattle.std.specs.List.{sum_by}
 use Rattle.acap_views.specs.Keeping.{seats_in}

@@ -1,12 +1,30 @@
-use Rattle.std.proofs.Common.{◌∙◌, ap, arith, sym}
+use Rattle.std.proofs.Common.{rules, ◌∙◌, ap, arith, subst, sym}
 use Rattle.std.specs.FinMap as table
 use Rattle.acap_entries.specs.Changes.{store_after}
+use Rattle.acap_entries.specs.Store.{Store}
 use Rattle.acap_entries.proofs.StoreLaws.{value_after}
+use Rattle.acap_inherit.specs.Leaving.{AreTouchedDatasets}
 use Rattle.acap_views.specs.Aheads.{Planned}
 use Rattle.acap_views.specs.Keeping.{seats_in}
 use Rattle.acap_views.specs.Preparing.{seats_after, with_delta}
 use Rattle.acap_views.proofs.QuietLemmas.{quiet_same, quiet_work, same_seats}
 use Rattle.acap_views.proofs.views.Views.prepare.Goals as goal
+
+pub invariant_of-ahead : goal.invariant_of-ahead
+invariant_of-ahead g c =
+    let change = c.args.change.now in
+    let old = c.args.tree.now.store in
+    let new = store_after change old in
+    let made : AreTouchedDatasets change old c.in_ok-datasets.datasets.items = search rules in
+    record {
+      sound = c.requires.sound;
+      formed = c.form_law.ensures;
+      index = c.requires.index;
+      touched = subst (λ datasets. AreTouchedDatasets change old datasets) (sym c.as_slice.ensures.value) made;
+      before = search rules;
+      near = ap (λ (s : Store). s.records) c.of-beside.ensures ∙ c.of-after.ensures.store.records new (value_after change old);
+      ahead = c.of-after.ensures.store.records new (value_after change old);
+    }
 
 pub returns-clause-made : goal.returns-clause-made
 returns-clause-made g c =

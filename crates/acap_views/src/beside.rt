@@ -1,0 +1,57 @@
+//! A store with the management entry of one dataset at hand.
+use acap_entries::{Moment, Record, Records};
+use std::marker::Model;
+
+/// A store of which a dataset's management entry is at hand: whoever looks along chains and asks for rights asks for it again and
+/// again.
+#[derive(Drop)]
+pub(crate) struct Beside<'a, R: Records> {
+    records: &'a R,
+    dataset: &'a [u8],
+    management: Option<&'a Record>,
+}
+
+impl<'a, R: Records> Model for Beside<'a, R> {
+    ghost use Rattle.std.specs.Prelude.{◌≡◌, []};
+    ghost use Rattle.std.specs.Option.{option_copied};
+    ghost use Rattle.acap_entries.specs.Store.{Store, store_code};
+    ghost use Rattle.acap_inherit.specs.Records.{record_at};
+
+    ghost Value = { Store };
+
+    ghost coded = { store_code };
+
+    ghost view = { λ b. R.store b.records.now };
+
+    ghost invariant = { λ b. option_copied b.management ≡ record_at (R.store b.records.now).records b.dataset.now [] };
+}
+
+impl<'a, R: Records> Beside<'a, R> {
+    ghost use Rattle.std.specs.Prelude.{◌≡◌};
+
+    /// The store, with what it has of a dataset.
+    pub(crate) fn of(records: &'a R, dataset: &'a [u8]) -> Beside<'a, R>
+        ensures { result ≡ R.store records.now }
+    {
+        Beside {
+            records,
+            dataset,
+            management: records.find(dataset, b""),
+        }
+    }
+}
+
+impl<'a, R: Records> Records for Beside<'a, R> {
+    ghost store = { λ b. b };
+
+    fn find(&self, dataset: &[u8], name: &[u8]) -> Option<&Record> {
+        if name == b"".as_slice() && dataset == self.dataset {
+            return self.management;
+        }
+        self.records.find(dataset, name)
+    }
+
+    fn last(&self) -> Moment {
+        self.records.last()
+    }
+}
