@@ -9,8 +9,6 @@ use std::alloc::Global;
 use std::marker::Brand;
 use std::sync::ledger::{Blank, Ledger};
 
-const DIGITS: &[u8] = b"0123456789";
-
 // A context on a dataset that inherits ten entries; then two on a dataset of 1,000 entries, and one on another.
 const EVENTS: [&[u8]; 15] = [
     b"A1 STORE (\"/option/~/b/0\" \"k\" \"1\") (\"/option/~/b/1\" \"k\" \"1\") (\"/option/~/b/2\" \"k\" \"1\") (\"/option/~/b/3\" \"k\" \"1\") (\"/option/~/b/4\" \"k\" \"1\") (\"/option/~/b/5\" \"k\" \"1\") (\"/option/~/b/6\" \"k\" \"1\") (\"/option/~/b/7\" \"k\" \"1\") (\"/option/~/b/8\" \"k\" \"1\") (\"/option/~/b/9\" \"k\" \"1\")",
@@ -33,49 +31,22 @@ const EVENTS: [&[u8]; 15] = [
 // How many touched entries are looked at for each of them.
 const COUNTS: [usize; 15] = [0, 0, 0, 1, 12, 0, 0, 0, 0, 0, 2, 4, 0, 1, 0];
 
-// A STORE of an entry.
-fn store_of(alloc: Global, name: &[u8]) -> Result<Vec<u8>, Memory> {
+// A STORE of an entry whose name is a number.
+fn store_of(alloc: Global, number: usize) -> Result<Vec<u8>, Memory> {
     let mut text = Vec::new(alloc);
     text.extend_from_slice(b"A1 STORE (\"/option/~/d/")?;
-    text.extend_from_slice(name)?;
+    text.extend_from_slice(number.to_string(alloc)?.as_bytes())?;
     text.extend_from_slice(b"\" \"k\" \"1\")")?;
     Ok(text)
 }
 
-// An entry is stored for each digit behind two.
-fn fill_ten<L: Ledger>(
-    alloc: Global,
-    state: &mut State,
-    front: (u8, u8),
-    steps: &mut Steps<L>,
-) -> Result<(), Fault> {
-    for last in DIGITS {
-        let text = store_of(alloc, &[front.0, front.1, *last])?;
-        let event = event_of(alloc, text.as_slice())?;
-        let _ = state.step(seat(0), event, Moment::first(), steps)?;
-    }
-    Ok(())
-}
-
-// And for each two digits behind one.
-fn fill_hundred<L: Ledger>(
-    alloc: Global,
-    state: &mut State,
-    first: u8,
-    steps: &mut Steps<L>,
-) -> Result<(), Fault> {
-    for second in DIGITS {
-        fill_ten(alloc, state, (first, *second), steps)?;
-    }
-    Ok(())
-}
-
-// Joe enters, and stores an entry for each three digits.
+// Joe enters, and stores an entry for each number below 1,000.
 fn fill<L: Ledger>(alloc: Global, state: &mut State, steps: &mut Steps<L>) -> Result<(), Fault> {
     let enter = event_of(alloc, b"enter joe")?;
     let _ = state.step(seat(0), enter, Moment::first(), steps)?;
-    for first in DIGITS {
-        fill_hundred(alloc, state, *first, steps)?;
+    for number in 0..1_000usize {
+        let event = event_of(alloc, store_of(alloc, number)?.as_slice())?;
+        let _ = state.step(seat(0), event, Moment::first(), steps)?;
     }
     Ok(())
 }

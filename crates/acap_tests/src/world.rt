@@ -1,7 +1,7 @@
 //! Tests of a world's calls: sessions side by side, and seats that are free or taken. What is said is in the rows of scripts.
 ghost use Rattle.std.specs.Prelude.{◌≡◌, ◌<◌};
 
-use crate::machine::seat;
+use crate::machine::{HELLO, seat};
 use acap_entries::{Memory, Moment, Octets, Steps, UserName};
 use acap_login::Users;
 use acap_rights::Realm;
@@ -12,10 +12,6 @@ use std::sync::ledger::{Blank, Ledger};
 
 /// What is done at a seat, and what its session writes then.
 type Line = (u8, &'static [u8], &'static [u8]);
-
-/// The greeting that begins each session.
-const GREETING: &[u8] =
-    b"* ACAP (IMPLEMENTATION \"acapd\") (SASL \"CRAM-MD5\") (CONTEXTLIMIT \"200\")\r\n";
 
 /// What stands for the faults that refuse no memory.
 const NO_SEAT: &[u8] = b"no seat";
@@ -35,20 +31,6 @@ fn world(alloc: Global) -> Result<World, Memory> {
         users,
         host,
     ))
-}
-
-/// A session of a user begins at a seat.
-fn enter<L: Ledger>(
-    alloc: Global,
-    world: &mut World,
-    number: u8,
-    name: &[u8],
-    steps: &mut Steps<L>,
-) -> Result<(), WorldFault>
-    requires { number < 64 }
-{
-    let user = UserName::read(alloc, name).map_err(|_| WorldFault::Memory)?;
-    world.open(seat(number), Some(user), Moment::first(), NONCE, steps)
 }
 
 /// A seat's session is given octets, and makes turns until it wants more or is closed.
@@ -82,7 +64,8 @@ fn perform<L: Ledger>(
     requires { number < 64 }
 {
     if let Some(name) = text.strip_prefix(b"enter ") {
-        return enter(alloc, world, number, name, steps);
+        let user = UserName::read(alloc, name).map_err(|_| WorldFault::Memory)?;
+        return world.open(seat(number), Some(user), Moment::first(), NONCE, steps);
     }
     if text == b"open".as_slice() {
         return world.open(seat(number), None, Moment::first(), NONCE, steps);
@@ -135,10 +118,10 @@ fn keeps_seats_apart(rt: HostRuntime) {
         (2, b"A1 NOOP\r\n", NO_SEAT),
         (2, b"drain", NO_SEAT),
         (2, b"leave", NO_SEAT),
-        (2, b"enter joe", GREETING),
+        (2, b"enter joe", HELLO),
         (2, b"enter ann", TAKEN),
         (2, b"open", TAKEN),
-        (63, b"open", GREETING),
+        (63, b"open", HELLO),
         (1, b"", NO_SEAT),
         (2, b"", b""),
         (2, b"A1 NOOP\r\nA2 NO", b"A1 OK \"NOOP done\"\r\n"),
@@ -147,7 +130,7 @@ fn keeps_seats_apart(rt: HostRuntime) {
         (2, b"drain", b""),
         (2, b"leave", b""),
         (2, b"A3 NOOP\r\n", NO_SEAT),
-        (2, b"enter joe", GREETING),
+        (2, b"enter joe", HELLO),
     ];
     assert!(rt; first_wrong::<Brand>(rt.alloc(), &lines, Blank::new(1)) == Ok(None));
 }

@@ -1,4 +1,5 @@
-//! Trials of contexts: what clients hold that follow what they are told, against what a search finds.
+//! Trials of contexts: what clients hold that follow what they are told, against what a search finds. And of sessions on
+//! threads.
 #![tactic(auto)]
 
 #[cfg(test)]
@@ -8,7 +9,7 @@ mod dice;
 #[cfg(test)]
 mod following;
 #[cfg(test)]
-mod limits;
+mod threads;
 #[cfg(test)]
 mod world;
 #[cfg(test)]
