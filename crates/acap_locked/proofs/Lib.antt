@@ -1,0 +1,4 @@
+pub mod Computing
+pub mod Passed
+pub mod Replays
+pub mod Runs

@@ -1,0 +1,10 @@
+pub mod Calls
+pub mod Closing
+pub mod Epochs
+pub mod Examples
+pub mod History
+pub mod Laws
+pub mod Notes
+pub mod Passes
+pub mod Rings
+pub mod Shelf

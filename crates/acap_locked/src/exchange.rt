@@ -1,0 +1,58 @@
+//! One call, held in several places.
+ghost use Rattle.std.specs.Prelude.{◌≡◌, ◌↔◌, IsTrue, IfOk};
+
+use crate::call::Call;
+use acap_entries::Memory;
+use std::alloc::Global;
+use std::marker::Model;
+use std::sync::Arc;
+
+/// One call, which the history, a pass and a caller hold together: to share it takes no copy of its event or reply.
+#[derive(Drop)]
+pub struct Exchange {
+    held: Arc<Call, Global>,
+}
+
+impl Model for Exchange {
+    ghost use Rattle.std.specs.Arc.{arc_value};
+    ghost use Rattle.acap_locked.specs.contracts.call.Call as call;
+    ghost use Rattle.acap_locked.specs.declared.call.Call.{Call};
+
+    ghost Value = { Call };
+
+    ghost coded = { call.the_row.coded };
+
+    ghost view = { λ e. arc_value e.held };
+}
+
+impl Exchange {
+    /// The call, in memory that can be shared. Fails only for want of memory.
+    pub fn new(alloc: Global, call: Call) -> Result<Exchange, Memory>
+        ensures { IfOk result (λ made. made ≡ call) }
+    {
+        let held = Arc::new(alloc, call)?;
+        Ok(Exchange { held })
+    }
+
+    /// The call.
+    pub fn call(&self) -> &Call
+        ensures { result.now ≡ self.now }
+    {
+        &*self.held
+    }
+
+    /// The same call once more. Fails only where it is held too often already.
+    pub fn share(&self) -> Result<Exchange, Memory>
+        ensures { IfOk result (λ made. made ≡ self.now) }
+    {
+        let held = Arc::try_clone(&self.held)?;
+        Ok(Exchange { held })
+    }
+
+    /// Whether two calls are equal, wherever they are held. Takes no memory.
+    pub fn equals(&self, other: &Exchange) -> bool
+        ensures { IsTrue result ↔ (self.now ≡ other.now) }
+    {
+        self.call().equals(other.call())
+    }
+}
