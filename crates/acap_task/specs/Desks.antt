@@ -1,0 +1,30 @@
+-- A desk in memory.
+use Rattle.std.specs.Prelude.{◌≡◌, ℕ, List, [], ◌∷◌, Option, Result, Ok, Err, refl}
+use Rattle.std.specs.Coded.{Coded, code_by, coded×, coded_list, coded_option, coded_result, coded_ℕ}
+use Rattle.acap_commands.specs.contracts.fault.Fault as refusal
+use Rattle.acap_commands.specs.declared.fault.Fault.{Fault}
+use Rattle.acap_commands.specs.declared.fault.Fault.TheVariants as fault
+use Rattle.acap_locked.specs.contracts.answer.Answer as answer
+use Rattle.acap_locked.specs.contracts.call.Call as call
+use Rattle.acap_locked.specs.declared.answer.Answer.{Answer}
+use Rattle.acap_locked.specs.declared.call.Call.{Call}
+use Rattle.acap_task.specs.Told.{DeskTold}
+
+-- why a call is not answered: its answer is that fault, or there is none left, or memory was refused
+abbrev pub IsFault : List (Result Answer Fault) → Fault → Type 0
+IsFault [] f = f ≡ fault.Memory
+IsFault (Ok given ∷ answers) f = f ≡ fault.Memory
+IsFault (Err given ∷ answers) f = f ≡ given
+
+-- what it tells, and the answers that are left
+abbrev pub DeskNow : Type 0
+DeskNow = DeskTold × List (Result Answer Fault)
+
+-- how they are told apart in proofs
+abbrev pub told_code : Coded DeskTold
+told_code =
+    code_by (Option (List Call) × ℕ) (coded× (coded_option (coded_list call.the_row.coded)) coded_ℕ)
+    (λ d. (d.calls, d.faults)) (λ p. record { calls = p.0; faults = p.1 }) (λ _. refl)
+
+abbrev pub desk_code : Coded DeskNow
+desk_code = coded× told_code (coded_list (coded_result answer.the_row.coded refusal.the_row.coded))

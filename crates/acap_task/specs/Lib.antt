@@ -1,0 +1,5 @@
+pub mod Desks
+pub mod Examples
+pub mod Plans
+pub mod Told
+pub mod Wires
