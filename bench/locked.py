@@ -285,6 +285,11 @@ ROWS = {
     "a seat is rung once": (RINGS, ["closed: epoch 0, 10 calls", "pass 0: 6 items, 0 retired", "pass 1: 4 items, 0 retired"]),
     "a fault leaves no item": ([("5 drain", "5: not entered"), ("5 enter ann", f"5: 0 0 0 {HELLO}"), ("5 enter ann", "5: already entered")],
                                ["closed: epoch 0, 1 calls", "pass 5: 1 items, 0 retired"]),
+    # 500,000 calls make a history long: the next one begins an epoch, and the seat stays entered
+    "an epoch begins": ([("0 enter joe", f"0: 0 0 0 {HELLO}"), ("0 drains 499999", "0: 0 499999 0"), ("0 drain", "0: 1 0 0")],
+                        ["closed: epoch 1, 1 calls", "pass 0: 1 items, 500000 retired", "retired: 500000"]),
+    "two epochs": ([("0 enter joe", f"0: 0 0 0 {HELLO}"), ("0 drains 999999", "0: 1 499999 0"), ("0 drain", "0: 2 0 0")],
+                   ["closed: epoch 2, 1 calls", "pass 0: 1 items, 1000000 retired", "retired: 1000000"]),
     "two threads": ([("62 enter joe", f"62: 0 0 0 {HELLO}"), ("63 enter ann", f"63: 0 1 0 {HELLO}"), ("threads 200", "threads: true true")],
                     ["closed: epoch 0, 402 calls", "pass 62: 201 items, 0 retired", "pass 63: 201 items, 0 retired"]),
 }
@@ -307,7 +312,7 @@ def run(top):
             file = pathlib.Path(folder) / f"row{number}"
             file.write_text("".join(call[0] + "\n" for call in calls))
             files.append(str(file))
-        done = subprocess.run(["rt", "try", "--", *files], cwd=crate, capture_output=True, text=True)
+        done = subprocess.run(["rt", "try", "--seconds", "600", "--", *files], cwd=crate, capture_output=True, text=True)
         rows = done.stdout.split("-- ")[1:]
         if len(rows) != len(ROWS):
             sys.exit(f"{done.stdout}\n{done.stderr}\nbench/locked.py: the program didn't run to its end")
