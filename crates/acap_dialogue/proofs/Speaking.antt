@@ -24,6 +24,7 @@ use Rattle.acap_commands.specs.declared.fault.Fault.TheVariants as fault
 use Rattle.acap_dialogue.specs.Listening.{Listening}
 use Rattle.acap_dialogue.specs.Hearing.{heard, heard_line, heard_command, heard_answer, answer_line, answer_token, authenticated, mechanism_name, logs_in, who, asks, opening, tag_of, ready_line}
 use Rattle.acap_dialogue.specs.Session.{listening, session_next, next_at, answer_said, is_asked, is_hearing, Awaits}
+use Rattle.acap_dialogue.specs.Running.{QuietLaw}
 use Rattle.acap_dialogue.specs.Saying.{IfMore, heard_of, next_of as told}
 use Rattle.acap_dialogue.specs.Talking.{Talking}
 use Rattle.acap_dialogue.specs.declared.heard.Heard.{Heard}
@@ -244,3 +245,21 @@ more_told (next.Close said) octets t old f = tt
 pub more_as : (x : Next × Talking) (h : Heard) (octets : List ℕ) (old t : Talking) (n : Next) → (x.0 ≡ next.More → x.1 ≡ old) → h ≡ heard_of x.0 → t ≡ x.1 → n ≡ told h octets → IfMore n (t ≡ old)
 more_as x h octets old t n same e f g =
     subst (λ k. IfMore k (t ≡ old)) (sym (g ∙ ap (λ k. told k octets) e)) (more_told x.0 octets t old (λ m. f ∙ same m))
+
+-- ---- where nothing is next, nothing is next on any other occasion
+
+quiet_at : (users : List User) (nonce later : ℕ) (clock after : ℤ) (s : Stage) (t : Talking) → (next_at users nonce clock s t).0 ≡ next.More → (next_at users later after s t).0 ≡ next.More
+quiet_at users nonce later clock after stage.Opening t m = m
+quiet_at users nonce later clock after stage.Entering t m = refl
+quiet_at users nonce later clock after stage.Ready t m =
+    let r = more_lexed (next_of mode.Command t.held).0 stage.Ready (heard (listening t nonce clock) (next_of mode.Command t.held).0) (heard_hears (listening t nonce clock) (next_of mode.Command t.held).0) m in
+    ap (λ x. (heard (listening t later after) x).0) r.0 ∙ ap (λ p. p.0) (heard_hears (listening t later after) lexed.More)
+quiet_at users nonce later clock after (stage.Asked tag) t m = refl
+quiet_at users nonce later clock after (stage.Challenged tag challenge) t m = m
+quiet_at users nonce later clock after (stage.LoggingIn tag user) t m = refl
+quiet_at users nonce later clock after stage.Draining t m = refl
+quiet_at users nonce later clock after stage.Closed t m = refl
+
+pub quiet_law : QuietLaw
+unfolding session_next
+quiet_law users nonce later clock after t m = quiet_at users nonce later clock after t.stage t m

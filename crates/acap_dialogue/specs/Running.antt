@@ -210,3 +210,9 @@ calls users (d ∷ ds) at = calls_in users d at ++ option_map_or (calls users ds
 abbrev pub SeatedLaw : Type 0
 SeatedLaw = (users : List User) (host : List ℕ) (user : Option (List ℕ)) (dids : List Did) (end : At) →
     run users dids (start host user) ≡ Some end → end.seated ≡ has_seat end.talk
+
+-- Where nothing is next, nothing is next whatever the clock shows and whichever nonce is handed in: only octets, or the
+-- answer to an event, bring more.
+abbrev pub QuietLaw : Type 0
+QuietLaw = (users : List User) (nonce later : ℕ) (clock after : ℤ) (t : Talking) →
+    (session_next users nonce clock t).0 ≡ next.More → (session_next users later after t).0 ≡ next.More

@@ -1,7 +1,8 @@
 //! What is said to the machine's answers.
 
-ghost use Rattle.std.specs.Prelude.{◌≡◌, [], IfOk, OnOk, OnErr};
+ghost use Rattle.std.specs.Prelude.{◌≡◌, [], IfOk, OnOk, OnErr, false};
 ghost use Rattle.acap_grammar.specs.Lent.{lent_tag};
+ghost use Rattle.acap_dialogue.specs.Running.{closes};
 ghost use Rattle.acap_dialogue.specs.Saying.{Hears};
 ghost use Rattle.acap_dialogue.specs.Session as talk;
 
@@ -28,7 +29,8 @@ fn replied(
     stage: &mut Stage,
     out: &mut Vec<u8>,
 ) -> Result<Heard, Memory>
-    ensures { Hears (talk.replied tag.now outcome) result stage.old stage.new out.old out.new }
+    ensures told { Hears (talk.replied tag.now outcome) result stage.old stage.new out.old out.new }
+    ensures open { OnErr result (closes (talk.replied tag.now outcome).0 ≡ false) }
 {
     match outcome {
         Ok(reply) => says(lent(tag), &reply.said, stage, out),
@@ -49,7 +51,8 @@ fn welcomed(
     stage: &mut Stage,
     out: &mut Vec<u8>,
 ) -> Result<Heard, Memory>
-    ensures { Hears (talk.welcomed outcome) result stage.old stage.new out.old out.new }
+    ensures told { Hears (talk.welcomed outcome) result stage.old stage.new out.old out.new }
+    ensures open { OnErr result (closes (talk.welcomed outcome).0 ≡ false) }
 {
     match outcome {
         Ok(reply) => says(None, &reply.said, stage, out),
@@ -70,6 +73,7 @@ fn logged_in(
     out: &mut Vec<u8>,
 ) -> Result<Heard, Memory>
     ensures told { Hears (talk.login_said tag.now outcome) result stage.old stage.new out.old out.new }
+    ensures open { OnErr result (closes (talk.login_said tag.now outcome).0 ≡ false) }
     ensures user { OnOk result (user.new ≡ talk.login_user name user.old outcome) }
     ensures kept { OnErr result (user.new ≡ user.old) }
 {
@@ -89,7 +93,8 @@ fn drained(
     stage: &mut Stage,
     out: &mut Vec<u8>,
 ) -> Result<Heard, Memory>
-    ensures { Hears (talk.drained outcome) result stage.old stage.new out.old out.new }
+    ensures told { Hears (talk.drained outcome) result stage.old stage.new out.old out.new }
+    ensures open { OnErr result (closes (talk.drained outcome).0 ≡ false) }
 {
     match outcome {
         Ok(reply) => says(None, &reply.said, stage, out),
@@ -100,7 +105,8 @@ fn drained(
     }
 }
 
-/// What a session at that stage says to the machine's answer, and who is its user then: where memory is refused, the same.
+/// What a session at that stage says to the machine's answer, and who is its user then: where memory is refused, the same. An answer
+/// that closes the session says nothing, so that it is never refused.
 pub(crate) fn answered(
     was: Stage,
     user: &mut Option<UserName>,
@@ -109,6 +115,7 @@ pub(crate) fn answered(
     out: &mut Vec<u8>,
 ) -> Result<Heard, Memory>
     ensures told { Hears (talk.answer_said was outcome) result stage.old stage.new out.old out.new }
+    ensures open { OnErr result (closes (talk.answer_said was outcome).0 ≡ false) }
     ensures user { OnOk result (user.new ≡ talk.answer_user was user.old outcome) }
     ensures kept { OnErr result (user.new ≡ user.old) }
 {

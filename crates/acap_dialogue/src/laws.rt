@@ -1,6 +1,6 @@
 //! What follows from the definitions alone: each function does nothing, and its contract is the law.
 ghost use Rattle.acap_dialogue.specs.Examples.{AnswerExamples, HearingExamples, LoginExamples, NextExamples, RunExamples};
-ghost use Rattle.acap_dialogue.specs.Running.{SeatedLaw};
+ghost use Rattle.acap_dialogue.specs.Running.{QuietLaw, SeatedLaw};
 
 /// What is said to the machine's answers and faults, also after a login (RFC 2244 sections 3.6, 6.2 and 6.3.1).
 pub fn answer_examples()
@@ -31,4 +31,10 @@ pub fn run_examples()
 /// (RFC 2244 section 2).
 pub fn seated_law()
     ensures { SeatedLaw }
+{}
+
+/// Where nothing is next, nothing is next on any other occasion: a further turn comes to nothing until octets come (RFC 2244
+/// section 2).
+pub fn quiet_law()
+    ensures { QuietLaw }
 {}

@@ -13,7 +13,8 @@ mod stage;
 
 pub use heard::Heard;
 pub use laws::{
-    answer_examples, hearing_examples, login_examples, next_examples, run_examples, seated_law,
+    answer_examples, hearing_examples, login_examples, next_examples, quiet_law, run_examples,
+    seated_law,
 };
 pub use next::Next;
 pub use session::Session;

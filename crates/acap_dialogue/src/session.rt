@@ -1,6 +1,7 @@
 //! One session between a client and the machine.
 
-ghost use Rattle.std.specs.Prelude.{◌≡◌, true, IfOk, OnErr};
+ghost use Rattle.std.specs.Prelude.{◌≡◌, true, false, IfOk, OnErr};
+ghost use Rattle.acap_dialogue.specs.Running.{closes};
 ghost use Rattle.acap_dialogue.specs.Saying as saying;
 ghost use Rattle.acap_dialogue.specs.Saying.{IfMore, IsCutOff, Makes};
 ghost use Rattle.acap_dialogue.specs.Telling.{HearsOf, heard_by, room_for, room_in, with_front};
@@ -208,11 +209,12 @@ impl Session {
     }
 
     /// Takes the machine's answer to the event that was asked, and gives what is said then: `Say` or `Close`. Where
-    /// memory is refused the session is closed, and has the user that it had; the event stands.
+    /// memory is refused the session is closed, and has the user that it had; the event stands, and its answer closes nothing.
     pub fn answer(&mut self, outcome: Result<Reply, Fault>) -> Result<Next, Memory>
         requires { is_asked self.old.stage ≡ true }
         ensures ok { IfOk result (λ next. (next, self.new) ≡ answered self.old outcome) }
         ensures err { OnErr result (IsCutOff self.old self.new) }
+        ensures open { OnErr result (closes (answered self.old outcome).0 ≡ false) }
     {
         let mut octets = Vec::new(self.alloc);
         let heard = self.reply(outcome, &mut octets)?;
@@ -227,7 +229,8 @@ impl Session {
         out: &mut Vec<u8>,
     ) -> Result<Heard, Memory>
         requires { is_asked self.old.stage ≡ true }
-        ensures { Makes (answered self.old outcome) result self.old self.new out.old out.new }
+        ensures makes { Makes (answered self.old outcome) result self.old self.new out.old out.new }
+        ensures open { OnErr result (closes (answered self.old outcome).0 ≡ false) }
     {
         let stage = mem::replace(&mut self.stage, Stage::Closed);
         answered(stage, &mut self.user, outcome, &mut self.stage, out)
