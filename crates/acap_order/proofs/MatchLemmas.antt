@@ -1,5 +1,5 @@
 -- The tests of PREFIX and SUBSTRING decide what they are named for.
-use Rattle.std.proofs.Common.{◌≡◌, ℕ, ◌+◌, ◌≤◌, Bool, true, ◌||◌, nat_eq, ◌⊎◌, inl, inr, List, [], ◌∷◌, ◌++◌, Option, Some, None, is_some, length, take, drop, Decides, refl, sym, ap, ◌∙◌, arith, length-append}
+use Rattle.std.proofs.Common.{◌≡◌, ℕ, ◌+◌, ◌<◌, ◌≤◌, Bool, true, false, ◌||◌, nat_eq, ◌⊎◌, inl, inr, List, [], ◌∷◌, ◌++◌, Option, Some, None, is_some, length, take, drop, Decides, refl, sym, ap, ◌∙◌, arith, length-append}
 use Rattle.std.specs.List.{starts_with}
 use Rattle.std.proofs.Math.Seq.{take-append_seam, drop-append_seam}
 use Rattle.std.proofs.lemmas.Bool.{false≢true}
@@ -65,6 +65,16 @@ Decides-find text pattern (Some place) first = (
     (drop (place + length pattern) text, sym (take-append-drop place text) ∙ ap (λ xs. take place text ++ xs) (OccursAt-split text pattern place first.1)),
   ),
   λ found. refl,
+)
+
+-- a pattern that is longer than a text stands nowhere in it
+pub Decides-longer : (text pattern : List ℕ) → length text < length pattern → Decides false (Stands text pattern)
+Decides-longer text pattern longer = (
+  λ e. absurd (false≢true e),
+  λ found.
+      let before = found.0 in
+      let after = found.1.0 in
+      absurd (omega (arith, ap length found.1.1, length-append before (pattern ++ after), length-append pattern after)),
 )
 
 -- a text that begins with a pattern has it somewhere

@@ -129,7 +129,8 @@ impl Comparator {
     }
 
     /// Whether `pattern` stands somewhere in `text` (SUBSTRING of RFC 2244, section 6.4.1).
-    /// The empty pattern stands in every text.
+    /// The empty pattern stands in every text. It takes time by the text's length, but for a text of
+    /// more than 65,536 octets without regard to case: that may take its length times the pattern's.
     pub fn substring(&self, text: &[u8], pattern: &[u8]) -> bool
         requires { self.now.collation ≢ AsciiNumeric }
         ensures value { result ≡ has_substring self.now text.now pattern.now }
