@@ -8,7 +8,7 @@ ghost use Rattle.acap_search.specs.Places as rule;
 ghost use Rattle.acap_search.specs.Shown as shown;
 ghost use Rattle.acap_search.specs.Views.{places_at};
 
-use crate::looking::look;
+use crate::looking::read;
 use crate::rank::{Place, Places, Rank};
 use crate::spot::Spot;
 use acap_commands::SortItem;
@@ -90,12 +90,13 @@ fn place_of(
 ) -> Result<Place, Memory>
     ensures { IfOk result (λ place. place ≡ rule.place_in comparator.now (shown.cell_of value.entry)) }
 {
-    let rank = match value {
-        Some(Lent::Single(text)) => rank_of(alloc, comparator.collation, text)?,
-        Some(Lent::Stamp(digits)) => rank_of(alloc, comparator.collation, &digits)?,
+    let text = match &value {
+        Some(Lent::Single(text)) => *text,
+        Some(Lent::Stamp(digits)) => digits.as_slice(),
         Some(Lent::Multi(_)) => return Ok(Place::Behind),
         None => return Ok(Place::Behind),
     };
+    let rank = rank_of(alloc, comparator.collation, text)?;
     Ok(placed(comparator.direction, rank))
 }
 
@@ -109,8 +110,8 @@ pub(crate) fn places_of<R: Records>(
 {
     let mut places = Vec::with_capacity(alloc, sort.len())?;
     for item in sort {
-        let seen = look(spot, item.attribute.as_slice());
-        places.push(place_of(alloc, &item.comparator, seen.read())?)?;
+        let seen = read(spot, item.attribute.as_slice());
+        places.push(place_of(alloc, &item.comparator, seen)?)?;
     }
     Ok(Places::from_vec(places))
 }
