@@ -6,6 +6,7 @@ pub told_examples : ToldExamples
 told_examples = record {
   reads = refl;
   writes = λ f. refl;
+  stuck = refl;
   calls = λ e now answer. refl;
   gives = λ one two nonce. refl;
   rings = refl;

@@ -1,2 +1,9 @@
 pub mod Computing
+pub mod Ending
+pub mod Hearing
+pub mod Keeping
+pub mod Octets
+pub mod Passing
 pub mod Pieces
+pub mod Rounding
+pub mod Telling

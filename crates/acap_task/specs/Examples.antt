@@ -16,6 +16,8 @@ pub record ToldExamples : Type 0 where
   -- of three octets two are written; the writer fails
   pub writes : (f : WireFault) → after_write (after_write new_wire (Ready (Ok 2)) (7 ∷ 8 ∷ 9 ∷ [])) (Ready (Err f)) (9 ∷ [])
       ≡ record new_wire { put = Some (7 ∷ 8 ∷ []); write_faults = 1 }
+  -- a writer that takes nothing has failed
+  pub stuck : after_write new_wire (Ready (Ok 0)) (7 ∷ []) ≡ record new_wire { write_faults = 1 }
   pub calls : (e : Event) (now : ℤ) (answer : Answer) → after_call (after_call new_desk e now (Err fault.Memory)) e now (Ok answer)
       ≡ record { calls = Some (call_of e now answer.reply ∷ []); faults = 1 }
   pub gives : (one two : ℤ) (nonce : ℕ) → gives_moment (gives_nonce (gives_moment new_source one) nonce) two

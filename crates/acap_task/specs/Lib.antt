@@ -1,5 +1,11 @@
 pub mod Desks
 pub mod Examples
+pub mod Hearing
+pub mod Histories
+pub mod Kept
 pub mod Plans
+pub mod Progress
 pub mod Told
+pub mod Turns
+pub mod Waiting
 pub mod Wires

@@ -1,5 +1,5 @@
 -- What a wire, a desk, a source and a bell tell of their past. Counts stop at the last number of 64 bits.
-use Rattle.std.specs.Prelude.{ℕ, ℤ, ◌+◌, min, List, [], ◌∷◌, ◌++◌, take, Option, Some, Result, Ok, Err, Bool, false, true, ◌||◌, ◌==◌}
+use Rattle.std.specs.Prelude.{ℕ, ℤ, ◌+◌, min, List, [], ◌∷◌, ◌++◌, take, Option, Some, Result, Ok, Err, Bool, false, true, ◌||◌, ◌==◌, if◌then◌else◌}
 use Rattle.std.specs.Option.{option_map}
 use Rattle.futures.specs.declared.task.Poll.{Poll}
 use Rattle.futures.specs.declared.task.Poll.TheVariants.{Ready, Pending}
@@ -12,9 +12,13 @@ use Rattle.acap_task.specs.declared.ring.Ring.{Ring}
 use Rattle.acap_task.specs.declared.ring.Ring.TheVariants as ring
 use Rattle.acap_task.specs.declared.wire_fault.WireFault.{WireFault}
 
+-- the last number of a count
+abbrev pub last : ℕ
+last = 18446744073709551615
+
 -- one more, up to the last number
 abbrev pub up : ℕ → ℕ
-up n = min (n + 1) 18446744073709551615
+up n = min (n + 1) last
 
 -- more at the end, where it is told
 abbrev pub adds : {A : Type 0} → Option (List A) → List A → Option (List A)
@@ -43,9 +47,9 @@ after_read w (Ready (Ok n)) buffer = record w { taken = adds w.taken (take n buf
 after_read w (Ready (Err fault)) buffer = record w { read_faults = up w.read_faults }
 after_read w Pending buffer = record w { read_waits = up w.read_waits }
 
--- after a poll of the writer with these octets
+-- after a poll of the writer with these octets; a writer that takes none of them has failed
 abbrev pub after_write : WireTold → Poll (Result ℕ WireFault) → List ℕ → WireTold
-after_write w (Ready (Ok n)) octets = record w { put = adds w.put (take n octets) }
+after_write w (Ready (Ok n)) octets = record w { put = adds w.put (take n octets); write_faults = if n == 0 then up w.write_faults else w.write_faults }
 after_write w (Ready (Err fault)) octets = record w { write_faults = up w.write_faults }
 after_write w Pending octets = record w { write_waits = up w.write_waits }
 

@@ -166,6 +166,9 @@ impl Wire for MemWire {
                     self.write_faults = count_up(self.write_faults);
                     return Poll::Ready(Err(WireFault));
                 }
+                if count == 0 {
+                    self.write_faults = count_up(self.write_faults);
+                }
                 Poll::Ready(Ok(count))
             }
             Transfer::Waits => {

@@ -31,7 +31,7 @@ pub trait Wire: Drop {
         ensures registered { OnPending result (Covers cx.new (read_needs self.new)) }
         ensures kept { Keeps cx.old cx.new };
 
-    /// Writes octets from the front of these, and says how many.
+    /// Writes octets from the front of these, and says how many. A writer that takes none of them has failed.
     fn poll_write(&mut self, cx: &mut Context<'_>, octets: &[u8]) -> Poll<Result<usize, WireFault>>
         ensures bound { IfReady result (λ r. IfOk r (λ n. n ≤ length octets.now)) }
         ensures told { told self.new ≡ after_write (told self.old) result octets.now }

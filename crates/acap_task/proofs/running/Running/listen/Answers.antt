@@ -1,0 +1,5 @@
+use Rattle.acap_task.proofs.Rounding.{rung_done}
+use Rattle.acap_task.proofs.running.Running.listen.Goals as goal
+
+pub returns-in-Ready-Rung-clause-comes : goal.returns-in-Ready-Rung-clause-comes
+returns-in-Ready-Rung-clause-comes g c = rung_done _ _ _ _ _ _ c.ring.result _ c.in-Ready-Rung.is c.in-Ready-Rung.field-0-is c.ring.ensures.rings

@@ -1,0 +1,26 @@
+-- What comes of what a session hears, where its octets are owed as a list.
+use Rattle.std.specs.Prelude.{◌≡◌, ℕ, List, Result, Ok, Err, true, false}
+use Rattle.acap_entries.specs.declared.memory.Memory.{Memory}
+use Rattle.acap_dialogue.specs.Running.{closes}
+use Rattle.acap_dialogue.specs.Saying.{added, heard_of}
+use Rattle.acap_dialogue.specs.Session.{is_asked}
+use Rattle.acap_dialogue.specs.Talking.{Talking}
+use Rattle.acap_dialogue.specs.declared.heard.Heard.{Heard}
+use Rattle.acap_dialogue.specs.declared.heard.Heard.TheVariants as heard
+use Rattle.acap_dialogue.specs.declared.next.Next.{Next}
+
+-- what is next is told, and its octets are owed; where memory was refused nothing is
+abbrev pub HearsAll : Next × Talking → Result Heard Memory → Talking → List ℕ → List ℕ → Type 0
+HearsAll x (Ok told) after old new = (told ≡ heard_of x.0) × (after ≡ x.1) × (new ≡ added old x.0)
+HearsAll x (Err memory) after old new = new ≡ old
+
+-- after an event is asked its answer is awaited
+abbrev pub AwaitsBy : Heard → Talking → Type 0
+AwaitsBy heard.More t = Unit {0}
+AwaitsBy heard.Said t = Unit {0}
+AwaitsBy (heard.Asks event) t = is_asked t.stage ≡ true
+AwaitsBy heard.Closes t = Unit {0}
+
+-- the session goes on
+abbrev pub GoesOn : Next × Talking → Type 0
+GoesOn x = closes x.0 ≡ false

@@ -1,0 +1,103 @@
+//! Octets that a session said and that wait to be written.
+ghost use Rattle.std.specs.Prelude.{◌≡◌, ◌≤◌, ◌+◌, [], IfOk, IfErr, OnErr, length, drop, true};
+ghost use Rattle.acap_dialogue.specs.Session.{answered, is_asked, session_next};
+ghost use Rattle.acap_task.specs.Hearing.{AwaitsBy, GoesOn, HearsAll};
+
+use acap_commands::{Fault, Reply};
+use acap_dialogue::{Heard, Session};
+use acap_entries::{Memory, Moment};
+use acap_login::Users;
+use std::alloc::Global;
+use std::marker::Model;
+
+// How much memory is kept for what is said next.
+const KEPT: usize = 65_536;
+
+/// Octets that a session said and that wait to be written: contracts see them as a list.
+#[derive(Drop)]
+pub struct Owed {
+    alloc: Global,
+    octets: Vec<u8>,
+    from: usize,
+}
+
+impl Model for Owed {
+    ghost use Rattle.std.specs.Prelude.{◌≤◌, ℕ, List, drop, length};
+
+    ghost Value = { List ℕ };
+
+    ghost view = { λ o. drop o.from o.octets.items };
+
+    ghost invariant = { λ o. o.from ≤ length o.octets.items };
+}
+
+impl Owed {
+    /// Nothing is owed. Takes no memory.
+    pub(crate) fn new(alloc: Global) -> Owed
+        ensures { result ≡ [] }
+    {
+        Owed {
+            alloc,
+            octets: Vec::new(alloc),
+            from: 0,
+        }
+    }
+
+    /// The octets.
+    pub fn as_slice(&self) -> &[u8]
+        ensures { result.now ≡ self.now }
+    {
+        &self.octets[self.from..]
+    }
+
+    // Lets go of octets that were all written.
+    fn clear(&mut self)
+        ensures { self.new ≡ [] }
+    {
+        if self.octets.capacity() > KEPT {
+            self.octets = Vec::new(self.alloc);
+        } else {
+            self.octets.clear();
+        }
+        self.from = 0;
+    }
+
+    /// The first of them are owed no more.
+    pub(crate) fn pay(&mut self, n: usize)
+        requires { n ≤ length self.old }
+        ensures { self.new ≡ drop n self.old }
+    {
+        self.from += n;
+        if self.from == self.octets.len() {
+            self.clear();
+        }
+    }
+
+    /// What is next for a session, what it says being owed.
+    pub(crate) fn hear(
+        &mut self,
+        session: &mut Session,
+        users: &Users,
+        nonce: u64,
+        clock: Moment,
+    ) -> Result<Heard, Memory>
+        ensures heard { HearsAll (session_next users.now nonce clock session.old) result session.new
+            self.old self.new }
+        ensures asked { IfOk result (λ heard. AwaitsBy heard session.new) }
+    {
+        session.hear(users, nonce, clock, &mut self.octets)
+    }
+
+    /// What a session says to an answer is owed. Where memory is refused the answer doesn't close the session.
+    pub(crate) fn reply(
+        &mut self,
+        session: &mut Session,
+        outcome: Result<Reply, Fault>,
+    ) -> Result<Heard, Memory>
+        requires { is_asked session.old.stage ≡ true }
+        ensures heard { HearsAll (answered session.old outcome) result session.new self.old self.new }
+        ensures open { OnErr result (GoesOn (answered session.old outcome)) }
+    {
+        session.reply(outcome, &mut self.octets)
+    }
+}

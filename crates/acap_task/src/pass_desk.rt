@@ -1,0 +1,152 @@
+//! A desk that calls a book behind its lock.
+ghost use Rattle.std.specs.Prelude.{◌≡◌, ◌<◌, ◌++◌, ◌∷◌, [], IfOk, OnErr, vec_len, vec_capacity};
+ghost use Rattle.acap_task.specs.Desks.{EndsAlike, HasCalled};
+
+use crate::count::count_up;
+use crate::desk::Desk;
+use crate::ringer::Ringer;
+use crate::seating::Seating;
+use acap_commands::{Event, Fault};
+use acap_entries::Moment;
+use acap_locked::{Answer, Item, Pass, Served, Site};
+use std::alloc::Global;
+use std::sync::Wait;
+use std::sync::ledger::Ledger;
+
+/// A desk that calls a book behind its lock with a pass (RFC 2244 section 2), and keeps what it was answered. Of this record and the
+/// pass's items the shorter is how the other ends: the pass lets go of calls of older epochs, and has those of earlier sessions.
+#[derive(Drop)]
+pub struct PassDesk<'a, S: Site, L: Ledger, R: Wait, N: Ringer> {
+    rt: &'a R,
+    served: &'a Served<S, L>,
+    ringer: &'a N,
+    /// The pass.
+    pub pass: Pass<S>,
+    /// The calls of the session that were answered, in their order.
+    pub calls: Vec<Item>,
+    /// How many were answered with a fault, up to the last number.
+    pub faults: u64,
+    owes_leave: bool,
+    ghost ends: { ∥ EndsAlike calls.items pass.items ∥₁ },
+}
+
+// Puts an item into room for it.
+fn push_in_room(items: &mut Vec<Item>, item: Item)
+    requires { vec_len items.old < vec_capacity items.old }
+    ensures { items.new.items ≡ items.old.items ++ item ∷ [] }
+{
+    items.push(item).unwrap();
+}
+
+// One call, which is kept in the record.
+fn call_with<S: Site, L: Ledger, R: Wait>(
+    rt: &R,
+    served: &Served<S, L>,
+    pass: &mut Pass<S>,
+    calls: &mut Vec<Item>,
+    event: Event,
+    moment: Moment,
+) -> Result<Answer, Fault>
+    ensures ok { IfOk result (λ answer. HasCalled event moment answer.reply pass.old.items calls.old.items
+        pass.new.items calls.new.items) }
+    ensures err { OnErr result ((pass.new ≡ pass.old) × (calls.new.items ≡ calls.old.items)) }
+{
+    calls.reserve(1)?;
+    let mut answer = served.call(rt, pass, event, moment)?;
+    match answer.kept.take() {
+        Some(item) => push_in_room(calls, item),
+        None => {}
+    }
+    Ok(answer)
+}
+
+impl<'a, S: Site, L: Ledger, R: Wait, N: Ringer> PassDesk<'a, S, L, R, N> {
+    ghost use Rattle.std.specs.Prelude.{◌≡◌, [], IfOk, IfErr};
+
+    /// A desk that has made no call. Takes no memory.
+    pub fn new(
+        alloc: Global,
+        rt: &'a R,
+        served: &'a Served<S, L>,
+        ringer: &'a N,
+        pass: Pass<S>,
+    ) -> PassDesk<'a, S, L, R, N>
+        ensures { (result.calls.items ≡ []) × (result.faults ≡ 0) × (result.pass ≡ pass) }
+    {
+        PassDesk {
+            rt,
+            served,
+            ringer,
+            pass,
+            calls: Vec::new(alloc),
+            faults: 0,
+            owes_leave: false,
+        }
+    }
+
+    /// A desk at a place that is given out again. Where the last Leave there was refused, it is asked first, and is no call of the desk;
+    /// refused again, the place comes back as it was. It may wait for the lock.
+    pub fn begin(
+        alloc: Global,
+        rt: &'a R,
+        served: &'a Served<S, L>,
+        ringer: &'a N,
+        place: Seating<S>,
+        now: Moment,
+    ) -> Result<PassDesk<'a, S, L, R, N>, Seating<S>>
+        ensures ok { IfOk result (λ desk. (desk.calls.items ≡ []) × (desk.faults ≡ 0)) }
+        ensures err { IfErr result (λ kept. kept ≡ place) }
+    {
+        let Seating { pass, owes_leave } = place;
+        let mut pass = pass;
+        if owes_leave {
+            match served.call(rt, &mut pass, Event::Leave, now) {
+                Ok(answer) => ringer.ring(answer.rings),
+                Err(_) => return Err(Seating { pass, owes_leave }),
+            }
+        }
+        Ok(PassDesk::new(alloc, rt, served, ringer, pass))
+    }
+
+    /// The place, for another session.
+    pub fn into_seating(self) -> Seating<S>
+        ensures { result.pass ≡ self.entry.pass }
+    {
+        Seating {
+            pass: self.pass,
+            owes_leave: self.owes_leave,
+        }
+    }
+}
+
+impl<S: Site, L: Ledger, R: Wait, N: Ringer> Desk for PassDesk<'_, S, L, R, N> {
+    ghost use Rattle.std.specs.Prelude.{Some, map};
+    ghost use Rattle.acap_task.specs.Desks.{exchange_of};
+
+    ghost told = { λ d. record { calls = Some (map exchange_of d.calls.items); faults = d.faults } };
+
+    fn call(&mut self, event: Event, moment: Moment) -> Result<Answer, Fault> {
+        let leaves = matches!(event, Event::Leave);
+        let outcome = call_with(
+            self.rt,
+            self.served,
+            &mut self.pass,
+            &mut self.calls,
+            event,
+            moment,
+        );
+        if leaves {
+            self.owes_leave = outcome.is_err();
+        }
+        match outcome {
+            Ok(answer) => {
+                self.ringer.ring(answer.rings);
+                Ok(answer)
+            }
+            Err(fault) => {
+                self.faults = count_up(self.faults);
+                Err(fault)
+            }
+        }
+    }
+}

@@ -1,0 +1,142 @@
+//! The rounds of a session that runs.
+use crate::bell::Bell;
+use crate::desk::Desk;
+use crate::ring::Ring;
+use crate::running::Running;
+use crate::source::Source;
+use crate::task_end::TaskEnd;
+use crate::turned::Turned;
+use crate::wire::Wire;
+use crate::wire_fault::WireFault;
+use futures::ready;
+use futures::task::{Context, Poll};
+
+// How many rounds are made in a poll, so that others come to their turns.
+const ROUNDS: usize = 64;
+
+impl<W: Wire, D: Desk, S: Source, B: Bell> Running<'_, W, D, S, B> {
+    ghost use Rattle.std.specs.Prelude.{◌≡◌, [], false};
+    ghost use Rattle.futures.specs.Poll.{IfReady, OnPending};
+    ghost use Rattle.futures.specs.Task.{IsArmed, Keeps};
+    ghost use Rattle.acap_task.specs.Progress.{HasRoom, progress};
+    ghost use Rattle.acap_task.specs.Waiting.{Comes, EndsAs, Flushes, Hears, IfWritten, IsQuiet, Later, Rose, Stops, Waits};
+
+    // Writes all that is owed.
+    fn flush(&mut self, cx: &mut Context<'_>) -> Poll<Result<(), WireFault>>
+        ensures terms { (self.new.users ≡ self.old.users) × (self.new.host ≡ self.old.host) × (self.new.user ≡ self.old.user) }
+        ensures bell { self.new.bell ≡ self.old.bell }
+        ensures flushed { Flushes (W.told self.old.wire) (W.told self.new.wire)
+            (progress self.old.course) (progress self.new.course) }
+        ensures written { IfReady result (λ r. IfWritten r (W.told self.old.wire) (W.told self.new.wire)
+            (progress self.new.course)) }
+        ensures stuck { OnPending result (Rose (W.told self.old.wire).write_waits (W.told self.new.wire).write_waits) }
+        ensures armed { OnPending result (IsArmed cx.new) }
+        ensures kept { Keeps cx.old cx.new }
+    {
+        while !self.course.owed.as_slice().is_empty() {
+            match ready!(self.write(cx)) {
+                Ok(0) | Err(_) => return Poll::Ready(Err(WireFault)),
+                Ok(_) => {}
+            }
+        }
+        Poll::Ready(Ok(()))
+    }
+
+    // Listens to the client.
+    fn hear(&mut self, cx: &mut Context<'_>) -> Poll<Option<TaskEnd>>
+        requires room { HasRoom self.old.course }
+        requires whole { self.old.course.lost ≡ false }
+        requires paid { self.old.course.owed ≡ [] }
+        requires quiet { IsQuiet self.old.users.now self.old.course.session }
+        ensures terms { (self.new.users ≡ self.old.users) × (self.new.host ≡ self.old.host) × (self.new.user ≡ self.old.user) }
+        ensures comes { IfReady result (λ end. Comes end self.new.users.now (W.told self.new.wire)
+            (progress self.old.course) (progress self.new.course)) }
+        ensures hears { OnPending result (Hears self.new.users.now (W.told self.old.wire) (W.told self.new.wire)
+            (progress self.new.course)) }
+        ensures later { Later (W.told self.old.wire) (W.told self.new.wire)
+            (B.told self.old.bell) (B.told self.new.bell) }
+        ensures bell { self.new.bell ≡ self.old.bell }
+        ensures armed { OnPending result (IsArmed cx.new) }
+        ensures kept { Keeps cx.old cx.new }
+    {
+        if !self.is_readable() {
+            return Poll::Ready(Some(TaskEnd::Memory));
+        }
+        match self.read(cx) {
+            Poll::Ready(Ok(0)) => Poll::Ready(Some(TaskEnd::Ended)),
+            Poll::Ready(Ok(_)) if self.course.lost => Poll::Ready(Some(TaskEnd::Memory)),
+            Poll::Ready(Ok(_)) => Poll::Ready(None),
+            Poll::Ready(Err(_)) => Poll::Ready(Some(TaskEnd::ReadFault)),
+            Poll::Pending => Poll::Pending,
+        }
+    }
+
+    // Listens to the bell, and then to the client.
+    fn listen(&mut self, cx: &mut Context<'_>) -> Poll<Option<TaskEnd>>
+        requires room { HasRoom self.old.course }
+        requires whole { self.old.course.lost ≡ false }
+        requires paid { self.old.course.owed ≡ [] }
+        requires quiet { IsQuiet self.old.users.now self.old.course.session }
+        ensures terms { (self.new.users ≡ self.old.users) × (self.new.host ≡ self.old.host) × (self.new.user ≡ self.old.user) }
+        ensures comes { IfReady result (λ end. Comes end self.new.users.now (W.told self.new.wire)
+            (progress self.old.course) (progress self.new.course)) }
+        ensures stops { OnPending result (Stops self.new.users.now (W.told self.old.wire) (W.told self.new.wire)
+            (B.told self.old.bell) (B.told self.new.bell) (progress self.new.course)) }
+        ensures later { Later (W.told self.old.wire) (W.told self.new.wire)
+            (B.told self.old.bell) (B.told self.new.bell) }
+        ensures armed { OnPending result (IsArmed cx.new) }
+        ensures kept { Keeps cx.old cx.new }
+    {
+        match self.ring(cx) {
+            Poll::Ready(Ring::Rung) => Poll::Ready(None),
+            Poll::Ready(Ring::End) => self.hear(cx),
+            Poll::Pending => self.hear(cx),
+        }
+    }
+
+    // Writes all that is owed, and then makes a turn, or listens where nothing is next.
+    fn round(&mut self, cx: &mut Context<'_>) -> Poll<Option<TaskEnd>>
+        ensures terms { (self.new.users ≡ self.old.users) × (self.new.host ≡ self.old.host) × (self.new.user ≡ self.old.user) }
+        ensures comes { IfReady result (λ end. Comes end self.new.users.now (W.told self.new.wire)
+            (progress self.old.course) (progress self.new.course)) }
+        ensures stops { OnPending result (Stops self.new.users.now (W.told self.old.wire) (W.told self.new.wire)
+            (B.told self.old.bell) (B.told self.new.bell) (progress self.new.course)) }
+        ensures later { Later (W.told self.old.wire) (W.told self.new.wire)
+            (B.told self.old.bell) (B.told self.new.bell) }
+        ensures armed { OnPending result (IsArmed cx.new) }
+        ensures kept { Keeps cx.old cx.new }
+    {
+        if ready!(self.flush(cx)).is_err() {
+            return Poll::Ready(Some(TaskEnd::WriteFault));
+        }
+        if self.course.lost {
+            return Poll::Ready(Some(TaskEnd::Memory));
+        }
+        if self.course.session.is_closed() {
+            return Poll::Ready(Some(TaskEnd::Ended));
+        }
+        match self.turn() {
+            Err(_) => Poll::Ready(Some(TaskEnd::Memory)),
+            Ok(Turned::Other) => Poll::Ready(None),
+            Ok(Turned::More) => self.listen(cx),
+        }
+    }
+
+    /// Goes on until something isn't ready, at most 64 rounds.
+    pub(crate) fn advance(&mut self, cx: &mut Context<'_>) -> Poll<TaskEnd>
+        ensures terms { (self.new.users ≡ self.old.users) × (self.new.host ≡ self.old.host) × (self.new.user ≡ self.old.user) }
+        ensures ends { IfReady result (λ end. EndsAs end self.new.users.now (W.told self.new.wire)
+            (progress self.new.course)) }
+        ensures waits { OnPending result (Waits self.new.users.now (W.told self.old.wire) (W.told self.new.wire)
+            (B.told self.old.bell) (B.told self.new.bell) (progress self.old.course) (progress self.new.course)) }
+        ensures armed { OnPending result (IsArmed cx.new) }
+        ensures kept { Keeps cx.old cx.new }
+    {
+        for _ in 0..ROUNDS {
+            if let Some(end) = ready!(self.round(cx)) {
+                return Poll::Ready(end);
+            }
+        }
+        cx.yield_now()
+    }
+}

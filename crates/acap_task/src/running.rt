@@ -1,0 +1,210 @@
+//! A session that runs, and what its type keeps.
+ghost use Rattle.std.specs.Prelude.{◌≡◌, false, IfOk};
+ghost use Rattle.acap_dialogue.specs.Talking.{begun};
+ghost use Rattle.acap_task.specs.Kept.{Kept};
+ghost use Rattle.acap_task.specs.Progress.{HasRoomToLeave, progress};
+
+use crate::bell::Bell;
+use crate::conn::Conn;
+use crate::course::Course;
+use crate::desk::Desk;
+use crate::ring::Ring;
+use crate::source::Source;
+use crate::turned::Turned;
+use crate::wire::Wire;
+use crate::wire_fault::WireFault;
+use crate::{moving, turning};
+use acap_dialogue::Session;
+use acap_entries::{Copying, Memory, Octets, UserName};
+use acap_login::Users;
+use futures::task::{Context, Poll};
+use std::alloc::Global;
+
+// How many octets are read at once.
+const READ: usize = 8_192;
+
+/// A session with the four that it stands on. Its type keeps how what these tell fits the session's steps.
+#[derive(Drop)]
+pub struct Running<'u, W: Wire, D: Desk, S: Source, B: Bell> {
+    /// Octets from the client and to it.
+    pub wire: W,
+    /// What answers its events.
+    pub desk: D,
+    /// Moments and nonces.
+    pub source: S,
+    /// What rings where notices wait.
+    pub bell: B,
+    /// Who may log in.
+    pub users: &'u Users,
+    /// The name of the host.
+    pub host: Octets,
+    /// Whose session it was from the start.
+    pub user: Option<UserName>,
+    /// How far the session has come.
+    pub course: Course,
+    buffer: Vec<u8>,
+    ghost kept: { ∥ Kept (record { users = users.now; host = host; user = user }) (W.told wire) (D.told desk)
+        (S.told source) (B.told bell) (progress course) ∥₁ },
+    ghost room: { HasRoomToLeave course },
+}
+
+// A host and a user of their own, for the session.
+fn copies(host: &Octets, user: &Option<UserName>) -> Result<(Octets, Option<UserName>), Memory>
+    ensures { IfOk result (λ made. (made.0 ≡ host.now) × (made.1 ≡ user.now)) }
+{
+    Ok((host.copy()?, user.copy()?))
+}
+
+// A session at that host, of that user, and whether memory was refused for it.
+fn begin(alloc: Global, host: &Octets, user: &Option<UserName>) -> (Session, bool)
+    ensures { result.1 ≡ false → result.0 ≡ begun host.now user.now }
+{
+    match copies(host, user) {
+        Ok((host, user)) => (Session::new(alloc, host, user), false),
+        Err(_) => {
+            let nowhere = Octets::from_vec(Vec::new(alloc));
+            (Session::new(alloc, nowhere, None), true)
+        }
+    }
+}
+
+impl<'u, W: Wire, D: Desk, S: Source, B: Bell> Running<'u, W, D, S, B> {
+    ghost use Rattle.acap_task.specs.Kept.{IsUntold};
+    ghost use Rattle.std.specs.Prelude.{◌≡◌, ◌+◌, ◌≤◌, vec_len, vec_capacity};
+
+    /// A session of which nothing has been done, over four that have told nothing yet. Where memory is refused for it, it ends at its
+    /// first poll.
+    pub(crate) fn new(
+        alloc: Global,
+        conn: Conn<W, S>,
+        desk: D,
+        bell: B,
+        users: &'u Users,
+        host: Octets,
+    ) -> Running<'u, W, D, S, B>
+        requires { IsUntold (W.told conn.wire) (D.told desk) (S.told conn.source) (B.told bell) }
+        ensures { (result.users ≡ users.entry) × (result.host ≡ host) × (result.user ≡ conn.user) }
+    {
+        let Conn { wire, user, source } = conn;
+        let (session, lost) = begin(alloc, &host, &user);
+        let course = Course::new(alloc, session, lost);
+        Running {
+            wire,
+            desk,
+            source,
+            bell,
+            users,
+            host,
+            user,
+            course,
+            buffer: Vec::new(alloc),
+        }
+    }
+}
+
+impl<W: Wire, D: Desk, S: Source, B: Bell> Running<'_, W, D, S, B> {
+    ghost use Rattle.std.specs.Prelude.{◌≡◌, IfOk, false};
+    ghost use Rattle.futures.specs.Poll.{OnPending};
+    ghost use Rattle.futures.specs.Task.{IsArmed, Keeps};
+    ghost use Rattle.acap_task.specs.Progress.{HasRoom, IfNothing, progress};
+    ghost use Rattle.acap_task.specs.Turns.{Reads, Turns, Writes};
+
+    /// One turn, with the event that it asks. Fails only for want of memory, now or before.
+    pub(crate) fn turn(&mut self) -> Result<Turned, Memory>
+        ensures terms { (self.new.users ≡ self.old.users) × (self.new.host ≡ self.old.host) × (self.new.user ≡ self.old.user) }
+        ensures same { (self.new.wire ≡ self.old.wire) × (self.new.bell ≡ self.old.bell) }
+        ensures turned { IfOk result (λ was. Turns self.old.users.now was
+            (progress self.old.course) (D.told self.old.desk) (S.told self.old.source)
+            (progress self.new.course) (D.told self.new.desk) (S.told self.new.source)) }
+        ensures more { IfOk result (λ was. IfNothing was (HasRoom self.new.course)) }
+    {
+        turning::turn(
+            &mut self.course,
+            self.users,
+            &mut self.desk,
+            &mut self.source,
+        )
+    }
+
+    /// Writes some of what is owed.
+    pub(crate) fn write(&mut self, cx: &mut Context<'_>) -> Poll<Result<usize, WireFault>>
+        ensures terms { (self.new.users ≡ self.old.users) × (self.new.host ≡ self.old.host) × (self.new.user ≡ self.old.user) }
+        ensures same { self.new.bell ≡ self.old.bell }
+        ensures written { Writes (W.told self.old.wire) (progress self.old.course) result
+            (W.told self.new.wire) (progress self.new.course) }
+        ensures armed { OnPending result (IsArmed cx.new) }
+        ensures kept { Keeps cx.old cx.new }
+    {
+        moving::write(&mut self.wire, cx, &mut self.course)
+    }
+
+    /// Reads octets, and gives them to the session.
+    pub(crate) fn read(&mut self, cx: &mut Context<'_>) -> Poll<Result<usize, WireFault>>
+        requires room { HasRoom self.old.course }
+        requires whole { self.old.course.lost ≡ false }
+        ensures terms { (self.new.users ≡ self.old.users) × (self.new.host ≡ self.old.host) × (self.new.user ≡ self.old.user) }
+        ensures same { self.new.bell ≡ self.old.bell }
+        ensures reads { Reads (W.told self.old.wire) (progress self.old.course) result
+            (W.told self.new.wire) (progress self.new.course) }
+        ensures armed { OnPending result (IsArmed cx.new) }
+        ensures kept { Keeps cx.old cx.new }
+    {
+        moving::read(&mut self.wire, cx, &mut self.course, &mut self.buffer)
+    }
+
+    /// Makes the buffer into which octets are read, if there is none yet: whether octets can be read at all.
+    pub(crate) fn is_readable(&mut self) -> bool
+        ensures terms { (self.new.users ≡ self.old.users) × (self.new.host ≡ self.old.host) × (self.new.user ≡ self.old.user) }
+        ensures same { (self.new.wire ≡ self.old.wire) × (self.new.bell ≡ self.old.bell)
+            × (self.new.course ≡ self.old.course) }
+    {
+        if self.buffer.is_empty() && self.buffer.resize(READ, 0).is_err() {
+            return false;
+        }
+        self.course.session.room() > 0
+    }
+}
+
+impl<W: Wire, D: Desk, S: Source, B: Bell> Running<'_, W, D, S, B> {
+    ghost use Rattle.std.specs.Prelude.{◌≡◌, false};
+    ghost use Rattle.futures.specs.Poll.{OnPending};
+    ghost use Rattle.futures.specs.Task.{IsArmed, Keeps};
+    ghost use Rattle.acap_task.specs.Progress.{HasRoom, progress};
+    ghost use Rattle.acap_task.specs.Told.{after_ring};
+    ghost use Rattle.acap_task.specs.Turns.{LeavesAtEnd, Rings};
+    ghost use Rattle.acap_task.specs.Waiting.{IfSilent};
+
+    /// Looks at the bell, and asks for what is pending where it rang.
+    pub(crate) fn ring(&mut self, cx: &mut Context<'_>) -> Poll<Ring>
+        requires room { HasRoom self.old.course }
+        requires whole { self.old.course.lost ≡ false }
+        ensures terms { (self.new.users ≡ self.old.users) × (self.new.host ≡ self.old.host) × (self.new.user ≡ self.old.user) }
+        ensures same { self.new.wire ≡ self.old.wire }
+        ensures bell { B.told self.new.bell ≡ after_ring (B.told self.old.bell) result }
+        ensures rings { Rings result
+            (progress self.old.course) (D.told self.old.desk) (S.told self.old.source)
+            (progress self.new.course) (D.told self.new.desk) (S.told self.new.source) }
+        ensures silent { IfSilent result (HasRoom self.new.course) }
+        ensures armed { OnPending result (IsArmed cx.new) }
+        ensures kept { Keeps cx.old cx.new }
+    {
+        moving::ring(
+            &mut self.bell,
+            cx,
+            &mut self.course,
+            &mut self.desk,
+            &mut self.source,
+        )
+    }
+
+    /// The session's end: its seat is left, if it has one.
+    pub(crate) fn leave(&mut self)
+        ensures terms { (self.new.users ≡ self.old.users) × (self.new.host ≡ self.old.host) × (self.new.user ≡ self.old.user) }
+        ensures same { (self.new.wire ≡ self.old.wire) × (self.new.bell ≡ self.old.bell) }
+        ensures left { LeavesAtEnd self.old.course.seated
+            (progress self.old.course) (D.told self.old.desk) (S.told self.old.source)
+            (progress self.new.course) (D.told self.new.desk) (S.told self.new.source) }
+    {
+        turning::leave_at_end(&mut self.course, &mut self.desk, &mut self.source)
+    }
+}

@@ -1,0 +1,148 @@
+//! A session that runs, as a future.
+ghost use Rattle.std.specs.Prelude.{◌≡◌, ◌<◌, ◌≤◌, Some, IfSome};
+ghost use Rattle.acap_task.specs.Progress.{progress};
+ghost use Rattle.acap_task.specs.Waiting.{IsOver, EndsAt};
+
+use crate::bell::Bell;
+use crate::conn::Conn;
+use crate::desk::Desk;
+use crate::running::Running;
+use crate::source::Source;
+use crate::task_end::TaskEnd;
+use crate::turning::leave_at_end;
+use crate::wire::Wire;
+use acap_entries::Octets;
+use acap_login::Users;
+use futures::Future;
+use futures::task::{Context, Poll};
+use std::alloc::Global;
+
+/// A session that ended: how, the four that it stood on, and its steps. Its type keeps how what these tell fits the steps.
+#[derive(Drop)]
+pub struct Over<'u, W: Wire, D: Desk, S: Source, B: Bell> {
+    /// The session, with its steps and the four that it stood on.
+    pub running: Running<'u, W, D, S, B>,
+    /// How it ended.
+    pub end: TaskEnd,
+    /// How often it was polled.
+    pub polls: u64,
+    /// How often it might be polled.
+    pub turns: u64,
+    ghost bounded: { polls ≤ turns },
+    ghost over: { ∥ IsOver (record { users = running.users.now; host = running.host; user = running.user })
+        (W.told running.wire) (D.told running.desk) (S.told running.source) (B.told running.bell)
+        (progress running.course) end polls turns ∥₁ },
+}
+
+/// A session that runs, as a future (RFC 2244 section 2). Each poll makes at most 64 rounds; the last that it may have ends it. Its type
+/// keeps how what its wire, desk, source and bell tell fits its steps.
+#[derive(Drop)]
+pub struct SessionTask<'u, W: Wire, D: Desk, S: Source, B: Bell> {
+    /// The session, until it has ended.
+    pub running: Option<Running<'u, W, D, S, B>>,
+    /// How often it was polled.
+    pub polls: u64,
+    /// How often it may be polled.
+    pub turns: u64,
+    ghost bounded: { polls < turns },
+}
+
+impl<'u, W: Wire, D: Desk, S: Source, B: Bell> SessionTask<'u, W, D, S, B> {
+    ghost use Rattle.std.specs.Prelude.{◌≡◌, ◌<◌, IfSome, IsSome};
+    ghost use Rattle.acap_task.specs.Kept.{IsUntold};
+
+    /// A session at that host, over four that have told nothing yet, which may be polled so often. Where memory is refused for it, it ends
+    /// at its first poll.
+    pub fn new(
+        alloc: Global,
+        conn: Conn<W, S>,
+        desk: D,
+        bell: B,
+        users: &'u Users,
+        host: Octets,
+        turns: u64,
+    ) -> SessionTask<'u, W, D, S, B>
+        requires untold { IsUntold (W.told conn.wire) (D.told desk) (S.told conn.source) (B.told bell) }
+        requires turns { 0 < turns }
+        ensures count { (result.polls ≡ 0) × (result.turns ≡ turns) × IsSome result.running }
+        ensures terms { IfSome result.running (λ r. (r.users ≡ users.entry) × (r.host ≡ host) × (r.user ≡ conn.user)) }
+    {
+        SessionTask {
+            running: Some(Running::new(alloc, conn, desk, bell, users, host)),
+            polls: 0,
+            turns,
+        }
+    }
+}
+
+// A session's end: its seat is left, if it has one.
+fn end_as<'u, W: Wire, D: Desk, S: Source, B: Bell>(
+    running: Running<'u, W, D, S, B>,
+    end: TaskEnd,
+    polls: u64,
+    turns: u64,
+) -> Over<'u, W, D, S, B>
+    requires polls { polls ≤ turns }
+    requires ends { EndsAt end running.users.now (W.told running.wire) (progress running.course) polls turns }
+    ensures count { (result.turns ≡ turns) × (result.polls ≡ polls) }
+    ensures terms { (result.running.users ≡ running.entry.users) × (result.running.host ≡ running.entry.host)
+        × (result.running.user ≡ running.entry.user) }
+{
+    let mut running = running;
+    running.leave();
+    Over {
+        running,
+        end,
+        polls,
+        turns,
+    }
+}
+
+impl<'u, W: Wire, D: Desk, S: Source, B: Bell> SessionTask<'u, W, D, S, B> {
+    ghost use Rattle.std.specs.Prelude.{◌≡◌, ◌<◌, ◌≤◌, IfSome, IsSomeAnd};
+    ghost use Rattle.futures.specs.Poll.{IfReady, OnPending};
+    ghost use Rattle.futures.specs.Task.{IsArmed, Keeps};
+    ghost use Rattle.acap_task.specs.Progress.{progress};
+    ghost use Rattle.acap_task.specs.Waiting.{Waits};
+
+    /// One poll. Where it leaves the session waiting, the writer wasn't ready; or nothing is left to be done until its client or its
+    /// bell is ready; or at least 64 steps were made, so that others come to their turns. The last poll that the session may have ends it.
+    pub fn go_on(&mut self, cx: &mut Context<'_>) -> Poll<Over<'u, W, D, S, B>>
+        ensures over { IfReady result (λ over. (over.turns ≡ self.old.turns) × (self.old.polls < over.polls)
+            × IfSome self.old.running (λ r. (over.running.users ≡ r.users) × (over.running.host ≡ r.host)
+            × (over.running.user ≡ r.user))) }
+        ensures count { OnPending result ((self.new.turns ≡ self.old.turns) × (self.old.polls ≤ self.new.polls)) }
+        ensures waits { OnPending result (IfSome self.old.running (λ r. IsSomeAnd self.new.running (λ q.
+            (q.users ≡ r.users) × (q.host ≡ r.host) × (q.user ≡ r.user)
+            × Waits q.users.now (W.told r.wire) (W.told q.wire) (B.told r.bell) (B.told q.bell)
+            (progress r.course) (progress q.course)))) }
+        ensures armed { OnPending result (IsArmed cx.new) }
+        ensures kept { Keeps cx.old cx.new }
+    {
+        let turns = self.turns;
+        let polls = self.polls + 1;
+        let Some(mut running) = self.running.take() else {
+            return cx.yield_now();
+        };
+        match running.advance(cx) {
+            Poll::Ready(end) => Poll::Ready(end_as(running, end, polls, turns)),
+            Poll::Pending if polls < turns => {
+                self.polls = polls;
+                self.running = Some(running);
+                Poll::Pending
+            }
+            Poll::Pending => Poll::Ready(end_as(running, TaskEnd::TurnsSpent, polls, turns)),
+        }
+    }
+}
+
+impl<'u, W: Wire, D: Desk, S: Source, B: Bell> Future for SessionTask<'u, W, D, S, B> {
+    type Output = Over<'u, W, D, S, B>;
+
+    ghost gives = { λ t over. (over.turns ≡ t.turns) × (t.polls < over.polls)
+        × IfSome t.running (λ r. (over.running.users ≡ r.users) × (over.running.host ≡ r.host) × (over.running.user ≡ r.user)) };
+
+    fn poll(&mut self, cx: &mut Context<'_>) -> Poll<Over<'u, W, D, S, B>> {
+        self.go_on(cx)
+    }
+}

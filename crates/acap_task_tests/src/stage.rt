@@ -1,0 +1,191 @@
+//! What the tests stand on: a served machine, its passes, and sessions that run over wires in memory.
+ghost use Rattle.std.specs.Prelude.{◌≡◌, ◌<◌, IfOk};
+ghost use Rattle.acap_task.specs.Kept.{Agrees};
+ghost use Rattle.acap_task.specs.Told.{new_bell, new_wire};
+ghost use Rattle.acap_locked.specs.Shelf.{no_machine};
+
+use acap_commands::Event;
+use acap_entries::{Moment, Octets, Steps, UserName};
+use acap_locked::{Pass, Served, Site};
+use acap_login::Users;
+use acap_machine::State;
+use acap_rights::Realm;
+use acap_task::{
+    Bell, Chime, Conn, MemBell, MemWire, Over, PassDesk, Plan, Ringer, SessionTask, Source,
+    TaskEnd, Transfer,
+};
+use futures::executor::block_on;
+use std::alloc::{AllocGlobal, Global};
+use std::collections::VecDeque;
+use std::io;
+use std::random::RandomSource;
+use std::sync::Wait;
+use std::sync::ledger::{Blank, Ledger};
+
+/// The greeting of each session.
+pub(crate) const HELLO: &[u8] =
+    b"* ACAP (IMPLEMENTATION \"acapd\") (SASL \"CRAM-MD5\") (CONTEXTLIMIT \"200\")\r\n";
+
+/// A clock that stands still, and one nonce.
+#[derive(Drop)]
+pub(crate) struct Still {
+    pub(crate) clock: Moment,
+    pub(crate) nonce: u64,
+}
+
+impl Source for Still {
+    ghost use Rattle.std.specs.Prelude.{None};
+
+    ghost told = { λ _. record { moments = None; nonces = None } };
+
+    fn moment(&mut self) -> Moment {
+        self.clock
+    }
+
+    fn nonce(&mut self) -> u64 {
+        self.nonce
+    }
+}
+
+/// Bells that nobody hears.
+#[derive(Drop)]
+pub(crate) struct Silent;
+
+impl Ringer for Silent {
+    fn ring(&self, _seats: u64) {}
+}
+
+/// What came of a session.
+#[derive(Drop)]
+pub(crate) struct Done<S: Site> {
+    /// Its pass.
+    pub(crate) pass: Pass<S>,
+    /// What its wire wrote.
+    pub(crate) output: Vec<u8>,
+    /// How it ended.
+    pub(crate) end: TaskEnd,
+    /// How often it was polled.
+    pub(crate) polls: u64,
+    /// Whether its last call was a Leave, or it made none.
+    pub(crate) left: bool,
+}
+
+/// A plan of one act, so many times, and of another from then on.
+pub(crate) fn plan<T: Copy + Drop>(
+    alloc: Global,
+    count: usize,
+    first: T,
+    always: T,
+) -> io::Result<Plan<T>> {
+    let mut acts = VecDeque::new(alloc);
+    for _ in 0..count {
+        acts.push_back(first)?;
+    }
+    Ok(Plan::new(acts, always))
+}
+
+/// A wire that moves so many octets at once.
+pub(crate) fn wire(alloc: Global, input: &[u8], width: usize) -> io::Result<MemWire>
+    ensures { IfOk result (λ w. w.told ≡ new_wire) }
+{
+    let reads = plan(alloc, 0, Transfer::Waits, Transfer::Moves(width))?;
+    let writes = plan(alloc, 0, Transfer::Waits, Transfer::Moves(width))?;
+    let mut octets = Vec::new(alloc);
+    octets.extend_from_slice(input)?;
+    Ok(MemWire::new(alloc, octets, reads, writes))
+}
+
+/// A bell that never rings.
+pub(crate) fn no_bell(alloc: Global) -> io::Result<MemBell>
+    ensures { IfOk result (λ b. b.0 ≡ new_bell) }
+{
+    Ok(MemBell::new(plan(alloc, 0, Chime::Waits, Chime::Ends)?))
+}
+
+/// A session of that user, or of nobody, from its beginning to its end.
+pub(crate) fn run<'a, S, L, R, B>(
+    rt: &'a R,
+    served: &'a Served<S, L>,
+    pass: Pass<S>,
+    users: &'a Users,
+    user: Option<&[u8]>,
+    wire: MemWire,
+    bell: B,
+    turns: u64,
+) -> io::Result<Done<S>>
+where
+    S: Site,
+    L: Ledger,
+    R: Wait + RandomSource + AllocGlobal,
+    B: Bell,
+    requires wire { wire.told ≡ new_wire }
+    requires bell { Agrees (B.told bell).rings 0 }
+    requires turns { 0 < turns }
+{
+    let alloc = rt.alloc();
+    let user = match user {
+        Some(name) => UserName::read(alloc, name).ok(),
+        None => None,
+    };
+    let source = Still {
+        clock: Moment::new(697_170_952_000_000).unwrap_or(Moment::first()),
+        nonce: 1896,
+    };
+    let mut host = Vec::new(alloc);
+    host.extend_from_slice(b"postoffice.reston.mci.net")?;
+    let desk = PassDesk::new(alloc, rt, served, &Silent, pass);
+    let conn = Conn { wire, user, source };
+    let task = SessionTask::new(
+        alloc,
+        conn,
+        desk,
+        bell,
+        users,
+        Octets::from_vec(host),
+        turns,
+    );
+    let Over {
+        running,
+        end,
+        polls,
+        ..
+    } = block_on(rt, task)?;
+    let mut output = Vec::new(alloc);
+    output.extend_from_slice(running.wire.output())?;
+    let left = match running.desk.calls.last() {
+        Some(item) => matches!(item.event(), Event::Leave),
+        None => true,
+    };
+    Ok(Done {
+        pass: running.desk.into_seating().pass,
+        output,
+        end,
+        polls,
+        left,
+    })
+}
+
+/// A machine without users, served, with its passes.
+pub(crate) fn serve<S: Site, L: Ledger>(
+    alloc: Global,
+    blank: Blank,
+    state: State,
+    counter: Blank,
+) -> Option<(Served<S, L>, Vec<Pass<S>>)>
+    requires name { blank.name ≡ S.name }
+    requires parts { blank.parts ≡ S.parts }
+    requires seats { blank.parts ≡ 64 }
+    requires base { state.machine ≡ S.base }
+    requires counter_name { counter.name ≡ L.name }
+    requires counter_parts { counter.parts ≡ L.parts }
+    requires some { 0 < L.parts }
+{
+    Served::new(alloc, blank, state, Steps::<L>::new(counter)).ok()
+}
+
+/// An empty machine without administrators.
+pub(crate) fn empty(alloc: Global) -> State
+    ensures { result.machine ≡ no_machine }
+{
+    State::new(alloc, Realm::new(Vec::new(alloc), Vec::new(alloc)))
+}
