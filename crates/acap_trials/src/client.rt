@@ -4,8 +4,8 @@ use crate::dice::Quest;
 use crate::world::World;
 use crate::wrong::Wrong;
 use acap_commands::{Refusal, Rows, Said, Tolds};
-use acap_entries::{Row, Steps};
-use acap_notices::{Held, Notice, Told, is_each_once};
+use acap_entries::{Copying, Row, Steps};
+use acap_notices::{Held, Told, is_each_once};
 use std::alloc::Global;
 use std::sync::ledger::Ledger;
 
@@ -60,6 +60,20 @@ impl Client {
         }
     }
 
+    /// The same client once more.
+    pub(crate) fn copy(&self, alloc: Global) -> Result<Client, Wrong> {
+        let mut rows = Rows::new(alloc);
+        for row in self.held.rows() {
+            rows.push(row.copy()?)?;
+        }
+        Ok(Client {
+            seat: self.seat,
+            name: self.name,
+            quest: self.quest.copy(alloc)?,
+            held: held_of(rows, self.quest.enumerated)?,
+        })
+    }
+
     // The rows that its user finds now.
     fn found<L: Ledger>(&self, world: &mut World, steps: &mut Steps<L>) -> Result<Rows, Wrong> {
         let line = self.quest.searching(world.alloc)?;
@@ -79,12 +93,16 @@ impl Client {
         }
     }
 
-    /// When it was told all: it holds what its user finds, and so does its context.
-    pub(crate) fn check<L: Ledger>(
-        &self,
+    /// It hears what is told at its seat. Then it holds what its user finds, and so does its context.
+    pub(crate) fn hear<L: Ledger>(
+        &mut self,
+        tolds: &Tolds,
         world: &mut World,
         steps: &mut Steps<L>,
     ) -> Result<(), Wrong> {
+        for told in tolds.as_slice() {
+            self.apply(told)?;
+        }
         let rows = self.found(world, steps)?;
         if !has_rows(self.held.rows(), rows.as_slice(), self.quest.enumerated) {
             return Err(Wrong::Held);
@@ -95,37 +113,14 @@ impl Client {
         Ok(())
     }
 
-    // It hears a notice at a seat, if it is of its context.
-    fn hear(&mut self, seat: u8, name: &[u8], notice: &Notice) -> Result<(), Wrong> {
-        if self.seat != seat || name != [self.name].as_slice() {
-            return Ok(());
-        }
-        Ok(self.held.apply(notice)?)
-    }
-}
-
-// All clients hear a notice at a seat.
-fn hear_notice(
-    clients: &mut Vec<Client>,
-    seat: u8,
-    name: &[u8],
-    notice: &Notice,
-) -> Result<(), Wrong> {
-    for client in clients.iter_mut() {
-        client.hear(seat, name, notice)?;
-    }
-    Ok(())
-}
-
-/// All clients hear what is told at a seat. For how many contexts it ends with a moment.
-pub(crate) fn hear(clients: &mut Vec<Client>, seat: u8, tolds: &Tolds) -> Result<usize, Wrong> {
-    let mut moments = 0usize;
-    for told in tolds.as_slice() {
+    // It hears one thing that is told at its seat.
+    fn apply(&mut self, told: &Told) -> Result<(), Wrong> {
         match told {
-            Told::Note(name, notice) => hear_notice(clients, seat, name.as_slice(), notice)?,
-            Told::Upto(_, _) => moments = moments.saturating_add(1),
-            Told::Freed(_) => return Err(Wrong::Freed),
+            Told::Note(name, notice) if name.as_slice() == [self.name].as_slice() => {
+                Ok(self.held.apply(notice)?)
+            }
+            Told::Freed(_) => Err(Wrong::Freed),
+            _ => Ok(()),
         }
     }
-    Ok(moments)
 }

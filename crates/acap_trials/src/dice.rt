@@ -99,8 +99,21 @@ pub(crate) fn joined(alloc: Global, parts: &[&[u8]]) -> Result<Vec<u8>, Memory> 
 }
 
 impl Quest {
-    // A line's front, then what is told, and the rest of the search.
-    fn told(&self, mut line: Vec<u8>) -> Result<Vec<u8>, Memory> {
+    /// The same search once more.
+    pub(crate) fn copy(&self, alloc: Global) -> Result<Quest, Memory> {
+        Ok(Quest {
+            front: joined(alloc, &[&self.front])?,
+            returns: self.returns,
+            back: joined(alloc, &[&self.back])?,
+            enumerated: self.enumerated,
+        })
+    }
+
+    // The search, with some words behind its dataset.
+    fn line(&self, alloc: Global, words: &[u8]) -> Result<Vec<u8>, Memory> {
+        let mut line = Vec::new(alloc);
+        line.extend_from_slice(self.front.as_slice())?;
+        line.extend_from_slice(words)?;
         line.extend_from_slice(self.returns)?;
         line.extend_from_slice(self.back.as_slice())?;
         Ok(line)
@@ -108,32 +121,27 @@ impl Quest {
 
     /// The search.
     pub(crate) fn searching(&self, alloc: Global) -> Result<Vec<u8>, Memory> {
-        let mut line = Vec::new(alloc);
-        line.extend_from_slice(self.front.as_slice())?;
-        self.told(line)
+        self.line(alloc, b"")
     }
 
     /// The search that makes a context, whose name is one letter.
     pub(crate) fn making(&self, alloc: Global, name: u8) -> Result<Vec<u8>, Memory> {
-        let mut line = Vec::new(alloc);
-        line.extend_from_slice(self.front.as_slice())?;
-        line.extend_from_slice(b" MAKECONTEXT ")?;
+        let mut words = Vec::new(alloc);
+        words.extend_from_slice(b" MAKECONTEXT ")?;
         if self.enumerated {
-            line.extend_from_slice(b"ENUMERATE ")?;
+            words.extend_from_slice(b"ENUMERATE ")?;
         }
-        line.extend_from_slice(&[b'N', b'O', b'T', b'I', b'F', b'Y', b' ', b'"', name, b'"'])?;
-        self.told(line)
+        words.extend_from_slice(b"NOTIFY ")?;
+        words.extend_from_slice(&[b'"', name, b'"'])?;
+        self.line(alloc, words.as_slice())
     }
 
     /// A search for all that is in such a context.
     pub(crate) fn within(&self, alloc: Global, name: u8) -> Result<Vec<u8>, Memory> {
-        let mut line = Vec::new(alloc);
-        line.extend_from_slice(&[
-            b'T', b' ', b'S', b'E', b'A', b'R', b'C', b'H', b' ', b'"', name, b'"',
-        ])?;
-        line.extend_from_slice(self.returns)?;
-        line.extend_from_slice(b" ALL")?;
-        Ok(line)
+        joined(
+            alloc,
+            &[b"T SEARCH \"", &[name, b'"'], self.returns, b" ALL"],
+        )
     }
 }
 

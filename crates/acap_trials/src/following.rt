@@ -1,22 +1,21 @@
 //! Clients follow random changes of a store with inheritance and lists of rights.
 ghost use Rattle.std.specs.Prelude.{◌≡◌, ◌<◌};
 
-use crate::client::{Client, hear};
+use crate::client::Client;
 use crate::dice::{Dice, joined};
 use crate::world::World;
 use crate::wrong::Wrong;
-use acap_commands::Said;
+use acap_commands::{Said, Tolds};
 use acap_entries::{Memory, Steps};
+use acap_notices::Told;
 use std::alloc::Global;
 use std::marker::Brand;
 use std::sync::ledger::{Blank, Ledger};
 
 /// What stands before the first random change.
-const FIRST: [(u8, &[u8]); 6] = [
-    (
-        1,
-        b"T STORE (\"/option/user/joe/a/m\" \"k\" \"1\") (\"/option/user/joe/a/x/m\" \"k\" \"2\")",
-    ),
+const FIRST: [(u8, &[u8]); 7] = [
+    (1, b"T STORE (\"/option/user/joe/a/m\" \"k\" \"1\")"),
+    (1, b"T STORE (\"/option/user/joe/a/x/m\" \"k\" \"2\")"),
     (1, b"T STORE (\"/option/user/joe/b/m\" \"k\" \"1\")"),
     (3, b"T STORE (\"/option/user/ann/a/m\" \"k\" \"3\")"),
     (1, b"T SETACL (\"/option/user/joe/a/\") \"ann\" \"xrwi\""),
@@ -26,9 +25,6 @@ const FIRST: [(u8, &[u8]); 6] = [
         b"T STORE (\"/option/user/joe/b/\" \"dataset.inherit\" \"/option/user/joe/a/\")",
     ),
 ];
-
-/// The names of each seat's contexts.
-const NAMES: &[u8] = b"de";
 
 /// A machine, its clients, and what is sent next.
 #[derive(Drop)]
@@ -45,6 +41,17 @@ impl Trial {
             dice: Dice::new(seed),
             clients: Vec::new(alloc),
         }
+    }
+
+    // Where it stands, on an equal machine.
+    fn copy(&self) -> Result<Trial, Wrong> {
+        let mut trial = Trial::new(self.world.alloc, 0);
+        trial.world = self.world.copy()?;
+        for client in &self.clients {
+            let client = client.copy(self.world.alloc)?;
+            trial.clients.push(client).map_err(|_| Wrong::Memory)?;
+        }
+        Ok(trial)
     }
 
     // Three seats of two users, and the first datasets.
@@ -71,27 +78,29 @@ impl Trial {
         Ok(())
     }
 
-    // A seat's clients make their contexts.
-    fn open_seat<L: Ledger>(&mut self, seat: u8, steps: &mut Steps<L>) -> Result<(), Wrong> {
-        for name in NAMES {
-            self.open(seat, *name, steps)?;
-        }
-        Ok(())
-    }
-
-    // All clients make theirs.
+    // All clients make theirs: at each of three seats two, "d" and "e".
     fn open_all<L: Ledger>(&mut self, steps: &mut Steps<L>) -> Result<(), Wrong> {
-        for seat in 1..4u8 {
-            self.open_seat(seat, steps)?;
+        for number in 0..6u8 {
+            self.open(number % 3 + 1, b'd' + number / 3, steps)?;
         }
         Ok(())
     }
 
-    // Each client of a seat is told all: it holds what is found.
-    fn check<L: Ledger>(&mut self, seat: u8, steps: &mut Steps<L>) -> Result<(), Wrong> {
-        for client in &self.clients {
+    // A seat's clients hear what is told there, with so many moments.
+    fn hear<L: Ledger>(
+        &mut self,
+        seat: u8,
+        tolds: &Tolds,
+        moments: usize,
+        steps: &mut Steps<L>,
+    ) -> Result<(), Wrong> {
+        let is_moment = |told: &&Told| matches!(told, Told::Upto(_, _));
+        if tolds.as_slice().iter().filter(is_moment).count() != moments {
+            return Err(Wrong::Moments);
+        }
+        for client in self.clients.iter_mut() {
             if client.seat == seat {
-                client.check(&mut self.world, steps)?;
+                client.hear(tolds, &mut self.world, steps)?;
             }
         }
         Ok(())
@@ -99,14 +108,8 @@ impl Trial {
 
     // A seat is told what waits.
     fn drain<L: Ledger>(&mut self, seat: u8, steps: &mut Steps<L>) -> Result<(), Wrong> {
-        let waits = self.world.waits(seat);
-        let Said::Drained(tolds) = self.world.drain(seat, steps)? else {
-            return Err(Wrong::Answer);
-        };
-        if waits == tolds.is_empty() || hear(&mut self.clients, seat, &tolds)? != 0 {
-            return Err(Wrong::Waiting);
-        }
-        self.check(seat, steps)
+        let tolds = self.world.drain(seat, steps)?;
+        self.hear(seat, &tolds, 0, steps)
     }
 
     // The line that asks for what waits of a seat's contexts, and how many these are.
@@ -132,10 +135,7 @@ impl Trial {
         let Said::Updated(tolds) = self.world.send(seat, line.as_slice(), steps)? else {
             return Err(Wrong::Answer);
         };
-        if hear(&mut self.clients, seat, &tolds)? != count {
-            return Err(Wrong::Moments);
-        }
-        self.check(seat, steps)
+        self.hear(seat, &tolds, count, steps)
     }
 
     // A random change. Whether it isn't refused.
@@ -149,9 +149,11 @@ impl Trial {
         }
     }
 
-    // Some seats are told what waits.
+    // Each seat is told what waits, on a copy, and some of them are told here.
     fn tell<L: Ledger>(&mut self, steps: &mut Steps<L>) -> Result<(), Wrong> {
+        let mut ahead = self.copy()?;
         for seat in 1..4u8 {
+            ahead.drain(seat, steps)?;
             match self.dice.under(12) {
                 0 => self.drain(seat, steps)?,
                 1 => self.update(seat, steps)?,
@@ -220,12 +222,12 @@ fn trouble<L: Ledger>(
     }
 }
 
-/// So many changes follow each seed. With checked memory a change takes up to a tenth of a second.
+/// So many changes follow each seed. With checked memory all of them take some minutes.
 const CHANGES: usize = 50;
 
 #[test]
 fn follows_changes(rt: HostRuntime) {
-    for seed in 1..5u64 {
+    for seed in 1..41u64 {
         if let Some((wrong, sent)) = trouble::<Brand>(rt.alloc(), Blank::new(1), seed, CHANGES) {
             let text = String::from_utf8(sent).unwrap_or(String::new(rt.alloc()));
             let _printed = println!(rt; "seed {seed}\n{text}");

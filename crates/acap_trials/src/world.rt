@@ -1,7 +1,7 @@
 //! A machine, and what was sent to it.
 
 use crate::wrong::Wrong;
-use acap_commands::{Command, Event, Said};
+use acap_commands::{Command, Event, Said, Tolds};
 use acap_entries::{Memory, Moment, Seat, Steps, UserName};
 use acap_grammar::{GrammarError, parse};
 use acap_lexer::{Lexed, Lexer, Mode};
@@ -47,6 +47,13 @@ impl World {
             machine: State::new(alloc, Realm::new(Vec::new(alloc), Vec::new(alloc))),
             sent: Vec::new(alloc),
         }
+    }
+
+    /// An equal machine, to which nothing was sent.
+    pub(crate) fn copy(&self) -> Result<World, Memory> {
+        let mut world = World::new(self.alloc);
+        world.machine = self.machine.copy()?;
+        Ok(world)
     }
 
     /// What was sent.
@@ -104,18 +111,20 @@ impl World {
         self.answer(number, Event::Command(command), steps)
     }
 
-    /// What is told at a seat without being asked for.
+    /// What is told at a seat without being asked for: something exactly where its bit says so.
     pub(crate) fn drain<L: Ledger>(
         &mut self,
         number: u8,
         steps: &mut Steps<L>,
-    ) -> Result<Said, Wrong> {
+    ) -> Result<Tolds, Wrong> {
         self.keep(b"drain", number, b"")?;
-        self.answer(number, Event::Drain, steps)
-    }
-
-    /// Whether something is to be told at a seat.
-    pub(crate) fn waits(&self, number: u8) -> bool {
-        (self.machine.waiting() >> number.min(63)) & 1 == 1
+        let waits = (self.machine.waiting() >> number.min(63)) & 1 == 1;
+        let Said::Drained(tolds) = self.answer(number, Event::Drain, steps)? else {
+            return Err(Wrong::Answer);
+        };
+        if waits == tolds.is_empty() {
+            return Err(Wrong::Waiting);
+        }
+        Ok(tolds)
     }
 }

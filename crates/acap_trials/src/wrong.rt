@@ -23,7 +23,7 @@ pub(crate) enum Wrong {
     Freed,
     /// Something was told though nothing was waiting, or nothing though something was.
     Waiting,
-    /// An UPDATECONTEXT doesn't end with a moment for each context.
+    /// An UPDATECONTEXT doesn't end with a moment for each context, or a drain has one.
     Moments,
     /// A client holds other rows than a search finds.
     Held,
