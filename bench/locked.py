@@ -1,14 +1,26 @@
 #!/usr/bin/env python3
 """Makes calls through the passes of one served machine (`acap_locked`), and checks what is answered and what closing tells.
 
-    python3 bench/locked.py
+    python3 bench/locked.py rows              # calls, passes that are missing, bells, epochs and threads
+    python3 bench/locked.py last              # what is answered where no further epoch can begin
+    python3 bench/locked.py build PROGRAM     # proves the program, and builds it without checks
+    python3 bench/locked.py refuse PROGRAM    # each allocation of one call is refused in turn
+    python3 bench/locked.py figures PROGRAM   # time and memory
 
-It clones the repository, adds a program to the clone, and runs it there by `rt try`: unproved, with checks at run time. A row is a
-list of lines. `N enter USER`, `N drain`, `N leave` and `N COMMAND` are calls through pass N; what is printed of one is the pass, the epoch, the
-place, the seats that are rung (a bit for each), and the reply. `threads COUNT` makes so many drains through each of the last two passes, in
-two threads. `without N` takes pass N away. At the end the book is closed with the passes that are left.
+It clones the repository and adds a program to the clone. `rows` and `last` run it there by `rt try`: unproved, with checks at run
+time. `build` uses what `rt check` has proved of the crates below.
+
+A row is a list of lines. `N enter USER`, `N drain`, `N drains COUNT`, `N leave` and `N COMMAND` are calls through pass N; what is
+printed of one is the pass, the epoch, the place, the seats that are rung (a bit for each), and the reply. `now CALL` tells the time of
+the call, and makes it once more where memory is refused; `once CALL` doesn't. `threads COUNT` makes so many drains through each of the
+last two passes, in two threads. `without N` takes pass N away. At the end the book is closed with the passes that are left.
 """
+import argparse
+import difflib
+import os
 import pathlib
+import re
+import shutil
 import subprocess
 import sys
 import tempfile
@@ -19,11 +31,11 @@ PROGRAM = r"""
 
 ghost use Rattle.std.specs.Prelude.{◌≡◌, ◌<◌};
 
-use acap_commands::{Command, Event, Fault};
+use acap_commands::{Command, Event, Fault, Reply};
 use acap_entries::{Memory, Moment, Steps, UserName};
 use acap_grammar::{parse, render};
 use acap_lexer::{Lexed, Lexer, Mode};
-use acap_locked::{Answer, CloseFault, Pass, Report, Served, Site};
+use acap_locked::{Answer, CloseFault, Entry, Held, Pass, Report, Served, Site};
 use acap_machine::State;
 use acap_rights::Realm;
 use std::alloc::Global;
@@ -32,6 +44,7 @@ use std::process::ExitCode;
 use std::sync::Wait;
 use std::sync::ledger::{Blank, Ledger};
 use std::thread::Threads;
+use std::time::Instant;
 use std::{env, fs, io, thread};
 
 fn command_of(alloc: Global, line: &[u8]) -> Result<Command, Memory> {
@@ -90,18 +103,47 @@ fn fault_word(fault: Fault) -> &'static str {
     }
 }
 
+fn printed(alloc: Global, reply: &Reply) -> Option<String> {
+    let mut out = Vec::new(alloc);
+    render(reply, &mut out).ok()?;
+    String::from_utf8(out).ok()
+}
+
 fn tell(rt: &HostRuntime, number: usize, answer: Result<Answer, Fault>) -> io::Result<()> {
     match answer {
         Ok(answer) => {
-            let mut out = Vec::new(rt.alloc());
-            if render(&answer.reply, &mut out).is_err() && render(&answer.reply, &mut out).is_err() {
-                return println!(rt; "unprinted");
-            }
-            let text = std::str::from_utf8(out.as_slice()).unwrap_or("?");
-            println!(rt; "{number}: {} {} {} {}", answer.epoch, answer.place, answer.rings, text)
+            let text = printed(rt.alloc(), &answer.reply).unwrap_or(String::new(rt.alloc()));
+            println!(rt; "{number}: {} {} {} {text}", answer.epoch, answer.place, answer.rings)
         }
         Err(fault) => println!(rt; "{number}: {}", fault_word(fault)),
     }
+}
+
+// One call, between two lines that say so. Where it is refused memory and is to be made again, it is.
+fn marked_call<S: Site, L: Ledger>(
+    rt: &HostRuntime,
+    handle: &impl Wait,
+    served: &Served<S, L>,
+    pass: &mut Pass<S>,
+    number: usize,
+    text: &[u8],
+    again: bool,
+) -> io::Result<()> {
+    let (Ok(one), Ok(other)) = (event_of(rt.alloc(), text), event_of(rt.alloc(), text)) else {
+        return println!(rt; "unread");
+    };
+    println!(rt; "-- now")?;
+    let begin = Instant::now(rt)?;
+    let answer = served.call(handle, pass, one, Moment::first());
+    let took = begin.elapsed(rt)?;
+    println!(rt; "-- done")?;
+    let is_refused = matches!(answer, Err(Fault::Memory));
+    tell(rt, number, answer)?;
+    println!(rt; "took {}", took.as_nanos())?;
+    if is_refused && again {
+        return tell(rt, number, served.call(handle, pass, other, Moment::first()));
+    }
+    Ok(())
 }
 
 // Drains, so many times. Gives the last answer.
@@ -153,21 +195,38 @@ fn two_threads<S: Site + Send + Sync, L: Ledger + Send + Sync, R: Threads + Wait
     Ok(())
 }
 
+// The calls of a short history.
+fn tell_history(rt: &HostRuntime, history: &[Entry]) -> io::Result<()> {
+    if history.len() > 100 {
+        return Ok(());
+    }
+    for entry in history {
+        let text = printed(rt.alloc(), &entry.exchange.call().reply).unwrap_or(String::new(rt.alloc()));
+        println!(rt; "was {}: {text}", entry.seat.number())?;
+    }
+    Ok(())
+}
+
+fn tell_held(rt: &HostRuntime, held: &Held) -> io::Result<()> {
+    if held.items.len() > 0 || held.retired > 0 {
+        println!(rt; "pass {}: {} items, {} retired", held.seat.number(), held.items.len(), held.retired)?;
+    }
+    Ok(())
+}
+
 fn tell_report(rt: &HostRuntime, report: Result<Report, CloseFault>) -> io::Result<()> {
     match report {
         Ok(report) => {
             println!(rt; "closed: epoch {}, {} calls", report.epoch, report.history.len())?;
             for held in report.passes.as_slice() {
-                if held.items.len() > 0 || held.retired > 0 {
-                    println!(rt; "pass {}: {} items, {} retired", held.seat.number(), held.items.len(), held.retired)?;
-                }
+                tell_held(rt, held)?;
             }
             for count in report.retired.as_slice() {
                 if *count > 0 {
                     println!(rt; "retired: {count}")?;
                 }
             }
-            Ok(())
+            tell_history(rt, report.history.as_slice())
         }
         Err(CloseFault::PassMissing(seat)) => println!(rt; "missing {}", seat.number()),
         Err(CloseFault::Unequal(seat)) => println!(rt; "unequal {}", seat.number()),
@@ -188,6 +247,10 @@ fn run_line<S: Site + Send + Sync, L: Ledger + Send + Sync, R: Threads + Wait + 
     if word == "threads" {
         return two_threads(rt, handle, served, passes, text.parse::<u64>().unwrap_or(0));
     }
+    let (word, text, mark) = match (word, text.split_once(" ")) {
+        ("now" | "once", Some((number, text))) => (number, text, word),
+        _ => (word, text, ""),
+    };
     if word == "without" {
         let number = text.parse::<usize>().unwrap_or(0);
         if number < passes.len() {
@@ -199,6 +262,9 @@ fn run_line<S: Site + Send + Sync, L: Ledger + Send + Sync, R: Threads + Wait + 
     let Some(pass) = passes.get_mut(number) else {
         return println!(rt; "no pass");
     };
+    if mark != "" {
+        return marked_call(rt, handle, served, pass, number, text.as_bytes(), mark == "now");
+    }
     let answer = match text.strip_prefix("drains ") {
         Some(count) => drains(handle, served, pass, count.parse::<u64>().unwrap_or(0)),
         None => call_again(handle, rt.alloc(), served, pass, text.as_bytes()),
@@ -230,26 +296,51 @@ fn run<S: Site + Send + Sync, L: Ledger + Send + Sync, R: Threads + Wait + Sync>
     for line in text.as_str().lines() {
         run_line(rt, handle, &served, &mut passes, line)?;
     }
-    tell_report(rt, served.close(passes))
+    let begin = Instant::now(rt)?;
+    let report = served.close(passes);
+    let took = begin.elapsed(rt)?;
+    tell_report(rt, report)?;
+    println!(rt; "took {}", took.as_nanos())
 }
 
-fn day<R: Threads + Wait + Sync>(rt: &HostRuntime, handle: &R) -> io::Result<()> {
+// The calls of one file.
+fn one_day<R: Threads + Wait + Sync>(rt: &HostRuntime, handle: &R, file: &str) -> io::Result<()> {
     let alloc = rt.alloc();
+    let state = State::new(alloc, Realm::new(Vec::new(alloc), Vec::new(alloc)));
+    println!(rt; "-- {file}")?;
+    run::<Brand, Brand, R>(rt, handle, Blank::new(64), state, Blank::new(1), file)
+}
+
+fn days<R: Threads + Wait + Sync>(rt: &HostRuntime, handle: &R) -> io::Result<()> {
     let mut words = env::args(rt)?;
     let _program = words.next();
     for word in words {
-        let state = State::new(alloc, Realm::new(Vec::new(alloc), Vec::new(alloc)));
-        println!(rt; "-- {word}")?;
-        run::<Brand, Brand, R>(rt, handle, Blank::new(64), state, Blank::new(1), word.as_str())?;
+        one_day(rt, handle, word.as_str())?;
     }
     Ok(())
 }
 
 fn main(rt: HostRuntime) -> io::Result<ExitCode> {
-    day(&rt, &rt)?;
+    days(&rt, &rt)?;
     Ok(ExitCode::SUCCESS)
 }
 """
+
+PROOFS = {
+    "Lib.antt": "",
+    "one_day/Invariants.antt": r"""
+use Rattle.locked_runs.proofs.one_day.Given as goal
+
+abbrev pub ghosts-run-S-Site : goal.ghosts-run-S-Site
+ghosts-run-S-Site g a = record { base = a.state }
+
+abbrev pub ghosts-run-S-Ledger : goal.ghosts-run-S-Ledger
+ghosts-run-S-Ledger g a = record { name = a.blank.name; parts = a.blank.parts }
+
+abbrev pub ghosts-run-L-Ledger : goal.ghosts-run-L-Ledger
+ghosts-run-L-Ledger g a = record { name = a.counter.name; parts = a.counter.parts }
+""",
+}
 
 HELLO = '* ACAP (IMPLEMENTATION "acapd") (SASL "CRAM-MD5") (CONTEXTLIMIT "200")'
 
@@ -295,40 +386,292 @@ ROWS = {
 }
 
 
-def run(top):
-    """What the program prints of each row, run in a clone."""
+# The history is never emptied: the book begins at the last epoch.
+LAST = ("epoch: 0,\n            base,", "epoch: MOST,\n            base,")
+MOST = 2 ** 62
+
+LAST_ROWS = {
+    # the 1,000,000th call is the last one, and before it faults are told as ever
+    "the last epoch": ([("0 enter joe", f"0: {MOST} 0 0 {HELLO}"), ("0 drains 999998", f"0: {MOST} 999998 0"), ("1 drain", "1: not entered"),
+                        ("0 enter joe", "0: already entered"), ("0 drain", f"0: {MOST} 999999 0"), ("0 drain", "0: history full"),
+                        ("1 drain", "1: history full"), ("0 enter joe", "0: history full"), ("0 leave", "0: history full"),
+                        ('0 A1 STORE ("/option/~/n" "option.value" "mono")', "0: history full"), ("0 leave", "0: history full")],
+                       [f"closed: epoch {MOST}, 1000000 calls", "pass 0: 1000000 items, 0 retired"]),
+}
+
+# ---- each allocation of one call is refused in turn
+
+# Joe's entries, three contexts that show them, one of them by way of inheritance, and notices that wait for two seats.
+PREPARED = [
+    "0 enter joe",
+    "1 enter ann",
+    '0 A1 STORE ("/option/~/a" "k" "1" "l" "x") ("/option/~/b" "k" "2" "l" ("value" ("y" "z"))) ("/option/~/c" "k" "3")',
+    '0 A2 SETACL ("/option/~/") "ann" "r"',
+    '1 B1 STORE ("/option/~/" "dataset.inherit" "/option/user/joe/") ("/option/~/own" "k" "2")',
+    '0 A3 SEARCH "/option/~/" MAKECONTEXT ENUMERATE NOTIFY "v" RETURN ("k" "l") SORT ("k" "i;ascii-numeric") ALL',
+    '1 B2 SEARCH "/option/~/" MAKECONTEXT ENUMERATE NOTIFY "v" RETURN ("k") SORT ("k" "-i;octet") ALL',
+    '1 B3 SEARCH "/option/user/joe/" DEPTH 0 MAKECONTEXT NOTIFY "w" RETURN ("*") NOT EQUAL "k" "i;octet" "9"',
+    '0 A4 STORE ("/option/~/a" "k" "5") ("/option/~/f" "k" "6")',
+]
+# What is looked at afterwards: whose bell a change rings, what waits, what is found, what the contexts show.
+AFTER = [
+    '0 A6 STORE ("/option/~/c" "k" "8")',
+    "1 drain",
+    '0 A7 STORE ("/option/~/c" "k" "7")',
+    '0 A8 SEARCH "/option/~/" RETURN ("*") ALL',
+    '0 A9 SEARCH "v" RETURN ("k") ALL',
+    '1 B6 SEARCH "v" RETURN ("k") ALL',
+    '1 B7 SEARCH "w" RETURN ("k") ALL',
+    '1 B8 UPDATECONTEXT "v"',
+    "0 drain",
+    "1 drain",
+    "2 drain",
+    '1 B9 MYRIGHTS ("/option/user/joe/" "entry" "a")',
+]
+REFUSED = {
+    "a STORE that changes three contexts":
+        '0 A5 STORE ("/option/~/a" "k" "4") ("/option/~/b" "entry" NIL) ("/option/~/c" "k" "9") ("/option/~/d" "k" "0")',
+    "MAKECONTEXT over an old name": '1 B5 SEARCH "/option/~/" MAKECONTEXT ENUMERATE NOTIFY "v" RETURN ("k" "modtime") SORT ("k" "i;octet") ALL',
+    "UPDATECONTEXT of two names": '1 B5 UPDATECONTEXT "v" "w"',
+    "SETACL": '0 A5 SETACL ("/option/~/" "entry" "a") "ann" "x"',
+    "Enter": "2 enter joe",
+    "Drain": "1 drain",
+    "Leave": "1 leave",
+    "FREECONTEXT": '1 B5 FREECONTEXT "w"',
+    "a SEARCH of a context": '1 B5 SEARCH "v" RETURN ("k") ALL',
+}
+# 500,000 calls, so that the next one begins an epoch.
+LONG = ["0 enter joe", '0 A1 STORE ("/option/~/n" "option.value" "mono")', "0 drains 499998"]
+
+REFUSER = r"""
+#define _GNU_SOURCE
+#include <dlfcn.h>
+#include <errno.h>
+#include <malloc.h>
+#include <stdio.h>
+#include <stdlib.h>
+#include <string.h>
+#include <unistd.h>
+static long asked, at = -1, is_open;
+static void *(*real_malloc)(size_t), *(*real_realloc)(void *, size_t), *(*real_calloc)(size_t, size_t);
+static int (*real_align)(void **, size_t, size_t);
+static void *(*real_aligned)(size_t, size_t);
+static ssize_t (*real_write)(int, const void *, size_t);
+#define REAL(x, name) if (!x) x = dlsym(RTLD_NEXT, name)
+static int refused(void) {
+    if (!is_open) return 0;
+    if (at < 0) { char *n = getenv("REFUSE_AT"); at = n ? atol(n) : 0; }
+    return ++asked == at;
+}
+void *malloc(size_t n) { REAL(real_malloc, "malloc"); return refused() ? NULL : real_malloc(n); }
+void *realloc(void *p, size_t n) { REAL(real_realloc, "realloc"); return refused() ? NULL : real_realloc(p, n); }
+int posix_memalign(void **p, size_t a, size_t n) { REAL(real_align, "posix_memalign"); return refused() ? ENOMEM : real_align(p, a, n); }
+void *aligned_alloc(size_t a, size_t n) { REAL(real_aligned, "aligned_alloc"); return refused() ? NULL : real_aligned(a, n); }
+static void tell(void) {
+    FILE *to = fopen(getenv("REFUSE_TOLD"), "w");
+    struct mallinfo2 used = mallinfo2();
+    if (to) { fprintf(to, "%ld %zu", asked, used.uordblks + used.hblkhd); fclose(to); }
+}
+ssize_t write(int file, const void *text, size_t n) {
+    REAL(real_write, "write");
+    if (n >= 7 && !memcmp(text, "-- done", 7)) { is_open = 0; tell(); }
+    ssize_t wrote = real_write(file, text, n);
+    if (n >= 6 && !memcmp(text, "-- now", 6)) is_open = 1;
+    return wrote;
+}
+"""
+
+
+class Program:
+    """A built program, and a library that refuses it one allocation between the lines `-- now` and `-- done`."""
+
+    def __init__(self, program, folder):
+        self.program, self.calls, self.told = os.path.abspath(program), pathlib.Path(folder) / "calls", pathlib.Path(folder) / "told"
+        source, self.refuser = f"{folder}/refuser.c", f"{folder}/refuser.so"
+        pathlib.Path(source).write_text(REFUSER)
+        subprocess.run(["cc", "-O1", "-shared", "-fPIC", "-o", self.refuser, source, "-ldl"], check=True)
+
+    def run(self, calls, refused=None):
+        """What is printed, and of the last marked call, where one allocation may be refused: how many it asks for, and how many octets are
+        in use behind it."""
+        self.calls.write_text("".join(call + "\n" for call in calls))
+        self.told.write_text("0 0")
+        loaded = {} if refused is None else {"LD_PRELOAD": self.refuser, "REFUSE_AT": str(refused), "REFUSE_TOLD": str(self.told)}
+        done = subprocess.run([self.program, str(self.calls)], capture_output=True, text=True, env={**os.environ, **loaded})
+        if done.returncode or "\nclosed: " not in done.stdout:
+            sys.exit(f"{done.stdout[-2000:]}{done.stderr}\nbench/locked.py: status {done.returncode}, allocation {refused}")
+        asked, used = map(int, self.told.read_text().split())
+        return [line for line in done.stdout.splitlines()[1:] if line.strip()], asked, used
+
+    def lines(self, calls, refused=0):
+        """What is printed but for times, and how many allocations the marked call asks for."""
+        lines, asked, _ = self.run(calls, refused)
+        return [line for line in lines if not line.startswith("took ")], asked
+
+    def times(self, calls):
+        """How long each marked call and the closing took, in nanoseconds."""
+        return [int(line.split()[1]) for line in self.run(calls)[0] if line.startswith("took ")]
+
+    def used(self, calls):
+        """How many octets are in use at the end."""
+        return self.run(calls + ["now 0 drain"], 0)[2]
+
+
+def number_of(call):
+    return call.split()[0]
+
+
+def refuse_each(program, name, call):
+    """Refuses each allocation of the call in turn: made again it is answered as without a refusal, and left out it has done nothing."""
+    wanted, count = program.lines(PREPARED + ["now " + call] + AFTER)
+    at = wanted.index("-- done") + 1
+    without, _ = program.lines(PREPARED + AFTER)
+    memory, went_on = f"{number_of(call)}: memory", 0
+    for n in range(1, count + 1):
+        again, _ = program.lines(PREPARED + ["now " + call] + AFTER, n)
+        if again == wanted:
+            went_on += 1
+            continue
+        once, _ = program.lines(PREPARED + ["once " + call] + AFTER, n)
+        if again != wanted[:at] + [memory] + wanted[at:] or once != without[:at - 2] + ["-- now", "-- done", memory] + without[at - 2:]:
+            sys.exit("\n".join([f"{name}: allocation {n}: WRONG", *difflib.ndiff(wanted, again), *difflib.ndiff(without, once)]))
+    print(f"{name}: {count} allocations refused: {count - went_on} times `memory`, {went_on} times done without, all as wanted")
+
+
+def refuse_epoch(program):
+    """The same of the call that begins an epoch: where the copy is refused, it stands in the old history, and the next one begins the epoch."""
+    calls = ["now 0 drain", "0 drain", '0 A2 SEARCH "/option/~/" RETURN ("option.value") ALL', "0 leave"]
+    wanted, count = program.lines(LONG + calls)
+    at = wanted.index("-- done") + 1
+    kept = counts = 0
+    for n in range(1, count + 1):
+        told, _ = program.lines(LONG + calls, n)
+        if told == wanted[:at] + ["0: memory"] + wanted[at:]:
+            counts += 1
+        elif told[at:at + 2] == ["0: 0 500000 0 ", "0: 1 0 0 "] and "retired: 500001" in told:
+            kept += 1
+        else:
+            sys.exit("\n".join([f"an epoch begins: allocation {n}: WRONG", *told]))
+    print(f"a Drain that begins an epoch: {count} allocations refused: {counts} times `memory`, {kept} times in the old history, all as wanted")
+
+
+def refuse(path):
     with tempfile.TemporaryDirectory() as folder:
-        clone = pathlib.Path(folder) / "clone"
-        subprocess.run(["git", "clone", "-q", str(top), str(clone)], check=True)
-        crate = clone / "crates/locked_runs"
-        (crate / "src").mkdir(parents=True)
-        (crate / "src/main.rt").write_text(PROGRAM.lstrip())
-        (crate / "proofs").mkdir()
-        (crate / "proofs/Lib.antt").write_text("")
-        with open(clone / "crates.txt", "a") as crates:
-            crates.write("locked_runs: acap_lexer acap_entries acap_commands acap_grammar acap_rights acap_machine acap_locked\n")
+        program = Program(path, folder)
+        for name, call in REFUSED.items():
+            refuse_each(program, name, call)
+        refuse_epoch(program)
+
+
+# ---- figures
+
+def told(what, times):
+    times = sorted(times)
+    print(f"{what}: {times[0] / 1000:,.1f} us at least, the middle {times[len(times) // 2] / 1000:,.1f}", flush=True)
+
+
+def tell_memory(program, enter, what, calls, count):
+    print(f"memory of one of {count:,} {what}: {(program.used([enter] + calls) - program.used([enter])) / count:.0f} octets", flush=True)
+
+
+def tell_epoch(program, enter, entries, rounds=7):
+    """What the call costs that begins an epoch, and others behind it."""
+    stores = [f'0 A1 STORE ("/option/~/e{i:06}" "option.a0" "{i:08}")' for i in range(entries)]
+    marked = ["now 0 drain"] * 6 + ['now 0 A1 STORE ("/option/~/e000000" "option.a0" "00000000")'] * 6
+    rounds = [program.times([enter, *stores, f"0 drains {499_999 - entries}", *marked]) for _ in range(rounds)]
+    told(f"the Drain that begins an epoch, {entries:,} entries", [times[0] for times in rounds])
+    told("    a Drain behind it", [time for times in rounds for time in times[2:6]])
+    told("    a STORE of one item behind it", [time for times in rounds for time in times[7:12]])
+
+
+def figures(path):
+    enter, store = "0 enter joe", '0 A1 STORE ("/option/~/e000000" "option.a0" "00000000")'
+    with tempfile.TemporaryDirectory() as folder:
+        program = Program(path, folder)
+        tell_memory(program, enter, "Drains that tell nothing", ["0 drains 100000"], 100_000)
+        tell_memory(program, enter, "STOREs of one item", [store] * 100_000, 100_000)
+        told("`close` at 500,000 calls of one seat", [program.times([enter, "0 drains 499999"])[-1] for _ in range(7)])
+        tell_epoch(program, enter, 0)
+        tell_epoch(program, enter, 10_000)
+
+
+# ---- the rows
+
+def add_program(top, folder):
+    """A clone with the program, and the program's folder."""
+    clone = pathlib.Path(folder) / "clone"
+    subprocess.run(["git", "clone", "-q", str(top), str(clone)], check=True)
+    crate = clone / "crates/locked_runs"
+    (crate / "src").mkdir(parents=True)
+    (crate / "src/main.rt").write_text(PROGRAM.lstrip())
+    for name, text in PROOFS.items():
+        (crate / "proofs" / name).parent.mkdir(parents=True, exist_ok=True)
+        (crate / "proofs" / name).write_text(text.lstrip())
+    with open(clone / "crates.txt", "a") as crates:
+        crates.write("locked_runs: acap_lexer acap_entries acap_commands acap_grammar acap_rights acap_machine acap_locked\n")
+    return clone, crate
+
+
+def tell_rows(top, rows, patch=None):
+    """Whether the program prints of each row what is wanted, run in a clone, where the book is patched."""
+    with tempfile.TemporaryDirectory() as folder:
+        clone, crate = add_program(top, folder)
+        if patch:
+            book = clone / "crates/acap_locked/src/book.rt"
+            text = book.read_text()
+            if text.count(patch[0]) != 1:
+                sys.exit("bench/locked.py: what is patched doesn't stand in book.rt")
+            book.write_text(text.replace(*patch))
         files = []
-        for number, (calls, _) in enumerate(ROWS.values()):
+        for number, (calls, _) in enumerate(rows.values()):
             file = pathlib.Path(folder) / f"row{number}"
             file.write_text("".join(call[0] + "\n" for call in calls))
             files.append(str(file))
         done = subprocess.run(["rt", "try", "--seconds", "600", "--", *files], cwd=crate, capture_output=True, text=True)
-        rows = done.stdout.split("-- ")[1:]
-        if len(rows) != len(ROWS):
-            sys.exit(f"{done.stdout}\n{done.stderr}\nbench/locked.py: the program didn't run to its end")
-        return [[line.strip() for line in row.splitlines()[1:] if line.strip()] for row in rows]
+    told = re.split(r"^-- /.*\n", done.stdout, flags=re.M)[1:]
+    if len(told) != len(rows):
+        sys.exit(f"{done.stdout}\n{done.stderr}\nbench/locked.py: the program didn't run to its end")
+    right = [is_row(name, row, text) for (name, row), text in zip(rows.items(), told)]
+    return all(right)
+
+
+def is_row(name, row, text):
+    """Whether what is printed of a row begins with what is wanted."""
+    calls, closed = row
+    told = [line.strip() for line in text.splitlines() if line.strip()]
+    wanted = [line for call in calls for line in call[1:]] + closed
+    right = told[:len(wanted)] == wanted
+    print(f"{name}: {'as wanted' if right else 'WRONG'}", flush=True)
+    if not right:
+        print("\n".join(f"    wanted {want}\n    got    {got}" for want, got in zip(wanted, told) if want != got))
+    return right
+
+
+def build(top, program):
+    with tempfile.TemporaryDirectory() as folder:
+        clone, crate = add_program(top, folder)
+        for out in top.glob("crates/*/out"):
+            shutil.copytree(out, clone / out.relative_to(top), symlinks=True)
+        subprocess.run(["rt", "run"], cwd=crate, check=True)
+        shutil.copy(crate / "out/locked_runs", program)
 
 
 def main():
-    wrong = 0
-    for (name, (calls, closed)), told in zip(ROWS.items(), run(pathlib.Path(__file__).resolve().parent.parent)):
-        wanted = [line for call in calls for line in call[1:]] + closed
-        right = told[:len(wanted)] == wanted
-        wrong += not right
-        print(f"{name}: {'as wanted' if right else 'WRONG'}")
-        if not right:
-            print("\n".join(f"    wanted {want}\n    got    {got}" for want, got in zip(wanted, told) if want != got))
-    sys.exit(wrong > 0)
+    words = argparse.ArgumentParser()
+    words.add_argument("what", choices=["rows", "last", "build", "refuse", "figures"])
+    words.add_argument("program", nargs="?")
+    given = words.parse_args()
+    top = pathlib.Path(__file__).resolve().parent.parent
+    if given.what in ("rows", "last"):
+        sys.exit(not (tell_rows(top, ROWS) if given.what == "rows" else tell_rows(top, LAST_ROWS, LAST)))
+    if not given.program:
+        words.error("no program is named")
+    if given.what == "build":
+        build(top, given.program)
+    elif given.what == "refuse":
+        refuse(given.program)
+    else:
+        figures(given.program)
 
 
 if __name__ == "__main__":
