@@ -21,11 +21,24 @@ use std::sync::ledger::{Blank, Ledger};
 
 const JOE: Option<&[u8]> = Some(b"joe");
 
-const INPUT: &[u8] =
-    b"A1 STORE (\"/option/~/font\" \"option.value\" \"mono\")\r\nA2 SEARCH \"/option/~/\" RETURN (\"option.value\") ALL\r\n";
+/// What a session before sends; what the session that is cut sends, and what it should be told behind the greeting.
+type Row = (&'static [u8], &'static [u8], &'static [u8]);
 
-const TOLD: &[u8] =
-    b"A1 OK \"STORE done\"\r\nA2 ENTRY \"font\" \"mono\"\r\nA2 MODTIME \"19920204023552000000\"\r\nA2 OK \"SEARCH done\"\r\n";
+const STORED: &[u8] = b"A1 STORE (\"/option/~/font\" \"option.value\" \"mono\")\r\n";
+
+const ROWS: [Row; 3] = [
+    (b"", STORED, b"A1 OK \"STORE done\"\r\n"),
+    (
+        b"",
+        b"A1 STORE (\"/option/~/font\" \"option.value\" \"mono\")\r\nA2 SEARCH \"/option/~/\" RETURN (\"option.value\") ALL\r\n",
+        b"A1 OK \"STORE done\"\r\nA2 ENTRY \"font\" \"mono\"\r\nA2 MODTIME \"19920204023552000000\"\r\nA2 OK \"SEARCH done\"\r\n",
+    ),
+    (
+        STORED,
+        b"B1 SEARCH \"/option/~/\" RETURN (\"option.value\") ALL\r\n",
+        b"B1 ENTRY \"font\" \"mono\"\r\nB1 MODTIME \"19920204023552000000\"\r\nB1 OK \"SEARCH done\"\r\n",
+    ),
+];
 
 // A wire of which one side moves seven octets at once, so many times, and then does something else.
 fn wire(
@@ -45,18 +58,19 @@ fn wire(
 }
 
 // Whether the beginning of what it should be told was written.
-fn is_front(output: &[u8]) -> bool {
+fn is_front(output: &[u8], told: &[u8]) -> bool {
     let front = output.len().min(HELLO.len());
-    output[..front] == HELLO[..front] && TOLD.starts_with(&output[front..])
+    output[..front] == HELLO[..front] && told.starts_with(&output[front..])
 }
 
-// Whether a session whose reader or writer fails at that poll writes the beginning of what it should, all of it where it ends well, and
-// leaves.
+// Whether a session whose reader or writer fails at that poll, behind a session that doesn't, writes the beginning of what it should, all
+// of it where it ends well, and leaves.
 fn is_cut_at<S, L, R>(
     rt: &R,
     blank: Blank,
     state: State,
     counter: Blank,
+    row: Row,
     at: usize,
     fault: TaskEnd,
 ) -> io::Result<bool>
@@ -77,18 +91,37 @@ where
     let Some((served, mut passes)) = serve::<S, L>(alloc, blank, state, counter) else {
         return Ok(false);
     };
-    let Some(pass) = passes.pop() else {
+    let (Some(first), Some(pass)) = (passes.pop(), passes.pop()) else {
         return Ok(false);
     };
+    let (before, input, told) = row;
+    let whole = wire(
+        alloc,
+        before,
+        0,
+        Transfer::Moves(1_000),
+        Transfer::Moves(1_000),
+    )?;
+    let first = run(
+        rt,
+        &served,
+        first,
+        &users,
+        JOE,
+        whole,
+        no_bell(alloc)?,
+        1_000,
+    )?;
     let (reads, writes) = match fault {
         TaskEnd::ReadFault => (Transfer::Fails, Transfer::Moves(7)),
         _ => (Transfer::Moves(7), Transfer::Fails),
     };
-    let wire = wire(alloc, INPUT, at, reads, writes)?;
+    let wire = wire(alloc, input, at, reads, writes)?;
     let done = run(rt, &served, pass, &users, JOE, wire, no_bell(alloc)?, 1_000)?;
-    let all = done.output.len() == HELLO.len() + TOLD.len();
+    let all = done.output.len() == HELLO.len() + told.len();
     let ended = done.end == fault || done.end == TaskEnd::Ended && all;
-    let cut = done.left && is_front(done.output.as_slice());
+    let cut = done.left && is_front(done.output.as_slice(), told);
+    passes.push(first.pass)?;
     passes.push(done.pass)?;
     Ok(ended && cut && served.close(passes).is_ok())
 }
@@ -96,17 +129,20 @@ where
 #[test]
 fn faults_cut_a_session_and_it_leaves(rt: HostRuntime) {
     let alloc = rt.alloc();
-    for at in 0..40 {
-        for fault in [TaskEnd::ReadFault, TaskEnd::WriteFault] {
-            let cut = is_cut_at::<Brand, Brand, _>(
-                &rt,
-                Blank::new(64),
-                empty(alloc),
-                Blank::new(1),
-                at,
-                fault,
-            );
-            assert!(rt; cut.unwrap_or(false));
+    for row in ROWS {
+        for at in 0..40 {
+            for fault in [TaskEnd::ReadFault, TaskEnd::WriteFault] {
+                let cut = is_cut_at::<Brand, Brand, _>(
+                    &rt,
+                    Blank::new(64),
+                    empty(alloc),
+                    Blank::new(1),
+                    row,
+                    at,
+                    fault,
+                );
+                assert!(rt; cut.unwrap_or(false));
+            }
         }
     }
 }
