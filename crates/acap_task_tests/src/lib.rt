@@ -6,4 +6,6 @@ mod failing;
 #[cfg(test)]
 mod pieces;
 #[cfg(test)]
+mod refused;
+#[cfg(test)]
 mod stage;

@@ -15,7 +15,7 @@ use std::sync::Wait;
 use std::sync::ledger::{Blank, Ledger};
 
 /// What a session of a user, or of nobody, sends, and what it is told behind the greeting.
-type Row = (Option<&'static [u8]>, &'static [u8], &'static [u8]);
+pub(crate) type Row = (Option<&'static [u8]>, &'static [u8], &'static [u8]);
 
 const JOE: Option<&[u8]> = Some(b"joe");
 
@@ -41,13 +41,14 @@ const LITERALS: [Row; 1] = [(
     b"+ \"Ready\"\r\nA1 OK \"STORE done\"\r\nA2 OK \"NOOP done\"\r\n",
 )];
 
-const LOGIN: [Row; 1] = [(
+pub(crate) const LOGIN: [Row; 1] = [(
     None,
     b"A1 AUTHENTICATE \"CRAM-MD5\"\r\n\"tim b913a602c7eda7a495b4e6e7334d3890\"\r\nA2 MYRIGHTS (\"/option/~/\")\r\nA3 LOGOUT\r\n",
     b"+ \"<1896.697170952@postoffice.reston.mci.net>\"\r\nA1 OK \"AUTHENTICATE done\"\r\nA2 MYRIGHTS \"xrwia\"\r\nA2 OK \"MYRIGHTS done\"\r\n* BYE \"Good bye\"\r\nA3 OK \"LOGOUT done\"\r\n",
 )];
 
-fn tim(alloc: Global) -> io::Result<Users> {
+/// Tim and his secret.
+pub(crate) fn tim(alloc: Global) -> io::Result<Users> {
     let mut users = Vec::new(alloc);
     let mut secret = Vec::new(alloc);
     secret.extend_from_slice(b"tanstaaftanstaaf")?;
