@@ -49,7 +49,8 @@ where
     Ok(done.left)
 }
 
-// With `rt try --test --fail-alloc N` each allocation is refused in turn, also one that prints the answer to the login.
+// For `rt try --test --fail-alloc N`, N by N, which also reaches the printing of the answer to the login. It says nothing where the
+// refused allocation comes before the session or behind it. With ample memory `pieces` says more of the same login.
 #[test]
 fn a_login_leaves_its_seat_whatever_is_refused(rt: HostRuntime) {
     let alloc = rt.alloc();
