@@ -628,6 +628,14 @@ module _ {K X : Type 0} (R : K → K → Ordering) where
       let whole = ap (λ (es : List (K × X)). place R k es) (joined_at ls i at) in
       omega (arith, moved.0, inside.0, whole)
 
+  pub tied_in_leaf : (k : K) (ls : List (List (K × X))) (i : ℕ) → IsAmong R k ls i (i + 1) → is_tied R k (get_or ls i []) ≡ is_tied R k (joined ls)
+  tied_in_leaf k ls i h =
+      let at : i < length ls = omega (arith, h.within) in
+      let l = lies R k ls i h in
+      let moved = place_past R k (joined (take i ls)) (get_or ls i [] ++ joined (drop (suc i) ls)) l.from in
+      let inside = place_within R k (get_or ls i []) (joined (drop (suc i) ls)) l.until l.tied in
+      inside.1 ∙ sym moved.1 ∙ sym (ap (λ (es : List (K × X)). is_tied R k es) (joined_at ls i at))
+
 pub leaf_within : {A : Type 0} (leaf : List A) (ls : List (List A)) → length leaf ≤ length (leaf ++ joined ls)
 leaf_within leaf ls = omega (arith, length-append leaf (joined ls))
 

@@ -2,6 +2,7 @@ pub mod SortedLemmas
 pub mod LeafLemmas
 pub mod RankLemmas
 pub mod RankLaws
+pub mod ReplaceLemmas
 pub mod Halves
 pub mod MapLemmas
 pub mod NameLemmas

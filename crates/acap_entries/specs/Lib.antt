@@ -14,6 +14,7 @@ pub mod Names
 pub mod Orders
 pub mod RankLaws
 pub mod Ranks
+pub mod Replacing
 pub mod Sorted
 pub mod Sound
 pub mod Stamp

@@ -1,5 +1,6 @@
 //! A leaf of the tree: a few entries in the order of their keys, with room that is made once.
-ghost use Rattle.std.specs.Prelude.{◌≡◌, ◌+◌, ◌-◌, ◌/◌, ◌++◌, ◌<◌, ◌≤◌, ◌==◌, [], length, take, drop, slice_index_or, IfOk, IfSome, IfNone, IsTrue, ◌∷◌};
+ghost use Rattle.std.specs.Prelude.{◌≡◌, ◌+◌, ◌-◌, ◌/◌, ◌++◌, ◌<◌, ◌≤◌, ◌==◌, [], length, take, drop, slice_index_or, slice_set, IfOk, IfSome, IfNone, IsTrue, ◌∷◌};
+ghost use Rattle.std.specs.List.{insert};
 ghost use Rattle.acap_entries.specs.Sorted.{put_in, without, entry_of, InOrder};
 ghost use Rattle.acap_entries.specs.Leaves.{IsBehind};
 
@@ -10,6 +11,7 @@ use crate::sorted::{put_in_room, take_out};
 use std::alloc::Global;
 use std::cmp::Ordering;
 use std::marker::Model;
+use std::mem;
 
 /// How many entries a leaf has room for.
 pub(crate) const MOST: usize = 64;
@@ -91,6 +93,24 @@ impl<K: Ord + Drop, V: Drop> Leaf<K, V> {
         ensures none { IfNone result (length self.new ≡ length self.old) }
     {
         take_out(&mut self.entries, probe)
+    }
+
+    /// Puts an entry in at a place, in the room that there is. Takes no memory.
+    pub(crate) fn insert(&mut self, place: usize, key: K, value: V)
+        requires room { length self.old < 64 }
+        requires within { place ≤ length self.old }
+        ensures { self.new ≡ insert self.old place (key, value) }
+    {
+        self.entries.insert(place, (key, value)).unwrap();
+    }
+
+    /// Puts an entry in the place of another, and gives that one. Takes no memory.
+    pub(crate) fn exchange(&mut self, place: usize, key: K, value: V) -> (K, V)
+        requires { place < length self.old }
+        ensures taken { result ≡ slice_index_or self.old place result }
+        ensures value { self.new ≡ slice_set self.old place (key, value) }
+    {
+        mem::replace(&mut self.entries[place], (key, value))
     }
 
     /// Takes all entries out.

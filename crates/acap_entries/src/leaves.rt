@@ -2,13 +2,15 @@
 ghost use Rattle.std.specs.Prelude.{◌≡◌, ◌+◌, ◌-◌, ◌^◌, ◌++◌, IsTrue, ◌<◌, ◌≤◌, [], ◌∷◌, length, take, drop, slice_index_or, slice_set, vec_len, vec_capacity, IfSome, IfNone, OnOk, OnErr, IfOk, ◌/◌};
 ghost use Rattle.std.specs.Option.{option_copied};
 ghost use Rattle.std.specs.List.{insert};
-ghost use Rattle.acap_entries.specs.Sorted.{InOrder, put_in, without, found, entry_of};
+ghost use Rattle.acap_entries.specs.Sorted.{InOrder, place, put_in, without, found, entry_of};
 ghost use Rattle.acap_entries.specs.Leaves.{joined, before, AreFilled, IsAmong, IsBehind};
+ghost use Rattle.acap_entries.specs.Replacing.{replaced};
 
 use crate::copying::{Copying, copy_all};
 use crate::keys::{Probe, Whole};
 use crate::leaf::{Leaf, MOST};
 use crate::memory::Memory;
+use crate::replacing::{exchange_at, insert_at, seek};
 use crate::sorted::{entry_in, lookup};
 use std::alloc::Global;
 use std::cmp::Ordering;
@@ -357,6 +359,35 @@ impl<K: Ord + Drop, V: Drop> Leaves<K, V> {
         let taken = take_out_at(&mut self.leaves, at, probe)?;
         self.count -= 1;
         Some(taken)
+    }
+
+    /// Puts an entry in, in the room that there is, and takes out the one whose key ties with its key, if there is one: tells how many
+    /// entries stand before it, and gives that one. Takes no memory.
+    pub(crate) fn replace(&mut self, key: K, value: V) -> (usize, Option<(K, V)>)
+        requires room { 0 < self.old.1 }
+        requires sorted { InOrder K.cmp self.old.0 }
+        ensures place { result.0 ≡ place K.cmp key self.old.0 }
+        ensures within { result.0 < length self.new.0 }
+        ensures taken { result.1 ≡ entry_of K.cmp key self.old.0 }
+        ensures entries { self.new.0 ≡ replaced K.cmp key value self.old.0 }
+        ensures room { self.old.1 ≤ self.new.1 + 1 }
+    {
+        if self.leaves.is_empty() {
+            self.put(key, value);
+            return (0, None);
+        }
+        let spot = seek(self.leaves.as_slice(), &Whole { key: &key });
+        if spot.is_there {
+            let old = exchange_at(&mut self.leaves, spot, key, value);
+            return (spot.rank, Some(old));
+        }
+        if self.leaves[spot.leaf].len() < MOST {
+            insert_at(&mut self.leaves, spot, key, value);
+            self.count += 1;
+            return (spot.rank, None);
+        }
+        self.put(key, value);
+        (spot.rank, None)
     }
 
     /// Puts an entry behind all others, in a leaf that is filled first. Fails only for want of memory.

@@ -33,8 +33,8 @@ fn place_among<K: Ord + Drop, V: Drop, Q: Probe<K>>(
     (at, place)
 }
 
-// How many entries the leaves hold.
-fn count<K: Ord + Drop, V: Drop>(leaves: &[Leaf<K, V>]) -> usize
+/// How many entries the leaves hold.
+pub(crate) fn count<K: Ord + Drop, V: Drop>(leaves: &[Leaf<K, V>]) -> usize
     requires { length (joined leaves.now) < 2 ^ 64 }
     ensures { result ≡ length (joined leaves.now) }
 {

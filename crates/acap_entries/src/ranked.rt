@@ -1,6 +1,6 @@
 //! Items in their own order, which know how many stand before a key.
 ghost use Rattle.std.specs.Prelude.{◌≡◌, ◌↔◌, ◌+◌, ◌<◌, ◌≤◌, [], length, slice_get, IsOk, IfOk, IfErr, OnOk};
-ghost use Rattle.std.specs.Option.{option_copied};
+ghost use Rattle.std.specs.Option.{option_copied, option_map};
 ghost use Rattle.acap_entries.specs.Ranks.{Ascending, rank_of, item_at, with_item, without_item};
 
 use crate::copying::Copying;
@@ -30,6 +30,16 @@ impl<T: Ord> Model for Ranked<T> {
     ghost view = { λ r. (map (λ e. e.0) r.entries.0, r.entries.1) };
 
     ghost invariant = { λ r. InOrder T.cmp r.entries.0 };
+}
+
+// An item that has nothing beside it.
+fn alone<T: Drop>(entry: Option<(T, ())>) -> Option<T>
+    ensures { result ≡ option_map (λ e. e.0) entry }
+{
+    match entry {
+        Some((item, ())) => Some(item),
+        None => None,
+    }
 }
 
 impl<T: Ord + Drop> Ranked<T> {
@@ -135,6 +145,20 @@ impl<T: Ord + Drop> Ranked<T> {
     {
         let (item, ()) = self.entries.take_out(probe)?;
         Some(item)
+    }
+
+    /// Puts an item in its place, in the room that there is, and takes out the one that ties with it, if there is one: tells how many
+    /// items are less, and gives that one. It is looked for once, and where one ties with it no other is moved. Takes no memory.
+    pub fn replace(&mut self, item: T) -> (usize, Option<T>)
+        requires { 0 < self.old.1 }
+        ensures place { result.0 ≡ rank_of T.cmp item self.old.0 }
+        ensures within { result.0 < length self.new.0 }
+        ensures taken { result.1 ≡ item_at T.cmp item self.old.0 }
+        ensures items { self.new.0 ≡ with_item T.cmp item (without_item T.cmp item self.old.0) }
+        ensures room { self.old.1 ≤ self.new.1 + 1 }
+    {
+        let (rank, old) = self.entries.replace(item, ());
+        (rank, alone(old))
     }
 }
 

@@ -1,0 +1,77 @@
+//! One entry in the place of another: where its key stands is looked up once.
+ghost use Rattle.std.specs.Prelude.{◌≡◌, ◌+◌, ◌<◌, ◌≤◌, ◌^◌, [], Some, true, false, length, slice_index_or, vec_len, vec_capacity};
+ghost use Rattle.acap_entries.specs.Sorted.{place, is_tied, entry_of, put_in, InOrder};
+ghost use Rattle.acap_entries.specs.Leaves.{joined, AreFilled};
+ghost use Rattle.acap_entries.specs.Replacing.{LiesAt, replaced};
+
+use crate::keys::Probe;
+use crate::leaf::Leaf;
+use crate::leaves::leaf_of;
+use crate::ranges::count;
+use crate::sorted::place_of;
+use crate::spot::Spot;
+
+/// Where a key stands.
+pub(crate) fn seek<K: Ord + Drop, V: Drop, Q: Probe<K>>(leaves: &[Leaf<K, V>], probe: &Q) -> Spot
+    requires some { 0 < length leaves.now }
+    requires filled { AreFilled leaves.now }
+    requires sorted { InOrder K.cmp (joined leaves.now) }
+    requires counted { length (joined leaves.now) < 2 ^ 64 }
+    ensures lies { LiesAt K.cmp (Q.key probe.now) leaves.now result.leaf result.at }
+    ensures rank { result.rank ≡ place K.cmp (Q.key probe.now) (joined leaves.now) }
+    ensures tied { result.is_there ≡ is_tied K.cmp (Q.key probe.now) (joined leaves.now) }
+{
+    let leaf = leaf_of(leaves, probe);
+    let entries = leaves[leaf].as_slice();
+    let (at, is_there) = place_of(entries, probe);
+    let (earlier, _) = leaves.split_at(leaf);
+    Spot {
+        leaf,
+        at,
+        rank: count(earlier) + at,
+        is_there,
+    }
+}
+
+/// Puts an entry in the place of the one whose key ties with its key, and gives that one.
+pub(crate) fn exchange_at<K: Ord + Drop, V: Drop>(
+    leaves: &mut Vec<Leaf<K, V>>,
+    spot: Spot,
+    key: K,
+    value: V,
+) -> (K, V)
+    requires lies { LiesAt K.cmp key leaves.old.items spot.leaf spot.at }
+    requires tied { is_tied K.cmp key (joined leaves.old.items) ≡ true }
+    requires filled { AreFilled leaves.old.items }
+    requires sorted { InOrder K.cmp (joined leaves.old.items) }
+    ensures taken { Some result ≡ entry_of K.cmp key (joined leaves.old.items) }
+    ensures items { joined leaves.new.items ≡ replaced K.cmp key value (joined leaves.old.items) }
+    ensures filled { AreFilled leaves.new.items }
+    ensures count { length (joined leaves.new.items) ≡ length (joined leaves.old.items) }
+    ensures len { vec_len leaves.new ≡ vec_len leaves.old }
+    ensures capacity { vec_capacity leaves.old ≤ vec_capacity leaves.new }
+{
+    let leaf = &mut leaves[spot.leaf];
+    leaf.exchange(spot.at, key, value)
+}
+
+/// Puts an entry whose key is nowhere into a leaf that has room for it.
+pub(crate) fn insert_at<K: Ord + Drop, V: Drop>(
+    leaves: &mut Vec<Leaf<K, V>>,
+    spot: Spot,
+    key: K,
+    value: V,
+)
+    requires lies { LiesAt K.cmp key leaves.old.items spot.leaf spot.at }
+    requires room { length (slice_index_or leaves.old.items spot.leaf []) < 64 }
+    requires absent { is_tied K.cmp key (joined leaves.old.items) ≡ false }
+    requires filled { AreFilled leaves.old.items }
+    ensures items { joined leaves.new.items ≡ put_in K.cmp key value (joined leaves.old.items) }
+    ensures filled { AreFilled leaves.new.items }
+    ensures count { length (joined leaves.new.items) ≡ length (joined leaves.old.items) + 1 }
+    ensures len { vec_len leaves.new ≡ vec_len leaves.old }
+    ensures capacity { vec_capacity leaves.old ≤ vec_capacity leaves.new }
+{
+    let leaf = &mut leaves[spot.leaf];
+    leaf.insert(spot.at, key, value);
+}
