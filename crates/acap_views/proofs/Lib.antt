@@ -15,6 +15,7 @@ pub mod ShiftLemmas
 pub mod FollowLemmas
 pub mod LoopShiftLemmas
 pub mod UndoLemmas
+pub mod IdleLemmas
 pub mod TouchingLemmas
 pub mod StillLemmas
 pub mod PreparedLemmas

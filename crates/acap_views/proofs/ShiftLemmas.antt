@@ -388,17 +388,40 @@ pub stood_left : (old : Match) (hits : List Match) (place : ℕ) (found : Option
     → option_map (counted_as place) found ≡ stood old hits
 stood_left old hits place found p f = ap (λ n. option_map (counted_as n) found) (p ∙ rank_left old hits) ∙ ap (option_map (counted_as (rank_of match_cmp old hits))) f
 
-pub free_there : (old found : Match) (hits : List Match) → eq_by_cmp match_cmp old found ≡ true → is_some (item_at match_cmp found (without_old old hits)) ≡ false
+free_there : (old found : Match) (hits : List Match) → eq_by_cmp match_cmp old found ≡ true → is_some (item_at match_cmp found (without_old old hits)) ≡ false
 unfolding item_at
 free_there old found hits e =
     ap is_some (none_found (eq_by_cmp match_cmp found) (without_old old hits) (λ x k.
     sym (ap is_eq (match_total.congr old found x (tied _ e))) ∙ (left_of old hits x k).1))
 
-pub stood_there : (old come : Match) (hits : List Match) (place : ℕ) (found : Option Match) → eq_by_cmp match_cmp old come ≡ true
-    → place ≡ rank_of match_cmp come (without_old old hits) → found ≡ item_at match_cmp old hits → option_map (counted_as place) found ≡ stood old hits
-stood_there old come hits place found e p f = stood_left old hits place found (p ∙ rank_tied old come (without_old old hits) (tied _ e)) f
-
-pub stands_there : (old found : Match) (hits : List Match) (place : ℕ) → eq_by_cmp match_cmp old found ≡ true → place ≡ rank_of match_cmp found (without_old old hits)
+stands_there : (old found : Match) (hits : List Match) (place : ℕ) → eq_by_cmp match_cmp old found ≡ true → place ≡ rank_of match_cmp found (without_old old hits)
     → Some place ≡ option_map place_in (stands old (Some found) hits)
 stands_there old found hits place e p =
     ap Some p ∙ sym (ap (λ b. option_map place_in (cond {A = Option (ℕ × Match)} b None (Some (rank_of match_cmp found (without_old old hits), found)))) (free_there old found hits e))
+
+-- to look for one of them is to look for the other
+same_tie : (old found x : Match) → eq_by_cmp match_cmp old found ≡ true → eq_by_cmp match_cmp found x ≡ eq_by_cmp match_cmp old x
+same_tie old found x e = sym (ap is_eq (match_total.congr old found x (tied _ e)))
+
+same_item : (old found : Match) (hits : List Match) → eq_by_cmp match_cmp old found ≡ true → item_at match_cmp found hits ≡ item_at match_cmp old hits
+unfolding item_at
+same_item old found [] e = refl
+same_item old found (h ∷ hs) e = λ i. cond (same_tie old found h e i) (Some h) (same_item old found hs e i)
+
+pub same_left : (old found : Match) (hits : List Match) → eq_by_cmp match_cmp old found ≡ true → without_item match_cmp found hits ≡ without_old old hits
+unfolding without_item
+same_left old found [] e = refl
+same_left old found (h ∷ hs) e = λ i. cond (not (same_tie old found h e i)) (h ∷ same_left old found hs e i) (same_left old found hs e i)
+
+pub replaced_is : (old found : Match) (hits : List Match) → eq_by_cmp match_cmp old found ≡ true → with_item match_cmp found (without_item match_cmp found hits) ≡ shifted old (Some found) hits
+replaced_is old found hits e = ap (with_item match_cmp found) (same_left old found hits e)
+
+pub stood_at : (old come : Match) (hits : List Match) (place : ℕ) (found : Option Match) → eq_by_cmp match_cmp old come ≡ true
+    → place ≡ rank_of match_cmp come hits → found ≡ item_at match_cmp come hits → option_map (counted_as place) found ≡ stood old hits
+stood_at old come hits place found e p f =
+    ap (λ n. option_map (counted_as n) found) (p ∙ rank_tied old come hits (tied _ e)) ∙ ap (option_map (counted_as (rank_of match_cmp old hits))) (f ∙ same_item old come hits e)
+
+pub stands_at : (old found : Match) (hits : List Match) (place : ℕ) → eq_by_cmp match_cmp old found ≡ true → place ≡ rank_of match_cmp found hits
+    → Some place ≡ option_map place_in (stands old (Some found) hits)
+stands_at old found hits place e p =
+    stands_there old found hits place e (p ∙ rank_tied old found hits (tied _ e) ∙ sym (rank_left old hits) ∙ sym (rank_tied old found (without_old old hits) (tied _ e)))

@@ -10,6 +10,7 @@ mod contexts;
 mod delta;
 mod following;
 mod held;
+mod idle;
 mod keyed;
 mod laws;
 mod lending;

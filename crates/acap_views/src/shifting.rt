@@ -14,6 +14,7 @@ ghost use Rattle.acap_views.specs.Shifting as rule;
 ghost use Rattle.acap_views.specs.Shifting.{match_by};
 ghost use Rattle.acap_views.specs.Undoing.{IsLogged, room_in};
 
+use crate::idle::is_idle;
 use crate::shift::{News, Shift};
 use crate::shown::Shown;
 use crate::undone::Undone;
@@ -100,8 +101,8 @@ fn replace_hit(
     ensures to { result.1 + 1 < 2 ^ 64 }
     ensures room { now.old.1 ≤ now.new.1 + 1 }
 {
-    let gone = now.take(old);
-    let place = put_free(now, hit);
+    let (place, gone) = now.replace(hit);
+    let _count = now.len();
     (beside(place, gone), place)
 }
 
@@ -281,6 +282,9 @@ impl Watch {
     {
         self.hits.ascends();
         let (undone, told) = swap(&mut self.hits, shift, enumerated);
+        if told.is_none() && is_idle(&self.hits, &undone) {
+            return true;
+        }
         log(&mut self.shown, undone);
         add(&mut self.pending, told)
     }
