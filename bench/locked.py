@@ -491,17 +491,23 @@ class Program:
         pathlib.Path(source).write_text(REFUSER)
         subprocess.run(["cc", "-O1", "-shared", "-fPIC", "-o", self.refuser, source, "-ldl"], check=True)
 
+    def run_alone(self, refused, *words):
+        """What the program prints, and how many allocations it asks for between the lines. One of them is refused, or none where that is 0."""
+        self.told.write_text("0 0")
+        loaded = {} if refused is None else {"LD_PRELOAD": self.refuser, "REFUSE_AT": str(refused), "REFUSE_TOLD": str(self.told)}
+        done = subprocess.run([self.program, *words], capture_output=True, text=True, env={**os.environ, **loaded})
+        if done.returncode:
+            sys.exit(f"{done.stdout[-2000:]}{done.stderr}\n{self.program}: status {done.returncode}, allocation {refused}")
+        return done.stdout, int(self.told.read_text().split()[0])
+
     def run(self, calls, refused=None):
         """What is printed, and of the last marked call, where one allocation may be refused: how many it asks for, and how many octets are
         in use behind it."""
         self.calls.write_text("".join(call + "\n" for call in calls))
-        self.told.write_text("0 0")
-        loaded = {} if refused is None else {"LD_PRELOAD": self.refuser, "REFUSE_AT": str(refused), "REFUSE_TOLD": str(self.told)}
-        done = subprocess.run([self.program, str(self.calls)], capture_output=True, text=True, env={**os.environ, **loaded})
-        if done.returncode or "\nclosed: " not in done.stdout:
-            sys.exit(f"{done.stdout[-2000:]}{done.stderr}\nbench/locked.py: status {done.returncode}, allocation {refused}")
-        asked, used = map(int, self.told.read_text().split())
-        return [line for line in done.stdout.splitlines()[1:] if line.strip()], asked, used
+        text, asked = self.run_alone(refused, str(self.calls))
+        if "\nclosed: " not in text:
+            sys.exit(f"{text[-2000:]}\nbench/locked.py: the program didn't run to its end, allocation {refused}")
+        return [line for line in text.splitlines()[1:] if line.strip()], asked, int(self.told.read_text().split()[1])
 
     def lines(self, calls, refused=0):
         """What is printed but for times, and how many allocations the marked call asks for."""
@@ -597,19 +603,28 @@ def figures(path):
 
 # ---- the rows
 
-def add_program(top, folder):
-    """A clone with the program, and the program's folder."""
+LINE = "locked_runs: acap_lexer acap_entries acap_commands acap_grammar acap_rights acap_machine acap_locked"
+
+
+def add_program(top, folder, line=LINE, program=PROGRAM, proofs=PROOFS):
+    """A clone with a program, and the program's folder. The line is that of crates.txt."""
     clone = pathlib.Path(folder) / "clone"
     subprocess.run(["git", "clone", "-q", str(top), str(clone)], check=True)
-    crate = clone / "crates/locked_runs"
+    crate = clone / "crates" / line.partition(":")[0]
     (crate / "src").mkdir(parents=True)
-    (crate / "src/main.rt").write_text(PROGRAM.lstrip())
-    for name, text in PROOFS.items():
+    (crate / "src/main.rt").write_text(program.lstrip())
+    for name, text in proofs.items():
         (crate / "proofs" / name).parent.mkdir(parents=True, exist_ok=True)
         (crate / "proofs" / name).write_text(text.lstrip())
     with open(clone / "crates.txt", "a") as crates:
-        crates.write("locked_runs: acap_lexer acap_entries acap_commands acap_grammar acap_rights acap_machine acap_locked\n")
+        crates.write(line + "\n")
     return clone, crate
+
+
+def give_libraries(top, clone):
+    """Gives the clone what `rt check` has proved of the crates."""
+    for out in top.glob("crates/*/out"):
+        shutil.copytree(out, clone / out.relative_to(top), symlinks=True)
 
 
 def tell_rows(top, rows, patch=None):
@@ -650,8 +665,7 @@ def is_row(name, row, text):
 def build(top, program):
     with tempfile.TemporaryDirectory() as folder:
         clone, crate = add_program(top, folder)
-        for out in top.glob("crates/*/out"):
-            shutil.copytree(out, clone / out.relative_to(top), symlinks=True)
+        give_libraries(top, clone)
         subprocess.run(["rt", "run"], cwd=crate, check=True)
         shutil.copy(crate / "out/locked_runs", program)
 

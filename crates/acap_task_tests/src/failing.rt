@@ -2,7 +2,7 @@
 ghost use Rattle.std.specs.Prelude.{◌≡◌, ◌<◌, IfOk};
 ghost use Rattle.acap_task.specs.Told.{new_wire};
 
-use crate::stage::{Done, HELLO, empty, no_bell, plan, run, serve};
+use crate::stage::{Done, HELLO, Visit, empty, no_bell, plan, run, serve};
 use acap_commands::{Command, Event};
 use acap_entries::{Moment, UserName};
 use acap_grammar::parse;
@@ -57,6 +57,21 @@ fn wire(
     Ok(MemWire::new(alloc, octets, reads, writes))
 }
 
+// A session of joe over such devices, on a day of 1992.
+fn visit<B: Bell>(wire: MemWire, bell: B, turns: u64) -> Visit<'static, B>
+    ensures wire { result.wire ≡ wire }
+    ensures bell { result.bell ≡ bell }
+    ensures turns { result.turns ≡ turns }
+{
+    Visit {
+        user: JOE,
+        wire,
+        bell,
+        clock: Moment::new(697_170_952_000_000).unwrap_or(Moment::first()),
+        turns,
+    }
+}
+
 // Whether the beginning of what it should be told was written.
 fn is_front(output: &[u8], told: &[u8]) -> bool {
     let front = output.len().min(HELLO.len());
@@ -107,22 +122,25 @@ where
         &served,
         first,
         &users,
-        JOE,
-        whole,
-        no_bell(alloc)?,
-        1_000,
+        visit(whole, no_bell(alloc)?, 1_000),
     )?;
     let (reads, writes) = match fault {
         TaskEnd::ReadFault => (Transfer::Fails, Transfer::Moves(7)),
         _ => (Transfer::Moves(7), Transfer::Fails),
     };
     let wire = wire(alloc, input, at, reads, writes)?;
-    let done = run(rt, &served, pass, &users, JOE, wire, no_bell(alloc)?, 1_000)?;
+    let done = run(
+        rt,
+        &served,
+        pass,
+        &users,
+        visit(wire, no_bell(alloc)?, 1_000),
+    )?;
     let all = done.output.len() == HELLO.len() + told.len();
     let ended = done.end == fault || done.end == TaskEnd::Ended && all;
-    let cut = done.left && is_front(done.output.as_slice(), told);
-    passes.push(first.pass)?;
-    passes.push(done.pass)?;
+    let cut = done.entered && done.left && is_front(done.output.as_slice(), told);
+    passes.push(first.seating.pass)?;
+    passes.push(done.seating.pass)?;
     Ok(ended && cut && served.close(passes).is_ok())
 }
 
@@ -240,7 +258,7 @@ where
         ended: false,
         waits: 0,
     };
-    run(rt, served, pass, users, JOE, wire, bell, 3)
+    run(rt, served, pass, users, visit(wire, bell, 3))
 }
 
 // Whether such a session tells what its bell rang for, and ends at its last poll.

@@ -6,6 +6,4 @@ mod failing;
 #[cfg(test)]
 mod pieces;
 #[cfg(test)]
-mod refused;
-#[cfg(test)]
 mod stage;

@@ -1,11 +1,12 @@
-//! Sessions whose octets come in pieces of any size are told the same.
+//! Sessions whose octets come in pieces of any size are told what the same clients are told by a script, and by a pipe.
 ghost use Rattle.std.specs.Prelude.{◌≡◌, ◌<◌};
 
-use crate::stage::{HELLO, empty, no_bell, run, serve, wire};
-use acap_entries::UserName;
+use crate::stage::{Visit, empty, no_bell, run, serve, wire};
+use acap_entries::{Moment, Steps, UserName};
 use acap_locked::Site;
 use acap_login::Users;
 use acap_machine::State;
+use acap_session::{run_pipe, run_script};
 use acap_task::TaskEnd;
 use std::alloc::{AllocGlobal, Global};
 use std::io;
@@ -14,41 +15,61 @@ use std::random::RandomSource;
 use std::sync::Wait;
 use std::sync::ledger::{Blank, Ledger};
 
-/// What a session of a user, or of nobody, sends, and what it is told behind the greeting.
-pub(crate) type Row = (Option<&'static [u8]>, &'static [u8], &'static [u8]);
+/// A client: its user, or nobody, and what it sends.
+type Client = (Option<&'static [u8]>, &'static [u8]);
+
+/// Clients one after the other, the same as lines of a script, and what the clock shows.
+struct Row {
+    clients: &'static [Client],
+    script: &'static [u8],
+    clock: i64,
+}
 
 const JOE: Option<&[u8]> = Some(b"joe");
 
-/// Sessions one after the other, each with a pass of its own.
-const NOOP: [Row; 1] = [(JOE, b"A1 NOOP\r\n", b"A1 OK \"NOOP done\"\r\n")];
+const STORE: &[u8] = b"A1 STORE (\"/option/~/font\" \"option.value\" \"mono\")\r\n";
 
-const TWO_SESSIONS: [Row; 2] = [
-    (
-        JOE,
-        b"A1 STORE (\"/option/~/font\" \"option.value\" \"mono\")\r\n",
-        b"A1 OK \"STORE done\"\r\n",
-    ),
-    (
-        JOE,
-        b"B1 SEARCH \"/option/~/\" RETURN (\"option.value\") ALL\r\n",
-        b"B1 ENTRY \"font\" \"mono\"\r\nB1 MODTIME \"19920204023552000000\"\r\nB1 OK \"SEARCH done\"\r\n",
-    ),
+const SEARCH: &[u8] = b"B1 SEARCH \"/option/~/\" RETURN (\"option.value\" \"modtime\") ALL\r\n";
+
+const STORE_AND_SEARCH: &[u8] =
+    b"A1 STORE (\"/option/~/font\" \"option.value\" \"mono\")\r\nA2 SEARCH \"/option/~/\" RETURN (\"option.value\" \"modtime\") ALL\r\n";
+
+const LITERALS: &[u8] =
+    b"A1 STORE (\"/option/~/font\" \"option.value\" {5}\r\nhello)\r\nA2 STORE (\"/option/~/size\" \"option.value\" {2+}\r\n10)\r\nA3 NOOP\r\n";
+
+const LOGIN: &[u8] =
+    b"A1 AUTHENTICATE \"CRAM-MD5\"\r\n\"tim b913a602c7eda7a495b4e6e7334d3890\"\r\nA2 MYRIGHTS (\"/option/~/\")\r\nA3 LOGOUT\r\n";
+
+const ROWS: [Row; 5] = [
+    Row {
+        clients: &[(JOE, b"A1 NOOP\r\n")],
+        script: b"enter 0 joe\nsend 0 A1 NOOP\n",
+        clock: 0,
+    },
+    Row {
+        clients: &[(JOE, STORE_AND_SEARCH)],
+        script: b"enter 0 joe\nsend 0 A1 STORE (\"/option/~/font\" \"option.value\" \"mono\")\nsend 0 A2 SEARCH \"/option/~/\" RETURN (\"option.value\" \"modtime\") ALL\n",
+        clock: 0,
+    },
+    Row {
+        clients: &[(JOE, LITERALS)],
+        script: b"enter 0 joe\nsend 0 A1 STORE (\"/option/~/font\" \"option.value\" {5}\nsend 0 hello)\nsend 0 A2 STORE (\"/option/~/size\" \"option.value\" {2+}\nsend 0 10)\nsend 0 A3 NOOP\n",
+        clock: 0,
+    },
+    Row {
+        clients: &[(JOE, STORE), (JOE, SEARCH)],
+        script: b"clock 697170952000000\nenter 0 joe\nsend 0 A1 STORE (\"/option/~/font\" \"option.value\" \"mono\")\nleave 0\nenter 1 joe\nsend 1 B1 SEARCH \"/option/~/\" RETURN (\"option.value\" \"modtime\") ALL\nleave 1\n",
+        clock: 697_170_952_000_000,
+    },
+    Row {
+        clients: &[(None, LOGIN)],
+        script: b"user tim tanstaaftanstaaf\nhost postoffice.reston.mci.net\nnonce 1896\nclock 697170952000000\nopen 0\nsend 0 A1 AUTHENTICATE \"CRAM-MD5\"\nsend 0 \"tim b913a602c7eda7a495b4e6e7334d3890\"\nsend 0 A2 MYRIGHTS (\"/option/~/\")\nsend 0 A3 LOGOUT\n",
+        clock: 697_170_952_000_000,
+    },
 ];
 
-const LITERALS: [Row; 1] = [(
-    JOE,
-    b"A1 STORE (\"/option/~/font\" \"option.value\" {5}\r\nhello)\r\nA2 NOOP\r\n",
-    b"+ \"Ready\"\r\nA1 OK \"STORE done\"\r\nA2 OK \"NOOP done\"\r\n",
-)];
-
-pub(crate) const LOGIN: [Row; 1] = [(
-    None,
-    b"A1 AUTHENTICATE \"CRAM-MD5\"\r\n\"tim b913a602c7eda7a495b4e6e7334d3890\"\r\nA2 MYRIGHTS (\"/option/~/\")\r\nA3 LOGOUT\r\n",
-    b"+ \"<1896.697170952@postoffice.reston.mci.net>\"\r\nA1 OK \"AUTHENTICATE done\"\r\nA2 MYRIGHTS \"xrwia\"\r\nA2 OK \"MYRIGHTS done\"\r\n* BYE \"Good bye\"\r\nA3 OK \"LOGOUT done\"\r\n",
-)];
-
-/// Tim and his secret.
-pub(crate) fn tim(alloc: Global) -> io::Result<Users> {
+// Tim and his secret.
+fn tim(alloc: Global) -> io::Result<Users> {
     let mut users = Vec::new(alloc);
     let mut secret = Vec::new(alloc);
     secret.extend_from_slice(b"tanstaaftanstaaf")?;
@@ -58,20 +79,31 @@ pub(crate) fn tim(alloc: Global) -> io::Result<Users> {
     Ok(Users::new(users))
 }
 
-// Whether a session was told that, behind the greeting.
-fn is_told(output: &[u8], wanted: &[u8]) -> bool {
-    output.strip_prefix(HELLO) == Some(wanted)
+// What a session was told, as a script writes it: each line behind the seat.
+fn add_lines(seat: u8, told: &[u8], text: &mut Vec<u8>) -> io::Result<()> {
+    let mut starts = true;
+    for octet in told {
+        if starts {
+            text.extend_from_slice(&[b'0' + seat % 10, b':', b' '])?;
+        }
+        if *octet != b'\r' {
+            text.push(*octet)?;
+        }
+        starts = *octet == b'\n';
+    }
+    Ok(())
 }
 
-// Whether sessions one after the other are told what they should be, and the passes fit the history.
-fn are_told<S, L, R>(
+// What clients one after the other are told in pieces of that size, each at a seat of its own, as a script writes it, and what the last
+// one is told. `None` where a session ends otherwise than it should, or the passes don't fit the history.
+fn told_in_pieces<S, L, R>(
     rt: &R,
     blank: Blank,
     state: State,
     counter: Blank,
-    rows: &[Row],
+    row: &Row,
     width: usize,
-) -> io::Result<bool>
+) -> io::Result<Option<(Vec<u8>, Vec<u8>)>>
 where
     S: Site,
     L: Ledger,
@@ -86,55 +118,93 @@ where
 {
     let alloc = rt.alloc();
     let users = tim(alloc)?;
-    let Some((served, mut passes)) = serve::<S, L>(alloc, blank, state, counter) else {
-        return Ok(false);
+    let Some((served, passes)) = serve::<S, L>(alloc, blank, state, counter) else {
+        return Ok(None);
     };
     let mut used = Vec::new(alloc);
-    let mut right = true;
-    for row in rows {
-        let (user, input, wanted) = *row;
-        let Some(pass) = passes.pop() else {
-            return Ok(false);
-        };
-        let wire = wire(alloc, input, width)?;
-        let done = run(
-            rt,
-            &served,
-            pass,
-            &users,
-            user,
-            wire,
-            no_bell(alloc)?,
-            100_000,
-        )?;
-        right = right && done.end == TaskEnd::Ended && is_told(done.output.as_slice(), wanted);
-        used.push(done.pass)?;
-    }
+    let mut text = Vec::new(alloc);
+    let mut last = Vec::new(alloc);
+    let mut clients = row.clients.iter();
     for pass in passes {
-        used.push(pass)?;
+        let Some((user, input)) = clients.next() else {
+            used.push(pass)?;
+            continue;
+        };
+        let visit = Visit {
+            user: *user,
+            wire: wire(alloc, *input, width)?,
+            bell: no_bell(alloc)?,
+            clock: Moment::new(row.clock).unwrap_or(Moment::first()),
+            turns: 100_000,
+        };
+        let seat = pass.seat().number();
+        let done = run(rt, &served, pass, &users, visit)?;
+        if done.end != TaskEnd::Ended || done.seating.owes_leave {
+            return Ok(None);
+        }
+        add_lines(seat, done.output.as_slice(), &mut text)?;
+        last = done.output;
+        used.push(done.seating.pass)?;
     }
-    Ok(right && served.close(used).is_ok())
+    Ok(served.close(used).is_ok().then(|| (text, last)))
+}
+
+// What a script of the same clients writes.
+fn told_by_script<L: Ledger>(alloc: Global, row: &Row, blank: Blank) -> Option<Vec<u8>>
+    requires name { blank.name ≡ L.name }
+    requires parts { blank.parts ≡ L.parts }
+    requires some { 0 < L.parts }
+{
+    let mut text = Vec::new(alloc);
+    let mut steps = Steps::<L>::new(blank);
+    run_script(alloc, &mut &*row.script, &mut text, &mut steps).ok()?;
+    Some(text)
+}
+
+// What a pipe of joe writes for the same octets.
+fn told_by_pipe<L: Ledger>(alloc: Global, input: &[u8], blank: Blank) -> Option<Vec<u8>>
+    requires name { blank.name ≡ L.name }
+    requires parts { blank.parts ≡ L.parts }
+    requires some { 0 < L.parts }
+{
+    let mut text = Vec::new(alloc);
+    let mut steps = Steps::<L>::new(blank);
+    let joe = UserName::read(alloc, b"joe").ok()?;
+    run_pipe(alloc, &mut &*input, &mut text, joe, &mut steps).ok()?;
+    Some(text)
+}
+
+// Whether clients are told the same in pieces of that size as by a script, and, where a pipe has the same client and clock, as by a pipe.
+fn are_alike<R>(rt: &R, row: &Row, width: usize) -> bool
+where
+    R: Wait + RandomSource + AllocGlobal,
+{
+    let alloc = rt.alloc();
+    let told = told_in_pieces::<Brand, Brand, _>(
+        rt,
+        Blank::new(64),
+        empty(alloc),
+        Blank::new(1),
+        row,
+        width,
+    );
+    let Ok(Some((text, last))) = told else {
+        return false;
+    };
+    if told_by_script::<Brand>(alloc, row, Blank::new(1)) != Some(text) {
+        return false;
+    }
+    match row.clients {
+        [(Some(_), input)] => told_by_pipe::<Brand>(alloc, *input, Blank::new(1)) == Some(last),
+        _ => true,
+    }
 }
 
 #[test]
 fn pieces_of_any_size_come_to_the_same(rt: HostRuntime) {
-    let alloc = rt.alloc();
-    for rows in [
-        NOOP.as_slice(),
-        TWO_SESSIONS.as_slice(),
-        LITERALS.as_slice(),
-        LOGIN.as_slice(),
-    ] {
+    for row in &ROWS {
         for width in [1, 2, 3, 7, 10_000] {
-            let told = are_told::<Brand, Brand, _>(
-                &rt,
-                Blank::new(64),
-                empty(alloc),
-                Blank::new(1),
-                rows,
-                width,
-            );
-            assert!(rt; told.unwrap_or(false));
+            assert!(rt; are_alike(&rt, row, width));
         }
     }
 }

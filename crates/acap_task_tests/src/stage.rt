@@ -11,8 +11,8 @@ use acap_login::Users;
 use acap_machine::State;
 use acap_rights::Realm;
 use acap_task::{
-    Bell, Chime, Conn, MemBell, MemWire, Over, PassDesk, Plan, Ringer, SessionTask, Source,
-    TaskEnd, Transfer,
+    Bell, Chime, Conn, MemBell, MemWire, Over, PassDesk, Plan, Ringer, Seating, SessionTask,
+    Source, TaskEnd, Transfer,
 };
 use futures::executor::block_on;
 use std::alloc::{AllocGlobal, Global};
@@ -55,17 +55,29 @@ impl Ringer for Silent {
     fn ring(&self, _seats: u64) {}
 }
 
+/// A session that is to run: its user, or nobody, its devices, what its clock shows, and after how many polls it ends.
+#[derive(Drop)]
+pub(crate) struct Visit<'a, B: Bell> {
+    pub(crate) user: Option<&'a [u8]>,
+    pub(crate) wire: MemWire,
+    pub(crate) bell: B,
+    pub(crate) clock: Moment,
+    pub(crate) turns: u64,
+}
+
 /// What came of a session.
 #[derive(Drop)]
 pub(crate) struct Done<S: Site> {
-    /// Its pass.
-    pub(crate) pass: Pass<S>,
+    /// Its pass, and whether a Leave was refused.
+    pub(crate) seating: Seating<S>,
     /// What its wire wrote.
     pub(crate) output: Vec<u8>,
     /// How it ended.
     pub(crate) end: TaskEnd,
     /// How often it was polled.
     pub(crate) polls: u64,
+    /// Whether it has entered.
+    pub(crate) entered: bool,
     /// Whether its last call was a Leave, or it made none.
     pub(crate) left: bool,
 }
@@ -102,35 +114,36 @@ pub(crate) fn no_bell(alloc: Global) -> io::Result<MemBell>
     Ok(MemBell::new(plan(alloc, 0, Chime::Waits, Chime::Ends)?))
 }
 
-/// A session of that user, or of nobody, from its beginning to its end.
+/// A session from its beginning to its end.
 pub(crate) fn run<'a, S, L, R, B>(
     rt: &'a R,
     served: &'a Served<S, L>,
     pass: Pass<S>,
     users: &'a Users,
-    user: Option<&[u8]>,
-    wire: MemWire,
-    bell: B,
-    turns: u64,
+    visit: Visit<'_, B>,
 ) -> io::Result<Done<S>>
 where
     S: Site,
     L: Ledger,
     R: Wait + RandomSource + AllocGlobal,
     B: Bell,
-    requires wire { wire.told ≡ new_wire }
-    requires bell { Agrees (B.told bell).rings 0 }
-    requires turns { 0 < turns }
+    requires wire { visit.wire.told ≡ new_wire }
+    requires bell { Agrees (B.told visit.bell).rings 0 }
+    requires turns { 0 < visit.turns }
 {
     let alloc = rt.alloc();
+    let Visit {
+        user,
+        wire,
+        bell,
+        clock,
+        turns,
+    } = visit;
     let user = match user {
         Some(name) => UserName::read(alloc, name).ok(),
         None => None,
     };
-    let source = Still {
-        clock: Moment::new(697_170_952_000_000).unwrap_or(Moment::first()),
-        nonce: 1896,
-    };
+    let source = Still { clock, nonce: 1896 };
     let mut host = Vec::new(alloc);
     host.extend_from_slice(b"postoffice.reston.mci.net")?;
     let desk = PassDesk::new(alloc, rt, served, &Silent, pass);
@@ -152,15 +165,20 @@ where
     } = block_on(rt, task)?;
     let mut output = Vec::new(alloc);
     output.extend_from_slice(running.wire.output())?;
-    let left = match running.desk.calls.last() {
+    let calls = running.desk.calls.as_slice();
+    let entered = calls
+        .iter()
+        .any(|item| matches!(item.event(), Event::Enter(_)));
+    let left = match calls.last() {
         Some(item) => matches!(item.event(), Event::Leave),
         None => true,
     };
     Ok(Done {
-        pass: running.desk.into_seating().pass,
+        seating: running.desk.into_seating(),
         output,
         end,
         polls,
+        entered,
         left,
     })
 }

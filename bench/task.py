@@ -1,0 +1,212 @@
+#!/usr/bin/env python3
+"""Refuses each allocation of one session that runs as a task (`acap_task`), in turn, and checks that it leaves its seat.
+
+    python3 bench/task.py build PROGRAM       # proves the program, and builds it without checks
+    python3 bench/task.py refuse PROGRAM
+
+The session logs in by CRAM-MD5 over a wire in memory, asks for its rights, and logs out. It is written in a clone of the repository, over
+the stage of `acap_task_tests`. Of each run this must hold: what was written is a beginning of what it is told without a refusal, or a
+command is answered `NO (TRYLATER)`, and where an Enter was answered Ok, the last call is a Leave, or a Leave was asked and refused. At
+least one run must be one in which the seat was entered and the login's OK wasn't written, for want of memory.
+"""
+import argparse
+import collections
+import pathlib
+import shutil
+import subprocess
+import sys
+import tempfile
+
+import locked
+
+LINE = "task_runs: acap_commands acap_entries acap_login acap_rights acap_machine acap_locked acap_task futures"
+
+PROGRAM = r"""
+//! A session that logs in over a wire in memory, and how it ended.
+#![tactic(auto)]
+
+ghost use Rattle.std.specs.Prelude.{◌≡◌, ◌<◌};
+
+mod stage;
+
+use crate::stage::{Done, Visit, empty, no_bell, run, serve, wire};
+use acap_entries::{Moment, UserName};
+use acap_locked::Site;
+use acap_login::Users;
+use acap_machine::State;
+use acap_task::TaskEnd;
+use std::alloc::{AllocGlobal, Global};
+use std::io;
+use std::marker::Brand;
+use std::random::RandomSource;
+use std::sync::Wait;
+use std::sync::ledger::{Blank, Ledger};
+
+const LOGIN: &[u8] =
+    b"A1 AUTHENTICATE \"CRAM-MD5\"\r\n\"tim b913a602c7eda7a495b4e6e7334d3890\"\r\nA2 MYRIGHTS (\"/option/~/\")\r\nA3 LOGOUT\r\n";
+
+// Tim and his secret.
+fn tim(alloc: Global) -> io::Result<Users> {
+    let mut users = Vec::new(alloc);
+    let mut secret = Vec::new(alloc);
+    secret.extend_from_slice(b"tanstaaftanstaaf")?;
+    if let Ok(name) = UserName::read(alloc, b"tim") {
+        users.push((name, secret))?;
+    }
+    Ok(Users::new(users))
+}
+
+fn end_word(end: TaskEnd) -> &'static str {
+    match end {
+        TaskEnd::Ended => "ended",
+        TaskEnd::ReadFault => "read fault",
+        TaskEnd::WriteFault => "write fault",
+        TaskEnd::TurnsSpent => "turns spent",
+        TaskEnd::Memory => "memory",
+    }
+}
+
+fn tell<S: Site>(rt: &HostRuntime, done: io::Result<Done<S>>) -> io::Result<()> {
+    let Ok(done) = done else {
+        return println!(rt; "not run");
+    };
+    let Done { seating, output, end, entered, left, .. } = done;
+    println!(rt; "{}", end_word(end))?;
+    println!(rt; "entered {entered} left {left} owes {}", seating.owes_leave)?;
+    let text = String::from_utf8(output).unwrap_or(String::new(rt.alloc()));
+    println!(rt; "{text}")
+}
+
+fn session<S, L, R>(
+    rt: &HostRuntime,
+    handle: &R,
+    blank: Blank,
+    state: State,
+    counter: Blank,
+) -> io::Result<()>
+where
+    S: Site,
+    L: Ledger,
+    R: Wait + RandomSource + AllocGlobal,
+    requires name { blank.name ≡ S.name }
+    requires parts { blank.parts ≡ S.parts }
+    requires seats { blank.parts ≡ 64 }
+    requires base { state.machine ≡ S.base }
+    requires counter_name { counter.name ≡ L.name }
+    requires counter_parts { counter.parts ≡ L.parts }
+    requires some { 0 < L.parts }
+{
+    let alloc = rt.alloc();
+    let users = tim(alloc)?;
+    let Some((served, mut passes)) = serve::<S, L>(alloc, blank, state, counter) else {
+        return println!(rt; "no machine");
+    };
+    let Some(pass) = passes.pop() else {
+        return println!(rt; "no pass");
+    };
+    let visit = Visit {
+        user: None,
+        wire: wire(alloc, LOGIN, 1_000)?,
+        bell: no_bell(alloc)?,
+        clock: Moment::new(697_170_952_000_000).unwrap_or(Moment::first()),
+        turns: 1_000,
+    };
+    println!(rt; "-- now")?;
+    let done = run(handle, &served, pass, &users, visit);
+    println!(rt; "-- done")?;
+    tell(rt, done)
+}
+
+fn one<R>(rt: &HostRuntime, handle: &R) -> io::Result<()>
+where
+    R: Wait + RandomSource + AllocGlobal,
+{
+    session::<Brand, Brand, R>(rt, handle, Blank::new(64), empty(rt.alloc()), Blank::new(1))
+}
+
+fn main(rt: HostRuntime) -> io::Result<()> {
+    one(&rt, &rt)
+}
+"""
+
+PROOFS = {
+    "Lib.antt": "",
+    "one/Invariants.antt": r"""
+use Rattle.task_runs.proofs.one.Given as goal
+
+abbrev pub ghosts-session-S-Site : goal.ghosts-session-S-Site
+ghosts-session-S-Site g a = record { base = a.state }
+
+abbrev pub ghosts-session-S-Ledger : goal.ghosts-session-S-Ledger
+ghosts-session-S-Ledger g a = record { name = a.blank.name; parts = a.blank.parts }
+
+abbrev pub ghosts-session-L-Ledger : goal.ghosts-session-L-Ledger
+ghosts-session-L-Ledger g a = record { name = a.counter.name; parts = a.counter.parts }
+""",
+}
+
+OK = 'A1 OK "AUTHENTICATE done"'
+
+
+def build(top, program):
+    with tempfile.TemporaryDirectory() as folder:
+        clone, crate = locked.add_program(top, folder, LINE, PROGRAM, PROOFS)
+        shutil.copy(clone / "crates/acap_task_tests/src/stage.rt", crate / "src/stage.rt")
+        locked.give_libraries(top, clone)
+        subprocess.run(["rt", "run"], cwd=crate, check=True)
+        shutil.copy(crate / "out/task_runs", program)
+
+
+def told(program, at):
+    """Of a run in which that allocation of the session is refused: how it ended, whether it entered, left and owes a Leave, what it wrote,
+    and how many allocations it asked for."""
+    done, asked = program.run_alone(at)
+    lines = done.split("-- done\n", 1)[1].splitlines()
+    if lines[0] == "not run":
+        return None, asked
+    _, entered, _, left, _, owes = lines[1].split()
+    return (lines[0], entered == "true", left == "true", owes == "true", [line for line in lines[2:] if line]), asked
+
+
+def is_right(run, honest):
+    """Whether such a run is one that is allowed."""
+    end, entered, left, owes, wrote = run
+    kept = not entered or left or owes
+    if any("NO (TRYLATER)" in line for line in wrote):
+        return kept
+    return kept and wrote == honest[:len(wrote)] and end in ("ended", "memory")
+
+
+def refuse(path):
+    with tempfile.TemporaryDirectory() as folder:
+        program = locked.Program(path, folder)
+        whole, count = told(program, 0)
+        honest, counts, unsaid = whole[4], collections.Counter(), 0
+        if not (whole[:4] == ("ended", True, True, False) and OK in honest):
+            sys.exit(f"bench/task.py: without a refusal: {whole}")
+        for at in range(1, count + 1):
+            run, _ = told(program, at)
+            if run is None:
+                counts["not run"] += 1
+                continue
+            if not is_right(run, honest):
+                sys.exit(f"bench/task.py: allocation {at}: WRONG: {run}")
+            counts["TRYLATER" if any("TRYLATER" in line for line in run[4]) else run[0]] += 1
+            unsaid += run[0] == "memory" and run[1] and OK not in run[4]
+    print(f"a login: {count} allocations refused: " + ", ".join(f"{n} {word}" for word, n in sorted(counts.items())) + ", all as wanted")
+    print(f"    {unsaid} of them after the seat was entered and before the login's OK was written: each asked Leave")
+    if not unsaid:
+        sys.exit("bench/task.py: no run shows the printing of the login's OK")
+
+
+def main():
+    words = argparse.ArgumentParser()
+    words.add_argument("what", choices=["build", "refuse"])
+    words.add_argument("program")
+    given = words.parse_args()
+    top = pathlib.Path(__file__).resolve().parent.parent
+    build(top, given.program) if given.what == "build" else refuse(given.program)
+
+
+if __name__ == "__main__":
+    main()
