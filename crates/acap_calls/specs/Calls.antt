@@ -1,6 +1,7 @@
 -- What the words behind the program's name ask for, what is done then, and with which status and line that ends.
 use Rattle.std.specs.Prelude.{◌≡◌, ℕ, List, [], ◌∷◌, map, string_bytes, Bool, true, false, ◌&&◌, codes, Option, Some, None, Result, Ok, Err}
 use Rattle.std.specs.Io.KnownBytes.{Appends}
+use Rattle.std.specs.declared.alloc.Global.{Global}
 use Rattle.std.specs.declared.io.ErrorKind.{ErrorKind}
 use Rattle.std.specs.declared.io.ErrorKind.TheVariants as kind
 use Rattle.std.specs.declared.string.String.{String}
@@ -29,11 +30,17 @@ abbrev pub is_script : List (List ℕ) → Bool
 is_script (verb ∷ []) = octets_eq verb (codes "script")
 is_script _ = false
 
--- a session of that user, a script, nothing where the words are no such call, or memory was refused
+-- `serve FILE`
+abbrev pub is_serve : List (List ℕ) → Bool
+is_serve (verb ∷ file ∷ []) = octets_eq verb (codes "serve")
+is_serve _ = false
+
+-- a session of that user, a script, a server with that file, nothing where the words are no such call, or memory was refused
 abbrev pub IsCall : List (List ℕ) → Call → Type 0
-IsCall words call.Nothing = (is_pipe words ≡ false) × (is_script words ≡ false)
+IsCall words call.Nothing = (is_pipe words ≡ false) × (is_script words ≡ false) × (is_serve words ≡ false)
 IsCall words call.Script = words ≡ codes "script" ∷ []
 IsCall words (call.Pipe user) = (words ≡ codes "pipe" ∷ user ∷ []) × (is_user_name user ≡ true)
+IsCall words (call.Serve file) = words ≡ codes "serve" ∷ string_bytes file ∷ []
 IsCall words (call.Refused f) = f ≡ fault.Memory
 
 -- words that can't be read ask for nothing, but where memory is refused
@@ -72,16 +79,26 @@ pub record DoesScript (unread left old new told tells : Option (List ℕ)) (stat
   pub runs : Runs unread left old new done
   pub ends : Ends (fault_in of_script done) told tells status
 
--- nothing is read or written but the line of a wrong call, or of a fault, is told
-abbrev pub Does : Call → Option (List ℕ) → Option (List ℕ) → Option (List ℕ) → Option (List ℕ) → Option (List ℕ) → Option (List ℕ) → ℕ → Type 0
-Does call.Nothing unread left old new told tells status = (left ≡ unread) × (new ≡ old) × (status ≡ 2) × Appends told tells usage
-Does call.Script unread left old new told tells status = DoesScript unread left old new told tells status
-Does (call.Pipe user) unread left old new told tells status = DoesPipe user unread left old new told tells status
-Does (call.Refused f) unread left old new told tells status = (left ≡ unread) × (new ≡ old) × Ends (Some f) told tells status
+-- a server that can end so, called with that file, and how it ended
+abbrev pub Server : Type 1
+Server = String Global → Result (Unit {0}) Fault → Type 0
 
--- By the words of a call: what it reads, `unread` before it and `left` behind it, what it writes, what it tells on
+pub record DoesServe (server : Server) (file : String Global) (told tells : Option (List ℕ)) (status : ℕ) : Type 0 where
+  pub done : Result (Unit {0}) Fault
+  pub served : server file done
+  pub ends : Ends (fault_in (λ f. f) done) told tells status
+
+-- nothing is read or written but the line of a wrong call, or of a fault, is told
+abbrev pub Does : Server → Call → Option (List ℕ) → Option (List ℕ) → Option (List ℕ) → Option (List ℕ) → Option (List ℕ) → Option (List ℕ) → ℕ → Type 0
+Does server call.Nothing unread left old new told tells status = (left ≡ unread) × (new ≡ old) × (status ≡ 2) × Appends told tells usage
+Does server call.Script unread left old new told tells status = DoesScript unread left old new told tells status
+Does server (call.Pipe user) unread left old new told tells status = DoesPipe user unread left old new told tells status
+Does server (call.Serve file) unread left old new told tells status = (left ≡ unread) × (new ≡ old) × DoesServe server file told tells status
+Does server (call.Refused f) unread left old new told tells status = (left ≡ unread) × (new ≡ old) × Ends (Some f) told tells status
+
+-- By the server and the words of a call: what it reads, `unread` before it and `left` behind it, what it writes, what it tells on
 -- standard error, and its status.
-pub record Calls (words : Result (List (List ℕ)) ErrorKind) (unread left old new told tells : Option (List ℕ)) (status : ℕ) : Type 0 where
+pub record Calls (server : Server) (words : Result (List (List ℕ)) ErrorKind) (unread left old new told tells : Option (List ℕ)) (status : ℕ) : Type 0 where
   pub asked : Call
   pub is : IsCallOf words asked
-  pub does : Does asked unread left old new told tells status
+  pub does : Does server asked unread left old new told tells status

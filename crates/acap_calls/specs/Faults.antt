@@ -26,4 +26,7 @@ abbrev pub line_of : Fault → List ℕ
 line_of fault.Read = codes "acapd: cannot read\n"
 line_of fault.Write = codes "acapd: cannot write\n"
 line_of fault.Memory = codes "acapd: no memory\n"
+line_of fault.Settings = codes "acapd: bad settings\n"
+line_of fault.Listen = codes "acapd: cannot listen\n"
+line_of fault.Unequal = codes "acapd: history unequal\n"
 line_of (fault.Line n) = codes "acapd: bad script line " ++ decimal n ++ codes "\n"

@@ -12,6 +12,8 @@ pub(crate) enum Call {
     Pipe(UserName),
     /// A script, from standard input, whose sessions are written to standard output.
     Script,
+    /// A server, with the settings of that file.
+    Serve(String),
     /// It could not be read.
     Refused(Fault),
 }

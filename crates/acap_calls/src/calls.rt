@@ -20,12 +20,24 @@ fn pipe_of(alloc: Global, user: &[u8]) -> Call
     }
 }
 
+// What the word behind `serve` asks for: a server with the settings of the file that it names.
+fn serve_of(alloc: Global, file: &str) -> Call
+    ensures { IsCall (codes "serve" ∷ file.now ∷ []) result }
+{
+    match String::from_str(alloc, file) {
+        Ok(file) => Call::Serve(file),
+        Err(_) => Call::Refused(Fault::Memory),
+    }
+}
+
 // What two words ask for.
-fn call_of(alloc: Global, verb: &[u8], user: &[u8]) -> Call
-    ensures { IsCall (verb.now ∷ user.now ∷ []) result }
+fn call_of(alloc: Global, verb: &[u8], word: &str) -> Call
+    ensures { IsCall (verb.now ∷ word.now ∷ []) result }
 {
     if verb == b"pipe".as_slice() {
-        pipe_of(alloc, user)
+        pipe_of(alloc, word.as_bytes())
+    } else if verb == b"serve".as_slice() {
+        serve_of(alloc, word)
     } else {
         Call::Nothing
     }
@@ -49,12 +61,12 @@ fn asked_by(alloc: Global, words: &[String]) -> Call
     let Some((verb, behind)) = words.split_first() else {
         return Call::Nothing;
     };
-    let Some((user, more)) = behind.split_first() else {
+    let Some((word, more)) = behind.split_first() else {
         return call_alone(verb.as_bytes());
     };
     match more.first() {
         Some(_) => Call::Nothing,
-        None => call_of(alloc, verb.as_bytes(), user.as_bytes()),
+        None => call_of(alloc, verb.as_bytes(), word.as_str()),
     }
 }
 

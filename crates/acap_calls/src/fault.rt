@@ -4,8 +4,8 @@ use acap_session::{PipeFault, ScriptFault};
 
 /// Why the program could not go on.
 #[derive(Clone, Copy, PartialEq, Eq)]
-pub(crate) enum Fault {
-    /// Standard input failed.
+pub enum Fault {
+    /// Standard input failed, or a file can't be read.
     Read,
     /// Standard output failed.
     Write,
@@ -13,6 +13,12 @@ pub(crate) enum Fault {
     Memory,
     /// This line of a script, counted from 1, is none, or can't stand where it does.
     Line(u64),
+    /// A settings file is none.
+    Settings,
+    /// The server can't listen where its settings say.
+    Listen,
+    /// The calls of the server's sessions don't agree with its history.
+    Unequal,
 }
 
 impl From<PipeFault> for Fault {

@@ -34,6 +34,9 @@ fn write_line<W: io::Write>(fault: Fault, out: &mut W) -> io::Result<()>
         Fault::Write => out.write_all(b"acapd: cannot write\n"),
         Fault::Memory => out.write_all(b"acapd: no memory\n"),
         Fault::Line(number) => write!(out, "acapd: bad script line {number}\n"),
+        Fault::Settings => out.write_all(b"acapd: bad settings\n"),
+        Fault::Listen => out.write_all(b"acapd: cannot listen\n"),
+        Fault::Unequal => out.write_all(b"acapd: history unequal\n"),
     }
 }
 

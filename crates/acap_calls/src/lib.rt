@@ -7,4 +7,5 @@ mod fault;
 mod faults;
 mod running;
 
+pub use fault::Fault;
 pub use running::run_call;

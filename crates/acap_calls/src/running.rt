@@ -1,7 +1,7 @@
 //! A call of the program, from its words to its status.
 
 ghost use Rattle.std.specs.Prelude.{IfOk};
-ghost use Rattle.acap_calls.specs.Calls.{Calls, DoesPipe, DoesScript, words_of};
+ghost use Rattle.acap_calls.specs.Calls.{Calls, DoesPipe, DoesScript, DoesServe, words_of};
 
 use crate::call::Call;
 use crate::calls::read_call;
@@ -49,23 +49,41 @@ fn script<R: Read, W: Write, E: Write, L: Ledger>(
     }
 }
 
+// A server.
+fn serve<V, E: Write>(serve: V, file: String, errors: &mut E) -> io::Result<u8>
+where
+    V: FnOnce(String) -> Result<(), Fault>,
+    requires { V.pre serve file }
+    ensures { IfOk result (λ status. DoesServe (V.post serve) file (E.contents errors.old) (E.contents errors.new) status) }
+{
+    match serve(file) {
+        Ok(()) => Ok(DONE),
+        Err(fault) => tell(fault, errors),
+    }
+}
+
 /// Does what the words behind the program's name ask for, and gives the status with which the call ends: 0, or 1 where a
-/// fault is told, or 2 where the words are no call, or can't be read. Fails where that can't be told. Each entry that a search
-/// looks at counts as a step.
-pub fn run_call<R: Read, W: Write, E: Write, L: Ledger>(
+/// fault is told, or 2 where the words are no call, or can't be read. Fails where that can't be told. A server is what is
+/// lent: it is called with the name of its settings file. Each entry that a search looks at counts as a step.
+pub fn run_call<R: Read, W: Write, E: Write, L: Ledger, V>(
     alloc: Global,
     words: &Result<Vec<String>, ErrorKind>,
     reader: &mut R,
     writer: &mut W,
     errors: &mut E,
     steps: &mut Steps<L>,
+    server: V,
 ) -> io::Result<u8>
-    ensures { IfOk result (λ status. Calls (words_of words.now) (R.remaining reader.old) (R.remaining reader.new) (W.contents writer.old) (W.contents writer.new) (E.contents errors.old) (E.contents errors.new) status) }
+where
+    V: FnOnce(String) -> Result<(), Fault>,
+    requires { (file : _) → V.pre server file }
+    ensures { IfOk result (λ status. Calls (V.post server) (words_of words.now) (R.remaining reader.old) (R.remaining reader.new) (W.contents writer.old) (W.contents writer.new) (E.contents errors.old) (E.contents errors.new) status) }
 {
     match read_call(alloc, words) {
         Call::Nothing => refuse(errors),
         Call::Refused(fault) => tell(fault, errors),
         Call::Pipe(user) => pipe(alloc, user, reader, writer, errors, steps),
         Call::Script => script(alloc, reader, writer, errors, steps),
+        Call::Serve(file) => serve(server, file, errors),
     }
 }

@@ -3,7 +3,7 @@
 use crate::difference::{Lines, first_lines};
 use crate::pieces::{PieceSizes, Pieces};
 use crate::row_file::{Kind, Row};
-use acap_calls::run_call;
+use acap_calls::{Fault, run_call};
 use acap_entries::{Steps, UserName};
 use acap_session::{ScriptFault, run_pipe, run_script};
 use std::alloc::{AllocError, Global};
@@ -99,7 +99,15 @@ fn called<L: Ledger>(
     let mut text = Vec::new(alloc);
     let mut told = Vec::new(alloc);
     let reader = &mut Pieces { left: sent, sizes };
-    match run_call(alloc, &words, reader, &mut text, &mut told, steps) {
+    match run_call(
+        alloc,
+        &words,
+        reader,
+        &mut text,
+        &mut told,
+        steps,
+        |_file| Err(Fault::Listen),
+    ) {
         Ok(status) => {
             text.extend_from_slice(told.as_slice())?;
             let line = format!(in alloc; "status {status}\n")?;

@@ -3,11 +3,19 @@
 
 ghost use Rattle.std.specs.Prelude.{◌≡◌, ◌<◌};
 
-use acap_calls::run_call;
+use acap_calls::{Fault, run_call};
 use acap_entries::Steps;
+use acap_serving::{ServeFault, serve};
+use std::alloc::AllocGlobal;
+use std::fs::Files;
 use std::marker::Brand;
+use std::net::{Net, TcpListener, TcpStream};
 use std::process::ExitCode;
+use std::random::RandomSource;
+use std::sync::Wait;
 use std::sync::ledger::{Blank, Ledger};
+use std::thread::Threads;
+use std::time::Clock;
 use std::{env, io};
 
 // The words behind the program's name.
@@ -21,8 +29,28 @@ fn words(rt: &HostRuntime) -> io::Result<Vec<String>> {
     Ok(listed)
 }
 
-// Does what the words behind the program's name ask for. What its searches look at is counted.
-fn run<L: Ledger>(rt: &HostRuntime, blank: Blank) -> io::Result<ExitCode>
+// Why a server ended, as a fault of the program.
+fn fault_of(fault: ServeFault) -> Fault {
+    match fault {
+        ServeFault::Read => Fault::Read,
+        ServeFault::Settings => Fault::Settings,
+        ServeFault::Listen => Fault::Listen,
+        ServeFault::Unequal => Fault::Unequal,
+        ServeFault::Memory => Fault::Memory,
+    }
+}
+
+// Does what the words behind the program's name ask for. What its searches look at is counted. A server is given the handle.
+fn run<H, L: Ledger>(rt: &HostRuntime, handle: &H, blank: Blank) -> io::Result<ExitCode>
+where
+    H: Threads
+        + Wait
+        + Clock
+        + Net<Listener = TcpListener, Stream = TcpStream>
+        + RandomSource
+        + AllocGlobal
+        + Files
+        + Sync,
     requires name { blank.name ≡ L.name }
     requires parts { blank.parts ≡ L.parts }
     requires some { 0 < L.parts }
@@ -36,10 +64,11 @@ fn run<L: Ledger>(rt: &HostRuntime, blank: Blank) -> io::Result<ExitCode>
         &mut io::writer(rt),
         &mut rt.stderr(),
         &mut steps,
+        |file| serve(handle, file.as_str()).map_err(fault_of),
     )?;
     Ok(ExitCode::from(status))
 }
 
 fn main(rt: HostRuntime) -> io::Result<ExitCode> {
-    run::<Brand>(&rt, Blank::new(1))
+    run::<HostRuntime, Brand>(&rt, &rt, Blank::new(1))
 }

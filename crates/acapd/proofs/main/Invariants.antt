@@ -1,4 +1,4 @@
 use Rattle.acapd.proofs.main.Given as goal
 
 abbrev pub ghosts-run : goal.ghosts-run
-ghosts-run a = record { name = a.blank.name; parts = a.blank.parts }
+ghosts-run g a = record { name = a.blank.name; parts = a.blank.parts }

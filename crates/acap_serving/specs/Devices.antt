@@ -1,0 +1,15 @@
+-- What the devices of a server tell: none of what the system gives and takes, but how often that failed or was not ready.
+use Rattle.std.specs.Prelude.{None, false}
+use Rattle.acap_task.specs.Told.{BellTold, SourceTold, WireTold}
+
+-- nothing was done yet at a wire that tells its counts alone,
+abbrev pub silent_wire : WireTold
+silent_wire = record { taken = None; put = None; ended = false; read_faults = 0; write_faults = 0; read_waits = 0; write_waits = 0 }
+
+-- at a bell that tells of no ring,
+abbrev pub silent_bell : BellTold
+silent_bell = record { rings = None; ended = false; waits = 0 }
+
+-- and at a source, whatever it gave
+abbrev pub silent_source : SourceTold
+silent_source = record { moments = None; nonces = None }

@@ -1,0 +1,15 @@
+-- What a server reports at its end.
+use Rattle.std.specs.Prelude.{List}
+use Rattle.acap_locked.specs.Closing.{IsReport}
+use Rattle.acap_locked.specs.History.{IsLegal}
+use Rattle.acap_locked.specs.Shelf.{Shelf}
+use Rattle.acap_locked.specs.declared.held.Held.{Held}
+use Rattle.acap_locked.specs.declared.report.Report.{Report}
+use Rattle.acap_machine.specs.Machine.{Machine}
+
+-- A book that began with this machine, whose history is legal; its 64 passes hold exactly the calls of their seats.
+pub record IsReported (first : Machine) (report : Report) : Type 0 where
+  pub passes : List Held
+  pub shelf : Shelf
+  pub legal : IsLegal first shelf
+  pub is : IsReport passes shelf report

@@ -1,0 +1,45 @@
+//! The bells of seats.
+
+use acap_entries::{Memory, Seat};
+use acap_locked::{Pass, Site};
+use acap_task::Ringer;
+use std::alloc::Global;
+use tokio::sync::mpsc::{UnboundedReceiver, UnboundedSender, unbounded_channel};
+
+/// Rings the bells of seats from any thread. A ring for which memory is refused is lost; no clause says that one comes.
+#[derive(Drop)]
+pub struct Bells {
+    senders: Vec<(Seat, UnboundedSender<()>)>,
+}
+
+// Whether a seat is among these, each of which is a bit, the lowest for the first.
+fn has_seat(seats: u64, seat: Seat) -> bool {
+    (seats >> seat.number()) & 1 == 1
+}
+
+impl Bells {
+    /// A bell for the seat of each pass, and in the same order what hears it. Fails only for want of memory.
+    pub fn new<S: Site>(
+        alloc: Global,
+        passes: &[Pass<S>],
+    ) -> Result<(Bells, Vec<UnboundedReceiver<()>>), Memory> {
+        let mut senders = Vec::with_capacity(alloc, passes.len())?;
+        let mut receivers = Vec::with_capacity(alloc, passes.len())?;
+        for pass in passes {
+            let (sender, receiver) = unbounded_channel(alloc)?;
+            senders.push((pass.seat(), sender))?;
+            receivers.push(receiver)?;
+        }
+        Ok((Bells { senders }, receivers))
+    }
+}
+
+impl Ringer for Bells {
+    fn ring(&self, seats: u64) {
+        for (seat, sender) in &self.senders {
+            if has_seat(seats, *seat) {
+                let _ = sender.send(());
+            }
+        }
+    }
+}

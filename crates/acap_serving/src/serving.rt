@@ -1,0 +1,274 @@
+//! Serving sessions over TCP.
+ghost use denote.Param.Send.{IsSend, IsSync};
+ghost use Rattle.std.specs.Prelude.{◌≡◌, ◌<◌, IfOk};
+ghost use Rattle.acap_machine.specs.Machine.{new_machine};
+ghost use Rattle.acap_serving.specs.Histories.{IsReported};
+
+use crate::accept::Porch;
+use crate::bells::Bells;
+use crate::fault::ServeFault;
+use crate::hall::{Hall, Job};
+use crate::office::Office;
+use crate::setup::{Door, Setup};
+use crate::start::run_start;
+use crate::work::Working;
+use acap_entries::{Octets, Steps};
+use acap_locked::{Pass, Report, Served, Site};
+use acap_login::Users;
+use acap_machine::State;
+use acap_rights::Realm;
+use mio::{Events, Interest, Poll, Token, Waker};
+use std::alloc::{AllocError, AllocGlobal, Global};
+use std::fs::Files;
+use std::marker::Brand;
+use std::net::{Net, TcpListener, TcpStream};
+use std::random::RandomSource;
+use std::sync::ledger::{Blank, Ledger};
+use std::sync::{Mutex, Wait};
+use std::thread::Threads;
+use std::time::Clock;
+use std::{io, thread};
+use tokio::sync::mpsc::{UnboundedReceiver, UnboundedSender, unbounded_channel};
+
+const LISTENER: Token = Token(0);
+
+const WAKER: Token = Token(1);
+
+/// How many events a wait tells of at once.
+const EVENTS: usize = 16;
+
+// The listener of a door. What is accepted there never waits.
+fn open<R>(rt: &R, door: Door, listen: &Octets) -> io::Result<TcpListener>
+where
+    R: Net<Listener = TcpListener, Stream = TcpStream>,
+{
+    let listener = match door {
+        Door::Open(listener) => listener,
+        Door::Listed => match std::str::from_utf8(listen.as_slice()) {
+            Ok(address) => TcpListener::bind(rt, address)?,
+            Err(_) => return Err(io::ErrorKind::InvalidInput.into()),
+        },
+    };
+    listener.set_nonblocking(true)?;
+    Ok(listener)
+}
+
+// What waits for the listener, and what ends such a wait.
+fn wait_for<R: Net>(rt: &R, listener: &mut mio::net::TcpListener) -> io::Result<(Poll, Waker)> {
+    let poll = Poll::new(rt)?;
+    let waker = Waker::new(poll.registry(), WAKER)?;
+    poll.registry()
+        .register(listener, LISTENER, Interest::READABLE)?;
+    Ok((poll, waker))
+}
+
+// Serves sessions until so many have ended: what comes by a channel is worked off on a thread of its own. Says whether all threads began.
+fn serve_sessions<R, S, K, J>(
+    rt: &R,
+    keeper: &K,
+    hall: &Mutex<Hall<S>>,
+    porch: Porch<S>,
+    channels: Vec<J>,
+    sessions: u64,
+) -> bool
+where
+    R: Threads + Wait + Clock + Sync,
+    S: Site + Send + Sync,
+    K: Working<J> + Sync,
+    J: Send + Drop,
+{
+    thread::scope(
+        thread::scope_env(),
+        rt,
+        move |scope|
+            requires { IsSync R.row × IsSync K.row × IsSend J.row }
+        {
+            let mut porch = porch;
+            for jobs in channels {
+                if scope.spawn(move || keeper.work(jobs)).is_err() {
+                    hall.lock(rt).note(false);
+                }
+            }
+            let begun = porch.has_begun(rt, hall);
+            if begun {
+                porch.accept(rt, hall, sessions);
+            }
+            begun
+        },
+    )
+}
+
+// A channel to each worker.
+fn channels<S: Site>(
+    alloc: Global,
+    workers: u32,
+) -> Result<(Vec<UnboundedSender<Job<S>>>, Vec<UnboundedReceiver<Job<S>>>), AllocError> {
+    let mut senders = Vec::new(alloc);
+    let mut receivers = Vec::new(alloc);
+    for _ in 0..workers {
+        let (sender, receiver) = unbounded_channel(alloc)?;
+        senders.push(sender).map_err(|_| AllocError)?;
+        receivers.push(receiver).map_err(|_| AllocError)?;
+    }
+    Ok((senders, receivers))
+}
+
+/// What of its settings a server needs once it listens.
+#[derive(Drop)]
+struct Terms {
+    listen: Octets,
+    host: Octets,
+    workers: u32,
+    turns: u64,
+    sessions: u64,
+    users: Users,
+}
+
+// Listens, serves sessions until so many have ended, and gives the passes back.
+fn listen<R, S, L>(
+    rt: &R,
+    served: &Served<S, L>,
+    bells: &Bells,
+    hall: Hall<S>,
+    terms: &Terms,
+    door: Door,
+) -> Result<Vec<Pass<S>>, ServeFault>
+where
+    R: Threads
+        + Wait
+        + Clock
+        + Net<Listener = TcpListener, Stream = TcpStream>
+        + RandomSource
+        + AllocGlobal
+        + Sync,
+    S: Site + Send + Sync,
+    L: Ledger + Send + Sync,
+    requires turns { 0 < terms.now.turns }
+{
+    let alloc = rt.alloc();
+    let listener = open(rt, door, &terms.listen).map_err(ServeFault::of_listening)?;
+    let mut listener = mio::net::TcpListener::from_std(listener);
+    let (poll, waker) = wait_for(rt, &mut listener).map_err(ServeFault::of_listening)?;
+    let (workers, receivers) = channels(alloc, terms.workers)?;
+    let porch = Porch {
+        poll,
+        events: Events::with_capacity(alloc, EVENTS)?,
+        listener,
+        workers,
+    };
+    let hall = Mutex::new(hall);
+    let office = Office {
+        rt,
+        served,
+        bells,
+        hall: &hall,
+        waker: &waker,
+        users: &terms.users,
+        host: &terms.host,
+        turns: terms.turns,
+    };
+    if !serve_sessions(rt, &office, &hall, porch, receivers, terms.sessions) {
+        return Err(ServeFault::Memory);
+    }
+    Ok(hall.into_inner().into_passes(alloc)?)
+}
+
+// A server over a machine of its own, from its start to its close.
+fn run_site<R, S, L>(
+    rt: &R,
+    blank: Blank,
+    state: State,
+    counter: Blank,
+    terms: &Terms,
+    start: Option<Vec<u8>>,
+    door: Door,
+) -> Result<Report, ServeFault>
+where
+    R: Threads
+        + Wait
+        + Clock
+        + Net<Listener = TcpListener, Stream = TcpStream>
+        + RandomSource
+        + AllocGlobal
+        + Sync,
+    S: Site + Send + Sync,
+    L: Ledger + Send + Sync,
+    requires name { blank.name ≡ S.name }
+    requires parts { blank.parts ≡ S.parts }
+    requires seats { blank.parts ≡ 64 }
+    requires base { state.machine ≡ S.base }
+    requires counter_name { counter.name ≡ L.name }
+    requires counter_parts { counter.parts ≡ L.parts }
+    requires some { 0 < L.parts }
+    requires turns { 0 < terms.now.turns }
+    ensures { IfOk result (IsReported S.base) }
+{
+    let alloc = rt.alloc();
+    let steps = Steps::<L>::new(counter);
+    let (served, passes) = Served::<S, L>::new(alloc, blank, state, steps)?;
+    let (bells, receivers) = Bells::new(alloc, &passes)?;
+    let mut hall = Hall::new(alloc, passes, receivers)?;
+    if let Some(text) = start {
+        if let Some(place) = hall.take() {
+            let place = run_start(rt, &served, &bells, place, &terms.users, &terms.host, text)?;
+            hall.give(place);
+        }
+    }
+    let passes = listen(rt, &served, &bells, hall, terms, door)?;
+    Ok(served.close(passes)?)
+}
+
+/// Serves what was set up, as `serve` does, at that door, and gives the report of its machine.
+pub fn serve_at<R>(rt: &R, setup: Setup, door: Door) -> Result<Report, ServeFault>
+where
+    R: Threads
+        + Wait
+        + Clock
+        + Net<Listener = TcpListener, Stream = TcpStream>
+        + RandomSource
+        + AllocGlobal
+        + Sync,
+    ensures { IfOk result (IsReported (new_machine (record { administrators = setup.settings.administrators; groups = setup.settings.groups }))) }
+{
+    let alloc = rt.alloc();
+    let Setup { settings, start } = setup;
+    let realm = Realm {
+        administrators: settings.administrators,
+        groups: settings.groups,
+    };
+    let terms = Terms {
+        listen: settings.listen,
+        host: settings.host,
+        workers: settings.workers,
+        turns: u64::from(settings.turns).max(1),
+        sessions: u64::from(settings.sessions),
+        users: settings.users,
+    };
+    let state = State::new(alloc, realm);
+    run_site::<R, Brand, Brand>(
+        rt,
+        Blank::new(64),
+        state,
+        Blank::new(1),
+        &terms,
+        start,
+        door,
+    )
+}
+
+/// Serves sessions over TCP as a settings file says.
+pub fn serve<R>(rt: &R, file: &str) -> Result<(), ServeFault>
+where
+    R: Threads
+        + Wait
+        + Clock
+        + Net<Listener = TcpListener, Stream = TcpStream>
+        + RandomSource
+        + AllocGlobal
+        + Files
+        + Sync,
+{
+    let setup = Setup::read(rt, file)?;
+    let _report = serve_at(rt, setup, Door::Listed)?;
+    Ok(())
+}

@@ -1,0 +1,71 @@
+//! Workers.
+ghost use Rattle.futures.specs.Runs.{AllItems};
+
+use crate::hall::Job;
+use crate::office::Office;
+use crate::sitting::Sittings;
+use acap_locked::Site;
+use futures::{Future, Stream, StreamExt};
+use std::alloc::AllocGlobal;
+use std::io;
+use std::net::Net;
+use std::random::RandomSource;
+use std::sync::Wait;
+use std::sync::ledger::Ledger;
+use std::time::Clock;
+use tokio::runtime::LocalRuntime;
+use tokio::sync::mpsc::UnboundedReceiver;
+
+/// The most sessions at once.
+const SESSIONS: usize = 64;
+
+/// Polls the futures of a stream until it ends and all of them have ended, each once it is woken.
+pub(crate) fn run_stream<R, T, F>(rt: &R, runtime: &mut LocalRuntime, stream: T) -> io::Result<()>
+where
+    R: Wait + Clock + RandomSource + AllocGlobal,
+    T: Stream<Item = F>,
+    F: Future<Output = ()>,
+    requires stream { T.can_poll stream }
+    requires items { AllItems (T.yields stream) F.can_poll }
+{
+    let all = stream.buffer_unordered(rt.alloc(), SESSIONS)?.count();
+    let _count = runtime.block_on(rt, all)?;
+    Ok(())
+}
+
+// Serves the jobs of a channel until it ends and their sessions have ended.
+fn serve_jobs<R, S, L>(
+    office: &Office<'_, R, S, L>,
+    jobs: UnboundedReceiver<Job<S>>,
+) -> io::Result<()>
+where
+    R: Wait + Clock + Net + RandomSource + AllocGlobal,
+    S: Site,
+    L: Ledger,
+{
+    let mut runtime = LocalRuntime::new(office.rt)?;
+    let handle = runtime.handle().reactor().clone()?;
+    let sittings = Sittings::new(office, jobs, handle);
+    run_stream(office.rt, &mut runtime, sittings)
+}
+
+/// What works off the jobs of a channel.
+pub(crate) trait Working<J> {
+    /// Works them off, until the channel ends and all are done.
+    fn work(&self, jobs: J);
+}
+
+/// A worker: a thread with a runtime of its own, which polls each session that comes by its channel once that is woken. It ends with
+/// the channel, when its sessions have ended.
+impl<R, S, L> Working<UnboundedReceiver<Job<S>>> for Office<'_, R, S, L>
+where
+    R: Wait + Clock + Net + RandomSource + AllocGlobal,
+    S: Site,
+    L: Ledger,
+{
+    fn work(&self, jobs: UnboundedReceiver<Job<S>>) {
+        if serve_jobs(self, jobs).is_err() {
+            self.note(false);
+        }
+    }
+}
