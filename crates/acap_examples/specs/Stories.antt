@@ -1,0 +1,51 @@
+-- Stories of sessions: runs of a world, and what is shown of the client of a context in them [RFC 2244 sections 3.3 and 6.5].
+use Rattle.std.specs.Prelude.{◌≡◌, List, [], false, map, Some}
+use Rattle.acap_entries.specs.declared.row.Row.{Row}
+use Rattle.acap_examples.specs.declared.deed.Deed.{Deed}
+use Rattle.acap_examples.specs.declared.deed.Deed.TheVariants as deed
+use Rattle.acap_examples.specs.declared.occasion.Occasion.{Occasion}
+use Rattle.acap_examples.specs.declared.step.Step.{Step}
+use Rattle.acap_examples.specs.declared.story.Story.{Story}
+use Rattle.acap_machine.specs.Client.{View}
+use Rattle.acap_notices.specs.Holding.{Holding, HasRows}
+use Rattle.acap_session.specs.Live.{Telling, IsTelling, client}
+use Rattle.acap_session.specs.World as world
+
+-- a step as one of a world: no event is refused memory
+abbrev pub deed_of : Deed → world.Deed
+deed_of (deed.Open user) = world.Open (Some user)
+deed_of (deed.Piece octets) = world.Piece octets
+deed_of deed.Turn = world.Turn
+
+abbrev pub step_on : Occasion → world.Deed → world.Step
+step_on o does = record { occasion = record { seat = o.seat; clock = o.clock; nonce = o.nonce }; refused = false; deed = does }
+
+abbrev pub turn_on : Occasion → world.Step
+turn_on o = step_on o world.Turn
+
+abbrev pub as_step : Step → world.Step
+as_step step = step_on step.occasion (deed_of step.deed)
+
+-- a story as a run of a new world into which nobody may log in, of whose last step the law of clients speaks
+abbrev pub telling_of : Story → Telling
+telling_of story = record {
+  realm = story.realm;
+  users = [];
+  host = story.host;
+  steps = map as_step story.steps.items;
+  last = as_step story.last;
+  seat = story.seat;
+  name = story.name;
+}
+
+-- all premises of the law of clients hold of a run, and the client holds that
+pub record Shows (t : Telling) (held : Holding) : Type 0 where
+  pub view : View
+  pub premises : IsTelling t view
+  pub holds : client t ≡ Some held
+
+-- and that is these rows: in their order with positions, by name without
+pub record ShowsRows (t : Telling) (rows : List Row) : Type 0 where
+  pub held : Holding
+  pub shows : Shows t held
+  pub rows_are : HasRows held rows

@@ -1,0 +1,53 @@
+//! What is shown of a story.
+ghost use Rattle.std.specs.Prelude.{IfOk, IsTrue};
+ghost use Rattle.acap_examples.specs.Stories.{Shows, ShowsRows, telling_of};
+
+use crate::following::follow;
+use crate::sessions::Sessions;
+use crate::story::Story;
+use crate::trouble::Trouble;
+use acap_entries::{Row, Steps};
+use acap_notices::Held;
+use std::alloc::Global;
+use std::sync::ledger::Ledger;
+
+/// Runs a story, and gives what the client of its context then holds. All premises of the law of such clients (`live_law` of
+/// `acap_session`) hold of it: where one doesn't, or memory is refused, nothing is given.
+pub fn shown<L: Ledger>(alloc: Global, story: Story, steps: &mut Steps<L>) -> Result<Held, Trouble>
+    ensures { IfOk result (λ held. Shows (telling_of story) held) }
+{
+    let Story {
+        realm,
+        host,
+        steps: before,
+        last,
+        seat,
+        name,
+    } = story;
+    let mut sessions = Sessions::new(alloc, realm, host);
+    let mut held = None;
+    for step in before {
+        let (_tells, after) = follow(&mut sessions, held, seat, &name, step, steps)?;
+        held = after;
+    }
+    let (tells, after) = follow(&mut sessions, held, seat, &name, last, steps)?;
+    if !tells {
+        return Err(Trouble::Untold);
+    }
+    after.ok_or(Trouble::Unbegun)
+}
+
+/// Whether the client of a story's context holds these rows at its end, in their order where it has positions.
+/// Where a premise of the law doesn't hold, or memory is refused, that is told instead. Without positions the
+/// rows are compared in the order in which they are held, and so `false` says nothing there.
+pub fn shows<L: Ledger>(
+    alloc: Global,
+    story: Story,
+    rows: &[Row],
+    steps: &mut Steps<L>,
+) -> Result<bool, Trouble>
+    ensures { IfOk result (λ same. IsTrue same → ShowsRows (telling_of story) rows.now) }
+{
+    let held = shown(alloc, story, steps)?;
+    Ok(held.rows() == rows)
+}
