@@ -41,7 +41,8 @@ def exported(crate):
 
 def signature(text, indent):
     """What stands between a function's `pub` and its body."""
-    end = re.search(r"\n" + " " * indent + r"\{|\{\}\n", text)
+    # without a clause the body opens at the end of a line
+    end = re.search(r"\n" + " " * indent + r"\{|\{\}\n| \{\n" + " " * indent + r"    (?!requires|ensures|ghost)", text)
     return text[: end.start()] if end else text
 
 
