@@ -119,7 +119,26 @@ fn tell(rt: &HostRuntime, number: usize, answer: Result<Answer, Fault>) -> io::R
     }
 }
 
-// One call, between two lines that say so. Where it is refused memory and is to be made again, it is.
+// One call, between two lines that say so, and how many nanoseconds it took.
+fn timed_call<S: Site, L: Ledger>(
+    rt: &HostRuntime,
+    handle: &impl Wait,
+    served: &Served<S, L>,
+    pass: &mut Pass<S>,
+    event: Event,
+) -> io::Result<(Result<Answer, Fault>, u128)> {
+    println!(rt; "-- now")?;
+    let begin = Instant::now(rt)?;
+    let answer = served.call(handle, pass, event, Moment::first());
+    let took = match begin.elapsed(rt) {
+        Ok(took) => took.as_nanos(),
+        Err(_) => 0,
+    };
+    let _ = println!(rt; "-- done");
+    Ok((answer, took))
+}
+
+// One call that is marked. Where it is refused memory and is to be made again, it is.
 fn marked_call<S: Site, L: Ledger>(
     rt: &HostRuntime,
     handle: &impl Wait,
@@ -129,21 +148,20 @@ fn marked_call<S: Site, L: Ledger>(
     text: &[u8],
     again: bool,
 ) -> io::Result<()> {
-    let (Ok(one), Ok(other)) = (event_of(rt.alloc(), text), event_of(rt.alloc(), text)) else {
+    let Ok(event) = event_of(rt.alloc(), text) else {
         return println!(rt; "unread");
     };
-    println!(rt; "-- now")?;
-    let begin = Instant::now(rt)?;
-    let answer = served.call(handle, pass, one, Moment::first());
-    let took = begin.elapsed(rt)?;
-    println!(rt; "-- done")?;
+    let (answer, took) = timed_call(rt, handle, served, pass, event)?;
     let is_refused = matches!(answer, Err(Fault::Memory));
     tell(rt, number, answer)?;
-    println!(rt; "took {}", took.as_nanos())?;
-    if is_refused && again {
-        return tell(rt, number, served.call(handle, pass, other, Moment::first()));
+    println!(rt; "took {took}")?;
+    if !is_refused || !again {
+        return Ok(());
     }
-    Ok(())
+    let Ok(event) = event_of(rt.alloc(), text) else {
+        return println!(rt; "unread");
+    };
+    tell(rt, number, served.call(handle, pass, event, Moment::first()))
 }
 
 // Drains, so many times. Gives the last answer.
@@ -332,7 +350,7 @@ PROOFS = {
 use Rattle.locked_runs.proofs.one_day.Given as goal
 
 abbrev pub ghosts-run-S-Site : goal.ghosts-run-S-Site
-ghosts-run-S-Site g a = record { base = a.state }
+ghosts-run-S-Site g a = record { base = a.state.machine }
 
 abbrev pub ghosts-run-S-Ledger : goal.ghosts-run-S-Ledger
 ghosts-run-S-Ledger g a = record { name = a.blank.name; parts = a.blank.parts }

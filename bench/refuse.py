@@ -36,8 +36,17 @@ void *realloc(void *p, size_t n) { REAL(real_realloc, "realloc"); return refused
 int posix_memalign(void **p, size_t a, size_t n) { REAL(real_align, "posix_memalign"); return refused() ? ENOMEM : real_align(p, a, n); }
 void *aligned_alloc(size_t a, size_t n) { REAL(real_aligned, "aligned_alloc"); return refused() ? NULL : real_aligned(a, n); }
 __attribute__((destructor)) static void tell(void) {
+    long count = asked;
+    at = 0;
     FILE *to = fopen(getenv("REFUSE_TOLD"), "w");
-    if (to) { fprintf(to, "%ld", asked); fclose(to); }
+    if (to) { fprintf(to, "%ld", count); fclose(to); }
+}
+/* a program that may start threads ends by this call, which runs no destructor */
+__attribute__((noreturn)) void _exit(int status) {
+    void (*real)(int) = dlsym(RTLD_NEXT, "_exit");
+    tell();
+    real(status);
+    __builtin_unreachable();
 }
 """
 

@@ -4,10 +4,11 @@
     python3 bench/task.py build PROGRAM       # proves the program, and builds it without checks
     python3 bench/task.py refuse PROGRAM
 
-The session logs in by CRAM-MD5 over a wire in memory, asks for its rights, and logs out. It is written in a clone of the repository, over
-the stage of `acap_task_tests`. Of each run this must hold: what was written is a beginning of what it is told without a refusal, or a
-command is answered `NO (TRYLATER)`, and where an Enter was answered Ok, the last call is a Leave, or a Leave was asked and refused. At
-least one run must be one in which the seat was entered and the login's OK wasn't written, for want of memory.
+The session logs in by CRAM-MD5 over a wire in memory, asks for its rights, and logs out; or its user is given, so that it enters before its
+greeting. It is written in a clone of the repository, over the stage of `acap_task_tests`. Of each run this must hold: what was written is a
+beginning of what it is told without a refusal, or a command is answered `NO (TRYLATER)`, and where an Enter was answered Ok, the last call
+is a Leave, or a Leave was asked and refused. At least one run must be one in which the seat was entered and the line that says so, the
+login's OK or the greeting, wasn't written for want of memory.
 """
 import argparse
 import collections
@@ -36,7 +37,7 @@ use acap_login::Users;
 use acap_machine::State;
 use acap_task::TaskEnd;
 use std::alloc::{AllocGlobal, Global};
-use std::io;
+use std::{env, io};
 use std::marker::Brand;
 use std::random::RandomSource;
 use std::sync::Wait;
@@ -83,6 +84,7 @@ fn session<S, L, R>(
     blank: Blank,
     state: State,
     counter: Blank,
+    user: Option<&[u8]>,
 ) -> io::Result<()>
 where
     S: Site,
@@ -105,7 +107,7 @@ where
         return println!(rt; "no pass");
     };
     let visit = Visit {
-        user: None,
+        user,
         wire: wire(alloc, LOGIN, 1_000)?,
         bell: no_bell(alloc)?,
         clock: Moment::new(697_170_952_000_000).unwrap_or(Moment::first()),
@@ -121,7 +123,13 @@ fn one<R>(rt: &HostRuntime, handle: &R) -> io::Result<()>
 where
     R: Wait + RandomSource + AllocGlobal,
 {
-    session::<Brand, Brand, R>(rt, handle, Blank::new(64), empty(rt.alloc()), Blank::new(1))
+    let tim: &[u8] = b"tim";
+    let user = if env::args(rt)?.count() > 1 {
+        Some(tim)
+    } else {
+        None
+    };
+    session::<Brand, Brand, R>(rt, handle, Blank::new(64), empty(rt.alloc()), Blank::new(1), user)
 }
 
 fn main(rt: HostRuntime) -> io::Result<()> {
@@ -135,7 +143,7 @@ PROOFS = {
 use Rattle.task_runs.proofs.one.Given as goal
 
 abbrev pub ghosts-session-S-Site : goal.ghosts-session-S-Site
-ghosts-session-S-Site g a = record { base = a.state }
+ghosts-session-S-Site g a = record { base = a.state.machine }
 
 abbrev pub ghosts-session-S-Ledger : goal.ghosts-session-S-Ledger
 ghosts-session-S-Ledger g a = record { name = a.blank.name; parts = a.blank.parts }
@@ -145,7 +153,8 @@ ghosts-session-L-Ledger g a = record { name = a.counter.name; parts = a.counter.
 """,
 }
 
-OK = 'A1 OK "AUTHENTICATE done"'
+# The sessions: the words of the program, and the beginning of the line that tells the client that its user has entered.
+SESSIONS = {"a login": ((), 'A1 OK "AUTHENTICATE done"'), "a session of a user": (("entered",), "* ACAP ")}
 
 
 def build(top, program):
@@ -157,10 +166,10 @@ def build(top, program):
         shutil.copy(crate / "out/task_runs", program)
 
 
-def told(program, at):
+def told(program, words, at):
     """Of a run in which that allocation of the session is refused: how it ended, whether it entered, left and owes a Leave, what it wrote,
     and how many allocations it asked for."""
-    done, asked = program.run_alone(at)
+    done, asked = program.run_alone(at, *words)
     lines = done.split("-- done\n", 1)[1].splitlines()
     if lines[0] == "not run":
         return None, asked
@@ -174,29 +183,36 @@ def is_right(run, honest):
     kept = not entered or left or owes
     if any("NO (TRYLATER)" in line for line in wrote):
         return kept
-    return kept and wrote == honest[:len(wrote)] and end in ("ended", "memory")
+    # the wire in memory fails where it is refused memory itself
+    return kept and wrote == honest[:len(wrote)] and end in ("ended", "memory", "write fault")
+
+
+def refuse_each(program, name, words, first):
+    """Refuses each allocation of a session in turn. How many runs ended for want of memory when the seat was entered and no line said so."""
+    whole, count = told(program, words, 0)
+    honest, counts, unsaid = whole[4], collections.Counter(), 0
+    if whole[:4] != ("ended", True, True, False) or not any(line.startswith(first) for line in honest):
+        sys.exit(f"bench/task.py: {name}, without a refusal: {whole}")
+    for at in range(1, count + 1):
+        run, _ = told(program, words, at)
+        if run is None:
+            counts["not run"] += 1
+            continue
+        if not is_right(run, honest):
+            sys.exit(f"bench/task.py: {name}, allocation {at}: WRONG: {run}")
+        counts["TRYLATER" if any("TRYLATER" in line for line in run[4]) else run[0]] += 1
+        unsaid += run[0] == "memory" and run[1] and not any(line.startswith(first) for line in run[4])
+    print(f"{name}: {count} allocations refused: " + ", ".join(f"{n} {word}" for word, n in sorted(counts.items())) + ", all as wanted")
+    print(f"    {unsaid} of them when the seat was entered and its client wasn't told: each asked Leave")
+    return unsaid
 
 
 def refuse(path):
     with tempfile.TemporaryDirectory() as folder:
         program = locked.Program(path, folder)
-        whole, count = told(program, 0)
-        honest, counts, unsaid = whole[4], collections.Counter(), 0
-        if not (whole[:4] == ("ended", True, True, False) and OK in honest):
-            sys.exit(f"bench/task.py: without a refusal: {whole}")
-        for at in range(1, count + 1):
-            run, _ = told(program, at)
-            if run is None:
-                counts["not run"] += 1
-                continue
-            if not is_right(run, honest):
-                sys.exit(f"bench/task.py: allocation {at}: WRONG: {run}")
-            counts["TRYLATER" if any("TRYLATER" in line for line in run[4]) else run[0]] += 1
-            unsaid += run[0] == "memory" and run[1] and OK not in run[4]
-    print(f"a login: {count} allocations refused: " + ", ".join(f"{n} {word}" for word, n in sorted(counts.items())) + ", all as wanted")
-    print(f"    {unsaid} of them after the seat was entered and before the login's OK was written: each asked Leave")
-    if not unsaid:
-        sys.exit("bench/task.py: no run shows the printing of the login's OK")
+        unsaid = [refuse_each(program, name, *given) for name, given in SESSIONS.items()]
+    if not any(unsaid):
+        sys.exit("bench/task.py: no run shows the printing of the line that says so")
 
 
 def main():
