@@ -1,15 +1,14 @@
 -- A live list that is brought up to date entry by entry, each match found by where it stood, is brought up to date by names.
-use Rattle.std.proofs.Common.{◌≡◌, ℕ, Bool, true, false, Option, Some, None, List, [], ◌∷◌, ◌++◌, refl, sym, ◌∙◌, ap, subst, ◌⊎◌, inl, inr, map as each}
+use Rattle.std.proofs.Common.{◌≡◌, ℕ, Bool, true, Option, Some, None, List, [], ◌∷◌, ◌++◌, refl, sym, ◌∙◌, ap, subst, ◌⊎◌, inl, inr, map as each}
 use Rattle.std.specs.Cmp.{both_ways, tied_itself}
 use Rattle.std.specs.FinMap.Entries.{by_order}
 use Rattle.std.specs.List.{Contains}
 use Rattle.std.specs.Ordering.{eq_by_cmp, is_eq, ordering_then}
-use Rattle.std.specs.declared.cmp.Ordering.{Ordering}
 use Rattle.std.specs.declared.cmp.Ordering.TheVariants.{Less, Equal, Greater}
 use Rattle.acap_entries.proofs.FullPathLaws.{full_paths}
 use Rattle.acap_entries.proofs.RankLaws.{rank_holds}
-use Rattle.acap_entries.specs.FullPaths.{full_path, full_path_cmp, IsSplit}
-use Rattle.acap_entries.specs.Orders.{octets_cmp, octets_eq}
+use Rattle.acap_entries.specs.FullPaths.{full_path_cmp, IsSplit}
+use Rattle.acap_entries.specs.Orders.{octets_eq}
 use Rattle.acap_entries.specs.Ranks.{Ascending, with_item}
 use Rattle.acap_entries.specs.declared.path.Path.{Path}
 use Rattle.acap_moves.specs.Hits.{Name}
@@ -24,7 +23,7 @@ use Rattle.acap_search.specs.declared.rank.Place.{Place}
 use Rattle.acap_search.proofs.OnceLemmas.{then_equal}
 use Rattle.acap_search.proofs.SeenLemmas.{here, there, first_or, nowhere, either}
 use Rattle.acap_views.specs.Notices.{told_shape}
-use Rattle.acap_views.specs.Shifting.{Shift, standing, with_match, without_old, shifted, after_shift, after_shifts, shift_notices, shifts_notices}
+use Rattle.acap_views.specs.Shifting.{Shift, standing, with_match, without_old, after_shift, after_shifts, shifts_notices}
 use Rattle.acap_views.proofs.PathLemmas.{IsIn, told_apart}
 use Rattle.acap_views.proofs.ShiftLemmas.{Unlike, IsApt, rises, left_of, shift_is, told_is, tied}
 

@@ -1,8 +1,7 @@
 -- Lists of which each item is brought up to date by what is prepared for it, and the room that there is for it.
-use Rattle.std.proofs.Common.{◌≡◌, ℕ, zero, suc, ◌+◌, ◌<◌, ◌≤◌, min, ◌&&◌, T, List, [], ◌∷◌, ◌++◌, length, take, drop, get_or, set, refl, Result, Ok, Err, sym, ◌∙◌, ap, subst, arith, map as each}
+use Rattle.std.proofs.Common.{◌≡◌, ℕ, zero, suc, ◌+◌, ◌<◌, ◌≤◌, min, ◌&&◌, List, [], ◌∷◌, ◌++◌, length, take, drop, get_or, set, refl, Result, Ok, Err, sym, ◌∙◌, ap, subst, arith, map as each}
 use Rattle.std.proofs.lemmas.List.{map-set}
 use Rattle.std.specs.Cmp.{nat_cmp_total}
-use Rattle.std.specs.Cmp.Lexicographic.{nat_list_cmp_total}
 use Rattle.std.specs.FinMap as table
 use Rattle.std.specs.FinMap.{is_sorted, nat_cmp-IsAntisymmetric}
 use Rattle.std.specs.FinMap.Entries.{below_all}

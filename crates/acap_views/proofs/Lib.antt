@@ -9,6 +9,7 @@ pub mod PathLemmas
 pub mod MovingLemmas
 pub mod BitLemmas
 pub mod WaitingLemmas
+pub mod SeatBitLemmas
 pub mod ClientLemmas
 pub mod RangingLemmas
 pub mod ShiftLemmas

@@ -1,7 +1,6 @@
 -- One entry after the other: what is left comes to what is left of all.
 use Rattle.std.proofs.Common.{◌≡◌, ℕ, suc, ◌+◌, ◌-◌, ◌<◌, ◌≤◌, min, Bool, Option, Some, None, List, [], ◌∷◌, ◌++◌, length, refl, sym, ◌∙◌, ap, subst, arith, length-append, append_assoc}
 use Rattle.std.specs.Prelude.{IfSome}
-use Rattle.acap_notices.specs.Waiting as waiting
 use Rattle.acap_notices.specs.Waiting.{most_waiting}
 use Rattle.acap_notices.specs.declared.notice.Notice.{Notice}
 use Rattle.acap_search.specs.Matches.{Match}

@@ -1,9 +1,9 @@
 -- Moves taken back in a list of hits that are lent.
-use Rattle.std.proofs.Common.{◌≡◌, ℕ, zero, suc, ◌+◌, ◌-◌, ◌<◌, ◌≤◌, Option, Some, None, List, [], ◌∷◌, ◌++◌, length, take, drop, set, get_or, refl, sym, ◌∙◌, ap, arith, append_assoc, map as each}
+use Rattle.std.proofs.Common.{◌≡◌, ℕ, zero, suc, ◌+◌, ◌-◌, ◌<◌, ◌≤◌, List, [], ◌∷◌, ◌++◌, length, take, drop, set, get_or, refl, sym, ◌∙◌, ap, arith, append_assoc}
 use Rattle.std.specs.Borrow.{Bor}
 use Rattle.std.specs.List.{insert, remove}
 use Rattle.std.proofs.lemmas.List.{map-append}
-use Rattle.acap_moves.specs.Moves.{Undo, undone, all_undone, put_back, without}
+use Rattle.acap_moves.specs.Moves.{Undo, undone, all_undone}
 use Rattle.acap_search.specs.Matches.{Match}
 use Rattle.acap_views.specs.Undoing.{seen}
 use Rattle.acap_views.proofs.LoopLemmas.{one_dropped}

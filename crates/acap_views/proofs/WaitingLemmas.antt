@@ -98,7 +98,7 @@ none_after contexts =
     none_of nat_list_cmp_total (λ (c : Context). waits c.kept) (each_kept after_drain contexts)
     (λ q d k. some_not (table.get contexts q) d (sym (get_kept nat_list_cmp_total after_drain contexts q) ∙ k))
 
-none_in_none : list_any (λ (c : Context). waits c.kept) (table.values (table.empty {X = Context} {R = octets_cmp})) ≡ false
+pub none_in_none : list_any (λ (c : Context). waits c.kept) (table.values (table.empty {X = Context} {R = octets_cmp})) ≡ false
 none_in_none = none_of nat_list_cmp_total (λ (c : Context). waits c.kept) table.empty (λ q c k. absurd (cc (k, table.get-empty octets_cmp q)))
 
 abbrev any_in : Option Occupant → Bool

@@ -13,7 +13,7 @@ use Rattle.acap_search.specs.Views.{Spotted, spotted, places_at, found_at}
 use Rattle.acap_search.specs.Walks.{quest_of, view_in}
 use Rattle.acap_search.specs.declared.query.Sought.{Sought}
 use Rattle.acap_views.specs.Changing.{follows, changed}
-use Rattle.acap_views.specs.Contexts.{Kept, Snapshot, Live, Freed, Context, Contexts}
+use Rattle.acap_views.specs.Contexts.{Kept, Snapshot, Live, Freed, Context}
 use Rattle.acap_views.specs.Seats.{Occupant, Seated}
 use Rattle.acap_views.specs.Shifting.{Shift, standing, after_shifts, shifts_notices, shift_code}
 use Rattle.acap_views.specs.Work.{touched_for, touched_within}

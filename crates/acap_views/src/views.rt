@@ -8,7 +8,7 @@ ghost use Rattle.acap_entries.specs.Sorted.{InOrder};
 ghost use Rattle.acap_views.specs.Keeping.{seats_in};
 ghost use Rattle.acap_views.specs.Listing.{as_contexts, bare_seat};
 ghost use Rattle.acap_views.specs.Seats as rule;
-ghost use Rattle.acap_views.specs.Waiting.{is_waiting, waiting};
+ghost use Rattle.acap_views.specs.Waiting.{waiting};
 
 use crate::keyed::{lookup, make_room, put_in_room, take_out};
 use crate::open_context::OpenContext;
@@ -150,24 +150,14 @@ impl Views {
         })
     }
 
-    // Whether a drain has something to tell at the seat of a number, if there is such a seat.
-    fn waits_at(&self, number: u8) -> bool
-        ensures { number < 64 → result ≡ is_waiting (seats_in self.now) number }
-    {
-        match Seat::new(number) {
-            Some(seat) => any_waits(self.contexts(seat)),
-            None => false,
-        }
-    }
-
     /// At which seats a drain has something to tell: a bit for each, the lowest for the first (RFC 2244 section 6.5). Takes no
     /// memory.
     pub fn waiting(&self) -> u64
         ensures { result ≡ waiting (seats_in self.now) }
     {
         let mut bits = 0u64;
-        for number in 0..64u8 {
-            bits = with_bit(bits, number, self.waits_at(number));
+        for entry in &self.seats {
+            bits = with_bit(bits, entry.0.number(), any_waits(entry.1.contexts()));
         }
         bits
     }

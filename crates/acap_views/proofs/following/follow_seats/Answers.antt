@@ -1,4 +1,4 @@
-use Rattle.std.proofs.Common.{◌≡◌, ◌<◌, ◌≤◌, [], List, length, refl, sym, ◌∙◌, arith, map as each}
+use Rattle.std.proofs.Common.{◌≡◌, ◌<◌, ◌≤◌, [], length, refl, sym, ◌∙◌, arith, map as each}
 use Rattle.acap_views.specs.Followed.{FitsSeat}
 use Rattle.acap_views.specs.Listing.{bare_seat}
 use Rattle.acap_views.proofs.FollowingLemmas.{seat_turn, seats_is, followed_on, followed_past, followed_all, room_on}

@@ -1,4 +1,4 @@
-use Rattle.std.proofs.Common.{◌≡◌, ◌<◌, ◌≤◌, min, List, length, refl, sym, subst, ◌∙◌, arith, map as each}
+use Rattle.std.proofs.Common.{◌≡◌, ◌<◌, ◌≤◌, min, length, refl, subst, arith}
 use Rattle.std.proofs.lemmas.Grind.{common_steps}
 use Rattle.acap_views.specs.Followed.{FitsContext, HasRoomFor}
 use Rattle.acap_views.specs.Listing.{bare}

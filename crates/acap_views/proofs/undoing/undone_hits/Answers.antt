@@ -1,7 +1,7 @@
-use Rattle.std.proofs.Common.{◌≡◌, ◌∷◌, ◌+◌, ◌-◌, length, drop, [], sym, ◌∙◌, ap, arith}
+use Rattle.std.proofs.Common.{sym, ◌∙◌, ap, arith}
 use Rattle.acap_moves.specs.Moves.{all_undone}
 use Rattle.acap_views.specs.Undoing.{seen}
-use Rattle.acap_views.proofs.UndoLemmas.{one_undone_more, none_behind, next_undone}
+use Rattle.acap_views.proofs.UndoLemmas.{none_behind, next_undone}
 use Rattle.acap_views.proofs.undoing.undone_hits.Goals as goal
 
 pub loop-left-init : goal.loop-left-init

@@ -1,4 +1,4 @@
-use Rattle.std.proofs.Common.{rules, [], append-nil, ◌≡◌, ◌++◌, refl, ap, sym, ◌∙◌, length, subst, suc, IsTrue, true}
+use Rattle.std.proofs.Common.{rules, [], append-nil, ◌≡◌, ◌++◌, refl, ap, sym, ◌∙◌, length, subst, IsTrue}
 use Rattle.acap_views.specs.Room.{HasRoom}
 use Rattle.acap_views.specs.Shifting.{after_shifts, shifts_notices}
 use Rattle.acap_views.proofs.LoopShiftLemmas.{none_of, room_first, present_on, told_on, full_then}
