@@ -13,6 +13,7 @@ mod held;
 mod item;
 pub mod laws;
 mod lists;
+mod locking;
 mod pass;
 mod performing;
 mod report;

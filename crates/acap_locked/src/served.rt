@@ -9,6 +9,7 @@ ghost use Rattle.acap_locked.specs.Shelf.{Shelf};
 use crate::answer::Answer;
 use crate::book::Book;
 use crate::close_fault::CloseFault;
+use crate::locking::lock;
 use crate::pass::Pass;
 use crate::report::Report;
 use crate::site::Site;
@@ -59,7 +60,7 @@ impl<S: Site, L: Ledger> Served<S, L> {
         ensures ok { IfOk result (λ answer. Gains pass.old event now answer pass.new) }
         ensures err { OnErr result (pass.new ≡ pass.old) }
     {
-        self.book.lock(rt).serve(pass, event, now)
+        lock(&self.book, rt).serve(pass, event, now)
     }
 
     /// Closes the book, as `Book::close` does: its history is legal.
