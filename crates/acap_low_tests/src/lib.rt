@@ -1,17 +1,11 @@
-//! Tests of the crates up to acap_search through their public calls, a module each.
+//! Tests of the crates up to acap_search, for what no law and no row says and for the calls that no program makes.
 #![tactic(auto)]
 
 #[cfg(test)]
-mod context;
-#[cfg(test)]
-mod heirs;
-#[cfg(test)]
 mod lexer;
-#[cfg(test)]
-mod notices;
 #[cfg(test)]
 mod ranked;
 #[cfg(test)]
-mod search;
+mod seeking;
 #[cfg(test)]
 mod settings;
