@@ -1,4 +1,5 @@
-//! Tests of the crates up to acap_search, for what no law and no row says and for the calls that no program makes.
+//! Tests of the crates up to acap_search, for what no law and no row says, and for the calls that no program
+//! makes.
 #![tactic(auto)]
 
 #[cfg(test)]

@@ -1,4 +1,5 @@
-//! Tests of what no program calls: all that is sought, whatever is refused to a search, and the names that a change leaves.
+//! Tests of what no program calls: all that is sought, whatever is refused to a search, and the names that a
+//! change leaves.
 ghost use Rattle.std.specs.Prelude.{◌≡◌, ◌<◌};
 
 use acap_commands::{Key, Test};

@@ -3,7 +3,8 @@
 use acap_settings::{Settings, SettingsFault};
 use std::alloc::Global;
 
-/// The keys that are needed and those that may stand there, in the order in which they are judged but for users.
+/// The keys that are needed and those that may stand there, in the order in which they are judged but for
+/// users.
 const TEXT: &str = r#"listen = "127.0.0.1:6740"
 host = "localhost"
 workers = 4
@@ -14,8 +15,8 @@ administrators = ["root"]
 joe = "secret"
 "#;
 
-/// Rows, divided by semicolons and line ends: a part of the text, what stands there instead, and how the text is judged then, which is
-/// its bad key, or a word for none or for no document.
+/// Rows, divided by semicolons and line ends: a part of the text, what stands there instead, and how the text
+/// is judged then, which is its bad key, or a word for none or for no document.
 const ROWS: &str = r#"||good;
 listen = "127.0.0.1:6740"
 ||listen;
