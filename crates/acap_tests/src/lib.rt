@@ -7,5 +7,3 @@ mod machine;
 mod pipe;
 #[cfg(test)]
 mod work;
-#[cfg(test)]
-mod world;

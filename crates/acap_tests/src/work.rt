@@ -1,35 +1,52 @@
 //! Tests of how many touched entries an event makes the machine look at for contexts.
 ghost use Rattle.std.specs.Prelude.{◌≡◌, ◌<◌};
 
-use crate::machine::{empty, event_of, seat};
-use acap_commands::Fault;
+use crate::machine::{empty, enter, seat};
+use acap_commands::{Event, Fault};
 use acap_entries::{Memory, Moment, Steps};
+use acap_grammar::parse;
+use acap_lexer::{Lexed, Lexer, Mode};
 use acap_machine::State;
 use std::alloc::Global;
 use std::marker::Brand;
 use std::sync::ledger::{Blank, Ledger};
 
-// A context on a dataset that inherits ten entries; then two on a dataset of 1,000 entries, and one on another.
-const EVENTS: [&[u8]; 15] = [
-    b"A1 STORE (\"/option/~/b/0\" \"k\" \"1\") (\"/option/~/b/1\" \"k\" \"1\") (\"/option/~/b/2\" \"k\" \"1\") (\"/option/~/b/3\" \"k\" \"1\") (\"/option/~/b/4\" \"k\" \"1\") (\"/option/~/b/5\" \"k\" \"1\") (\"/option/~/b/6\" \"k\" \"1\") (\"/option/~/b/7\" \"k\" \"1\") (\"/option/~/b/8\" \"k\" \"1\") (\"/option/~/b/9\" \"k\" \"1\")",
-    b"A1 STORE (\"/option/~/h/\" \"dataset.inherit\" \"/option/~/b/\") (\"/option/~/h/own\" \"k\" \"1\")",
-    b"A1 SEARCH \"/option/~/h/\" MAKECONTEXT ENUMERATE NOTIFY \"v\" RETURN (\"k\") ALL",
-    b"A1 STORE (\"/option/~/b/5\" \"k\" \"2\")",
-    b"A1 SETACL (\"/option/~/b/\") \"ann\" \"r\"",
-    b"A1 FREECONTEXT \"v\"",
-    b"A1 STORE (\"/option/~/b/6\" \"k\" \"2\")",
-    b"A1 SEARCH \"/option/~/d/\" MAKECONTEXT ENUMERATE NOTIFY \"v\" RETURN (\"k\") SORT (\"k\" \"i;octet\") ALL",
-    b"A1 SEARCH \"/option/~/d/\" MAKECONTEXT NOTIFY \"w\" RETURN (\"*\") ALL",
-    b"A1 SEARCH \"/option/~/\" MAKECONTEXT NOTIFY \"other\" RETURN (\"*\") ALL",
-    b"A1 STORE (\"/option/~/d/500\" \"k\" \"2\")",
-    b"A1 STORE (\"/option/~/d/5\" \"k\" \"0\") (\"/option/~/d/600\" \"entry\" NIL)",
-    b"A1 UPDATECONTEXT \"v\" \"w\"",
-    b"A1 STORE (\"/option/~/other\" \"k\" \"1\")",
-    b"drain",
-];
+// How many touched entries are looked at for each of these: a context on a dataset that inherits ten entries;
+// then two on a dataset of 1,000 entries, and one on another.
+const EVENTS: &str =
+    r#"0 A1 STORE ("/option/~/b/0" "k" "1") ("/option/~/b/1" "k" "1") ("/option/~/b/2" "k" "1") ("/option/~/b/3" "k" "1") ("/option/~/b/4" "k" "1") ("/option/~/b/5" "k" "1") ("/option/~/b/6" "k" "1") ("/option/~/b/7" "k" "1") ("/option/~/b/8" "k" "1") ("/option/~/b/9" "k" "1")
+0 A1 STORE ("/option/~/h/" "dataset.inherit" "/option/~/b/") ("/option/~/h/own" "k" "1")
+0 A1 SEARCH "/option/~/h/" MAKECONTEXT ENUMERATE NOTIFY "v" RETURN ("k") ALL
+1 A1 STORE ("/option/~/b/5" "k" "2")
+12 A1 SETACL ("/option/~/b/") "ann" "r"
+0 A1 FREECONTEXT "v"
+0 A1 STORE ("/option/~/b/6" "k" "2")
+0 A1 SEARCH "/option/~/d/" MAKECONTEXT ENUMERATE NOTIFY "v" RETURN ("k") SORT ("k" "i;octet") ALL
+0 A1 SEARCH "/option/~/d/" MAKECONTEXT NOTIFY "w" RETURN ("*") ALL
+0 A1 SEARCH "/option/~/" MAKECONTEXT NOTIFY "other" RETURN ("*") ALL
+2 A1 STORE ("/option/~/d/500" "k" "2")
+4 A1 STORE ("/option/~/d/5" "k" "0") ("/option/~/d/600" "entry" NIL)
+0 A1 UPDATECONTEXT "v" "w"
+1 A1 STORE ("/option/~/other" "k" "1")
+0 drain"#;
 
-// How many touched entries are looked at for each of them.
-const COUNTS: [usize; 15] = [0, 0, 0, 1, 12, 0, 0, 0, 0, 0, 2, 4, 0, 1, 0];
+// The event of a text: `drain`, or a command's line.
+fn event_of(alloc: Global, text: &[u8]) -> Result<Event, Fault> {
+    if text == b"drain".as_slice() {
+        return Ok(Event::Drain);
+    }
+    let mut lexer = Lexer::new(alloc);
+    if lexer.push(text).is_err() || lexer.push(b"\r\n").is_err() {
+        return Err(Fault::Memory);
+    }
+    match lexer.next(Mode::Command) {
+        Ok(Lexed::Line(tokens)) => match parse(alloc, &tokens) {
+            Ok(command) => Ok(Event::Command(command)),
+            Err(_) => Err(Fault::Memory),
+        },
+        _ => Err(Fault::Memory),
+    }
+}
 
 // A STORE of an entry whose name is a number.
 fn store_of(alloc: Global, number: usize) -> Result<Vec<u8>, Memory> {
@@ -40,38 +57,72 @@ fn store_of(alloc: Global, number: usize) -> Result<Vec<u8>, Memory> {
     Ok(text)
 }
 
+// Performs the event of a text at joe's seat: tells how many touched entries are looked at.
+fn perform<L: Ledger>(
+    alloc: Global,
+    state: &mut State,
+    text: &[u8],
+    steps: &mut Steps<L>,
+) -> Result<usize, Fault> {
+    let event = event_of(alloc, text)?;
+    let _reply = state.step(seat(0), event, Moment::first(), steps)?;
+    Ok(state.work())
+}
+
 // Joe enters, and stores an entry for each number below 1,000.
 fn fill<L: Ledger>(alloc: Global, state: &mut State, steps: &mut Steps<L>) -> Result<(), Fault> {
-    let enter = event_of(alloc, b"enter joe")?;
-    let _ = state.step(seat(0), enter, Moment::first(), steps)?;
+    let _hello = state.step(seat(0), enter(alloc)?, Moment::first(), steps)?;
     for number in 0..1_000usize {
-        let event = event_of(alloc, store_of(alloc, number)?.as_slice())?;
-        let _ = state.step(seat(0), event, Moment::first(), steps)?;
+        let text = store_of(alloc, number)?;
+        let _count = perform(alloc, state, text.as_slice(), steps)?;
     }
     Ok(())
 }
 
-// The first of the events for which another number is looked at, if there is one.
-fn first_wrong<L: Ledger>(alloc: Global, blank: Blank) -> Result<Option<&'static [u8]>, Fault>
+// Whether a number is printed so.
+fn is_printed(alloc: Global, number: usize, text: &str) -> bool {
+    match number.to_string(alloc) {
+        Ok(digits) => digits.as_str() == text,
+        Err(_) => false,
+    }
+}
+
+// Whether so many are looked at for the event of a line.
+fn is_right<L: Ledger>(alloc: Global, state: &mut State, line: &str, steps: &mut Steps<L>) -> bool {
+    let Some((count, text)) = line.split_once(' ') else {
+        return false;
+    };
+    match perform(alloc, state, text.as_bytes(), steps) {
+        Ok(number) => is_printed(alloc, number, count),
+        Err(_) => false,
+    }
+}
+
+// Whether that is so of each line.
+fn are_right<L: Ledger>(alloc: Global, state: &mut State, steps: &mut Steps<L>) -> bool {
+    for line in EVENTS.split('\n') {
+        if !is_right(alloc, state, line, steps) {
+            return false;
+        }
+    }
+    true
+}
+
+fn is_filled_and_right<L: Ledger>(alloc: Global, blank: Blank) -> bool
     requires name { blank.name ≡ L.name }
     requires parts { blank.parts ≡ L.parts }
     requires some { 0 < L.parts }
 {
     let mut steps = Steps::<L>::new(blank);
     let mut state = empty(alloc);
-    fill(alloc, &mut state, &mut steps)?;
-    for (text, count) in EVENTS.iter().zip(&COUNTS) {
-        let event = event_of(alloc, *text)?;
-        let _ = state.step(seat(0), event, Moment::first(), &mut steps)?;
-        if state.work() != *count {
-            return Ok(Some(*text));
-        }
+    match fill(alloc, &mut state, &mut steps) {
+        Ok(()) => are_right(alloc, &mut state, &mut steps),
+        Err(_) => false,
     }
-    Ok(None)
 }
 
 // What is looked at for a change is what it touches, however much there is.
 #[test]
 fn looks_at_what_is_touched(rt: HostRuntime) {
-    assert!(rt; first_wrong::<Brand>(rt.alloc(), Blank::new(1)) == Ok(None));
+    assert!(rt; is_filled_and_right::<Brand>(rt.alloc(), Blank::new(1)));
 }

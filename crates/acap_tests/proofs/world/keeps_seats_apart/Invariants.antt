@@ -1,4 +1,0 @@
-use Rattle.acap_tests.proofs.world.keeps_seats_apart.Given as goal
-
-abbrev pub ghosts-first_wrong : goal.ghosts-first_wrong
-ghosts-first_wrong g a = record { name = a.blank.name; parts = a.blank.parts }
