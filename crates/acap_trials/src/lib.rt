@@ -1,5 +1,4 @@
-//! Trials of contexts: what clients hold that follow what they are told, against what a search finds. And of sessions on
-//! threads.
+//! Trials of contexts: what clients hold that follow what they are told, against what a search finds.
 #![tactic(auto)]
 
 #[cfg(test)]
@@ -8,8 +7,6 @@ mod client;
 mod dice;
 #[cfg(test)]
 mod following;
-#[cfg(test)]
-mod threads;
 #[cfg(test)]
 mod world;
 #[cfg(test)]
