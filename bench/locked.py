@@ -4,7 +4,7 @@
     python3 bench/locked.py rows              # calls, passes that are missing, bells, epochs and threads
     python3 bench/locked.py last              # what is answered where no further epoch can begin
     python3 bench/locked.py build PROGRAM     # proves the program, and builds it without checks
-    python3 bench/locked.py refuse PROGRAM    # each allocation of one call is refused in turn
+    python3 bench/locked.py refuse PROGRAM    # each allocation of a call, or of closing, is refused in turn
     python3 bench/locked.py figures PROGRAM   # time and memory
 
 It clones the repository and adds a program to the clone. `rows` and `last` run it there by `rt try`: unproved, with checks at run
@@ -13,7 +13,8 @@ time. `build` uses what `rt check` has proved of the crates below.
 A row is a list of lines. `N enter USER`, `N drain`, `N drains COUNT`, `N leave` and `N COMMAND` are calls through pass N; what is
 printed of one is the pass, the epoch, the place, the seats that are rung (a bit for each), and the reply. `now CALL` tells the time of
 the call, and makes it once more where memory is refused; `once CALL` doesn't. `threads COUNT` makes so many drains through each of the
-last two passes, in two threads. `without N` takes pass N away. At the end the book is closed with the passes that are left.
+last two passes, in two threads. `without N` takes pass N away. At the end the book is closed with the passes that are left, and with
+`now close` the closing is marked as `now` marks a call.
 """
 import argparse
 import difflib
@@ -181,15 +182,33 @@ fn drains<S: Site, L: Ledger>(
     last
 }
 
-fn work<S: Site, L: Ledger>(
-    rt: &impl Wait,
-    served: &Served<S, L>,
+// What a thread does, and what it leaves.
+trait Work {
+    fn run(self) -> Self;
+}
+
+// So many drains through a pass.
+#[derive(Drop)]
+struct Drainer<'a, R: Wait, S: Site, L: Ledger> {
+    rt: &'a R,
+    served: &'a Served<S, L>,
     pass: Pass<S>,
     count: u64,
-) -> (Pass<S>, bool) {
-    let mut pass = pass;
-    let done = drains(rt, served, &mut pass, count).is_ok();
-    (pass, done)
+    done: bool,
+}
+
+impl<R: Wait, S: Site, L: Ledger> Work for Drainer<'_, R, S, L> {
+    fn run(self) -> Self {
+        let mut work = self;
+        let count = work.count;
+        work.done = drains(work.rt, work.served, &mut work.pass, count).is_ok();
+        work
+    }
+}
+
+// Does both, each in a thread of its own.
+fn both<R: Threads, W: Work + Send + Drop>(rt: &R, a: W, b: W) -> (W, W) {
+    thread::join(rt, move || a.run(), move || b.run())
 }
 
 fn two_threads<S: Site + Send + Sync, L: Ledger + Send + Sync, R: Threads + Wait + Sync>(
@@ -202,14 +221,14 @@ fn two_threads<S: Site + Send + Sync, L: Ledger + Send + Sync, R: Threads + Wait
     let (Some(a), Some(b)) = (passes.pop(), passes.pop()) else {
         return println!(rt; "no passes");
     };
-    let (a, b) = thread::join(
+    let (a, b) = both(
         handle,
-        move || work(handle, served, a, count),
-        move || work(handle, served, b, count),
+        Drainer { rt: handle, served, pass: a, count, done: false },
+        Drainer { rt: handle, served, pass: b, count, done: false },
     );
-    println!(rt; "threads: {} {}", a.1, b.1)?;
-    passes.push(b.0)?;
-    passes.push(a.0)?;
+    println!(rt; "threads: {} {}", a.done, b.done)?;
+    passes.push(b.pass)?;
+    passes.push(a.pass)?;
     Ok(())
 }
 
@@ -232,24 +251,29 @@ fn tell_held(rt: &HostRuntime, held: &Held) -> io::Result<()> {
     Ok(())
 }
 
-fn tell_report(rt: &HostRuntime, report: Result<Report, CloseFault>) -> io::Result<()> {
-    match report {
-        Ok(report) => {
-            println!(rt; "closed: epoch {}, {} calls", report.epoch, report.history.len())?;
-            for held in report.passes.as_slice() {
-                tell_held(rt, held)?;
-            }
-            for count in report.retired.as_slice() {
-                if *count > 0 {
-                    println!(rt; "retired: {count}")?;
-                }
-            }
-            tell_history(rt, report.history.as_slice())
-        }
-        Err(CloseFault::PassMissing(seat)) => println!(rt; "missing {}", seat.number()),
-        Err(CloseFault::Unequal(seat)) => println!(rt; "unequal {}", seat.number()),
-        Err(CloseFault::Memory) => println!(rt; "close: memory"),
+fn tell_fault(rt: &HostRuntime, fault: CloseFault) -> io::Result<()> {
+    match fault {
+        CloseFault::PassMissing(seat) => println!(rt; "missing {}", seat.number()),
+        CloseFault::Unequal(seat) => println!(rt; "unequal {}", seat.number()),
+        CloseFault::Memory => println!(rt; "close: memory"),
     }
+}
+
+fn tell_report(rt: &HostRuntime, report: Result<Report, CloseFault>) -> io::Result<()> {
+    let report = match report {
+        Ok(report) => report,
+        Err(fault) => return tell_fault(rt, fault),
+    };
+    println!(rt; "closed: epoch {}, {} calls", report.epoch, report.history.len())?;
+    for held in report.passes.as_slice() {
+        tell_held(rt, held)?;
+    }
+    for count in report.retired.as_slice() {
+        if *count > 0 {
+            println!(rt; "retired: {count}")?;
+        }
+    }
+    tell_history(rt, report.history.as_slice())
 }
 
 fn run_line<S: Site + Send + Sync, L: Ledger + Send + Sync, R: Threads + Wait + Sync>(
@@ -296,7 +320,7 @@ fn run<S: Site + Send + Sync, L: Ledger + Send + Sync, R: Threads + Wait + Sync>
     blank: Blank,
     state: State,
     counter: Blank,
-    file: &str,
+    text: String,
 ) -> io::Result<()>
     requires name { blank.name ≡ S.name }
     requires parts { blank.parts ≡ S.parts }
@@ -310,13 +334,23 @@ fn run<S: Site + Send + Sync, L: Ledger + Send + Sync, R: Threads + Wait + Sync>
     let Ok((served, mut passes)) = Served::<S, L>::new(rt.alloc(), blank, state, steps) else {
         return println!(rt; "no memory to begin");
     };
-    let text = fs::read_to_string(rt, file)?;
+    let mut marked = false;
     for line in text.as_str().lines() {
-        run_line(rt, handle, &served, &mut passes, line)?;
+        if line == "now close" {
+            marked = true;
+        } else {
+            run_line(rt, handle, &served, &mut passes, line)?;
+        }
+    }
+    if marked {
+        println!(rt; "-- now")?;
     }
     let begin = Instant::now(rt)?;
     let report = served.close(passes);
     let took = begin.elapsed(rt)?;
+    if marked {
+        println!(rt; "-- done")?;
+    }
     tell_report(rt, report)?;
     println!(rt; "took {}", took.as_nanos())
 }
@@ -326,7 +360,8 @@ fn one_day<R: Threads + Wait + Sync>(rt: &HostRuntime, handle: &R, file: &str) -
     let alloc = rt.alloc();
     let state = State::new(alloc, Realm::new(Vec::new(alloc), Vec::new(alloc)));
     println!(rt; "-- {file}")?;
-    run::<Brand, Brand, R>(rt, handle, Blank::new(64), state, Blank::new(1), file)
+    let text = fs::read_to_string(rt, file)?;
+    run::<Brand, Brand, R>(rt, handle, Blank::new(64), state, Blank::new(1), text)
 }
 
 fn days<R: Threads + Wait + Sync>(rt: &HostRuntime, handle: &R) -> io::Result<()> {
@@ -345,7 +380,48 @@ fn main(rt: HostRuntime) -> io::Result<ExitCode> {
 """
 
 PROOFS = {
-    "Lib.antt": "",
+    "Lib.antt": "mod Threads\n",
+    "Threads.antt": r"""
+-- What is handed to a thread may cross threads.
+use denote.Param.Send.{IsSend, IsSync, sendable}
+use denote.Param.SendFields.{declared_send}
+use denote.Ref.{NamedLft}
+use denote.RattleType.{RattleType}
+use Rattle.std.specs.declared.sync.ledger.Ledger as ledger
+use Rattle.acap_locked.proofs.CrossingCalls.{pass_send}
+use Rattle.acap_locked.proofs.CrossingServed.{served_sync}
+use Rattle.acap_locked.specs.declared.site.Site as site
+use Rattle.locked_runs.specs.contracts.Drainer as drainer
+
+module _ (ℓ : NamedLft) (R S L : RattleType) (g : site.Ghosts S.Denot) (h : ledger.Ghosts S.Denot) where
+  pub drainer_send : (l : ledger.Ghosts L.Denot) → IsSync R → IsSend (drainer.the_row ℓ R S L g h l)
+  drainer_send l r = declared_send (drainer.the_type ℓ R S L g h l) (
+    search (r, sendable) depth 20,
+    (
+      search (served_sync S g h L l, sendable) depth 20,
+      (pass_send S g h, (search sendable depth 20, (search sendable depth 20, tt))),
+    ),
+  )
+""",
+    "two_threads/Answers.antt": r"""
+use denote.Exit as exit
+use denote.Param.{param}
+use denote.Param.Send.{param_send, arg_send}
+use denote.Ref.{NamedLft}
+use mir.Syntax.{named}
+use Rattle.locked_runs.proofs.Threads.{drainer_send}
+use Rattle.locked_runs.specs.contracts.Drainer as drainer
+use Rattle.locked_runs.proofs.two_threads.Goals as goal
+
+pub both-a-requires-send-W : goal.both-a-requires-send-W
+both-a-requires-send-W g c κs within =
+    let ℓ : NamedLft = record { mir = named 2; lft = κs.1.1.0 } in
+    let R = param 2 g.row.R in
+    let S = param 0 g.row.S in
+    let L = param 1 g.row.L in
+    param_send 1 _ (arg_send _ exit.no (drainer.the_row ℓ R S L g.S.Site g.S.Ledger g.L.Ledger)
+    (drainer_send ℓ R S L g.S.Site g.S.Ledger g.L.Ledger c.type_bounds.sync-R))
+""",
     "one_day/Invariants.antt": r"""
 use Rattle.locked_runs.proofs.one_day.Given as goal
 
@@ -523,7 +599,7 @@ class Program:
         in use behind it."""
         self.calls.write_text("".join(call + "\n" for call in calls))
         text, asked = self.run_alone(refused, str(self.calls))
-        if "\nclosed: " not in text:
+        if "\nclosed: " not in text and "\nclose: memory" not in text:
             sys.exit(f"{text[-2000:]}\nbench/locked.py: the program didn't run to its end, allocation {refused}")
         return [line for line in text.splitlines()[1:] if line.strip()], asked, int(self.told.read_text().split()[1])
 
@@ -545,21 +621,46 @@ def number_of(call):
     return call.split()[0]
 
 
-def refuse_each(program, name, call):
+def refuse_each(program, name, before, call, after):
     """Refuses each allocation of the call in turn: made again it is answered as without a refusal, and left out it has done nothing."""
-    wanted, count = program.lines(PREPARED + ["now " + call] + AFTER)
+    wanted, count = program.lines(before + ["now " + call] + after)
     at = wanted.index("-- done") + 1
-    without, _ = program.lines(PREPARED + AFTER)
+    without, _ = program.lines(before + after)
     memory, went_on = f"{number_of(call)}: memory", 0
     for n in range(1, count + 1):
-        again, _ = program.lines(PREPARED + ["now " + call] + AFTER, n)
+        again, _ = program.lines(before + ["now " + call] + after, n)
         if again == wanted:
             went_on += 1
             continue
-        once, _ = program.lines(PREPARED + ["once " + call] + AFTER, n)
+        once, _ = program.lines(before + ["once " + call] + after, n)
         if again != wanted[:at] + [memory] + wanted[at:] or once != without[:at - 2] + ["-- now", "-- done", memory] + without[at - 2:]:
             sys.exit("\n".join([f"{name}: allocation {n}: WRONG", *difflib.ndiff(wanted, again), *difflib.ndiff(without, once)]))
-    print(f"{name}: {count} allocations refused: {count - went_on} times `memory`, {went_on} times done without, all as wanted")
+    tell_refused(name, count, went_on)
+
+
+def refuse_close(program, name, calls):
+    """Refuses each allocation of the closing behind these calls in turn: what is told is that memory was refused."""
+    wanted, count = program.lines(calls + ["now close"])
+    memory, went_on = wanted[:wanted.index("-- done") + 1] + ["close: memory"], 0
+    for n in range(1, count + 1):
+        told, _ = program.lines(calls + ["now close"], n)
+        went_on += told == wanted
+        if told not in (wanted, memory):
+            sys.exit("\n".join([f"{name}: allocation {n}: WRONG", *difflib.ndiff(memory, told)]))
+    tell_refused(name, count, went_on)
+
+
+def tell_refused(name, count, went_on):
+    told = f"{count - went_on} times `memory`, {went_on} times done without"
+    print(f"{name}: {count} allocations refused: {told}, all as wanted", flush=True)
+
+
+def refuse_run(program, calls):
+    """The same of each call of a run, and of its closing."""
+    for number, call in enumerate(calls):
+        name = f"served by calls, {number_of(call)} {re.search('enter|leave|[A-Z]{2,}', call)[0]}"
+        refuse_each(program, name, calls[:number], call, calls[number + 1:])
+    refuse_close(program, "served by calls, closing", calls)
 
 
 def refuse_epoch(program):
@@ -576,15 +677,17 @@ def refuse_epoch(program):
             kept += 1
         else:
             sys.exit("\n".join([f"an epoch begins: allocation {n}: WRONG", *told]))
-    print(f"a Drain that begins an epoch: {count} allocations refused: {counts} times `memory`, {kept} times in the old history, all as wanted")
+    told = f"{counts} times `memory`, {kept} times in the old history"
+    print(f"a Drain that begins an epoch: {count} allocations refused: {told}, all as wanted", flush=True)
 
 
 def refuse(path):
     with tempfile.TemporaryDirectory() as folder:
         program = Program(path, folder)
         for name, call in REFUSED.items():
-            refuse_each(program, name, call)
+            refuse_each(program, name, PREPARED, call, AFTER)
         refuse_epoch(program)
+        refuse_run(program, [call[0] for call in CALLS])
 
 
 # ---- figures
