@@ -3,6 +3,7 @@ pub mod CountingLemmas
 pub mod EqualLemmas
 pub mod ExampleLemmas
 pub mod FreshLemmas
+pub mod GatheredLemmas
 pub mod GroundLemmas
 pub mod HitLemmas
 pub mod ListedLemmas

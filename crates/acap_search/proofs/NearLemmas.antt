@@ -1,9 +1,9 @@
 -- What is at hand of an entry gives the answers about it.
-use Rattle.std.proofs.Common.{◌≡◌, ℕ, Bool, true, false, not, cond, is_some, T, ◌&&◌, ◌||◌, codes, Option, Some, None, List, [], ◌∷◌, ◌++◌, ◌==◌, take, length, refl, sym, ◌∙◌, ap, subst, append-nil, arith, map as each}
+use Rattle.std.proofs.Common.{◌≡◌, ℕ, Bool, true, false, not, cond, is_some, T, ◌&&◌, ◌||◌, codes, Option, Some, None, List, [], ◌∷◌, ◌==◌, take, length, refl, sym, ◌∙◌, ap, subst, append-nil, arith, map as each}
 use Rattle.std.specs.FinMap as map
 use Rattle.std.specs.FinMap.{is_sorted, IsAntisymmetric, slice_cmp-IsAntisymmetric, nat_cmp-IsAntisymmetric}
 use Rattle.std.specs.FinMap.Entries.{below_all, find, same_entries}
-use Rattle.std.specs.List.{filter, filter_map, cons_option}
+use Rattle.std.specs.List.{filter, cons_option}
 use Rattle.std.specs.Option.{option_and_then, unwrap_or}
 use Rattle.std.specs.Ordering.{is_lt, is_eq, eq_by_cmp, ordering_then, ordering_reverse}
 use Rattle.std.specs.Cmp.{tied_itself, IsTotalOrder}
@@ -262,13 +262,6 @@ all_kept records dataset es e = subst (AreKept records dataset) (sym e) (kept_of
 pub alone_of : {A : Type 0} (name : A → List ℕ) (first : A) (others all : List A) (chain : List (List ℕ)) (dataset : List ℕ) → each name all ≡ chain → all ≡ first ∷ others → length others ≡ 0 → name first ≡ dataset → chain ≡ dataset ∷ []
 alone_of name first [] all chain dataset n e l d = sym n ∙ (ap (each name) e ∙ ap (λ x. x ∷ []) d)
 alone_of name first (other ∷ others) all chain dataset n e l d = absurd (omega (arith, l))
-
--- what is found at the names of all records, when all have been walked through
-pub own_walked : {Y : Type 0} (f : List ℕ → Option Y) (found before : List Y) (left all : List (Path × Record)) (names : List (List ℕ)) → left ≡ []
-    → found ++ filter_map f (each (λ e. e.0.name) left) ≡ before ++ filter_map f (each (λ e. e.0.name) all) → names ≡ each (λ e. e.0.name) all → found ≡ before ++ filter_map f names
-own_walked f found before left all names e h n =
-    sym (append-nil found)
-    ∙ (ap (λ es. found ++ filter_map f (each (λ e. e.0.name) es)) (sym e) ∙ (h ∙ ap (λ names. before ++ filter_map f names) (sym n)))
 
 pub moved : {A B : Type 0} {x y : A} {n m : B} (P : A → B → Type 0) → x ≡ y → n ≡ m → P x n → P y m
 moved {y = y} {n = n} P e f h = subst (P y) f (subst (λ x. P x n) e h)

@@ -1,5 +1,5 @@
 -- What is found dataset by dataset is, in order, what is made of the paths in sight.
-use Rattle.std.proofs.Common.{drop, arith, ◌≡◌, ℕ, Bool, true, false, cond, nat_eq, Option, Some, None, List, [], ◌∷◌, ◌++◌, refl, sym, ◌∙◌, ap, append-nil, flat_map, length, map as each}
+use Rattle.std.proofs.Common.{drop, arith, ◌≡◌, ℕ, Bool, true, false, cond, nat_eq, Option, Some, None, List, [], ◌∷◌, ◌++◌, refl, sym, ◌∙◌, ap, flat_map, length, map as each}
 use Rattle.std.proofs.lemmas.Bool.Decides.{nat_tests}
 use Rattle.std.specs.List.{filter, filter_map, cons_option, starts_with}
 use Rattle.std.specs.List.Sorted.{ties}
@@ -48,10 +48,6 @@ all_of_made f g [] = refl
 all_of_made f g (x ∷ xs) =
     elim (g x) as (λ o. option_map_or f o [] ++ flat_map (λ x. option_map_or f (g x) []) xs ≡ flat_map f (cons_option o (filter_map g xs)))
     [ Some y ↦ ap (λ rest. f y ++ rest) (all_of_made f g xs) | None ↦ all_of_made f g xs ]
-
--- all has been walked through
-pub walked : {X Y : Type 0} (f : X → List Y) (found before : List Y) (left all : List X) → left ≡ [] → found ++ flat_map f left ≡ before ++ flat_map f all → found ≡ before ++ flat_map f all
-walked f found before left all e h = sym (append-nil found) ∙ (ap (λ xs. found ++ flat_map f xs) (sym e) ∙ h)
 
 -- ---- sorting before and after
 

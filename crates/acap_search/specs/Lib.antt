@@ -6,6 +6,7 @@ pub mod Cutting
 pub mod Examples
 pub mod Fresh
 pub mod Fronts
+pub mod Gathering
 pub mod Grounds
 pub mod Keys
 pub mod Laws

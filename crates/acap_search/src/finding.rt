@@ -1,10 +1,9 @@
 //! What is found in a walk.
-ghost use Rattle.std.specs.Prelude.{◌≡◌, IfOk, take, map as each};
+ghost use Rattle.std.specs.Prelude.{◌≡◌, IfOk};
 
 use crate::hit::Hit;
 use crate::lying::Lying;
 use crate::rank::Places;
-use acap_commands::Rows;
 use acap_entries::{Memory, Row};
 use std::alloc::Global;
 use std::marker::Model;
@@ -47,23 +46,6 @@ impl<'a> Finding<'a> {
     {
         self.row
     }
-}
-
-/// What is told of the first of what is found. Fails only for want of memory.
-pub(crate) fn told_first(
-    alloc: Global,
-    found: Vec<Finding<'_>>,
-    most: usize,
-) -> Result<Rows, Memory>
-    ensures { IfOk result (λ rows. rows ≡ each (λ hit. hit.row) (take most found.entry.items)) }
-{
-    let mut found = found;
-    found.truncate(most);
-    let mut rows = Vec::with_capacity(alloc, found.len())?;
-    for finding in found {
-        rows.push(finding.into_row())?;
-    }
-    Ok(Rows::from_vec(rows))
 }
 
 /// All that is found, as hits. Fails only for want of memory.

@@ -7,6 +7,7 @@ mod context_laws;
 mod cutting;
 mod finding;
 mod front;
+mod gathered;
 mod ground;
 mod hit;
 mod kept;

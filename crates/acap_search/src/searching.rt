@@ -1,19 +1,20 @@
 //! Searches over datasets.
-ghost use Rattle.std.specs.Prelude.{◌≡◌, ◌++◌, IfOk, IsTrue, None, OnOk};
+ghost use Rattle.std.specs.Prelude.{◌≡◌, IfOk, IsTrue, None, OnOk};
 ghost use Rattle.std.specs.List.{filter};
 ghost use Rattle.std.specs.FinMap as map;
 ghost use Rattle.acap_search.specs.Counting.{IsCounted, paths_count};
 ghost use Rattle.acap_search.specs.Fresh as rule;
 ghost use Rattle.acap_search.specs.Fresh.{IsAnswer, matches_of};
+ghost use Rattle.acap_search.specs.Gathering.{IsGathered, gathered, none_yet};
 ghost use Rattle.acap_search.specs.Near as near;
 ghost use Rattle.acap_search.specs.Walks as walks;
 
-use crate::finding::{Finding, hits_of};
+use crate::finding::hits_of;
 use crate::front::Front;
+use crate::gathered::Gathered;
 use crate::hit::Hits;
 use crate::kept::Kept;
 use crate::near::Near;
-use crate::ordering::sort_found;
 use crate::plain::is_alone;
 use crate::query::{Query, Sought};
 use crate::reaching::reached_by;
@@ -53,19 +54,20 @@ pub(crate) fn is_over(most: Option<u32>, count: usize) -> bool
 }
 
 // Adds what is found among the records of a dataset that inherits nothing.
+#[tactic(auto, using(crate::proofs::GatheredLemmas::gathered_twice))]
 fn add_own<'a: 'b, 'b, L: Ledger>(
     alloc: Global,
     by: &'b Viewer<'b, Tree>,
     entries: Listing<'a>,
     shared: &'b SharedRights,
     sought: &Sought,
-    found: &mut Vec<Finding<'a>>,
+    found: &mut Gathered<'a>,
     steps: &mut Steps<L>,
 ) -> Result<(), Memory>
     requires plain { near.IsPlain by.now shared.now }
     requires all { entries ≡ filter (near.lies_in by.now.dataset) (map.entries by.now.records) }
     ensures count { IsCounted result steps.old steps.new (walks.names_count by.now) }
-    ensures found { OnOk result (found.new.items ≡ found.old.items ++ walks.hits_along by.now sought.now) }
+    ensures found { OnOk result (found.new ≡ gathered found.old (walks.hits_along by.now sought.now)) }
 {
     for (path, entry) in entries {
         let spot = Spot {
@@ -74,7 +76,7 @@ fn add_own<'a: 'b, 'b, L: Ledger>(
             kept: Some(Kept { entry, shared }),
         };
         if let Some(finding) = finding_at(alloc, &spot, Some(path), sought, None, steps)? {
-            found.push(finding)?;
+            found.add(finding)?;
         }
     }
     Ok(())
@@ -89,15 +91,16 @@ pub(crate) fn base_of<'a>(chain: &Lineage<'a>) -> &'a [u8] {
 }
 
 // Adds what is found at all names along a chain.
+#[tactic(auto, using(crate::proofs::GatheredLemmas::gathered_none, crate::proofs::GatheredLemmas::gathered_twice))]
 fn add_far<'a, L: Ledger>(
     alloc: Global,
     by: &Viewer<'_, Tree>,
     sought: &Sought,
-    found: &mut Vec<Finding<'a>>,
+    found: &mut Gathered<'a>,
     steps: &mut Steps<L>,
 ) -> Result<(), Memory>
     ensures count { IsCounted result steps.old steps.new (walks.names_count by.now) }
-    ensures found { OnOk result (found.new.items ≡ found.old.items ++ walks.hits_along by.now sought.now) }
+    ensures found { OnOk result (found.new ≡ gathered found.old (walks.hits_along by.now sought.now)) }
 {
     let own = Front::of(by.records, by.dataset.as_slice());
     let base = Front::of(by.records, base_of(&by.chain));
@@ -112,7 +115,7 @@ fn add_far<'a, L: Ledger>(
         };
         let spot = Spot::far(&nearer, name);
         if let Some(finding) = finding_at(alloc, &spot, None, sought, None, steps)? {
-            found.push(finding)?;
+            found.add(finding)?;
         }
     }
     Ok(())
@@ -124,11 +127,11 @@ fn add_in<'a, L: Ledger>(
     alloc: Global,
     search: &Search<'a>,
     dataset: &Dataset,
-    found: &mut Vec<Finding<'a>>,
+    found: &mut Gathered<'a>,
     steps: &mut Steps<L>,
 ) -> Result<(), Memory>
     ensures count { IsCounted result steps.old steps.new (walks.count_in search.now dataset.now) }
-    ensures found { OnOk result (found.new.items ≡ found.old.items ++ walks.hits_in search.now dataset.now) }
+    ensures found { OnOk result (found.new ≡ gathered found.old (walks.hits_in search.now dataset.now)) }
 {
     let sought = search.sought;
     let by = Viewer {
@@ -147,16 +150,16 @@ fn add_in<'a, L: Ledger>(
 }
 
 // Adds what is found beneath the searched dataset, in so many levels: with one level nothing, and nothing is walked through.
-#[tactic(auto, unfolding(crate::specs::Walks::hits_by, crate::specs::Walks::count_by))]
+#[tactic(auto, using(crate::proofs::GatheredLemmas::gathered_twice), unfolding(crate::specs::Walks::hits_by, crate::specs::Walks::count_by))]
 fn add_beneath<'a, L: Ledger>(
     alloc: Global,
     search: &Search<'a>,
     depth: u32,
-    found: &mut Vec<Finding<'a>>,
+    found: &mut Gathered<'a>,
     steps: &mut Steps<L>,
 ) -> Result<(), Memory>
     ensures count { IsCounted result steps.old steps.new (walks.count_beneath search.now depth) }
-    ensures found { OnOk result (found.new.items ≡ found.old.items ++ walks.hits_beneath search.now depth) }
+    ensures found { OnOk result (found.new ≡ gathered found.old (walks.hits_beneath search.now depth)) }
 {
     if depth == 1 {
         return Ok(());
@@ -170,17 +173,19 @@ fn add_beneath<'a, L: Ledger>(
     Ok(())
 }
 
-// What is found, in the order of the store.
-#[tactic(auto, unfolding(crate::specs::Walks::count_over))]
+// What is found, in the order of the store, or its rows alone.
+#[tactic(auto, using(crate::proofs::GatheredLemmas::gathered_twice), unfolding(crate::specs::Walks::count_over))]
 fn walked<'a, L: Ledger>(
     alloc: Global,
     search: &Search<'a>,
+    rows_alone: bool,
     steps: &mut Steps<L>,
-) -> Result<Vec<Finding<'a>>, Memory>
+) -> Result<Gathered<'a>, Memory>
     ensures count { IsCounted result steps.old steps.new (walks.count_over search.now) }
-    ensures found { IfOk result (λ found. found.items ≡ walks.hits_over search.now) }
+    ensures found { IfOk result
+        (λ found. found ≡ gathered (none_yet rows_alone) (walks.hits_over search.now)) }
 {
-    let mut found = Vec::new(alloc);
+    let mut found = Gathered::new(alloc, rows_alone);
     let sought = search.sought;
     add_in(alloc, search, &sought.dataset, &mut found, steps)?;
     if let Some(depth) = sought.depth {
@@ -198,23 +203,25 @@ fn is_in_order(search: &Search<'_>) -> bool
     sought.depth.is_none() && sought.sort.is_none()
 }
 
-// What is found, in order: without DEPTH and SORT it comes so.
+// What is found, in order: without DEPTH and SORT it comes so, and its rows alone may be gathered.
 #[tactic(auto, using(crate::proofs::CountingLemmas::count_over_is))]
 fn found_by<'a, L: Ledger>(
     alloc: Global,
     search: &Search<'a>,
+    rows_alone: bool,
     steps: &mut Steps<L>,
-) -> Result<Vec<Finding<'a>>, Memory>
+) -> Result<Gathered<'a>, Memory>
     ensures count { IsCounted result steps.old steps.new (walks.paths_by search.now) }
-    ensures found { IfOk result (λ found. found.items ≡ walks.matches_by search.now) }
+    ensures found { IfOk result (λ found. IsGathered rows_alone found (walks.matches_by search.now)) }
 {
     names_law();
-    let mut found = walked(alloc, search, steps)?;
     if is_in_order(search) {
+        let found = walked(alloc, search, rows_alone, steps)?;
         return Ok(found);
     }
-    sort_found(&mut found)?;
-    Ok(found)
+    let found = walked(alloc, search, false, steps)?;
+    let sorted = found.sorted()?;
+    Ok(sorted)
 }
 
 /// All that is sought: every entry that the user sees and the key wants, in order (RFC 2244 section 6.4.1). Nothing is refused, since
@@ -237,22 +244,24 @@ pub fn seek<L: Ledger>(
         user,
         sought,
     };
-    let found = found_by(alloc, &search, steps)?;
-    Ok(Hits::from_vec(hits_of(alloc, found)?))
+    let found = found_by(alloc, &search, false, steps)?;
+    Ok(Hits::from_vec(hits_of(alloc, found.into_findings(alloc))?))
 }
 
-/// What is answered to a search over a dataset, whose paths need not be made.
-#[tactic(auto, using(crate::proofs::RefusalLemmas::refused))]
+/// What is answered to a search over a dataset, whose paths need not be made, or the rows alone.
+#[tactic(auto, using(crate::proofs::GatheredLemmas::as_many, crate::proofs::RefusalLemmas::refused))]
 pub(crate) fn answer<'a, L: Ledger>(
     alloc: Global,
     tree: &'a Tree,
     realm: &'a Realm,
     user: &'a UserName,
     query: &'a Query,
+    rows_alone: bool,
     steps: &mut Steps<L>,
-) -> Result<Vec<Finding<'a>>, SearchRefusal>
+) -> Result<Gathered<'a>, SearchRefusal>
     ensures count { IsCounted result steps.old steps.new (paths_count tree.now.store query.now.sought) }
-    ensures found { IsAnswer tree.now.store.records realm.now user.now query.now (λ f m. f.items ≡ m) result }
+    ensures found { let records = tree.now.store.records in
+        IsAnswer records realm.now user.now query.now (IsGathered rows_alone) result }
 {
     if has_range(&query.sought.key) {
         return Err(SearchRefusal::RangeHere);
@@ -266,8 +275,8 @@ pub(crate) fn answer<'a, L: Ledger>(
         user,
         sought: &query.sought,
     };
-    let found = found_by(alloc, &search, steps)?;
-    if is_over(query.hard_limit, found.len()) {
+    let found = found_by(alloc, &search, rows_alone, steps)?;
+    if is_over(query.hard_limit, found.count()) {
         return Err(SearchRefusal::WayTooMany);
     }
     Ok(found)
@@ -288,8 +297,8 @@ pub fn fresh<L: Ledger>(
     ensures count { IsCounted result steps.old steps.new (paths_count tree.now.store query.now.sought) }
     ensures found { IsAnswer tree.now.store.records realm.now user.now query.now (λ h m. h ≡ m) result }
 {
-    match answer(alloc, tree, realm, user, query, steps) {
-        Ok(found) => match hits_of(alloc, found) {
+    match answer(alloc, tree, realm, user, query, false, steps) {
+        Ok(found) => match hits_of(alloc, found.into_findings(alloc)) {
             Ok(hits) => Ok(Hits::from_vec(hits)),
             Err(_) => Err(SearchRefusal::Memory),
         },

@@ -4,7 +4,7 @@ ghost use Rattle.acap_search.specs.Cutting.{IsExcerpt};
 ghost use Rattle.acap_search.specs.Fresh.{IsAnswer};
 
 use crate::cutting::cut_by;
-use crate::finding::told_first;
+use crate::gathered::told_first;
 use crate::query::Query;
 use crate::refusal::SearchRefusal;
 use crate::searching::answer;
@@ -37,9 +37,9 @@ pub fn tell<L: Ledger>(
     ensures count { IsCounted result steps.old steps.new (paths_count tree.now.store query.now.sought) }
     ensures told { IsAnswer tree.now.store.records realm.now user.now query.now (IsExcerpt limit) result }
 {
-    match answer(alloc, tree, realm, user, query, steps) {
+    match answer(alloc, tree, realm, user, query, true, steps) {
         Ok(found) => {
-            let cut = cut_by(limit, found.len());
+            let cut = cut_by(limit, found.count());
             match told_first(alloc, found, cut.told) {
                 Ok(rows) => Ok(Excerpt {
                     rows,

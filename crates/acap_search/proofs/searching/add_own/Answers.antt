@@ -1,6 +1,7 @@
 use Rattle.std.proofs.Common.{◌+◌, ap, arith, length, refl, sym, ◌∙◌, map}
 use Rattle.std.proofs.lemmas.List.{length-map}
-use Rattle.acap_search.proofs.NearLemmas.{names_alone, all_kept, own_walked}
+use Rattle.acap_search.proofs.GatheredLemmas.{own_walked}
+use Rattle.acap_search.proofs.NearLemmas.{names_alone, all_kept}
 use Rattle.acap_search.proofs.searching.add_own.Goals as goal
 
 pub loop-path-init : goal.loop-path-init
