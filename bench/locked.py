@@ -13,8 +13,8 @@ time. `build` uses what `rt check` has proved of the crates below.
 A row is a list of lines. `N enter USER`, `N drain`, `N drains COUNT`, `N leave` and `N COMMAND` are calls through pass N; what is
 printed of one is the pass, the epoch, the place, the seats that are rung (a bit for each), and the reply. `now CALL` tells the time of
 the call, and makes it once more where memory is refused; `once CALL` doesn't. `threads COUNT` makes so many drains through each of the
-last two passes, in two threads. `without N` takes pass N away. At the end the book is closed with the passes that are left, and with
-`now close` the closing is marked as `now` marks a call.
+last two passes, in two threads. `without N` takes pass N away. At the end the book is closed with the passes that are
+left, and with `now close` the closing is marked as `now` marks a call.
 """
 import argparse
 import difflib

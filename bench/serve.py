@@ -361,8 +361,8 @@ def noop_time(client):
 
 
 def is_never_held_up(one_round):
-    """Does rounds, each of which gives the longest that another's NOOP took, until one took no 50 ms: other work on the machine may hold up
-    a round, but not each of five."""
+    """Does rounds, each of which gives the longest that another's NOOP took, until that is less than 50 ms: other work
+    on the machine may hold up a round, but not each of five."""
     worst = []
     while len(worst) < 5 and min(worst, default=1) >= 0.05:
         worst.append(one_round())
