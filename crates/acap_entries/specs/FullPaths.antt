@@ -1,12 +1,28 @@
 -- Paths as their full octets, in which order answers and notices come [RFC 2244 sections 3.1 and 6.4.1].
-use Rattle.std.specs.Prelude.{◌≡◌, ℕ, Bool, false, ◌&&◌, List, ◌++◌, IsTrue, Some}
+use Rattle.std.specs.Prelude.{◌≡◌, ℕ, Bool, false, List, ◌++◌, IsTrue, Some}
 use Rattle.std.specs.FinMap as map
 use Rattle.std.specs.declared.cmp.Ordering.{Ordering}
-use Rattle.acap_entries.specs.Names.{slash, has, ends_with, is_closed_dataset, is_entry_name}
+use Rattle.acap_entries.specs.Homes.{for_user}
+use Rattle.acap_entries.specs.Names.{slash, has, ends_with, dataset_of, name_of, is_closed_dataset, is_entry_name, are_parts}
 use Rattle.acap_entries.specs.Orders.{octets_cmp}
 use Rattle.acap_entries.specs.Sorted.{InOrder}
 use Rattle.acap_entries.specs.Store.{path_cmp}
 use Rattle.acap_entries.specs.declared.path.Path.{Path}
+
+-- the path of a dataset and a name, and its parts
+abbrev pub path_of : List ℕ → List ℕ → Path
+path_of dataset name = record { dataset = dataset; name = name }
+
+abbrev pub parts_of : Path → List ℕ × List ℕ
+parts_of p = (p.dataset, p.name)
+
+-- the path that octets are, as a client sends them
+abbrev pub path_in : List ℕ → Path
+path_in octets = path_of (dataset_of octets) (name_of octets)
+
+-- the path that a user means
+abbrev pub path_for : List ℕ → Path → Path
+path_for user p = record p { dataset = for_user user p.dataset }
 
 -- the dataset and then the name
 abbrev pub full_path : Path → List ℕ
@@ -28,7 +44,7 @@ pub record IsWellFormed (p : Path) : Type 0 where
   pub name : IsTrue (is_entry_name p.name)
 
 abbrev pub is_well_formed : Path → Bool
-is_well_formed p = is_closed_dataset p.dataset && is_entry_name p.name
+is_well_formed p = are_parts p.dataset p.name
 
 -- in a map from paths, each path at which something stands is well formed
 abbrev pub AreWellFormed : {X : Type 0} → map.FinMap path_cmp X → Type 0

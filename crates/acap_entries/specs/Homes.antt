@@ -12,9 +12,10 @@ second_at dataset = position_or_len is_slash (drop 1 dataset) + 2
 unfoldable pub is_home : List ℕ → Bool
 is_home dataset = begins_with slash dataset && starts_with nat_eq (drop (second_at dataset) dataset) (codes "~/")
 
+-- the dataset with `user/USER` in place of the one octet there
+abbrev pub with_user_at : ℕ → List ℕ → List ℕ → List ℕ
+with_user_at at user dataset = take at dataset ++ codes "user/" ++ user ++ drop (at + 1) dataset
+
 -- the dataset that is meant by a user
 unfoldable pub for_user : List ℕ → List ℕ → List ℕ
-for_user user dataset =
-    if is_home dataset
-    then take (second_at dataset) dataset ++ codes "user/" ++ user ++ drop (second_at dataset + 1) dataset
-    else dataset
+for_user user dataset = if is_home dataset then with_user_at (second_at dataset) user dataset else dataset

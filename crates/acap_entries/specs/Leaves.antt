@@ -1,16 +1,27 @@
 -- Entries in order that lie in leaves, one leaf after the other: where a key belongs.
-use Rattle.std.specs.Prelude.{◌≡◌, ℕ, ◌-◌, min, ◌<◌, ◌≤◌, Bool, true, false, IsTrue, List, [], ◌∷◌, length, take, flat_map}
-use Rattle.std.specs.List.{list_all}
+use Rattle.std.specs.Prelude.{◌≡◌, ℕ, ◌+◌, ◌-◌, ◌/◌, min, ◌<◌, ◌≤◌, Bool, true, false, IsTrue}
+use Rattle.std.specs.Prelude.{List, [], ◌∷◌, ◌++◌, length, take, drop, flat_map, slice_index_or, slice_set}
+use Rattle.std.specs.List.{list_all, insert}
 use Rattle.std.specs.declared.cmp.Ordering.{Ordering}
+use Rattle.std.specs.declared.cmp.Ordering.TheVariants.{Greater}
 use Rattle.acap_entries.specs.Sorted.{place, is_tied}
 
 -- all that the leaves hold, in order
 abbrev pub joined : {A : Type 0} → List (List A) → List A
 joined leaves = flat_map (λ leaf. leaf) leaves
 
--- how many entries lie before a leaf
+-- how many entries lie in the leaves, and before one of them
+abbrev pub entry_count : {A : Type 0} → List (List A) → ℕ
+entry_count leaves = length (joined leaves)
+
 abbrev pub before : {A : Type 0} → List (List A) → ℕ → ℕ
-before leaves i = length (joined (take i leaves))
+before leaves i = entry_count (take i leaves)
+
+-- the leaves with the later half of one in a leaf right behind it
+abbrev pub split_at : {A : Type 0} → ℕ → List (List A) → List (List A)
+split_at at leaves =
+    let leaf = slice_index_or leaves at [] in
+    insert (slice_set leaves at (take (length leaf / 2) leaf)) (at + 1) (drop (length leaf / 2) leaf)
 
 -- each leaf has an entry
 abbrev pub is_filled : {A : Type 0} → List A → Bool
@@ -20,7 +31,23 @@ is_filled (x ∷ xs) = true
 pub record AreFilled {A : Type 0} (leaves : List (List A)) : Type 0 where
   pub each : IsTrue (list_all is_filled leaves)
 
+-- so many entries stand in the front and behind it in filled leaves
+abbrev pub AreToCome : {A : Type 0} → ℕ → List A → List (List A) → Type 0
+AreToCome count front leaves = AreFilled leaves × (count ≤ length (front ++ joined leaves))
+
+-- what stands before the one key stands before the other
+abbrev pub Rises : {K : Type 0} → (K → K → Ordering) → K → K → Type 0
+Rises {K} R low high = (k : K) → R low k ≡ Greater → R high k ≡ Greater
+
 module _ {K X : Type 0} (R : K → K → Ordering) where
+  -- how many of the entries stand before the place of the key
+  abbrev pub place_in : K → List (List (K × X)) → ℕ
+  place_in k leaves = place R k (joined leaves)
+
+  -- the entries from the place of one key on and before that of another
+  abbrev pub between : K → K → List (List (K × X)) → List (K × X)
+  between low high leaves = take (place_in high leaves - place_in low leaves) (drop (place_in low leaves) (joined leaves))
+
   -- the key's place is in the leaves from one on and before another, or right behind the last of their entries where
   -- the key is nowhere
   pub record IsAmong (k : K) (leaves : List (List (K × X))) (low high : ℕ) : Type 0 where

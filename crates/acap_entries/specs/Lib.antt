@@ -15,8 +15,10 @@ pub mod Orders
 pub mod RankLaws
 pub mod Ranks
 pub mod Replacing
+pub mod Room
 pub mod Sorted
 pub mod Sound
 pub mod Stamp
 pub mod Store
+pub mod Tables
 pub mod Times

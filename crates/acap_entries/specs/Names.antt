@@ -44,6 +44,10 @@ begins_with octet (x ∷ xs) = x == octet
 abbrev pub ends_with : ℕ → List ℕ → Bool
 ends_with octet text = nat_lt 0 (length text) && (slice_index text (length text - 1) == octet)
 
+-- whether the octets are UTF-8 without NUL, and one octet more isn't among them
+abbrev pub is_text_without : ℕ → List ℕ → Bool
+is_text_without octet text = is_utf8 text && not (has nul text) && not (has octet text)
+
 -- whether a text has from 1 to that many octets
 abbrev pub is_sized : ℕ → List ℕ → Bool
 is_sized most text = nat_lt 0 (length text) && nat_le (length text) most
@@ -52,6 +56,10 @@ is_sized most text = nat_lt 0 (length text) && nat_le (length text) most
 unfoldable pub is_component : List ℕ → Bool
 is_component text =
     nat_lt 0 (length text) && is_utf8 text && not (has nul text) && not (has slash text) && not (begins_with dot text)
+
+-- a component without SP and TAB
+abbrev pub is_unbroken_component : List ℕ → Bool
+is_unbroken_component text = is_component text && not (has space text) && not (has tab text)
 
 -- the components of a dataset, written with its closing `/` or without: none of `/`, else what stands between slashes
 abbrev pub inside : List ℕ → List ℕ
@@ -85,6 +93,10 @@ name_of text = drop (dataset_len text) text
 -- an entry name is a component, or empty: the management entry's
 abbrev pub is_entry_name : List ℕ → Bool
 is_entry_name text = if length text == 0 then true else is_component text
+
+-- whether they are a dataset as it is kept and an entry name: the parts of a path
+abbrev pub are_parts : List ℕ → List ℕ → Bool
+are_parts dataset name = is_closed_dataset dataset && is_entry_name name
 
 -- how many components a path has, an entry name that isn't empty counted as one
 abbrev pub step_count : List ℕ → ℕ

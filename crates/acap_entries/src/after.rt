@@ -3,7 +3,7 @@ ghost use Rattle.std.specs.Prelude.{◌≡◌};
 ghost use Rattle.std.specs.Option.{option_copied};
 ghost use Rattle.std.specs.FinMap as map;
 ghost use Rattle.acap_entries.specs.Ahead.{IsReadAhead};
-ghost use Rattle.acap_entries.specs.Changes.{left_by};
+ghost use Rattle.acap_entries.specs.Leaving.{store_ahead};
 
 use crate::change::Change;
 use crate::fate::Fate;
@@ -32,7 +32,7 @@ impl<'a> After<'a> {
         ensures tree { result.tree.now ≡ tree.now }
         ensures writes { result.writes.now ≡ change.now.writes }
         ensures moment { result.moment ≡ change.now.moment }
-        ensures store { IsReadAhead change.now tree.now.store (left_by result.writes.now result.moment result.tree.now.store) }
+        ensures store { IsReadAhead change.now tree.now.store (store_ahead result) }
     {
         After {
             tree,
@@ -44,7 +44,7 @@ impl<'a> After<'a> {
 
 #[tactic(auto, using(crate::proofs::AfterLemmas::get_after))]
 impl<'a> Records for After<'a> {
-    ghost store = { λ a. left_by a.writes.now a.moment a.tree.now.store };
+    ghost store = { store_ahead };
 
     fn find(&self, dataset: &[u8], name: &[u8]) -> Option<&Record> {
         match self.writes.find(dataset, name) {

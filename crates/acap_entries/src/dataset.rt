@@ -1,5 +1,6 @@
 //! The names of datasets.
-ghost use Rattle.std.specs.Prelude.{◌≡◌, ◌↔◌, ◌<◌, ◌++◌, ◌∷◌, [], length, IfOk, OnOk, OnErr, IsTrue, Err, false};
+ghost use Rattle.std.specs.Prelude.{◌≡◌, ◌↔◌, ◌<◌, ◌++◌, ◌∷◌, [], length, false};
+ghost use Rattle.std.specs.Prelude.{IfOk, OnOk, OnErr, IsTrue, Err};
 ghost use Rattle.acap_entries.specs.Names as name;
 ghost use Rattle.acap_entries.specs.Homes as home;
 

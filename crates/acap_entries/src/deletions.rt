@@ -31,7 +31,11 @@ impl Model for Deletions {
 
     ghost coded = { remembered_code };
 
-    ghost view = { λ d. record { kept = d.kept.items; forgotten = d.forgotten; slots = deque_capacity d.kept } };
+    ghost view = { λ d. record {
+      kept = d.kept.items;
+      forgotten = d.forgotten;
+      slots = deque_capacity d.kept;
+    } };
 
     ghost invariant = { λ d. length d.kept.items ≤ 4096 };
 }

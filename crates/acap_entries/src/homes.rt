@@ -1,6 +1,7 @@
 //! What `~` stands for.
-ghost use Rattle.std.specs.Prelude.{◌≡◌, ◌<◌, ◌+◌, ◌++◌, length, take, drop, codes, IfOk, IfNone, IfSome, true, false};
+ghost use Rattle.std.specs.Prelude.{◌≡◌, ◌<◌, length, IfOk, IfNone, IfSome, true, false};
 ghost use Rattle.acap_entries.specs.Homes as home;
+ghost use Rattle.acap_entries.specs.Made.{IsMade};
 
 use crate::copying::Copying;
 use crate::memory::Memory;
@@ -28,7 +29,7 @@ fn tilde_at(dataset: &[u8]) -> Option<usize>
 // The octets with `user/USER` in place of the one octet there, in no more memory than they need.
 fn replaced(alloc: Global, octets: &[u8], at: usize, user: &[u8]) -> Result<DatasetText, Memory>
     requires { at < length octets.now }
-    ensures { IfOk result (λ made. made ≡ take at octets.now ++ codes "user/" ++ user.now ++ drop (at + 1) octets.now) }
+    ensures { IsMade (home.with_user_at at user.now octets.now) result }
 {
     DatasetText::joined(alloc, &octets[..at], b"user/", user, &octets[at + 1..])
 }
@@ -36,7 +37,7 @@ fn replaced(alloc: Global, octets: &[u8], at: usize, user: &[u8]) -> Result<Data
 // The dataset that a user means, in memory of its own.
 #[tactic(auto, unfolding(crate::specs::Homes::for_user))]
 pub(crate) fn for_user(dataset: &DatasetText, user: &[u8]) -> Result<DatasetText, Memory>
-    ensures { IfOk result (λ made. made ≡ home.for_user user.now dataset.now) }
+    ensures { IsMade (home.for_user user.now dataset.now) result }
 {
     match tilde_at(dataset.as_slice()) {
         Some(at) => replaced(dataset.allocator(), dataset.as_slice(), at, user),

@@ -1,5 +1,6 @@
 //! A leaf of the tree: a few entries in the order of their keys, with room that is made once.
-ghost use Rattle.std.specs.Prelude.{◌≡◌, ◌+◌, ◌-◌, ◌/◌, ◌++◌, ◌<◌, ◌≤◌, ◌==◌, [], length, take, drop, slice_index_or, slice_set, IfOk, IfSome, IfNone, IsTrue, ◌∷◌};
+ghost use Rattle.std.specs.Prelude.{◌≡◌, ◌+◌, ◌-◌, ◌/◌, ◌++◌, ◌<◌, ◌≤◌, ◌==◌, [], ◌∷◌, length, take, drop};
+ghost use Rattle.std.specs.Prelude.{slice_index_or, slice_set, IfOk, IfSome, IfNone, IsTrue};
 ghost use Rattle.std.specs.List.{insert};
 ghost use Rattle.acap_entries.specs.Sorted.{put_in, without, entry_of, InOrder};
 ghost use Rattle.acap_entries.specs.Leaves.{IsBehind};

@@ -1,9 +1,9 @@
 //! Entries in the order of their keys, in leaves: an edit moves a part of one leaf, in whatever order edits come.
-ghost use Rattle.std.specs.Prelude.{◌≡◌, ◌+◌, ◌-◌, ◌^◌, ◌++◌, IsTrue, ◌<◌, ◌≤◌, [], ◌∷◌, length, take, drop, slice_index_or, slice_set, vec_len, vec_capacity, IfSome, IfNone, OnOk, OnErr, IfOk, ◌/◌};
+ghost use Rattle.std.specs.Prelude.{◌≡◌, ◌+◌, ◌-◌, ◌^◌, ◌++◌, IsTrue, ◌<◌, ◌≤◌, [], ◌∷◌, length, slice_index_or};
+ghost use Rattle.std.specs.Prelude.{vec_len, vec_capacity, IfSome, IfNone, OnOk, OnErr, IfOk};
 ghost use Rattle.std.specs.Option.{option_copied};
-ghost use Rattle.std.specs.List.{insert};
 ghost use Rattle.acap_entries.specs.Sorted.{InOrder, place, put_in, without, found, entry_of};
-ghost use Rattle.acap_entries.specs.Leaves.{joined, before, AreFilled, IsAmong, IsBehind};
+ghost use Rattle.acap_entries.specs.Leaves.{joined, entry_count, split_at, AreFilled, IsAmong, IsBehind};
 ghost use Rattle.acap_entries.specs.Replacing.{replaced};
 
 use crate::copying::{Copying, copy_all};
@@ -98,7 +98,7 @@ fn put_at<K: Ord + Drop, V: Drop>(
     requires sorted { InOrder K.cmp (joined leaves.old.items) }
     ensures items { joined leaves.new.items ≡ put_in K.cmp key value (joined leaves.old.items) }
     ensures filled { AreFilled leaves.new.items }
-    ensures count { length (joined leaves.new.items) ≡ length (joined leaves.old.items) + result }
+    ensures count { entry_count leaves.new.items ≡ entry_count leaves.old.items + result }
     ensures few { result ≤ 1 }
     ensures len { vec_len leaves.new ≡ vec_len leaves.old }
     ensures capacity { vec_capacity leaves.old ≤ vec_capacity leaves.new }
@@ -121,7 +121,7 @@ fn put_behind<K: Ord + Drop, V: Drop>(
     requires filled { AreFilled leaves.old.items }
     ensures items { joined leaves.new.items ≡ put_in K.cmp key value (joined leaves.old.items) }
     ensures filled { AreFilled leaves.new.items }
-    ensures count { length (joined leaves.new.items) ≡ length (joined leaves.old.items) + 1 }
+    ensures count { entry_count leaves.new.items ≡ entry_count leaves.old.items + 1 }
     ensures len { vec_len leaves.new ≡ vec_len leaves.old + 1 }
     ensures capacity { vec_capacity leaves.old ≤ vec_capacity leaves.new }
 {
@@ -136,7 +136,7 @@ fn split_at<K: Ord + Drop, V: Drop>(leaves: &mut Vec<Leaf<K, V>>, mut later: Lea
     requires many { 1 < length (slice_index_or leaves.old.items at []) }
     requires room { vec_len leaves.old < vec_capacity leaves.old }
     requires filled { AreFilled leaves.old.items }
-    ensures items { let leaf = slice_index_or leaves.old.items at [] in leaves.new.items ≡ insert (slice_set leaves.old.items at (take (length leaf / 2) leaf)) (at + 1) (drop (length leaf / 2) leaf) }
+    ensures items { leaves.new.items ≡ split_at at leaves.old.items }
     ensures filled { AreFilled leaves.new.items }
     ensures len { vec_len leaves.new ≡ vec_len leaves.old + 1 }
     ensures capacity { vec_capacity leaves.old ≤ vec_capacity leaves.new }
@@ -159,8 +159,8 @@ fn take_out_at<K: Ord + Drop, V: Drop, Q: Probe<K>>(
     ensures taken { result ≡ entry_of K.cmp (Q.key probe.now) (joined leaves.old.items) }
     ensures items { joined leaves.new.items ≡ without K.cmp (Q.key probe.now) (joined leaves.old.items) }
     ensures filled { AreFilled leaves.new.items }
-    ensures some { IfSome result (λ _. length (joined leaves.new.items) + 1 ≡ length (joined leaves.old.items)) }
-    ensures none { IfNone result (length (joined leaves.new.items) ≡ length (joined leaves.old.items)) }
+    ensures some { IfSome result (λ _. entry_count leaves.new.items + 1 ≡ entry_count leaves.old.items) }
+    ensures none { IfNone result (entry_count leaves.new.items ≡ entry_count leaves.old.items) }
     ensures len { vec_len leaves.new ≤ vec_len leaves.old }
     ensures capacity { vec_capacity leaves.old ≤ vec_capacity leaves.new }
 {
@@ -263,14 +263,15 @@ pub(crate) struct Leaves<K, V> {
 }
 
 impl<K, V> Model for Leaves<K, V> {
-    ghost use Rattle.std.specs.Prelude.{◌≡◌, ℕ, ◌-◌, List, length, vec_len, vec_capacity};
-    ghost use Rattle.acap_entries.specs.Leaves.{joined, AreFilled, room_of};
+    ghost use Rattle.std.specs.Prelude.{◌≡◌, ℕ, List, vec_len};
+    ghost use Rattle.acap_entries.specs.Leaves.{joined, entry_count, AreFilled, room_of};
+    ghost use Rattle.acap_entries.specs.Room.{free_of};
 
     ghost Value = { List (K × V) × ℕ };
 
-    ghost view = { λ l. (joined l.leaves.items, room_of (vec_len l.spare) (vec_capacity l.leaves - vec_len l.leaves) l.count) };
+    ghost view = { λ l. (joined l.leaves.items, room_of (vec_len l.spare) (free_of l.leaves) l.count) };
 
-    ghost invariant = { λ l. AreFilled l.leaves.items × (l.count ≡ length (joined l.leaves.items)) };
+    ghost invariant = { λ l. AreFilled l.leaves.items × (l.count ≡ entry_count l.leaves.items) };
 }
 
 impl<K: Ord + Drop, V: Drop> Leaves<K, V> {
@@ -308,7 +309,7 @@ impl<K: Ord + Drop, V: Drop> Leaves<K, V> {
     pub(crate) fn as_slice(&self) -> &[Leaf<K, V>]
         ensures items { joined result.now ≡ self.now.0 }
         ensures filled { AreFilled result.now }
-        ensures counted { length (joined result.now) < 2 ^ 64 }
+        ensures counted { entry_count result.now < 2 ^ 64 }
     {
         // The entries are as many as a number counts.
         let _count = self.count;

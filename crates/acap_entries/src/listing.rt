@@ -19,8 +19,8 @@ pub struct Listing<'a> {
 }
 
 impl<'a> Model for Listing<'a> {
-    ghost use Rattle.std.specs.Prelude.{List, ◌++◌, ◌≤◌, take, length};
-    ghost use Rattle.acap_entries.specs.Leaves.{joined, AreFilled};
+    ghost use Rattle.std.specs.Prelude.{List, ◌++◌, take};
+    ghost use Rattle.acap_entries.specs.Leaves.{joined, AreToCome};
     ghost use Rattle.acap_entries.specs.declared.path.Path.{Path};
     ghost use Rattle.acap_entries.specs.declared.record.Record.{Record};
     ghost use Rattle.acap_entries.specs.contracts.path.Path as path;
@@ -33,7 +33,7 @@ impl<'a> Model for Listing<'a> {
 
     ghost view = { λ l. take l.left (l.front.now ++ joined l.leaves.now) };
 
-    ghost invariant = { λ l. AreFilled l.leaves.now × (l.left ≤ length (l.front.now ++ joined l.leaves.now)) };
+    ghost invariant = { λ l. AreToCome l.left l.front.now l.leaves.now };
 }
 
 // The same entries, the first of them in the slice, if there is one.

@@ -1,5 +1,5 @@
 //! Which octets are names (RFC 2244 sections 3.1, 3.1.1 and 3.3). No call here takes memory.
-ghost use Rattle.std.specs.Prelude.{ℕ, ◌≡◌, ◌≤◌, ◌<◌, ◌-◌, ◌∷◌, [], ◌&&◌, not, false, true, length, slice_index, IfSome, IfNone, IsTrue};
+ghost use Rattle.std.specs.Prelude.{ℕ, ◌≡◌, ◌≤◌, ◌<◌, ◌-◌, false, true, length, slice_index, IfSome, IsTrue};
 ghost use Rattle.std.specs.List.{list_all, slice_split, position};
 ghost use Rattle.std.specs.Option.{option_map};
 ghost use Rattle.std.specs.Str as text;
@@ -48,7 +48,7 @@ fn is_plain(octets: &[u8], above: u8, other: u8) -> bool
 // test saves no registers for it.
 #[inline(never)]
 fn is_text_without(octets: &[u8], other: u8) -> bool
-    ensures { result ≡ (text.is_utf8 octets.now && not (name.has name.nul octets.now) && not (name.has other octets.now)) }
+    ensures { result ≡ name.is_text_without other octets.now }
 {
     is_utf8(octets) && !octets.contains(&0) && !octets.contains(&other)
 }
@@ -190,7 +190,7 @@ pub fn is_attribute(octets: &[u8]) -> bool
 // Whether they are a component without SP and TAB.
 #[tactic(auto, unfolding(crate::specs::Names::is_component))]
 fn is_component_without_blanks(octets: &[u8]) -> bool
-    ensures { result ≡ name.is_component octets.now && not (name.has name.space octets.now) && not (name.has name.tab octets.now) }
+    ensures { result ≡ name.is_unbroken_component octets.now }
 {
     if octets.len() <= 28 && is_plain(octets, b' ', b'/') {
         !octets.is_empty() && !begins_with(octets, b'.')

@@ -2,7 +2,7 @@
 ghost use Rattle.std.specs.Prelude.{◌≡◌, ◌↔◌, ◌&&◌, IfOk, OnOk, OnErr, IsTrue, Err, false};
 ghost use Rattle.std.specs.Option.{option_map};
 ghost use Rattle.acap_entries.specs.Names as rule;
-ghost use Rattle.acap_entries.specs.Homes as home;
+ghost use Rattle.acap_entries.specs.FullPaths.{parts_of, path_for, path_in, path_of};
 
 use crate::copying::Copying;
 use crate::dataset::Dataset;
@@ -28,7 +28,7 @@ impl Path {
     /// exactly where the octets are no such name; a component `~` stays (`for_user`).
     pub fn read(alloc: Global, octets: &[u8]) -> Result<Path, NameFault>
         ensures good { OnOk result (IsTrue (rule.is_path octets.now)) }
-        ensures value { IfOk result (λ path. path ≡ record { dataset = rule.dataset_of octets.now; name = rule.name_of octets.now }) }
+        ensures value { IfOk result (λ path. path ≡ path_in octets.now) }
         ensures bad { (result ≡ Err NameFault.BadName) ↔ (rule.is_path octets.now ≡ false) }
     {
         if !names::is_path(octets) {
@@ -40,9 +40,9 @@ impl Path {
 
     /// The path of that very dataset and name, copied. `BadName` exactly where one of them is none.
     pub fn from_slices(alloc: Global, dataset: &[u8], name: &[u8]) -> Result<Path, NameFault>
-        ensures good { OnOk result (IsTrue (rule.is_closed_dataset dataset.now && rule.is_entry_name name.now)) }
-        ensures value { IfOk result (λ path. path ≡ record { dataset = dataset.now; name = name.now }) }
-        ensures bad { (result ≡ Err NameFault.BadName) ↔ (rule.is_closed_dataset dataset.now && rule.is_entry_name name.now ≡ false) }
+        ensures good { OnOk result (IsTrue (rule.are_parts dataset.now name.now)) }
+        ensures value { IfOk result (λ path. path ≡ path_of dataset.now name.now) }
+        ensures bad { (result ≡ Err NameFault.BadName) ↔ (rule.are_parts dataset.now name.now ≡ false) }
     {
         if !names::is_closed_dataset(dataset) || !names::is_entry_name(name) {
             return Err(NameFault::BadName);
@@ -54,7 +54,7 @@ impl Path {
     fn of_closed(alloc: Global, dataset: &[u8], name: &[u8]) -> Result<Path, Memory>
         requires dataset { IsTrue (rule.is_closed_dataset dataset.now) }
         requires name { IsTrue (rule.is_entry_name name.now) }
-        ensures { IfOk result (λ path. path ≡ record { dataset = dataset.now; name = name.now }) }
+        ensures { IfOk result (λ path. path ≡ path_of dataset.now name.now) }
     {
         let dataset = Dataset::of_closed(alloc, dataset)?;
         let name = EntryName::copied(alloc, name)?;
@@ -64,7 +64,7 @@ impl Path {
     /// The own entry of a dataset other than `/`, in its parent. Fails only for want of memory.
     pub fn own_entry(alloc: Global, dataset: &[u8]) -> Result<Option<Path>, Memory>
         requires { IsTrue (rule.is_closed_dataset dataset.now) }
-        ensures { IfOk result (λ made. option_map (λ p. (p.dataset, p.name)) made ≡ rule.own_entry dataset.now) }
+        ensures { IfOk result (λ made. option_map parts_of made ≡ rule.own_entry dataset.now) }
     {
         match names::own_entry_of(dataset) {
             Some((parent, name)) => Ok(Some(Path::of_closed(alloc, parent, name)?)),
@@ -75,7 +75,7 @@ impl Path {
     /// Becomes the path that a user means: its dataset is the one that the user means. Takes memory where that is another
     /// and long, and where memory is refused it stays.
     pub fn set_user(&mut self, user: &UserName) -> Result<(), Memory>
-        ensures ok { OnOk result (self.new ≡ record self.old { dataset = home.for_user user.now self.old.dataset }) }
+        ensures ok { OnOk result (self.new ≡ path_for user.now self.old) }
         ensures err { OnErr result (self.new ≡ self.old) }
     {
         self.dataset.set_user(user)

@@ -1,9 +1,8 @@
 //! The records between two keys, which lie together.
-ghost use Rattle.std.specs.Prelude.{◌≡◌, ◌+◌, ◌-◌, ◌<◌, ◌≤◌, ◌^◌, [], length, slice_get, slice_index_or, take, drop};
+ghost use Rattle.std.specs.Prelude.{◌≡◌, ◌+◌, ◌<◌, ◌≤◌, ◌^◌, [], length, slice_get, slice_index_or, take, drop};
 ghost use Rattle.std.specs.Option.{option_copied};
-ghost use Rattle.std.specs.declared.cmp.Ordering.TheVariants.{Greater};
-ghost use Rattle.acap_entries.specs.Sorted.{place, InOrder};
-ghost use Rattle.acap_entries.specs.Leaves.{joined, before, AreFilled};
+ghost use Rattle.acap_entries.specs.Sorted.{InOrder};
+ghost use Rattle.acap_entries.specs.Leaves.{joined, before, between, entry_count, place_in, AreFilled, Rises};
 ghost use Rattle.acap_entries.specs.Store.{path_cmp};
 
 use crate::boxed::Boxed;
@@ -25,7 +24,7 @@ fn place_among<K: Ord + Drop, V: Drop, Q: Probe<K>>(
     requires sorted { InOrder K.cmp (joined leaves.now) }
     ensures leaf { result.0 < length leaves.now }
     ensures within { result.1 ≤ length (slice_index_or leaves.now result.0 []) }
-    ensures place { before leaves.now result.0 + result.1 ≡ place K.cmp (Q.key probe.now) (joined leaves.now) }
+    ensures place { before leaves.now result.0 + result.1 ≡ place_in K.cmp (Q.key probe.now) leaves.now }
 {
     let at = leaf_of(leaves, probe);
     let leaf = &leaves[at];
@@ -35,8 +34,8 @@ fn place_among<K: Ord + Drop, V: Drop, Q: Probe<K>>(
 
 /// How many entries the leaves hold.
 pub(crate) fn count<K: Ord + Drop, V: Drop>(leaves: &[Leaf<K, V>]) -> usize
-    requires { length (joined leaves.now) < 2 ^ 64 }
-    ensures { result ≡ length (joined leaves.now) }
+    requires { entry_count leaves.now < 2 ^ 64 }
+    ensures { result ≡ entry_count leaves.now }
 {
     let mut count = 0;
     for leaf in leaves {
@@ -53,8 +52,8 @@ pub(crate) fn count_before<K: Ord + Drop, V: Drop, Q: Probe<K>>(
     requires some { 0 < length leaves.now }
     requires filled { AreFilled leaves.now }
     requires sorted { InOrder K.cmp (joined leaves.now) }
-    requires counted { length (joined leaves.now) < 2 ^ 64 }
-    ensures { result ≡ place K.cmp (Q.key probe.now) (joined leaves.now) }
+    requires counted { entry_count leaves.now < 2 ^ 64 }
+    ensures { result ≡ place_in K.cmp (Q.key probe.now) leaves.now }
 {
     let (at, place) = place_among(leaves, probe);
     let (earlier, _) = leaves.split_at(at);
@@ -83,7 +82,7 @@ fn listed(leaves: &[Leaf<Path, Boxed<Record>>], skipped: usize, left: usize) -> 
     requires some { 0 < length leaves.now }
     requires filled { AreFilled leaves.now }
     requires within { skipped ≤ length (slice_index_or leaves.now 0 []) }
-    requires left { skipped + left ≤ length (joined leaves.now) }
+    requires left { skipped + left ≤ entry_count leaves.now }
     ensures { result ≡ take left (drop skipped (joined leaves.now)) }
 {
     let front = &leaves[0];
@@ -104,9 +103,9 @@ pub(crate) fn between<'a, Q: Probe<Path>>(
 ) -> Listing<'a>
     requires filled { AreFilled leaves.now }
     requires sorted { InOrder path_cmp (joined leaves.now) }
-    requires counted { length (joined leaves.now) < 2 ^ 64 }
-    requires rises { (x : Path) → path_cmp (Q.key low.now) x ≡ Greater → path_cmp (Q.key high.now) x ≡ Greater }
-    ensures { let from = place path_cmp (Q.key low.now) (joined leaves.now) in result ≡ take (place path_cmp (Q.key high.now) (joined leaves.now) - from) (drop from (joined leaves.now)) }
+    requires counted { entry_count leaves.now < 2 ^ 64 }
+    requires rises { Rises path_cmp (Q.key low.now) (Q.key high.now) }
+    ensures { result ≡ between path_cmp (Q.key low.now) (Q.key high.now) leaves.now }
 {
     if leaves.len() == 0 {
         return Listing {

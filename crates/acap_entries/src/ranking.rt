@@ -16,14 +16,14 @@ pub struct Ranking<'a, T> {
 }
 
 impl<'a, T> Model for Ranking<'a, T> {
-    ghost use Rattle.std.specs.Prelude.{List, ◌++◌, ◌≤◌, take, length, map};
-    ghost use Rattle.acap_entries.specs.Leaves.{joined, AreFilled};
+    ghost use Rattle.std.specs.Prelude.{List, ◌++◌, take, map};
+    ghost use Rattle.acap_entries.specs.Leaves.{joined, AreToCome};
 
     ghost Value = { List T };
 
     ghost view = { λ l. take l.left (map (λ e. e.0) (l.front.now ++ joined l.leaves.now)) };
 
-    ghost invariant = { λ l. AreFilled l.leaves.now × (l.left ≤ length (l.front.now ++ joined l.leaves.now)) };
+    ghost invariant = { λ l. AreToCome l.left l.front.now l.leaves.now };
 }
 
 impl<'a, T: Ord + Drop> Ranking<'a, T> {

@@ -2,6 +2,7 @@
 ghost use Rattle.std.specs.Prelude.{◌≡◌, ℤ};
 ghost use Rattle.std.specs.Option.{option_copied};
 ghost use Rattle.std.specs.FinMap as map;
+ghost use Rattle.acap_entries.specs.FullPaths.{path_of};
 ghost use Rattle.acap_entries.specs.Store.{Store};
 ghost use Rattle.acap_entries.specs.Datasets as rule;
 
@@ -17,7 +18,7 @@ pub trait Records {
 
     /// The record at a path that is given by its octets, if there is one.
     fn find(&self, dataset: &[u8], name: &[u8]) -> Option<&Record>
-        ensures { option_copied result ≡ map.get (store self.now).records (record { dataset = dataset.now; name = name.now }) };
+        ensures { option_copied result ≡ map.get (store self.now).records (path_of dataset.now name.now) };
 
     /// The moment of the last change.
     fn last(&self) -> Moment

@@ -1,5 +1,6 @@
 //! One entry in the place of another: where its key stands is looked up once.
-ghost use Rattle.std.specs.Prelude.{◌≡◌, ◌+◌, ◌<◌, ◌≤◌, ◌^◌, [], Some, true, false, length, slice_index_or, vec_len, vec_capacity};
+ghost use Rattle.std.specs.Prelude.{◌≡◌, ◌+◌, ◌<◌, ◌≤◌, ◌^◌, [], Some, true, false};
+ghost use Rattle.std.specs.Prelude.{length, slice_index_or, vec_len, vec_capacity};
 ghost use Rattle.acap_entries.specs.Sorted.{place, is_tied, entry_of, put_in, InOrder};
 ghost use Rattle.acap_entries.specs.Leaves.{joined, AreFilled};
 ghost use Rattle.acap_entries.specs.Replacing.{LiesAt, replaced};

@@ -1,10 +1,8 @@
 //! What a record keeps for each of its attributes: one table for cells and for access control lists.
-ghost use Rattle.std.specs.Prelude.{◌≡◌, ◌&&◌, OnOk, OnErr};
-ghost use Rattle.std.specs.Cmp.{and_equiv, and_per, on_equiv, on_per, partial_equiv_from_equiv};
-ghost use Rattle.std.specs.Cmp.Lexicographic.{pointwise, lists_equiv, lists_per, nat_list_eq_equiv};
+ghost use Rattle.std.specs.Prelude.{◌≡◌, OnOk, OnErr};
 ghost use Rattle.std.specs.Option.{option_copied};
 ghost use Rattle.std.specs.FinMap as map;
-ghost use Rattle.acap_entries.specs.Orders.{octets_eq};
+ghost use Rattle.acap_entries.specs.Tables.{tables_eq, tables_equiv, tables_per};
 
 use crate::cell::Cell;
 use crate::copying::{Copying, copy_all};
@@ -111,9 +109,9 @@ impl<V: Drop> Table<V> {
 
 #[tactic(auto, using(crate::proofs::Kept::kept))]
 impl<V: PartialEq> PartialEq for Table<V> {
-    ghost eq = { λ m n. pointwise (λ p q. octets_eq p.0 q.0 && V.eq p.1 q.1) (map.entries m) (map.entries n) };
+    ghost eq = { tables_eq V.eq };
 
-    ghost laws = { on_per (λ m. map.entries m) (lists_per (and_per (on_per (λ p. p.0) (partial_equiv_from_equiv nat_list_eq_equiv)) (on_per (λ p. p.1) V.laws))) };
+    ghost laws = { tables_per V.laws };
 
     fn eq(&self, other: &Table<V>) -> bool {
         self.entries.as_slice() == other.entries.as_slice()
@@ -121,7 +119,7 @@ impl<V: PartialEq> PartialEq for Table<V> {
 }
 
 impl<V: Eq> Eq for Table<V> {
-    ghost laws = { on_equiv (λ m. map.entries m) (lists_equiv (and_equiv (on_equiv (λ p. p.0) nat_list_eq_equiv) (on_equiv (λ p. p.1) V.Eq.laws))) };
+    ghost laws = { tables_equiv V.Eq.laws };
 }
 
 impl<V: Copying + Drop> Copying for Table<V> {

@@ -1,10 +1,8 @@
 //! The tree of records.
-ghost use Rattle.std.specs.Prelude.{◌≡◌, ◌≤◌, IfOk, OnOk, filter, nat_eq};
+ghost use Rattle.std.specs.Prelude.{◌≡◌, ◌≤◌, IfOk, OnOk};
 ghost use Rattle.std.specs.Option.{option_copied};
-ghost use Rattle.std.specs.List.{starts_with};
 ghost use Rattle.std.specs.FinMap as map;
-ghost use Rattle.acap_entries.specs.FullPaths.{AreWellFormed};
-ghost use Rattle.acap_entries.specs.Orders.{octets_eq};
+ghost use Rattle.acap_entries.specs.FullPaths.{AreWellFormed, path_of};
 ghost use Rattle.acap_entries.specs.Store.{empty_store};
 ghost use Rattle.acap_entries.specs.Changes.{HasRoom, IsStoreAfter};
 ghost use Rattle.acap_entries.specs.Datasets as rule;
@@ -47,7 +45,12 @@ impl Model for Tree {
     ghost coded = { roomy_code };
 
     ghost view = { λ t. record {
-      store = record { records = map.from_sorted t.entries.0; last = t.last; deletions = t.deletions.kept; forgotten = t.deletions.forgotten };
+      store = record {
+        records = map.from_sorted t.entries.0;
+        last = t.last;
+        deletions = t.deletions.kept;
+        forgotten = t.deletions.forgotten;
+      };
       spare = t.entries.1;
       slots = t.deletions.slots;
     } };
@@ -99,7 +102,7 @@ impl Tree {
 
     /// The same for a path that is given by its octets.
     pub fn find(&self, dataset: &[u8], name: &[u8]) -> Option<&Record>
-        ensures { option_copied result ≡ map.get self.now.store.records (record { dataset = dataset.now; name = name.now }) }
+        ensures { option_copied result ≡ map.get self.now.store.records (path_of dataset.now name.now) }
     {
         let record = find(self.entries.as_slice(), &PathText { dataset, name })?;
         Some(record.get())
@@ -126,7 +129,7 @@ impl Tree {
 
     /// The records of one dataset, by name: they lie together, and both ends are found by halving.
     pub fn entries_of(&self, dataset: &[u8]) -> Listing<'_>
-        ensures { result ≡ filter (λ e. octets_eq dataset.now e.0.dataset) (map.entries self.now.store.records) }
+        ensures { result ≡ rule.entries_of self.now.store.records dataset.now }
     {
         let low = Edge {
             front: dataset,
@@ -142,7 +145,7 @@ impl Tree {
     /// The records of a dataset and of the datasets beneath it, by dataset and then by name. Their datasets' names
     /// begin with its name, so that they lie together too.
     pub fn entries_beneath(&self, dataset: &Dataset) -> Listing<'_>
-        ensures { result ≡ filter (λ e. starts_with nat_eq e.0.dataset dataset.now) (map.entries self.now.store.records) }
+        ensures { result ≡ rule.entries_beneath self.now.store.records dataset.now }
     {
         let front = dataset.open_ended();
         let low = Edge { front, last: b"/" };

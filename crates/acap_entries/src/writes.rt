@@ -3,7 +3,7 @@ ghost use Rattle.std.specs.Prelude.{◌≡◌, ◌↔◌, IsOk, IfOk, IfErr, OnO
 ghost use Rattle.std.specs.Option.{option_copied};
 ghost use Rattle.std.specs.FinMap as map;
 ghost use Rattle.std.specs.List.{list_all};
-ghost use Rattle.acap_entries.specs.FullPaths.{AreWellFormed, is_well_formed};
+ghost use Rattle.acap_entries.specs.FullPaths.{AreWellFormed, is_well_formed, path_of};
 ghost use Rattle.acap_entries.specs.Sorted.{InOrder};
 ghost use Rattle.acap_entries.specs.Store.{path_cmp};
 
@@ -88,7 +88,7 @@ impl Writes {
 
     /// The same for a path that is given by its octets.
     pub fn find(&self, dataset: &[u8], name: &[u8]) -> Option<&Fate>
-        ensures { option_copied result ≡ map.get self.now (record { dataset = dataset.now; name = name.now }) }
+        ensures { option_copied result ≡ map.get self.now (path_of dataset.now name.now) }
     {
         lookup(self.entries.as_slice(), &PathText { dataset, name })
     }
