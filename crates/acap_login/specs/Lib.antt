@@ -1,3 +1,4 @@
+pub mod Checking
 pub mod Hmac
 pub mod Laws
 pub mod Login

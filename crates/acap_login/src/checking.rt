@@ -1,8 +1,9 @@
 //! Whom an answer to a challenge logs in (RFC 2195 section 2). No call here takes memory.
-ghost use Rattle.std.specs.Prelude.{◌≡◌, ◌≢◌, ◌↔◌, ◌∷◌, ◌++◌, length, Some, None, IfSome, IfNone};
+ghost use Rattle.std.specs.Prelude.{◌≡◌, ◌↔◌, ◌∷◌, ◌++◌, Some, None, IfSome, IfNone};
 ghost use Rattle.std.specs.List.{position};
 ghost use Rattle.std.specs.Str.{bytes_eq};
-ghost use Rattle.acap_login.specs.Login.{IsAccepted, IsRefused, accepted, answer_of, space};
+ghost use Rattle.acap_login.specs.Checking.{HasNoParts, is_answer_of};
+ghost use Rattle.acap_login.specs.Login.{IsAccepted, IsRefused, accepted, space};
 
 use crate::hmac::digest;
 use crate::users::Users;
@@ -11,7 +12,7 @@ use acap_entries::UserName;
 // An answer's name and digits: the last 32 octets, with SP before them.
 fn parts(answer: &[u8]) -> Option<(&[u8], &[u8; 32])>
     ensures some { IfSome result (λ parts. answer.now ≡ parts.0.now ++ space ∷ parts.1.now) }
-    ensures none { IfNone result ((name digits : _) → length digits ≡ 32 → answer.now ≢ name ++ space ∷ digits) }
+    ensures none { IfNone result (HasNoParts answer.now) }
 {
     let (front, digits) = answer.split_last_chunk::<32>()?;
     match front.split_last() {
@@ -35,7 +36,7 @@ fn are_same(wanted: &[u8; 32], given: &[u8; 32]) -> bool
 
 // Whether a user has that name and, for the challenge, these digits.
 fn fits(user: &(UserName, Vec<u8>), challenge: &[u8], name: &[u8], digits: &[u8; 32]) -> bool
-    ensures { result ≡ bytes_eq (name.now ++ space ∷ digits.now) (answer_of challenge.now (user.now.0, user.now.1.items)) }
+    ensures { result ≡ is_answer_of challenge.now name.now digits.now user.now }
 {
     let (known, secret) = user;
     known.as_slice() == name && are_same(&digest(secret, challenge), digits)
@@ -48,7 +49,7 @@ fn find(
     name: &[u8],
     digits: &[u8; 32],
 ) -> Option<usize>
-    ensures { result ≡ position (λ user. bytes_eq (name.now ++ space ∷ digits.now) (answer_of challenge.now (user.0, user.1.items))) users.now }
+    ensures { result ≡ position (is_answer_of challenge.now name.now digits.now) users.now }
 {
     users
         .iter()

@@ -1,5 +1,6 @@
 //! What follows from the definitions alone: each function does nothing, and its contract is the law.
-ghost use Rattle.acap_login.specs.Laws.{ChallengeLaw, CutLaw, DigestLaw, ExchangeExample, HashExamples, SecretExamples, AcceptedExamples, RefusedExamples};
+ghost use Rattle.acap_login.specs.Laws.{ChallengeLaw, CutLaw, DigestLaw, ExchangeExample};
+ghost use Rattle.acap_login.specs.Laws.{HashExamples, SecretExamples, AcceptedExamples, RefusedExamples};
 
 /// Challenges with different nonces, seconds or hosts differ.
 #[tactic(auto, using(crate::proofs::ChallengeLemmas::challenge_law))]
