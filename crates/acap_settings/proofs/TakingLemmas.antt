@@ -5,8 +5,7 @@ use Rattle.std.proofs.lemmas.List.Sums.{AllPass-from_list_all}
 use Rattle.toml.specs.Data.{Data, string, table, item, member}
 use Rattle.toml.specs.View.{view, items_of, items_view, members_view}
 use Rattle.toml.specs.declared.value.Value.{Value}
-use Rattle.acap_settings.specs.Keys.{is_user, is_text, is_secret, is_group, is_user_list, is_secret_table, is_group_table, all_items, all_members}
-use Rattle.acap_entries.specs.Names.{is_user_name}
+use Rattle.acap_settings.specs.Keys.{is_user, is_secret, is_group, is_secret_table, is_group_table, all_items, all_members}
 use Rattle.acap_settings.specs.Members.{lent, seen}
 use Rattle.acap_settings.specs.Settings.{name_items, table_of}
 use Rattle.acap_settings.proofs.Views.{all_items_view}

@@ -98,6 +98,9 @@ abbrev pub first_failing : List (List ℕ × Bool) → Option (List ℕ)
 first_failing [] = None
 first_failing (judged ∷ more) = if judged.1 then first_failing more else Some judged.0
 
+abbrev pub failing_key : Members → Option (List ℕ)
+failing_key settings = first_failing (judged_keys settings)
+
 -- one of the nine keys
 abbrev pub is_known : List ℕ → Bool
 is_known key = list_any (λ judged. bytes_eq key judged.0) (judged_keys no_members)
@@ -109,4 +112,4 @@ first_unknown (member key value more) = if is_known key then first_unknown more 
 
 -- the key that is told as bad
 abbrev pub bad_key : Members → Option (List ℕ)
-bad_key settings = option_or (first_failing (judged_keys settings)) (first_unknown settings)
+bad_key settings = option_or (failing_key settings) (first_unknown settings)

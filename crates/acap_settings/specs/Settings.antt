@@ -1,6 +1,6 @@
 -- What settings stand for in a document.
 use Rattle.std.specs.declared.alloc.Global.{Global}
-use Rattle.std.specs.Prelude.{◌≡◌, ℕ, pos, Vec, List, [], ◌∷◌, Option, Some, None, codes, map, option_map}
+use Rattle.std.specs.Prelude.{◌≡◌, ℕ, pos, Vec, List, [], ◌∷◌, Option, Some, None, codes, map, option_map, IsSomeAnd}
 use Rattle.toml.specs.Data.{Data, Items, Members, string, integer, array, table, no_items, item, no_members, member, get_member}
 use Rattle.acap_settings.specs.declared.settings.Settings.{Settings}
 use Rattle.acap_rights.specs.declared.group.Group.{Group}
@@ -54,6 +54,10 @@ pub record AreSettings (said : Members) (settings : Settings) : Type 0 where
   pub users : get_member (codes "users") said ≡ Some (secret_table settings.users)
   pub start : get_member (codes "start") said ≡ option_map string settings.start
   pub groups : AreGroups (get_member (codes "groups") said) settings.groups
+
+-- Settings that a text says: those of the document that it is.
+abbrev pub AreSaidBy : List ℕ → Settings → Type 0
+AreSaidBy text settings = IsSomeAnd (parse_document text) (λ said. AreSettings said settings)
 
 -- Why a text is refused: it is no document, or its first bad key is told.
 abbrev pub fault_of : List ℕ → Option SettingsFault

@@ -3,7 +3,7 @@ ghost use Rattle.std.specs.Prelude.{◌≡◌, option_map, codes, string_bytes, 
 ghost use Rattle.std.specs.Option.{option_copied};
 ghost use Rattle.std.specs.BTreeMap.{keys};
 ghost use Rattle.acap_settings.specs.Keys as rule;
-ghost use Rattle.acap_settings.specs.Members.{member_at};
+ghost use Rattle.acap_settings.specs.Members.{administrators_in, member_at};
 ghost use Rattle.toml.specs.View.{table_view};
 
 use crate::judging::{
@@ -33,7 +33,7 @@ fn number_is_good(table: &Table, key: &str, least: u32, most: u32) -> bool
 }
 
 fn administrators_are_good(table: &Table) -> bool
-    ensures { result ≡ rule.needed rule.is_user_list (member_at (codes "administrators") table.now) }
+    ensures { result ≡ rule.needed rule.is_user_list (administrators_in table.now) }
 {
     match value_at(table, "administrators") {
         Some(value) => is_user_list(value),
@@ -52,7 +52,7 @@ fn users_are_good(table: &Table) -> bool
 
 // Whether root is an administrator.
 fn root_is_there(table: &Table) -> bool
-    ensures { result ≡ rule.needed rule.has_root (member_at (codes "administrators") table.now) }
+    ensures { result ≡ rule.needed rule.has_root (administrators_in table.now) }
 {
     match value_at(table, "administrators") {
         Some(value) => has_root(value),
@@ -80,7 +80,7 @@ fn groups_are_good(table: &Table) -> bool
 
 // The first of the nine keys that isn't good.
 fn first_failing(table: &Table) -> Option<&'static str>
-    ensures { option_map (λ key. key.now) result ≡ rule.first_failing (rule.judged_keys (table_view table.now)) }
+    ensures { option_map (λ key. key.now) result ≡ rule.failing_key (table_view table.now) }
 {
     if !text_is_good(table, "listen") {
         Some("listen")

@@ -1,8 +1,8 @@
 //! Which values are good at which key.
-ghost use Rattle.std.specs.Prelude.{◌≡◌, option_map, string_bytes};
+ghost use Rattle.std.specs.Prelude.{◌≡◌, option_map};
 ghost use Rattle.std.specs.List.{list_all, list_any};
 ghost use Rattle.acap_settings.specs.Keys as rule;
-ghost use Rattle.acap_settings.specs.Members.{member_at};
+ghost use Rattle.acap_settings.specs.Members.{all_entries, member_at};
 ghost use Rattle.toml.specs.View.{view};
 
 use acap_entries::is_user_name;
@@ -61,7 +61,7 @@ pub(crate) fn is_user_list(value: &Value) -> bool
 
 // Whether members are names of users with a secret each.
 fn are_secrets(users: &Table) -> bool
-    ensures { result ≡ list_all (λ user. rule.is_secret (string_bytes user.0) (view user.1)) users.now.entries }
+    ensures { result ≡ all_entries rule.is_secret users.now }
 {
     users.iter().all(|(name, secret)| is_user_name(name.as_bytes()) && is_text(secret))
 }
@@ -78,7 +78,7 @@ pub(crate) fn is_secret_table(value: &Value) -> bool
 
 // Whether members are names of groups with a list of names of users each.
 fn are_groups(groups: &Table) -> bool
-    ensures { result ≡ list_all (λ group. rule.is_group (string_bytes group.0) (view group.1)) groups.now.entries }
+    ensures { result ≡ all_entries rule.is_group groups.now }
 {
     groups.iter().all(|(name, users)| is_user_name(name.as_bytes()) && is_user_list(users))
 }

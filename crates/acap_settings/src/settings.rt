@@ -1,5 +1,5 @@
 //! Settings.
-ghost use Rattle.std.specs.Prelude.{◌≡◌, ◌⊎◌, Some, None, IfOk, IfErr, IsSomeAnd};
+ghost use Rattle.std.specs.Prelude.{◌≡◌, ◌⊎◌, Some, None, IfOk, IfErr};
 
 use crate::bad_key::bad_key;
 use crate::fault::SettingsFault;
@@ -38,15 +38,14 @@ pub struct Settings {
 
 impl Settings {
     ghost use Rattle.acap_settings.specs.Keys as rule;
-    ghost use Rattle.acap_settings.specs.Settings.{AreSettings, fault_of};
-    ghost use Rattle.toml.specs.Parse.{parse_document};
+    ghost use Rattle.acap_settings.specs.Settings.{AreSaidBy, AreSettings, fault_of};
     ghost use Rattle.toml.specs.View.{table_view};
 
     /// Reads the text of a settings file, a TOML document. `NotToml` exactly where it is none; else `BadKey` with the first bad
     /// key: of the nine in the order listen, host, workers, turns, sessions, administrators, users, start, groups, then unknown
     /// ones in ascending order. Only `Memory` may come in place of any of these.
     pub fn read(alloc: Global, text: &str) -> Result<Settings, SettingsFault>
-        ensures said { IfOk result (λ made. IsSomeAnd (parse_document text.now) (λ said. AreSettings said made)) }
+        ensures said { IfOk result (AreSaidBy text.now) }
         ensures ok { IfOk result (λ _. fault_of text.now ≡ None) }
         ensures fault { IfErr result (λ why. (why ≡ SettingsFault.Memory) ⊎ (fault_of text.now ≡ Some why)) }
     {

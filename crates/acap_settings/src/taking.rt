@@ -3,8 +3,9 @@ ghost use Rattle.std.specs.Prelude.{◌≡◌, ◌&&◌, pos, IfOk, true, codes,
 ghost use Rattle.std.specs.List.{AllPass};
 ghost use Rattle.acap_entries.specs.Names.{is_user_name};
 ghost use Rattle.acap_settings.specs.Keys as rule;
-ghost use Rattle.acap_settings.specs.Settings.{AreGroups, name_list, said_group, said_user, secret_table, group_table};
-ghost use Rattle.acap_settings.specs.Members.{lent, member_at, seen};
+ghost use Rattle.acap_settings.specs.Settings.{AreGroups, group_table, name_list};
+ghost use Rattle.acap_settings.specs.Settings.{said_group, said_user, secret_table};
+ghost use Rattle.acap_settings.specs.Members.{administrators_in, lent, member_at, seen};
 ghost use Rattle.toml.specs.Data.{string, integer};
 ghost use Rattle.toml.specs.View.{table_view, view};
 
@@ -111,8 +112,8 @@ pub(crate) fn administrators_at(
     alloc: Global,
     settings: &Table,
 ) -> Result<Sequence<UserName>, Memory>
-    requires { rule.needed rule.is_user_list (member_at (codes "administrators") settings.now) ≡ true }
-    ensures { IfOk result (λ users. member_at (codes "administrators") settings.now ≡ Some (name_list users)) }
+    requires { rule.needed rule.is_user_list (administrators_in settings.now) ≡ true }
+    ensures { IfOk result (λ users. administrators_in settings.now ≡ Some (name_list users)) }
 {
     match value_at(settings, "administrators") {
         Some(value) => user_list_of(alloc, value),
