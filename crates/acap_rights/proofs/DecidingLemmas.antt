@@ -4,6 +4,7 @@ use Rattle.std.specs.Prelude.{nat_lt, codes, if◌then◌else◌}
 use Rattle.std.proofs.lemmas.Bool.{ltb-true}
 use Rattle.std.specs.Cmp.Lexicographic.{bytes_decides}
 use Rattle.std.specs.List.{starts_with}
+use Rattle.acap_entries.specs.FullPaths.{path_of}
 use Rattle.acap_entries.specs.Orders.{octets_eq}
 use Rattle.std.specs.Option.{option_and_then, option_or, unwrap_or}
 use Rattle.std.specs.FinMap as map
@@ -15,7 +16,7 @@ use Rattle.acap_entries.specs.declared.record.Record.{Record}
 use Rattle.acap_rights.specs.Deciding.{OfDataset, OfAttribute, OfEntry, list_in, kept_list, own_list, attribute_list_name, dataset_list_name, deciding_list}
 use Rattle.acap_rights.specs.Homes.{default_list}
 use Rattle.acap_rights.specs.Keeping.{target_of_list}
-use Rattle.acap_rights.specs.Laws.{DecidingLaw, KeepingLaw, IsNone, path_of}
+use Rattle.acap_rights.specs.Laws.{DecidingLaw, KeepingLaw, IsNone}
 
 no_list : (cell : Option Cell) → IsNone cell → option_and_then list_in cell ≡ None
 no_list None h = refl

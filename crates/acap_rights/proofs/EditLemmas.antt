@@ -9,8 +9,8 @@ use Rattle.std.proofs.lemmas.List.{take-append-drop}
 use Rattle.std.proofs.lemmas.List.Elements.{filter-append}
 use Rattle.std.proofs.lemmas.List.Folds.{list_all-append}
 use Rattle.acap_rights.specs.Edits.{is_about, without, with_pair}
-use Rattle.acap_rights.specs.Laws.{EditLaw, string_of}
-use Rattle.acap_rights.specs.Pairs.{pair_of, is_identifier, is_letter}
+use Rattle.acap_rights.specs.Laws.{EditLaw}
+use Rattle.acap_rights.specs.Pairs.{string_of, pair_of, is_identifier, is_letter}
 use Rattle.acap_rights.proofs.PairLemmas.{pair_of_form, makes_pair}
 
 or_parts : (a b : Bool) → (a || b) ≡ false → (a ≡ false) × (b ≡ false)

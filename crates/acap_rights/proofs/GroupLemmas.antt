@@ -11,8 +11,8 @@ use Rattle.std.proofs.lemmas.Slice.Eq.{starts_is}
 use Rattle.acap_entries.specs.Names.{minus, has, begins_with, group_prefix, is_user_name}
 use Rattle.acap_entries.specs.Orders.{octets_eq}
 use Rattle.acap_rights.specs.Groups.{GroupLaw, without_groups, members_of, pair_written_out, written_out, are_users}
-use Rattle.acap_rights.specs.Laws.{string_of, common}
-use Rattle.acap_rights.specs.Pairs.{Pair, pair_of, says, gives, takes, rights_in, is_identifier, is_letter}
+use Rattle.acap_rights.specs.Laws.{common}
+use Rattle.acap_rights.specs.Pairs.{string_of, Pair, pair_of, says, gives, takes, rights_in, is_identifier, is_letter}
 use Rattle.acap_rights.specs.Realms.{has_member, names, names_in_group}
 use Rattle.acap_rights.specs.Rights.{less}
 use Rattle.acap_rights.specs.declared.group.Group.{Group}

@@ -12,8 +12,8 @@ use Rattle.acap_entries.specs.Orders.{octets_eq}
 use Rattle.acap_entries.specs.Store.{Stored}
 use Rattle.acap_rights.specs.Deciding.{Target, dataset_in, deciding_list, implicit_rights, rights_of}
 use Rattle.acap_rights.specs.Homes.{home_of, is_owner, third_of}
-use Rattle.acap_rights.specs.Laws.{WhomLaw, NegativeLaw, OrderLaw, AdministratorLaw, OwnerLaw, string_of, common}
-use Rattle.acap_rights.specs.Pairs.{Pair, pair_of, says, gives, takes, given, taken, rights_in, is_identifier, is_letter}
+use Rattle.acap_rights.specs.Laws.{WhomLaw, NegativeLaw, OrderLaw, AdministratorLaw, OwnerLaw, common}
+use Rattle.acap_rights.specs.Pairs.{string_of, Pair, pair_of, says, gives, takes, given, taken, rights_in, is_identifier, is_letter}
 use Rattle.acap_rights.specs.Realms.{names, names_in_group, is_administrator}
 use Rattle.acap_rights.specs.Rights.{rights_by, no_rights, all_rights, less, union}
 use Rattle.acap_rights.specs.declared.realm.Realm.{Realm}

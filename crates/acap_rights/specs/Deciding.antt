@@ -2,9 +2,11 @@
 use Rattle.std.specs.Prelude.{ℕ, true, false, if◌then◌else◌, List, [], ◌++◌, codes, Option, Some, None}
 use Rattle.std.specs.Option.{option_and_then, option_or, unwrap_or}
 use Rattle.std.specs.FinMap as map
-use Rattle.acap_entries.specs.Store.{Stored}
+use Rattle.acap_entries.specs.FullPaths.{path_of}
+use Rattle.acap_entries.specs.Store.{Store, Stored}
 use Rattle.acap_entries.specs.declared.cell.Cell.{Cell}
 use Rattle.acap_entries.specs.declared.cell.Cell.TheVariants.{Nil, Single, Multi}
+use Rattle.acap_entries.specs.declared.record.Record.{Record}
 use Rattle.acap_rights.specs.Homes.{is_owner, default_list}
 use Rattle.acap_rights.specs.Pairs.{rights_in}
 use Rattle.acap_rights.specs.Realms.{is_administrator}
@@ -37,17 +39,22 @@ list_in Nil = None
 list_in (Single value) = Some []
 list_in (Multi values) = Some values
 
+-- the list that a record has as an attribute, and the one that it keeps for an attribute
+abbrev pub list_as : List ℕ → Option Record → Option (List (List ℕ))
+list_as attribute entry = option_and_then list_in (option_and_then (λ e. map.get e.cells attribute) entry)
+
+abbrev pub list_for : List ℕ → Option Record → Option (List (List ℕ))
+list_for attribute entry = option_and_then (λ e. map.get e.acls attribute) entry
+
 -- the list that the management entry of a dataset has as an attribute
 abbrev pub kept_list : Stored → List ℕ → List ℕ → Option (List (List ℕ))
-kept_list records dataset attribute =
-    option_and_then list_in (option_and_then (λ entry. map.get entry.cells attribute) (map.get records (record { dataset = dataset; name = [] })))
+kept_list records dataset attribute = list_as attribute (map.get records (path_of dataset []))
 
 -- the list of the attribute in the entry's record
 abbrev pub own_list : Stored → Target → Option (List (List ℕ))
 own_list records (OfDataset dataset) = None
 own_list records (OfAttribute dataset attribute) = None
-own_list records (OfEntry dataset attribute name) =
-    option_and_then (λ entry. map.get entry.acls attribute) (map.get records (record { dataset = dataset; name = name }))
+own_list records (OfEntry dataset attribute name) = list_for attribute (map.get records (path_of dataset name))
 
 -- the attributes of a management entry that are lists: of an attribute in the dataset, and of the dataset
 abbrev pub attribute_list_name : List ℕ → List ℕ
@@ -55,6 +62,18 @@ attribute_list_name attribute = codes "dataset.acl." ++ attribute
 
 abbrev pub dataset_list_name : List ℕ
 dataset_list_name = codes "dataset.acl"
+
+-- such a list of a management entry
+abbrev pub attribute_list_in : List ℕ → Option Record → Option (List (List ℕ))
+attribute_list_in attribute management = list_as (attribute_list_name attribute) management
+
+abbrev pub dataset_list_in : Option Record → Option (List (List ℕ))
+dataset_list_in management = list_as dataset_list_name management
+
+-- the list of an attribute in a dataset, else that of the dataset
+abbrev pub shared_list : Store → List ℕ → List ℕ → Option (List (List ℕ))
+shared_list store dataset attribute =
+    option_or (kept_list store.records dataset (attribute_list_name attribute)) (kept_list store.records dataset dataset_list_name)
 
 -- the list for the attribute in the dataset, `dataset.acl.ATTRIBUTE`
 abbrev pub attribute_list : Stored → Target → Option (List (List ℕ))
@@ -90,3 +109,13 @@ rights_by_list realm user dataset stored =
 unfoldable pub rights_of : Stored → Realm → List ℕ → Target → Rights
 rights_of records realm user target =
     union (rights_in realm user (deciding_list records target)) (implicit_rights realm user (dataset_in target))
+
+-- the same of a store and what is lent: the stored list, the one that decides, and the rights of a user
+abbrev pub stored_at : Store → Object → Option (List (List ℕ))
+stored_at store object = stored_list store.records (target_of object)
+
+abbrev pub decided_at : Store → Object → List (List ℕ)
+decided_at store object = deciding_list store.records (target_of object)
+
+abbrev pub rights_at : Store → Realm → List ℕ → Object → Rights
+rights_at store realm user object = rights_of store.records realm user (target_of object)

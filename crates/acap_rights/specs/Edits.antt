@@ -2,7 +2,7 @@
 use Rattle.std.specs.Prelude.{ℕ, Bool, not, List, ◌∷◌, ◌++◌, take, drop}
 use Rattle.std.specs.List.{filter, position_or_len}
 use Rattle.acap_entries.specs.Orders.{octets_eq}
-use Rattle.acap_rights.specs.Pairs.{form_of, says}
+use Rattle.acap_rights.specs.Pairs.{string_of, says}
 
 -- whether a string says something of an identifier
 abbrev pub is_about : List ℕ → List ℕ → Bool
@@ -20,5 +20,5 @@ place_in identifier acl = position_or_len (is_about identifier) acl
 unfoldable pub with_pair : List ℕ → List ℕ → List (List ℕ) → List (List ℕ)
 with_pair identifier letters acl =
     take (place_in identifier acl) acl
-    ++ form_of (record { identifier = identifier; letters = letters })
+    ++ string_of identifier letters
     ∷ without identifier (drop (place_in identifier acl) acl)

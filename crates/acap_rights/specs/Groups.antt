@@ -3,8 +3,8 @@ use Rattle.std.specs.Prelude.{◌≡◌, ℕ, Bool, true, false, nat_eq, List, [
 use Rattle.std.specs.List.{flat_map, list_all, starts_with}
 use Rattle.acap_entries.specs.Names.{minus, begins_with, group_prefix, is_user_name}
 use Rattle.acap_entries.specs.Orders.{octets_eq}
-use Rattle.acap_rights.specs.Laws.{string_of, rights_of_letters, common}
-use Rattle.acap_rights.specs.Pairs.{Pair, pair_of, is_letter, given, taken, rights_in}
+use Rattle.acap_rights.specs.Laws.{rights_of_letters, common}
+use Rattle.acap_rights.specs.Pairs.{Pair, string_of, pair_of, is_letter, given, taken, rights_in}
 use Rattle.acap_rights.specs.Realms.{names_in_group}
 use Rattle.acap_rights.specs.Rights.{no_rights}
 use Rattle.acap_rights.specs.declared.group.Group.{Group}

@@ -3,7 +3,7 @@ use Rattle.std.specs.Prelude.{ℕ, Bool, false, if◌then◌else◌, List, [], �
 use Rattle.std.specs.Option.{option_map_or}
 use Rattle.acap_entries.specs.Names.{slash, begins_with, components, is_user_name}
 use Rattle.acap_entries.specs.Orders.{octets_eq}
-use Rattle.acap_rights.specs.Pairs.{form_of}
+use Rattle.acap_rights.specs.Pairs.{string_of}
 
 -- of the components `CLASS`, `user`, `NAME`, .. the third
 abbrev pub third_of : List (List ℕ) → Option (List ℕ)
@@ -23,8 +23,8 @@ is_owner user dataset = option_map_or (λ name. if is_user_name name then octets
 -- the list that decides in a dataset where none is stored: in a home its owner has all rights, and nobody has any if NAME is
 -- no user's; elsewhere anyone may search and read
 abbrev pub home_list : List ℕ → List (List ℕ)
-home_list name = if is_user_name name then form_of (record { identifier = name; letters = codes "xrwia" }) ∷ [] else []
+home_list name = if is_user_name name then string_of name (codes "xrwia") ∷ [] else []
 
 unfoldable pub default_list : List ℕ → List (List ℕ)
 default_list dataset =
-    option_map_or home_list (home_of dataset) (form_of (record { identifier = codes "anyone"; letters = codes "xr" }) ∷ [])
+    option_map_or home_list (home_of dataset) (string_of (codes "anyone") (codes "xr") ∷ [])

@@ -4,17 +4,17 @@ use Rattle.std.specs.FinMap as map
 use Rattle.std.specs.List.{list_any, list_all}
 use Rattle.std.specs.List.Sorted.{IsPermutation}
 use Rattle.std.specs.Option.{is_some}
+use Rattle.acap_entries.specs.FullPaths.{path_of}
 use Rattle.acap_entries.specs.Names.{minus, has, components, group_prefix, is_user_name}
 use Rattle.acap_entries.specs.Store.{Stored}
 use Rattle.acap_entries.specs.declared.cell.Cell.{Cell}
 use Rattle.acap_entries.specs.declared.cell.Cell.TheVariants.{Nil, Single, Multi}
-use Rattle.acap_entries.specs.declared.path.Path.{Path}
 use Rattle.acap_entries.specs.declared.record.Record.{Record}
 use Rattle.acap_rights.specs.Deciding.{Target, OfDataset, OfAttribute, OfEntry, dataset_in, attribute_list_name, dataset_list_name, deciding_list, implicit_rights, rights_of}
 use Rattle.acap_rights.specs.Edits.{is_about, without, with_pair}
 use Rattle.acap_rights.specs.Homes.{home_of, is_owner, default_list}
 use Rattle.acap_rights.specs.Keeping.{target_of_list}
-use Rattle.acap_rights.specs.Pairs.{Pair, IsPair, form_of, pair_of, is_letter, is_acl, given, taken, rights_in}
+use Rattle.acap_rights.specs.Pairs.{Pair, IsPair, string_of, pair_of, is_letter, is_acl, given, taken, rights_in}
 use Rattle.acap_rights.specs.Realms.{names_in_group, is_administrator}
 use Rattle.acap_rights.specs.Rights.{rights_by, no_rights, all_rights, less}
 use Rattle.acap_rights.specs.declared.realm.Realm.{Realm}
@@ -23,10 +23,6 @@ use Rattle.acap_rights.specs.declared.rights.Rights.{Rights}
 -- what a string says is the pair whose form it is, and a string that is no pair's form says nothing
 abbrev pub PairLaw : Type 0
 PairLaw = (text : List ℕ) (pair : Pair) → (pair_of text ≡ Some pair) ↔ IsPair text pair
-
--- the form of an identifier and letters
-abbrev pub string_of : List ℕ → List ℕ → List ℕ
-string_of identifier letters = form_of (record { identifier = identifier; letters = letters })
 
 abbrev pub rights_of_letters : List ℕ → Rights
 rights_of_letters letters = rights_by (λ letter. has letter letters)
@@ -88,9 +84,6 @@ IsNone None = Unit {0}
 IsNone (Some Nil) = Unit {0}
 IsNone (Some (Single value)) = ⊥
 IsNone (Some (Multi values)) = ⊥
-
-abbrev pub path_of : List ℕ → List ℕ → Path
-path_of dataset name = record { dataset = dataset; name = name }
 
 -- which list decides: the entry's own, and without one that of the attribute in the dataset, and without that the dataset's, and
 -- without that the default; each decides also if it is empty, and NIL is none. One string decides as a list of nothing

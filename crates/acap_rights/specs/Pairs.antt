@@ -9,6 +9,10 @@ use Rattle.acap_rights.specs.Rights.{rights_by, less}
 use Rattle.acap_rights.specs.declared.realm.Realm.{Realm}
 use Rattle.acap_rights.specs.declared.rights.Rights.{Rights}
 
+-- a text cut at each such octet
+abbrev pub parts_by : ℕ → List ℕ → List (List ℕ)
+parts_by octet text = slice_split (λ x. x == octet) text
+
 abbrev pub is_tab : ℕ → Bool
 is_tab octet = octet == tab
 
@@ -25,9 +29,16 @@ pub record Pair : Type 0 where
   pub identifier : List ℕ
   pub letters : List ℕ
 
+abbrev pub pair_with : List ℕ → List ℕ → Pair
+pair_with identifier letters = record { identifier = identifier; letters = letters }
+
 -- as a string: the identifier, TAB, the letters
 abbrev pub form_of : Pair → List ℕ
 form_of pair = pair.identifier ++ tab ∷ pair.letters
+
+-- the same of an identifier and letters
+abbrev pub string_of : List ℕ → List ℕ → List ℕ
+string_of identifier letters = form_of (pair_with identifier letters)
 
 -- a string is a pair's if it is its form, the identifier is one, and the letters are
 pub record IsPair (text : List ℕ) (pair : Pair) : Type 0 where
@@ -41,7 +52,7 @@ abbrev pub pair_in : List (List ℕ) → Option Pair
 pair_in [] = None
 pair_in (identifier ∷ []) = None
 pair_in (identifier ∷ letters ∷ []) =
-    if is_identifier identifier && list_all is_letter letters then Some (record { identifier = identifier; letters = letters }) else None
+    if is_identifier identifier && list_all is_letter letters then Some (pair_with identifier letters) else None
 pair_in (identifier ∷ letters ∷ more ∷ others) = None
 
 unfoldable pub pair_of : List ℕ → Option Pair
@@ -63,6 +74,13 @@ gives realm user letter pair =
 abbrev pub takes : Realm → List ℕ → ℕ → Pair → Bool
 takes realm user letter pair =
     begins_with minus pair.identifier && names realm user (drop 1 pair.identifier) && has letter pair.letters
+
+-- what a string gives to a user, and what it takes away
+abbrev pub given_by : Realm → List ℕ → List ℕ → Rights
+given_by realm user text = rights_by (λ letter. says (gives realm user letter) text)
+
+abbrev pub taken_by : Realm → List ℕ → List ℕ → Rights
+taken_by realm user text = rights_by (λ letter. says (takes realm user letter) text)
 
 -- all that the pairs of a list give to a user, and all that they take away
 abbrev pub given : Realm → List ℕ → List (List ℕ) → Rights

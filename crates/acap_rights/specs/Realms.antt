@@ -13,7 +13,11 @@ has_member user group = list_any (λ name. octets_eq name user) group.members
 abbrev pub identifier_of : Group → List ℕ
 identifier_of group = group_prefix ++ group.name
 
--- whether it is that of a group that has the user
+-- whether a group of the name has the user
+abbrev pub has_in_group : Realm → List ℕ → List ℕ → Bool
+has_in_group realm user name = list_any (λ group. octets_eq name group.name && has_member user group) realm.groups
+
+-- whether an identifier is that of a group that has the user
 abbrev pub names_in_group : Realm → List ℕ → List ℕ → Bool
 names_in_group realm user identifier =
     list_any (λ group. octets_eq identifier (identifier_of group) && has_member user group) realm.groups

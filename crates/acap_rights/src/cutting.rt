@@ -1,6 +1,7 @@
 //! Where a text is cut in two. No call here takes memory.
 ghost use Rattle.std.specs.Prelude.{◌≡◌, ◌∷◌, [], ◌==◌, ◌<◌, length, IfSome, IfNone};
-ghost use Rattle.std.specs.List.{slice_split, position};
+ghost use Rattle.std.specs.List.{position};
+ghost use Rattle.acap_rights.specs.Pairs.{parts_by};
 
 // Where the octet stands first.
 fn place_of(text: &[u8], octet: u8) -> Option<usize>
@@ -13,8 +14,8 @@ fn place_of(text: &[u8], octet: u8) -> Option<usize>
 /// What stands before the first such octet and what behind it.
 #[tactic(auto, using(crate::proofs::Cuts::parts_at, crate::proofs::Cuts::parts_none))]
 pub(crate) fn cut_at(text: &[u8], octet: u8) -> Option<(&[u8], &[u8])>
-    ensures none { IfNone result (slice_split (λ x. x == octet) text.now ≡ text.now ∷ []) }
-    ensures some { IfSome result (λ cut. slice_split (λ x. x == octet) text.now ≡ cut.0.now ∷ slice_split (λ x. x == octet) cut.1.now) }
+    ensures none { IfNone result (parts_by octet text.now ≡ text.now ∷ []) }
+    ensures some { IfSome result (λ cut. parts_by octet text.now ≡ cut.0.now ∷ parts_by octet cut.1.now) }
 {
     match place_of(text, octet) {
         Some(at) => {

@@ -24,7 +24,7 @@ pub(crate) fn list_in(cell: Option<&Cell>) -> Option<&[Value]>
 
 // The list of the attribute in a record.
 fn own_list<'a>(entry: Option<&'a Record>, attribute: &[u8]) -> Option<&'a [Value]>
-    ensures { option_copied result ≡ option_and_then (λ entry. map.get entry.acls attribute.now) (option_copied entry.entry) }
+    ensures { option_copied result ≡ rule.list_for attribute.now (option_copied entry.entry) }
 {
     match entry {
         Some(record) => match record.acls.find(attribute) {
@@ -37,7 +37,7 @@ fn own_list<'a>(entry: Option<&'a Record>, attribute: &[u8]) -> Option<&'a [Valu
 
 /// The list of a dataset in its management entry.
 pub(crate) fn dataset_list(management: Option<&Record>) -> Option<&[Value]>
-    ensures { option_copied result ≡ option_and_then rule.list_in (option_and_then (λ entry. map.get entry.cells (codes "dataset.acl")) (option_copied management.entry)) }
+    ensures { option_copied result ≡ rule.dataset_list_in (option_copied management.entry) }
 {
     match management {
         Some(record) => list_in(record.cells.find(b"dataset.acl")),
@@ -47,7 +47,7 @@ pub(crate) fn dataset_list(management: Option<&Record>) -> Option<&[Value]>
 
 // The list of an attribute in the management entry of its dataset.
 fn attribute_list<'a>(management: Option<&'a Record>, attribute: &[u8]) -> Option<&'a [Value]>
-    ensures { option_copied result ≡ option_and_then rule.list_in (option_and_then (λ entry. map.get entry.cells (codes "dataset.acl." ++ attribute.now)) (option_copied management.entry)) }
+    ensures { option_copied result ≡ rule.attribute_list_in attribute.now (option_copied management.entry) }
 {
     match management {
         Some(record) => list_in(
@@ -66,7 +66,7 @@ fn shared_list<'a, R: Records>(
     dataset: &[u8],
     attribute: &[u8],
 ) -> Option<&'a [Value]>
-    ensures { option_copied result ≡ option_or (rule.kept_list (R.store records.now).records dataset.now (codes "dataset.acl." ++ attribute.now)) (rule.kept_list (R.store records.now).records dataset.now (codes "dataset.acl")) }
+    ensures { option_copied result ≡ rule.shared_list (R.store records.now) dataset.now attribute.now }
 {
     let management = records.find(dataset, b"");
     match attribute_list(management, attribute) {
@@ -80,7 +80,7 @@ pub(crate) fn stored_list<'a, R: Records>(
     records: &'a R,
     object: &Object<'_>,
 ) -> Option<&'a [Value]>
-    ensures { option_copied result ≡ rule.stored_list (R.store records.now).records (rule.target_of object.now) }
+    ensures { option_copied result ≡ rule.stored_at (R.store records.now) object.now }
 {
     match object {
         Object::Dataset { dataset } => dataset_list(records.find(dataset, b"")),
@@ -105,7 +105,7 @@ pub fn decided_list<R: Records>(
     records: &R,
     object: &Object<'_>,
 ) -> Result<Acl, Memory>
-    ensures { IfOk result (λ acl. acl ≡ rule.deciding_list (R.store records.now).records (rule.target_of object.now)) }
+    ensures { IfOk result (λ acl. acl ≡ rule.decided_at (R.store records.now) object.now) }
 {
     let strings = match stored_list(records, object) {
         Some(strings) => copy_of(alloc, strings)?,

@@ -9,7 +9,7 @@ use std::alloc::Global;
 
 /// The string of an identifier and letters. Fails only for want of memory.
 pub(crate) fn form_of(alloc: Global, identifier: &[u8], letters: &[u8]) -> Result<Value, Memory>
-    ensures { IfOk result (λ text. text ≡ rule.form_of (record { identifier = identifier.now; letters = letters.now })) }
+    ensures { IfOk result (λ text. text ≡ rule.string_of identifier.now letters.now) }
 {
     let mut text = Vec::from_slice(alloc, identifier)?;
     text.push(b'\t')?;
@@ -30,7 +30,7 @@ pub(crate) fn copy_of(alloc: Global, strings: &[Value]) -> Result<Values, Memory
 
 // The list of one pair.
 fn one(alloc: Global, identifier: &[u8], letters: &[u8]) -> Result<Values, Memory>
-    ensures { IfOk result (λ made. made ≡ rule.form_of (record { identifier = identifier.now; letters = letters.now }) ∷ []) }
+    ensures { IfOk result (λ made. made ≡ rule.string_of identifier.now letters.now ∷ []) }
 {
     let mut made = Values::new(alloc);
     made.push(form_of(alloc, identifier, letters)?)?;

@@ -30,8 +30,8 @@ fn by_letters(letters: &[u8]) -> Rights
 
 // What a string of a list gives to the user, and what it takes away.
 fn granted(realm: &Realm, user: &[u8], text: &[u8]) -> (Rights, Rights)
-    ensures given { result.0 ≡ rights_by (λ letter. rule.says (rule.gives realm.now user.now letter) text.now) }
-    ensures taken { result.1 ≡ rights_by (λ letter. rule.says (rule.takes realm.now user.now letter) text.now) }
+    ensures given { result.0 ≡ rule.given_by realm.now user.now text.now }
+    ensures taken { result.1 ≡ rule.taken_by realm.now user.now text.now }
 {
     match pair_of(text) {
         Some(([b'-', rest @ ..], letters)) => (
@@ -141,7 +141,7 @@ pub fn rights_of<R: Records>(
     user: &UserName,
     object: &Object<'_>,
 ) -> Rights
-    ensures { result ≡ decided.rights_of (R.store records.now).records realm.now user.now (decided.target_of object.now) }
+    ensures { result ≡ decided.rights_at (R.store records.now) realm.now user.now object.now }
 {
     rights_by(realm, user, object.dataset(), stored_list(records, object))
 }

@@ -1,8 +1,10 @@
 //! What follows from the definitions alone: each function does nothing, and its contract is the law.
-ghost use Rattle.acap_rights.specs.Laws.{PairLaw, WhomLaw, NegativeLaw, OrderLaw, AdministratorLaw, OwnerLaw, DecidingLaw, KeepingLaw, EditLaw};
+ghost use Rattle.acap_rights.specs.Laws.{PairLaw, WhomLaw, NegativeLaw, OrderLaw, AdministratorLaw};
+ghost use Rattle.acap_rights.specs.Laws.{OwnerLaw, DecidingLaw, KeepingLaw, EditLaw};
 ghost use Rattle.acap_rights.specs.Groups.{GroupLaw};
 ghost use Rattle.acap_rights.specs.Sharing.{SharedLaw};
-ghost use Rattle.acap_rights.specs.Examples.{PairExamples, RightsExamples, GroupExamples, HomeExamples, EditExamples};
+ghost use Rattle.acap_rights.specs.Examples.{PairExamples, RightsExamples, GroupExamples};
+ghost use Rattle.acap_rights.specs.Examples.{HomeExamples, EditExamples};
 
 /// What a string of a list says is the pair whose form it is, and nothing where it is no pair's form.
 pub fn pair_law()

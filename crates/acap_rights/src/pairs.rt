@@ -25,7 +25,7 @@ fn are_letters(text: &[u8]) -> bool
 /// Whether an identifier and letters make a string of a list: the identifier is not empty, not `-` alone and without TAB, and
 /// the letters are among `xrwia`.
 pub fn is_pair(identifier: &[u8], letters: &[u8]) -> bool
-    ensures { result ≡ is_some (rule.pair_of (rule.form_of (record { identifier = identifier.now; letters = letters.now }))) }
+    ensures { result ≡ is_some (rule.pair_of (rule.string_of identifier.now letters.now)) }
 {
     is_identifier(identifier) && are_letters(letters)
 }
@@ -33,7 +33,7 @@ pub fn is_pair(identifier: &[u8], letters: &[u8]) -> bool
 /// What a string of a list says: its identifier and its letters. None of any other string.
 #[tactic(auto, unfolding(crate::specs::Pairs::pair_of))]
 pub(crate) fn pair_of(text: &[u8]) -> Option<(&[u8], &[u8])>
-    ensures { option_map (λ p. record { identifier = p.0.now; letters = p.1.now }) result ≡ rule.pair_of text.now }
+    ensures { option_map (λ p. rule.pair_with p.0.now p.1.now) result ≡ rule.pair_of text.now }
 {
     let (identifier, letters) = cut_at(text, b'\t')?;
     if is_identifier(identifier) && are_letters(letters) {

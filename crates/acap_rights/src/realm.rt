@@ -50,7 +50,7 @@ impl Realm {
 
     // Whether a group of the name has the user.
     fn has_in_group(&self, user: &[u8], name: &[u8]) -> bool
-        ensures { result ≡ list_any (λ group. octets_eq name.now group.name && rule.has_member user.now group) self.now.groups }
+        ensures { result ≡ rule.has_in_group self.now user.now name.now }
     {
         self.groups.as_slice().iter().any(|group| name == group.name.as_slice()
             && group.has_member(user))
