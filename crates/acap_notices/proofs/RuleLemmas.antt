@@ -218,9 +218,9 @@ mapped_change rows row o =
     ∙ ap (λ i. option_map by_name (option_and_then (put_at (place + 1) row) (cond (stands_at row.name (place + 1) rows) (Some (remove rows i)) None))) (sym (back place))
 
 -- a call that applies a notice to a list leaves each name once
-pub once_kept : (result : Result (Unit {0}) HeldFault) (rows new : List Row) (notice : Notice) → OnOk result (listed_after rows notice ≡ Some new) → OnErr result (new ≡ rows) → IsEachOnce rows → IsEachOnce new
-once_kept (Ok done) rows new notice ok err o = once_after rows new notice o ok
-once_kept (Err e) rows new notice ok err o = record { once = ap is_each_once err ∙ o.once }
+pub no_twice : (result : Result (Unit {0}) HeldFault) (rows new : List Row) (notice : Notice) → OnOk result (listed_after rows notice ≡ Some new) → OnErr result (new ≡ rows) → IsEachOnce rows → IsEachOnce new
+no_twice (Ok done) rows new notice ok err o = once_after rows new notice o ok
+no_twice (Err e) rows new notice ok err o = record { once = ap is_each_once err ∙ o.once }
 
 -- and what it does to the list it does to the map
 pub mapped_ok : (result : Result (Unit {0}) HeldFault) (mapped : Option RowMap) (listed : Option (List Row)) (new : List Row) → mapped ≡ option_map by_name listed → OnOk result (listed ≡ Some new) → OnOk result (mapped ≡ Some (by_name new))

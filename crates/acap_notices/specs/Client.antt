@@ -1,11 +1,11 @@
 -- What a client that was told a notice then holds; None where the notice doesn't fit what it holds
 -- [RFC 2244 sections 3.3 and 6.5].
-use Rattle.std.specs.Prelude.{ℕ, ◌-◌, List, [], ◌∷◌, Option, Some, None, is_some, if◌then◌else◌}
+use Rattle.std.specs.Prelude.{◌≡◌, ℕ, ◌-◌, List, [], ◌∷◌, Option, Some, None, is_some, if◌then◌else◌}
 use Rattle.std.specs.List.{insert, remove}
 use Rattle.std.specs.Option.{option_and_then}
 use Rattle.std.specs.FinMap as finite
 use Rattle.acap_entries.specs.declared.row.Row.{Row}
-use Rattle.acap_notices.specs.Rows.{is_held, stands_at, has_position, RowMap}
+use Rattle.acap_notices.specs.Rows.{is_held, stands_at, has_position, by_name, RowMap}
 use Rattle.acap_notices.specs.declared.notice.Notice.{Notice}
 use Rattle.acap_notices.specs.declared.notice.Notice.TheVariants.{AddTo, RemoveFrom, Change}
 
@@ -37,3 +37,16 @@ mapped_after rows (Change from to row) =
 abbrev pub in_turn : {S N : Type 0} → (S → N → Option S) → S → List N → Option S
 in_turn after held [] = Some held
 in_turn after held (notice ∷ notices) = option_and_then (λ next. in_turn after next notices) (after held notice)
+
+-- the rows that a list, or a map of them, has after a notice; and that the notice doesn't fit them
+abbrev pub ListLeads : List Row → Notice → List Row → Type 0
+ListLeads rows notice new = listed_after rows notice ≡ Some new
+
+abbrev pub ListMisfits : List Row → Notice → Type 0
+ListMisfits rows notice = listed_after rows notice ≡ None
+
+abbrev pub MapLeads : List Row → Notice → List Row → Type 0
+MapLeads rows notice new = mapped_after (by_name rows) notice ≡ Some (by_name new)
+
+abbrev pub MapMisfits : List Row → Notice → Type 0
+MapMisfits rows notice = mapped_after (by_name rows) notice ≡ None

@@ -1,5 +1,6 @@
 //! What a client holds of a context.
-ghost use Rattle.std.specs.Prelude.{◌≡◌, ◌↔◌, Err, Some, None, OnOk, OnErr};
+ghost use Rattle.std.specs.Prelude.{◌≡◌, ◌↔◌, Some, None, OnOk, OnErr};
+ghost use Rattle.acap_notices.specs.Faults.{IsMisfit};
 ghost use Rattle.acap_notices.specs.Rows.{IsEachOnce};
 ghost use Rattle.acap_notices.specs.Holding.{HasRows, holding, holding_after};
 
@@ -51,10 +52,10 @@ impl Held {
     }
 
     /// Applies a notice. `Misfit` exactly where it doesn't fit what is held. At a fault nothing has changed.
-    #[tactic(auto, using(crate::proofs::RuleLemmas::once_kept), unfolding(crate::specs::Client::mapped_after))]
+    #[tactic(auto, using(crate::proofs::RuleLemmas::no_twice), unfolding(crate::specs::Client::mapped_after))]
     pub fn apply(&mut self, notice: &Notice) -> Result<(), HeldFault>
         ensures ok { OnOk result (holding_after self.old notice.now ≡ Some self.new) }
-        ensures misfit { (result ≡ Err HeldFault.Misfit) ↔ (holding_after self.old notice.now ≡ None) }
+        ensures misfit { IsMisfit result ↔ (holding_after self.old notice.now ≡ None) }
         ensures err { OnErr result (self.new ≡ self.old) }
     {
         if self.enumerated {

@@ -1,6 +1,7 @@
 //! A notice applied to rows in their order.
-ghost use Rattle.std.specs.Prelude.{◌≡◌, ◌↔◌, Err, Some, None, OnOk, OnErr};
-ghost use Rattle.acap_notices.specs.Client.{listed_after};
+ghost use Rattle.std.specs.Prelude.{◌≡◌, ◌↔◌, OnOk, OnErr};
+ghost use Rattle.acap_notices.specs.Client.{ListLeads, ListMisfits};
+ghost use Rattle.acap_notices.specs.Faults.{IsMisfit};
 ghost use Rattle.acap_notices.specs.declared.notice.Notice.TheVariants.{AddTo, RemoveFrom, Change};
 
 use crate::held_fault::HeldFault;
@@ -10,8 +11,8 @@ use acap_entries::{Copying, Row, Value};
 /// Puts in an entry that isn't held yet.
 #[tactic(auto, unfolding(crate::specs::Client::listed_after))]
 pub(crate) fn add(rows: &mut Vec<Row>, position: usize, row: &Row) -> Result<(), HeldFault>
-    ensures ok { OnOk result (listed_after rows.old.items (AddTo position row.now) ≡ Some rows.new.items) }
-    ensures misfit { (result ≡ Err HeldFault.Misfit) ↔ (listed_after rows.old.items (AddTo position row.now) ≡ None) }
+    ensures ok { OnOk result (ListLeads rows.old.items (AddTo position row.now) rows.new.items) }
+    ensures misfit { IsMisfit result ↔ ListMisfits rows.old.items (AddTo position row.now) }
     ensures err { OnErr result (rows.new.items ≡ rows.old.items) }
 {
     if is_held(rows.as_slice(), &row.name) {
@@ -28,8 +29,8 @@ pub(crate) fn add(rows: &mut Vec<Row>, position: usize, row: &Row) -> Result<(),
 /// Takes out an entry that stands at a position.
 #[tactic(auto, unfolding(crate::specs::Client::listed_after))]
 pub(crate) fn remove(rows: &mut Vec<Row>, entry: &Value, position: usize) -> Result<(), HeldFault>
-    ensures ok { OnOk result (listed_after rows.old.items (RemoveFrom entry.now position) ≡ Some rows.new.items) }
-    ensures misfit { (result ≡ Err HeldFault.Misfit) ↔ (listed_after rows.old.items (RemoveFrom entry.now position) ≡ None) }
+    ensures ok { OnOk result (ListLeads rows.old.items (RemoveFrom entry.now position) rows.new.items) }
+    ensures misfit { IsMisfit result ↔ ListMisfits rows.old.items (RemoveFrom entry.now position) }
     ensures err { OnErr result (rows.new.items ≡ rows.old.items) }
 {
     if !stands_at(rows.as_slice(), entry, position) {
@@ -47,8 +48,8 @@ pub(crate) fn change(
     to: usize,
     row: &Row,
 ) -> Result<(), HeldFault>
-    ensures ok { OnOk result (listed_after rows.old.items (Change from to row.now) ≡ Some rows.new.items) }
-    ensures misfit { (result ≡ Err HeldFault.Misfit) ↔ (listed_after rows.old.items (Change from to row.now) ≡ None) }
+    ensures ok { OnOk result (ListLeads rows.old.items (Change from to row.now) rows.new.items) }
+    ensures misfit { IsMisfit result ↔ ListMisfits rows.old.items (Change from to row.now) }
     ensures err { OnErr result (rows.new.items ≡ rows.old.items) }
 {
     if !stands_at(rows.as_slice(), &row.name, from) {

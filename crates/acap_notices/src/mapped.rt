@@ -1,7 +1,8 @@
 //! A notice applied to rows whose order is nobody's concern: what a list of them would be told, wherever the entry stands.
-ghost use Rattle.std.specs.Prelude.{◌≡◌, ◌↔◌, Err, Some, None, OnOk, OnErr};
-ghost use Rattle.acap_notices.specs.Rows.{IsEachOnce, by_name};
-ghost use Rattle.acap_notices.specs.Client.{mapped_after};
+ghost use Rattle.std.specs.Prelude.{◌≡◌, ◌↔◌, OnOk, OnErr};
+ghost use Rattle.acap_notices.specs.Rows.{IsEachOnce};
+ghost use Rattle.acap_notices.specs.Client.{MapLeads, MapMisfits};
+ghost use Rattle.acap_notices.specs.Faults.{IsMisfit};
 ghost use Rattle.acap_notices.specs.declared.notice.Notice.TheVariants.{AddTo, RemoveFrom, Change};
 
 use crate::held_fault::HeldFault;
@@ -11,8 +12,8 @@ use acap_entries::{Row, Value};
 
 /// Puts in an entry that isn't held yet.
 pub(crate) fn add(rows: &mut Vec<Row>, row: &Row) -> Result<(), HeldFault>
-    ensures ok { OnOk result (mapped_after (by_name rows.old.items) (AddTo 0 row.now) ≡ Some (by_name rows.new.items)) }
-    ensures misfit { (result ≡ Err HeldFault.Misfit) ↔ (mapped_after (by_name rows.old.items) (AddTo 0 row.now) ≡ None) }
+    ensures ok { OnOk result (MapLeads rows.old.items (AddTo 0 row.now) rows.new.items) }
+    ensures misfit { IsMisfit result ↔ MapMisfits rows.old.items (AddTo 0 row.now) }
     ensures once { IsEachOnce rows.old.items → IsEachOnce rows.new.items }
     ensures err { OnErr result (rows.new.items ≡ rows.old.items) }
 {
@@ -23,8 +24,8 @@ pub(crate) fn add(rows: &mut Vec<Row>, row: &Row) -> Result<(), HeldFault>
 /// Takes out an entry that is held.
 pub(crate) fn remove(rows: &mut Vec<Row>, entry: &Value) -> Result<(), HeldFault>
     requires { IsEachOnce rows.old.items }
-    ensures ok { OnOk result (mapped_after (by_name rows.old.items) (RemoveFrom entry.now 0) ≡ Some (by_name rows.new.items)) }
-    ensures misfit { (result ≡ Err HeldFault.Misfit) ↔ (mapped_after (by_name rows.old.items) (RemoveFrom entry.now 0) ≡ None) }
+    ensures ok { OnOk result (MapLeads rows.old.items (RemoveFrom entry.now 0) rows.new.items) }
+    ensures misfit { IsMisfit result ↔ MapMisfits rows.old.items (RemoveFrom entry.now 0) }
     ensures once { IsEachOnce rows.old.items → IsEachOnce rows.new.items }
     ensures err { OnErr result (rows.new.items ≡ rows.old.items) }
 {
@@ -35,8 +36,8 @@ pub(crate) fn remove(rows: &mut Vec<Row>, entry: &Value) -> Result<(), HeldFault
 /// Gives an entry that is held another row.
 pub(crate) fn change(rows: &mut Vec<Row>, row: &Row) -> Result<(), HeldFault>
     requires { IsEachOnce rows.old.items }
-    ensures ok { OnOk result (mapped_after (by_name rows.old.items) (Change 0 0 row.now) ≡ Some (by_name rows.new.items)) }
-    ensures misfit { (result ≡ Err HeldFault.Misfit) ↔ (mapped_after (by_name rows.old.items) (Change 0 0 row.now) ≡ None) }
+    ensures ok { OnOk result (MapLeads rows.old.items (Change 0 0 row.now) rows.new.items) }
+    ensures misfit { IsMisfit result ↔ MapMisfits rows.old.items (Change 0 0 row.now) }
     ensures once { IsEachOnce rows.old.items → IsEachOnce rows.new.items }
     ensures err { OnErr result (rows.new.items ≡ rows.old.items) }
 {

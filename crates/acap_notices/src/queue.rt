@@ -1,5 +1,6 @@
 //! The notices that wait for a client.
-ghost use Rattle.std.specs.Prelude.{◌≡◌, ◌↔◌, ◌≤◌, ◌+◌, ◌-◌, ◌==◌, [], ◌∷◌, ◌++◌, Err, OnOk, OnErr, IfOk, IsTrue, length};
+ghost use Rattle.std.specs.Prelude.{◌≡◌, ◌↔◌, ◌≤◌, ◌+◌, ◌==◌, [], ◌∷◌, ◌++◌, length};
+ghost use Rattle.std.specs.Prelude.{Err, OnOk, OnErr, IfOk, IsTrue};
 ghost use Rattle.std.specs.Cmp.{on_per, on_equiv};
 ghost use Rattle.std.specs.Cmp.Lexicographic.{pointwise, lists_per, lists_equiv};
 ghost use Rattle.acap_notices.specs.Waiting.{HasRoom};
@@ -26,14 +27,15 @@ pub struct Queue {
 }
 
 impl Model for Queue {
-    ghost use Rattle.std.specs.Prelude.{◌≤◌, ◌-◌, length, vec_len, vec_capacity};
+    ghost use Rattle.std.specs.Prelude.{◌≤◌, length};
+    ghost use Rattle.acap_entries.specs.Room.{free_of};
     ghost use Rattle.acap_notices.specs.Waiting.{Waiting, waiting_code};
 
     ghost Value = { Waiting };
 
     ghost coded = { waiting_code };
 
-    ghost view = { λ q. record { notices = q.notices.items; room = vec_capacity q.notices - vec_len q.notices } };
+    ghost view = { λ q. record { notices = q.notices.items; room = free_of q.notices } };
 
     ghost invariant = { λ q. length q.notices.items ≤ 4_096 };
 }
