@@ -8,7 +8,7 @@ ghost use Rattle.acap_lexer.specs.declared.lexed.Lexed.TheVariants.{Line};
 ghost use Rattle.acap_dialogue.specs.Hearing as hearing;
 ghost use Rattle.acap_dialogue.specs.Hearing.{challenges, closes, heard, opening, says};
 ghost use Rattle.acap_dialogue.specs.Saying.{Hears};
-ghost use Rattle.acap_dialogue.specs.Telling.{asks_by, command_by, login_by};
+ghost use Rattle.acap_dialogue.specs.Telling.{asks_by, command_by, HearsLogin};
 ghost use Rattle.acap_dialogue.specs.declared.heard.Heard.TheVariants as hears;
 ghost use Rattle.acap_dialogue.specs.declared.stage.Stage.TheVariants as stages;
 
@@ -112,7 +112,7 @@ fn authenticates(
     stage: &mut Stage,
     out: &mut Vec<u8>,
 ) -> Result<Heard, Memory>
-    ensures { Hears (login_by listener.now tag.entry mechanism.now) result stage.old stage.new out.old out.new }
+    ensures { HearsLogin listener.now tag.entry mechanism.now result stage.old stage.new out.old out.new }
 {
     if listener.user.is_some() {
         return says(tag, &Said::Refused(Refusal::LoggedIn), stage, out);

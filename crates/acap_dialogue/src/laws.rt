@@ -1,5 +1,6 @@
 //! What follows from the definitions alone: each function does nothing, and its contract is the law.
-ghost use Rattle.acap_dialogue.specs.Examples.{AnswerExamples, HearingExamples, LoginExamples, NextExamples, RunExamples};
+ghost use Rattle.acap_dialogue.specs.Examples.{AnswerExamples, HearingExamples, LoginExamples};
+ghost use Rattle.acap_dialogue.specs.Examples.{NextExamples, RunExamples};
 ghost use Rattle.acap_dialogue.specs.Running.{QuietLaw, SeatedLaw};
 
 /// What is said to the machine's answers and faults, also after a login (RFC 2244 sections 3.6, 6.2 and 6.3.1).

@@ -2,8 +2,7 @@
 
 ghost use Rattle.std.specs.Prelude.{◌≡◌, OnOk, OnErr, IfOk};
 ghost use Rattle.acap_dialogue.specs.Hearing as hearing;
-ghost use Rattle.acap_dialogue.specs.Hearing.{answer_line, answer_token, heard_answer, logs_in, who};
-ghost use Rattle.acap_dialogue.specs.Saying.{Hears};
+ghost use Rattle.acap_dialogue.specs.Telling.{HearsAnswer, HearsLine, HearsString, HearsOne};
 
 use crate::answering::lent;
 use crate::heard::Heard;
@@ -37,7 +36,7 @@ fn logs_in(
     stage: &mut Stage,
     out: &mut Vec<u8>,
 ) -> Result<Heard, Memory>
-    ensures { Hears (logs_in tag (who users.now challenge.now answer.now)) result stage.old stage.new out.old out.new }
+    ensures { HearsString users.now tag challenge.now answer.now result stage.old stage.new out.old out.new }
 {
     match who(users, challenge, answer)? {
         Some(user) => {
@@ -68,7 +67,7 @@ fn answer_token(
     stage: &mut Stage,
     out: &mut Vec<u8>,
 ) -> Result<Heard, Memory>
-    ensures { Hears (answer_token users.now tag challenge.now kind text.now) result stage.old stage.new out.old out.new }
+    ensures { HearsOne users.now tag challenge.now kind text.now result stage.old stage.new out.old out.new }
 {
     match kind {
         Kind::Quoted | Kind::Literal => logs_in(users, tag, challenge, text, stage, out),
@@ -90,7 +89,7 @@ fn answer_line(
     stage: &mut Stage,
     out: &mut Vec<u8>,
 ) -> Result<Heard, Memory>
-    ensures { Hears (answer_line users.now tag challenge.now tokens.now) result stage.old stage.new out.old out.new }
+    ensures { HearsLine users.now tag challenge.now tokens.now result stage.old stage.new out.old out.new }
 {
     if tokens.len() != 1 {
         return says(lent(&tag), &Said::Refused(Refusal::Arguments), stage, out);
@@ -116,7 +115,7 @@ pub(crate) fn heard_answer(
     stage: &mut Stage,
     out: &mut Vec<u8>,
 ) -> Result<Heard, Memory>
-    ensures { Hears (heard_answer users.now tag challenge lexed.now) result stage.old stage.new out.old out.new }
+    ensures { HearsAnswer users.now tag challenge lexed.now result stage.old stage.new out.old out.new }
 {
     match lexed {
         Lexed::More => {

@@ -5,7 +5,8 @@ ghost use Rattle.acap_dialogue.specs.Running.{closes};
 ghost use Rattle.acap_dialogue.specs.Saying as saying;
 ghost use Rattle.acap_dialogue.specs.Saying.{IfMore, IsCutOff, Makes};
 ghost use Rattle.acap_dialogue.specs.Telling.{HearsOf, heard_by, room_for, room_in, with_front};
-ghost use Rattle.acap_dialogue.specs.Session.{Awaits, answer_at, answered, drain_in, has_seat, heard_at, is_asked, is_closed, session_drain, session_next};
+ghost use Rattle.acap_dialogue.specs.Session.{Awaits, answer_at, answered, drain_in, has_seat, heard_at};
+ghost use Rattle.acap_dialogue.specs.Session.{is_asked, is_closed, session_drain, session_next};
 ghost use Rattle.acap_dialogue.specs.Talking.{begun};
 ghost use Rattle.acap_dialogue.specs.declared.stage.Stage.TheVariants as stages;
 
