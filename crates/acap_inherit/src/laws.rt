@@ -1,6 +1,7 @@
 //! What follows from the definitions alone: each function does nothing, and its contract is the law.
 ghost use Rattle.acap_inherit.specs.Examples.{ChainExamples, OverBaseExamples, MomentExamples};
-ghost use Rattle.acap_inherit.specs.Laws.{ChainLaw, BaseLaw, RepeatLaw, FirstLaw, MomentLaw, FirstDatasetLaw, NothingLaw, ReadingLaw, NamesLaw};
+ghost use Rattle.acap_inherit.specs.Laws.{ChainLaw, BaseLaw, RepeatLaw, FirstLaw, MomentLaw};
+ghost use Rattle.acap_inherit.specs.Laws.{FirstDatasetLaw, NothingLaw, ReadingLaw, NamesLaw};
 ghost use Rattle.acap_inherit.specs.TouchedExamples.{TouchedExamples};
 ghost use Rattle.acap_inherit.specs.TouchedLaws.{TouchedPathsLaw, UnreadLaw};
 

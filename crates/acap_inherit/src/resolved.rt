@@ -3,7 +3,7 @@ ghost use Rattle.std.specs.Prelude.{◌≡◌, ◌≤◌, length, IfOk, OnOk};
 ghost use Rattle.acap_entries.specs.Store.{empty_store};
 ghost use Rattle.acap_inherit.specs.Index.{IsIndexOf, settled};
 ghost use Rattle.acap_inherit.specs.Leaving.{IsPrepared, AreTouched, AreTouchedDatasets};
-ghost use Rattle.acap_inherit.specs.Values.{found_of, resolved_in};
+ghost use Rattle.acap_inherit.specs.Values.{Resolves};
 
 use crate::chains::chain;
 use crate::found::Found;
@@ -55,7 +55,7 @@ impl Resolved {
         name: &'a [u8],
         attribute: &[u8],
     ) -> Found<'a>
-        ensures { found_of result ≡ resolved_in (R.store records.now) dataset.now no_inherit name.now attribute.now }
+        ensures { Resolves (R.store records.now) dataset.now no_inherit name.now attribute.now result }
     {
         let members = chain(records, dataset, no_inherit);
         resolve(records, &members, name, attribute)

@@ -1,10 +1,10 @@
 //! What attributes of entries resolve to along chains.
-ghost use Rattle.std.specs.Prelude.{◌≡◌, map, Some, None};
+ghost use Rattle.std.specs.Prelude.{◌≡◌, Some, None};
 ghost use Rattle.std.specs.Int.{int_max};
 ghost use Rattle.std.specs.Option.{option_copied, option_map_or};
 ghost use Rattle.acap_inherit.specs.Records as kept;
 ghost use Rattle.acap_inherit.specs.Resolving as rule;
-ghost use Rattle.acap_inherit.specs.Values.{found_of};
+ghost use Rattle.acap_inherit.specs.Values.{entry_along, found_of, modtime_along, names_of, value_along};
 
 use crate::found::Found;
 use crate::lent::Lent;
@@ -53,7 +53,7 @@ fn value_on<'a, R: Records>(
     name: &[u8],
     attribute: &[u8],
 ) -> Found<'a>
-    ensures { found_of result ≡ rule.value_on (R.store records.now).records (map (λ d. d.now) members.now) name.now attribute.now }
+    ensures { found_of result ≡ value_along (R.store records.now) members.now name.now attribute.now }
 {
     for dataset in members {
         if let Some(record) = records.find(dataset, name) {
@@ -83,7 +83,7 @@ fn named<'a>(entry: &Record, dataset: &'a [u8], name: &'a [u8]) -> Found<'a>
 
 // The name of an entry that exists.
 fn entry_on<'a, R: Records>(records: &'a R, members: &[&'a [u8]], name: &'a [u8]) -> Found<'a>
-    ensures { found_of result ≡ rule.entry_on (R.store records.now).records (map (λ d. d.now) members.now) name.now }
+    ensures { found_of result ≡ entry_along (R.store records.now) members.now name.now }
 {
     for member in members {
         if let Some(record) = records.find(member, name) {
@@ -105,7 +105,7 @@ fn later(moment: Moment, other: Option<Moment>) -> Moment
 
 // The greatest moment of an entry's records down to the first at which inheritance ends.
 fn modtime_on<R: Records>(records: &R, members: &[&[u8]], name: &[u8]) -> Option<Moment>
-    ensures { result ≡ rule.modtime_on (R.store records.now).records (map (λ d. d.now) members.now) name.now }
+    ensures { result ≡ modtime_along (R.store records.now) members.now name.now }
 {
     let mut latest = None;
     for dataset in members {
@@ -121,7 +121,7 @@ fn modtime_on<R: Records>(records: &R, members: &[&[u8]], name: &[u8]) -> Option
 
 // The datasets of a chain from which an entry may be.
 fn members_for<'s, 'a>(chain: &'s Lineage<'a>, name: &[u8]) -> &'s [&'a [u8]]
-    ensures { map (λ d. d.now) result.now ≡ rule.members_for chain.now name.now }
+    ensures { names_of result.now ≡ rule.members_for chain.now name.now }
 {
     let names = chain.names();
     if name.is_empty() { &names[..1] } else { names }
@@ -129,7 +129,7 @@ fn members_for<'s, 'a>(chain: &'s Lineage<'a>, name: &[u8]) -> &'s [&'a [u8]]
 
 // The datasets of a chain from which an attribute of an entry may be.
 fn members_of<'s, 'a>(chain: &'s Lineage<'a>, name: &[u8], attribute: &[u8]) -> &'s [&'a [u8]]
-    ensures { map (λ d. d.now) result.now ≡ rule.members_of chain.now name.now attribute.now }
+    ensures { names_of result.now ≡ rule.members_of chain.now name.now attribute.now }
 {
     if attribute == b"subdataset".as_slice() {
         let names = chain.names();
