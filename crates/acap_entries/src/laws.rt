@@ -1,6 +1,7 @@
 //! What follows from the definitions alone: each function does nothing, and its contract is the law.
 ghost use Rattle.acap_entries.specs.Laws.{ChangeLaw, AfterLaw, TwoChangesLaw, RemovalLaw, DeletionLaw};
-ghost use Rattle.acap_entries.specs.Laws.{FullPathLaw, OwnEntryLaw, PathLaw, FormLaw, ExistenceLaw, StampLaw, TimeLaw};
+ghost use Rattle.acap_entries.specs.Laws.{FullPathLaw, OwnEntryLaw, PathLaw, FormLaw};
+ghost use Rattle.acap_entries.specs.Laws.{ExistenceLaw, StampLaw, TimeLaw};
 ghost use Rattle.acap_entries.specs.Laws.{MomentExamples, StampExamples, TimeExamples, PathExamples};
 ghost use Rattle.acap_entries.specs.Laws.{DatasetExamples, NameExamples, HomeExamples};
 ghost use Rattle.acap_entries.specs.RankLaws.{RankLaw};

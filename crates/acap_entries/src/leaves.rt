@@ -1,6 +1,6 @@
 //! Entries in the order of their keys, in leaves: an edit moves a part of one leaf, in whatever order edits come.
-ghost use Rattle.std.specs.Prelude.{◌≡◌, ◌+◌, ◌-◌, ◌^◌, ◌++◌, IsTrue, ◌<◌, ◌≤◌, [], ◌∷◌, length, slice_index_or};
-ghost use Rattle.std.specs.Prelude.{vec_len, vec_capacity, IfSome, IfNone, OnOk, OnErr, IfOk};
+ghost use Rattle.std.specs.Prelude.{◌≡◌, ◌+◌, ◌-◌, ◌^◌, ◌++◌, ◌<◌, ◌≤◌, [], ◌∷◌, length, IsTrue};
+ghost use Rattle.std.specs.Prelude.{slice_index_or, vec_len, vec_capacity, IfSome, IfNone, OnOk, OnErr, IfOk};
 ghost use Rattle.std.specs.Option.{option_copied};
 ghost use Rattle.acap_entries.specs.Sorted.{InOrder, place, put_in, without, found, entry_of};
 ghost use Rattle.acap_entries.specs.Leaves.{joined, entry_count, split_at, AreFilled, IsAmong, IsBehind};
