@@ -1,5 +1,5 @@
 -- One step of a story: what its calls come to, put together.
-use Rattle.std.proofs.Common.{◌≡◌, ℕ, ℤ, ◌||◌, is_ok, Bool, true, false, List, [], ◌∷◌, ◌++◌, zero, suc, length, Option, Some, None, option_map, Result, Ok, IfSome, refl, sym, ap, subst, ◌∙◌, ◌<◌, get_or, arith}
+use Rattle.std.proofs.Common.{◌≡◌, ℕ, ℤ, ◌||◌, is_ok, Bool, true, false, List, [], ◌∷◌, ◌++◌, zero, suc, length, Option, Some, None, option_map, Result, Ok, Err, IfOk, IfSome, refl, sym, ap, subst, ◌∙◌, ◌<◌, get_or, arith}
 use Rattle.std.specs.Option.{option_and_then}
 use Rattle.acap_commands.specs.declared.event.Event.{Event}
 use Rattle.acap_commands.specs.declared.fault.Fault.{Fault}
@@ -26,6 +26,11 @@ use Rattle.acap_session.specs.Places.{Place, Places, if_open, place_at, placed}
 use Rattle.acap_session.specs.Turning.{Scene, asked_of, left_at, performed, scene, shown, turn_by, turn_of}
 use Rattle.acap_session.specs.World as world
 use Rattle.acap_session.specs.World.{World, Deed, Step, did, open_at, said_before, scene_of, takes, with_scene}
+
+-- what follows from what holds of a result
+pub if_ok_then : {A E : Type 0} (r : Result A E) (P Q : A → Type 0) → ((x : A) → P x → Q x) → IfOk r P → IfOk r Q
+if_ok_then (Ok x) P Q go p = go x p
+if_ok_then (Err e) P Q go p = tt
 
 -- ---- the event that a session asks
 

@@ -1,5 +1,5 @@
 -- What the calls of a turn come to, put together.
-use Rattle.std.proofs.Common.{◌≡◌, inl, inr, ℕ, ℤ, Bool, true, false, ◌||◌, is_ok, List, Option, Some, None, Result, Ok, Err, IfOk, IfErr, OnErr, refl, sym, ap, subst, ◌∙◌}
+use Rattle.std.proofs.Common.{◌≡◌, inl, inr, ℕ, ℤ, Bool, true, false, ◌||◌, is_ok, List, Option, Some, None, Result, Ok, Err, IfOk, IfErr, MatchResult, OnErr, refl, sym, ap, subst, ◌∙◌}
 use Rattle.acap_login.specs.Login.{User}
 use Rattle.acap_commands.specs.declared.reply.Reply.{Reply}
 use Rattle.acap_machine.specs.Machine.{Machine}
@@ -57,30 +57,35 @@ stood m o event (Err fault.AlreadyEntered) new ok err same = refl
 stood m o event (Err fault.HistoryFull) new ok err same = absurd err
 
 -- what is said to the answer, put together
-pub concluded_by : (o : Occasion) (seated : Bool) (m new_m : Machine) (t new_t : Talking) (out new_out : List ℕ) (outcome : Result Reply Fault) (h : Heard) (came : Turn) → h ≡ heard_of (answered t outcome).0 → new_t ≡ (answered t outcome).1 → new_out ≡ added out (answered t outcome).0 → came ≡ turn_from h → new_m ≡ left_at h seated o m
-    → (came, scene new_m new_t new_out) ≡ shown o seated m out (answered t outcome)
-concluded_by o seated m new_m t new_t out new_out outcome h came e f g k n =
+pub concluded_by : (o : Occasion) (seated : Bool) (m new_m : Machine) (t new_t : Talking) (out new_out : List ℕ) (outcome : Result Reply Fault) (h : Heard) (came : Turn) → seated ≡ (has_seat t || is_ok outcome) → h ≡ heard_of (answered t outcome).0 → new_t ≡ (answered t outcome).1 → new_out ≡ added out (answered t outcome).0 → came ≡ turn_from h → new_m ≡ left_at h seated o m
+    → (came, scene new_m new_t new_out) ≡ shown o (has_seat t || is_ok outcome) m out (answered t outcome)
+concluded_by o seated m new_m t new_t out new_out outcome h came s e f g k n =
     let machine_is : new_m ≡ left_at (heard_of (answered t outcome).0) seated o m = n ∙ ap (λ q. left_at q seated o m) e in
     let came_is : came ≡ turn_from (heard_of (answered t outcome).0) = k ∙ ap turn_from e in
-    λ i. (came_is i, scene (machine_is i) (f i) (g i))
+    let made : (came, scene new_m new_t new_out) ≡ shown o seated m out (answered t outcome) = λ i. (came_is i, scene (machine_is i) (f i) (g i)) in
+    made ∙ ap (λ b. shown o b m out (answered t outcome)) s
+
+-- or nothing, as memory was refused
+pub concluded_cut : (o : Occasion) (seated : Bool) (outcome : Result Reply Fault) (old new : Scene) → seated ≡ (has_seat old.talk || is_ok outcome) → new.talk.stage ≡ stage.Closed → new.out ≡ old.out → new.machine ≡ left_by seated o old.machine → CutInAnswering (has_seat old.talk || is_ok outcome) o old new
+concluded_cut o seated outcome old new s c e m = record { closed = c; out_is = e; machine_is = m ∙ ap (λ b. left_by b o old.machine) s }
 
 -- a session whose event was performed
-pub asked_by : (o : Occasion) (event : Event) (m step_m : Machine) (t : Talking) (out : List ℕ) (outcome : Result Reply Fault) (seated : Bool) (came : Turn) (new : Scene) (p : IsPerformed m o event outcome step_m) → seated ≡ (has_seat t || is_ok outcome) → (came, new) ≡ shown o seated step_m out (answered t outcome)
+pub asked_by : (o : Occasion) (event : Event) (m step_m : Machine) (t : Talking) (out : List ℕ) (outcome : Result Reply Fault) (came : Turn) (new : Scene) (p : IsPerformed m o event outcome step_m) → (came, new) ≡ shown o (has_seat t || is_ok outcome) step_m out (answered t outcome)
     → (came, new) ≡ asked_of o p.refused m out t event
-asked_by o event m step_m t out outcome seated came new p s e =
+asked_by o event m step_m t out outcome came new p e =
     let was = ap (λ b. shown o (has_seat t || b) (machine_after m (performed p.refused m o event)) out (answered t (outcome_of (performed p.refused m o event)))) p.ok_is
     ∙ ap (λ q. shown o (has_seat t || is_ok outcome) q out (answered t (outcome_of (performed p.refused m o event)))) p.machine_is
     ∙ ap (λ r. shown o (has_seat t || is_ok outcome) step_m out (answered t r)) p.outcome_is in
-    e ∙ ap (λ b. shown o b step_m out (answered t outcome)) s ∙ sym was
+    e ∙ sym was
 
-pub cut_by : (o : Occasion) (event : Event) (m step_m : Machine) (t : Talking) (out : List ℕ) (outcome : Result Reply Fault) (seated : Bool) (new : Scene) → IsPerformed m o event outcome step_m → seated ≡ (has_seat t || is_ok outcome) → CutInAnswering seated o (scene step_m t out) new
+pub cut_by : (o : Occasion) (event : Event) (m step_m : Machine) (t : Talking) (out : List ℕ) (outcome : Result Reply Fault) (new : Scene) → IsPerformed m o event outcome step_m → CutInAnswering (has_seat t || is_ok outcome) o (scene step_m t out) new
     → CutInAsking o event (scene m t out) new
-cut_by o event m step_m t out outcome seated new p s k = record {
+cut_by o event m step_m t out outcome new p k = record {
   closed = k.closed;
   out_is = k.out_is;
   stands = record {
     refused = p.refused;
-    is = k.machine_is ∙ ap (λ b. left_by b o step_m) s ∙ ap (λ b. left_by (has_seat t || b) o step_m) (sym p.ok_is) ∙ ap (λ q. left_by (has_seat t || is_ok (performed p.refused m o event)) o q) (sym p.machine_is);
+    is = k.machine_is ∙ ap (λ b. left_by (has_seat t || b) o step_m) (sym p.ok_is) ∙ ap (λ q. left_by (has_seat t || is_ok (performed p.refused m o event)) o q) (sym p.machine_is);
   };
 }
 
@@ -162,9 +167,9 @@ awaits_after users nonce clock t new h event e a f =
     let x = session_next users nonce clock t in
     ap (λ (q : Talking). is_asked q.stage) f ∙ subst (λ n. Fits n x.1.stage) (asks_of x.0 h event e a) (fits users nonce clock t)
 
-pub if_ok_then : {A E : Type 0} (r : Result A E) (P Q : A → Type 0) → ((x : A) → P x → Q x) → IfOk r P → IfOk r Q
-if_ok_then (Ok x) P Q go p = go x p
-if_ok_then (Err e) P Q go p = tt
+pub match_then : {A E : Type 0} (r : Result A E) (P Q : A → Type 0) (F G : E → Type 0) → ((x : A) → P x → Q x) → ((e : E) → F e → G e) → MatchResult r P F → MatchResult r Q G
+match_then (Ok x) P Q F G go fails p = go x p
+match_then (Err e) P Q F G go fails p = fails e p
 
 -- ---- a drain
 
@@ -228,13 +233,13 @@ pub undrained : (s : Scene) (t again : Talking) (m : Machine) (outcome : Result 
 undrained s t again m (Ok reply) e r f g = absurd cc
 undrained s t again m (Err x) e r f g = ap (λ n. scene n again s.out) f ∙ ap (λ (q : Talking). scene s.machine q s.out) (g ∙ (is_ready s.talk t e).again)
 
-pub cut_drain : (o : Occasion) (s new : Scene) (step_m : Machine) (t : Talking) (outcome : Result Reply Fault) (seated : Bool) (p : IsPerformed s.machine o events.Drain outcome step_m) → p.refused ≡ false → (drain_in true, t) ≡ session_drain s.talk → seated ≡ (has_seat t || is_ok outcome) → CutInAnswering seated o (scene step_m t s.out) new
+pub cut_drain : (o : Occasion) (s new : Scene) (step_m : Machine) (t : Talking) (outcome : Result Reply Fault) (p : IsPerformed s.machine o events.Drain outcome step_m) → p.refused ≡ false → (drain_in true, t) ≡ session_drain s.talk → CutInAnswering (has_seat t || is_ok outcome) o (scene step_m t s.out) new
     → CutInDraining o s new
-cut_drain o s new step_m t outcome seated p b e f k = record {
+cut_drain o s new step_m t outcome p b e k = record {
   asked = sym (ap (λ x. x.0) e);
   closed = k.closed;
   out_is = k.out_is;
-  machine_is = k.machine_is ∙ ap (λ x. left_by x o step_m) (f ∙ ap (λ x. x || is_ok outcome) (is_ready s.talk t e).seat)
+  machine_is = k.machine_is ∙ ap (λ x. left_by x o step_m) (ap (λ x. x || is_ok outcome) (is_ready s.talk t e).seat)
       ∙ ap (λ n. left_by true o n) (sym p.machine_is ∙ ap (λ x. machine_after s.machine (performed x s.machine o events.Drain)) b);
 }
 

@@ -4,12 +4,13 @@ use Rattle.std.specs.Io.KnownBytes.{Appends, Consumes}
 use Rattle.std.proofs.lemmas.List.{append-nil, take-append-drop}
 use Rattle.acap_login.specs.Login.{User}
 use Rattle.acap_machine.specs.Machine.{Machine}
-use Rattle.acap_session.specs.Piping.{Fed, fed, fed_all, turns, joined, always, begins, entered, IsQuiet, AreAnswered, HasPart, HasStarted, HasPartlyAnswered, HasTurned, IsFed, IsLater, IsOut, IsSoFar, MayTake, PipeReads, Pipes, Says, SaysTo, SoFar, Goes}
-use Rattle.acap_session.specs.Streams.{HasGiven, IfTold, SendsFront, Told}
+use Rattle.acap_session.specs.Piping.{Fed, fed, fed_all, turns, joined, always, begins, entered, IsQuiet, AreAnswered, HasPart, HasStarted, HasPartlyAnswered, HasTurned, IsFed, IsLater, IsOut, IsSoFar, MayTake, PipeReads, Pipes, Says, SaysTo, SoFar, Goes, Answers, Settles, Takes, scene_of}
+use Rattle.acap_session.specs.Streams.{HasGiven, IfTold, Sends, SendsFront, Told}
 use Rattle.acap_dialogue.specs.Talking.{Talking}
 use Rattle.acap_session.specs.Turning.{Scene, scene, turn_of, IsTurn}
 use Rattle.acap_session.specs.declared.pipe_fault.PipeFault.{PipeFault}
 use Rattle.acap_session.specs.declared.pipe_fault.PipeFault.TheVariants as faults
+use Rattle.acap_session.specs.declared.pipe_state.PipeState.{PipeState}
 use Rattle.acap_session.specs.declared.turn.Turn.{Turn}
 use Rattle.acap_session.specs.declared.turn.Turn.TheVariants as turn
 use Rattle.acap_session.proofs.Piping.{IsPartly, PartsOut, FedOut, SomeTurns, TurnsOut, all_append, all_pre, answered_append, answered_pre, answered_snoc, entered_by, fed_snoc, joined_append, joined_snoc, out_then, prefixed, pushed, turn_behind, turn_more, turns_pre}
@@ -18,11 +19,11 @@ use Rattle.acap_session.proofs.Turning.{closed_is_quiet, fewer, goes_on, over, s
 
 -- ---- from any scene some turns lead to one in which nothing is next
 
-record Settles (users : List User) (s : Scene) : Type 0 where
+record LeadsOn (users : List User) (s : Scene) : Type 0 where
   refused : List Bool
   quiet : IsQuiet users (turns users refused s)
 
-settles_by : (users : List User) (s new : Scene) (came : Turn) → IsTurn users always s came new → Goes s.talk → (turns_left new.talk < turns_left s.talk → Goes new.talk → Settles users new) → Settles users s
+settles_by : (users : List User) (s new : Scene) (came : Turn) → IsTurn users always s came new → Goes s.talk → (turns_left new.talk < turns_left s.talk → Goes new.talk → LeadsOn users new) → LeadsOn users s
 settles_by users s new turn.More k g rest = record { refused = []; quiet = (still users always s new k).quiet }
 settles_by users s new turn.Said k g rest =
     let r = rest (fewer users always s new k g) (λ o. goes_on users always s new k) in
@@ -30,13 +31,13 @@ settles_by users s new turn.Said k g rest =
 settles_by users s new turn.Closed k g rest =
     record { refused = k.refused ∷ []; quiet = subst (IsQuiet users) (ap (λ p. p.1) k.is) (closed_is_quiet users 0 (pos 0) new.talk (over users always s new k)) }
 
-settles_in : (n : ℕ) (users : List User) (s : Scene) → turns_left s.talk < n → Goes s.talk → Settles users s
+settles_in : (n : ℕ) (users : List User) (s : Scene) → turns_left s.talk < n → Goes s.talk → LeadsOn users s
 settles_in zero users s b g = absurd (omega (arith, b))
 settles_in (suc n) users s b g =
     let x = turn_of users always false s in
     settles_by users s x.1 x.0 (record { refused = false; is = refl }) g (λ f h. settles_in n users x.1 (omega (arith, b, f)) h)
 
-settles : (users : List User) (s : Scene) → Goes s.talk → Settles users s
+settles : (users : List User) (s : Scene) → Goes s.talk → LeadsOn users s
 settles users s g = settles_in (suc (turns_left s.talk)) users s (omega arith) g
 
 -- ---- what is said grows
@@ -153,15 +154,47 @@ front_answered users piece m t out a b c p w = record {
   sent = appends_then a b c p.front w.front p.sent w.sent;
 }
 
-pub all_answered : (users : List User) (piece : List ℕ) (m : Machine) (t : Talking) (out : List ℕ) (a b c : Option (List ℕ)) → Begun users piece m t out a b → Appends b c out → HasPartlyAnswered users piece a c m t
-all_answered users piece m t out a b c p w = front_answered users piece m t out a b c p (all_front b c out w)
-
 pub none_answered : (users : List User) (piece : List ℕ) (m : Machine) (t : Talking) (out : List ℕ) (a b : Option (List ℕ)) → Begun users piece m t out a b → HasPartlyAnswered users piece a b m t
 none_answered users piece m t out a b p = record { front = p.front; said = says_to_less users piece (scene m t []) (p.front ++ out) p.front out refl p.is; sent = p.sent }
 
 pub fed_answered : (users : List User) (piece : List ℕ) (m : Machine) (t : Talking) (new : Scene) (a b c : Option (List ℕ)) → FedOut users piece (scene m t []) a b new → SendsFront b c new.out → HasPartlyAnswered users piece a c m t
 fed_answered users piece m t new a b c p w =
     front_answered users piece m t new.out a b c (record { front = p.front; sent = p.sent; is = fed_says users piece (scene m t []) (prefixed p.front new) p.is }) w
+
+-- ---- by the clauses of the calls
+
+pub settles_cut : {W : Type 0} (users : List User) (contents : W → Option (List ℕ)) (w0 w : W) (old new : PipeState) (result : Result (Unit {0}) PipeFault) → IsErr result → IsOut (contents w0) (contents w) new.out.items (Says users (scene_of old)) → Settles users contents w0 w old new result
+settles_cut users contents w0 w old new (Ok done) p k = absurd cc
+settles_cut users contents w0 w old new (Err fault) p k = k
+
+pub takes_cut : {W : Type 0} (users : List User) (piece : List ℕ) (contents : W → Option (List ℕ)) (w0 w : W) (old new : PipeState) (result : Result (Unit {0}) PipeFault) → IsErr result → IsOut (contents w0) (contents w) new.out.items (SaysTo users piece (scene_of old)) → Takes users piece contents w0 w old new result
+takes_cut users piece contents w0 w old new (Ok done) p k = absurd cc
+takes_cut users piece contents w0 w old new (Err fault) p k = k
+
+-- nothing waited before
+begun_by : (users : List User) (piece : List ℕ) (old : PipeState) (out : List ℕ) (a b : Option (List ℕ)) → old.out.items ≡ [] → IsOut a b out (SaysTo users piece (scene_of old)) → Begun users piece old.state.machine old.session out a b
+begun_by users piece old out a b e k = subst (λ ys. IsOut a b out (SaysTo users piece (scene old.state.machine old.session ys))) e k
+
+pub fed_answers : {W : Type 0} (users : List User) (piece : List ℕ) (contents : W → Option (List ℕ)) (w0 w1 w2 : W) (old mid new : PipeState) (result : Result (Unit {0}) PipeFault) → old.out.items ≡ [] → Takes users piece contents w0 w1 old mid (Ok tt) → new.state.machine ≡ mid.state.machine → new.session ≡ mid.session
+    → OnOk result (Sends contents w1 w2 mid.out.items) → OnErr result (SendsFront (contents w1) (contents w2) mid.out.items) → Answers users piece contents w0 w2 old new result
+fed_answers users piece contents w0 w1 w2 old mid new (Ok done) e k m t sent front = record {
+  said = k.front ++ mid.out.items;
+  heard = subst (λ ys. IsFed users piece (scene old.state.machine old.session ys) (scene new.state.machine new.session (k.front ++ mid.out.items))) e (subst (λ q. IsFed users piece (scene_of old) (scene new.state.machine q (k.front ++ mid.out.items))) (sym t) (subst (λ q. IsFed users piece (scene_of old) (scene q mid.session (k.front ++ mid.out.items))) (sym m) k.is));
+  sent = appends_then (contents w0) (contents w1) (contents w2) k.front mid.out.items k.sent sent;
+}
+fed_answers users piece contents w0 w1 w2 old mid new (Err fault) e k m t sent front =
+    fed_answered users piece old.state.machine old.session (scene_of mid) (contents w0) (contents w1) (contents w2) (subst (λ ys. FedOut users piece (scene old.state.machine old.session ys) (contents w0) (contents w1) (scene_of mid)) e k) front
+
+pub answers_all : {W : Type 0} (users : List User) (piece : List ℕ) (contents : W → Option (List ℕ)) (w0 w1 w2 : W) (old mid : PipeState) → old.out.items ≡ [] → IsOut (contents w0) (contents w1) mid.out.items (SaysTo users piece (scene_of old)) → Sends contents w1 w2 mid.out.items
+    → HasPartlyAnswered users piece (contents w0) (contents w2) old.state.machine old.session
+answers_all users piece contents w0 w1 w2 old mid e k sent =
+    front_answered users piece old.state.machine old.session mid.out.items (contents w0) (contents w1) (contents w2) (begun_by users piece old mid.out.items (contents w0) (contents w1) e k) (all_front (contents w1) (contents w2) mid.out.items sent)
+
+pub answers_front : {W : Type 0} (users : List User) (piece : List ℕ) (contents : W → Option (List ℕ)) (w0 w1 w2 : W) (old mid new : PipeState) (result : Result (Unit {0}) PipeFault) → IsErr result → old.out.items ≡ [] → IsOut (contents w0) (contents w1) mid.out.items (SaysTo users piece (scene_of old)) → SendsFront (contents w1) (contents w2) mid.out.items
+    → Answers users piece contents w0 w2 old new result
+answers_front users piece contents w0 w1 w2 old mid new (Ok done) p e k front = absurd cc
+answers_front users piece contents w0 w1 w2 old mid new (Err x) p e k front =
+    front_answered users piece old.state.machine old.session mid.out.items (contents w0) (contents w1) (contents w2) (begun_by users piece old mid.out.items (contents w0) (contents w1) e k) front
 
 -- ---- from the first octet on
 

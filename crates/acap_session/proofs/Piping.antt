@@ -350,9 +350,12 @@ starts_with_room user turn.More new k = absurd (begun_asks user (still [] always
 starts_with_room user turn.Said new k = λ o. (goes_on [] always (begins user) new k, (let e = ap (λ (h : Held). length h.text) (held_kept [] always (begins user) new k) in omega (arith, e, begun_held user)))
 starts_with_room user turn.Closed new k = λ o. absurd (let both : true ≡ false = sym (over [] always (begins user) new k) ∙ o in cc)
 
--- the first turn is that of a user's session
-pub first_turn : (user host : List ℕ) (users : List User) (m : Machine) (t : Talking) (out : List ℕ) (new : Scene) → users ≡ [] → host ≡ codes "localhost" → m ≡ new_machine without_administrators → t ≡ begun host (Some user) → out ≡ [] → HasTurned users (scene m t out) new → HasTurned [] (begins user) new
-first_turn user host users m t out new u h e f g k =
+-- a session of the same user, host and machine
+pub begun_scene : (user host : List ℕ) (m : Machine) (t : Talking) (out : List ℕ) → host ≡ codes "localhost" → m ≡ new_machine without_administrators → t ≡ begun host (Some user) → out ≡ [] → scene m t out ≡ begins user
+begun_scene user host m t out h e f g =
     let talk : t ≡ (begins user).talk = f ∙ ap (λ (xs : List ℕ). begun xs (Some user)) h in
-    let s : scene m t out ≡ begins user = λ i. scene (e i) (talk i) (g i) in
-    subst (λ q. HasTurned [] q new) s (subst (λ us. HasTurned us (scene m t out) new) u k)
+    λ i. scene (e i) (talk i) (g i)
+
+-- its first turn
+pub first_turn : (user : List ℕ) (users : List User) (s new : Scene) → users ≡ [] → s ≡ begins user → HasTurned users s new → HasTurned [] (begins user) new
+first_turn user users s new u e k = subst (λ q. HasTurned [] q new) e (subst (λ us. HasTurned us s new) u k)

@@ -3,9 +3,11 @@ use Rattle.std.proofs.Common.{◌≡◌, inl, inr, ℕ, ◌+◌, ◌<◌, ◌≤
 use Rattle.std.specs.Io.KnownBytes.{Appends, Consumes, IsAtEnd, Keeps}
 use Rattle.std.specs.List.{list_any}
 use Rattle.std.specs.Option.{is_some}
+use Rattle.std.specs.Prelude.{Vec}
+use Rattle.std.specs.declared.alloc.Global.{Global}
 use Rattle.std.proofs.lemmas.List.{append-nil, take-append-drop, drop_more}
 use Rattle.acap_session.specs.Places.{place_at}
-use Rattle.acap_session.specs.Script.{Acts, AreDone, IsDone, Speaks, begins, is_wrong, may, world_of}
+use Rattle.acap_session.specs.Script.{Acts, AreDone, IsDone, MaySay, MaySpeak, Says, begins, is_wrong, may, world_of}
 use Rattle.acap_session.specs.ScriptOutput.{Shows}
 use Rattle.acap_session.specs.ScriptRun.{is_feed, IsLine, AreLines, ended, HasLines, HasBegun, HasEnded, HasStopped, HasFailed, Runs, ScriptReads, HasPartLines, HasRunLine, RunsLine, RunsLast, HasRunLines, HasFailedIn, RunsLines}
 use Rattle.acap_session.specs.Streams.{HasGiven, IfTold, SendsFront, Told}
@@ -13,25 +15,39 @@ use Rattle.acap_session.specs.World.{World, open_at, output_taken, said_before}
 use Rattle.acap_session.specs.declared.script.Script.{Script}
 use Rattle.acap_session.specs.declared.script_fault.ScriptFault.{ScriptFault}
 use Rattle.acap_session.specs.declared.script_fault.ScriptFault.TheVariants as faults
+use Rattle.acap_script.specs.declared.line_fault.LineFault.{LineFault}
+use Rattle.acap_script.specs.declared.line_fault.LineFault.TheVariants as wrongs
 use Rattle.acap_script.specs.declared.seat_line.SeatLine.{SeatLine}
+use Rattle.acap_session.specs.declared.occasion.Occasion.{Occasion}
+use Rattle.acap_session.specs.declared.standing.Standing.{Standing}
 use Rattle.acap_session.specs.declared.standing.Standing.TheVariants as standing
 use Rattle.acap_session.proofs.ScriptOutput.{flat_snoc}
 use Rattle.acap_session.proofs.Sending.{all_front, appends_none, appends_then, front_then}
 
 -- ---- something is done at a seat
 
-pub spoken : (line : SeatLine) (seat : ℕ) (old : Script) (w after left : World) (said slice out : List ℕ) → w ≡ world_of old.standing → (may line (is_some (open_at w seat)) ≡ true) × Acts line (record { seat = seat; clock = old.clock; nonce = old.nonce }) w after → said ≡ said_before (place_at after.places seat) → left ≡ output_taken after seat → slice ≡ said → Shows seat slice out
-    → (may line (is_some (open_at (world_of old.standing) seat)) ≡ true) × Speaks seat line old out (record old { standing = standing.Since left })
-spoken line seat old w after left said slice out e k f g h shows =
-    let acts = subst (λ (v : World). (may line (is_some (open_at v seat)) ≡ true) × Acts line (record { seat = seat; clock = old.clock; nonce = old.nonce }) v after) e k in (
-      acts.0,
-      record {
-        after = after;
-        acts = acts.1;
-        shown = subst (λ ys. Shows seat ys out) (h ∙ f) shows;
-        left = ap (λ (v : World). let s : Script = record old { standing = standing.Since v } in s) g;
-      },
-    )
+pub says : (line : SeatLine) (o : Occasion) (old after left : World) (said slice out : List ℕ) → (may line (is_some (open_at old o.seat)) ≡ true) × Acts line o old after → said ≡ said_before (place_at after.places o.seat) → left ≡ output_taken after o.seat → slice ≡ said → Shows o.seat slice out
+    → (may line (is_some (open_at old o.seat)) ≡ true) × Says line o old out left
+says line o old after left said slice out acts f g h shows = (acts.0, record { after = after; acts = acts.1; shown = subst (λ ys. Shows o.seat ys out) (h ∙ f) shows; left = g })
+
+spoken_by : (line : SeatLine) (seat : ℕ) (old : Script) (left : World) (result : Result (Vec ℕ Global) LineFault) → MaySay line (record { seat = seat; clock = old.clock; nonce = old.nonce }) (world_of old.standing) left result → MaySpeak seat line old (record old { standing = standing.Since left }) result
+spoken_by line seat old left (Ok out) k = (
+  k.0,
+  record {
+    after = k.1.after;
+    acts = k.1.acts;
+    shown = k.1.shown;
+    left = ap (λ (v : World). let s : Script = record old { standing = standing.Since v } in s) k.1.left;
+  },
+)
+spoken_by line seat old left (Err wrongs.Wrong) k = k
+spoken_by line seat old left (Err wrongs.Memory) k = k
+
+pub spoken : (line : SeatLine) (seat : ℕ) (old : Script) (w left : World) (result : Result (Vec ℕ Global) LineFault) → w ≡ world_of old.standing → MaySay line (record { seat = seat; clock = old.clock; nonce = old.nonce }) w left result → MaySpeak seat line old (record old { standing = standing.Since left }) result
+spoken line seat old w left result e k = spoken_by line seat old left result (subst (λ (v : World). MaySay line (record { seat = seat; clock = old.clock; nonce = old.nonce }) v left result) e k)
+
+pub since : (x : Standing) (w v : World) → x ≡ standing.Since w → x ≡ standing.Since v → w ≡ v
+since x w v e f = ap (λ (s : Standing). world_of s) (sym e ∙ f)
 
 -- ---- lines behind lines
 
@@ -225,13 +241,13 @@ pub record IsReading (unread left old new : Option (List ℕ)) (held : List ℕ)
   pub done : AreDone lines begins said s
   pub sent : Appends old new said
 
-pub none_read : (r w : Option (List ℕ)) (held : List ℕ) (s : Script) → held ≡ [] → s ≡ begins → IsReading r r w w held 0 s
-none_read r w held s e f = record {
+pub none_read : (r w : Option (List ℕ)) (held : List ℕ) (number : ℕ) (s : Script) → held ≡ [] → number ≡ 0 → s ≡ begins → IsReading r r w w held number s
+none_read r w held number s e n f = record {
   read = [];
   consumed = consumes_none r;
   lines = [];
   in_lines = record { is = sym e; are_lines = tt; is_line = subst (λ ys. IsLine ys) (sym e) refl };
-  counted = refl;
+  counted = n;
   said = [];
   done = (refl, f);
   sent = appends_none w;

@@ -14,6 +14,7 @@ use Rattle.acap_dialogue.specs.declared.next.Next.TheVariants as next
 use Rattle.acap_session.specs.declared.occasion.Occasion.{Occasion}
 use Rattle.acap_session.specs.declared.pipe_fault.PipeFault.{PipeFault}
 use Rattle.acap_session.specs.declared.pipe_fault.PipeFault.TheVariants as faults
+use Rattle.acap_session.specs.declared.pipe_state.PipeState.{PipeState}
 use Rattle.acap_session.specs.declared.turn.Turn.{Turn}
 
 -- nobody is an administrator
@@ -119,6 +120,10 @@ Pipes user input left old new (Err faults.Read) = HasRead user input left old ne
 Pipes user input left old new (Err faults.Write) = HasStarted user input left old new
 Pipes user input left old new (Err faults.Memory) = HasStarted user input left old new
 
+-- of a reader and a writer, as they were and as they are left
+abbrev pub PipesBetween : {R W : Type 0} → List ℕ → (R → Option (List ℕ)) → R → R → (W → Option (List ℕ)) → W → W → Result (Unit {0}) PipeFault → Type 0
+PipesBetween user remaining unread left contents old new = Pipes user (remaining unread) (remaining left) (contents old) (contents new)
+
 -- It answers that the reader failed only where it did, or where reads came to their bound, and where it did it answers
 -- nothing else.
 abbrev pub PipeReads : Option Told → Option Told → Result (Unit {0}) PipeFault → Type 0
@@ -211,7 +216,36 @@ IsSoFar user None r w0 w m t = Unit {0}
 IsSoFar user (Some input) None w0 w m t = ⊥
 IsSoFar user (Some input) (Some rest) w0 w m t = SoFar user input rest w0 w m t
 
--- where that holds, it holds of all that is written until the end
-abbrev pub Serves : Option (List ℕ) → Option (List ℕ) → Option (List ℕ) → Option (List ℕ) → Machine → Talking → Result (Unit {0}) PipeFault → Type 0
-Serves r left w new m t result =
-    (user : List ℕ) (input old : Option (List ℕ)) → IsSoFar user input r old w m t → Pipes user input left old new result
+-- ---- the same of a session and its machine in memory
+
+abbrev pub scene_of : PipeState → Scene
+scene_of pipe = scene pipe.state.machine pipe.session pipe.out.items
+
+-- a user's session, before it has said anything
+pub record IsBegun (pipe : PipeState) : Type 0 where
+  pub user : List ℕ
+  pub is : scene_of pipe ≡ begins user
+
+-- so many of these octets wait, and those before them are written
+abbrev pub IsUnderWay : {W : Type 0} → (W → Option (List ℕ)) → W → W → List ℕ → List ℕ → Type 0
+IsUnderWay contents w0 w waits octets = IsOut (contents w0) (contents w) waits (λ said. said ≡ octets)
+
+-- all turns were made that can be made; at a fault a front of what they say is written or waits
+abbrev pub Settles : {W : Type 0} → List User → (W → Option (List ℕ)) → W → W → PipeState → PipeState → Result (Unit {0}) PipeFault → Type 0
+Settles users contents w0 w old new (Ok done) = IsOut (contents w0) (contents w) new.out.items (λ said. IsSettled users (scene_of old) (scene new.state.machine new.session said))
+Settles users contents w0 w old new (Err fault) = IsOut (contents w0) (contents w) new.out.items (Says users (scene_of old))
+
+-- a piece was heard, and at a fault so of that
+abbrev pub Takes : {W : Type 0} → List User → List ℕ → (W → Option (List ℕ)) → W → W → PipeState → PipeState → Result (Unit {0}) PipeFault → Type 0
+Takes users piece contents w0 w old new (Ok done) = IsOut (contents w0) (contents w) new.out.items (λ said. IsFed users piece (scene_of old) (scene new.state.machine new.session said))
+Takes users piece contents w0 w old new (Err fault) = IsOut (contents w0) (contents w) new.out.items (SaysTo users piece (scene_of old))
+
+-- and what is said to it, or a front of that, was written
+abbrev pub Answers : {W : Type 0} → List User → List ℕ → (W → Option (List ℕ)) → W → W → PipeState → PipeState → Result (Unit {0}) PipeFault → Type 0
+Answers users piece contents w0 w old new (Ok done) = HasAnswered users piece (contents w0) (contents w) old.state.machine old.session new.state.machine new.session
+Answers users piece contents w0 w old new (Err fault) = HasPartlyAnswered users piece (contents w0) (contents w) old.state.machine old.session
+
+-- what is written for a user's session, from its first turn on
+abbrev pub Serves : {R W : Type 0} → (R → Option (List ℕ)) → R → R → (W → Option (List ℕ)) → W → W → PipeState → Result (Unit {0}) PipeFault → Type 0
+Serves remaining unread left contents old new pipe result =
+    (user : List ℕ) → scene_of pipe ≡ begins user → PipesBetween user remaining unread left contents old new result

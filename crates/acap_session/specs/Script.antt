@@ -1,6 +1,7 @@
 -- What a script does and writes, line by line.
-use Rattle.std.specs.Prelude.{◌≡◌, ◌≢◌, ◌⊎◌, ℕ, pos, List, [], ◌∷◌, ◌++◌, drop, Bool, true, false, not, Option, Some, None, Result, Ok, Err, IsSome, codes}
+use Rattle.std.specs.Prelude.{◌≡◌, ◌≢◌, ◌⊎◌, ℕ, pos, List, [], ◌∷◌, ◌++◌, drop, Bool, true, false, not, Option, Some, None, Result, Ok, Err, IsSome, Vec, codes}
 use Rattle.std.specs.Option.{is_some}
+use Rattle.std.specs.declared.alloc.Global.{Global}
 use Rattle.acap_grammar.specs.Replies.{crlf}
 use Rattle.acap_rights.specs.declared.realm.Realm.{Realm}
 use Rattle.acap_session.specs.Places.{Place, place_at}
@@ -216,3 +217,30 @@ abbrev pub Done : {A : Type 0} → Bool → (A → Type 0) → Result A LineFaul
 Done may does (Ok a) = (may ≡ true) × does a
 Done may does (Err faults.Wrong) = may ≡ false
 Done may does (Err faults.Memory) = Unit {0}
+
+-- so a session opens, something is done at a seat, or octets are offered there
+abbrev pub MayOpen : Option (List ℕ) → Occasion → World → World → Result (Unit {0}) LineFault → Type 0
+MayOpen user o old new = Done (not (is_some (open_at old o.seat))) (λ done. new ≡ did o false (world.Open user) old)
+
+abbrev pub MayAct : SeatLine → Occasion → World → World → Result (Unit {0}) LineFault → Type 0
+MayAct does o old new = Done (may does (is_some (open_at old o.seat))) (λ done. Acts does o old new)
+
+abbrev pub MayOffer : List ℕ → Occasion → World → World → Result ℕ LineFault → Type 0
+MayOffer piece o old new = Done (is_some (open_at old o.seat)) (λ taken. HasOffered o piece old new (drop taken piece))
+
+-- what is said at a seat then is given, and is said no more
+pub record Says (does : SeatLine) (o : Occasion) (old : World) (out : List ℕ) (new : World) : Type 0 where
+  pub after : World
+  pub acts : Acts does o old after
+  pub shown : Shows o.seat (said_before (place_at after.places o.seat)) out
+  pub left : new ≡ output_taken after o.seat
+
+abbrev pub MaySay : SeatLine → Occasion → World → World → Result (Vec ℕ Global) LineFault → Type 0
+MaySay does o old new = Done (may does (is_some (open_at old o.seat))) (λ out. Says does o old out.items new)
+
+-- and a line sets something, or does something at a seat, and gives what it says
+abbrev pub MaySet : (Setup → Setup) → Script → Script → Result (Vec ℕ Global) LineFault → Type 0
+MaySet change old new = Done (is_before old.standing) (λ out. Sets change old out.items new)
+
+abbrev pub MaySpeak : ℕ → SeatLine → Script → Script → Result (Vec ℕ Global) LineFault → Type 0
+MaySpeak seat does old new = Done (may does (is_some (open_at (world_of old.standing) seat))) (λ out. Speaks seat does old out.items new)

@@ -1,9 +1,10 @@
 -- What a script that is read writes, by how it ends.
-use Rattle.std.specs.Prelude.{◌≡◌, ◌⊎◌, ℕ, ◌+◌, ◌==◌, Bool, true, false, List, [], ◌∷◌, ◌++◌, length, flat_map, Option, Result, Ok, Err}
+use Rattle.std.specs.Prelude.{◌≡◌, ◌⊎◌, ℕ, ◌+◌, ◌<◌, ◌==◌, Bool, true, false, List, [], ◌∷◌, ◌++◌, length, take, slice_index, flat_map, Option, Result, Ok, Err}
 use Rattle.std.specs.Io.KnownBytes.{Appends, Consumes, IsAtEnd}
 use Rattle.std.specs.List.{list_any}
 use Rattle.acap_session.specs.Script.{AreDone, IsDone, begins, is_wrong}
 use Rattle.acap_session.specs.Streams.{HasEndedReads, HasGiven, IfTold, SendsFront, Told}
+use Rattle.acap_session.specs.declared.progress.Progress.{Progress}
 use Rattle.acap_session.specs.declared.script.Script.{Script}
 use Rattle.acap_session.specs.declared.script_fault.ScriptFault.{ScriptFault}
 use Rattle.acap_session.specs.declared.script_fault.ScriptFault.TheVariants as faults
@@ -16,6 +17,10 @@ is_feed octet = octet == 10
 -- none of them has an LF
 abbrev pub IsLine : List ℕ → Type 0
 IsLine text = list_any is_feed text ≡ false
+
+-- the first LF stands there
+abbrev pub EndsAt : List ℕ → ℕ → Type 0
+EndsAt text place = (place < length text) × (slice_index text place ≡ 10) × IsLine (take place text)
 
 abbrev pub AreLines : List (List ℕ) → Type 0
 AreLines [] = Unit {0}
@@ -110,6 +115,10 @@ Runs unread left old new (Err faults.Read) = HasStopped unread left old new
 Runs unread left old new (Err faults.Write) = HasBegun unread left old new
 Runs unread left old new (Err faults.Memory) = HasBegun unread left old new
 
+-- of a reader and a writer, as they were and as they are left
+abbrev pub RunsBetween : {R W : Type 0} → (R → Option (List ℕ)) → R → R → (W → Option (List ℕ)) → W → W → Result (Unit {0}) ScriptFault → Type 0
+RunsBetween remaining unread left contents old new = Runs (remaining unread) (remaining left) (contents old) (contents new)
+
 -- It answers that the reader failed only where it did, or where reads came to their bound, and where it did it answers
 -- nothing else.
 abbrev pub ScriptReads : Option Told → Option Told → Result (Unit {0}) ScriptFault → Type 0
@@ -117,6 +126,12 @@ ScriptReads old new (Err faults.Read) = IfTold HasEndedReads old new
 ScriptReads old new other = IfTold HasGiven old new
 
 -- ---- words of the contracts of its parts
+
+-- nothing was read yet
+pub record IsUnread (p : Progress) : Type 0 where
+  pub script_is : p.script ≡ begins
+  pub none_held : p.held.items ≡ []
+  pub none_counted : p.number ≡ 0
 
 -- a line was done, and what it says was written
 pub record HasRunLine (text : List ℕ) (s t : Script) (old new : Option (List ℕ)) : Type 0 where
@@ -138,10 +153,16 @@ RunsLine text number s t old new (Err faults.Read) = ⊥
 RunsLine text number s t old new (Err faults.Write) = HasPartLine text s old new
 RunsLine text number s t old new (Err faults.Memory) = new ≡ old
 
+abbrev pub RunsLineTo : {W : Type 0} → List ℕ → ℕ → Script → Script → (W → Option (List ℕ)) → W → W → Result (Unit {0}) ScriptFault → Type 0
+RunsLineTo text number s t contents old new = RunsLine text number s t (contents old) (contents new)
+
 -- what stands behind the last LF was done, if there is anything
 abbrev pub RunsLast : List ℕ → ℕ → Script → Script → Option (List ℕ) → Option (List ℕ) → Result (Unit {0}) ScriptFault → Type 0
 RunsLast [] number s t old new result = (result ≡ Ok tt) × (t ≡ s) × (new ≡ old)
 RunsLast (c ∷ text) number s t old new result = RunsLine (c ∷ text) number s t old new result
+
+abbrev pub RunsLastTo : {W : Type 0} → List ℕ → ℕ → Script → Script → (W → Option (List ℕ)) → W → W → Result (Unit {0}) ScriptFault → Type 0
+RunsLastTo text number s t contents old new = RunsLast text number s t (contents old) (contents new)
 
 -- lines that a piece ended were done, and what they say was written
 pub record HasRunLines (text rest : List ℕ) (number later : ℕ) (s t : Script) (old new : Option (List ℕ)) : Type 0 where
@@ -184,3 +205,7 @@ RunsLines text rest number later s t old new (Err (faults.Line n)) = HasFailedIn
 RunsLines text rest number later s t old new (Err faults.Read) = ⊥
 RunsLines text rest number later s t old new (Err faults.Write) = HasPartLines text s old new
 RunsLines text rest number later s t old new (Err faults.Memory) = HasPartLines text s old new
+
+-- what is held goes before the piece
+abbrev pub RunsPiece : {W : Type 0} → List ℕ → Progress → Progress → (W → Option (List ℕ)) → W → W → Result (Unit {0}) ScriptFault → Type 0
+RunsPiece piece p q contents old new = RunsLines (p.held.items ++ piece) q.held.items p.number q.number p.script q.script (contents old) (contents new)

@@ -38,6 +38,10 @@ HasEndedReads old new = (new.failures ≡ up_by 1 old.failures) ⊎ (new ≡ aft
 
 -- ---- what was written
 
+-- octets, by what the writer has before and after
+abbrev pub Sends : {W : Type 0} → (W → Option (List ℕ)) → W → W → List ℕ → Type 0
+Sends contents old new octets = Appends (contents old) (contents new) octets
+
 -- a front of octets
 pub record SendsFront (old new : Option (List ℕ)) (octets : List ℕ) : Type 0 where
   pub front : List ℕ

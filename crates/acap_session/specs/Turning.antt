@@ -1,8 +1,10 @@
 -- One session and the machine: what a turn, a drain and an end make of them [RFC 2244 section 2].
-use Rattle.std.specs.Prelude.{◌≡◌, ◌⊎◌, ℕ, List, Bool, true, false, ◌||◌, is_ok, Result, Err}
+use Rattle.std.specs.Prelude.{◌≡◌, ◌⊎◌, ℕ, List, Vec, Bool, true, false, ◌||◌, is_ok, MatchResult, Result, Err}
+use Rattle.std.specs.declared.alloc.Global.{Global}
+use Rattle.acap_entries.specs.declared.memory.Memory.{Memory}
 use Rattle.acap_login.specs.Login.{User}
 use Rattle.acap_commands.specs.declared.reply.Reply.{Reply}
-use Rattle.acap_machine.specs.Machine.{Machine}
+use Rattle.acap_machine.specs.Machine.{Machine, Roomed}
 use Rattle.acap_machine.specs.Runs.{outcome_of, machine_after}
 use Rattle.acap_machine.specs.Stepping.{step_of}
 use Rattle.acap_commands.specs.declared.event.Event.{Event}
@@ -16,6 +18,7 @@ use Rattle.acap_dialogue.specs.declared.heard.Heard.{Heard}
 use Rattle.acap_dialogue.specs.declared.heard.Heard.TheVariants as heard
 use Rattle.acap_dialogue.specs.declared.next.Next.{Next}
 use Rattle.acap_dialogue.specs.declared.next.Next.TheVariants as next
+use Rattle.acap_session.specs.Places.{Place}
 use Rattle.acap_session.specs.declared.occasion.Occasion.{Occasion}
 use Rattle.acap_dialogue.specs.declared.stage.Stage.TheVariants as stage
 use Rattle.acap_session.specs.declared.turn.Turn.{Turn}
@@ -133,3 +136,48 @@ pub record CutInAnswering (seated : Bool) (o : Occasion) (old : Scene) (new : Sc
   pub closed : new.talk.stage ≡ stage.Closed
   pub out_is : new.out ≡ old.out
   pub machine_is : new.machine ≡ left_by seated o old.machine
+
+-- ---- by how a call ends, of the scene before and behind it
+
+abbrev pub TurnsTo : List User → Occasion → Scene → Scene → Result Turn Memory → Type 0
+TurnsTo users o old new result = MatchResult result (λ came. IsTurn users o old came new) (λ memory. WasCut o old (session_next users o.nonce o.clock old.talk) new)
+
+abbrev pub AsksTo : Occasion → Event → Scene → Scene → Result Turn Memory → Type 0
+AsksTo o event old new result = MatchResult result (λ came. IsAsked o event old came new) (λ memory. CutInAsking o event old new)
+
+-- where the asking is refused memory nothing was done
+abbrev pub DrainsTo : Occasion → Scene → Scene → Result Turn Memory → Type 0
+DrainsTo o old new result = MatchResult result (λ came. (came, new) ≡ drain_of o false old) (λ memory. (new ≡ old) ⊎ CutInDraining o old new)
+
+-- a session that was let in has its seat
+abbrev pub RepliesTo : Occasion → Result Reply Fault → Scene → Scene → Result Turn Memory → Type 0
+RepliesTo o outcome old new result =
+    let seated = has_seat old.talk || is_ok outcome in
+    MatchResult result (λ came. (came, new) ≡ shown o seated old.machine old.out (answered old.talk outcome)) (λ memory. CutInAnswering seated o old new)
+
+-- of the machine in memory, the session, and the octets to be written
+abbrev pub Turns : List User → Occasion → Roomed → Talking → Vec ℕ Global → Roomed → Talking → Vec ℕ Global → Result Turn Memory → Type 0
+Turns users o m t out n u more = TurnsTo users o (scene m.machine t out.items) (scene n.machine u more.items)
+
+abbrev pub Asks : Occasion → Event → Roomed → Talking → Vec ℕ Global → Roomed → Talking → Vec ℕ Global → Result Turn Memory → Type 0
+Asks o event m t out n u more = AsksTo o event (scene m.machine t out.items) (scene n.machine u more.items)
+
+abbrev pub Drains : Occasion → Roomed → Talking → Vec ℕ Global → Roomed → Talking → Vec ℕ Global → Result Turn Memory → Type 0
+Drains o m t out n u more = DrainsTo o (scene m.machine t out.items) (scene n.machine u more.items)
+
+abbrev pub Replies : Occasion → Result Reply Fault → Roomed → Talking → Vec ℕ Global → Roomed → Talking → Vec ℕ Global → Result Turn Memory → Type 0
+Replies o outcome m t out n u more = RepliesTo o outcome (scene m.machine t out.items) (scene n.machine u more.items)
+
+-- of the machine in memory, and what stands at the seat
+abbrev pub scene_at : Roomed → Place → Scene
+scene_at m place = scene m.machine place.talk place.out
+
+abbrev pub TurnsAt : List User → Occasion → Roomed → Place → Roomed → Place → Result Turn Memory → Type 0
+TurnsAt users o m old n new = TurnsTo users o (scene_at m old) (scene_at n new)
+
+abbrev pub DrainsAt : Occasion → Roomed → Place → Roomed → Place → Result Turn Memory → Type 0
+DrainsAt o m old n new = DrainsTo o (scene_at m old) (scene_at n new)
+
+-- the first turn, in which nothing is refused memory
+abbrev pub BeginsAt : List User → Occasion → Roomed → Place → Roomed → Place → Type 0
+BeginsAt users o m old n new = scene_at n new ≡ (turn_of users o false (scene_at m old)).1

@@ -2,7 +2,8 @@
 -- [RFC 2244 section 2].
 use Rattle.std.specs.Prelude.{◌≡◌, ◌⊎◌, ℕ, List, [], ◌∷◌, Bool, true, false, Option, Some, None, Result, Ok, Err, IsSome}
 use Rattle.acap_login.specs.Login.{User}
-use Rattle.acap_machine.specs.Machine.{Machine, new_machine}
+use Rattle.acap_entries.specs.declared.memory.Memory.{Memory}
+use Rattle.acap_machine.specs.Machine.{Machine, Roomed, new_machine}
 use Rattle.acap_rights.specs.declared.realm.Realm.{Realm}
 use Rattle.acap_session.specs.Places.{Place, Places, place_at, placed, if_open}
 use Rattle.acap_dialogue.specs.Session.{has_seat, is_closed, session_next}
@@ -68,6 +69,10 @@ room_of t piece = room_for t piece
 -- a session with so many octets of a piece behind those that it holds
 abbrev pub with_octets : Talking → ℕ → List ℕ → Talking
 with_octets t n piece = with_front t n piece
+
+-- what stands at a seat, so
+abbrev pub holding : Place → ℕ → List ℕ → Place
+holding place n piece = record place { talk = with_octets place.talk n piece }
 
 abbrev pub takes : List ℕ → Scene → Scene
 takes piece s = record s { talk = with_octets s.talk (room_of s.talk piece) piece }
@@ -161,6 +166,11 @@ pub record HasBegun (users : List User) (o : Occasion) (old : Scene) (standing :
   pub stands : standing ≡ Some place
   pub made : scene m place.talk place.out ≡ (turn_of users o false old).1
   pub going : is_closed place.talk.stage ≡ false
+
+-- or where memory was refused nothing was done
+abbrev pub Begins : List User → Occasion → Talking → Roomed → Option Place → Roomed → Option Place → Result (Unit {0}) Memory → Type 0
+Begins users o t m old n new (Ok done) = HasBegun users o (scene m.machine t (said_before old)) new n.machine
+Begins users o t m old n new (Err memory) = (new ≡ old) × (n.machine ≡ m.machine)
 
 -- what giving octets to a seat's session answers and leaves, whatever the clock shows: it takes as many as it has
 -- room for, or none

@@ -3,7 +3,8 @@ ghost use Rattle.acap_session.specs.Completing.{CompletionExamples, CompletionFo
 ghost use Rattle.acap_session.specs.Live.{LiveLaw};
 ghost use Rattle.acap_session.specs.Seating.{SeatingLaw};
 ghost use Rattle.acap_session.specs.PipeSteps.{PipeRuns};
-ghost use Rattle.acap_session.specs.Laws.{PiecesJoin, TurnsKeep, CuttingLaw, JoiningLaw, OthersStay, SessionLaw, StepAlone, AloneLaw, RefusedTurns, WrittenLaw};
+ghost use Rattle.acap_session.specs.Laws.{PiecesJoin, TurnsKeep, CuttingLaw, JoiningLaw, OthersStay};
+ghost use Rattle.acap_session.specs.Laws.{SessionLaw, StepAlone, AloneLaw, RefusedTurns, WrittenLaw};
 
 use acap_machine::laws::{current_law, held_law, seen_law};
 

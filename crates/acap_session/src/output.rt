@@ -1,8 +1,8 @@
 //! Writing octets, so that of a fault it is known what was written before it.
 
 ghost use Rattle.std.specs.Prelude.{◌≡◌, ◌<◌, ◌≤◌, length, take, IfOk, OnOk, OnErr};
-ghost use Rattle.std.specs.Io.KnownBytes.{Appends, Keeps};
-ghost use Rattle.acap_session.specs.Streams.{SendsFront};
+ghost use Rattle.std.specs.Io.KnownBytes.{Keeps};
+ghost use Rattle.acap_session.specs.Streams.{Sends, SendsFront};
 
 use std::io::{ErrorKind, Write};
 
@@ -12,9 +12,9 @@ pub(crate) struct WriteFailed;
 
 // Writes a front of octets, and says how many that is: 0 where it is to be tried again. A writer that takes none has failed.
 fn write_front<W: Write>(writer: &mut W, octets: &[u8]) -> Result<usize, WriteFailed>
-    ensures sent { IfOk result (λ count. Appends (W.contents writer.old) (W.contents writer.new) (take count octets.now)) }
+    ensures sent { IfOk result (λ count. Sends W.contents writer.old writer.new (take count octets.now)) }
     ensures bound { IfOk result (λ count. count ≤ length octets.now) }
-    ensures none { OnErr result (Appends (W.contents writer.old) (W.contents writer.new) (take 0 octets.now)) }
+    ensures none { OnErr result (Sends W.contents writer.old writer.new (take 0 octets.now)) }
 {
     match writer.write(octets) {
         Ok(0) => Err(WriteFailed),
@@ -30,7 +30,7 @@ fn write_front<W: Write>(writer: &mut W, octets: &[u8]) -> Result<usize, WriteFa
 
 // Writes all octets.
 fn write_all<W: Write>(writer: &mut W, octets: &[u8]) -> Result<(), WriteFailed>
-    ensures sent { OnOk result (Appends (W.contents writer.old) (W.contents writer.new) octets.now) }
+    ensures sent { OnOk result (Sends W.contents writer.old writer.new octets.now) }
     ensures front { OnErr result (SendsFront (W.contents writer.old) (W.contents writer.new) octets.now) }
 {
     let mut rest = octets;
@@ -48,7 +48,7 @@ fn write_all<W: Write>(writer: &mut W, octets: &[u8]) -> Result<(), WriteFailed>
 /// Writes all octets, so that whoever waits for them has them. An interrupted write is tried again. Where it fails a front of
 /// them was written.
 pub(crate) fn send_all<W: Write>(writer: &mut W, octets: &[u8]) -> Result<(), WriteFailed>
-    ensures sent { OnOk result (Appends (W.contents writer.old) (W.contents writer.new) octets.now) }
+    ensures sent { OnOk result (Sends W.contents writer.old writer.new octets.now) }
     ensures front { OnErr result (SendsFront (W.contents writer.old) (W.contents writer.new) octets.now) }
 {
     write_all(writer, octets)?;

@@ -1,18 +1,18 @@
 //! One session of a user between a reader and a writer.
 
-ghost use Rattle.std.specs.Prelude.{◌≡◌, ◌++◌, List, [], false, IfErr, OnErr, OnOk};
-ghost use Rattle.std.specs.Io.KnownBytes.{Appends};
+ghost use Rattle.std.specs.Prelude.{◌≡◌, [], IfErr, IfOk, OnErr, OnOk};
 ghost use Rattle.acap_session.specs.Piping as piping;
-ghost use Rattle.acap_session.specs.Piping.{Goes, HasAnswered, HasPartlyAnswered, HasRoom, HasTurned, IsFed, IsLater, IsOut, IsSettled, PipeReads, Pipes, Says, SaysTo, Serves};
-ghost use Rattle.acap_dialogue.specs.Session.{is_closed};
-ghost use Rattle.acap_session.specs.Streams.{SendsFront};
+ghost use Rattle.acap_session.specs.Piping.{Answers, Goes, HasRoom, HasTurned, IsBegun, IsLater};
+ghost use Rattle.acap_session.specs.Piping.{IsUnderWay, PipeReads};
+ghost use Rattle.acap_session.specs.Piping.{PipesBetween, Serves, Settles, Takes, begins, scene_of};
+ghost use Rattle.acap_session.specs.Streams.{Sends, SendsFront};
 ghost use Rattle.acap_session.specs.declared.pipe_fault.PipeFault.TheVariants as faults;
-ghost use Rattle.acap_session.specs.Turning.{scene};
 
 use crate::input::Input;
 use crate::occasion::Occasion;
 use crate::output::send_all;
 use crate::pipe_fault::PipeFault;
+use crate::pipe_state::PipeState;
 use crate::turn::Turn;
 use crate::turns::turn;
 use acap_dialogue::Session;
@@ -53,7 +53,7 @@ fn without_administrators(alloc: Global) -> Realm
 
 // Writes all that waits, so that whoever waits for it has it. Nothing waits then, also where that failed.
 fn send<W: Write>(writer: &mut W, out: &mut Vec<u8>) -> Result<(), PipeFault>
-    ensures sent { OnOk result (Appends (W.contents writer.old) (W.contents writer.new) out.old.items) }
+    ensures sent { OnOk result (Sends W.contents writer.old writer.new out.old.items) }
     ensures front { OnErr result (SendsFront (W.contents writer.old) (W.contents writer.new) out.old.items) }
     ensures empty { out.new.items ≡ [] }
     ensures fault { IfErr result (λ fault. fault ≡ faults.Write) }
@@ -68,7 +68,7 @@ fn send<W: Write>(writer: &mut W, out: &mut Vec<u8>) -> Result<(), PipeFault>
 
 // Writes what waits, where it is much.
 fn ease<W: Write>(writer: &mut W, out: &mut Vec<u8>) -> Result<(), PipeFault>
-    ensures said { OnOk result (IsOut (W.contents writer.old) (W.contents writer.new) out.new.items (λ said. said ≡ out.old.items)) }
+    ensures said { OnOk result (IsUnderWay W.contents writer.old writer.new out.new.items out.old.items) }
     ensures front { OnErr result (SendsFront (W.contents writer.old) (W.contents writer.new) out.old.items) }
     ensures empty { OnErr result (out.new.items ≡ []) }
     ensures fault { IfErr result (λ fault. fault ≡ faults.Write) }
@@ -81,21 +81,25 @@ fn ease<W: Write>(writer: &mut W, out: &mut Vec<u8>) -> Result<(), PipeFault>
 
 // Makes all turns that can be made. What they say waits, and is written as soon as it is much.
 fn settle<W: Write, L: Ledger>(
-    session: &mut Session,
-    state: &mut State,
+    pipe: &mut PipeState,
     users: &Users,
     writer: &mut W,
-    out: &mut Vec<u8>,
     steps: &mut Steps<L>,
 ) -> Result<(), PipeFault>
-    requires { Goes session.old }
-    ensures ok { OnOk result (IsOut (W.contents writer.old) (W.contents writer.new) out.new.items (λ said. IsSettled users.now (scene state.old.machine session.old out.old.items) (scene state.new.machine session.new said))) }
-    ensures err { OnErr result (IsOut (W.contents writer.old) (W.contents writer.new) out.new.items (Says users.now (scene state.old.machine session.old out.old.items))) }
+    requires { Goes pipe.old.session }
+    ensures made { Settles users.now W.contents writer.old writer.new pipe.old pipe.new result }
     ensures fault { IfErr result IsLater }
 {
     'turns: loop {
-        match turn(session, state, users, always(), out, steps)? {
-            Turn::Said => ease(writer, out)?,
+        match turn(
+            &mut pipe.session,
+            &mut pipe.state,
+            users,
+            always(),
+            &mut pipe.out,
+            steps,
+        )? {
+            Turn::Said => ease(writer, &mut pipe.out)?,
             Turn::More => return Ok(()),
             Turn::Closed => return Ok(()),
         }
@@ -104,41 +108,39 @@ fn settle<W: Write, L: Ledger>(
 
 // Gives a session a piece, and makes all turns that can be made. What comes behind a close isn't heard.
 fn feed<W: Write, L: Ledger>(
-    session: &mut Session,
-    state: &mut State,
+    pipe: &mut PipeState,
     users: &Users,
     piece: &[u8],
     writer: &mut W,
-    out: &mut Vec<u8>,
     steps: &mut Steps<L>,
 ) -> Result<(), PipeFault>
-    requires { HasRoom session.old }
-    ensures ok { OnOk result (IsOut (W.contents writer.old) (W.contents writer.new) out.new.items (λ said. IsFed users.now piece.now (scene state.old.machine session.old out.old.items) (scene state.new.machine session.new said))) }
-    ensures err { OnErr result (IsOut (W.contents writer.old) (W.contents writer.new) out.new.items (SaysTo users.now piece.now (scene state.old.machine session.old out.old.items))) }
+    requires { HasRoom pipe.old.session }
+    ensures made { Takes users.now piece.now W.contents writer.old writer.new pipe.old pipe.new result }
     ensures fault { IfErr result IsLater }
 {
     let mut rest = piece;
-    'parts: while !rest.is_empty() && !session.is_closed() {
-        let taken = session.push(rest)?;
+    'parts: while !rest.is_empty() && !pipe.session.is_closed() {
+        let taken = pipe.session.push(rest)?;
         let (_, behind) = rest.split_at(taken);
         rest = behind;
-        settle(session, state, users, writer, out, steps)?;
+        settle(pipe, users, writer, steps)?;
     }
     Ok(())
 }
 
 // The first turn: the user enters, and is greeted.
-fn enter<L: Ledger>(
-    session: &mut Session,
-    state: &mut State,
-    users: &Users,
-    out: &mut Vec<u8>,
-    steps: &mut Steps<L>,
-) -> Result<(), Memory>
-    ensures { OnOk result (HasTurned users.now (scene state.old.machine session.old out.old.items) (scene state.new.machine session.new out.new.items)) }
+fn enter<L: Ledger>(pipe: &mut PipeState, users: &Users, steps: &mut Steps<L>) -> Result<(), Memory>
+    ensures { OnOk result (HasTurned users.now (scene_of pipe.old) (scene_of pipe.new)) }
 {
-    let _ = turn(session, state, users, always(), out, steps)?;
-    if session.is_closed() {
+    let _ = turn(
+        &mut pipe.session,
+        &mut pipe.state,
+        users,
+        always(),
+        &mut pipe.out,
+        steps,
+    )?;
+    if pipe.session.is_closed() {
         return Err(Memory);
     }
     Ok(())
@@ -146,48 +148,55 @@ fn enter<L: Ledger>(
 
 // Hears a piece, and writes what is said to it, also where memory is refused then.
 fn answer<W: Write, L: Ledger>(
-    session: &mut Session,
-    state: &mut State,
+    pipe: &mut PipeState,
     users: &Users,
     piece: &[u8],
     writer: &mut W,
-    out: &mut Vec<u8>,
     steps: &mut Steps<L>,
 ) -> Result<(), PipeFault>
-    requires room { HasRoom session.old }
-    requires sent { out.old.items ≡ [] }
-    ensures ok { OnOk result (HasAnswered users.now piece.now (W.contents writer.old) (W.contents writer.new) state.old.machine session.old state.new.machine session.new) }
-    ensures err { OnErr result (HasPartlyAnswered users.now piece.now (W.contents writer.old) (W.contents writer.new) state.old.machine session.old) }
-    ensures empty { OnOk result (out.new.items ≡ []) }
+    requires room { HasRoom pipe.old.session }
+    requires sent { pipe.old.out.items ≡ [] }
+    ensures made { Answers users.now piece.now W.contents writer.old writer.new pipe.old pipe.new result }
+    ensures empty { OnOk result (pipe.new.out.items ≡ []) }
     ensures fault { IfErr result IsLater }
 {
-    match feed(session, state, users, piece, writer, out, steps) {
-        Ok(()) => send(writer, out),
+    match feed(pipe, users, piece, writer, steps) {
+        Ok(()) => send(writer, &mut pipe.out),
         Err(PipeFault::Write) => Err(PipeFault::Write),
         Err(fault) => {
-            send(writer, out)?;
+            send(writer, &mut pipe.out)?;
             Err(fault)
         }
     }
 }
 
-// Reads piece by piece, and writes what is said to each before the next is read.
+// A user's session, before it has said anything.
+fn begin(alloc: Global, user: UserName) -> Result<PipeState, Memory>
+    ensures { IfOk result (λ pipe. scene_of pipe ≡ begins user) }
+{
+    let host = Octets::from_slice(alloc, b"localhost")?;
+    Ok(PipeState {
+        state: State::new(alloc, without_administrators(alloc)),
+        session: Session::new(alloc, host, Some(user)),
+        out: Vec::new(alloc),
+    })
+}
+
+// Greets, then reads piece by piece, and writes what is said to each before the next is read.
 fn serve<R: Input, W: Write, L: Ledger>(
-    session: &mut Session,
-    state: &mut State,
+    pipe: &mut PipeState,
     users: &Users,
     reader: &mut R,
     writer: &mut W,
-    out: &mut Vec<u8>,
     steps: &mut Steps<L>,
 ) -> Result<(), PipeFault>
-    requires room { HasRoom session.old }
-    requires going { is_closed session.old.stage ≡ false }
-    requires sent { out.old.items ≡ [] }
+    requires begun { IsBegun pipe.old }
     requires nobody { users.now ≡ [] }
-    ensures serves { Serves (R.remaining reader.old) (R.remaining reader.new) (W.contents writer.old) (W.contents writer.new) state.old.machine session.old result }
+    ensures all { Serves R.remaining reader.old reader.new W.contents writer.old writer.new pipe.old result }
     ensures reads { PipeReads (R.told reader.old) (R.told reader.new) result }
 {
+    enter(pipe, users, steps)?;
+    send(writer, &mut pipe.out)?;
     let mut buffer = [0u8; PIECE];
     'reads: for time in 0..READS {
         let Ok(count) = reader.read_front(&mut buffer) else {
@@ -197,8 +206,8 @@ fn serve<R: Input, W: Write, L: Ledger>(
             return Ok(());
         }
         let piece = &buffer[..count];
-        answer(session, state, users, piece, writer, out, steps)?;
-        if session.is_closed() {
+        answer(pipe, users, piece, writer, steps)?;
+        if pipe.session.is_closed() {
             return Ok(());
         }
     }
@@ -217,25 +226,12 @@ pub fn run_pipe_from<R: Input, W: Write, L: Ledger>(
     user: UserName,
     steps: &mut Steps<L>,
 ) -> Result<(), PipeFault>
-    ensures pipes { Pipes user (R.remaining reader.old) (R.remaining reader.new) (W.contents writer.old) (W.contents writer.new) result }
+    ensures pipes { PipesBetween user R.remaining reader.old reader.new W.contents writer.old writer.new result }
     ensures reads { PipeReads (R.told reader.old) (R.told reader.new) result }
 {
-    let host = Octets::from_slice(alloc, b"localhost")?;
     let users = Users::new(Vec::new(alloc));
-    let mut session = Session::new(alloc, host, Some(user));
-    let mut state = State::new(alloc, without_administrators(alloc));
-    let mut out = Vec::new(alloc);
-    enter(&mut session, &mut state, &users, &mut out, steps)?;
-    send(writer, &mut out)?;
-    serve(
-        &mut session,
-        &mut state,
-        &users,
-        reader,
-        writer,
-        &mut out,
-        steps,
-    )
+    let mut pipe = begin(alloc, user)?;
+    serve(&mut pipe, &users, reader, writer, steps)
 }
 
 /// The same over a reader of std, which doesn't tell of its failures.
@@ -246,7 +242,7 @@ pub fn run_pipe<R: Read, W: Write, L: Ledger>(
     user: UserName,
     steps: &mut Steps<L>,
 ) -> Result<(), PipeFault>
-    ensures { Pipes user (R.remaining reader.old) (R.remaining reader.new) (W.contents writer.old) (W.contents writer.new) result }
+    ensures { PipesBetween user R.remaining reader.old reader.new W.contents writer.old writer.new result }
 {
     run_pipe_from(alloc, reader, writer, user, steps)
 }

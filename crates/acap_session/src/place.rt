@@ -1,12 +1,12 @@
 //! The session of a seat, with what was said to its client and isn't taken yet.
 
-ghost use Rattle.std.specs.Prelude.{◌≡◌, ◌⊎◌, ◌++◌, [], false, IfOk, OnErr, OnOk};
-ghost use Rattle.acap_dialogue.specs.Session.{is_closed, session_next};
-ghost use Rattle.acap_session.specs.Turning.{CutInDraining, IsTurn, WasCut, drain_of, left_by, scene, turn_of};
+ghost use Rattle.std.specs.Prelude.{◌≡◌, [], false, IfOk, OnErr, OnOk};
+ghost use Rattle.acap_dialogue.specs.Session.{is_closed};
+ghost use Rattle.acap_session.specs.Turning.{BeginsAt, DrainsAt, TurnsAt, scene_at};
 ghost use Rattle.acap_session.specs.Places.{reached, saying};
 ghost use Rattle.acap_dialogue.specs.declared.stage.Stage.TheVariants as stages;
 ghost use Rattle.acap_session.specs.World as world;
-ghost use Rattle.acap_session.specs.World.{HasBegun, said_before};
+ghost use Rattle.acap_session.specs.World.{Begins, said_before};
 
 use crate::occasion::Occasion;
 use crate::turn::Turn;
@@ -58,8 +58,7 @@ impl Place {
         occasion: Occasion,
         steps: &mut Steps<L>,
     ) -> Result<Turn, Memory>
-        ensures ok { IfOk result (λ turn. IsTurn users.now occasion (scene state.old.machine self.old.talk self.old.out) turn (scene state.new.machine self.new.talk self.new.out)) }
-        ensures err { OnErr result (WasCut occasion (scene state.old.machine self.old.talk self.old.out) (session_next users.now occasion.nonce occasion.clock self.old.talk) (scene state.new.machine self.new.talk self.new.out)) }
+        ensures { TurnsAt users.now occasion state.old self.old state.new self.new result }
     {
         turn(
             &mut self.session,
@@ -80,7 +79,7 @@ impl Place {
         steps: &mut Steps<L>,
     ) -> Result<(), Memory>
         requires { self.old.talk.stage ≡ stages.Opening }
-        ensures ok { OnOk result (scene state.new.machine self.new.talk self.new.out ≡ (turn_of users.now occasion false (scene state.old.machine self.old.talk self.old.out)).1) }
+        ensures ok { OnOk result (BeginsAt users.now occasion state.old self.old state.new self.new) }
         ensures going { OnOk result (is_closed self.new.talk.stage ≡ false) }
         ensures machine { OnErr result (state.new.machine ≡ state.old.machine) }
         ensures out { OnErr result (self.new.out ≡ self.old.out) }
@@ -99,8 +98,7 @@ impl Place {
         occasion: Occasion,
         steps: &mut Steps<L>,
     ) -> Result<Turn, Memory>
-        ensures ok { IfOk result (λ turn. (turn, scene state.new.machine self.new.talk self.new.out) ≡ drain_of occasion false (scene state.old.machine self.old.talk self.old.out)) }
-        ensures err { OnErr result ((scene state.new.machine self.new.talk self.new.out ≡ scene state.old.machine self.old.talk self.old.out) ⊎ CutInDraining occasion (scene state.old.machine self.old.talk self.old.out) (scene state.new.machine self.new.talk self.new.out)) }
+        ensures { DrainsAt occasion state.old self.old state.new self.new result }
     {
         drain(&mut self.session, state, occasion, &mut self.out, steps)
     }
@@ -108,7 +106,7 @@ impl Place {
     /// Takes a front of a piece, and says how many octets that is.
     pub(crate) fn push(&mut self, piece: &[u8]) -> Result<usize, Memory>
         ensures taken { IfOk result (λ n. n ≡ world.room_of self.old.talk piece.now) }
-        ensures held { IfOk result (λ n. self.new ≡ record self.old { talk = world.with_octets self.old.talk n piece.now }) }
+        ensures held { IfOk result (λ n. self.new ≡ world.holding self.old n piece.now) }
         ensures err { OnErr result (self.new ≡ self.old) }
     {
         self.session.push(piece)
@@ -121,7 +119,7 @@ impl Place {
         occasion: Occasion,
         steps: &mut Steps<L>,
     )
-        ensures { scene state.new.machine self.new.talk self.new.out ≡ world.ends occasion (scene state.old.machine self.old.talk self.old.out) }
+        ensures { scene_at state.new self.new ≡ world.ends occasion (scene_at state.old self.old) }
     {
         leave(state, occasion, self.session.has_seat(), steps);
         self.session.close();
@@ -181,9 +179,7 @@ pub(crate) fn begin<L: Ledger>(
     steps: &mut Steps<L>,
 ) -> Result<(), Memory>
     requires { session.stage ≡ stages.Opening }
-    ensures ok { OnOk result (HasBegun users.now occasion (scene state.old.machine session (said_before standing.old)) standing.new state.new.machine) }
-    ensures kept { OnErr result (standing.new ≡ standing.old) }
-    ensures machine { OnErr result (state.new.machine ≡ state.old.machine) }
+    ensures { Begins users.now occasion session state.old standing.old state.new standing.new result }
 {
     let out = take_said(alloc, standing);
     let mut place = Place::new(session, out);

@@ -1,9 +1,6 @@
 //! What a line of a script does at a seat.
 
-ghost use Rattle.std.specs.Prelude.{◌≡◌, false, is_some, not};
-ghost use Rattle.acap_session.specs.Script.{Acts, Done, may};
-ghost use Rattle.acap_session.specs.World as deed;
-ghost use Rattle.acap_session.specs.World.{did, open_at};
+ghost use Rattle.acap_session.specs.Script.{MayAct, MayOpen};
 ghost use Rattle.acap_script.specs.declared.seat_line.SeatLine.TheVariants as act;
 
 use crate::occasion::Occasion;
@@ -20,7 +17,7 @@ fn open<L: Ledger>(
     user: Option<UserName>,
     steps: &mut Steps<L>,
 ) -> Result<(), LineFault>
-    ensures { Done (not (is_some (open_at world.old at.now.seat))) (λ done. world.new ≡ did at.now false (deed.Open user) world.old) result }
+    ensures { MayOpen user at.now world.old world.new result }
 {
     world.open(at.seat, user, at.clock, at.nonce, steps)?;
     Ok(())
@@ -33,7 +30,7 @@ fn send<L: Ledger>(
     text: Octets,
     steps: &mut Steps<L>,
 ) -> Result<(), LineFault>
-    ensures { Done (is_some (open_at world.old at.now.seat)) (λ done. Acts (act.Send text) at.now world.old world.new) result }
+    ensures { MayAct (act.Send text) at.now world.old world.new result }
 {
     let mut sent = text.into_vec();
     let Ok(()) = sent.extend_from_slice(b"\r\n") else {
@@ -44,7 +41,7 @@ fn send<L: Ledger>(
 
 // Octets come from the client.
 fn push(world: &mut World, at: &Occasion, octets: &[u8]) -> Result<(), LineFault>
-    ensures { Done (is_some (open_at world.old at.now.seat)) (λ done. world.new ≡ did at.now false (deed.Piece octets.now) world.old) result }
+    ensures { MayAct (act.Piece octets.now) at.now world.old world.new result }
 {
     world.piece(at.seat, octets)?;
     Ok(())
@@ -52,7 +49,7 @@ fn push(world: &mut World, at: &Occasion, octets: &[u8]) -> Result<(), LineFault
 
 // The session makes a turn.
 fn turn<L: Ledger>(world: &mut World, at: &Occasion, steps: &mut Steps<L>) -> Result<(), LineFault>
-    ensures { Done (is_some (open_at world.old at.now.seat)) (λ done. Acts act.Turn at.now world.old world.new) result }
+    ensures { MayAct act.Turn at.now world.old world.new result }
 {
     world.turn(at.seat, at.clock, at.nonce, steps)?;
     Ok(())
@@ -60,7 +57,7 @@ fn turn<L: Ledger>(world: &mut World, at: &Occasion, steps: &mut Steps<L>) -> Re
 
 // The session is asked for what is pending.
 fn drain<L: Ledger>(world: &mut World, at: &Occasion, steps: &mut Steps<L>) -> Result<(), LineFault>
-    ensures { Done (is_some (open_at world.old at.now.seat)) (λ done. Acts act.Drain at.now world.old world.new) result }
+    ensures { MayAct act.Drain at.now world.old world.new result }
 {
     world.drain(at.seat, at.clock, steps)?;
     Ok(())
@@ -68,7 +65,7 @@ fn drain<L: Ledger>(world: &mut World, at: &Occasion, steps: &mut Steps<L>) -> R
 
 // The session ends.
 fn leave<L: Ledger>(world: &mut World, at: &Occasion, steps: &mut Steps<L>) -> Result<(), LineFault>
-    ensures { Done (is_some (open_at world.old at.now.seat)) (λ done. Acts act.Leave at.now world.old world.new) result }
+    ensures { MayAct act.Leave at.now world.old world.new result }
 {
     world.leave(at.seat, at.clock, steps)?;
     Ok(())
@@ -81,7 +78,7 @@ pub(crate) fn do_at<L: Ledger>(
     line: SeatLine,
     steps: &mut Steps<L>,
 ) -> Result<(), LineFault>
-    ensures { Done (may line (is_some (open_at world.old at.now.seat))) (λ done. Acts line at.now world.old world.new) result }
+    ensures { MayAct line at.now world.old world.new result }
 {
     match line {
         SeatLine::Open => open(world, at, None, steps),

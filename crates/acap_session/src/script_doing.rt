@@ -1,9 +1,10 @@
 //! What a line of a script does, and what it says.
 
-ghost use Rattle.std.specs.Prelude.{◌≡◌, true, Err, IfOk, is_some};
-ghost use Rattle.acap_session.specs.Script.{Does, Done, IsDone, Sets, Speaks, begins, fits, is_before, is_wrong, may, with_administrator, with_host, with_member, with_user, world_of};
-ghost use Rattle.acap_session.specs.World.{open_at};
+ghost use Rattle.std.specs.Prelude.{◌≡◌, true, Err, IfOk};
+ghost use Rattle.acap_session.specs.Script.{Does, Done, IsDone, MaySay, MaySet, MaySpeak, begins, fits, is_wrong};
+ghost use Rattle.acap_session.specs.Script.{with_administrator, with_host, with_member, with_user, world_of};
 ghost use Rattle.acap_script.specs.declared.line_fault.LineFault.TheVariants as faults;
+ghost use Rattle.acap_session.specs.declared.standing.Standing.TheVariants as standings;
 
 use crate::occasion::Occasion;
 use crate::script::Script;
@@ -30,15 +31,16 @@ pub(crate) fn begin(alloc: Global) -> Result<Script, Memory>
     })
 }
 
-// The world, or that of what was set. It is to be put back.
-fn take_world(alloc: Global, standing: &mut Standing) -> World
-    ensures { result ≡ world_of standing.old }
+// Makes the world of what was set, if there is none yet.
+fn make_world(alloc: Global, standing: &mut Standing)
+    ensures { standing.new ≡ standings.Since (world_of standing.old) }
 {
+    let Standing::Before(setup) = standing else {
+        return;
+    };
     let nothing = Setup::new(alloc, Octets::from_vec(Vec::new(alloc)));
-    match mem::replace(standing, Standing::Before(nothing)) {
-        Standing::Before(setup) => setup.into_world(alloc),
-        Standing::Since(world) => world,
-    }
+    let world = mem::replace(setup, nothing).into_world(alloc);
+    *standing = Standing::Since(world);
 }
 
 // One more may log in.
@@ -48,7 +50,7 @@ fn add_user(
     name: UserName,
     secret: Octets,
 ) -> Result<Vec<u8>, LineFault>
-    ensures { Done (is_before script.old.standing) (λ out. Sets (with_user name secret) script.old out.items script.new) result }
+    ensures { MaySet (with_user name secret) script.old script.new result }
 {
     let Standing::Before(setup) = &mut script.standing else {
         return Err(LineFault::Wrong);
@@ -63,7 +65,7 @@ fn add_administrator(
     script: &mut Script,
     name: UserName,
 ) -> Result<Vec<u8>, LineFault>
-    ensures { Done (is_before script.old.standing) (λ out. Sets (with_administrator name) script.old out.items script.new) result }
+    ensures { MaySet (with_administrator name) script.old script.new result }
 {
     let Standing::Before(setup) = &mut script.standing else {
         return Err(LineFault::Wrong);
@@ -79,7 +81,7 @@ fn add_member(
     name: UserName,
     member: UserName,
 ) -> Result<Vec<u8>, LineFault>
-    ensures { Done (is_before script.old.standing) (λ out. Sets (with_member name member) script.old out.items script.new) result }
+    ensures { MaySet (with_member name member) script.old script.new result }
 {
     let Standing::Before(setup) = &mut script.standing else {
         return Err(LineFault::Wrong);
@@ -90,7 +92,7 @@ fn add_member(
 
 // That is the name of the host.
 fn set_host(alloc: Global, script: &mut Script, text: Octets) -> Result<Vec<u8>, LineFault>
-    ensures { Done (is_before script.old.standing) (λ out. Sets (with_host text) script.old out.items script.new) result }
+    ensures { MaySet (with_host text) script.old script.new result }
 {
     let Standing::Before(setup) = &mut script.standing else {
         return Err(LineFault::Wrong);
@@ -100,6 +102,22 @@ fn set_host(alloc: Global, script: &mut Script, text: Octets) -> Result<Vec<u8>,
 }
 
 // Does something at a seat, and gives what is said there then.
+fn speak_at<L: Ledger>(
+    alloc: Global,
+    world: &mut World,
+    at: &Occasion,
+    line: SeatLine,
+    steps: &mut Steps<L>,
+) -> Result<Vec<u8>, LineFault>
+    ensures { MaySay line at.now world.old world.new result }
+{
+    do_at(world, at, line, steps)?;
+    let said = world.take_output(at.seat);
+    let out = shown(alloc, at.seat, said.as_slice())?;
+    Ok(out)
+}
+
+// The same in the world of a script.
 fn speak<L: Ledger>(
     alloc: Global,
     script: &mut Script,
@@ -107,19 +125,18 @@ fn speak<L: Ledger>(
     line: SeatLine,
     steps: &mut Steps<L>,
 ) -> Result<Vec<u8>, LineFault>
-    ensures { Done (may line (is_some (open_at (world_of script.old.standing) seat))) (λ out. Speaks seat line script.old out.items script.new) result }
+    ensures { MaySpeak seat line script.old script.new result }
 {
     let at = Occasion {
         seat,
         clock: script.clock,
         nonce: script.nonce,
     };
-    let mut world = take_world(alloc, &mut script.standing);
-    do_at(&mut world, &at, line, steps)?;
-    let said = world.take_output(seat);
-    script.standing = Standing::Since(world);
-    let out = shown(alloc, seat, said.as_slice())?;
-    Ok(out)
+    make_world(alloc, &mut script.standing);
+    let Standing::Since(world) = &mut script.standing else {
+        return Err(LineFault::Memory);
+    };
+    speak_at(alloc, world, &at, line, steps)
 }
 
 // Does a line, and gives what it says.

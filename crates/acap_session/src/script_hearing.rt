@@ -1,7 +1,8 @@
 //! What the client of a seat sends, and the turns that its session makes then.
 
-ghost use Rattle.std.specs.Prelude.{◌≡◌, ◌≤◌, length, drop, is_some, IfOk, OnOk};
-ghost use Rattle.acap_session.specs.Script.{Done, HasHeard, HasOffered, HasSettled, HasTurned};
+ghost use Rattle.std.specs.Prelude.{◌≡◌, ◌≤◌, length, is_some, IfOk, OnOk};
+ghost use Rattle.acap_script.specs.declared.seat_line.SeatLine.TheVariants as act;
+ghost use Rattle.acap_session.specs.Script.{HasSettled, HasTurned, MayAct, MayOffer};
 ghost use Rattle.acap_session.specs.World.{open_at};
 
 use crate::occasion::Occasion;
@@ -41,7 +42,7 @@ fn offer<L: Ledger>(
     octets: &[u8],
     steps: &mut Steps<L>,
 ) -> Result<usize, LineFault>
-    ensures offered { Done (is_some (open_at world.old at.now.seat)) (λ taken. HasOffered at.now octets.now world.old world.new (drop taken octets.now)) result }
+    ensures offered { MayOffer octets.now at.now world.old world.new result }
     ensures within { IfOk result (λ taken. taken ≤ length octets.now) }
 {
     let taken = world.piece(at.seat, octets)?;
@@ -62,7 +63,7 @@ pub(crate) fn hear<L: Ledger>(
     octets: &[u8],
     steps: &mut Steps<L>,
 ) -> Result<(), LineFault>
-    ensures { Done (is_some (open_at world.old at.now.seat)) (λ done. HasHeard at.now octets.now world.old world.new) result }
+    ensures { MayAct (act.Raw octets.now) at.now world.old world.new result }
 {
     let taken = offer(world, at, octets, steps)?;
     let (_, behind) = octets.split_at(taken);

@@ -1,17 +1,20 @@
 //! A script between a reader and a writer.
 
-ghost use Rattle.std.specs.Io.KnownBytes.{Appends};
-ghost use Rattle.std.specs.Prelude.{◌≡◌, ◌++◌, ◌+◌, ◌^◌, ◌<◌, ◌≤◌, length, slice_index, take, IfErr, IfNone, IfSome, OnErr, OnOk};
-ghost use Rattle.acap_session.specs.ScriptRun.{IsLine, Runs, RunsLast, RunsLine, RunsLines, ScriptReads};
-ghost use Rattle.acap_session.specs.Streams.{SendsFront};
+ghost use Rattle.std.specs.Prelude.{◌≡◌, ◌+◌, ◌^◌, ◌<◌, ◌≤◌, length, IfErr, IfNone, IfOk, IfSome, OnErr};
+ghost use Rattle.std.specs.Prelude.{OnOk};
+ghost use Rattle.acap_session.specs.ScriptRun.{EndsAt, IsLine, IsUnread, RunsBetween, RunsLastTo};
+ghost use Rattle.acap_session.specs.ScriptRun.{RunsLineTo, RunsPiece};
+ghost use Rattle.acap_session.specs.ScriptRun.{ScriptReads};
+ghost use Rattle.acap_session.specs.Streams.{Sends, SendsFront};
 ghost use Rattle.acap_session.specs.declared.script_fault.ScriptFault.TheVariants as faults;
 
 use crate::input::Input;
 use crate::output::send_all;
+use crate::progress::Progress;
 use crate::script::Script;
 use crate::script_doing::{begin, do_text};
 use crate::script_fault::ScriptFault;
-use acap_entries::Steps;
+use acap_entries::{Memory, Steps};
 use acap_script::LineFault;
 use std::alloc::Global;
 use std::io::{Read, Write};
@@ -22,7 +25,7 @@ const READS: u32 = 1_000_000_000;
 
 // Where the first LF stands.
 fn end_of(text: &[u8]) -> Option<usize>
-    ensures some { IfSome result (λ place. (place < length text.now) × (slice_index text.now place ≡ 10) × IsLine (take place text.now)) }
+    ensures some { IfSome result (EndsAt text.now) }
     ensures none { IfNone result (IsLine text.now) }
 {
     for place in 0..text.len() {
@@ -35,7 +38,7 @@ fn end_of(text: &[u8]) -> Option<usize>
 
 // Writes all that is to be written, so that whoever waits for it has it.
 fn send<W: Write>(writer: &mut W, out: &[u8]) -> Result<(), ScriptFault>
-    ensures sent { OnOk result (Appends (W.contents writer.old) (W.contents writer.new) out.now) }
+    ensures sent { OnOk result (Sends W.contents writer.old writer.new out.now) }
     ensures front { OnErr result (SendsFront (W.contents writer.old) (W.contents writer.new) out.now) }
     ensures fault { IfErr result (λ fault. fault ≡ faults.Write) }
 {
@@ -54,7 +57,7 @@ fn run_line<W: Write, L: Ledger>(
     writer: &mut W,
     steps: &mut Steps<L>,
 ) -> Result<(), ScriptFault>
-    ensures { RunsLine text.now number script.old script.new (W.contents writer.old) (W.contents writer.new) result }
+    ensures { RunsLineTo text.now number script.old script.new W.contents writer.old writer.new result }
 {
     match do_text(alloc, script, text, steps) {
         Ok(out) => send(writer, out.as_slice()),
@@ -66,31 +69,36 @@ fn run_line<W: Write, L: Ledger>(
 // Does the lines that a piece ends, the first of which begins with what is held, and holds what stands behind them.
 fn run_lines<W: Write, L: Ledger>(
     alloc: Global,
-    script: &mut Script,
-    held: &mut Vec<u8>,
-    number: &mut u64,
+    progress: &mut Progress,
     piece: &[u8],
     writer: &mut W,
     steps: &mut Steps<L>,
 ) -> Result<(), ScriptFault>
-    requires line { IsLine held.old.items }
-    requires count { number.old + length piece.now < 2 ^ 64 }
-    ensures ran { RunsLines (held.old.items ++ piece.now) held.new.items number.old number.new script.old script.new (W.contents writer.old) (W.contents writer.new) result }
-    ensures count { OnOk result (number.new ≤ number.old + length piece.now) }
+    requires line { IsLine progress.old.held.items }
+    requires count { progress.old.number + length piece.now < 2 ^ 64 }
+    ensures ran { RunsPiece piece.now progress.old progress.new W.contents writer.old writer.new result }
+    ensures count { OnOk result (progress.new.number ≤ progress.old.number + length piece.now) }
 {
     let mut rest = piece;
     'lines: while let Some(place) = end_of(rest) {
         let (front, _) = rest.split_at(place);
         let (_, behind) = rest.split_at(place + 1);
-        let Ok(()) = held.extend_from_slice(front) else {
+        let Ok(()) = progress.held.extend_from_slice(front) else {
             return Err(ScriptFault::Memory);
         };
-        *number += 1;
-        run_line(alloc, script, held.as_slice(), *number, writer, steps)?;
-        held.clear();
+        progress.number += 1;
+        run_line(
+            alloc,
+            &mut progress.script,
+            progress.held.as_slice(),
+            progress.number,
+            writer,
+            steps,
+        )?;
+        progress.held.clear();
         rest = behind;
     }
-    let Ok(()) = held.extend_from_slice(rest) else {
+    let Ok(()) = progress.held.extend_from_slice(rest) else {
         return Err(ScriptFault::Memory);
     };
     Ok(())
@@ -105,12 +113,57 @@ fn run_last<W: Write, L: Ledger>(
     writer: &mut W,
     steps: &mut Steps<L>,
 ) -> Result<(), ScriptFault>
-    ensures { RunsLast text.now number script.old script.new (W.contents writer.old) (W.contents writer.new) result }
+    ensures { RunsLastTo text.now number script.old script.new W.contents writer.old writer.new result }
 {
     if text.is_empty() {
         return Ok(());
     }
     run_line(alloc, script, text, number, writer, steps)
+}
+
+// A script of which nothing was read.
+fn begin_reading(alloc: Global) -> Result<Progress, Memory>
+    ensures { IfOk result IsUnread }
+{
+    let script = begin(alloc)?;
+    Ok(Progress {
+        script,
+        held: Vec::new(alloc),
+        number: 0,
+    })
+}
+
+// Does the lines of all that is read.
+fn run_all<R: Input, W: Write, L: Ledger>(
+    alloc: Global,
+    progress: &mut Progress,
+    reader: &mut R,
+    writer: &mut W,
+    steps: &mut Steps<L>,
+) -> Result<(), ScriptFault>
+    requires { IsUnread progress.old }
+    ensures runs { RunsBetween R.remaining reader.old reader.new W.contents writer.old writer.new result }
+    ensures reads { ScriptReads (R.told reader.old) (R.told reader.new) result }
+{
+    let mut buffer = [0u8; 4096];
+    'reads: for time in 0..READS {
+        let Ok(count) = reader.read_front(&mut buffer) else {
+            return Err(ScriptFault::Read);
+        };
+        if count == 0 {
+            return run_last(
+                alloc,
+                &mut progress.script,
+                progress.held.as_slice(),
+                progress.number + 1,
+                writer,
+                steps,
+            );
+        }
+        let piece = &buffer[..count];
+        run_lines(alloc, progress, piece, writer, steps)?;
+    }
+    Err(ScriptFault::Read)
 }
 
 /// Runs the script that is read, over a world of its own, and writes what its sessions say: what a line says is written
@@ -123,39 +176,11 @@ pub fn run_script_from<R: Input, W: Write, L: Ledger>(
     writer: &mut W,
     steps: &mut Steps<L>,
 ) -> Result<(), ScriptFault>
-    ensures runs { Runs (R.remaining reader.old) (R.remaining reader.new) (W.contents writer.old) (W.contents writer.new) result }
+    ensures runs { RunsBetween R.remaining reader.old reader.new W.contents writer.old writer.new result }
     ensures reads { ScriptReads (R.told reader.old) (R.told reader.new) result }
 {
-    let mut script = begin(alloc)?;
-    let mut held = Vec::new(alloc);
-    let mut number: u64 = 0;
-    let mut buffer = [0u8; 4096];
-    'reads: for time in 0..READS {
-        let Ok(count) = reader.read_front(&mut buffer) else {
-            return Err(ScriptFault::Read);
-        };
-        if count == 0 {
-            return run_last(
-                alloc,
-                &mut script,
-                held.as_slice(),
-                number + 1,
-                writer,
-                steps,
-            );
-        }
-        let piece = &buffer[..count];
-        run_lines(
-            alloc,
-            &mut script,
-            &mut held,
-            &mut number,
-            piece,
-            writer,
-            steps,
-        )?;
-    }
-    Err(ScriptFault::Read)
+    let mut progress = begin_reading(alloc)?;
+    run_all(alloc, &mut progress, reader, writer, steps)
 }
 
 /// The same over a reader of std, which doesn't tell of its failures.
@@ -165,7 +190,7 @@ pub fn run_script<R: Read, W: Write, L: Ledger>(
     writer: &mut W,
     steps: &mut Steps<L>,
 ) -> Result<(), ScriptFault>
-    ensures { Runs (R.remaining reader.old) (R.remaining reader.new) (W.contents writer.old) (W.contents writer.new) result }
+    ensures { RunsBetween R.remaining reader.old reader.new W.contents writer.old writer.new result }
 {
     run_script_from(alloc, reader, writer, steps)
 }

@@ -1,7 +1,7 @@
 //! What a script sets for its world.
 
 ghost use Rattle.std.specs.Prelude.{◌≡◌, ◌++◌, ◌∷◌, [], OnOk};
-ghost use Rattle.acap_session.specs.Script.{realm_of};
+ghost use Rattle.acap_session.specs.Script.{realm_of, with_administrator, with_host, with_member, with_user};
 ghost use Rattle.acap_session.specs.World.{new_world};
 
 use crate::world::World;
@@ -26,7 +26,12 @@ impl Model for Setup {
 
     ghost Value = { Seen };
 
-    ghost view = { λ s. record { users = map (λ entry. (entry.0, entry.1.items)) s.users.items; administrators = s.administrators.items; groups = s.groups.items; host = s.host } };
+    ghost view = { λ s. record {
+      users = map (λ entry. (entry.0, entry.1.items)) s.users.items;
+      administrators = s.administrators.items;
+      groups = s.groups.items;
+      host = s.host;
+    } };
 }
 
 impl Setup {
@@ -44,7 +49,7 @@ impl Setup {
 
     /// One more may log in.
     pub(crate) fn add_user(&mut self, name: UserName, secret: Octets) -> Result<(), Memory>
-        ensures { OnOk result (self.new ≡ record self.old { users = self.old.users ++ (name, secret) ∷ [] }) }
+        ensures { OnOk result (self.new ≡ with_user name secret self.old) }
     {
         self.users.push((name, secret.into_vec()))?;
         Ok(())
@@ -52,7 +57,7 @@ impl Setup {
 
     /// One more has all rights.
     pub(crate) fn add_administrator(&mut self, name: UserName) -> Result<(), Memory>
-        ensures { OnOk result (self.new ≡ record self.old { administrators = self.old.administrators ++ name ∷ [] }) }
+        ensures { OnOk result (self.new ≡ with_administrator name self.old) }
     {
         self.administrators.push(name)?;
         Ok(())
@@ -65,7 +70,7 @@ impl Setup {
         name: UserName,
         member: UserName,
     ) -> Result<(), Memory>
-        ensures { OnOk result (self.new ≡ record self.old { groups = self.old.groups ++ record { name = name; members = member ∷ [] } ∷ [] }) }
+        ensures { OnOk result (self.new ≡ with_member name member self.old) }
     {
         let mut members = Sequence::new(alloc);
         members.push(member)?;
@@ -75,7 +80,7 @@ impl Setup {
 
     /// That is the name of the host. Takes no memory.
     pub(crate) fn set_host(&mut self, host: Octets)
-        ensures { self.new ≡ record self.old { host = host } }
+        ensures { self.new ≡ with_host host self.old }
     {
         self.host = host;
     }

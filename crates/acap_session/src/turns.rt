@@ -1,8 +1,9 @@
 //! Turns: one session, the machine, and what is said.
 
-ghost use Rattle.std.specs.Prelude.{◌≡◌, ◌⊎◌, ◌||◌, false, true, IfOk, OnErr};
-ghost use Rattle.acap_dialogue.specs.Session.{answered, is_asked, session_next};
-ghost use Rattle.acap_session.specs.Turning.{scene, shown, drain_of, is_refused, IsAsked, IsTurn, WasCut, CutInAnswering, CutInAsking, CutInDraining, left_at, left_by, turn_from};
+ghost use Rattle.std.specs.Prelude.{◌≡◌, ◌||◌, true};
+ghost use Rattle.acap_dialogue.specs.Session.{is_asked};
+ghost use Rattle.acap_session.specs.Turning.{Asks, Drains, Replies, Turns};
+ghost use Rattle.acap_session.specs.Turning.{is_refused, left_at, left_by, turn_from};
 
 use crate::occasion::Occasion;
 use crate::turn::Turn;
@@ -62,15 +63,14 @@ fn conclude<L: Ledger>(
     session: &mut Session,
     state: &mut State,
     occasion: Occasion,
-    has_seat: bool,
     outcome: Result<Reply, Fault>,
     out: &mut Vec<u8>,
     steps: &mut Steps<L>,
 ) -> Result<Turn, Memory>
     requires { is_asked session.old.stage ≡ true }
-    ensures ok { IfOk result (λ turn. (turn, scene state.new.machine session.new out.new.items) ≡ shown occasion has_seat state.old.machine out.old.items (answered session.old outcome)) }
-    ensures err { OnErr result (CutInAnswering has_seat occasion (scene state.old.machine session.old out.old.items) (scene state.new.machine session.new out.new.items)) }
+    ensures { Replies occasion outcome state.old session.old out.old state.new session.new out.new result }
 {
+    let has_seat = either(session.has_seat(), outcome.is_ok());
     match session.reply(outcome, out) {
         Ok(heard) => Ok(finish(state, occasion, has_seat, &heard, steps)),
         Err(Memory) => {
@@ -90,13 +90,10 @@ fn perform<L: Ledger>(
     steps: &mut Steps<L>,
 ) -> Result<Turn, Memory>
     requires { is_asked session.old.stage ≡ true }
-    ensures ok { IfOk result (λ turn. IsAsked occasion event (scene state.old.machine session.old out.old.items) turn (scene state.new.machine session.new out.new.items)) }
-    ensures err { OnErr result (CutInAsking occasion event (scene state.old.machine session.old out.old.items) (scene state.new.machine session.new out.new.items)) }
+    ensures { Asks occasion event state.old session.old out.old state.new session.new out.new result }
 {
-    let had_seat = session.has_seat();
     let outcome = state.step(occasion.seat, event, occasion.clock, steps);
-    let has_seat = either(had_seat, outcome.is_ok());
-    conclude(session, state, occasion, has_seat, outcome, out, steps)
+    conclude(session, state, occasion, outcome, out, steps)
 }
 
 // Whether one of them holds.
@@ -116,8 +113,7 @@ pub(crate) fn turn<L: Ledger>(
     out: &mut Vec<u8>,
     steps: &mut Steps<L>,
 ) -> Result<Turn, Memory>
-    ensures ok { IfOk result (λ turn. IsTurn users.now occasion (scene state.old.machine session.old out.old.items) turn (scene state.new.machine session.new out.new.items)) }
-    ensures err { OnErr result (WasCut occasion (scene state.old.machine session.old out.old.items) (session_next users.now occasion.nonce occasion.clock session.old) (scene state.new.machine session.new out.new.items)) }
+    ensures { Turns users.now occasion state.old session.old out.old state.new session.new out.new result }
 {
     let has_seat = session.has_seat();
     let Ok(heard) = session.hear(users, occasion.nonce, occasion.clock, out) else {
@@ -151,18 +147,15 @@ pub(crate) fn drain<L: Ledger>(
     out: &mut Vec<u8>,
     steps: &mut Steps<L>,
 ) -> Result<Turn, Memory>
-    ensures ok { IfOk result (λ turn. (turn, scene state.new.machine session.new out.new.items) ≡ drain_of occasion false (scene state.old.machine session.old out.old.items)) }
-    ensures err { OnErr result ((scene state.new.machine session.new out.new.items ≡ scene state.old.machine session.old out.old.items) ⊎ CutInDraining occasion (scene state.old.machine session.old out.old.items) (scene state.new.machine session.new out.new.items)) }
+    ensures { Drains occasion state.old session.old out.old state.new session.new out.new result }
 {
     if !session.begin_drain() {
         return Ok(Turn::More);
     }
-    let had_seat = session.has_seat();
     let outcome = state.step(occasion.seat, Event::Drain, occasion.clock, steps);
     if is_refused(&outcome) {
         session.end_drain();
         return Err(Memory);
     }
-    let has_seat = either(had_seat, outcome.is_ok());
-    conclude(session, state, occasion, has_seat, outcome, out, steps)
+    conclude(session, state, occasion, outcome, out, steps)
 }

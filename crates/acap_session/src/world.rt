@@ -1,8 +1,10 @@
 //! One machine, and the sessions of its seats.
 
-ghost use Rattle.std.specs.Prelude.{◌≡◌, ◌↔◌, ◌<◌, [], length, true, is_some, pos, Some, None, Err, Ok, IfOk, IfErr, OnOk, OnErr, IsSome, IsNone};
+ghost use Rattle.std.specs.Prelude.{◌≡◌, ◌↔◌, ◌<◌, [], length, true, is_some, pos, Some, None, Err, Ok};
+ghost use Rattle.std.specs.Prelude.{IfOk, IfErr, OnOk, OnErr, IsSome, IsNone};
 ghost use Rattle.acap_session.specs.Places.{place_at};
-ghost use Rattle.acap_session.specs.World.{Drains, Feeds, Leaves, Opens, Turns, new_world, open_at, output_taken, said_before};
+ghost use Rattle.acap_session.specs.World.{Drains, Feeds, Leaves, Opens, Turns, new_world, open_at};
+ghost use Rattle.acap_session.specs.World.{output_taken, said_before};
 ghost use Rattle.acap_session.specs.declared.world_fault.WorldFault.TheVariants as faults;
 
 use crate::occasion::Occasion;
@@ -37,7 +39,12 @@ impl Model for World {
 
     ghost coded = { Prim.hlevel (codes, machine_code) };
 
-    ghost view = { λ w. record { machine = w.state.machine; places = w.places.items; users = w.users; host = w.host } };
+    ghost view = { λ w. record {
+      machine = w.state.machine;
+      places = w.places.items;
+      users = w.users;
+      host = w.host;
+    } };
 }
 
 impl World {

@@ -1,21 +1,22 @@
-use Rattle.std.proofs.lemmas.Result.{on_err_weaker}
-use Rattle.acap_session.specs.Turning.{scene}
-use Rattle.acap_session.proofs.PipeFronts.{fed_answered, front_answered, is_later, none_answered, not_ok, on_err, write_later}
+use Rattle.std.proofs.Common.{refl}
+use Rattle.acap_session.proofs.PipeFronts.{answers_all, answers_front, fed_answers, is_later, none_answered, not_ok, write_later}
 use Rattle.acap_session.proofs.pipe.answer.Goals as goal
 
-pub returns-in-Ok-clause-err : goal.returns-in-Ok-clause-err
-returns-in-Ok-clause-err g c =
-    let fed = rw c.requires.sent at c.in-Ok.ensures.ok in
-    on_err_weaker c.send.result (λ w. fed_answered c.args.users.now c.args.piece.now c.args.state.now.machine c.args.session.now (scene c.feed.new.state.machine c.feed.new.session c.feed.new.out.items) _ _ _ fed w) c.send.ensures.front
+pub returns-in-Ok-clause-made : goal.returns-in-Ok-clause-made
+returns-in-Ok-clause-made g c =
+    fed_answers c.args.users.now c.args.piece.now (g.W.Write.contents) _ _ _ c.args.pipe.now c.feed.new.pipe (record { state = c.feed.new.pipe.state; session = c.feed.new.pipe.session; out = c.send.new.out }) c.send.result c.requires.sent c.in-Ok.ensures.made refl refl c.send.ensures.sent c.send.ensures.front
 
-pub returns-in-Err-Write-clause-err : goal.returns-in-Err-Write-clause-err
-returns-in-Err-Write-clause-err g c =
-    none_answered c.args.users.now c.args.piece.now c.args.state.now.machine c.args.session.now c.feed.new.out.items _ _ (rw c.requires.sent at c.in-Err-Write.ensures.err)
+pub returns-in-Err-Write-clause-made : goal.returns-in-Err-Write-clause-made
+returns-in-Err-Write-clause-made g c =
+    none_answered c.args.users.now c.args.piece.now c.args.pipe.now.state.machine c.args.pipe.now.session c.feed.new.pipe.out.items _ _ (rw c.requires.sent at c.in-Err-Write.ensures.made)
+
+pub returns-in_ok-send-in-Err-clause-made : goal.returns-in_ok-send-in-Err-clause-made
+returns-in_ok-send-in-Err-clause-made g c =
+    answers_all c.args.users.now c.args.piece.now (g.W.Write.contents) _ _ _ c.args.pipe.now c.feed.new.pipe c.requires.sent c.in-Err.ensures.made c.in_ok-send-in-Err.ensures.sent
 
 pub returns-in_err-send-in-Err : goal.returns-in_err-send-in-Err
 returns-in_err-send-in-Err g c = record {
-  ok = not_ok c.from_residual.result _ c.from_residual.ensures.0;
-  err = on_err c.from_residual.result (front_answered c.args.users.now c.args.piece.now c.args.state.now.machine c.args.session.now c.feed.new.out.items _ _ _ (rw c.requires.sent at c.in-Err.ensures.err) c.in_err-send-in-Err.ensures.front);
+  made = answers_front c.args.users.now c.args.piece.now (g.W.Write.contents) _ _ _ c.args.pipe.now c.feed.new.pipe (record { state = c.feed.new.pipe.state; session = c.feed.new.pipe.session; out = c.send-in-Err.new.out }) c.from_residual.result c.from_residual.ensures.0 c.requires.sent c.in-Err.ensures.made c.in_err-send-in-Err.ensures.front;
   empty = not_ok c.from_residual.result _ c.from_residual.ensures.0;
   fault = is_later c.from_residual.result _ c.from_residual.ensures.1 (write_later _ c.in_err-send-in-Err.ensures.fault);
 }

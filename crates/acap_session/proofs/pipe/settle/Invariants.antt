@@ -6,9 +6,9 @@ use Rattle.acap_session.proofs.pipe.settle.Given as goal
 
 abbrev pub invariant-turns : goal.invariant-turns
 invariant-turns g l = record {
-  made : TurnsOut l.users (scene l.initial.state.machine l.initial.session l.initial.out.items) (g.W.Write.contents l.initial.writer) (g.W.Write.contents l.writer) (scene l.state.machine l.session l.out.items);
-  goes : Goes l.session;
+  made : TurnsOut l.users (scene l.initial.pipe.state.machine l.initial.pipe.session l.initial.pipe.out.items) (g.W.Write.contents l.initial.writer) (g.W.Write.contents l.writer) (scene l.pipe.state.machine l.pipe.session l.pipe.out.items);
+  goes : Goes l.pipe.session;
 }
 
 abbrev pub decreases-turns : goal.decreases-turns
-decreases-turns g l = turns_left l.session
+decreases-turns g l = turns_left l.pipe.session

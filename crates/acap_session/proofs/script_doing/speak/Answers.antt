@@ -1,5 +1,5 @@
-use Rattle.acap_session.proofs.ScriptRunning.{spoken}
+use Rattle.acap_session.proofs.ScriptRunning.{since, spoken}
 use Rattle.acap_session.proofs.script_doing.speak.Goals as goal
 
 pub returns : goal.returns
-returns g c = spoken c.args.line c.args.seat c.args.script.now c.take_world-world.result c.do_at.new.world c.take_output-said.new.self c.take_output-said.result.items c.as_slice.result.now c.in_ok-out.out.items c.take_world-world.ensures c.in_ok-do_at.ensures c.take_output-said.ensures.given c.take_output-said.ensures.left c.as_slice.ensures.value c.in_ok-out.ensures
+returns g c = spoken c.args.line c.args.seat c.args.script.now c.in-Since.world c.speak_at.new.world c.speak_at.result (since _ _ _ c.in-Since.is c.make_world.ensures) c.speak_at.ensures

@@ -1,11 +1,10 @@
 use Rattle.std.proofs.Common.{◌≡◌, Some, ap, is_some, sym, ◌∙◌}
 use Rattle.acap_examples.specs.Stories.{turn_on}
 use Rattle.acap_examples.specs.contracts.sessions.Sessions.{the_view}
-use Rattle.acap_session.proofs.Performing.{if_ok_then}
 use Rattle.acap_session.proofs.Placing.{put_is}
 use Rattle.acap_session.specs.Turning.{scene}
 use Rattle.acap_session.specs.World.{open_at}
-use Rattle.acap_examples.proofs.Followed.{there_open, turn_done}
+use Rattle.acap_examples.proofs.Followed.{if_ok_then, there_open, turn_done}
 use Rattle.acap_examples.proofs.sessions.Sessions.turn.Goals as goal
 
 pub returns-else-is_closed : goal.returns-else-is_closed

@@ -1,11 +1,11 @@
 use Rattle.std.proofs.Common.{◌≤◌, ◌*◌}
 use Rattle.acap_session.proofs.Reading.{HasCounted}
 use Rattle.acap_session.proofs.ScriptRunning.{IsReading}
-use Rattle.acap_session.proofs.script_run.run_script_from.Given as goal
+use Rattle.acap_session.proofs.script_run.run_all.Given as goal
 
 abbrev pub invariant-reads : goal.invariant-reads
 invariant-reads g l = record {
-  so_far : IsReading (g.R.Input.remaining l.fn.reader) (g.R.Input.remaining l.reader) (g.W.Write.contents l.fn.writer) (g.W.Write.contents l.writer) l.held.items l.number l.script;
-  bound : l.number ≤ 4096 * l.time;
+  so_far : IsReading (g.R.Input.remaining l.fn.reader) (g.R.Input.remaining l.reader) (g.W.Write.contents l.fn.writer) (g.W.Write.contents l.writer) l.progress.held.items l.progress.number l.progress.script;
+  bound : l.progress.number ≤ 4096 * l.time;
   told : HasCounted (g.R.Input.told l.fn.reader) (g.R.Input.told l.reader) l.time;
 }
