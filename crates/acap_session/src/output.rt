@@ -1,7 +1,6 @@
 //! Writing octets, so that of a fault it is known what was written before it.
 
-ghost use Rattle.std.specs.Prelude.{◌≡◌, ◌<◌, ◌≤◌, length, take, IfOk, OnOk, OnErr};
-ghost use Rattle.std.specs.Io.KnownBytes.{Keeps};
+ghost use Rattle.std.specs.Prelude.{◌≤◌, length, take, IfOk, OnOk, OnErr};
 ghost use Rattle.acap_session.specs.Streams.{Sends, SendsFront};
 
 use std::io::{ErrorKind, Write};

@@ -9,7 +9,7 @@ ghost use Rattle.acap_session.specs.declared.standing.Standing.TheVariants as st
 use crate::occasion::Occasion;
 use crate::script::Script;
 use crate::script_acting::do_at;
-use crate::script_output::shown;
+use crate::script_output::show;
 use crate::setup::Setup;
 use crate::standing::Standing;
 use crate::world::World;
@@ -113,7 +113,7 @@ fn speak_at<L: Ledger>(
 {
     do_at(world, at, line, steps)?;
     let said = world.take_output(at.seat);
-    let out = shown(alloc, at.seat, said.as_slice())?;
+    let out = show(alloc, at.seat, said.as_slice())?;
     Ok(out)
 }
 

@@ -1,6 +1,6 @@
 //! What a script writes of what a session says.
 
-ghost use Rattle.std.specs.Prelude.{◌≡◌, ◌++◌, [], IfOk, OnOk, length, ◌<◌};
+ghost use Rattle.std.specs.Prelude.{◌≡◌, ◌++◌, IfOk, OnOk, length, ◌<◌};
 ghost use Rattle.acap_session.specs.ScriptOutput.{part_line, IsFirstPart, Shows};
 
 use acap_entries::{Memory, Seat};
@@ -35,7 +35,7 @@ fn append_part(seat: Seat, part: &[u8], out: &mut Vec<u8>) -> Result<(), Memory>
 }
 
 /// What is written of what the session of a seat says.
-pub(crate) fn shown(alloc: Global, seat: Seat, said: &[u8]) -> Result<Vec<u8>, Memory>
+pub(crate) fn show(alloc: Global, seat: Seat, said: &[u8]) -> Result<Vec<u8>, Memory>
     ensures { IfOk result (λ out. Shows seat said.now out.items) }
 {
     let mut out = Vec::new(alloc);

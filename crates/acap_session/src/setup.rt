@@ -1,6 +1,6 @@
 //! What a script sets for its world.
 
-ghost use Rattle.std.specs.Prelude.{◌≡◌, ◌++◌, ◌∷◌, [], OnOk};
+ghost use Rattle.std.specs.Prelude.{◌≡◌, [], OnOk};
 ghost use Rattle.acap_session.specs.Script.{realm_of, with_administrator, with_host, with_member, with_user};
 ghost use Rattle.acap_session.specs.World.{new_world};
 

@@ -29,7 +29,7 @@ pub(crate) fn leave<L: Ledger>(
 }
 
 // What a turn came to.
-fn came(heard: &Heard) -> Turn
+fn turn_from(heard: &Heard) -> Turn
     ensures { result ≡ turn_from heard.now }
 {
     match heard {
@@ -51,7 +51,7 @@ fn finish<L: Ledger>(
     ensures turn { result ≡ turn_from heard.now }
     ensures machine { state.new.machine ≡ left_at heard.now has_seat occasion state.old.machine }
 {
-    let turn = came(heard);
+    let turn = turn_from(heard);
     if turn == Turn::Closed {
         leave(state, occasion, has_seat, steps);
     }

@@ -1,11 +1,9 @@
 //! One machine, and the sessions of its seats.
 
-ghost use Rattle.std.specs.Prelude.{◌≡◌, ◌↔◌, ◌<◌, [], length, true, is_some, pos, Some, None, Err, Ok};
-ghost use Rattle.std.specs.Prelude.{IfOk, IfErr, OnOk, OnErr, IsSome, IsNone};
+ghost use Rattle.std.specs.Prelude.{◌≡◌, is_some};
 ghost use Rattle.acap_session.specs.Places.{place_at};
 ghost use Rattle.acap_session.specs.World.{Drains, Feeds, Leaves, Opens, Turns, new_world, open_at};
 ghost use Rattle.acap_session.specs.World.{output_taken, said_before};
-ghost use Rattle.acap_session.specs.declared.world_fault.WorldFault.TheVariants as faults;
 
 use crate::occasion::Occasion;
 use crate::place::{Place, begin, reach};
