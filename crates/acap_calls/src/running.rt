@@ -1,14 +1,15 @@
 //! A call of the program, from its words to its status.
 
 ghost use Rattle.std.specs.Prelude.{IfOk};
-ghost use Rattle.acap_calls.specs.Calls.{Calls, DoesPipe, DoesScript, DoesServe, words_of};
+ghost use Rattle.acap_calls.specs.Calls.{Calls, DoesServe, Ends, fault_in, words_of};
+ghost use Rattle.acap_calls.specs.Faults.{of_pipe, of_script};
 
 use crate::call::Call;
 use crate::calls::read_call;
 use crate::fault::Fault;
 use crate::faults::{refuse, tell};
-use acap_entries::{Steps, UserName};
-use acap_session::{run_pipe, run_script};
+use acap_entries::Steps;
+use acap_session::{PipeFault, ScriptFault, run_pipe, run_script};
 use std::alloc::Global;
 use std::io::{self, ErrorKind, Read, Write};
 use std::sync::ledger::Ledger;
@@ -16,34 +17,21 @@ use std::sync::ledger::Ledger;
 /// The status of a normal end.
 const DONE: u8 = 0;
 
-// One session of a user.
-fn pipe<R: Read, W: Write, E: Write, L: Ledger>(
-    alloc: Global,
-    user: UserName,
-    reader: &mut R,
-    writer: &mut W,
-    errors: &mut E,
-    steps: &mut Steps<L>,
-) -> io::Result<u8>
-    ensures { IfOk result (λ status. DoesPipe user (R.remaining reader.old) (R.remaining reader.new) (W.contents writer.old) (W.contents writer.new) (E.contents errors.old) (E.contents errors.new) status) }
+// How a session of a user ended.
+fn end_pipe<E: Write>(done: Result<(), PipeFault>, errors: &mut E) -> io::Result<u8>
+    ensures { IfOk result (Ends (fault_in of_pipe done) (E.contents errors.old) (E.contents errors.new)) }
 {
-    match run_pipe(alloc, reader, writer, user, steps) {
+    match done {
         Ok(()) => Ok(DONE),
         Err(fault) => tell(Fault::from(fault), errors),
     }
 }
 
-// A script.
-fn script<R: Read, W: Write, E: Write, L: Ledger>(
-    alloc: Global,
-    reader: &mut R,
-    writer: &mut W,
-    errors: &mut E,
-    steps: &mut Steps<L>,
-) -> io::Result<u8>
-    ensures { IfOk result (λ status. DoesScript (R.remaining reader.old) (R.remaining reader.new) (W.contents writer.old) (W.contents writer.new) (E.contents errors.old) (E.contents errors.new) status) }
+// How a script ended.
+fn end_script<E: Write>(done: Result<(), ScriptFault>, errors: &mut E) -> io::Result<u8>
+    ensures { IfOk result (Ends (fault_in of_script done) (E.contents errors.old) (E.contents errors.new)) }
 {
-    match run_script(alloc, reader, writer, steps) {
+    match done {
         Ok(()) => Ok(DONE),
         Err(fault) => tell(Fault::from(fault), errors),
     }
@@ -54,7 +42,7 @@ fn serve<V, E: Write>(serve: V, file: String, errors: &mut E) -> io::Result<u8>
 where
     V: FnOnce(String) -> Result<(), Fault>,
     requires { V.pre serve file }
-    ensures { IfOk result (λ status. DoesServe (V.post serve) file (E.contents errors.old) (E.contents errors.new) status) }
+    ensures { IfOk result (DoesServe (V.post serve) file (E.contents errors.old) (E.contents errors.new)) }
 {
     match serve(file) {
         Ok(()) => Ok(DONE),
@@ -82,8 +70,8 @@ where
     match read_call(alloc, words) {
         Call::Nothing => refuse(errors),
         Call::Refused(fault) => tell(fault, errors),
-        Call::Pipe(user) => pipe(alloc, user, reader, writer, errors, steps),
-        Call::Script => script(alloc, reader, writer, errors, steps),
+        Call::Pipe(user) => end_pipe(run_pipe(alloc, reader, writer, user, steps), errors),
+        Call::Script => end_script(run_script(alloc, reader, writer, steps), errors),
         Call::Serve(file) => serve(server, file, errors),
     }
 }
