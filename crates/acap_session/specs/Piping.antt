@@ -121,8 +121,8 @@ Pipes user input left old new (Err faults.Write) = HasStarted user input left ol
 Pipes user input left old new (Err faults.Memory) = HasStarted user input left old new
 
 -- of a reader and a writer, as they were and as they are left
-abbrev pub PipesBetween : {R W : Type 0} → List ℕ → (R → Option (List ℕ)) → R → R → (W → Option (List ℕ)) → W → W → Result (Unit {0}) PipeFault → Type 0
-PipesBetween user remaining unread left contents old new = Pipes user (remaining unread) (remaining left) (contents old) (contents new)
+abbrev pub PipesFrom : {R W : Type 0} → List ℕ → (R → Option (List ℕ)) → R → R → (W → Option (List ℕ)) → W → W → Result (Unit {0}) PipeFault → Type 0
+PipesFrom user remaining unread left contents old new = Pipes user (remaining unread) (remaining left) (contents old) (contents new)
 
 -- It answers that the reader failed only where it did, or where reads came to their bound, and where it did it answers
 -- nothing else.
@@ -248,4 +248,4 @@ Answers users piece contents w0 w old new (Err fault) = HasPartlyAnswered users 
 -- what is written for a user's session, from its first turn on
 abbrev pub Serves : {R W : Type 0} → (R → Option (List ℕ)) → R → R → (W → Option (List ℕ)) → W → W → PipeState → Result (Unit {0}) PipeFault → Type 0
 Serves remaining unread left contents old new pipe result =
-    (user : List ℕ) → scene_of pipe ≡ begins user → PipesBetween user remaining unread left contents old new result
+    (user : List ℕ) → scene_of pipe ≡ begins user → PipesFrom user remaining unread left contents old new result

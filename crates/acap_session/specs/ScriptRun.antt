@@ -116,8 +116,8 @@ Runs unread left old new (Err faults.Write) = HasBegun unread left old new
 Runs unread left old new (Err faults.Memory) = HasBegun unread left old new
 
 -- of a reader and a writer, as they were and as they are left
-abbrev pub RunsBetween : {R W : Type 0} → (R → Option (List ℕ)) → R → R → (W → Option (List ℕ)) → W → W → Result (Unit {0}) ScriptFault → Type 0
-RunsBetween remaining unread left contents old new = Runs (remaining unread) (remaining left) (contents old) (contents new)
+abbrev pub RunsFrom : {R W : Type 0} → (R → Option (List ℕ)) → R → R → (W → Option (List ℕ)) → W → W → Result (Unit {0}) ScriptFault → Type 0
+RunsFrom remaining unread left contents old new = Runs (remaining unread) (remaining left) (contents old) (contents new)
 
 -- It answers that the reader failed only where it did, or where reads came to their bound, and where it did it answers
 -- nothing else.

@@ -4,7 +4,7 @@ ghost use Rattle.std.specs.Prelude.{◌≡◌, [], IfErr, IfOk, OnErr, OnOk};
 ghost use Rattle.acap_session.specs.Piping as piping;
 ghost use Rattle.acap_session.specs.Piping.{Answers, Goes, HasRoom, HasTurned, IsBegun, IsLater};
 ghost use Rattle.acap_session.specs.Piping.{IsUnderWay, PipeReads};
-ghost use Rattle.acap_session.specs.Piping.{PipesBetween, Serves, Settles, Takes, begins, scene_of};
+ghost use Rattle.acap_session.specs.Piping.{PipesFrom, Serves, Settles, Takes, begins, scene_of};
 ghost use Rattle.acap_session.specs.Streams.{Sends, SendsFront};
 ghost use Rattle.acap_session.specs.declared.pipe_fault.PipeFault.TheVariants as faults;
 
@@ -226,7 +226,7 @@ pub fn run_pipe_from<R: Input, W: Write, L: Ledger>(
     user: UserName,
     steps: &mut Steps<L>,
 ) -> Result<(), PipeFault>
-    ensures pipes { PipesBetween user R.remaining reader.old reader.new W.contents writer.old writer.new result }
+    ensures pipes { PipesFrom user R.remaining reader.old reader.new W.contents writer.old writer.new result }
     ensures reads { PipeReads (R.told reader.old) (R.told reader.new) result }
 {
     let users = Users::new(Vec::new(alloc));
@@ -242,7 +242,7 @@ pub fn run_pipe<R: Read, W: Write, L: Ledger>(
     user: UserName,
     steps: &mut Steps<L>,
 ) -> Result<(), PipeFault>
-    ensures { PipesBetween user R.remaining reader.old reader.new W.contents writer.old writer.new result }
+    ensures { PipesFrom user R.remaining reader.old reader.new W.contents writer.old writer.new result }
 {
     run_pipe_from(alloc, reader, writer, user, steps)
 }

@@ -1,7 +1,8 @@
 //! What a line of a script does, and what it says.
 
 ghost use Rattle.std.specs.Prelude.{◌≡◌, true, Err, IfOk};
-ghost use Rattle.acap_session.specs.Script.{Does, Done, IsDone, MaySay, MaySet, MaySpeak, begins, fits, is_wrong};
+ghost use Rattle.acap_session.specs.Script.{Does, Done, IsDone, MaySay, MaySet, MaySpeak};
+ghost use Rattle.acap_session.specs.Script.{begins, fits, is_wrong};
 ghost use Rattle.acap_session.specs.Script.{with_administrator, with_host, with_member, with_user, world_of};
 ghost use Rattle.acap_script.specs.declared.line_fault.LineFault.TheVariants as faults;
 ghost use Rattle.acap_session.specs.declared.standing.Standing.TheVariants as standings;

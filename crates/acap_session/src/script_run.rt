@@ -2,7 +2,7 @@
 
 ghost use Rattle.std.specs.Prelude.{◌≡◌, ◌+◌, ◌^◌, ◌<◌, ◌≤◌, length, IfErr, IfNone, IfOk, IfSome, OnErr};
 ghost use Rattle.std.specs.Prelude.{OnOk};
-ghost use Rattle.acap_session.specs.ScriptRun.{EndsAt, IsLine, IsUnread, RunsBetween, RunsLastTo};
+ghost use Rattle.acap_session.specs.ScriptRun.{EndsAt, IsLine, IsUnread, RunsFrom, RunsLastTo};
 ghost use Rattle.acap_session.specs.ScriptRun.{RunsLineTo, RunsPiece};
 ghost use Rattle.acap_session.specs.ScriptRun.{ScriptReads};
 ghost use Rattle.acap_session.specs.Streams.{Sends, SendsFront};
@@ -142,7 +142,7 @@ fn run_all<R: Input, W: Write, L: Ledger>(
     steps: &mut Steps<L>,
 ) -> Result<(), ScriptFault>
     requires { IsUnread progress.old }
-    ensures runs { RunsBetween R.remaining reader.old reader.new W.contents writer.old writer.new result }
+    ensures runs { RunsFrom R.remaining reader.old reader.new W.contents writer.old writer.new result }
     ensures reads { ScriptReads (R.told reader.old) (R.told reader.new) result }
 {
     let mut buffer = [0u8; 4096];
@@ -176,7 +176,7 @@ pub fn run_script_from<R: Input, W: Write, L: Ledger>(
     writer: &mut W,
     steps: &mut Steps<L>,
 ) -> Result<(), ScriptFault>
-    ensures runs { RunsBetween R.remaining reader.old reader.new W.contents writer.old writer.new result }
+    ensures runs { RunsFrom R.remaining reader.old reader.new W.contents writer.old writer.new result }
     ensures reads { ScriptReads (R.told reader.old) (R.told reader.new) result }
 {
     let mut progress = begin_reading(alloc)?;
@@ -190,7 +190,7 @@ pub fn run_script<R: Read, W: Write, L: Ledger>(
     writer: &mut W,
     steps: &mut Steps<L>,
 ) -> Result<(), ScriptFault>
-    ensures { RunsBetween R.remaining reader.old reader.new W.contents writer.old writer.new result }
+    ensures { RunsFrom R.remaining reader.old reader.new W.contents writer.old writer.new result }
 {
     run_script_from(alloc, reader, writer, steps)
 }
