@@ -1,13 +1,13 @@
 -- What is gathered, step by step.
-use Rattle.std.proofs.Common.{◌≡◌, ℕ, Bool, true, false, Option, List, [], ◌++◌, sym, ◌∙◌, ap, append-nil, append_assoc, flat_map, length, take, map as each}
+use Rattle.std.proofs.Common.{◌≡◌, ℕ, Bool, true, false, Option, None, Some, List, [], ◌∷◌, ◌++◌, sym, ◌∙◌, ap, append-nil, append_assoc, flat_map, length, take, map as each}
 use Rattle.std.proofs.lemmas.List.{length-map, map-append, take-map}
-use Rattle.std.specs.List.{filter_map}
+use Rattle.std.specs.List.{cons_option, filter_map}
 use Rattle.acap_entries.specs.declared.path.Path.{Path}
 use Rattle.acap_entries.specs.declared.record.Record.{Record}
 use Rattle.acap_entries.specs.declared.row.Row.{Row}
 use Rattle.acap_commands.specs.declared.limit.Limit.{Limit}
 use Rattle.acap_search.specs.Cutting.{cut_of}
-use Rattle.acap_search.specs.Gathering.{none_yet, gathered, put_in_order, told_in, IsGathered}
+use Rattle.acap_search.specs.Gathering.{none_yet, gathered, with_one, put_in_order, told_in, IsGathered}
 use Rattle.acap_search.specs.Matches.{Match, match_lt, sorted_by}
 use Rattle.acap_search.specs.declared.cutting.Cut.{Cut}
 use Rattle.acap_search.specs.declared.gathered.Gathered.{Gathered}
@@ -22,6 +22,15 @@ pub gathered_twice : (g : Gathered) (a b : List Match) → gathered (gathered g 
 gathered_twice (Findings found) a b = ap Findings (append_assoc found a b)
 gathered_twice (Rows rows) a b =
     ap Rows (append_assoc rows (each (λ m. m.row) a) (each (λ m. m.row) b) ∙ ap (λ more. rows ++ more) (sym (map-append (λ m. m.row) a b)))
+
+found : (one : Option Match) (g : Gathered) (more : List Match) → gathered (with_one g one) more ≡ gathered g (cons_option one more)
+found None g more = ap (λ g. gathered g more) (gathered_none g)
+found (Some one) g more = gathered_twice g (one ∷ []) more
+
+-- what is found of the next, and then of all behind it
+pub gathered_next : {X : Type 0} (f : X → Option Match) (g : Gathered) (x : X) (xs : List X)
+    → gathered (with_one g (f x)) (filter_map f xs) ≡ gathered g (filter_map f (x ∷ xs))
+gathered_next f g x xs = found (f x) g (filter_map f xs)
 
 -- all has been walked through
 pub walked : {X : Type 0} (f : X → List Match) (found before : Gathered) (left all : List X) → left ≡ []

@@ -1,5 +1,6 @@
 -- What a walk gathers: words of private contracts.
-use Rattle.std.specs.Prelude.{◌≡◌, Bool, true, false, List, [], ◌++◌, map as each}
+use Rattle.std.specs.Prelude.{◌≡◌, Bool, true, false, List, [], ◌++◌, Option, map as each}
+use Rattle.std.specs.List.{cons_option}
 use Rattle.acap_entries.specs.declared.row.Row.{Row}
 use Rattle.acap_search.specs.Matches.{Match, match_lt, sorted_by}
 use Rattle.acap_search.specs.declared.gathered.Gathered.{Gathered}
@@ -14,6 +15,10 @@ none_yet false = Findings []
 abbrev pub gathered : Gathered → List Match → Gathered
 gathered (Findings found) more = Findings (found ++ more)
 gathered (Rows rows) more = Rows (rows ++ each (λ found. found.row) more)
+
+-- with one match more, if there is one
+abbrev pub with_one : Gathered → Option Match → Gathered
+with_one found one = gathered found (cons_option one [])
 
 -- put in order
 abbrev pub put_in_order : Gathered → Gathered

@@ -1,9 +1,18 @@
--- Where what is found lies: words of private contracts.
+-- Where what is found lies and stands: words of private contracts.
+use Rattle.std.specs.Prelude.{List, [], ◌∷◌}
 use Rattle.acap_entries.specs.declared.path.Path.{Path}
+use Rattle.acap_search.specs.declared.footing.Footing.{Footing}
+use Rattle.acap_search.specs.declared.footing.Footing.TheVariants.{Only, Each}
 use Rattle.acap_search.specs.declared.lying.Lying.{Lying}
 use Rattle.acap_search.specs.declared.lying.Lying.TheVariants.{Kept, Made}
+use Rattle.acap_search.specs.declared.rank.Place.{Place}
 
 -- at this path
 abbrev pub path_in : Lying → Path
 path_in (Kept path) = path.now
 path_in (Made path) = path
+
+-- at these places
+abbrev pub places_on : Footing → List Place
+places_on (Only place) = place ∷ []
+places_on (Each places) = places

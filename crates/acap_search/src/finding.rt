@@ -1,9 +1,9 @@
 //! What is found in a walk.
 ghost use Rattle.std.specs.Prelude.{◌≡◌, IfOk};
 
+use crate::footing::Footing;
 use crate::hit::Hit;
 use crate::lying::Lying;
-use crate::rank::Places;
 use acap_entries::{Memory, Row};
 use std::alloc::Global;
 use std::marker::Model;
@@ -14,29 +14,34 @@ pub(crate) struct Finding<'a> {
     /// Where it is.
     pub(crate) lying: Lying<'a>,
     /// Where it stands for SORT.
-    pub(crate) places: Places,
+    pub(crate) footing: Footing,
     /// What is told of it.
     pub(crate) row: Row,
 }
 
 impl<'a> Model for Finding<'a> {
-    ghost use Rattle.acap_search.specs.Lying.{path_in};
+    ghost use Rattle.acap_search.specs.Lying.{path_in, places_on};
     ghost use Rattle.acap_search.specs.Matches.{Match, match_code};
 
     ghost Value = { Match };
 
     ghost coded = { match_code };
 
-    ghost view = { λ f. record { path = path_in f.lying; places = f.places; row = f.row } };
+    ghost view = { λ f. record { path = path_in f.lying; places = places_on f.footing; row = f.row } };
 }
 
 impl<'a> Finding<'a> {
     /// As a hit. Fails only for want of memory.
-    pub(crate) fn into_hit(self) -> Result<Hit, Memory>
+    pub(crate) fn into_hit(self, alloc: Global) -> Result<Hit, Memory>
         ensures { IfOk result (λ hit. hit ≡ self.entry) }
     {
-        let Finding { lying, places, row } = self;
+        let Finding {
+            lying,
+            footing,
+            row,
+        } = self;
         let path = lying.into_path()?;
+        let places = footing.into_places(alloc)?;
         Ok(Hit { path, places, row })
     }
 
@@ -54,7 +59,7 @@ pub(crate) fn hits_of(alloc: Global, found: Vec<Finding<'_>>) -> Result<Vec<Hit>
 {
     let mut hits = Vec::with_capacity(alloc, found.len())?;
     for finding in found {
-        hits.push(finding.into_hit()?)?;
+        hits.push(finding.into_hit(alloc)?)?;
     }
     Ok(hits)
 }

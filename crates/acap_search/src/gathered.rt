@@ -1,12 +1,17 @@
 //! What a walk gathers.
-ghost use Rattle.std.specs.Prelude.{◌≡◌, ◌∷◌, [], IfOk, OnOk, length, take, map as each};
+ghost use Rattle.std.specs.Prelude.{◌≡◌, ◌+◌, None, IfOk, IfSome, OnOk, length, take, map as each};
 ghost use Rattle.acap_search.specs.Gathering as rule;
+ghost use Rattle.acap_search.specs.Views.{found_at, path_of};
 
 use crate::finding::Finding;
 use crate::ordering::sort_found;
+use crate::query::Sought;
+use crate::spot::Spot;
+use crate::tuples::{finding_at, told_at};
 use acap_commands::Rows;
-use acap_entries::{Memory, Row, Sequence};
+use acap_entries::{Memory, Path, Records, Row, Sequence, Steps};
 use std::alloc::Global;
+use std::sync::ledger::Ledger;
 
 /// What is gathered of what is found.
 #[derive(Drop)]
@@ -29,14 +34,34 @@ impl<'a> Gathered<'a> {
         }
     }
 
-    /// One more. Fails only for want of memory.
-    pub(crate) fn add(&mut self, finding: Finding<'a>) -> Result<(), Memory>
-        ensures { OnOk result (self.new ≡ rule.gathered self.old (finding.entry ∷ [])) }
+    /// One more, where something is found: one step. The path is that of the entry's record, where it is at hand. Fails only for want
+    /// of memory.
+    pub(crate) fn add_at<R: Records, L: Ledger>(
+        &mut self,
+        alloc: Global,
+        spot: &Spot<'_, R>,
+        path: Option<&'a Path>,
+        sought: &Sought,
+        steps: &mut Steps<L>,
+    ) -> Result<(), Memory>
+        requires { IfSome path (λ path. path.now ≡ path_of spot.now) }
+        ensures count { steps.new ≡ steps.old + 1 }
+        ensures found { OnOk result
+            (self.new ≡ rule.with_one self.old (found_at sought.now None spot.now)) }
     {
         match self {
-            Gathered::Findings(findings) => findings.push(finding),
-            Gathered::Rows(rows) => rows.push(finding.into_row()),
+            Gathered::Findings(findings) => {
+                if let Some(finding) = finding_at(alloc, spot, path, sought, None, steps)? {
+                    findings.push(finding)?;
+                }
+            }
+            Gathered::Rows(rows) => {
+                if let Some(row) = told_at(alloc, spot, sought, steps)? {
+                    rows.push(row)?;
+                }
+            }
         }
+        Ok(())
     }
 
     /// How many there are.

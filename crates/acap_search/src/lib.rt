@@ -6,6 +6,7 @@ mod context;
 mod context_laws;
 mod cutting;
 mod finding;
+mod footing;
 mod front;
 mod gathered;
 mod ground;

@@ -73,7 +73,7 @@ pub(crate) fn places_order(a: &[Place], b: &[Place]) -> Ordering
 fn order(a: &Finding<'_>, b: &Finding<'_>) -> Ordering
     ensures { result ≡ found.match_cmp a.now b.now }
 {
-    match places_order(a.places.as_slice(), b.places.as_slice()) {
+    match places_order(a.footing.as_slice(), b.footing.as_slice()) {
         Ordering::Equal => a.lying.path().cmp_full(b.lying.path()),
         unequal => unequal,
     }

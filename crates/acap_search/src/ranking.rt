@@ -1,13 +1,15 @@
 //! What strings are compared by, made once for an entry.
-ghost use Rattle.std.specs.Prelude.{◌≡◌, IfOk, OnOk, map};
+ghost use Rattle.std.specs.Prelude.{◌≡◌, ◌∷◌, [], IfOk, OnOk, map};
 ghost use Rattle.std.specs.Char.{is_ascii_digit};
 ghost use Rattle.std.specs.List.{take_while};
 ghost use Rattle.acap_order.specs.Digits.{significant_digits};
 ghost use Rattle.acap_order.specs.Ranks.{upper_case};
+ghost use Rattle.acap_search.specs.Lying.{places_on};
 ghost use Rattle.acap_search.specs.Places as rule;
 ghost use Rattle.acap_search.specs.Shown as shown;
 ghost use Rattle.acap_search.specs.Views.{places_at};
 
+use crate::footing::Footing;
 use crate::looking::read;
 use crate::rank::{Place, Places, Rank};
 use crate::spot::Spot;
@@ -100,6 +102,14 @@ fn place_of(
     Ok(placed(comparator.direction, rank))
 }
 
+// Where an entry stands for an item of SORT.
+fn place_at<R: Records>(alloc: Global, spot: &Spot<'_, R>, item: &SortItem) -> Result<Place, Memory>
+    ensures { IfOk result (λ place. place ∷ [] ≡ places_at spot.now (item.now ∷ [])) }
+{
+    let seen = read(spot, item.attribute.as_slice());
+    place_of(alloc, &item.comparator, seen)
+}
+
 /// Where an entry stands for each item of SORT. Fails only for want of memory.
 pub(crate) fn places_of<R: Records>(
     alloc: Global,
@@ -110,8 +120,21 @@ pub(crate) fn places_of<R: Records>(
 {
     let mut places = Vec::with_capacity(alloc, sort.len())?;
     for item in sort {
-        let seen = read(spot, item.attribute.as_slice());
-        places.push(place_of(alloc, &item.comparator, seen)?)?;
+        places.push(place_at(alloc, spot, item)?)?;
     }
     Ok(Places::from_vec(places))
+}
+
+/// As `places_of`, and for an only item in no memory of its own.
+pub(crate) fn footing_of<R: Records>(
+    alloc: Global,
+    spot: &Spot<'_, R>,
+    sort: &[SortItem],
+) -> Result<Footing, Memory>
+    ensures { IfOk result (λ footing. places_on footing ≡ places_at spot.now sort.now) }
+{
+    match sort {
+        [item] => Ok(Footing::Only(place_at(alloc, spot, item)?)),
+        _ => Ok(Footing::Each(places_of(alloc, spot, sort)?)),
+    }
 }

@@ -1,12 +1,13 @@
 //! Searches over datasets.
-ghost use Rattle.std.specs.Prelude.{◌≡◌, IfOk, IsTrue, None, OnOk};
+ghost use Rattle.std.specs.Prelude.{◌≡◌, ◌+◌, IfOk, IsTrue, None, OnOk};
 ghost use Rattle.std.specs.List.{filter};
 ghost use Rattle.std.specs.FinMap as map;
 ghost use Rattle.acap_search.specs.Counting.{IsCounted, paths_count};
 ghost use Rattle.acap_search.specs.Fresh as rule;
 ghost use Rattle.acap_search.specs.Fresh.{IsAnswer, matches_of};
-ghost use Rattle.acap_search.specs.Gathering.{IsGathered, gathered, none_yet};
+ghost use Rattle.acap_search.specs.Gathering.{IsGathered, gathered, none_yet, with_one};
 ghost use Rattle.acap_search.specs.Near as near;
+ghost use Rattle.acap_search.specs.Views.{found_at, spotted};
 ghost use Rattle.acap_search.specs.Walks as walks;
 
 use crate::finding::hits_of;
@@ -21,10 +22,9 @@ use crate::reaching::reached_by;
 use crate::refusal::SearchRefusal;
 use crate::search::Search;
 use crate::spot::Spot;
-use crate::tuples::finding_at;
 use crate::viewer::Viewer;
 use acap_commands::{Key, Node, Test};
-use acap_entries::{Dataset, Listing, Memory, Records, Steps, Tree, UserName};
+use acap_entries::{Dataset, EntryName, Listing, Memory, Records, Steps, Tree, UserName};
 use acap_inherit::{Lineage, chain, names_law, names_on};
 use acap_rights::{Realm, SharedRights, shared_rights};
 use std::alloc::Global;
@@ -54,7 +54,7 @@ pub(crate) fn is_over(most: Option<u32>, count: usize) -> bool
 }
 
 // Adds what is found among the records of a dataset that inherits nothing.
-#[tactic(auto, using(crate::proofs::GatheredLemmas::gathered_twice))]
+#[tactic(auto, using(crate::proofs::GatheredLemmas::gathered_next))]
 fn add_own<'a: 'b, 'b, L: Ledger>(
     alloc: Global,
     by: &'b Viewer<'b, Tree>,
@@ -75,9 +75,7 @@ fn add_own<'a: 'b, 'b, L: Ledger>(
             name: &path.name,
             kept: Some(Kept { entry, shared }),
         };
-        if let Some(finding) = finding_at(alloc, &spot, Some(path), sought, None, steps)? {
-            found.add(finding)?;
-        }
+        found.add_at(alloc, &spot, Some(path), sought, steps)?;
     }
     Ok(())
 }
@@ -90,8 +88,28 @@ pub(crate) fn base_of<'a>(chain: &Lineage<'a>) -> &'a [u8] {
     }
 }
 
+// Adds what is found at a name along a chain, with its records at hand.
+fn add_near<'a, L: Ledger>(
+    alloc: Global,
+    by: &Viewer<'_, Tree>,
+    near: &Near<'_, Tree>,
+    name: &EntryName,
+    sought: &Sought,
+    found: &mut Gathered<'a>,
+    steps: &mut Steps<L>,
+) -> Result<(), Memory>
+    requires { near.now.records ≡ by.now.records }
+    ensures count { steps.new ≡ steps.old + 1 }
+    ensures found { OnOk result
+        (found.new ≡ with_one found.old (found_at sought.now None (spotted by.now name.now))) }
+{
+    let nearer = by.over(near);
+    let spot = Spot::far(&nearer, name);
+    found.add_at(alloc, &spot, None, sought, steps)
+}
+
 // Adds what is found at all names along a chain.
-#[tactic(auto, using(crate::proofs::GatheredLemmas::gathered_none, crate::proofs::GatheredLemmas::gathered_twice))]
+#[tactic(auto, using(crate::proofs::GatheredLemmas::gathered_none, crate::proofs::GatheredLemmas::gathered_next))]
 fn add_far<'a, L: Ledger>(
     alloc: Global,
     by: &Viewer<'_, Tree>,
@@ -106,17 +124,7 @@ fn add_far<'a, L: Ledger>(
     let base = Front::of(by.records, base_of(&by.chain));
     for name in names_on(by.records, &by.chain) {
         let near = Near::new(by.records, own, base, name.as_slice());
-        let nearer = Viewer {
-            records: &near,
-            realm: by.realm,
-            user: by.user,
-            dataset: by.dataset,
-            chain: by.chain.again(),
-        };
-        let spot = Spot::far(&nearer, name);
-        if let Some(finding) = finding_at(alloc, &spot, None, sought, None, steps)? {
-            found.add(finding)?;
-        }
+        add_near(alloc, by, &near, name, sought, found, steps)?;
     }
     Ok(())
 }

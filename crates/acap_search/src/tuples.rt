@@ -1,11 +1,13 @@
 //! What a search makes of an entry.
-ghost use Rattle.std.specs.Prelude.{◌≡◌, ◌+◌, ◌&&◌, IfOk, IfSome};
+ghost use Rattle.std.specs.Prelude.{◌≡◌, ◌+◌, ◌&&◌, None, IfOk, IfSome};
+ghost use Rattle.std.specs.Option.{option_map};
 ghost use Rattle.acap_search.specs.Keys.{holds};
-ghost use Rattle.acap_search.specs.Lying.{path_in};
+ghost use Rattle.acap_search.specs.Lying.{path_in, places_on};
 ghost use Rattle.acap_search.specs.Sight.{is_seen};
 ghost use Rattle.acap_search.specs.Views.{answers_of, found_at, match_at, path_of, spotted};
 
 use crate::finding::Finding;
+use crate::footing::Footing;
 use crate::hit::Hit;
 use crate::looking::sees;
 use crate::lying::Lying;
@@ -13,7 +15,7 @@ use crate::matching::wants;
 use crate::near::near_by;
 use crate::query::Sought;
 use crate::rank::Places;
-use crate::ranking::places_of;
+use crate::ranking::{footing_of, places_of};
 use crate::rows::items_of;
 use crate::spot::Spot;
 use crate::viewer::Viewer;
@@ -56,6 +58,20 @@ pub(crate) fn places_by<R: Records>(
     }
 }
 
+// The same for what is found.
+fn footing_by<R: Records>(
+    alloc: Global,
+    spot: &Spot<'_, R>,
+    sought: &Sought,
+) -> Result<Footing, Memory>
+    ensures { IfOk result (λ footing. places_on footing ≡ (match_at sought.now spot.now).places) }
+{
+    match &sought.sort {
+        Some(sort) => footing_of(alloc, spot, sort.as_slice()),
+        None => Ok(Footing::Each(Places::new(alloc))),
+    }
+}
+
 // What a RETURN tells of an entry.
 fn items_by<R: Records>(alloc: Global, spot: &Spot<'_, R>, sought: &Sought) -> Result<Items, Memory>
     ensures { IfOk result (λ items. items ≡ (match_at sought.now spot.now).row.items) }
@@ -84,11 +100,45 @@ fn lying_at<'p, R: Records>(
     Ok(Lying::Made(Boxed::new(alloc, Path { dataset, name })?))
 }
 
-// Whether the user sees an entry and the key wants it.
-fn is_found<R: Records>(spot: &Spot<'_, R>, sought: &Sought, place: Option<u32>) -> bool
-    ensures { result ≡ (is_seen (answers_of spot.now) && holds sought.now.key place (answers_of spot.now)) }
+// Whether the user sees an entry and the key wants it: one step, whatever comes of it.
+fn is_found<R: Records, L: Ledger>(
+    spot: &Spot<'_, R>,
+    sought: &Sought,
+    place: Option<u32>,
+    steps: &mut Steps<L>,
+) -> bool
+    ensures count { steps.new ≡ steps.old + 1 }
+    ensures found { result
+        ≡ (is_seen (answers_of spot.now) && holds sought.now.key place (answers_of spot.now)) }
 {
+    steps.tick();
     sees(spot) && wants(spot, &sought.key, place)
+}
+
+// What is told of an entry.
+fn row_told<R: Records>(alloc: Global, spot: &Spot<'_, R>, sought: &Sought) -> Result<Row, Memory>
+    ensures { IfOk result (λ row. row ≡ (match_at sought.now spot.now).row) }
+{
+    let name = name_told(alloc, spot, sought)?;
+    let items = items_by(alloc, spot, sought)?;
+    Ok(Row { name, items })
+}
+
+/// What is told of an entry that is looked at, where it is found: one step. Fails only for want of memory.
+pub(crate) fn told_at<R: Records, L: Ledger>(
+    alloc: Global,
+    spot: &Spot<'_, R>,
+    sought: &Sought,
+    steps: &mut Steps<L>,
+) -> Result<Option<Row>, Memory>
+    ensures count { steps.new ≡ steps.old + 1 }
+    ensures told { IfOk result
+        (λ told. told ≡ option_map (λ found. found.row) (found_at sought.now None spot.now)) }
+{
+    if !is_found(spot, sought, None, steps) {
+        return Ok(None);
+    }
+    Ok(Some(row_told(alloc, spot, sought)?))
 }
 
 /// What a search makes of an entry that is looked at: one step. The path is that of its record, where it is at hand.
@@ -104,16 +154,17 @@ pub(crate) fn finding_at<'p, R: Records, L: Ledger>(
     ensures count { steps.new ≡ steps.old + 1 }
     ensures made { IfOk result (λ found. found ≡ found_at sought.now place spot.now) }
 {
-    steps.tick();
-    if !is_found(spot, sought, place) {
+    if !is_found(spot, sought, place, steps) {
         return Ok(None);
     }
     let lying = lying_at(alloc, spot, path)?;
-    let places = places_by(alloc, spot, sought)?;
-    let name = name_told(alloc, spot, sought)?;
-    let items = items_by(alloc, spot, sought)?;
-    let row = Row { name, items };
-    Ok(Some(Finding { lying, places, row }))
+    let footing = footing_by(alloc, spot, sought)?;
+    let row = row_told(alloc, spot, sought)?;
+    Ok(Some(Finding {
+        lying,
+        footing,
+        row,
+    }))
 }
 
 /// What a search makes of an entry: none where the user doesn't see it or the key doesn't want it, else where it stands and what
@@ -134,7 +185,7 @@ pub fn row_of<'a, R: Records, L: Ledger>(
     let nearer = by.over(&near);
     let spot = Spot::far(&nearer, name);
     match finding_at(alloc, &spot, None, sought, place, steps)? {
-        Some(found) => Ok(Some(found.into_hit()?)),
+        Some(found) => Ok(Some(found.into_hit(alloc)?)),
         None => Ok(None),
     }
 }
