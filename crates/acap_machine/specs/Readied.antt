@@ -1,24 +1,27 @@
 -- An event that was made ready: what is said, and what is yet to be put in place.
-use Rattle.std.specs.Prelude.{◌≡◌, ◌<◌, ◌≤◌, ◌+◌, ℕ, true, List, length, Result, Ok, Err, refl}
+use Rattle.std.specs.Prelude.{◌≡◌, ◌<◌, ◌≤◌, ◌+◌, ℕ, ℤ, true, List, length, Result, Ok, Err, refl}
 use Rattle.std.specs.Coded.{Coded, code_by, coded×, coded_ℕ}
 use Rattle.std.specs.FinMap as table
 use Rattle.acap_entries.specs.Changes.{store_after}
 use Rattle.acap_entries.specs.Changes as tree
+use Rattle.acap_entries.specs.declared.change.Change.{Change}
 use Rattle.acap_commands.specs.contracts.reply.Reply as reply
+use Rattle.acap_commands.specs.declared.event.Event.{Event}
 use Rattle.acap_commands.specs.declared.fault.Fault.{Fault}
 use Rattle.acap_commands.specs.declared.reply.Reply.{Reply}
 use Rattle.acap_inherit.specs.Index.{settled}
+use Rattle.acap_inherit.specs.Leaving.{IsPrepared}
 use Rattle.acap_inherit.specs.declared.link.Link.{Link}
 use Rattle.acap_machine.specs.Changing.{IsKept}
 use Rattle.acap_machine.specs.Machine.{Machine, Kept, Roomed}
-use Rattle.acap_machine.specs.Stepping.{IsFault}
+use Rattle.acap_machine.specs.Stepping.{IsFault, step_of}
 use Rattle.acap_machine.specs.contracts.deed.Deed as deeds
 use Rattle.acap_machine.specs.declared.deed.Deed.{Deed}
 use Rattle.acap_machine.specs.declared.deed.Deed.TheVariants as deed
 use Rattle.acap_views.specs.Answering.{HasPlace, with_context}
 use Rattle.acap_views.specs.Followed as views
 use Rattle.acap_views.specs.Keeping.{seats_in}
-use Rattle.acap_views.specs.Preparing.{with_delta}
+use Rattle.acap_views.specs.Preparing.{IsPreparedFor, Prepared, with_delta}
 use Rattle.acap_views.specs.Seats.{contexts_at, with_contexts, entered, left}
 use Rattle.acap_views.specs.Telling.{after_updates, drained}
 
@@ -67,10 +70,14 @@ HasRoom (deed.Tells names last) seat kept = Unit {0}
 HasRoom deed.Drains seat kept = Unit {0}
 HasRoom deed.Leaves seat kept = Unit {0}
 
+-- once it is in place, what the machine keeps beside its store and seats is true of them
+abbrev pub StaysKept : Deed → ℕ → Roomed → Type 0
+StaysKept deed seat state = IsKept (performed deed seat state.machine) (links_after deed state.kept.index.0)
+
 -- the state is one for which it was made ready: there is room, and what is so of machines between two events is so afterwards
 pub record IsReadied (pending : Pending) (state : Roomed) : Type 0 where
   pub room : HasRoom pending.deed pending.seat state.kept
-  pub sound : IsKept (performed pending.deed pending.seat state.machine) (links_after pending.deed state.kept.index.0)
+  pub sound : StaysKept pending.deed pending.seat state
 
 -- it was made ready of a step: that is what the step says and leaves, and the state is one for which it is ready
 pub record IsReady (old : Roomed) (stepped : Result (Reply × Machine) Fault) (pending : Pending) (new : Roomed) : Type 0 where
@@ -81,6 +88,17 @@ pub record IsReady (old : Roomed) (stepped : Result (Reply × Machine) Fault) (p
 abbrev pub IsReadyOf : Result Pending Fault → Roomed → Result (Reply × Machine) Fault → Roomed → Type 0
 IsReadyOf (Ok pending) old stepped new = IsReady old stepped pending new
 IsReadyOf (Err fault) old stepped new = IsFault stepped fault
+
+-- the same of the step that an event is at a seat
+abbrev pub IsReadyFor : Result Pending Fault → Roomed → ℕ → Event → ℤ → Roomed → Type 0
+IsReadyFor result old seat event clock new = IsReadyOf result old (step_of old.machine seat event clock) new
+
+-- what a change makes of the index, and of the contexts of all seats
+abbrev pub IsIndexReady : Change → Roomed → List Link × List Link → Type 0
+IsIndexReady change old prepared = IsPrepared change old.machine.store old.kept.index.0 prepared
+
+abbrev pub AreViewsReady : Change → Roomed → Prepared → Type 0
+AreViewsReady change old delta = IsPreparedFor change old.machine.store old.machine.realm old.machine.seats delta
 
 -- how far a counter rose meanwhile: so far as is told, and at most so far
 abbrev pub IsWork : Result Pending Fault → ℕ → ℕ → ℕ → Type 0

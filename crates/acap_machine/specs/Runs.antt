@@ -18,11 +18,14 @@ machine_after m (Err fault) = m
 abbrev pub stepped_at : Machine → Step → Result (Reply × Machine) Fault
 stepped_at m step = step_of m step.seat step.event step.clock
 
+abbrev pub after_step : Machine → Step → Machine
+after_step m step = machine_after m (stepped_at m step)
+
 -- what all steps answer, in their order, and the machine after them
 abbrev pub run_of : Machine → List Step → List (Result Reply Fault) × Machine
 run_of m [] = ([], m)
 run_of m (step ∷ steps) =
-    let rest = run_of (machine_after m (stepped_at m step)) steps in
+    let rest = run_of (after_step m step) steps in
     (outcome_of (stepped_at m step) ∷ rest.0, rest.1)
 
 -- a run ended before one of its steps: those before it were performed, and it and those behind it were not

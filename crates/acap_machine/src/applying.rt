@@ -1,7 +1,6 @@
 //! What was made ready is put in place.
 ghost use Rattle.std.specs.Prelude.{◌≡◌};
-ghost use Rattle.acap_machine.specs.Changing.{IsKept};
-ghost use Rattle.acap_machine.specs.Readied.{IsReadied, HasRoom, performed, links_after};
+ghost use Rattle.acap_machine.specs.Readied.{IsReadied, HasRoom, StaysKept, performed};
 
 use crate::deed::Deed;
 use crate::ready::Ready;
@@ -32,7 +31,7 @@ impl State {
     // Puts something in place at a seat, in the room that there is.
     fn perform(&mut self, seat: Seat, deed: Deed)
         requires room { HasRoom deed seat self.old.kept }
-        requires sound { IsKept (performed deed seat self.old.machine) (links_after deed self.old.kept.index.0) }
+        requires sound { StaysKept deed seat self.old }
         ensures { self.new.machine ≡ performed deed seat self.old.machine }
     {
         match deed {

@@ -3,8 +3,7 @@ ghost use Rattle.std.specs.Prelude.{◌≡◌, ◌≤◌, false, true, IfOk, IfE
 ghost use Rattle.acap_commands.specs.declared.command.Command.TheVariants as commands;
 ghost use Rattle.acap_commands.specs.declared.event.Event.TheVariants as events;
 ghost use Rattle.acap_machine.specs.Machine.{user_at};
-ghost use Rattle.acap_machine.specs.Readied.{IsReadyOf, IsWork};
-ghost use Rattle.acap_machine.specs.Stepping.{step_of};
+ghost use Rattle.acap_machine.specs.Readied.{IsReadyFor, IsWork};
 ghost use Rattle.acap_machine.specs.Work.{is_search, searches, work_of};
 
 use crate::deed::Deed;
@@ -26,7 +25,7 @@ impl State {
         clock: Moment,
         steps: &mut Steps<L>,
     ) -> Result<Ready, Fault>
-        ensures answer { IsReadyOf result self.old (step_of self.old.machine seat event.now clock) self.new }
+        ensures answer { IsReadyFor result self.old seat event.now clock self.new }
         ensures same { self.new.machine ≡ self.old.machine }
         ensures last { self.new.work ≡ self.old.work }
         ensures leave { event.now ≡ events.Leave → IsSome (user_at self.old.machine seat) → IsOk result }
@@ -49,7 +48,7 @@ impl State {
         clock: Moment,
         steps: &mut Steps<L>,
     ) -> Result<Ready, Fault>
-        ensures answer { IsReadyOf result self.old (step_of self.old.machine seat event clock) self.new }
+        ensures answer { IsReadyFor result self.old seat event clock self.new }
         ensures same { self.new.machine ≡ self.old.machine }
         ensures last { self.new.work ≡ self.old.work }
         ensures leave { event ≡ events.Leave → IsSome (user_at self.old.machine seat) → IsOk result }
@@ -67,7 +66,7 @@ impl State {
 
     // A user takes a seat that is free.
     fn ready_enter(&mut self, seat: Seat, user: UserName, clock: Moment) -> Result<Ready, Fault>
-        ensures answer { IsReadyOf result self.old (step_of self.old.machine seat (events.Enter user) clock) self.new }
+        ensures answer { IsReadyFor result self.old seat (events.Enter user) clock self.new }
         ensures same { self.new.machine ≡ self.old.machine }
         ensures last { self.new.work ≡ self.old.work }
         ensures none { IfOk result (λ r. r.work ≡ 0) }
@@ -82,7 +81,7 @@ impl State {
 
     // All that waits at a seat is told.
     fn ready_drain(&self, seat: Seat, clock: Moment) -> Result<Ready, Fault>
-        ensures answer { IsReadyOf result self.now (step_of self.now.machine seat events.Drain clock) self.now }
+        ensures answer { IsReadyFor result self.now seat events.Drain clock self.now }
         ensures none { IfOk result (λ r. r.work ≡ 0) }
     {
         self.kept_law();
@@ -93,7 +92,7 @@ impl State {
 
     // The user leaves the seat. Takes no memory.
     fn ready_leave(&self, seat: Seat, clock: Moment) -> Result<Ready, Fault>
-        ensures answer { IsReadyOf result self.now (step_of self.now.machine seat events.Leave clock) self.now }
+        ensures answer { IsReadyFor result self.now seat events.Leave clock self.now }
         ensures none { IfOk result (λ r. r.work ≡ 0) }
         ensures done { IsSome (user_at self.now.machine seat) → IsOk result }
     {
@@ -111,7 +110,7 @@ impl State {
         clock: Moment,
         steps: &mut Steps<L>,
     ) -> Result<Ready, Fault>
-        ensures answer { IsReadyOf result self.old (step_of self.old.machine seat (events.Command command) clock) self.new }
+        ensures answer { IsReadyFor result self.old seat (events.Command command) clock self.new }
         ensures same { self.new.machine ≡ self.old.machine }
         ensures last { self.new.work ≡ self.old.work }
         ensures count { steps.old ≤ steps.new }

@@ -1,6 +1,6 @@
 //! Whole runs: steps one after the other.
 ghost use Rattle.std.specs.Prelude.{◌≡◌, IfOk, OnErr};
-ghost use Rattle.acap_machine.specs.Runs.{HasStopped, run_of, stepped_at, outcome_of, machine_after};
+ghost use Rattle.acap_machine.specs.Runs.{HasStopped, run_of, stepped_at, outcome_of, after_step};
 
 use crate::lists::{Outcomes, StepList};
 use crate::state::State;
@@ -17,7 +17,7 @@ fn outcome_at<L: Ledger>(
     steps: &mut Steps<L>,
 ) -> Result<Result<Reply, Fault>, Memory>
     ensures answer { IfOk result (λ outcome. outcome ≡ outcome_of (stepped_at state.old.machine step)) }
-    ensures ok { IfOk result (λ outcome. state.new.machine ≡ machine_after state.old.machine (stepped_at state.old.machine step)) }
+    ensures ok { IfOk result (λ outcome. state.new.machine ≡ after_step state.old.machine step) }
     ensures err { OnErr result (state.new.machine ≡ state.old.machine) }
 {
     let Step { seat, event, clock } = step;

@@ -3,11 +3,10 @@ ghost use Rattle.std.specs.Prelude.{◌≡◌, ◌≤◌, ◌+◌, true, IfOk, O
 ghost use Rattle.std.specs.List.{list_all};
 ghost use Rattle.acap_entries.specs.Changes.{store_after};
 ghost use Rattle.acap_entries.specs.FullPaths.{is_well_formed};
-ghost use Rattle.acap_inherit.specs.Leaving.{IsPrepared};
 ghost use Rattle.acap_commands.specs.declared.said.Said.TheVariants as saying;
 ghost use Rattle.acap_machine.specs.Changing.{changed_by};
 ghost use Rattle.acap_machine.specs.Machine.{user_at};
-ghost use Rattle.acap_machine.specs.Readied.{IsReadyOf, IsWork};
+ghost use Rattle.acap_machine.specs.Readied.{AreViewsReady, IsIndexReady, IsReadyOf, IsWork};
 ghost use Rattle.acap_machine.specs.Serving as rule;
 ghost use Rattle.acap_machine.specs.Stepping.{asked, replied};
 ghost use Rattle.acap_machine.specs.Work.{touched_by, work_at};
@@ -15,7 +14,6 @@ ghost use Rattle.acap_search.specs.Counting.{IsCounted};
 ghost use Rattle.acap_store.specs.DatasetLaws.{paths_named};
 ghost use Rattle.acap_store.specs.Meaning.{list_path, target_in};
 ghost use Rattle.acap_views.specs.Changing.{IsSoundStep};
-ghost use Rattle.acap_views.specs.Preparing.{IsPreparedFor};
 
 use crate::deed::Deed;
 use crate::ready::Ready;
@@ -76,8 +74,8 @@ impl State {
         steps: &mut Steps<L>,
     ) -> Result<(Prepared, Delta), Memory>
         requires sound { IsSoundStep self.now.machine.store (store_after change.now self.now.machine.store) }
-        ensures index { IfOk result (λ p. IsPrepared change.now self.now.machine.store self.now.kept.index.0 p.0) }
-        ensures views { IfOk result (λ p. IsPreparedFor change.now self.now.machine.store self.now.machine.realm self.now.machine.seats p.1) }
+        ensures index { IfOk result (λ p. IsIndexReady change.now self.now p.0) }
+        ensures views { IfOk result (λ p. AreViewsReady change.now self.now p.1) }
         ensures count { IsCounted result steps.old steps.new (touched_by self.now.machine change.now) }
         ensures work { IfOk result (λ p. steps.new ≡ steps.old + p.1.work) }
     {
