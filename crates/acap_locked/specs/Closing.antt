@@ -29,3 +29,8 @@ IsClosed passes shelf (Err (fault.PassMissing seat)) = IsMissing passes seat
 IsClosed passes shelf (Err (fault.Unequal seat)) =
     HereBelow passes 64 × IsUnequal passes shelf.epoch shelf.history shelf.retired seat
 IsClosed passes shelf (Err fault.Memory) = IsWhole passes shelf
+
+-- before the report is made
+abbrev pub IsCompared : List Held → Shelf → Result (Unit {0}) CloseFault → Type 0
+IsCompared passes shelf (Ok same) = IsWhole passes shelf
+IsCompared passes shelf (Err fault) = IsClosed passes shelf (Err fault)

@@ -73,7 +73,7 @@ impl<S: Site, L: Ledger> Model for Book<S, L> {
 }
 
 impl<S: Site, L: Ledger> Book<S, L> {
-    ghost use Rattle.acap_locked.specs.Closing.{IsClosed};
+    ghost use Rattle.acap_locked.specs.Closing.{IsClosed, IsCompared, IsReport, IsWhole};
 
     /// A book that begins with the state, and a pass for each of the 64 seats. Whatever the machine of the book counts is counted by
     /// `steps`. Fails only for want of memory.
@@ -195,22 +195,28 @@ impl<S: Site, L: Ledger> Book<S, L> {
         })
     }
 
-    /// Compares the passes with the history, and gives both where they agree: then there are 64 passes, one of each seat, and all calls
-    /// that were ever made are those of the history and those that were counted before.
+    // That each seat has a pass, and each pass holds its seat's calls; else the least seat for which it isn't so.
+    fn compared(&self, passes: &[Pass<S>]) -> Result<(), CloseFault>
+        ensures { IsCompared passes.now self.now result }
+    {
+        if let Some(seat) = missing(passes) {
+            return Err(CloseFault::PassMissing(seat));
+        }
+        if let Some(seat) = unequal(passes, self.epoch, &self.history, &self.retired) {
+            return Err(CloseFault::Unequal(seat));
+        }
+        Ok(())
+    }
+
+    // The history and the passes, which agree.
     #[tactic(auto, using(crate::proofs::Passed::here_number))]
-    pub fn close(self, passes: Vec<Pass<S>>) -> Result<Report, CloseFault>
-        ensures closed { IsClosed passes.items self result }
-        ensures legal { IsLegal S.base self }
+    fn into_report(self, passes: Vec<Pass<S>>) -> Result<Report, Memory>
+        requires { IsWhole passes.items self }
+        ensures report { IfOk result (λ report. IsReport passes.items self report) }
         ensures number { OnOk result (length passes.items ≡ 64) }
         ensures counted { OnOk result (calls_of passes.items ≡ sum self.retired + length self.history) }
     {
         let alloc = *self.history.allocator();
-        if let Some(seat) = missing(&passes) {
-            return Err(CloseFault::PassMissing(seat));
-        }
-        if let Some(seat) = unequal(&passes, self.epoch, &self.history, &self.retired) {
-            return Err(CloseFault::Unequal(seat));
-        }
         let Book {
             state: _,
             history,
@@ -232,5 +238,20 @@ impl<S: Site, L: Ledger> Book<S, L> {
             retired: Sequence::from_vec(retired),
             passes,
         })
+    }
+
+    /// Compares the passes with the history, and gives both where they agree: then there are 64 passes, one of each seat, and all calls
+    /// that were ever made are those of the history and those that were counted before.
+    pub fn close(self, passes: Vec<Pass<S>>) -> Result<Report, CloseFault>
+        ensures closed { IsClosed passes.items self result }
+        ensures legal { IsLegal S.base self }
+        ensures number { OnOk result (length passes.items ≡ 64) }
+        ensures counted { OnOk result (calls_of passes.items ≡ sum self.retired + length self.history) }
+    {
+        self.compared(&passes)?;
+        match self.into_report(passes) {
+            Ok(report) => Ok(report),
+            Err(_) => Err(CloseFault::Memory),
+        }
     }
 }
