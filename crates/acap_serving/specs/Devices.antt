@@ -1,6 +1,7 @@
 -- What the devices of a server tell: none of what the system gives and takes, but how often that failed or was not ready.
 use Rattle.std.specs.Prelude.{None, false}
-use Rattle.acap_task.specs.Told.{BellTold, SourceTold, WireTold}
+use Rattle.acap_task.specs.Kept.{IsUntold}
+use Rattle.acap_task.specs.Told.{BellTold, SourceTold, WireTold, new_desk}
 
 -- nothing was done yet at a wire that tells its counts alone,
 abbrev pub silent_wire : WireTold
@@ -13,3 +14,7 @@ silent_bell = record { rings = None; ended = false; waits = 0 }
 -- and at a source, whatever it gave
 abbrev pub silent_source : SourceTold
 silent_source = record { moments = None; nonces = None }
+
+-- a session is ready whose wire and source have told nothing yet, at any desk and bell that have told nothing
+abbrev pub IsReady : WireTold → SourceTold → Type 0
+IsReady wire source = IsUntold wire new_desk source silent_bell

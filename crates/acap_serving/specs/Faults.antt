@@ -4,6 +4,8 @@ use Rattle.acap_locked.specs.declared.close_fault.CloseFault.{CloseFault}
 use Rattle.acap_locked.specs.declared.close_fault.CloseFault.TheVariants as closing
 use Rattle.acap_settings.specs.declared.fault.SettingsFault.{SettingsFault}
 use Rattle.acap_settings.specs.declared.fault.SettingsFault.TheVariants as reading
+use Rattle.acap_serving.specs.declared.sessions.RunFault.{RunFault}
+use Rattle.acap_serving.specs.declared.sessions.RunFault.TheVariants.{TooManySessions}
 use Rattle.acap_serving.specs.declared.fault.ServeFault.{ServeFault}
 use Rattle.acap_serving.specs.declared.fault.ServeFault.TheVariants as fault
 
@@ -26,3 +28,7 @@ IsOfListening f = (f ≡ fault.Listen) ⊎ (f ≡ fault.Memory)
 
 abbrev pub IsOfSetup : ServeFault → Type 0
 IsOfSetup f = (f ≡ fault.Read) ⊎ (f ≡ fault.Settings) ⊎ (f ≡ fault.Memory)
+
+-- what holds where there are more sessions than passes
+abbrev pub IfTooMany : RunFault → Type 0 → Type 0
+IfTooMany f P = (f ≡ TooManySessions) → P

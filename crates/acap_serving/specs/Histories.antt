@@ -5,7 +5,12 @@ use Rattle.acap_locked.specs.History.{IsLegal}
 use Rattle.acap_locked.specs.Shelf.{Shelf}
 use Rattle.acap_locked.specs.declared.held.Held.{Held}
 use Rattle.acap_locked.specs.declared.report.Report.{Report}
-use Rattle.acap_machine.specs.Machine.{Machine}
+use Rattle.acap_machine.specs.Machine.{Machine, new_machine}
+use Rattle.acap_settings.specs.declared.settings.Settings.{Settings}
+
+-- The machine that a server begins with.
+abbrev pub first_machine : Settings → Machine
+first_machine settings = new_machine (record { administrators = settings.administrators; groups = settings.groups })
 
 -- A book that began with this machine, whose history is legal; its 64 passes hold exactly the calls of their seats.
 pub record IsReported (first : Machine) (report : Report) : Type 0 where

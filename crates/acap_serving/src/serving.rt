@@ -1,8 +1,7 @@
 //! Serving sessions over TCP.
 ghost use denote.Param.Send.{IsSend, IsSync};
 ghost use Rattle.std.specs.Prelude.{◌≡◌, ◌<◌, IfOk};
-ghost use Rattle.acap_machine.specs.Machine.{new_machine};
-ghost use Rattle.acap_serving.specs.Histories.{IsReported};
+ghost use Rattle.acap_serving.specs.Histories.{IsReported, first_machine};
 
 use crate::accept::Porch;
 use crate::bells::Bells;
@@ -228,7 +227,7 @@ where
         + RandomSource
         + AllocGlobal
         + Sync,
-    ensures { IfOk result (IsReported (new_machine (record { administrators = setup.settings.administrators; groups = setup.settings.groups }))) }
+    ensures { IfOk result (IsReported (first_machine setup.settings)) }
 {
     let alloc = rt.alloc();
     let Setup { settings, start } = setup;

@@ -1,9 +1,8 @@
 //! Sessions that are there already, on several threads.
 ghost use denote.Param.Send.{IsSend, IsSync};
 ghost use Rattle.std.specs.Prelude.{◌≡◌, ◌<◌, ◌≤◌, length, All, IfErr, OnOk};
-ghost use Rattle.acap_serving.specs.Devices.{silent_bell};
-ghost use Rattle.acap_task.specs.Kept.{IsUntold};
-ghost use Rattle.acap_task.specs.Told.{new_desk};
+ghost use Rattle.acap_serving.specs.Devices.{IsReady};
+ghost use Rattle.acap_serving.specs.Faults.{IfTooMany};
 
 use crate::bells::Bells;
 use crate::channel_bell::ChannelBell;
@@ -200,17 +199,47 @@ impl<S: Site, W, O> Lists<S, W, O> {
     }
 }
 
-// Puts each session into a slot, in room.
-#[tactic(auto, using(crate::proofs::Untold::untold_with))]
-fn fill<'a, R, S, L, W, O>(
+// What all sessions share.
+#[derive(Drop)]
+struct Venue<'a, R, S: Site, L: Ledger> {
     rt: &'a R,
     served: &'a Served<S, L>,
     bells: &'a Bells,
+    users: &'a Users,
+    turns: u64,
+    ghost some: { 0 < turns },
+}
+
+// A session in its slot.
+#[tactic(auto, using(crate::proofs::Untold::untold_with))]
+fn slot_of<'a, R, S, L, W, O>(
+    venue: &Venue<'a, R, S, L>,
+    pass: Pass<S>,
+    rings: UnboundedReceiver<()>,
+    host: Octets,
+    conn: Conn<W, O>,
+) -> SlotOf<'a, R, S, L, W, O>
+where
+    R: Wait + AllocGlobal,
+    S: Site,
+    L: Ledger,
+    W: Wire,
+    O: Source,
+    requires untold { IsReady (W.told conn.wire) (O.told conn.source) }
+{
+    let alloc = venue.rt.alloc();
+    let desk = PassDesk::new(alloc, venue.rt, venue.served, venue.bells, pass);
+    let bell = ChannelBell::new(rings);
+    let task = SessionTask::new(alloc, conn, desk, bell, venue.users, host, venue.turns);
+    Slot { task, over: None }
+}
+
+// Puts each session into a slot, in room.
+fn fill<'a, R, S, L, W, O>(
+    venue: &Venue<'a, R, S, L>,
     passes: &mut IntoIter<Pass<S>>,
     stock: (Vec<UnboundedReceiver<()>>, Vec<Octets>),
     conns: Vec<Conn<W, O>>,
-    users: &'a Users,
-    turns: u64,
     slots: &mut Vec<SlotOf<'a, R, S, L, W, O>>,
 )
 where
@@ -219,19 +248,14 @@ where
     L: Ledger,
     W: Wire,
     O: Source,
-    requires turns { 0 < turns }
-    requires untold { All (λ conn. IsUntold (W.told conn.wire) new_desk (O.told conn.source) silent_bell) conns.items }
+    requires untold { All (λ conn. IsReady (W.told conn.wire) (O.told conn.source)) conns.items }
 {
-    let alloc = rt.alloc();
     let (rings, hosts) = stock;
     let mut rings = rings.into_iter();
     let mut hosts = hosts.into_iter();
     for conn in conns {
         if let (Some(pass), Some(rings), Some(host)) = (passes.next(), rings.next(), hosts.next()) {
-            let desk = PassDesk::new(alloc, rt, served, bells, pass);
-            let bell = ChannelBell::new(rings);
-            let task = SessionTask::new(alloc, conn, desk, bell, users, host, turns);
-            let _ = slots.push(Slot { task, over: None });
+            let _ = slots.push(slot_of(venue, pass, rings, host, conn));
         }
     }
 }
@@ -289,15 +313,11 @@ where
 
 // Runs sessions, and gives what they gave back. Where memory is refused before the first of them begins, passes and conns come back.
 fn run_in<'a, R, S, L, W, O>(
-    rt: &'a R,
-    served: &'a Served<S, L>,
-    bells: &'a Bells,
-    users: &'a Users,
+    venue: &Venue<'a, R, S, L>,
     passes: Vec<Pass<S>>,
     conns: Vec<Conn<W, O>>,
     stock: (Vec<UnboundedReceiver<()>>, Vec<Octets>),
     workers: usize,
-    turns: u64,
     lists: Lists<S, W, O>,
 ) -> Result<Lists<S, W, O>, (Vec<Pass<S>>, Vec<Conn<W, O>>)>
 where
@@ -313,26 +333,15 @@ where
     W: Wire + Send,
     O: Source + Send,
     requires workers { 0 < workers }
-    requires turns { 0 < turns }
-    requires untold { All (λ conn. IsUntold (W.told conn.wire) new_desk (O.told conn.source) silent_bell) conns.items }
+    requires untold { All (λ conn. IsReady (W.told conn.wire) (O.told conn.source)) conns.items }
     ensures { IfErr result (λ back. (back.0.items ≡ passes.items) × (back.1.items ≡ conns.items)) }
 {
-    let Ok(mut slots) = Vec::with_capacity(rt.alloc(), conns.len()) else {
+    let Ok(mut slots) = Vec::with_capacity(venue.rt.alloc(), conns.len()) else {
         return Err((passes, conns));
     };
     let mut passes = passes.into_iter();
-    fill(
-        rt,
-        served,
-        bells,
-        &mut passes,
-        stock,
-        conns,
-        users,
-        turns,
-        &mut slots,
-    );
-    run_slots(rt, &mut slots, workers);
+    fill(venue, &mut passes, stock, conns, &mut slots);
+    run_slots(venue.rt, &mut slots, workers);
     Ok(collect(slots, passes, lists))
 }
 
@@ -364,10 +373,12 @@ where
     O: Source + Send,
     requires workers { 0 < workers }
     requires turns { 0 < turns }
-    requires untold { All (λ conn. IsUntold (W.told conn.wire) new_desk (O.told conn.source) silent_bell) conns.items }
+    requires untold { All (λ conn. IsReady (W.told conn.wire) (O.told conn.source)) conns.items }
     ensures few { OnOk result (length conns.items ≤ length passes.items) }
-    ensures many { IfErr result (λ n. n.fault ≡ RunFault.TooManySessions → length passes.items < length conns.items) }
-    ensures back { IfErr result (λ n. (n.served ≡ served) × (n.passes.items ≡ passes.items) × (n.conns.items ≡ conns.items)) }
+    ensures many { IfErr result (λ n. IfTooMany n.fault (length passes.items < length conns.items)) }
+    ensures served { IfErr result (λ n. n.served ≡ served) }
+    ensures passes { IfErr result (λ n. n.passes.items ≡ passes.items) }
+    ensures conns { IfErr result (λ n. n.conns.items ≡ conns.items) }
 {
     let alloc = rt.alloc();
     if conns.len() > passes.len() {
@@ -394,9 +405,14 @@ where
         hosts,
     } = stock;
     let stock = (rings, hosts);
-    let ran = run_in(
-        rt, &served, &bells, users, passes, conns, stock, workers, turns, lists,
-    );
+    let venue = Venue {
+        rt,
+        served: &served,
+        bells: &bells,
+        users,
+        turns,
+    };
+    let ran = run_in(&venue, passes, conns, stock, workers, lists);
     match ran {
         Ok(Lists { left, done }) => Ok(Ran {
             served,
