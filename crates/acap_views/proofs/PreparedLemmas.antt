@@ -213,7 +213,7 @@ module _ (nothing : NothingLaw) (names : NamesLaw) (listed : TouchedPathsLaw) (s
 
   one_count : (plan : Planned) (user : List ℕ) (context : Context) → length (shifts_in plan user context) ≡ work_in plan context
   one_count plan user context =
-      count_if context.kept (live_shifts plan user context)
+      count_if context.kept (live_shifts plan user context.sought)
       ∙ ap (λ n. cond (is_live context.kept) n 0) (each_length (shift_for plan.old.records (store_ahead plan).records plan.realm user context.sought) (touched_for plan.change.writes plan.old (store_ahead plan) context))
 
   pub prepared_law : PreparedLaw

@@ -11,15 +11,17 @@ use Rattle.acap_entries.specs.Sorted.{InOrder}
 use Rattle.std.specs.Result.{IsErr}
 use Rattle.acap_entries.specs.declared.path.Path.{Path}
 use Rattle.acap_search.specs.Counting.{IsCounted}
+use Rattle.acap_search.specs.declared.query.Sought.{Sought}
 use Rattle.acap_views.specs.Aheads.{Planned, store_ahead}
 use Rattle.acap_views.specs.Contexts.{Context}
 use Rattle.acap_views.specs.Keeping.{RoomyContext, RoomyContexts, RoomyOccupant, contexts_in, occupant_in}
 use Rattle.acap_views.specs.Listing.{as_seated, bare, bare_seat}
-use Rattle.acap_views.specs.Plans.{looked_at, live_shifts, work_in, shifts_in, work_at, turns_at, trimmed, work_of, turns_of}
+use Rattle.acap_views.specs.Plans.{live_shifts, work_in, shifts_in, work_at, turns_at, trimmed, work_of, turns_of}
 use Rattle.acap_views.specs.Preparing.{shift_for}
 use Rattle.acap_views.specs.Scenes.{Scene, shift_in}
 use Rattle.acap_views.specs.Seats.{Occupant, Seated}
 use Rattle.acap_views.specs.Shifting.{Shift}
+use Rattle.acap_views.specs.Touching.{looked_at_by}
 use Rattle.acap_views.proofs.KeepingLemmas.{listed_entries}
 use Rattle.acap_views.proofs.ValueLemmas.{entries_kept}
 
@@ -82,10 +84,10 @@ module _ (plan : Planned) (es : List (ℕ × RoomyOccupant)) (s : Seated) (h : I
 
 -- ---- of a live context
 
-pub made_live : (plan : Planned) (user : List ℕ) (context : Context) (scene : Scene) (paths : List Path)
-    → scene.old ≡ plan.old.records → scene.new ≡ (store_ahead plan).records → scene.realm ≡ plan.realm → scene.user ≡ user → scene.sought ≡ context.sought → paths ≡ looked_at plan context
-    → each (shift_in scene) paths ≡ live_shifts plan user context
-made_live plan user context scene paths old new realm seen sought e = λ i. each (shift_for (old i) (new i) (realm i) (seen i) (sought i)) (e i)
+pub made_live : (plan : Planned) (user : List ℕ) (sought : Sought) (scene : Scene) (paths : List Path)
+    → scene.old ≡ plan.old.records → scene.new ≡ (store_ahead plan).records → scene.realm ≡ plan.realm → scene.user ≡ user → scene.sought ≡ sought → paths ≡ looked_at_by plan sought
+    → each (shift_in scene) paths ≡ live_shifts plan user sought
+made_live plan user sought scene paths old new realm seen same e = λ i. each (shift_for (old i) (new i) (realm i) (seen i) (same i)) (e i)
 
 -- ---- counts
 

@@ -1,10 +1,11 @@
 -- A change that is about to be committed: words of private contracts.
-use Rattle.std.specs.Prelude.{◌≡◌, List, refl}
+use Rattle.std.specs.Prelude.{◌≡◌, ℕ, List, refl}
+use Rattle.std.specs.Borrow.{Bor}
 use Rattle.std.specs.Coded.{Coded, code_by, coded×}
 use Rattle.acap_entries.specs.Changes.{store_after}
 use Rattle.acap_entries.specs.FullPaths.{AreWellFormed}
 use Rattle.acap_entries.specs.Leaving.{records_before, records_ahead}
-use Rattle.acap_entries.specs.Store.{Store, store_code}
+use Rattle.acap_entries.specs.Store.{Store, Roomy, store_code}
 use Rattle.acap_entries.specs.contracts.change.Change as change
 use Rattle.acap_entries.specs.declared.after.After.{After}
 use Rattle.acap_entries.specs.declared.change.Change.{Change}
@@ -26,14 +27,14 @@ abbrev pub store_ahead : Planned → Store
 store_ahead plan = store_after plan.change plan.old
 
 -- the change may be made, and what is known of it is so
-pub record IsAhead (change : Change) (old : Store) (after : After) (beside : Store) (links : List Link) (datasets : List TouchedDataset) : Type 0 where
-  pub sound : IsSoundStep old (store_after change old)
-  pub formed : AreWellFormed change.writes
-  pub index : IsIndexOf old.records links
-  pub touched : AreTouchedDatasets change old datasets
-  pub before : records_before after ≡ old.records
-  pub near : beside.records ≡ (store_after change old).records
-  pub ahead : records_ahead after ≡ (store_after change old).records
+pub record IsAhead (change : Bor Change) (tree : Bor Roomy) (after : Bor After) (beside : Bor Store) (links : Bor (List Link × ℕ)) (datasets : Bor (List TouchedDataset)) : Type 0 where
+  pub sound : IsSoundStep tree.now.store (store_after change.now tree.now.store)
+  pub formed : AreWellFormed change.now.writes
+  pub index : IsIndexOf tree.now.store.records links.now.0
+  pub touched : AreTouchedDatasets change.now tree.now.store datasets.now
+  pub before : records_before after.now ≡ tree.now.store.records
+  pub near : beside.now.records ≡ (store_after change.now tree.now.store).records
+  pub ahead : records_ahead after.now ≡ (store_after change.now tree.now.store).records
 
 -- how they are told apart in proofs
 abbrev pub planned_code : Coded Planned

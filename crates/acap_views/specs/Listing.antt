@@ -7,7 +7,7 @@ use Rattle.acap_views.specs.Contexts.{Context, Contexts}
 use Rattle.acap_views.specs.Keeping.{RoomyContext, RoomyOccupant, contexts_in, occupant_in}
 use Rattle.acap_views.specs.Maps.{each_value}
 use Rattle.acap_views.specs.Seats.{Occupant, Seated}
-use Rattle.acap_views.specs.Telling.{shown_now, notes_of, after_updates}
+use Rattle.acap_views.specs.Telling.{shown_now, notes_of, told_by_name, after_updates}
 use Rattle.acap_views.specs.Work.{is_live, any_live}
 
 -- without the room
@@ -38,3 +38,7 @@ as_seated entries = each_value occupant_in (table.from_sorted entries)
 abbrev pub waiting_after : Contexts → List (List ℕ) → ℤ → List ℕ → List Told
 waiting_after contexts seen last name =
     option_map_or (λ context. notes_of name context.kept) (table.get (after_updates contexts seen last) name) []
+
+-- and all that it is told then
+abbrev pub told_by : List (List ℕ × RoomyContext) → List (List ℕ) → ℤ → List ℕ → List Told
+told_by entries seen last name = told_by_name (after_updates (as_contexts entries) seen last) name last

@@ -2,20 +2,18 @@
 use Rattle.std.specs.Prelude.{ℕ, ◌==◌, Bool, List, [], length, map as each, if◌then◌else◌}
 use Rattle.std.specs.FinMap as table
 use Rattle.std.specs.List.{list_all, sum_by}
-use Rattle.acap_entries.specs.declared.path.Path.{Path}
+use Rattle.acap_search.specs.declared.query.Sought.{Sought}
 use Rattle.acap_views.specs.Aheads.{Planned, store_ahead}
 use Rattle.acap_views.specs.Contexts.{Context}
 use Rattle.acap_views.specs.Preparing.{shift_for, shifts_for}
 use Rattle.acap_views.specs.Seats.{Occupant, Seated}
 use Rattle.acap_views.specs.Shifting.{Shift}
-use Rattle.acap_views.specs.Work.{touched_for, work_for}
+use Rattle.acap_views.specs.Touching.{looked_at_by}
+use Rattle.acap_views.specs.Work.{work_for}
 
-abbrev pub looked_at : Planned → Context → List Path
-looked_at plan context = touched_for plan.change.writes plan.old (store_ahead plan) context
-
-abbrev pub live_shifts : Planned → List ℕ → Context → List Shift
-live_shifts plan user context =
-    each (shift_for plan.old.records (store_ahead plan).records plan.realm user context.sought) (looked_at plan context)
+abbrev pub live_shifts : Planned → List ℕ → Sought → List Shift
+live_shifts plan user sought =
+    each (shift_for plan.old.records (store_ahead plan).records plan.realm user sought) (looked_at_by plan sought)
 
 abbrev pub work_in : Planned → Context → ℕ
 work_in plan context = work_for plan.change.writes plan.old (store_ahead plan) context

@@ -14,6 +14,7 @@ use Rattle.acap_search.specs.Walks.{quest_of, view_in}
 use Rattle.acap_search.specs.declared.query.Sought.{Sought}
 use Rattle.acap_views.specs.Changing.{follows, changed}
 use Rattle.acap_views.specs.Contexts.{Kept, Snapshot, Live, Freed, Context}
+use Rattle.acap_views.specs.Keeping.{RoomySeats, seats_in}
 use Rattle.acap_views.specs.Seats.{Occupant, Seated}
 use Rattle.acap_views.specs.Shifting.{Shift, standing, after_shifts, shifts_notices, shift_code}
 use Rattle.acap_views.specs.Work.{touched_for, touched_within}
@@ -79,6 +80,9 @@ IsPreparedFor change old realm seats delta = with_delta delta seats ≡ changed 
 
 abbrev pub touched_for_all : Change → Store → Seated → ℕ
 touched_for_all change old seats = touched_within change.writes old (store_after change old) seats
+
+abbrev pub touched_in : Change → Store → RoomySeats → ℕ
+touched_in change old seats = touched_for_all change old (seats_in seats)
 
 -- how they are told apart in proofs
 abbrev pub prepared_code : Coded Prepared

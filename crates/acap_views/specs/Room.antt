@@ -25,9 +25,12 @@ pub record HasRoom (more : ℕ) (pending : List Notice) (space : Space) : Type 0
   pub moves : IfSome space.moves (λ room. more ≤ room)
   pub notices : waiting.HasRoom more (record { notices = pending; room = space.notices })
 
--- after one move there is room for all others that there was room for
-pub record Leaves (pending : List Notice) (space : Space) (after : List Notice) (left : Space) : Type 0 where
-  pub more : (more : ℕ) → HasRoom (suc more) pending space → HasRoom more after left
+-- after one move there is room for all others that there was room for, and so it is of notices alone
+pub record Leaves (old new : Watched) : Type 0 where
+  pub more : (more : ℕ) → HasRoom (suc more) old.pending old.space → HasRoom more new.pending new.space
+
+abbrev pub LeavesNotices : waiting.Waiting → waiting.Waiting → Type 0
+LeavesNotices old new = (more : ℕ) → waiting.HasRoom (suc more) old → waiting.HasRoom more new
 
 -- how they are told apart in proofs
 abbrev pub space_code : Coded Space

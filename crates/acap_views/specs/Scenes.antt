@@ -1,16 +1,21 @@
 -- Whose context is looked at, when a change is about to be committed: words of private contracts.
-use Rattle.std.specs.Prelude.{ℕ, List, refl}
+use Rattle.std.specs.Prelude.{◌≡◌, ℕ, List, [], Option, None, refl}
 use Rattle.std.specs.Coded.{Coded, code_by, coded×, coded_list, coded_ℕ}
 use Rattle.std.specs.FinMap as map
-use Rattle.acap_entries.specs.Store.{Stored}
+use Rattle.std.specs.Option.{unwrap_or}
+use Rattle.acap_entries.specs.Store.{Store, Stored}
 use Rattle.acap_entries.specs.contracts.path.Path as path
 use Rattle.acap_entries.specs.contracts.record.Record as row
 use Rattle.acap_entries.specs.declared.path.Path.{Path}
+use Rattle.acap_entries.specs.declared.record.Record.{Record}
+use Rattle.acap_inherit.specs.Records.{record_at}
 use Rattle.acap_rights.specs.contracts.realm.Realm as realm
 use Rattle.acap_rights.specs.declared.realm.Realm.{Realm}
-use Rattle.acap_search.specs.Views.{Spotted}
+use Rattle.acap_search.specs.Matches.{Match}
+use Rattle.acap_search.specs.Views.{Spotted, places_at, found_at}
 use Rattle.acap_search.specs.contracts.query.Sought as query
 use Rattle.acap_search.specs.declared.query.Sought.{Sought}
+use Rattle.acap_search.specs.declared.rank.Place.{Place}
 use Rattle.acap_views.specs.Preparing.{seen_at, shift_for}
 use Rattle.acap_views.specs.Shifting.{Shift}
 
@@ -21,12 +26,22 @@ pub record Scene : Type 0 where
   pub user : List ℕ
   pub sought : Sought
 
--- an entry before the change and afterwards, and what becomes of it
+-- the management entry of a dataset
+abbrev pub IsAtHand : Store → List ℕ → Option Record → Type 0
+IsAtHand store dataset management = management ≡ record_at store.records dataset []
+
+-- an entry before the change and afterwards: where it stood, what is found of it then, and what becomes of it
 abbrev pub spot_before : Scene → Path → Spotted
 spot_before scene path = seen_at scene.old scene.realm scene.user scene.sought path
 
 abbrev pub spot_after : Scene → Path → Spotted
 spot_after scene path = seen_at scene.new scene.realm scene.user scene.sought path
+
+abbrev pub places_before : Scene → Path → List Place
+places_before scene path = places_at (spot_before scene path) (unwrap_or scene.sought.sort [])
+
+abbrev pub found_after : Scene → Path → Option Match
+found_after scene path = found_at scene.sought None (spot_after scene path)
 
 abbrev pub shift_in : Scene → Path → Shift
 shift_in scene path = shift_for scene.old scene.new scene.realm scene.user scene.sought path

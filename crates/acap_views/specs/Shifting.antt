@@ -1,9 +1,11 @@
 -- A live list is brought up to date entry by entry: what stood where, and what is put where.
-use Rattle.std.specs.Prelude.{ℕ, ◌+◌, Bool, List, [], ◌∷◌, ◌++◌, Option, Some, None, is_some, refl, if◌then◌else◌}
+use Rattle.std.specs.Prelude.{◌≡◌, ℕ, ◌+◌, ◌<◌, Bool, List, [], ◌∷◌, ◌++◌, length, Option, Some, None, is_some, refl, if◌then◌else◌}
 use Rattle.std.specs.Coded.{Coded, code_by, coded×, coded_list, coded_option, coded_ℕ}
+use Rattle.std.specs.List.{cons_option}
 use Rattle.std.specs.Option.{option_map, option_and_then}
 use Rattle.acap_entries.specs.declared.path.Path.{Path}
 use Rattle.acap_entries.specs.Ranks.{rank_of, item_at, with_item, without_item}
+use Rattle.acap_notices.specs.Waiting.{most_waiting}
 use Rattle.acap_notices.specs.declared.notice.Notice.{Notice}
 use Rattle.acap_moves.specs.Moves.{Move, Undo}
 use Rattle.acap_moves.specs.Notices.{notice_between}
@@ -11,6 +13,7 @@ use Rattle.acap_search.specs.Matches.{Match, match_cmp, match_code}
 use Rattle.acap_search.specs.declared.placed.Standing.{Standing}
 use Rattle.acap_search.specs.declared.rank.Place.{Place}
 use Rattle.acap_views.specs.Notices.{told_shape}
+use Rattle.acap_views.specs.Room.{Watched}
 
 -- of one entry: its name as it is told; its places and its path as they were, by which a match is found that it had; and its match now
 pub record Shift : Type 0 where
@@ -47,8 +50,11 @@ placed_among found others = if is_some (item_at match_cmp found others) then Non
 abbrev pub stands : Match → Option Match → List Match → Option (ℕ × Match)
 stands old come matches = option_and_then (λ found. placed_among found (without_old old matches)) come
 
+abbrev pub comes_to : Match → Option Match → List Match → Option ℕ
+comes_to old come matches = option_map (λ s. s.0) (stands old come matches)
+
 abbrev pub undo_by : Match → Option Match → List Match → Undo Match
-undo_by old come matches = record { gone = stood old matches; come = option_map (λ s. s.0) (stands old come matches) }
+undo_by old come matches = record { gone = stood old matches; come = comes_to old come matches }
 
 -- positions are counted from 1
 abbrev pub from_one : Option (ℕ × Match) → Option (ℕ × Match)
@@ -58,6 +64,9 @@ from_one place = option_map (λ s. (s.0 + 1, s.1)) place
 abbrev pub swap_notices : Bool → List ℕ → Match → Option Match → List Match → List Notice
 swap_notices enumerated name old come matches =
     notice_between told_shape enumerated name (from_one (stood old matches)) (from_one (stands old come matches))
+
+abbrev pub IsSwapNotice : Bool → List ℕ → Match → Option Match → List Match → Option Notice → Type 0
+IsSwapNotice enumerated name old come matches told = cons_option told [] ≡ swap_notices enumerated name old come matches
 
 abbrev pub shift_notices : Bool → Shift → List Match → List Notice
 shift_notices enumerated shift matches = swap_notices enumerated shift.name shift.old shift.come matches
@@ -73,6 +82,19 @@ after_shifts (shift ∷ shifts) matches = after_shifts shifts (after_shift shift
 abbrev pub shifts_notices : Bool → List Shift → List Match → List Notice
 shifts_notices enumerated [] matches = []
 shifts_notices enumerated (shift ∷ shifts) matches = shift_notices enumerated shift matches ++ shifts_notices enumerated shifts (after_shift shift matches)
+
+-- what is told of one entry, and of some, waits behind the rest; or more notices would wait than may
+abbrev pub IsTold : Bool → Shift → Watched → Watched → Type 0
+IsTold enumerated shift old new = new.pending ≡ old.pending ++ shift_notices enumerated shift old.present
+
+abbrev pub AreTold : Bool → List Shift → Watched → Watched → Type 0
+AreTold enumerated shifts old new = new.pending ≡ old.pending ++ shifts_notices enumerated shifts old.present
+
+abbrev pub IsTooMuch : Bool → Shift → Watched → Type 0
+IsTooMuch enumerated shift old = most_waiting < length old.pending + length (shift_notices enumerated shift old.present)
+
+abbrev pub AreTooMany : Bool → List Shift → Watched → Type 0
+AreTooMany enumerated shifts old = most_waiting < length old.pending + length (shifts_notices enumerated shifts old.present)
 
 abbrev pub move_by : Shift → Move Match
 move_by shift = (shift.name, shift.come)

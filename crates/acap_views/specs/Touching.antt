@@ -1,5 +1,5 @@
 -- Which touched entries a search looks at, before the change is committed: words of private contracts.
-use Rattle.std.specs.Prelude.{ℕ, Bool, List, Option, Some, None}
+use Rattle.std.specs.Prelude.{◌≡◌, ℕ, Bool, List, Option, Some, None}
 use Rattle.std.specs.List.{filter, list_any}
 use Rattle.acap_entries.specs.Orders.{octets_eq}
 use Rattle.acap_entries.specs.declared.path.Path.{Path}
@@ -15,8 +15,15 @@ use Rattle.acap_views.specs.declared.noted.Noted.{Noted}
 abbrev pub touched_by : Planned → List Path
 touched_by plan = touched plan.change.writes plan.old.records (store_ahead plan).records
 
+abbrev pub looks_at : Planned → Sought → Path → Bool
+looks_at plan sought path = is_looked_at (store_ahead plan).records sought path
+
 abbrev pub looked_at_by : Planned → Sought → List Path
-looked_at_by plan sought = filter (is_looked_at (store_ahead plan).records sought) (touched_by plan)
+looked_at_by plan sought = filter (looks_at plan sought) (touched_by plan)
+
+-- so are these where a search looks through one dataset alone
+abbrev pub AreLookedAt : Planned → Sought → List Path → Type 0
+AreLookedAt plan sought paths = sought.depth ≡ None → paths ≡ looked_at_by plan sought
 
 -- whether a dataset is among some in which a change touches something
 abbrev pub has_dataset : List TouchedDataset → List ℕ → Bool

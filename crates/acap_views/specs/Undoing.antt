@@ -1,5 +1,5 @@
 -- The list that a client was told last, as the present one with the moves since then taken back.
-use Rattle.std.specs.Prelude.{◌≡◌, ℕ, ◌-◌, List, Option, Some, None, vec_len, vec_capacity, map as each}
+use Rattle.std.specs.Prelude.{◌≡◌, ℕ, ◌-◌, ◌≤◌, List, Option, Some, None, IfSome, vec_len, vec_capacity, map as each}
 use Rattle.std.specs.Borrow.{Bor}
 use Rattle.acap_moves.specs.Moves.{Undo, undone, all_undone}
 use Rattle.acap_search.specs.Matches.{Match}
@@ -22,3 +22,6 @@ IsLogged undo before after = (now : List Match) → shown_in after now ≡ shown
 abbrev pub room_in : Shown → Option ℕ
 room_in (Moves undos) = Some (vec_capacity undos - vec_len undos)
 room_in (Written hits) = None
+
+abbrev pub HasPlaces : ℕ → Shown → Type 0
+HasPlaces more shown = IfSome (room_in shown) (λ room. more ≤ room)

@@ -27,5 +27,5 @@ impl<'a> Model for Ahead<'a> {
 
     ghost view = { λ a. record { change = a.change.now; old = a.tree.now.store; realm = a.realm.now } };
 
-    ghost invariant = { λ a. IsAhead a.change.now a.tree.now.store a.after.now a.beside.now a.index.now.0 a.datasets.now };
+    ghost invariant = { λ a. IsAhead a.change a.tree a.after a.beside a.index a.datasets };
 }

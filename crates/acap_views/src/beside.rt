@@ -12,10 +12,9 @@ pub(crate) struct Beside<'a, R: Records> {
 }
 
 impl<'a, R: Records> Model for Beside<'a, R> {
-    ghost use Rattle.std.specs.Prelude.{◌≡◌, []};
     ghost use Rattle.std.specs.Option.{option_copied};
     ghost use Rattle.acap_entries.specs.Store.{Store, store_code};
-    ghost use Rattle.acap_inherit.specs.Records.{record_at};
+    ghost use Rattle.acap_views.specs.Scenes.{IsAtHand};
 
     ghost Value = { Store };
 
@@ -23,7 +22,7 @@ impl<'a, R: Records> Model for Beside<'a, R> {
 
     ghost view = { λ b. R.store b.records.now };
 
-    ghost invariant = { λ b. option_copied b.management ≡ record_at (R.store b.records.now).records b.dataset.now [] };
+    ghost invariant = { λ b. IsAtHand (R.store b.records.now) b.dataset.now (option_copied b.management) };
 }
 
 impl<'a, R: Records> Beside<'a, R> {

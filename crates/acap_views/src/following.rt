@@ -4,7 +4,8 @@ ghost use Rattle.acap_views.specs.Followed as rule;
 ghost use Rattle.acap_views.specs.Holds.{kept_in, space_in};
 ghost use Rattle.acap_views.specs.Keeping.{occupant_in, seats_in};
 ghost use Rattle.acap_views.specs.Listing.{bare, bare_seat};
-ghost use Rattle.acap_views.specs.Preparing.{kept_after, context_after, contexts_after, occupant_after, seats_after, with_delta};
+ghost use Rattle.acap_views.specs.Preparing.{kept_after, context_after, contexts_after};
+ghost use Rattle.acap_views.specs.Preparing.{occupant_after, seats_after, with_delta};
 
 use crate::delta::{Delta, Shifts, Turns};
 use crate::held::Held;

@@ -1,7 +1,8 @@
 //! What follows from the definitions alone: the contract of each function is the law, and its body names
 //! at most a law of the crates below.
 ghost use Rattle.acap_views.specs.Examples.{KeptExamples, NamedExamples, NoticeExamples};
-ghost use Rattle.acap_views.specs.Laws.{NoticeLaw, CurrentLaw, ShownLaw, ChangedLaw, FoundLaw, MovedLaw, SeatsLaw};
+ghost use Rattle.acap_views.specs.Laws.{NoticeLaw, CurrentLaw, ShownLaw, SeatsLaw};
+ghost use Rattle.acap_views.specs.Laws.{ChangedLaw, FoundLaw, MovedLaw};
 
 use acap_search::{once_law, sight_law};
 

@@ -8,7 +8,7 @@ ghost use Rattle.acap_views.specs.Changing.{IsSoundStep};
 ghost use Rattle.acap_views.specs.Current.{IsCurrent};
 ghost use Rattle.acap_views.specs.Keeping.{seats_in};
 ghost use Rattle.acap_views.specs.Plans as rule;
-ghost use Rattle.acap_views.specs.Preparing.{IsPreparedFor, touched_for_all};
+ghost use Rattle.acap_views.specs.Preparing.{IsPreparedFor, touched_in};
 
 use crate::ahead::Ahead;
 use crate::beside::Beside;
@@ -94,7 +94,7 @@ impl Views {
         requires index { IsIndexOf tree.now.store.records index.now.0 }
         requires sound { IsSoundStep tree.now.store (store_after change.now tree.now.store) }
         ensures made { IfOk result (IsPreparedFor change.now tree.now.store realm.now (seats_in self.now)) }
-        ensures count { IsCounted result steps.old steps.new (touched_for_all change.now tree.now.store (seats_in self.now)) }
+        ensures count { IsCounted result steps.old steps.new (touched_in change.now tree.now.store self.now) }
         ensures work { IfOk result (λ delta. delta.work ≡ steps.new - steps.old) }
     {
         if !self.has_live() {

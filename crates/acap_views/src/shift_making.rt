@@ -1,11 +1,10 @@
 //! What a change does to the entries that a live context looks at, made before the change is committed.
-ghost use Rattle.std.specs.Prelude.{◌≡◌, ◌+◌, ◌≤◌, [], IfOk, OnOk, length, map as each, None};
-ghost use Rattle.std.specs.Option.{unwrap_or};
+ghost use Rattle.std.specs.Prelude.{◌≡◌, ◌+◌, ◌≤◌, IfOk, OnOk, length, map as each};
 ghost use Rattle.acap_search.specs.Counting.{IsCounted};
 ghost use Rattle.acap_search.specs.Tuples as tuples;
-ghost use Rattle.acap_search.specs.Views.{places_at as places_of, found_at};
-ghost use Rattle.acap_views.specs.News.{name_in, come_in, name_or, IsTold};
-ghost use Rattle.acap_views.specs.Scenes.{spot_before, spot_after, shift_in};
+ghost use Rattle.acap_views.specs.News.{name_in, come_in, name_for, IsTold};
+ghost use Rattle.acap_views.specs.Scenes as rule;
+ghost use Rattle.acap_views.specs.Scenes.{shift_in};
 
 use crate::delta::Shifts;
 use crate::scene::Scene;
@@ -33,7 +32,7 @@ fn name_told(alloc: Global, path: &Path, sought: &Sought) -> Result<Value, Memor
 
 // Where an entry stood before the change.
 fn places_before(alloc: Global, scene: &Scene<'_>, path: &Path) -> Result<Places, Memory>
-    ensures { IfOk result (λ places. places ≡ places_of (spot_before scene.now path.now) (unwrap_or scene.now.sought.sort [])) }
+    ensures { IfOk result (λ places. places ≡ rule.places_before scene.now path.now) }
 {
     let sought = scene.sought;
     if sought.sort.is_none() {
@@ -58,7 +57,7 @@ fn found_after<L: Ledger>(
     steps: &mut Steps<L>,
 ) -> Result<Option<Hit>, Memory>
     ensures count { steps.new ≡ steps.old + 1 }
-    ensures found { IfOk result (λ found. found ≡ found_at scene.now.sought None (spot_after scene.now path.now)) }
+    ensures found { IfOk result (λ found. found ≡ rule.found_after scene.now path.now) }
 {
     let after = scene.after;
     let sought = scene.sought;
@@ -76,7 +75,7 @@ fn found_after<L: Ledger>(
 fn news_of(alloc: Global, path: &Path, sought: &Sought, found: Option<Hit>) -> Result<News, Memory>
     ensures come { IfOk result (λ news. come_in news ≡ found) }
     ensures told { IfOk result (λ news. IsTold news) }
-    ensures name { IfOk result (λ news. name_in news ≡ name_or (tuples.name_told sought.now.depth path.now) found) }
+    ensures name { IfOk result (λ news. name_in news ≡ name_for sought.now path.now found) }
 {
     match found {
         Some(hit) => {

@@ -1,5 +1,6 @@
 //! How a live list goes from one store to the next: entry by entry, each hit found by where it stood.
-ghost use Rattle.std.specs.Prelude.{◌≡◌, ◌+◌, ◌<◌, ◌≤◌, ◌^◌, ◌++◌, [], None, suc, length, if◌then◌else◌, is_some, IsTrue, IsSome, IfSome, ℕ, Some, false};
+ghost use Rattle.std.specs.Prelude.{◌≡◌, ◌+◌, ◌<◌, ◌≤◌, ◌^◌, ◌++◌, ℕ, suc, false, IsTrue, if◌then◌else◌};
+ghost use Rattle.std.specs.Prelude.{[], length, Some, None, is_some, IsSome, IfSome};
 ghost use Rattle.std.specs.List.{cons_option};
 ghost use Rattle.std.specs.Option.{option_map};
 ghost use Rattle.std.specs.Ordering.{eq_by_cmp};
@@ -9,10 +10,10 @@ ghost use Rattle.acap_notices.specs.Waiting.{most_waiting};
 ghost use Rattle.acap_moves.specs.Moves.{undone};
 ghost use Rattle.acap_search.specs.Matches.{match_cmp};
 ghost use Rattle.acap_views.specs.News.{IsGoneNotice, IsHereNotice};
-ghost use Rattle.acap_views.specs.Room.{HasRoom, Leaves};
+ghost use Rattle.acap_views.specs.Room.{HasRoom, Leaves, LeavesNotices};
 ghost use Rattle.acap_views.specs.Shifting as rule;
 ghost use Rattle.acap_views.specs.Shifting.{match_by};
-ghost use Rattle.acap_views.specs.Undoing.{IsLogged, room_in};
+ghost use Rattle.acap_views.specs.Undoing.{IsLogged, HasPlaces};
 
 use crate::idle::is_idle;
 use crate::shift::{News, Shift};
@@ -97,7 +98,7 @@ fn replace_hit(
     ensures list { now.new.0 ≡ rule.shifted (match_by old.now) (Some hit) now.old.0 }
     ensures gone { result.0 ≡ rule.stood (match_by old.now) now.old.0 }
     ensures from { IfSome result.0 (λ gone. gone.0 + 1 < 2 ^ 64) }
-    ensures come { Some result.1 ≡ option_map (λ s. s.0) (rule.stands (match_by old.now) (Some hit) now.old.0) }
+    ensures come { Some result.1 ≡ rule.comes_to (match_by old.now) (Some hit) now.old.0 }
     ensures to { result.1 + 1 < 2 ^ 64 }
     ensures room { now.old.1 ≤ now.new.1 + 1 }
 {
@@ -117,7 +118,7 @@ fn position(enumerated: bool, place: usize) -> usize
 // What is told of an entry that isn't found any longer: nothing where it wasn't found before.
 fn gone_notice(gone: &Option<(usize, Placed)>, entry: Value, enumerated: bool) -> Option<Notice>
     requires { IfSome gone.now (λ g. g.0 + 1 < 2 ^ 64) }
-    ensures { IsGoneNotice enumerated entry gone.now (cons_option result []) }
+    ensures { IsGoneNotice enumerated entry gone.now result }
 {
     let (place, _) = gone.as_ref()?;
     let position = position(enumerated, *place);
@@ -134,7 +135,7 @@ fn change_notice(
 ) -> Option<Notice>
     requires from { place + 1 < 2 ^ 64 }
     requires to { come + 1 < 2 ^ 64 }
-    ensures { IsHereNotice enumerated row (Some (place, hit.now)) (Some come) (cons_option result []) }
+    ensures { IsHereNotice enumerated row (Some (place, hit.now)) (Some come) result }
 {
     if *hit.hit().row() == row && (!enumerated || place == come) {
         return None;
@@ -153,7 +154,7 @@ fn here_notice(
 ) -> Option<Notice>
     requires gone { IfSome gone.now (λ g. g.0 + 1 < 2 ^ 64) }
     requires come { IfSome come (λ place. place + 1 < 2 ^ 64) }
-    ensures { IsHereNotice enumerated row gone.now come (cons_option result []) }
+    ensures { IsHereNotice enumerated row gone.now come result }
 {
     match (gone, come) {
         (Some((place, hit)), Some(come)) => change_notice(*place, hit, come, row, enumerated),
@@ -168,9 +169,9 @@ fn here_notice(
 
 // Keeps a move, where moves are kept: what was shown is what there is now with it taken back.
 fn log(shown: &mut Shown, undone: Undone)
-    requires { IfSome (room_in shown.old) (λ room. 0 < room) }
+    requires { HasPlaces 1 shown.old }
     ensures list { IsLogged undone shown.old shown.new }
-    ensures room { (more : ℕ) → IfSome (room_in shown.old) (λ room. suc more ≤ room) → IfSome (room_in shown.new) (λ room. more ≤ room) }
+    ensures room { (more : ℕ) → HasPlaces (suc more) shown.old → HasPlaces more shown.new }
 {
     if let Shown::Moves(undos) = shown {
         undos.push(undone).unwrap();
@@ -182,7 +183,7 @@ fn add(pending: &mut Queue, told: Option<Notice>) -> bool
     requires { waiting.HasRoom 1 pending.old }
     ensures added { IsTrue result → pending.new.notices ≡ pending.old.notices ++ cons_option told [] }
     ensures full { result ≡ false → most_waiting < length pending.old.notices + length (cons_option told []) }
-    ensures room { IsTrue result → (more : ℕ) → waiting.HasRoom (suc more) pending.old → waiting.HasRoom more pending.new }
+    ensures room { IsTrue result → LeavesNotices pending.old pending.new }
 {
     match told {
         Some(notice) => pending.add(notice).is_ok(),
@@ -199,7 +200,7 @@ fn swap_gone(
 ) -> (Undone, Option<Notice>)
     ensures list { hits.new.0 ≡ rule.shifted (match_by old.now) None hits.old.0 }
     ensures undone { result.0 ≡ rule.undo_by (match_by old.now) None hits.old.0 }
-    ensures told { IsGoneNotice enumerated name (rule.stood (match_by old.now) hits.old.0) (cons_option result.1 []) }
+    ensures told { IsGoneNotice enumerated name (rule.stood (match_by old.now) hits.old.0) result.1 }
     ensures room { hits.old.1 ≤ hits.new.1 }
 {
     let gone = take_hit(hits, old);
@@ -217,7 +218,7 @@ fn swap_hit(
     ensures list { hits.new.0 ≡ rule.shifted (match_by old.now) (Some found) hits.old.0 }
     ensures gone { result.0 ≡ rule.stood (match_by old.now) hits.old.0 }
     ensures from { IfSome result.0 (λ gone. gone.0 + 1 < 2 ^ 64) }
-    ensures come { result.1 ≡ option_map (λ s. s.0) (rule.stands (match_by old.now) (Some found) hits.old.0) }
+    ensures come { result.1 ≡ rule.comes_to (match_by old.now) (Some found) hits.old.0 }
     ensures to { IfSome result.1 (λ place. place + 1 < 2 ^ 64) }
     ensures room { hits.old.1 ≤ hits.new.1 + 1 }
 {
@@ -242,7 +243,7 @@ fn swap_here(
     requires row { row ≡ found.row }
     ensures list { hits.new.0 ≡ rule.shifted (match_by old.now) (Some found) hits.old.0 }
     ensures undone { result.0 ≡ rule.undo_by (match_by old.now) (Some found) hits.old.0 }
-    ensures told { cons_option result.1 [] ≡ rule.swap_notices enumerated row.name (match_by old.now) (Some found) hits.old.0 }
+    ensures told { rule.IsSwapNotice enumerated row.name (match_by old.now) (Some found) hits.old.0 result.1 }
     ensures room { hits.old.1 ≤ hits.new.1 + 1 }
 {
     let (gone, come) = swap_hit(hits, old, found);
@@ -255,7 +256,7 @@ fn swap(hits: &mut Ranked<Placed>, shift: Shift, enumerated: bool) -> (Undone, O
     requires { 0 < hits.old.1 }
     ensures list { hits.new.0 ≡ rule.after_shift shift hits.old.0 }
     ensures undone { result.0 ≡ rule.undo_by shift.old shift.come hits.old.0 }
-    ensures told { cons_option result.1 [] ≡ rule.shift_notices enumerated shift hits.old.0 }
+    ensures told { rule.IsSwapNotice enumerated shift.name shift.old shift.come hits.old.0 result.1 }
     ensures room { hits.old.1 ≤ hits.new.1 + 1 }
 {
     let Shift { places, path, news } = shift;
@@ -276,9 +277,9 @@ impl Watch {
         requires { HasRoom 1 self.old.pending self.old.space }
         ensures present { self.new.present ≡ rule.after_shift shift self.old.present }
         ensures shown { self.new.shown ≡ self.old.shown }
-        ensures added { IsTrue result → self.new.pending ≡ self.old.pending ++ rule.shift_notices enumerated shift self.old.present }
-        ensures full { result ≡ false → most_waiting < length self.old.pending + length (rule.shift_notices enumerated shift self.old.present) }
-        ensures room { IsTrue result → Leaves self.old.pending self.old.space self.new.pending self.new.space }
+        ensures added { IsTrue result → rule.IsTold enumerated shift self.old self.new }
+        ensures full { result ≡ false → rule.IsTooMuch enumerated shift self.old }
+        ensures room { IsTrue result → Leaves self.old self.new }
     {
         self.hits.ascends();
         let (undone, told) = swap(&mut self.hits, shift, enumerated);
@@ -294,8 +295,8 @@ impl Watch {
         requires { HasRoom (length shifts.items) self.old.pending self.old.space }
         ensures present { IsTrue result → self.new.present ≡ rule.after_shifts shifts.items self.old.present }
         ensures shown { IsTrue result → self.new.shown ≡ self.old.shown }
-        ensures added { IsTrue result → self.new.pending ≡ self.old.pending ++ rule.shifts_notices enumerated shifts.items self.old.present }
-        ensures full { result ≡ false → most_waiting < length self.old.pending + length (rule.shifts_notices enumerated shifts.items self.old.present) }
+        ensures added { IsTrue result → rule.AreTold enumerated shifts.items self.old self.new }
+        ensures full { result ≡ false → rule.AreTooMany enumerated shifts.items self.old }
         ensures few { IsTrue result → length self.new.pending ≤ most_waiting }
     {
         for shift in shifts {

@@ -4,7 +4,7 @@ ghost use Rattle.std.specs.FinMap as table;
 ghost use Rattle.std.specs.List.{list_any};
 ghost use Rattle.acap_entries.specs.Orders.{octets_cmp};
 ghost use Rattle.acap_entries.specs.Sorted.{InOrder};
-ghost use Rattle.acap_views.specs.Listing.{as_contexts, waiting_after};
+ghost use Rattle.acap_views.specs.Listing.{as_contexts, waiting_after, told_by};
 ghost use Rattle.acap_views.specs.Telling as rule;
 ghost use Rattle.acap_views.specs.Waiting as waiting;
 
@@ -86,8 +86,7 @@ fn push_told(
     last: Moment,
 ) -> Result<(), Memory>
     requires { InOrder octets_cmp contexts.now }
-    ensures { OnOk result (tolds.new.items
-        ≡ tolds.old.items ++ rule.told_by_name (rule.after_updates (as_contexts contexts.now) seen.now last) name.now last) }
+    ensures { OnOk result (tolds.new.items ≡ tolds.old.items ++ told_by contexts.now seen.now last name.now) }
 {
     push_waiting(tolds, contexts, seen, name)?;
     tolds.push(Told::Upto(name.copy()?, last))?;

@@ -1,9 +1,7 @@
 //! Which entries that a change touches a search looks at.
-ghost use Rattle.std.specs.Prelude.{◌≡◌, None, IfOk, IfSome};
+ghost use Rattle.std.specs.Prelude.{◌≡◌, IfOk, IfSome};
 ghost use Rattle.std.specs.List.{filter};
-ghost use Rattle.acap_views.specs.Aheads.{store_ahead};
 ghost use Rattle.acap_views.specs.Touching as rule;
-ghost use Rattle.acap_views.specs.Work.{is_looked_at};
 
 use crate::ahead::Ahead;
 use crate::noted::Noted;
@@ -22,14 +20,14 @@ fn has_dataset(datasets: &[TouchedDataset], dataset: &Dataset) -> bool
 
 // Whether a search looks through the dataset of an entry.
 fn is_looked_at(ahead: &Ahead<'_>, sought: &Sought, path: &Path) -> bool
-    ensures { result ≡ is_looked_at (store_ahead ahead.now).records sought.now path.now }
+    ensures { result ≡ rule.looks_at ahead.now sought.now path.now }
 {
     looks_in(&sought.scope(), ahead.after, &path.dataset)
 }
 
 // Those of some paths in whose datasets a search looks.
 fn looked_at(ahead: &Ahead<'_>, sought: &Sought, paths: Paths) -> Result<Paths, Memory>
-    ensures { IfOk result (λ made. made ≡ filter (is_looked_at (store_ahead ahead.now).records sought.now) paths) }
+    ensures { IfOk result (λ made. made ≡ filter (rule.looks_at ahead.now sought.now) paths) }
 {
     let mut made = Paths::new(paths.allocator());
     for path in paths.into_vec() {
@@ -47,7 +45,7 @@ fn known_paths<'n>(
     noted: &'n Option<Noted<'_>>,
 ) -> Option<&'n Paths>
     requires { rule.IsNoted ahead.now noted.now }
-    ensures { IfSome result (λ paths. sought.now.depth ≡ None → paths.now ≡ rule.looked_at_by ahead.now sought.now) }
+    ensures { IfSome result (λ paths. rule.AreLookedAt ahead.now sought.now paths.now) }
 {
     let known = noted.as_ref()?;
     if known.dataset == sought.dataset.as_slice() {
@@ -65,7 +63,7 @@ fn note_paths<'a>(
 ) -> Result<Paths, Memory>
     requires { rule.IsNoted ahead.now noted.old }
     ensures noted { rule.IsNoted ahead.now noted.new }
-    ensures paths { IfOk result (λ paths. sought.now.depth ≡ None → paths ≡ rule.looked_at_by ahead.now sought.now) }
+    ensures paths { IfOk result (rule.AreLookedAt ahead.now sought.now) }
 {
     let paths = touched_at(ahead.tree, ahead.change, &sought.dataset)?;
     let dataset = sought.dataset.as_slice();
@@ -84,7 +82,7 @@ fn in_dataset<'a>(
 ) -> Result<Paths, Memory>
     requires { rule.IsNoted ahead.now noted.old }
     ensures noted { rule.IsNoted ahead.now noted.new }
-    ensures paths { IfOk result (λ paths. sought.now.depth ≡ None → paths ≡ rule.looked_at_by ahead.now sought.now) }
+    ensures paths { IfOk result (rule.AreLookedAt ahead.now sought.now) }
 {
     if has_dataset(ahead.datasets, &sought.dataset) {
         if let Some(paths) = known_paths(ahead, sought, noted) {

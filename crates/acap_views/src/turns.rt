@@ -4,7 +4,7 @@ ghost use Rattle.std.specs.List.{sum_by};
 ghost use Rattle.acap_search.specs.Counting.{IsCounted};
 ghost use Rattle.acap_views.specs.Keeping.{occupant_in};
 ghost use Rattle.acap_views.specs.Plans as rule;
-ghost use Rattle.acap_views.specs.Touching.{IsNoted};
+ghost use Rattle.acap_views.specs.Touching.{IsNoted, looked_at_by};
 
 use crate::ahead::Ahead;
 use crate::beside::Beside;
@@ -16,24 +16,24 @@ use crate::shift_making::shifts_at;
 use crate::sitting::Sitting;
 use crate::touching::touched_for;
 use acap_entries::{Memory, Sequence, Steps, UserName};
+use acap_search::Sought;
 use std::alloc::Global;
 use std::sync::ledger::Ledger;
 
-// What becomes of the entries that a live context looks at.
+// What becomes of the entries that the search of a live context looks at.
 fn live_turn<'a, L: Ledger>(
     alloc: Global,
     ahead: &Ahead<'_>,
     user: &UserName,
-    context: &'a OpenContext,
+    sought: &'a Sought,
     noted: &mut Option<Noted<'a>>,
     steps: &mut Steps<L>,
 ) -> Result<Shifts, Memory>
     requires { IsNoted ahead.now noted.old }
     ensures noted { IsNoted ahead.now noted.new }
-    ensures count { IsCounted result steps.old steps.new (length (rule.looked_at ahead.now context.now.context)) }
-    ensures shifts { IfOk result (λ shifts. shifts ≡ rule.live_shifts ahead.now user.now context.now.context) }
+    ensures count { IsCounted result steps.old steps.new (length (looked_at_by ahead.now sought.now)) }
+    ensures shifts { IfOk result (λ shifts. shifts ≡ rule.live_shifts ahead.now user.now sought.now) }
 {
-    let sought = &context.sought;
     let paths = touched_for(ahead, sought, noted)?;
     if paths.is_empty() {
         return Ok(Shifts::new(alloc));
@@ -64,7 +64,7 @@ fn turn_of<'a, L: Ledger>(
     ensures shifts { IfOk result (λ shifts. shifts ≡ rule.shifts_in ahead.now user.now context.now.context) }
 {
     if context.is_live() {
-        live_turn(alloc, ahead, user, context, noted, steps)
+        live_turn(alloc, ahead, user, &context.sought, noted, steps)
     } else {
         Ok(Shifts::new(alloc))
     }

@@ -2,7 +2,7 @@ use Rattle.std.proofs.Common.{◌∙◌, ap, []}
 use Rattle.std.specs.Option.{unwrap_or}
 use Rattle.std.proofs.lemmas.Result.{IfOk-weaker}
 use Rattle.acap_search.specs.Views.{places_at, spotted}
-use Rattle.acap_views.specs.Scenes.{spot_before}
+use Rattle.acap_views.specs.Scenes.{places_before}
 use Rattle.acap_views.proofs.shift_making.places_before.Goals as goal
 
 pub returns : goal.returns
@@ -15,4 +15,4 @@ returns c =
       dataset = c.args.path.now.dataset;
       chain = chain;
     }) c.args.path.now.name) (unwrap_or c.scene.inside.sought.now.sort [])) c.chain.ensures
-    ∙ ap (λ s. places_at (spot_before s c.args.path.now) (unwrap_or s.sought.sort [])) c.scene.view_is)) c.places_at.ensures
+    ∙ ap (λ s. places_before s c.args.path.now) c.scene.view_is)) c.places_at.ensures
