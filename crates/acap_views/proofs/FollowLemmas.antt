@@ -1,19 +1,23 @@
 -- A live list that is brought up to date entry by entry, each match found by where it stood, is brought up to date by names.
-use Rattle.std.proofs.Common.{◌≡◌, ℕ, Bool, true, Option, Some, None, List, [], ◌∷◌, ◌++◌, refl, sym, ◌∙◌, ap, subst, ◌⊎◌, inl, inr, map as each}
+use Rattle.std.proofs.Common.{◌≡◌, ℕ, ◌+◌, ◌<◌, ◌≤◌, ◌==◌, ◌&&◌, Bool, true, false, not, cond, nat_lt, Option, Some, None, List, [], ◌∷◌, ◌++◌, length, length-append, arith, refl, sym, ◌∙◌, ap, subst, ◌⊎◌, inl, inr, map as each}
 use Rattle.std.specs.Cmp.{both_ways, tied_itself}
 use Rattle.std.specs.FinMap.Entries.{by_order}
-use Rattle.std.specs.List.{Contains}
+use Rattle.std.proofs.lemmas.Bool.{ltb-true}
+use Rattle.std.specs.List.{Contains, filter, find}
+use Rattle.std.specs.Option.{option_map}
 use Rattle.std.specs.Ordering.{eq_by_cmp, is_eq, ordering_then}
 use Rattle.std.specs.declared.cmp.Ordering.TheVariants.{Less, Equal, Greater}
 use Rattle.acap_entries.proofs.FullPathLaws.{full_paths}
 use Rattle.acap_entries.proofs.RankLaws.{rank_holds}
 use Rattle.acap_entries.specs.FullPaths.{full_path_cmp, IsSplit}
 use Rattle.acap_entries.specs.Orders.{octets_eq}
-use Rattle.acap_entries.specs.Ranks.{Ascending, with_item}
+use Rattle.acap_entries.specs.Ranks.{Ascending, rank_of, item_at, with_item, without_item}
 use Rattle.acap_entries.specs.declared.path.Path.{Path}
+use Rattle.acap_notices.specs.Waiting.{most_waiting}
+use Rattle.acap_notices.specs.declared.notice.Notice.{Notice}
 use Rattle.acap_moves.specs.Hits.{Name}
 use Rattle.acap_moves.specs.Moves.{Move, after_moves, after_move, moves_notices}
-use Rattle.acap_moves.specs.Notices.{notice_at}
+use Rattle.acap_moves.specs.Notices.{notice_at, notice_between, same_row}
 use Rattle.acap_moves.proofs.Splits.{same_name, itself}
 use Rattle.acap_search.specs.Matches.{Match, match_cmp}
 use Rattle.acap_search.specs.Places.{places_cmp}
@@ -23,9 +27,9 @@ use Rattle.acap_search.specs.declared.rank.Place.{Place}
 use Rattle.acap_search.proofs.OnceLemmas.{then_equal}
 use Rattle.acap_search.proofs.SeenLemmas.{here, there, first_or, nowhere, either}
 use Rattle.acap_views.specs.Notices.{told_shape}
-use Rattle.acap_views.specs.Shifting.{Shift, standing, with_match, without_old, after_shift, after_shifts, shifts_notices}
+use Rattle.acap_views.specs.Shifting.{Shift, standing, with_match, without_old, stood, stands, from_one, after_shift, after_shifts, shift_notices, shifts_notices, tells_between, surely_tells, counted, until_full}
 use Rattle.acap_views.proofs.PathLemmas.{IsIn, told_apart}
-use Rattle.acap_views.proofs.ShiftLemmas.{Unlike, IsApt, rises, left_of, shift_is, told_is, tied}
+use Rattle.acap_views.proofs.ShiftLemmas.{Unlike, IsApt, rises, left_of, finds_place, shift_is, told_is, tied}
 
 from_with : (come : Match) (es : List Match) (x : Match) → Contains (with_item match_cmp come es) x → (come ≡ x) ⊎ Contains es x
 unfolding with_item
@@ -37,6 +41,58 @@ from_with come (e ∷ es) x k = elim (match_cmp come e) as (λ o. Contains (by_o
       (λ same. inr (subst (λ y. Contains (e ∷ es) y) same (here e es)))
       (λ m. either (from_with come es x m) (λ same. inl same) (λ n. inr (there e x es n)))
 ] k
+
+-- what is looked for is found as before where none of that kind goes or comes
+false_if : (b : Bool) → (b ≡ true → ⊥) → b ≡ false
+false_if true n = absurd (n refl)
+false_if false n = refl
+
+found_left : (p q : Match → Bool) (xs : List Match) → ((x : Match) → Contains xs x → p x ≡ true → q x ≡ true) → find p (filter q xs) ≡ find p xs
+found_left p q [] h = refl
+found_left p q (x ∷ xs) h =
+    let rest = found_left p q xs (λ y k. h y (there x y xs k)) in
+    elim (q x) as (λ b. q x ≡ b → find p (cond b (x ∷ filter q xs) (filter q xs)) ≡ cond (p x) (Some x) (find p xs)) [
+      | true ↦ λ e. ap (λ o. cond (p x) (Some x) o) rest
+      | false ↦ λ e. rest ∙ sym (ap (λ b. cond b (Some x) (find p xs)) (false_if (p x) (λ t. cc (sym e ∙ h x (here x xs) t))))
+    ] refl
+
+found_with : (p : Match → Bool) (come : Match) (xs : List Match) → p come ≡ false → find p (with_item match_cmp come xs) ≡ find p xs
+unfolding with_item
+found_with p come [] e = ap (λ b. cond b (Some come) None) e
+found_with p come (x ∷ xs) e = elim (match_cmp come x) as (λ o. find p (by_order o (come ∷ x ∷ xs) (x ∷ xs) (x ∷ with_item match_cmp come xs)) ≡ find p (x ∷ xs)) [
+  | Less ↦ ap (λ b. cond b (Some come) (find p (x ∷ xs))) e
+  | Equal ↦ refl
+  | Greater ↦ ap (λ o. cond (p x) (Some x) o) (found_with p come xs e)
+]
+
+found_then : (p : Match → Bool) (o : Option Match) (xs : List Match) → ((m : Match) → o ≡ Some m → p m ≡ false) → find p (with_match o xs) ≡ find p xs
+found_then p None xs h = refl
+found_then p (Some m) xs h = found_with p m xs (h m refl)
+
+-- where something goes or comes, or a row is another, one notice is told
+one_if_changed : (same row : Bool) (notice : Notice) → not row ≡ true → 1 ≤ length (cond (same && row) [] (notice ∷ []))
+one_if_changed true true notice e = absurd (cc (e))
+one_if_changed true false notice e = omega arith
+one_if_changed false row notice e = omega arith
+
+told_one : (enumerated : Bool) (name : Name) (gone come : Option (ℕ × Match)) → tells_between (option_map (λ s. s.1) gone) (option_map (λ s. s.1) come) ≡ true
+    → 1 ≤ length (notice_between told_shape enumerated name gone come)
+told_one true name None None e = absurd (cc (e))
+told_one true name None (Some b) e = omega arith
+told_one true name (Some a) None e = omega arith
+told_one true name (Some a) (Some b) e = one_if_changed (a.0 == b.0) (same_row a.1.row b.1.row) _ e
+told_one false name None None e = absurd (cc (e))
+told_one false name None (Some b) e = omega arith
+told_one false name (Some a) None e = omega arith
+told_one false name (Some a) (Some b) e = one_if_changed true (same_row a.1.row b.1.row) _ e
+
+found_there : (place : ℕ) (o : Option Match) → option_map (λ s. s.1) (from_one (option_map (λ found. (place, found)) o)) ≡ o
+found_there place None = refl
+found_there place (Some found) = refl
+
+counted_within : (b : Bool) (count n : ℕ) → (b ≡ true → 1 ≤ n) → cond b (count + 1) count ≤ count + n
+counted_within true count n h = omega (arith, h refl)
+counted_within false count n h = omega arith
 
 abbrev pub Apart : List Path → Type 0
 Apart [] = Unit {0}
@@ -123,6 +179,61 @@ module _ (dataset : List ℕ) (depth : Option ℕ) (was : Path → List Place) (
 
     still_there : (q : Path) → (p ≡ q → ⊥) → StoodThere hits q → StoodThere (after_shift (shift_by p) hits) q
     still_there q n s h k e = either (from_next (come p) h k) (λ c. absurd (n (sym (asked.path h c) ∙ e))) (λ l. s h l e)
+
+  -- what stood at another path is found as before
+  still_found : (p q : Path) (hits : List Match) → AreNamed hits → IsAsked p → IsAsked q → StoodThere hits p → StoodThere hits q → (p ≡ q → ⊥)
+      → item_at match_cmp (standing q (was q)) (after_shift (shift_by p) hits) ≡ item_at match_cmp (standing q (was q)) hits
+  unfolding item_at without_item
+  still_found p q hits named asked other here there n =
+      let ties = eq_by_cmp match_cmp (standing q (was q)) in
+      found_then ties (come p) _ (λ m c. false_if (ties m) (λ e.
+      n (sym (full_paths.same q m.path other.split (subst IsSplit (sym (asked.path m c)) asked.split) (then_equal _ _ (tied _ e)) ∙ asked.path m c))))
+      ∙ found_left ties (λ x. not (eq_by_cmp match_cmp (standing p (was p)) x)) hits (λ x k e.
+      ap not (false_if (eq_by_cmp match_cmp (standing p (was p)) x) (λ t. n (by_place p hits named asked here x k t ∙ sym (by_place q hits named other there x k e)))))
+
+  surely_told : (p : Path) (hits : List Match) → AreNamed hits → IsAsked p → StoodThere hits p → (enumerated : Bool) → surely_tells hits (shift_by p) ≡ true
+      → 1 ≤ length (shift_notices enumerated (shift_by p) hits)
+  surely_told p hits named asked at enumerated e =
+      let old = standing p (was p) in
+      let stood_is = found_there (rank_of match_cmp old hits) (item_at match_cmp old hits) in
+      let place = finds_place (shift_by p) hits (apt p hits named asked at) (come p) (unlike p hits named asked at) in
+      told_one enumerated (told p) (from_one (stood old hits)) (from_one (stands old (come p) hits))
+      ((λ i. tells_between (stood_is i) (place i)) ∙ e)
+
+  -- all of them are needed, or more notices would wait than may: with those that are needed, and with all
+  abbrev pub Suffices : Bool → ℕ → List Shift → List Shift → List Match → Type 0
+  Suffices enumerated count made all hits =
+      (made ≡ all) ⊎ ((most_waiting < count + length (shifts_notices enumerated made hits)) × (most_waiting < count + length (shifts_notices enumerated all hits)))
+
+  one_suffices : (enumerated : Bool) (count next : ℕ) (shift : Shift) (made all : List Shift) (hits : List Match) → next ≤ count + length (shift_notices enumerated shift hits)
+      → Suffices enumerated next made all (after_shift shift hits) → Suffices enumerated count (shift ∷ made) (shift ∷ all) hits
+  one_suffices enumerated count next shift made all hits h (inl e) = inl (ap (λ t. shift ∷ t) e)
+  one_suffices enumerated count next shift made all hits h (inr over) =
+      let first = shift_notices enumerated shift hits in
+      inr (
+        omega (arith, h, over.0, length-append first (shifts_notices enumerated made (after_shift shift hits))),
+        omega (arith, h, over.1, length-append first (shifts_notices enumerated all (after_shift shift hits))),
+      )
+
+  pub suffices : (enumerated : Bool) (first : List Match) (ps : List Path) (hits : List Match) (count : ℕ)
+      → AreNamed hits → ((p : Path) → Contains ps p → IsAsked p) → ((p : Path) → Contains ps p → StoodThere hits p) → Apart ps
+      → ((p : Path) → Contains ps p → item_at match_cmp (standing p (was p)) hits ≡ item_at match_cmp (standing p (was p)) first)
+      → Suffices enumerated count (until_full first count (each shift_by ps)) (each shift_by ps) hits
+  suffices enumerated first [] hits count n a s d f = inl refl
+  suffices enumerated first (p ∷ ps) hits count n a s d f =
+      let asked = a p (here p ps) in
+      let stood = s p (here p ps) in
+      let next = counted first (shift_by p) count in
+      let within = counted_within (surely_tells first (shift_by p)) count (length (shift_notices enumerated (shift_by p) hits)) (λ e.
+      surely_told p hits n asked stood enumerated (ap (λ (o : Option Match). tells_between o (come p)) (f p (here p ps)) ∙ e)) in
+      let rest = suffices enumerated first ps (after_shift (shift_by p) hits) next (next_named p hits n asked stood) (λ q k. a q (there p q ps k))
+      (λ q k. still_there p hits n asked stood q (d.0 q k) (s q (there p q ps k))) d.1
+      (λ q k. still_found p q hits n asked (a q (there p q ps k)) stood (s q (there p q ps k)) (d.0 q k) ∙ f q (there p q ps k)) in
+      elim (nat_lt most_waiting count) as (λ b. nat_lt most_waiting count ≡ b
+      → Suffices enumerated count (cond b [] (shift_by p ∷ until_full first next (each shift_by ps))) (shift_by p ∷ each shift_by ps) hits) [
+        | true ↦ λ e. inr (omega (arith, ltb-true _ _ e), omega (arith, ltb-true _ _ e))
+        | false ↦ λ e. one_suffices enumerated count next (shift_by p) (until_full first next (each shift_by ps)) (each shift_by ps) hits within rest
+      ] refl
 
   pub follow : (ps : List Path) (hits : List Match) → AreNamed hits → ((p : Path) → Contains ps p → IsAsked p) → ((p : Path) → Contains ps p → StoodThere hits p) → Apart ps
       → (after_shifts (each shift_by ps) hits ≡ after_moves told_shape (each move_of ps) hits)

@@ -1,12 +1,15 @@
 -- What is prepared of each touched entry comes to the change.
-use Rattle.std.proofs.Common.{◌≡◌, ℕ, suc, true, cond, Option, Some, None, List, [], ◌∷◌, length, refl, sym, ◌∙◌, ap, subst, arith, map as each}
+use Rattle.std.proofs.Common.{◌≡◌, ℕ, ◌<◌, suc, true, cond, nat_lt, Option, Some, None, List, [], ◌∷◌, length, refl, sym, ◌∙◌, ap, subst, arith, map as each}
 use Rattle.std.specs.Cmp.{nat_cmp_total, tied_itself}
 use Rattle.std.specs.Cmp.Lexicographic.{nat_list_cmp_total}
 use Rattle.std.specs.FinMap as table
 use Rattle.std.specs.List.{filter_map, sum_by, Contains}
 use Rattle.std.specs.Option.{option_map}
 use Rattle.acap_entries.specs.Datasets.{dataset_exists}
+use Rattle.std.proofs.lemmas.Bool.{lt-ltb}
 use Rattle.std.proofs.lemmas.List.Sums.{sum_by-cons}
+use Rattle.acap_notices.specs.Waiting.{most_waiting}
+use Rattle.acap_notices.specs.declared.notice.Notice.{Notice}
 use Rattle.acap_entries.specs.FullPaths.{IsSplit}
 use Rattle.acap_entries.specs.Orders.{octets_cmp}
 use Rattle.acap_entries.specs.Store.{Store, Written}
@@ -32,20 +35,20 @@ use Rattle.acap_search.proofs.OnceLemmas.{from_made, found_at, in_one, from_orde
 use Rattle.acap_search.proofs.SeenLemmas.{here, there, first_or, nowhere, either}
 use Rattle.acap_search.proofs.TupleLemmas.{made_is}
 use Rattle.acap_views.specs.Aheads.{Planned, store_ahead}
-use Rattle.acap_views.specs.Changing.{sight_for, follows, changed_context, changed_occupant}
+use Rattle.acap_views.specs.Changing.{sight_for, follows, changed_context, changed_occupant, changed}
 use Rattle.acap_views.specs.Contexts.{Kept, Snapshot, Live, Freed, Context}
-use Rattle.acap_views.specs.Current.{IsCurrentKept, IsCurrentContext, IsCurrentOccupant}
+use Rattle.acap_views.specs.Current.{IsCurrentKept, IsCurrentContext, IsCurrentOccupant, IsCurrent}
 use Rattle.acap_views.specs.Laws.{ChangedLaw, FoundLaw}
 use Rattle.acap_views.specs.Moving.{moves_of, IsTaken, TouchedMovesLaw}
 use Rattle.acap_views.specs.Notices.{told_shape, event_notices}
-use Rattle.acap_views.specs.Plans.{live_shifts, shifts_in, turns_at, work_in, work_at, shifts_count}
+use Rattle.acap_views.specs.Plans.{live_shifts, shifts_in, needed_in, turns_by, work_in, work_at, shifts_count}
 use Rattle.acap_views.specs.PreparedLaws.{PreparedLaw}
-use Rattle.acap_views.specs.Preparing.{seen_at, shift_for, shifts_if, shifts_for, kept_after, context_after, contexts_after, occupant_after, seats_after}
-use Rattle.acap_views.specs.Seats.{Occupant}
-use Rattle.acap_views.specs.Shifting.{Shift, after_shifts, shifts_notices}
+use Rattle.acap_views.specs.Preparing.{seen_at, shift_for, shifts_if, shifts_for, needed_if, kept_after, context_after, contexts_after, occupant_after, seats_after, with_delta}
+use Rattle.acap_views.specs.Seats.{Occupant, Seated}
+use Rattle.acap_views.specs.Shifting.{Shift, after_shifts, shifts_notices, until_full}
 use Rattle.acap_views.specs.Work.{is_live, touched_for}
 use Rattle.acap_views.proofs.CurrentLemmas.{find_own}
-use Rattle.acap_views.proofs.FollowLemmas.{Apart, move_of, IsNamed, AreNamed, IsAsked, StoodThere, follow}
+use Rattle.acap_views.proofs.FollowLemmas.{Apart, move_of, IsNamed, AreNamed, IsAsked, StoodThere, suffices, follow}
 use Rattle.acap_views.proofs.ListLemmas.{so}
 use Rattle.acap_views.proofs.MovingLemmas.{split_seen, looked_split, looked_in, alone, looked_rise}
 use Rattle.acap_views.proofs.PathLemmas.{IsIn}
@@ -70,6 +73,9 @@ apart depth (p ∷ ps) a = (
   λ q k e. below_itself (name_told depth p) (each (name_told depth) ps) (name_told depth q) a.0 (in_each (name_told depth) ps q k) (ap (name_told depth) e),
   apart depth ps a.1,
 )
+
+freed : (count : ℕ) (kept : Kept) → most_waiting < count → cond (nat_lt most_waiting count) Freed kept ≡ Freed
+freed count kept h = ap (λ b. cond b Freed kept) (lt-ltb _ _ h)
 
 module _ (nothing : NothingLaw) (names : NamesLaw) (listed : TouchedPathsLaw) (seen : SeenLaw) (unread : TouchedLaw) (changes : ChangedLaw) (found : FoundLaw) (tuples : TupleLaw) (hits : HitLaw) (moved : TouchedMovesLaw) where
   module _ (written : Written) (old new : Store) (realm : Realm) (user : List ℕ) (context : Context) (taken : IsTaken written old new) (exists : dataset_exists old.records context.sought.dataset ≡ true) where
@@ -144,12 +150,15 @@ module _ (nothing : NothingLaw) (names : NamesLaw) (listed : TouchedPathsLaw) (s
     same_moves [] h = refl
     same_moves (p ∷ ps) h = λ i. (name_told sought.depth p, h p (here p ps) i) ∷ same_moves ps (λ q k. h q (there p q ps k)) i
 
+    apart_looked : Apart looked
+    apart_looked = apart sought.depth looked (looked_rise nothing names listed seen unread changes found written old new realm user sought taken exists)
+
     followed : (after_shifts (each (shift_for old.records new.records realm user sought) looked) last ≡ matches_of new.records realm user sought)
         × (shifts_notices context.enumerated (each (shift_for old.records new.records realm user sought) looked) last ≡ event_notices context.enumerated sought before after)
     followed =
         let same = same_moves looked come_is in
         let f = follow sought.dataset sought.depth was come looked last are_named asked (λ p k. stood p)
-        (apart sought.depth looked (looked_rise nothing names listed seen unread changes found written old new realm user sought taken exists)) in (
+        apart_looked in (
           f.0 ∙ (ap (λ ms. after_moves told_shape ms last) same ∙ moved.list written old new realm user context taken exists),
           f.1 context.enumerated ∙ (ap (λ ms. moves_notices told_shape context.enumerated ms last) same ∙ moved.told written old new realm user context taken exists),
         )
@@ -165,36 +174,64 @@ module _ (nothing : NothingLaw) (names : NamesLaw) (listed : TouchedPathsLaw) (s
         ∙ ap (λ ms. follows (event_notices context.enumerated sought before after) ms (Live shown now pending)) followed.0)
     kept_is Freed i = refl
 
+    abbrev all : List Shift
+    all = each (shift_for old.records new.records realm user sought) looked
+
+    abbrev kept_by : List Match → List Match → List Notice → List Shift → Kept
+    kept_by shown now pending shifts = follows (shifts_notices context.enumerated shifts now) (after_shifts shifts now) (Live shown now pending)
+
+    needed_at : (shown : List Match) (pending : List Notice) → kept_by shown last pending (until_full last (length pending) all) ≡ kept_by shown last pending all
+    needed_at shown pending = either
+        (suffices sought.dataset sought.depth was come context.enumerated last looked last (length pending) are_named asked (λ p k. stood p) apart_looked (λ p k. refl))
+        (λ e. ap (kept_by shown last pending) e)
+        (λ over. freed _ _ over.0 ∙ sym (freed _ _ over.1))
+
+    needed_is : (kept : Kept) → IsCurrentKept last context.enumerated kept
+        → kept_after context.enumerated (needed_if kept (shifts_if kept all)) kept ≡ kept_after context.enumerated (shifts_if kept all) kept
+    needed_is (Snapshot shown) i = refl
+    needed_is (Live shown now pending) i =
+        subst (λ ms. kept_by shown ms pending (until_full ms (length pending) all) ≡ kept_by shown ms pending all) (sym i.fresh_now) (needed_at shown pending)
+    needed_is Freed i = refl
+
   one_context : (written : Written) (old new : Store) (realm : Realm) (user : List ℕ) (context : Context) → IsTaken written old new → IsCurrentContext old realm user context
       → context_after (shifts_for written old new realm user context) context ≡ changed_context realm old new user context
   one_context written old new realm user context taken current =
       λ i. record context { kept = kept_is written old new realm user context taken current.exists context.kept current.kept i }
 
-  all_contexts : (written : Written) (old new : Store) (realm : Realm) (user : List ℕ) (es : List (List ℕ × Context)) → IsTaken written old new
-      → ((e : List ℕ × Context) → Contains es e → IsCurrentContext old realm user e.1)
-      → contexts_after (each (shifts_for written old new realm user) (each (λ e. e.1) es)) es
-      ≡ filter_map (λ e. option_map (λ y. (e.0, y)) (Some (changed_context realm old new user e.1))) es
-  all_contexts written old new realm user [] taken current = refl
-  all_contexts written old new realm user (e ∷ es) taken current = λ i.
-      (e.0, one_context written old new realm user e.1 taken (current e (here e es)) i) ∷ all_contexts written old new realm user es taken (λ x k. current x (there e x es k)) i
+  one_needed : (plan : Planned) (user : List ℕ) (context : Context) → IsTaken plan.change.writes plan.old (store_ahead plan) → IsCurrentContext plan.old plan.realm user context
+      → context_after (needed_in plan user context) context ≡ changed_context plan.realm plan.old (store_ahead plan) user context
+  one_needed plan user context taken current =
+      (λ i. record context { kept = needed_is plan.change.writes plan.old (store_ahead plan) plan.realm user context taken current.exists context.kept current.kept i })
+      ∙ one_context plan.change.writes plan.old (store_ahead plan) plan.realm user context taken current
 
   are_current : (plan : Planned) (occupant : Occupant) → IsCurrentOccupant plan.old plan.realm occupant → (e : List ℕ × Context) → Contains (table.entries occupant.contexts) e
       → IsCurrentContext plan.old plan.realm occupant.user e.1
   are_current plan occupant current e k =
       current.each e.0 e.1 (table.get-entries occupant.contexts e.0 ∙ find_own nat_list_cmp_total (table.entries occupant.contexts) e (so _ (table.entries_sorted occupant.contexts)) k)
 
-  one_occupant : (plan : Planned) (occupant : Occupant) → IsTaken plan.change.writes plan.old (store_ahead plan) → IsCurrentOccupant plan.old plan.realm occupant
-      → occupant_after (turns_at plan occupant) occupant ≡ changed_occupant plan.realm plan.old (store_ahead plan) occupant
-  one_occupant plan occupant taken current = λ i. record occupant {
-    contexts = table.from_entries ((contexts_trimmed plan.old plan.realm occupant.user (each (shifts_in plan occupant.user) (table.values occupant.contexts)) (table.entries occupant.contexts) (are_current plan occupant current)
-        ∙ all_contexts plan.change.writes plan.old (store_ahead plan) plan.realm occupant.user (table.entries occupant.contexts) taken (are_current plan occupant current)) i);
-  }
+  -- whatever is made for each context, so that it comes to the change of that one
+  module _ (plan : Planned) (made : List ℕ → Context → List Shift) (right : (user : List ℕ) (context : Context) → IsCurrentContext plan.old plan.realm user context
+      → context_after (made user context) context ≡ changed_context plan.realm plan.old (store_ahead plan) user context) where
+    all_contexts : (user : List ℕ) (es : List (List ℕ × Context)) → ((e : List ℕ × Context) → Contains es e → IsCurrentContext plan.old plan.realm user e.1)
+        → contexts_after (each (made user) (each (λ e. e.1) es)) es ≡ filter_map (λ e. option_map (λ y. (e.0, y)) (Some (changed_context plan.realm plan.old (store_ahead plan) user e.1))) es
+    all_contexts user [] current = refl
+    all_contexts user (e ∷ es) current = λ i. (e.0, right user e.1 (current e (here e es)) i) ∷ all_contexts user es (λ x k. current x (there e x es k)) i
 
-  all_occupants : (plan : Planned) (es : List (ℕ × Occupant)) → IsTaken plan.change.writes plan.old (store_ahead plan)
-      → ((e : ℕ × Occupant) → Contains es e → IsCurrentOccupant plan.old plan.realm e.1)
-      → seats_after (each (turns_at plan) (each (λ e. e.1) es)) es ≡ filter_map (λ e. option_map (λ y. (e.0, y)) (Some (changed_occupant plan.realm plan.old (store_ahead plan) e.1))) es
-  all_occupants plan [] taken current = refl
-  all_occupants plan (e ∷ es) taken current = λ i. (e.0, one_occupant plan e.1 taken (current e (here e es)) i) ∷ all_occupants plan es taken (λ x k. current x (there e x es k)) i
+    one_occupant : (occupant : Occupant) → IsCurrentOccupant plan.old plan.realm occupant → occupant_after (turns_by made occupant) occupant ≡ changed_occupant plan.realm plan.old (store_ahead plan) occupant
+    one_occupant occupant current = λ i. record occupant {
+      contexts = table.from_entries ((contexts_trimmed plan.old plan.realm occupant.user (each (made occupant.user) (table.values occupant.contexts)) (table.entries occupant.contexts) (are_current plan occupant current)
+          ∙ all_contexts occupant.user (table.entries occupant.contexts) (are_current plan occupant current)) i);
+    }
+
+    all_occupants : (es : List (ℕ × Occupant)) → ((e : ℕ × Occupant) → Contains es e → IsCurrentOccupant plan.old plan.realm e.1)
+        → seats_after (each (turns_by made) (each (λ e. e.1) es)) es ≡ filter_map (λ e. option_map (λ y. (e.0, y)) (Some (changed_occupant plan.realm plan.old (store_ahead plan) e.1))) es
+    all_occupants [] current = refl
+    all_occupants (e ∷ es) current = λ i. (e.0, one_occupant e.1 (current e (here e es)) i) ∷ all_occupants es (λ x k. current x (there e x es k)) i
+
+    all_seats : (seats : Seated) (work : ℕ) → IsCurrent plan.old plan.realm seats
+        → with_delta (record { seats = each (turns_by made) (table.values seats); work = work }) seats ≡ changed plan.realm plan.old (store_ahead plan) seats
+    all_seats seats work current = ap table.from_entries (all_occupants (table.entries seats)
+        (λ e k. current.all e.0 e.1 (table.get-entries seats e.0 ∙ find_own nat_cmp_total (table.entries seats) e (so _ (table.entries_sorted seats)) k)))
 
   -- ---- how many are looked at
 
@@ -218,10 +255,10 @@ module _ (nothing : NothingLaw) (names : NamesLaw) (listed : TouchedPathsLaw) (s
 
   pub prepared_law : PreparedLaw
   prepared_law = record {
-    changed = λ plan seats work taken current.
-        ap table.from_entries (all_occupants plan (table.entries seats) taken
-        (λ e k. current.all e.0 e.1 (table.get-entries seats e.0 ∙ find_own nat_cmp_total (table.entries seats) e (so _ (table.entries_sorted seats)) k)));
-    count = λ plan seats. sum_each shifts_count (turns_at plan) (work_at plan) (table.values seats) (λ occupant.
+    changed = λ plan seats work taken current. all_seats plan (shifts_in plan)
+        (λ user context c. one_context plan.change.writes plan.old (store_ahead plan) plan.realm user context taken c) seats work current;
+    needed = λ plan seats work taken current. all_seats plan (needed_in plan) (λ user context c. one_needed plan user context taken c) seats work current;
+    count = λ plan seats. sum_each shifts_count (turns_by (shifts_in plan)) (work_at plan) (table.values seats) (λ occupant.
         count_trimmed (each (shifts_in plan occupant.user) (table.values occupant.contexts))
         ∙ sum_each length (shifts_in plan occupant.user) (work_in plan) (table.values occupant.contexts) (one_count plan occupant.user));
   }

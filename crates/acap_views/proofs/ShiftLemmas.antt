@@ -229,6 +229,11 @@ module _ (shift : Shift) (hits : List Match) (apt : IsApt shift hits) where
   free found u = ap (λ (o : Option Match). cond (is_some o) None (Some (rank_of match_cmp found (without_old shift.old hits), found)))
       (none_found (eq_by_cmp match_cmp found) (without_old shift.old hits) (λ x k. unequal (match_cmp found x) (u x k)))
 
+  pub finds_place : (come : Option Match) → ((found : Match) → come ≡ Some found → Unlike found (without_old shift.old hits))
+      → option_map (λ s. s.1) (from_one (stands shift.old come hits)) ≡ come
+  finds_place None u = refl
+  finds_place (Some found) u = ap (λ (o : Option (ℕ × Match)). option_map (λ s. s.1) (from_one o)) (free found (u found refl))
+
   places_are : (come : Option Match) → ((found : Match) → come ≡ Some found → Unlike found (without_old shift.old hits))
       → option_map (λ found. rank told_shape found (taken told_shape shift.name hits)) come ≡ option_map place_in (stands shift.old come hits)
   places_are None u = refl

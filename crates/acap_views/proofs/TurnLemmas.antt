@@ -16,7 +16,7 @@ use Rattle.acap_views.specs.Aheads.{Planned, store_ahead}
 use Rattle.acap_views.specs.Contexts.{Context}
 use Rattle.acap_views.specs.Keeping.{RoomyContext, RoomyContexts, RoomyOccupant, contexts_in, occupant_in}
 use Rattle.acap_views.specs.Listing.{as_seated, bare, bare_seat}
-use Rattle.acap_views.specs.Plans.{live_shifts, work_in, shifts_in, work_at, turns_at, trimmed, work_of, turns_of}
+use Rattle.acap_views.specs.Plans.{live_shifts, work_in, needed_in, work_at, turns_by, trimmed, work_of, needed_of}
 use Rattle.acap_views.specs.Preparing.{shift_for}
 use Rattle.acap_views.specs.Scenes.{Scene, shift_in}
 use Rattle.acap_views.specs.Seats.{Occupant, Seated}
@@ -48,13 +48,13 @@ abbrev pub work_there : Planned → List ℕ × RoomyContext → ℕ
 work_there plan entry = work_in plan entry.1.context
 
 abbrev pub shifts_there : Planned → List ℕ → List ℕ × RoomyContext → List Shift
-shifts_there plan user entry = shifts_in plan user entry.1.context
+shifts_there plan user entry = needed_in plan user entry.1.context
 
 abbrev pub seat_work : Planned → ℕ × RoomyOccupant → ℕ
 seat_work plan entry = work_at plan (occupant_in entry.1)
 
 abbrev pub seat_turns : Planned → ℕ × RoomyOccupant → List (List Shift)
-seat_turns plan entry = turns_at plan (occupant_in entry.1)
+seat_turns plan entry = turns_by (needed_in plan) (occupant_in entry.1)
 
 module _ (plan : Planned) (es : List (List ℕ × RoomyContext)) (o : RoomyOccupant) (h : InOrder octets_cmp es) (v : table.from_sorted es ≡ o.contexts) where
   pub work_listed : work_at plan (occupant_in o) ≡ sum_by (work_there plan) es
@@ -63,11 +63,11 @@ module _ (plan : Planned) (es : List (List ℕ × RoomyContext)) (o : RoomyOccup
       ∙ (ap (λ (xs : List (List ℕ × Context)). sum_by (work_in plan) (each (λ (x : List ℕ × Context). x.1) xs)) (listed_entries es h)
       ∙ (sum_each (λ (x : List ℕ × Context). x.1) (work_in plan) (each bare es) ∙ sum_each bare (λ (x : List ℕ × Context). work_in plan x.1) es))
 
-  pub turns_listed : turns_at plan (occupant_in o) ≡ trimmed (each (shifts_there plan o.user) es)
+  pub turns_listed : turns_by (needed_in plan) (occupant_in o) ≡ trimmed (each (shifts_there plan o.user) es)
   turns_listed = ap trimmed (
-      ap (λ (cs : RoomyContexts). each (shifts_in plan o.user) (table.values (contexts_in cs))) (sym v)
-      ∙ (ap (λ (xs : List (List ℕ × Context)). each (shifts_in plan o.user) (each (λ (x : List ℕ × Context). x.1) xs)) (listed_entries es h)
-      ∙ (each_each (λ (x : List ℕ × Context). x.1) (shifts_in plan o.user) (each bare es) ∙ each_each bare (λ (x : List ℕ × Context). shifts_in plan o.user x.1) es)))
+      ap (λ (cs : RoomyContexts). each (needed_in plan o.user) (table.values (contexts_in cs))) (sym v)
+      ∙ (ap (λ (xs : List (List ℕ × Context)). each (needed_in plan o.user) (each (λ (x : List ℕ × Context). x.1) xs)) (listed_entries es h)
+      ∙ (each_each (λ (x : List ℕ × Context). x.1) (needed_in plan o.user) (each bare es) ∙ each_each bare (λ (x : List ℕ × Context). needed_in plan o.user x.1) es)))
 
 module _ (plan : Planned) (es : List (ℕ × RoomyOccupant)) (s : Seated) (h : InOrder nat_cmp es) (v : as_seated es ≡ s) where
   pub seats_work : work_of plan s ≡ sum_by (seat_work plan) es
@@ -76,11 +76,11 @@ module _ (plan : Planned) (es : List (ℕ × RoomyOccupant)) (s : Seated) (h : I
       ∙ (ap (λ (xs : List (ℕ × Occupant)). sum_by (work_at plan) (each (λ (x : ℕ × Occupant). x.1) xs)) (entries_kept nat_cmp_total nat_cmp-IsAntisymmetric occupant_in es h)
       ∙ (sum_each (λ (x : ℕ × Occupant). x.1) (work_at plan) (each bare_seat es) ∙ sum_each bare_seat (λ (x : ℕ × Occupant). work_at plan x.1) es))
 
-  pub seats_turns : turns_of plan s ≡ each (seat_turns plan) es
+  pub seats_turns : needed_of plan s ≡ each (seat_turns plan) es
   seats_turns =
-      ap (λ (x : Seated). each (turns_at plan) (table.values x)) (sym v)
-      ∙ (ap (λ (xs : List (ℕ × Occupant)). each (turns_at plan) (each (λ (x : ℕ × Occupant). x.1) xs)) (entries_kept nat_cmp_total nat_cmp-IsAntisymmetric occupant_in es h)
-      ∙ (each_each (λ (x : ℕ × Occupant). x.1) (turns_at plan) (each bare_seat es) ∙ each_each bare_seat (λ (x : ℕ × Occupant). turns_at plan x.1) es))
+      ap (λ (x : Seated). each (turns_by (needed_in plan)) (table.values x)) (sym v)
+      ∙ (ap (λ (xs : List (ℕ × Occupant)). each (turns_by (needed_in plan)) (each (λ (x : ℕ × Occupant). x.1) xs)) (entries_kept nat_cmp_total nat_cmp-IsAntisymmetric occupant_in es h)
+      ∙ (each_each (λ (x : ℕ × Occupant). x.1) (turns_by (needed_in plan)) (each bare_seat es) ∙ each_each bare_seat (λ (x : ℕ × Occupant). turns_by (needed_in plan) x.1) es))
 
 -- ---- of a live context
 

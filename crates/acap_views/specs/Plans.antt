@@ -5,9 +5,10 @@ use Rattle.std.specs.List.{list_all, sum_by}
 use Rattle.acap_search.specs.declared.query.Sought.{Sought}
 use Rattle.acap_views.specs.Aheads.{Planned, store_ahead}
 use Rattle.acap_views.specs.Contexts.{Context}
-use Rattle.acap_views.specs.Preparing.{shift_for, shifts_for}
+use Rattle.acap_views.specs.Preparing.{shift_for, shifts_for, needed_if}
 use Rattle.acap_views.specs.Seats.{Occupant, Seated}
-use Rattle.acap_views.specs.Shifting.{Shift}
+use Rattle.acap_views.specs.Room.{Watched}
+use Rattle.acap_views.specs.Shifting.{Shift, needed}
 use Rattle.acap_views.specs.Touching.{looked_at_by}
 use Rattle.acap_views.specs.Work.{work_for}
 
@@ -15,11 +16,18 @@ abbrev pub live_shifts : Planned → List ℕ → Sought → List Shift
 live_shifts plan user sought =
     each (shift_for plan.old.records (store_ahead plan).records plan.realm user sought) (looked_at_by plan sought)
 
+abbrev pub live_needed : Planned → List ℕ → Sought → Watched → List Shift
+live_needed plan user sought watched = needed watched (live_shifts plan user sought)
+
 abbrev pub work_in : Planned → Context → ℕ
 work_in plan context = work_for plan.change.writes plan.old (store_ahead plan) context
 
 abbrev pub shifts_in : Planned → List ℕ → Context → List Shift
 shifts_in plan user context = shifts_for plan.change.writes plan.old (store_ahead plan) plan.realm user context
+
+-- as many of them as are needed
+abbrev pub needed_in : Planned → List ℕ → Context → List Shift
+needed_in plan user context = needed_if context.kept (shifts_in plan user context)
 
 abbrev pub work_at : Planned → Occupant → ℕ
 work_at plan occupant = sum_by (work_in plan) (table.values occupant.contexts)
@@ -31,14 +39,20 @@ is_still turns = list_all (λ shifts. length shifts == 0) turns
 abbrev pub trimmed : List (List Shift) → List (List Shift)
 trimmed turns = if is_still turns then [] else turns
 
-abbrev pub turns_at : Planned → Occupant → List (List Shift)
-turns_at plan occupant = trimmed (each (shifts_in plan occupant.user) (table.values occupant.contexts))
+abbrev pub turns_by : (List ℕ → Context → List Shift) → Occupant → List (List Shift)
+turns_by made occupant = trimmed (each (made occupant.user) (table.values occupant.contexts))
+
+abbrev pub needed_at : Planned → Occupant → List (List Shift)
+needed_at plan occupant = turns_by (needed_in plan) occupant
 
 abbrev pub work_of : Planned → Seated → ℕ
 work_of plan seats = sum_by (work_at plan) (table.values seats)
 
 abbrev pub turns_of : Planned → Seated → List (List (List Shift))
-turns_of plan seats = each (turns_at plan) (table.values seats)
+turns_of plan seats = each (turns_by (shifts_in plan)) (table.values seats)
+
+abbrev pub needed_of : Planned → Seated → List (List (List Shift))
+needed_of plan seats = each (needed_at plan) (table.values seats)
 
 -- how many entries there are in turns
 abbrev pub shifts_count : List (List Shift) → ℕ

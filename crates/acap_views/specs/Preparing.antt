@@ -1,5 +1,5 @@
 -- What a change comes to for each context, made before it is committed: words of contracts.
-use Rattle.std.specs.Prelude.{◌≡◌, ℕ, Bool, List, [], ◌∷◌, map as each, None, refl}
+use Rattle.std.specs.Prelude.{◌≡◌, ℕ, Bool, List, [], ◌∷◌, length, map as each, None, refl}
 use Rattle.std.specs.Coded.{Coded, code_by, coded×, coded_list, coded_ℕ}
 use Rattle.std.specs.FinMap as table
 use Rattle.std.specs.Option.{unwrap_or}
@@ -16,7 +16,7 @@ use Rattle.acap_views.specs.Changing.{follows, changed}
 use Rattle.acap_views.specs.Contexts.{Kept, Snapshot, Live, Freed, Context}
 use Rattle.acap_views.specs.Keeping.{RoomySeats, seats_in}
 use Rattle.acap_views.specs.Seats.{Occupant, Seated}
-use Rattle.acap_views.specs.Shifting.{Shift, standing, after_shifts, shifts_notices, shift_code}
+use Rattle.acap_views.specs.Shifting.{Shift, standing, after_shifts, shifts_notices, until_full, shift_code}
 use Rattle.acap_views.specs.Work.{touched_for, touched_within}
 
 -- the entry at a path, as a user sees it in a search
@@ -40,6 +40,12 @@ shifts_if Freed shifts = []
 abbrev pub shifts_for : Written → Store → Store → Realm → List ℕ → Context → List Shift
 shifts_for written old new realm user context =
     shifts_if context.kept (each (shift_for old.records new.records realm user context.sought) (touched_for written old new context))
+
+-- of these as many as are needed
+abbrev pub needed_if : Kept → List Shift → List Shift
+needed_if (Snapshot shown) shifts = shifts
+needed_if (Live shown now pending) shifts = until_full now (length pending) shifts
+needed_if Freed shifts = shifts
 
 -- what they make of a context
 abbrev pub kept_after : Bool → List Shift → Kept → Kept

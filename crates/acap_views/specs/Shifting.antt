@@ -1,5 +1,5 @@
 -- A live list is brought up to date entry by entry: what stood where, and what is put where.
-use Rattle.std.specs.Prelude.{◌≡◌, ℕ, ◌+◌, ◌<◌, Bool, List, [], ◌∷◌, ◌++◌, length, Option, Some, None, is_some, refl, if◌then◌else◌}
+use Rattle.std.specs.Prelude.{◌≡◌, ℕ, ◌+◌, ◌<◌, Bool, true, false, List, [], ◌∷◌, ◌++◌, length, Option, Some, None, is_some, not, nat_lt, refl, if◌then◌else◌}
 use Rattle.std.specs.Coded.{Coded, code_by, coded×, coded_list, coded_option, coded_ℕ}
 use Rattle.std.specs.List.{cons_option}
 use Rattle.std.specs.Option.{option_map, option_and_then}
@@ -8,7 +8,7 @@ use Rattle.acap_entries.specs.Ranks.{rank_of, item_at, with_item, without_item}
 use Rattle.acap_notices.specs.Waiting.{most_waiting}
 use Rattle.acap_notices.specs.declared.notice.Notice.{Notice}
 use Rattle.acap_moves.specs.Moves.{Move, Undo}
-use Rattle.acap_moves.specs.Notices.{notice_between}
+use Rattle.acap_moves.specs.Notices.{notice_between, same_row}
 use Rattle.acap_search.specs.Matches.{Match, match_cmp, match_code}
 use Rattle.acap_search.specs.declared.placed.Standing.{Standing}
 use Rattle.acap_search.specs.declared.rank.Place.{Place}
@@ -95,6 +95,30 @@ IsTooMuch enumerated shift old = most_waiting < length old.pending + length (shi
 
 abbrev pub AreTooMany : Bool → List Shift → Watched → Type 0
 AreTooMany enumerated shifts old = most_waiting < length old.pending + length (shifts_notices enumerated shifts old.present)
+
+-- something is told for certain of a match that goes, of one that comes, and of one whose row is another
+abbrev pub tells_between : Option Match → Option Match → Bool
+tells_between None None = false
+tells_between None (Some found) = true
+tells_between (Some gone) None = true
+tells_between (Some gone) (Some found) = not (same_row gone.row found.row)
+
+abbrev pub surely_tells : List Match → Shift → Bool
+surely_tells matches shift = tells_between (item_at match_cmp shift.old matches) shift.come
+
+-- so many notices wait or will for certain, with one entry more
+abbrev pub counted : List Match → Shift → ℕ → ℕ
+counted matches shift count = if surely_tells matches shift then count + 1 else count
+
+-- of what becomes of entries as much as is needed: where more notices than may are certain to wait, the context is freed whatever
+-- becomes of the rest
+abbrev pub until_full : List Match → ℕ → List Shift → List Shift
+until_full matches count [] = []
+until_full matches count (shift ∷ shifts) =
+    if nat_lt most_waiting count then [] else shift ∷ until_full matches (counted matches shift count) shifts
+
+abbrev pub needed : Watched → List Shift → List Shift
+needed watched shifts = until_full watched.present (length watched.pending) shifts
 
 abbrev pub move_by : Shift → Move Match
 move_by shift = (shift.name, shift.come)

@@ -1,5 +1,5 @@
 //! What a change comes to for all contexts, made before it is committed.
-ghost use Rattle.std.specs.Prelude.{◌≡◌, ◌+◌, ◌-◌, ◌≤◌, ◌^◌, ◌<◌, IfOk, length, map as each};
+ghost use Rattle.std.specs.Prelude.{◌≡◌, ◌+◌, ◌-◌, ◌≤◌, ◌^◌, ◌<◌, IfOk, OnOk, length, map as each};
 ghost use Rattle.std.specs.FinMap as table;
 ghost use Rattle.acap_entries.specs.Changes.{store_after};
 ghost use Rattle.acap_inherit.specs.Index.{IsIndexOf};
@@ -12,7 +12,7 @@ ghost use Rattle.acap_views.specs.Preparing.{IsPreparedFor, touched_in};
 
 use crate::ahead::Ahead;
 use crate::beside::Beside;
-use crate::delta::{Delta, Shifts, Turns};
+use crate::delta::{Delta, Turns};
 use crate::moving::prepared_law;
 use crate::turns::turns_of;
 use crate::views::Views;
@@ -20,38 +20,6 @@ use acap_entries::{After, Change, Memory, Sequence, Steps, Tree};
 use acap_inherit::Resolved;
 use acap_rights::Realm;
 use std::sync::ledger::Ledger;
-
-// How many more there are than so many. Memory could not hold more than are counted.
-fn and_more(count: usize, more: usize) -> Result<usize, Memory>
-    ensures { IfOk result (λ sum. sum ≡ count + more) }
-{
-    match count.checked_add(more) {
-        Some(sum) => Ok(sum),
-        None => Err(Memory),
-    }
-}
-
-// How many entries there are in what becomes of the contexts of a seat.
-fn shifts_count(turns: &[Shifts]) -> Result<usize, Memory>
-    ensures { IfOk result (λ count. count ≡ rule.shifts_count turns.now) }
-{
-    let mut count = 0;
-    for shifts in turns {
-        count = and_more(count, shifts.len())?;
-    }
-    Ok(count)
-}
-
-// The same for all seats.
-fn turns_count(seats: &[Turns]) -> Result<usize, Memory>
-    ensures { IfOk result (λ count. count ≡ rule.turns_count seats.now) }
-{
-    let mut count = 0;
-    for turns in seats {
-        count = and_more(count, shifts_count(turns.as_slice())?)?;
-    }
-    Ok(count)
-}
 
 // A dataset that a change writes, if there is one. Any is right: it only saves look-ups.
 fn written_dataset(change: &Change) -> &[u8] {
@@ -62,26 +30,28 @@ fn written_dataset(change: &Change) -> &[u8] {
 }
 
 impl Views {
-    // What becomes of the entries that the contexts of all seats look at, seat by seat.
+    // What becomes of the entries that the contexts of all seats look at, seat by seat, and how many these are.
     fn all_turns<L: Ledger>(
         &self,
         ahead: &Ahead<'_>,
+        work: &mut usize,
         steps: &mut Steps<L>,
     ) -> Result<Sequence<Turns>, Memory>
         ensures count { IsCounted result steps.old steps.new (rule.work_of ahead.now (seats_in self.now)) }
-        ensures turns { IfOk result (λ turns. turns ≡ rule.turns_of ahead.now (seats_in self.now)) }
+        ensures work { OnOk result (work.new ≡ work.old + rule.work_of ahead.now (seats_in self.now)) }
+        ensures turns { IfOk result (λ turns. turns ≡ rule.needed_of ahead.now (seats_in self.now)) }
     {
         let mut turns = Vec::with_capacity(self.alloc, self.seats.len())?;
         let mut noted = None;
         for entry in &self.seats {
-            turns.push(turns_of(self.alloc, ahead, &entry.1, &mut noted, steps)?)?;
+            turns.push(turns_of(self.alloc, ahead, &entry.1, &mut noted, work, steps)?)?;
         }
         Ok(Sequence::from_vec(turns))
     }
 
     /// What a change of the store comes to for all contexts, before it is committed: at `on_change` each live one is brought up to date
     /// in its user's eyes (RFC 2244 sections 3.3, 3.5 and 6.5). Each touched entry counts as a step for each live context that looks
-    /// at it. Fails only for want of memory; nothing has changed in either case.
+    /// at it, and is looked up unless the context is certain to be freed. Fails only for want of memory; nothing has changed in either case.
     pub fn prepare<L: Ledger>(
         &self,
         tree: &Tree,
@@ -114,8 +84,8 @@ impl Views {
             index,
             datasets: datasets.as_slice(),
         };
-        let seats = self.all_turns(&ahead, steps)?;
-        let work = turns_count(seats.as_slice())?;
+        let mut work = 0;
+        let seats = self.all_turns(&ahead, &mut work, steps)?;
         Ok(Delta { seats, work })
     }
 }

@@ -1,17 +1,22 @@
 //! What a change does to the entries that a live context looks at, made before the change is committed.
 ghost use Rattle.std.specs.Prelude.{◌≡◌, ◌+◌, ◌≤◌, IfOk, OnOk, length, map as each};
+ghost use Rattle.acap_notices.specs.Waiting.{most_waiting};
 ghost use Rattle.acap_search.specs.Counting.{IsCounted};
 ghost use Rattle.acap_search.specs.Tuples as tuples;
 ghost use Rattle.acap_views.specs.News.{name_in, come_in, name_for, IsTold};
 ghost use Rattle.acap_views.specs.Scenes as rule;
 ghost use Rattle.acap_views.specs.Scenes.{shift_in};
+ghost use Rattle.acap_views.specs.Shifting as moves;
+ghost use Rattle.acap_views.specs.Shifting.{needed};
 
 use crate::delta::Shifts;
 use crate::scene::Scene;
 use crate::shift::{News, Shift};
+use crate::watch::Watch;
 use acap_entries::{Copying, Memory, Octets, Path, Paths, Steps, Value};
 use acap_inherit::chain;
-use acap_search::{Hit, Placed, Places, Sought, Viewer, places_at, row_of};
+use acap_notices::MOST;
+use acap_search::{Hit, Placed, Places, Sought, Standing, Viewer, places_at, row_of};
 use std::alloc::Global;
 use std::sync::ledger::Ledger;
 
@@ -104,8 +109,35 @@ fn shift_at<L: Ledger>(
     Ok(Shift { places, path, news })
 }
 
-/// What becomes of some entries, one after the other. Each counts as a step. Fails only for want of memory.
-pub(crate) fn shifts_at<L: Ledger>(
+// Whether something is told for certain with what becomes of an entry.
+fn surely_tells(watch: &Watch, shift: &Shift) -> bool
+    ensures { result ≡ moves.surely_tells watch.now.present shift.now }
+{
+    let old = Standing {
+        places: &shift.places,
+        path: &shift.path,
+    };
+    match (&shift.news, watch.hits.find(&old)) {
+        (News::Gone(_), None) => false,
+        (News::Gone(_), Some(_)) | (News::Here(..), None) => true,
+        (News::Here(_, row), Some(hit)) => *hit.hit().row() != *row,
+    }
+}
+
+// How many notices wait or will for certain, with one entry more.
+fn counted(watch: &Watch, shift: &Shift, count: usize) -> usize
+    requires { count ≤ most_waiting }
+    ensures { result ≡ moves.counted watch.now.present shift.now count }
+{
+    if surely_tells(watch, shift) {
+        count + 1
+    } else {
+        count
+    }
+}
+
+// What becomes of some entries, one after the other. Each counts as a step.
+fn all_shifts<L: Ledger>(
     alloc: Global,
     scene: &Scene<'_>,
     paths: Paths,
@@ -119,4 +151,48 @@ pub(crate) fn shifts_at<L: Ledger>(
         shifts.push(shift_at(alloc, scene, path, steps)?)?;
     }
     Ok(Shifts::from_vec(shifts))
+}
+
+// The same of no more entries once the context is certain to be freed. Those that are left out count as well.
+fn needed_shifts<L: Ledger>(
+    alloc: Global,
+    scene: &Scene<'_>,
+    watch: &Watch,
+    paths: Paths,
+    steps: &mut Steps<L>,
+) -> Result<Shifts, Memory>
+    ensures count { IsCounted result steps.old steps.new (length paths) }
+    ensures shifts { IfOk result (λ shifts. shifts ≡ needed watch.now (each (shift_in scene.now) paths)) }
+{
+    let mut shifts = Vec::with_capacity(alloc, paths.len())?;
+    let mut count = watch.pending().len();
+    for path in paths.into_vec() {
+        if count > MOST {
+            steps.tick();
+        } else {
+            let shift = shift_at(alloc, scene, path, steps)?;
+            count = counted(watch, &shift, count);
+            shifts.push(shift)?;
+        }
+    }
+    Ok(Shifts::from_vec(shifts))
+}
+
+/// What becomes of some entries that a live context looks at, one after the other, and of no more once the context is certain to be
+/// freed. Each counts as a step, also those that are left out. Where all of them may wait no notice is counted. Fails only for want
+/// of memory.
+pub(crate) fn shifts_at<L: Ledger>(
+    alloc: Global,
+    scene: &Scene<'_>,
+    watch: &Watch,
+    paths: Paths,
+    steps: &mut Steps<L>,
+) -> Result<Shifts, Memory>
+    ensures count { IsCounted result steps.old steps.new (length paths) }
+    ensures shifts { IfOk result (λ shifts. shifts ≡ needed watch.now (each (shift_in scene.now) paths)) }
+{
+    if paths.len() <= MOST - watch.pending.len() {
+        return all_shifts(alloc, scene, paths, steps);
+    }
+    needed_shifts(alloc, scene, watch, paths, steps)
 }

@@ -1,40 +1,52 @@
 //! What a change does to the contexts of each seat, in the order in which they are kept.
-ghost use Rattle.std.specs.Prelude.{◌≡◌, ◌+◌, ◌≤◌, IfOk, length, map as each};
+ghost use Rattle.std.specs.Prelude.{◌≡◌, ◌+◌, ◌≤◌, IfOk, OnOk, length, map as each};
 ghost use Rattle.std.specs.List.{sum_by};
 ghost use Rattle.acap_search.specs.Counting.{IsCounted};
 ghost use Rattle.acap_views.specs.Keeping.{occupant_in};
 ghost use Rattle.acap_views.specs.Plans as rule;
+ghost use Rattle.acap_views.specs.Plans.{live_needed};
 ghost use Rattle.acap_views.specs.Touching.{IsNoted, looked_at_by};
 
 use crate::ahead::Ahead;
 use crate::beside::Beside;
 use crate::delta::{Shifts, Turns};
+use crate::held::Held;
 use crate::noted::Noted;
 use crate::open_context::OpenContext;
 use crate::scene::Scene;
 use crate::shift_making::shifts_at;
 use crate::sitting::Sitting;
 use crate::touching::touched_for;
-use acap_entries::{Memory, Sequence, Steps, UserName};
+use crate::watch::Watch;
+use acap_entries::{Memory, Paths, Sequence, Steps, UserName};
 use acap_search::Sought;
 use std::alloc::Global;
 use std::sync::ledger::Ledger;
 
-// What becomes of the entries that the search of a live context looks at.
-fn live_turn<'a, L: Ledger>(
+// How many more there are than so many. Memory could not hold more than are counted.
+fn and_more(count: usize, more: usize) -> Result<usize, Memory>
+    ensures { IfOk result (λ sum. sum ≡ count + more) }
+{
+    match count.checked_add(more) {
+        Some(sum) => Ok(sum),
+        None => Err(Memory),
+    }
+}
+
+// What becomes of the entries that a live context looks at.
+fn live_turn<L: Ledger>(
     alloc: Global,
     ahead: &Ahead<'_>,
     user: &UserName,
-    sought: &'a Sought,
-    noted: &mut Option<Noted<'a>>,
+    sought: &Sought,
+    watch: &Watch,
+    paths: Paths,
     steps: &mut Steps<L>,
 ) -> Result<Shifts, Memory>
-    requires { IsNoted ahead.now noted.old }
-    ensures noted { IsNoted ahead.now noted.new }
-    ensures count { IsCounted result steps.old steps.new (length (looked_at_by ahead.now sought.now)) }
-    ensures shifts { IfOk result (λ shifts. shifts ≡ rule.live_shifts ahead.now user.now sought.now) }
+    requires { paths ≡ looked_at_by ahead.now sought.now }
+    ensures count { IsCounted result steps.old steps.new (length paths) }
+    ensures shifts { IfOk result (λ shifts. shifts ≡ live_needed ahead.now user.now sought.now watch.now) }
 {
-    let paths = touched_for(ahead, sought, noted)?;
     if paths.is_empty() {
         return Ok(Shifts::new(alloc));
     }
@@ -46,27 +58,33 @@ fn live_turn<'a, L: Ledger>(
         user,
         sought,
     };
-    shifts_at(alloc, &scene, paths, steps)
+    shifts_at(alloc, &scene, watch, paths, steps)
 }
 
-// What becomes of the entries that a context looks at: none where it isn't live.
+// What becomes of the entries that a context looks at, and how many these are: none where it isn't live.
 fn turn_of<'a, L: Ledger>(
     alloc: Global,
     ahead: &Ahead<'_>,
     user: &UserName,
     context: &'a OpenContext,
     noted: &mut Option<Noted<'a>>,
+    work: &mut usize,
     steps: &mut Steps<L>,
 ) -> Result<Shifts, Memory>
     requires { IsNoted ahead.now noted.old }
     ensures noted { IsNoted ahead.now noted.new }
     ensures count { IsCounted result steps.old steps.new (rule.work_in ahead.now context.now.context) }
-    ensures shifts { IfOk result (λ shifts. shifts ≡ rule.shifts_in ahead.now user.now context.now.context) }
+    ensures work { OnOk result (work.new ≡ work.old + rule.work_in ahead.now context.now.context) }
+    ensures shifts { IfOk result (λ shifts. shifts ≡ rule.needed_in ahead.now user.now context.now.context) }
 {
-    if context.is_live() {
-        live_turn(alloc, ahead, user, &context.sought, noted, steps)
-    } else {
-        Ok(Shifts::new(alloc))
+    let sought = &context.sought;
+    match &context.held {
+        Held::Live(watch) => {
+            let paths = touched_for(ahead, sought, noted)?;
+            *work = and_more(*work, paths.len())?;
+            live_turn(alloc, ahead, user, sought, watch, paths, steps)
+        }
+        Held::Snapshot(_) | Held::Freed => Ok(Shifts::new(alloc)),
     }
 }
 
@@ -88,23 +106,25 @@ fn trimmed(alloc: Global, turns: Turns) -> Turns
     }
 }
 
-/// What becomes of the entries that the contexts of a seat look at, context by context. Each entry counts as a step for each context
-/// that looks at it. Fails only for want of memory.
+/// What becomes of the entries that the contexts of a seat look at, context by context, and how many these are. Each entry counts as
+/// a step for each context that looks at it. Fails only for want of memory.
 pub(crate) fn turns_of<'a, L: Ledger>(
     alloc: Global,
     ahead: &Ahead<'_>,
     sitting: &'a Sitting,
     noted: &mut Option<Noted<'a>>,
+    work: &mut usize,
     steps: &mut Steps<L>,
 ) -> Result<Turns, Memory>
     requires { IsNoted ahead.now noted.old }
     ensures noted { IsNoted ahead.now noted.new }
     ensures count { IsCounted result steps.old steps.new (rule.work_at ahead.now (occupant_in sitting.now)) }
-    ensures turns { IfOk result (λ turns. turns ≡ rule.turns_at ahead.now (occupant_in sitting.now)) }
+    ensures work { OnOk result (work.new ≡ work.old + rule.work_at ahead.now (occupant_in sitting.now)) }
+    ensures turns { IfOk result (λ turns. turns ≡ rule.needed_at ahead.now (occupant_in sitting.now)) }
 {
     let mut turns = Vec::with_capacity(alloc, sitting.contexts.len())?;
     for entry in &sitting.contexts {
-        turns.push(turn_of(alloc, ahead, &sitting.user, &entry.1, noted, steps)?)?;
+        turns.push(turn_of(alloc, ahead, &sitting.user, &entry.1, noted, work, steps)?)?;
     }
     Ok(trimmed(alloc, Turns::from_vec(turns)))
 }

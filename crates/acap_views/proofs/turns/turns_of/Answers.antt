@@ -31,6 +31,13 @@ returns-clause-count g c =
     let whole : work_at c.args.ahead.now (occupant_in c.args.sitting.now) ≡ sum_by (work_there plan) items = work_listed c.args.ahead.now c.sitting.inside.contexts.items c.args.sitting.now c.sitting.invariant (ap (λ (o : RoomyOccupant). o.contexts) c.sitting.view_is) ∙ ap (sum_by (work_there plan)) (sym c.deref-entry-items.ensures.value) in
     c.loop-entry.invariant.steps ∙ ap (λ n. c.args.steps.now + n) (ap (sum_by (work_there plan)) (take_all c.loop-entry.entry-index items c.loop-entry-test.false) ∙ sym whole)
 
+pub returns-clause-work : goal.returns-clause-work
+returns-clause-work g c =
+    let plan = c.args.ahead.now in
+    let items = c.deref-entry-items.result.now in
+    c.loop-entry.invariant.work ∙ ap (λ n. c.args.work.now + n) (ap (sum_by (work_there plan)) (take_all c.loop-entry.entry-index items c.loop-entry-test.false ∙ c.deref-entry-items.ensures.value)
+    ∙ sym (work_listed c.args.ahead.now c.sitting.inside.contexts.items c.args.sitting.now c.sitting.invariant (ap (λ (o : RoomyOccupant). o.contexts) c.sitting.view_is)))
+
 pub returns-clause-turns : goal.returns-clause-turns
 returns-clause-turns g c =
     let items = c.deref-entry-items.result.now in

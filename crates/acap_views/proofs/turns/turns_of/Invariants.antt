@@ -8,5 +8,6 @@ abbrev pub invariant-loop-entry : goal.invariant-loop-entry
 invariant-loop-entry g l = record {
   turns : l.turns.items ≡ each (shifts_there l.ahead l.sitting.user) (take l.entry-index l.entry-items);
   steps : l.steps ≡ l.fn.steps + sum_by (work_there l.ahead) (take l.entry-index l.entry-items);
+  work : l.work ≡ l.fn.work + sum_by (work_there l.ahead) (take l.entry-index l.entry-items);
   noted : IsNoted l.ahead l.noted;
 }

@@ -31,6 +31,13 @@ returns-clause-count g c =
     let whole : work_of c.args.ahead.now (seats_in c.args.self.now) ≡ sum_by (seat_work plan) items = seats_work c.args.ahead.now c.self.inside.seats.items (seats_in c.args.self.now) c.self.invariant (ap seats_in c.self.view_is) ∙ ap (sum_by (seat_work plan)) (sym c.deref-entry-items.ensures.value) in
     c.loop-entry.invariant.steps ∙ ap (λ n. c.args.steps.now + n) (ap (sum_by (seat_work plan)) (take_all c.loop-entry.entry-index items c.loop-entry-test.false) ∙ sym whole)
 
+pub returns-clause-work : goal.returns-clause-work
+returns-clause-work g c =
+    let plan = c.args.ahead.now in
+    let items = c.deref-entry-items.result.now in
+    c.loop-entry.invariant.work ∙ ap (λ n. c.args.work.now + n) (ap (sum_by (seat_work plan)) (take_all c.loop-entry.entry-index items c.loop-entry-test.false ∙ c.deref-entry-items.ensures.value)
+    ∙ sym (seats_work c.args.ahead.now c.self.inside.seats.items (seats_in c.args.self.now) c.self.invariant (ap seats_in c.self.view_is)))
+
 pub returns-clause-turns : goal.returns-clause-turns
 returns-clause-turns g c =
     let items = c.deref-entry-items.result.now in

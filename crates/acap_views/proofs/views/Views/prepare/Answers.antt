@@ -29,8 +29,9 @@ invariant_of-ahead g c =
 pub returns-clause-made : goal.returns-clause-made
 returns-clause-made g c =
     let plan : Planned = record { change = c.args.change.now; old = c.args.tree.now.store; realm = c.args.realm.now } in
-    ap (λ turns. with_delta (record { seats = turns; work = c.in_ok-work.work }) (seats_in c.args.self.now)) c.in_ok-seats.ensures.turns
-    ∙ c.prepared_law.ensures.changed plan (seats_in c.args.self.now) c.in_ok-work.work
+    let work = c.all_turns.new.work in
+    ap (λ turns. with_delta (record { seats = turns; work = work }) (seats_in c.args.self.now)) c.in_ok-seats.ensures.turns
+    ∙ c.prepared_law.ensures.needed plan (seats_in c.args.self.now) work
     (record { sound = c.requires.sound; paths = (value_after c.args.change.now c.args.tree.now.store).paths; formed = c.form_law.ensures }) c.requires.current
 
 pub returns-then-not-has_live-clause-made : goal.returns-then-not-has_live-clause-made

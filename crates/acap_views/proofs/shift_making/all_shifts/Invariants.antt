@@ -1,6 +1,6 @@
 use Rattle.std.proofs.Common.{◌≡◌, ◌+◌, ◌≤◌, ◌++◌, length, map as each}
 use Rattle.acap_views.specs.Scenes.{shift_in}
-use Rattle.acap_views.proofs.shift_making.shifts_at.Given as goal
+use Rattle.acap_views.proofs.shift_making.all_shifts.Given as goal
 
 abbrev pub invariant-loop-path : goal.invariant-loop-path
 invariant-loop-path g l = record {
