@@ -13,7 +13,7 @@ use acap_commands::{Fault, Refusal, Reply, Said, Verb};
 use acap_entries::{Memory, Octets, UserName};
 
 /// The octets of a tag.
-pub(crate) fn lent(tag: &Option<Octets>) -> Option<&[u8]>
+pub(crate) fn lend(tag: &Option<Octets>) -> Option<&[u8]>
     ensures { lent_tag result ≡ tag.now }
 {
     match tag {
@@ -23,7 +23,7 @@ pub(crate) fn lent(tag: &Option<Octets>) -> Option<&[u8]>
 }
 
 // The machine's answer to a command is said under its tag.
-fn replied(
+fn say_reply(
     tag: &Option<Octets>,
     outcome: Result<Reply, Fault>,
     stage: &mut Stage,
@@ -33,10 +33,10 @@ fn replied(
     ensures open { OnErr result (closes (talk.replied tag.now outcome).0 ≡ false) }
 {
     match outcome {
-        Ok(reply) => says(lent(tag), &reply.said, stage, out),
-        Err(Fault::Memory) => says(lent(tag), &Said::Refused(Refusal::Memory), stage, out),
+        Ok(reply) => says(lend(tag), &reply.said, stage, out),
+        Err(Fault::Memory) => says(lend(tag), &Said::Refused(Refusal::Memory), stage, out),
         Err(Fault::HistoryFull) => {
-            says(lent(tag), &Said::Refused(Refusal::HistoryFull), stage, out)
+            says(lend(tag), &Said::Refused(Refusal::HistoryFull), stage, out)
         }
         Err(Fault::NotEntered) | Err(Fault::AlreadyEntered) => {
             *stage = Stage::Closed;
@@ -46,7 +46,7 @@ fn replied(
 }
 
 // The answer to a user's entering begins the session, or ends it without a word.
-fn welcomed(
+fn welcome(
     outcome: Result<Reply, Fault>,
     stage: &mut Stage,
     out: &mut Vec<u8>,
@@ -64,7 +64,7 @@ fn welcomed(
 }
 
 // Who has entered after a login is the session's user.
-fn logged_in(
+fn log_in(
     tag: &Option<Octets>,
     name: UserName,
     user: &mut Option<UserName>,
@@ -79,16 +79,16 @@ fn logged_in(
 {
     match outcome {
         Ok(_) => {
-            let heard = says(lent(tag), &Said::Done(Verb::Authenticate), stage, out)?;
+            let heard = says(lend(tag), &Said::Done(Verb::Authenticate), stage, out)?;
             *user = Some(name);
             Ok(heard)
         }
-        Err(fault) => replied(tag, Err(fault), stage, out),
+        Err(fault) => say_reply(tag, Err(fault), stage, out),
     }
 }
 
 // What is pending is said as it is, and nothing where it was refused.
-fn drained(
+fn say_pending(
     outcome: Result<Reply, Fault>,
     stage: &mut Stage,
     out: &mut Vec<u8>,
@@ -107,7 +107,7 @@ fn drained(
 
 /// What a session at that stage says to the machine's answer, and who is its user then: where memory is refused, the same. An answer
 /// that closes the session says nothing, so that it is never refused.
-pub(crate) fn answered(
+pub(crate) fn answer(
     was: Stage,
     user: &mut Option<UserName>,
     outcome: Result<Reply, Fault>,
@@ -120,10 +120,10 @@ pub(crate) fn answered(
     ensures kept { OnErr result (user.new ≡ user.old) }
 {
     match was {
-        Stage::Entering => welcomed(outcome, stage, out),
-        Stage::Asked(tag) => replied(&tag, outcome, stage, out),
-        Stage::LoggingIn(tag, name) => logged_in(&tag, name, user, outcome, stage, out),
-        Stage::Draining => drained(outcome, stage, out),
+        Stage::Entering => welcome(outcome, stage, out),
+        Stage::Asked(tag) => say_reply(&tag, outcome, stage, out),
+        Stage::LoggingIn(tag, name) => log_in(&tag, name, user, outcome, stage, out),
+        Stage::Draining => say_pending(outcome, stage, out),
         other => {
             *stage = other;
             Ok(Heard::More)

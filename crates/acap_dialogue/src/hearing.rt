@@ -51,7 +51,7 @@ pub(crate) fn closes(
 }
 
 /// A tag in memory of its own.
-fn owned(alloc: Global, tag: Option<&[u8]>) -> Result<Option<Octets>, Memory>
+fn own_tag(alloc: Global, tag: Option<&[u8]>) -> Result<Option<Octets>, Memory>
     ensures { IfOk result (λ made. made ≡ lent_tag tag.entry) }
 {
     match tag {
@@ -72,7 +72,7 @@ fn asks(
 {
     match listener.user {
         Some(_) => {
-            *stage = Stage::Asked(owned(listener.alloc, tag)?);
+            *stage = Stage::Asked(own_tag(listener.alloc, tag)?);
             Ok(Heard::Asks(Event::Command(command)))
         }
         None => says(tag, &Said::Refused(Refusal::NotLoggedIn), stage, out),
@@ -127,7 +127,7 @@ fn authenticates(
         listener.host.as_slice(),
     )?;
     challenges(
-        owned(listener.alloc, tag)?,
+        own_tag(listener.alloc, tag)?,
         Octets::from_vec(told),
         stage,
         out,
@@ -135,7 +135,7 @@ fn authenticates(
 }
 
 #[tactic(auto, unfolding(crate::specs::Hearing::heard_command))]
-fn heard_command(
+fn hear_command(
     listener: &Listener,
     tag: Option<&[u8]>,
     command: Command,
@@ -166,7 +166,7 @@ fn tag_of(tokens: &Tokens) -> Option<&[u8]>
 
 /// What is said to a whole line, or asked of the machine then.
 #[tactic(auto, unfolding(crate::specs::Hearing::heard, crate::specs::Hearing::heard_command))]
-pub(crate) fn heard_line(
+pub(crate) fn hear_line(
     listener: &Listener,
     tokens: &Tokens,
     stage: &mut Stage,
@@ -179,7 +179,7 @@ pub(crate) fn heard_line(
         return says(tag, &Said::Done(Verb::Noop), stage, out);
     }
     match parse(listener.alloc, tokens) {
-        Ok(command) => heard_command(listener, tag, command, stage, out),
+        Ok(command) => hear_command(listener, tag, command, stage, out),
         Err(GrammarError::Memory) => Err(Memory),
         Err(GrammarError::Fault(fault)) => {
             says(tag, &Said::Refused(Refusal::from(fault)), stage, out)
@@ -198,7 +198,7 @@ pub(crate) fn continues(out: &mut Vec<u8>) -> Result<(), Memory>
     }
 }
 
-fn lent(tag: &Option<Tag>) -> Option<&[u8]>
+fn lend(tag: &Option<Tag>) -> Option<&[u8]>
     ensures { lent_tag result ≡ tag.now }
 {
     match tag {
@@ -209,7 +209,7 @@ fn lent(tag: &Option<Tag>) -> Option<&[u8]>
 
 /// What a session that awaits no answer says to an answer of its lexer, or what it asks the machine then.
 #[tactic(auto, unfolding(crate::specs::Hearing::heard))]
-pub(crate) fn heard(
+pub(crate) fn hear(
     listener: &Listener,
     lexed: &Lexed,
     stage: &mut Stage,
@@ -227,10 +227,10 @@ pub(crate) fn heard(
             *stage = Stage::Ready;
             Ok(Heard::Said)
         }
-        Lexed::Line(tokens) => heard_line(listener, tokens, stage, out),
+        Lexed::Line(tokens) => hear_line(listener, tokens, stage, out),
         Lexed::Bad(fault, tag) => {
             says(
-                lent(tag),
+                lend(tag),
                 &Said::Refused(lexical_refusal(*fault)),
                 stage,
                 out,
@@ -242,7 +242,7 @@ pub(crate) fn heard(
 
 /// How a session begins: without a user it says the greeting, and a user's session first asks to enter.
 #[tactic(auto, unfolding(crate::specs::Hearing::opening))]
-pub(crate) fn opening(
+pub(crate) fn open(
     user: &Option<UserName>,
     stage: &mut Stage,
     out: &mut Vec<u8>,

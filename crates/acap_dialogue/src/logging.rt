@@ -4,7 +4,7 @@ ghost use Rattle.std.specs.Prelude.{◌≡◌, OnOk, OnErr, IfOk};
 ghost use Rattle.acap_dialogue.specs.Hearing as hearing;
 ghost use Rattle.acap_dialogue.specs.Telling.{HearsAnswer, HearsLine, HearsString, HearsOne};
 
-use crate::answering::lent;
+use crate::answering::lend;
 use crate::heard::Heard;
 use crate::hearing::{closes, continues, says};
 use crate::stage::Stage;
@@ -44,7 +44,7 @@ fn logs_in(
             *stage = Stage::LoggingIn(tag, user);
             Ok(Heard::Asks(enters))
         }
-        None => says(lent(&tag), &Said::Refused(Refusal::LoginFailed), stage, out),
+        None => says(lend(&tag), &Said::Refused(Refusal::LoginFailed), stage, out),
     }
 }
 
@@ -72,7 +72,7 @@ fn answer_token(
     match kind {
         Kind::Quoted | Kind::Literal => logs_in(users, tag, challenge, text, stage, out),
         kind => says(
-            lent(&tag),
+            lend(&tag),
             &Said::Refused(refusal_of(kind, text)),
             stage,
             out,
@@ -92,7 +92,7 @@ fn answer_line(
     ensures { HearsLine users.now tag challenge.now tokens.now result stage.old stage.new out.old out.new }
 {
     if tokens.len() != 1 {
-        return says(lent(&tag), &Said::Refused(Refusal::Arguments), stage, out);
+        return says(lend(&tag), &Said::Refused(Refusal::Arguments), stage, out);
     }
     answer_token(
         users,
@@ -107,7 +107,7 @@ fn answer_line(
 
 /// What a session that awaits the answer to a challenge says to an answer of its lexer, or whom it lets enter.
 #[tactic(auto, unfolding(crate::specs::Hearing::heard_answer))]
-pub(crate) fn heard_answer(
+pub(crate) fn hear_login(
     users: &Users,
     tag: Option<Octets>,
     challenge: Octets,
@@ -128,7 +128,7 @@ pub(crate) fn heard_answer(
             Ok(Heard::Said)
         }
         Lexed::Line(tokens) => answer_line(users, tag, &challenge, tokens, stage, out),
-        Lexed::Bad(_, _) => says(lent(&tag), &Said::Refused(Refusal::Arguments), stage, out),
+        Lexed::Bad(_, _) => says(lend(&tag), &Said::Refused(Refusal::Arguments), stage, out),
         Lexed::Fatal(fault) => closes(None, &Said::Refused(lexical_refusal(*fault)), stage, out),
     }
 }

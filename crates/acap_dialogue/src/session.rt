@@ -10,11 +10,11 @@ ghost use Rattle.acap_dialogue.specs.Session.{is_asked, is_closed, session_drain
 ghost use Rattle.acap_dialogue.specs.Talking.{begun};
 ghost use Rattle.acap_dialogue.specs.declared.stage.Stage.TheVariants as stages;
 
-use crate::answering::answered;
+use crate::answering::answer;
 use crate::heard::Heard;
-use crate::hearing::{heard, heard_line, opening};
+use crate::hearing::{hear, hear_line, open};
 use crate::listener::Listener;
-use crate::logging::heard_answer;
+use crate::logging::hear_login;
 use crate::next::Next;
 use crate::stage::Stage;
 use acap_commands::{Event, Fault, Reply};
@@ -130,7 +130,7 @@ impl Session {
             return self.hear_command(nonce, clock, out);
         }
         match mem::replace(&mut self.stage, Stage::Closed) {
-            Stage::Opening => opening(&self.user, &mut self.stage, out),
+            Stage::Opening => open(&self.user, &mut self.stage, out),
             Stage::Challenged(tag, challenge) => self.hear_answer(users, tag, challenge, out),
             stage => {
                 self.stage = stage;
@@ -161,11 +161,11 @@ impl Session {
         };
         match lexed {
             Lexed::Line(tokens) => {
-                let came = heard_line(&listener, &tokens, &mut self.stage, out);
+                let came = hear_line(&listener, &tokens, &mut self.stage, out);
                 self.lexer.take_back(tokens);
                 came
             }
-            other => heard(&listener, &other, &mut self.stage, out),
+            other => hear(&listener, &other, &mut self.stage, out),
         }
     }
 
@@ -204,7 +204,7 @@ impl Session {
         let Ok(lexed) = self.lexer.next(Mode::Answer) else {
             return Err(Memory);
         };
-        let came = heard_answer(users, tag, challenge, &lexed, &mut self.stage, out);
+        let came = hear_login(users, tag, challenge, &lexed, &mut self.stage, out);
         hand_back(&mut self.lexer, lexed);
         came
     }
@@ -234,7 +234,7 @@ impl Session {
         ensures open { OnErr result (closes (answered self.old outcome).0 ≡ false) }
     {
         let stage = mem::replace(&mut self.stage, Stage::Closed);
-        answered(stage, &mut self.user, outcome, &mut self.stage, out)
+        answer(stage, &mut self.user, outcome, &mut self.stage, out)
     }
 
     /// Asks for what is pending, if the session's user may: else nothing is next. Takes no memory.
