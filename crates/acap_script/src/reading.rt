@@ -23,7 +23,7 @@ fn place_of(text: &[u8]) -> Option<usize>
 }
 
 // What stands before the first SP, and what behind it.
-fn cut(text: &[u8]) -> Option<(&[u8], &[u8])>
+fn cut_word(text: &[u8]) -> Option<(&[u8], &[u8])>
     ensures { option_map (λ parts. (parts.0.now, parts.1.now)) result ≡ rule.cut text.now }
 {
     let (before, _) = text.split_at(place_of(text)?);
@@ -54,7 +54,7 @@ fn octets_in(alloc: Global, text: &[u8]) -> Result<Octets, LineFault>
 }
 
 // A line of a seat alone.
-fn seated(text: &[u8]) -> Result<Seat, LineFault>
+fn read_seat(text: &[u8]) -> Result<Seat, LineFault>
     ensures { Reads (rule.seat_in text.now) result }
 {
     match seat_in(text) {
@@ -66,7 +66,7 @@ fn seated(text: &[u8]) -> Result<Seat, LineFault>
 fn user_line(alloc: Global, text: &[u8]) -> Result<ScriptLine, LineFault>
     ensures { Reads (rule.user_line text.now) result }
 {
-    let Some((name, secret)) = cut(text) else {
+    let Some((name, secret)) = cut_word(text) else {
         return Err(LineFault::Wrong);
     };
     let name = name_in(alloc, name)?;
@@ -77,7 +77,7 @@ fn user_line(alloc: Global, text: &[u8]) -> Result<ScriptLine, LineFault>
 fn group_line(alloc: Global, text: &[u8]) -> Result<ScriptLine, LineFault>
     ensures { Reads (rule.group_line text.now) result }
 {
-    let Some((name, member)) = cut(text) else {
+    let Some((name, member)) = cut_word(text) else {
         return Err(LineFault::Wrong);
     };
     let name = name_in(alloc, name)?;
@@ -106,10 +106,10 @@ fn nonce_line(text: &[u8]) -> Result<ScriptLine, LineFault>
 fn enter_line(alloc: Global, text: &[u8]) -> Result<ScriptLine, LineFault>
     ensures { Reads (rule.enter_line text.now) result }
 {
-    let Some((seat, name)) = cut(text) else {
+    let Some((seat, name)) = cut_word(text) else {
         return Err(LineFault::Wrong);
     };
-    let seat = seated(seat)?;
+    let seat = read_seat(seat)?;
     let name = name_in(alloc, name)?;
     Ok(ScriptLine::At(seat, SeatLine::Enter(name)))
 }
@@ -117,10 +117,10 @@ fn enter_line(alloc: Global, text: &[u8]) -> Result<ScriptLine, LineFault>
 fn send_line(alloc: Global, text: &[u8]) -> Result<ScriptLine, LineFault>
     ensures { Reads (rule.send_line text.now) result }
 {
-    let Some((seat, text)) = cut(text) else {
+    let Some((seat, text)) = cut_word(text) else {
         return Err(LineFault::Wrong);
     };
-    let seat = seated(seat)?;
+    let seat = read_seat(seat)?;
     let text = Octets::from_slice(alloc, text)?;
     Ok(ScriptLine::At(seat, SeatLine::Send(text)))
 }
@@ -128,10 +128,10 @@ fn send_line(alloc: Global, text: &[u8]) -> Result<ScriptLine, LineFault>
 fn raw_line(alloc: Global, text: &[u8]) -> Result<ScriptLine, LineFault>
     ensures { Reads (rule.raw_line text.now) result }
 {
-    let Some((seat, digits)) = cut(text) else {
+    let Some((seat, digits)) = cut_word(text) else {
         return Err(LineFault::Wrong);
     };
-    let seat = seated(seat)?;
+    let seat = read_seat(seat)?;
     let octets = octets_in(alloc, digits)?;
     Ok(ScriptLine::At(seat, SeatLine::Raw(octets)))
 }
@@ -139,10 +139,10 @@ fn raw_line(alloc: Global, text: &[u8]) -> Result<ScriptLine, LineFault>
 fn piece_line(alloc: Global, text: &[u8]) -> Result<ScriptLine, LineFault>
     ensures { Reads (rule.piece_line text.now) result }
 {
-    let Some((seat, digits)) = cut(text) else {
+    let Some((seat, digits)) = cut_word(text) else {
         return Err(LineFault::Wrong);
     };
-    let seat = seated(seat)?;
+    let seat = read_seat(seat)?;
     let octets = octets_in(alloc, digits)?;
     Ok(ScriptLine::At(seat, SeatLine::Piece(octets)))
 }
@@ -204,14 +204,14 @@ fn line_by(alloc: Global, word: ScriptWord, rest: &[u8]) -> Result<ScriptLine, L
         ScriptWord::Host => Ok(ScriptLine::Host(Octets::from_slice(alloc, rest)?)),
         ScriptWord::Clock => clock_line(rest),
         ScriptWord::Nonce => nonce_line(rest),
-        ScriptWord::Open => Ok(ScriptLine::At(seated(rest)?, SeatLine::Open)),
+        ScriptWord::Open => Ok(ScriptLine::At(read_seat(rest)?, SeatLine::Open)),
         ScriptWord::Enter => enter_line(alloc, rest),
         ScriptWord::Send => send_line(alloc, rest),
         ScriptWord::Raw => raw_line(alloc, rest),
         ScriptWord::Piece => piece_line(alloc, rest),
-        ScriptWord::Turn => Ok(ScriptLine::At(seated(rest)?, SeatLine::Turn)),
-        ScriptWord::Drain => Ok(ScriptLine::At(seated(rest)?, SeatLine::Drain)),
-        ScriptWord::Leave => Ok(ScriptLine::At(seated(rest)?, SeatLine::Leave)),
+        ScriptWord::Turn => Ok(ScriptLine::At(read_seat(rest)?, SeatLine::Turn)),
+        ScriptWord::Drain => Ok(ScriptLine::At(read_seat(rest)?, SeatLine::Drain)),
+        ScriptWord::Leave => Ok(ScriptLine::At(read_seat(rest)?, SeatLine::Leave)),
     }
 }
 
@@ -233,7 +233,7 @@ pub fn read_line(alloc: Global, text: &[u8]) -> Result<ScriptLine, LineFault>
     if is_passed(text) {
         return Ok(ScriptLine::Pass);
     }
-    let Some((word, rest)) = cut(text) else {
+    let Some((word, rest)) = cut_word(text) else {
         return Err(LineFault::Wrong);
     };
     match word_of(word) {
