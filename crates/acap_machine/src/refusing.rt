@@ -12,7 +12,7 @@ use acap_search::SearchRefusal;
 use acap_views::ViewRefusal;
 
 /// What is said of a refused change or list.
-pub(crate) fn refused(refusal: Refusal) -> Result<Said, Memory>
+pub(crate) fn refuse(refusal: Refusal) -> Result<Said, Memory>
     ensures words { IfOk result (λ words. words ≡ saying.Refused refusal) }
     ensures other { OnOk result (is_memory refusal ≡ false) }
 {
@@ -23,7 +23,7 @@ pub(crate) fn refused(refusal: Refusal) -> Result<Said, Memory>
 }
 
 /// What is said of a refused search, with the dataset that was searched.
-pub(crate) fn search_refused(dataset: Dataset, refusal: SearchRefusal) -> Result<Said, Memory>
+pub(crate) fn refuse_search(dataset: Dataset, refusal: SearchRefusal) -> Result<Said, Memory>
     ensures words { IfOk result (λ words. words ≡ saying.Refused (rule.refused_as dataset refusal)) }
     ensures other { OnOk result (rule.is_search_memory refusal ≡ false) }
 {
@@ -37,7 +37,7 @@ pub(crate) fn search_refused(dataset: Dataset, refusal: SearchRefusal) -> Result
 }
 
 /// What is said of what is asked of a context, and refused.
-pub(crate) fn view_refused(refusal: ViewRefusal) -> Result<Said, Memory>
+pub(crate) fn refuse_view(refusal: ViewRefusal) -> Result<Said, Memory>
     ensures words { IfOk result (λ words. words ≡ saying.Refused (rule.view_refused_as refusal)) }
     ensures other { OnOk result (rule.is_view_memory refusal ≡ false) }
 {

@@ -14,7 +14,7 @@ ghost use Rattle.acap_views.specs.Started.{as_ranged};
 
 use crate::deed::Deed;
 use crate::ready::Ready;
-use crate::refusing::{search_refused, view_refused};
+use crate::refusing::{refuse_search, refuse_view};
 use crate::state::State;
 use acap_commands::{
     Fault, Key, Limit, MakeContext, Refusal, Rows, Said, Search, SearchModifiers, SearchReply,
@@ -180,13 +180,14 @@ impl State {
         key: Key,
         steps: &mut Steps<L>,
     ) -> Result<Said, Memory>
-        ensures words { IfOk result (λ words. words ≡ rule.searched_within self.now.machine.store self.now.machine.realm
-            user.now (ranged self.now.machine.seats seat name.now) modifiers key) }
+        ensures words { IfOk result (λ words. words ≡ rule.searched_within
+            self.now.machine.store self.now.machine.realm user.now
+            (ranged self.now.machine.seats seat name.now) modifiers key) }
         ensures count { steps.old ≤ steps.new }
     {
         match self.views.range(seat, name) {
             Ok(from) => self.words_from(user, from, modifiers, key, steps),
-            Err(why) => view_refused(why),
+            Err(why) => refuse_view(why),
         }
     }
 
@@ -200,8 +201,9 @@ impl State {
         key: Key,
         steps: &mut Steps<L>,
     ) -> Result<Said, Memory>
-        ensures words { IfOk result (λ words. words ≡ rule.searched_from self.now.machine.store self.now.machine.realm
-            user.now (as_ranged from.entry) (rule.query_within from.entry.sought.now modifiers key) modifiers.limit) }
+        ensures words { IfOk result (λ words. words ≡ rule.searched_from
+            self.now.machine.store self.now.machine.realm user.now (as_ranged from.entry)
+            (rule.query_within from.entry.sought.now modifiers key) modifiers.limit) }
         ensures count { steps.old ≤ steps.new }
     {
         let RangedContext {
@@ -231,7 +233,7 @@ impl State {
             }
             Err(refusal) => {
                 let sought = query.sought;
-                search_refused(sought.dataset, refusal)
+                refuse_search(sought.dataset, refusal)
             }
         }
     }
@@ -245,7 +247,8 @@ impl State {
         limit: Option<Limit>,
         steps: &mut Steps<L>,
     ) -> Result<Said, Memory>
-        ensures words { IfOk result (λ words. words ≡ rule.searched_alone self.now.machine user.now query limit) }
+        ensures words { IfOk result
+            (λ words. words ≡ rule.searched_alone self.now.machine user.now query limit) }
         ensures count { steps.old ≤ steps.new }
     {
         match tell(
@@ -263,7 +266,7 @@ impl State {
             }
             Err(refusal) => {
                 let sought = query.sought;
-                search_refused(sought.dataset, refusal)
+                refuse_search(sought.dataset, refusal)
             }
         }
     }
@@ -300,7 +303,7 @@ impl State {
             Ok(hits) => self.ready_made(seat, make, query.sought, limit, hits),
             Err(refusal) => {
                 let sought = query.sought;
-                let words = search_refused(sought.dataset, refusal)?;
+                let words = refuse_search(sought.dataset, refusal)?;
                 Ok(Ready::new(seat, Deed::Nothing, words))
             }
         }
@@ -318,7 +321,8 @@ impl State {
         requires somebody { IsSome (table.get self.old.machine.seats seat) }
         requires order { Ascending match_cmp hits }
         requires current { IsOpenable self.old.machine seat make sought hits }
-        ensures answer { IsReadyOf result self.old (Ok (replied (rule.kept self.old.machine seat make sought limit hits))) self.new }
+        ensures answer { IsReadyOf result self.old
+            (Ok (replied (rule.kept self.old.machine seat make sought limit hits))) self.new }
         ensures same { self.new.machine ≡ self.old.machine }
         ensures last { self.new.work ≡ self.old.work }
         ensures none { IfOk result (λ r. r.work ≡ 0) }
@@ -332,7 +336,7 @@ impl State {
         let found = found_of(self.alloc, last, &sought, limit, &hits)?;
         match self.views.make_context(seat, make, sought, hits, last) {
             Ok(new) => Ok(Ready::new(seat, Deed::Makes(new), Said::Searched(found))),
-            Err(why) => Ok(Ready::new(seat, Deed::Nothing, view_refused(why)?)),
+            Err(why) => Ok(Ready::new(seat, Deed::Nothing, refuse_view(why)?)),
         }
     }
 }

@@ -6,7 +6,7 @@ ghost use Rattle.acap_machine.specs.Stepping.{asked};
 
 use crate::deed::Deed;
 use crate::ready::Ready;
-use crate::refusing::{refused, view_refused};
+use crate::refusing::{refuse, refuse_view};
 use crate::state::State;
 use acap_commands::{ContextNames, Fault, ObjectName, Refusal, Said, Verb};
 use acap_entries::{ContextName, Dataset, Moment, Seat};
@@ -17,7 +17,8 @@ use acap_views::has_context;
 impl State {
     /// Words for who has a seat, whatever the machine.
     pub(crate) fn ready_words(&self, seat: Seat, words: Said) -> Result<Ready, Fault>
-        ensures answer { IsReadyOf result self.now (asked self.now.machine seat (λ m u. (words, m))) self.now }
+        ensures answer { IsReadyOf result self.now
+            (asked self.now.machine seat (λ m u. (words, m))) self.now }
         ensures none { IfOk result (λ r. r.work ≡ 0) }
     {
         self.kept_law();
@@ -73,7 +74,7 @@ impl State {
         let user = self.user(seat)?;
         let words = match deleted_since(self.alloc, &self.tree, &self.realm, user, dataset, since) {
             Ok(names) => Said::Deleted(names),
-            Err(refusal) => refused(refusal)?,
+            Err(refusal) => refuse(refusal)?,
         };
         Ok(Ready::new(seat, Deed::Nothing, words))
     }
@@ -103,7 +104,7 @@ impl State {
         let last = self.tree.last();
         match self.views.tolds_of(seat, names.as_slice(), last) {
             Ok(tolds) => Ok(Ready::new(seat, Deed::Tells(names, last), Said::Updated(tolds))),
-            Err(refusal) => Ok(Ready::new(seat, Deed::Nothing, view_refused(refusal)?)),
+            Err(refusal) => Ok(Ready::new(seat, Deed::Nothing, refuse_view(refusal)?)),
         }
     }
 }

@@ -17,7 +17,7 @@ ghost use Rattle.acap_views.specs.Changing.{IsSoundStep};
 
 use crate::deed::Deed;
 use crate::ready::Ready;
-use crate::refusing::refused;
+use crate::refusing::refuse;
 use crate::state::State;
 use acap_commands::{Fault, ObjectName, Reply, Said, StoreEntry, Verb};
 use acap_entries::{Change, Memory, Moment, Seat, Steps};
@@ -68,7 +68,7 @@ fn form_write(write: &Write)
 
 impl State {
     // What a change makes of the index and of the contexts of all seats.
-    fn following<L: Ledger>(
+    fn prepare_followers<L: Ledger>(
         &self,
         change: &Change,
         steps: &mut Steps<L>,
@@ -102,7 +102,7 @@ impl State {
         ensures work { IsWork result steps.old steps.new (touched_by self.old.machine change) }
     {
         self.kept_law();
-        let (links, delta) = self.following(&change, steps)?;
+        let (links, delta) = self.prepare_followers(&change, steps)?;
         let work = delta.work();
         self.tree.reserve(&change)?;
         self.index.reserve(&links)?;
@@ -138,7 +138,7 @@ impl State {
         user.form_law();
         match plan(state.alloc, &state.tree, &state.realm, user, write, clock) {
             Ok(change) => self.ready_change(seat, verb, change, steps),
-            Err(refusal) => Ok(Ready::new(seat, Deed::Nothing, refused(refusal)?)),
+            Err(refusal) => Ok(Ready::new(seat, Deed::Nothing, refuse(refusal)?)),
         }
     }
 }

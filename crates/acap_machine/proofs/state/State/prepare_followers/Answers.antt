@@ -1,6 +1,6 @@
 use Rattle.std.proofs.Common.{ap}
 use Rattle.acap_machine.proofs.ReadyLemmas.{prepared_for}
-use Rattle.acap_machine.proofs.state.State.following.Goals as goal
+use Rattle.acap_machine.proofs.state.State.prepare_followers.Goals as goal
 
 pub returns-clause-views : goal.returns-clause-views
 returns-clause-views g c =
