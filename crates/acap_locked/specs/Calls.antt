@@ -8,9 +8,9 @@ use Rattle.acap_views.specs.Waiting.{waiting}
 use Rattle.acap_locked.specs.declared.answer.Answer.{Answer}
 use Rattle.acap_locked.specs.declared.held.Held.{Held}
 use Rattle.acap_locked.specs.declared.item.Item.{Item}
-use Rattle.acap_locked.specs.Epochs.{renewed, Turns}
+use Rattle.acap_locked.specs.Epochs.{held_in, Turns}
 use Rattle.acap_locked.specs.Notes.{call_of, entry_of, item_of}
-use Rattle.acap_locked.specs.Rings.{cleared, rings_of}
+use Rattle.acap_locked.specs.Rings.{flags_left, rings_of}
 use Rattle.acap_locked.specs.Shelf.{Shelf}
 
 -- what a pass holds, with one item more
@@ -19,7 +19,7 @@ with_item h item = record h { items = h.items ++ item ∷ [] }
 
 -- the pass has one more item, which is the caller's event and moment and the answer's place and reply, and the caller is given it too
 pub record Gains (old : Held) (event : Event) (now : ℤ) (answer : Answer) (new : Held) : Type 0 where
-  pub pass : new ≡ with_item (renewed answer.epoch old) (item_of answer.epoch answer.place (call_of event now answer.reply))
+  pub pass : new ≡ with_item (held_in answer.epoch old) (item_of answer.epoch answer.place (call_of event now answer.reply))
   pub kept : answer.kept ≡ Some (item_of answer.epoch answer.place (call_of event now answer.reply))
 
 -- exactly one step of the machine before it, which is answered, noted in the history and in the pass, and rung for
@@ -31,8 +31,8 @@ pub record IsCalled (old : Shelf) (held : Held) (event : Event) (now : ℤ) (ans
   pub epoch : answer.epoch ≡ old.epoch
   pub rest : (new.epoch ≡ old.epoch) × (new.base ≡ old.base) × (new.retired ≡ old.retired)
   pub gains : Gains held event now answer left
-  pub rings : answer.rings ≡ rings_of (waiting new.machine.seats) (cleared held.seat event old.flags)
-  pub flags : new.flags ≡ bit_or (cleared held.seat event old.flags) answer.rings
+  pub rings : answer.rings ≡ rings_of (waiting new.machine.seats) (flags_left held.seat event old.flags)
+  pub flags : new.flags ≡ bit_or (flags_left held.seat event old.flags) answer.rings
 
 -- a new epoch may begin, and then the call is made
 abbrev pub IsServed : Shelf → Held → Event → ℤ → Answer → Shelf → Held → Type 0

@@ -4,7 +4,7 @@ use Rattle.acap_locked.specs.declared.close_fault.CloseFault.{CloseFault}
 use Rattle.acap_locked.specs.declared.close_fault.CloseFault.TheVariants as fault
 use Rattle.acap_locked.specs.declared.held.Held.{Held}
 use Rattle.acap_locked.specs.declared.report.Report.{Report}
-use Rattle.acap_locked.specs.Epochs.{renewed}
+use Rattle.acap_locked.specs.Epochs.{held_in}
 use Rattle.acap_locked.specs.Passes.{HereBelow, IsMissing, SameBelow, IsUnequal}
 use Rattle.acap_locked.specs.Shelf.{Shelf}
 
@@ -20,7 +20,7 @@ pub record IsReport (passes : List Held) (shelf : Shelf) (report : Report) : Typ
   pub base : report.base.machine ≡ shelf.base
   pub history : report.history ≡ shelf.history
   pub retired : report.retired ≡ shelf.retired
-  pub passes_are : report.passes ≡ map (renewed shelf.epoch) passes
+  pub passes_are : report.passes ≡ map (held_in shelf.epoch) passes
 
 -- else the least seat without a pass; else the least whose pass differs; or memory was refused for the report
 abbrev pub IsClosed : List Held → Shelf → Result Report CloseFault → Type 0

@@ -10,8 +10,8 @@ retire counts [] = counts
 retire counts (e ∷ es) = retire (slice_set counts e.seat (slice_index counts e.seat + 1)) es
 
 -- the next epoch
-abbrev pub begun : Shelf → Shelf
-begun s = record {
+abbrev pub next_epoch : Shelf → Shelf
+next_epoch s = record {
   machine = s.machine;
   history = [];
   flags = s.flags;
@@ -28,11 +28,11 @@ pub record MayBegin (s : Shelf) : Type 0 where
 
 -- nothing is done, or a new epoch is begun
 pub record Turns (old new : Shelf) : Type 0 where
-  pub turn : (new ≡ old) ⊎ (MayBegin old × (new ≡ begun old))
+  pub turn : (new ≡ old) ⊎ (MayBegin old × (new ≡ next_epoch old))
 
 -- what a pass holds in an epoch: its items of older ones are counted, and gone
-abbrev pub renewed : ℕ → Held → Held
-renewed epoch h = record {
+abbrev pub held_in : ℕ → Held → Held
+held_in epoch h = record {
   seat = h.seat;
   epoch = epoch;
   items = (if h.epoch == epoch then h.items else []);

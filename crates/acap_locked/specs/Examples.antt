@@ -10,19 +10,19 @@ use Rattle.acap_locked.specs.declared.call.Call.{Call}
 use Rattle.acap_locked.specs.declared.entry.Entry.{Entry}
 use Rattle.acap_locked.specs.declared.held.Held.{Held}
 use Rattle.acap_locked.specs.Calls.{IsRefused}
-use Rattle.acap_locked.specs.Epochs.{MayBegin, begun, renewed, retire}
+use Rattle.acap_locked.specs.Epochs.{MayBegin, held_in, next_epoch, retire}
 use Rattle.acap_locked.specs.History.{IsReplay}
 use Rattle.acap_locked.specs.Notes.{entry_of, item_of}
 use Rattle.acap_locked.specs.Passes.{IsMissing, IsUnequal, Stands, items_from, new_pass, new_passes}
-use Rattle.acap_locked.specs.Rings.{cleared, rings_of}
+use Rattle.acap_locked.specs.Rings.{flags_left, rings_of}
 use Rattle.acap_locked.specs.Shelf.{Shelf, shelf_of}
 
 -- seats 2 and 3 are flagged, by the bits 4 and 8
 pub record RingExamples : Type 0 where
-  pub drains : cleared 3 event.Drain 12 ≡ 4
-  pub leaves : cleared 2 event.Leave 12 ≡ 8
-  pub enters : (user : List ℕ) → cleared 0 (event.Enter user) 12 ≡ 12
-  pub commands : (command : Command) → cleared 3 (event.Command command) 12 ≡ 12
+  pub drains : flags_left 3 event.Drain 12 ≡ 4
+  pub leaves : flags_left 2 event.Leave 12 ≡ 8
+  pub enters : (user : List ℕ) → flags_left 0 (event.Enter user) 12 ≡ 12
+  pub commands : (command : Command) → flags_left 3 (event.Command command) 12 ≡ 12
   -- of seats 0 and 2, which wait, the one without a flag is rung
   pub rings : rings_of 5 12 ≡ 1
   pub rung : rings_of 12 12 ≡ 0
@@ -40,8 +40,8 @@ pub record HistoryExamples : Type 0 where
   pub none : (a b c : Call) → items_from 2 7 0 (three a b c) ≡ []
   pub counts : (a b c : Call) → retire (4 ∷ 0 ∷ 1 ∷ []) (three a b c) ≡ 5 ∷ 2 ∷ 1 ∷ []
   pub stands : (a b c : Call) → Stands 2 (three a b c) 5 (pass_of a c)
-  pub keeps : (a c : Call) → renewed 2 (pass_of a c) ≡ pass_of a c
-  pub retires : (a c : Call) → renewed 3 (pass_of a c) ≡ record { seat = 1; epoch = 3; items = []; retired = 7 }
+  pub keeps : (a c : Call) → held_in 2 (pass_of a c) ≡ pass_of a c
+  pub retires : (a c : Call) → held_in 3 (pass_of a c) ≡ record { seat = 1; epoch = 3; items = []; retired = 7 }
   -- a call is legal by the machine that the one before it left
   pub replays : (base mid machine : Machine) (a b : Call) → Stepped base 1 a.event a.moment a.reply mid → Stepped mid 0 b.event b.moment b.reply machine
       → IsReplay base (entry_of 1 a ∷ entry_of 0 b ∷ []) machine
@@ -57,7 +57,7 @@ pub record PassExamples : Type 0 where
 pub record EpochExamples : Type 0 where
   pub short : (s : Shelf) → length s.history ≡ 499999 → MayBegin s → ⊥
   pub last : (s : Shelf) → s.epoch ≡ 4611686018427387904 → MayBegin s → ⊥
-  pub begins : (m base : Machine) (a : Call) → begun (shelf_of m (entry_of 1 a ∷ []) 6 3 base (2 ∷ 0 ∷ [])) ≡ shelf_of m [] 6 4 m (2 ∷ 1 ∷ [])
+  pub begins : (m base : Machine) (a : Call) → next_epoch (shelf_of m (entry_of 1 a ∷ []) 6 3 base (2 ∷ 0 ∷ [])) ≡ shelf_of m [] 6 4 m (2 ∷ 1 ∷ [])
   -- a history is full at 1,000,000 calls, and then nothing else is told
   pub full : (s : Shelf) (seat : ℕ) (e : Event) (now : ℤ) → length s.history ≡ 999999 → IsRefused s seat e now fault.HistoryFull → ⊥
   pub only : (s : Shelf) (seat : ℕ) (e : Event) (now : ℤ) → length s.history ≡ 1000000 → IsRefused s seat e now fault.NotEntered → ⊥

@@ -4,7 +4,7 @@ use Rattle.std.specs.List.{list_any}
 use Rattle.acap_locked.specs.declared.entry.Entry.{Entry}
 use Rattle.acap_locked.specs.declared.held.Held.{Held}
 use Rattle.acap_locked.specs.declared.item.Item.{Item}
-use Rattle.acap_locked.specs.Epochs.{renewed}
+use Rattle.acap_locked.specs.Epochs.{held_in}
 use Rattle.acap_locked.specs.Notes.{item_of}
 
 -- a pass without calls
@@ -44,7 +44,7 @@ pub record IsMissing (passes : List Held) (seat : ℕ) : Type 0 where
 
 -- in the epoch of the history, the pass has exactly its seat's calls, in order, and their count in the epochs before
 abbrev pub Stands : ℕ → List Entry → ℕ → Held → Type 0
-Stands epoch history count h = ((renewed epoch h).items ≡ items_from epoch h.seat 0 history) × ((renewed epoch h).retired ≡ count)
+Stands epoch history count h = ((held_in epoch h).items ≡ items_from epoch h.seat 0 history) × ((held_in epoch h).retired ≡ count)
 
 -- so does each pass of a seat
 abbrev pub IsSame : List Held → ℕ → List Entry → ℕ → ℕ → Type 0

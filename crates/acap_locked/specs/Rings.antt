@@ -8,11 +8,11 @@ abbrev pub without : ℕ → ℕ → ℕ
 without flags seat = bit_and flags (bit_xor 18446744073709551615 (2 ^ seat))
 
 -- a Drain, an Enter and a Leave take the flag of their seat away
-abbrev pub cleared : ℕ → Event → ℕ → ℕ
-cleared seat (event.Enter user) flags = without flags seat
-cleared seat (event.Command command) flags = flags
-cleared seat event.Drain flags = without flags seat
-cleared seat event.Leave flags = without flags seat
+abbrev pub flags_left : ℕ → Event → ℕ → ℕ
+flags_left seat (event.Enter user) flags = without flags seat
+flags_left seat (event.Command command) flags = flags
+flags_left seat event.Drain flags = without flags seat
+flags_left seat event.Leave flags = without flags seat
 
 -- the seats that wait and have no flag
 abbrev pub rings_of : ℕ → ℕ → ℕ

@@ -8,7 +8,7 @@ ghost use Rattle.acap_locked.specs.Shelf.{new_shelf};
 
 use crate::answer::Answer;
 use crate::close_fault::CloseFault;
-use crate::closing::{gather, missing, unequal};
+use crate::closing::{find_missing, find_unequal, gather};
 use crate::entry::Entry;
 use crate::pass::{Pass, make_passes};
 use crate::performing::{Performed, perform};
@@ -196,13 +196,13 @@ impl<S: Site, L: Ledger> Book<S, L> {
     }
 
     // That each seat has a pass, and each pass holds its seat's calls; else the least seat for which it isn't so.
-    fn compared(&self, passes: &[Pass<S>]) -> Result<(), CloseFault>
+    fn compare(&self, passes: &[Pass<S>]) -> Result<(), CloseFault>
         ensures { IsCompared passes.now self.now result }
     {
-        if let Some(seat) = missing(passes) {
+        if let Some(seat) = find_missing(passes) {
             return Err(CloseFault::PassMissing(seat));
         }
-        if let Some(seat) = unequal(passes, self.epoch, &self.history, &self.retired) {
+        if let Some(seat) = find_unequal(passes, self.epoch, &self.history, &self.retired) {
             return Err(CloseFault::Unequal(seat));
         }
         Ok(())
@@ -248,7 +248,7 @@ impl<S: Site, L: Ledger> Book<S, L> {
         ensures number { OnOk result (length passes.items ≡ 64) }
         ensures counted { OnOk result (calls_of passes.items ≡ sum self.retired + length self.history) }
     {
-        self.compared(&passes)?;
+        self.compare(&passes)?;
         match self.into_report(passes) {
             Ok(report) => Ok(report),
             Err(_) => Err(CloseFault::Memory),

@@ -1,9 +1,11 @@
 //! Passes are compared with a history.
-ghost use Rattle.std.specs.Prelude.{◌≡◌, ◌+◌, ◌<◌, ◌≤◌, ◌^◌, ◌↔◌, OnOk, IfOk, IsTrue, MatchOption, length, map};
+ghost use Rattle.std.specs.Prelude.{◌≡◌, ◌+◌, ◌<◌, ◌≤◌, ◌^◌, ◌↔◌, OnOk, IfOk, IsTrue, MatchOption, length};
+ghost use Rattle.std.specs.Prelude.{map};
 ghost use Rattle.std.specs.List.{list_any};
-ghost use Rattle.acap_locked.specs.Epochs.{renewed};
+ghost use Rattle.acap_locked.specs.Epochs.{held_in};
 ghost use Rattle.acap_locked.specs.Notes.{item_of};
-ghost use Rattle.acap_locked.specs.Passes.{items_from, calls_of, calls_through, HereBelow, IsMissing, IsSame, SameBelow, IsUnequal, Stands, is_of};
+ghost use Rattle.acap_locked.specs.Passes.{items_from, calls_of, calls_through, HereBelow, IsMissing, IsSame};
+ghost use Rattle.acap_locked.specs.Passes.{SameBelow, IsUnequal, Stands, is_of};
 
 use crate::entry::Entry;
 use crate::held::Held;
@@ -29,7 +31,7 @@ fn is_here<S: Site>(passes: &[Pass<S>], seat: Seat) -> bool
 }
 
 /// The least seat without a pass.
-pub(crate) fn missing<S: Site>(passes: &[Pass<S>]) -> Option<Seat>
+pub(crate) fn find_missing<S: Site>(passes: &[Pass<S>]) -> Option<Seat>
     ensures { MatchOption result (HereBelow passes.now 64) (λ seat. IsMissing passes.now seat) }
 {
     for number in 0..SEATS {
@@ -107,7 +109,7 @@ fn is_same<S: Site>(
 }
 
 /// The least seat with a pass that differs from the history.
-pub(crate) fn unequal<S: Site>(
+pub(crate) fn find_unequal<S: Site>(
     passes: &[Pass<S>],
     epoch: u64,
     history: &[Entry],
@@ -129,7 +131,7 @@ pub(crate) fn unequal<S: Site>(
 // Puts the share of a pass to the others, and gives what the pass holds in this epoch.
 fn hand_in<S: Site>(book: &mut Book<S>, all: &mut Share<S>, epoch: u64, pass: Pass<S>) -> Held
     requires { book.old.total < 2 ^ 64 }
-    ensures held { result ≡ renewed epoch pass }
+    ensures held { result ≡ held_in epoch pass }
     ensures parts { all.new.parts ≡ all.old.parts + 1 }
     ensures amount { all.new.amount ≡ all.old.amount + calls_through pass }
     ensures apart { all.new.parts ≤ S.parts }
@@ -168,7 +170,7 @@ pub(crate) fn gather<S: Site>(
     ensures amount { OnOk result (all.new.amount ≡ calls_of passes.items) }
     ensures apart { OnOk result (length passes.items ≤ S.parts) }
     ensures total { OnOk result (book.new.total ≡ book.old.total) }
-    ensures items { IfOk result (λ made. made ≡ map (renewed epoch) passes.items) }
+    ensures items { IfOk result (λ made. made ≡ map (held_in epoch) passes.items) }
 {
     let mut items = Vec::with_capacity(alloc, passes.len())?;
     for pass in passes {

@@ -56,7 +56,8 @@ pub(crate) fn perform<L: Ledger>(
 ) -> Result<Performed, Fault>
     ensures step { IfOk result
         (λ done. Stepped state.old.machine mark.seat event now done.reply state.new.machine) }
-    ensures entry { IfOk result (λ done. done.written.entry ≡ entry_of mark.seat (call_of event now done.reply)) }
+    ensures entry { IfOk result
+        (λ done. done.written.entry ≡ entry_of mark.seat (call_of event now done.reply)) }
     ensures item { IfOk result
         (λ done. done.written.item ≡ item_of mark.epoch mark.place (call_of event now done.reply)) }
     ensures kept { IfOk result

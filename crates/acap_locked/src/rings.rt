@@ -1,13 +1,13 @@
 //! Which seats are rung.
 ghost use Rattle.std.specs.Prelude.{◌≡◌};
-ghost use Rattle.acap_locked.specs.Rings.{cleared, rings_of};
+ghost use Rattle.acap_locked.specs.Rings.{flags_left, rings_of};
 
 use acap_commands::Event;
 use acap_entries::Seat;
 
 /// The flags after an event of a seat, before any seat is rung (RFC 2244 section 6.5).
 pub(crate) fn flags_after(seat: Seat, event: &Event, flags: u64) -> u64
-    ensures { result ≡ cleared seat event.now flags }
+    ensures { result ≡ flags_left seat event.now flags }
 {
     match event {
         Event::Command(_) => flags,

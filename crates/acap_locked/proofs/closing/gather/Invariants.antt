@@ -1,5 +1,5 @@
 use Rattle.std.specs.Prelude.{◌≡◌, ◌≤◌, length, map}
-use Rattle.acap_locked.specs.Epochs.{renewed}
+use Rattle.acap_locked.specs.Epochs.{held_in}
 use Rattle.acap_locked.specs.Passes.{calls_of}
 use Rattle.acap_locked.proofs.closing.gather.Given as goal
 
@@ -9,5 +9,5 @@ invariant-loop-pass g l = record {
   apart : l.all.parts ≤ g.S.Ledger.parts;
   amount : l.all.amount ≡ calls_of l.yielded;
   total : l.book.total ≡ l.initial.book.total;
-  items : l.items.items ≡ map (renewed l.epoch) l.yielded;
+  items : l.items.items ≡ map (held_in l.epoch) l.yielded;
 }
