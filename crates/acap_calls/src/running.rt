@@ -65,7 +65,9 @@ pub fn run_call<R: Read, W: Write, E: Write, L: Ledger, V>(
 where
     V: FnOnce(String) -> Result<(), Fault>,
     requires { (file : _) → V.pre server file }
-    ensures { IfOk result (λ status. Calls (V.post server) (words_of words.now) (R.remaining reader.old) (R.remaining reader.new) (W.contents writer.old) (W.contents writer.new) (E.contents errors.old) (E.contents errors.new) status) }
+    ensures { IfOk result (λ status. Calls (V.post server) (words_of words.now)
+        (R.remaining reader.old) (R.remaining reader.new) (W.contents writer.old) (W.contents writer.new)
+        (E.contents errors.old) (E.contents errors.new) status) }
 {
     match read_call(alloc, words) {
         Call::Nothing => refuse(errors),

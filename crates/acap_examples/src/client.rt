@@ -1,7 +1,8 @@
 //! What the client of a context holds after what its session is told.
 ghost use Rattle.std.specs.Prelude.{◌≡◌, Some, is_some, IfOk, IfSome, OnOk};
 ghost use Rattle.std.specs.List.{list_any};
-ghost use Rattle.acap_machine.specs.Client.{answered_on, client_after, makes, noticed, searched_on, tells_named, whole_after, whole_over};
+ghost use Rattle.acap_machine.specs.Client.{answered_on, client_after, makes, noticed, searched_on};
+ghost use Rattle.acap_machine.specs.Client.{tells_named, whole_after, whole_over};
 ghost use Rattle.acap_entries.specs.Orders.{octets_eq};
 ghost use Rattle.acap_moves.specs.Hits.{is_among};
 ghost use Rattle.acap_notices.specs.Holding.{holding_after_all};
@@ -48,7 +49,7 @@ pub(crate) fn updates(name: &ContextName, event: &Event, said: &Said) -> bool
 }
 
 // The context of a name that a SEARCH makes, if it makes that.
-fn made<'a>(name: &ContextName, search: &'a Search) -> Option<&'a MakeContext>
+fn find_make<'a>(name: &ContextName, search: &'a Search) -> Option<&'a MakeContext>
     ensures makes { is_some result ≡ makes name.now search.now }
     ensures which { IfSome result (λ make. search.now.modifiers.make_context ≡ Some make.now) }
 {
@@ -62,7 +63,7 @@ fn made<'a>(name: &ContextName, search: &'a Search) -> Option<&'a MakeContext>
 }
 
 // What a client holds that begins with the rows of a SEARCH, if these are all.
-fn begun(make: &MakeContext, search: &Search, found: SearchReply) -> Result<Option<Held>, Trouble>
+fn begin(make: &MakeContext, search: &Search, found: SearchReply) -> Result<Option<Held>, Trouble>
     ensures { IfOk result (λ held. IsBegun search.now found make.now held) }
 {
     if search.modifiers.returns.is_none() || found.total.is_some() {
@@ -75,7 +76,7 @@ fn begun(make: &MakeContext, search: &Search, found: SearchReply) -> Result<Opti
 }
 
 // What it holds after a SEARCH.
-fn searched(
+fn hear_search(
     held: Option<Held>,
     name: &ContextName,
     event: &Event,
@@ -86,8 +87,8 @@ fn searched(
         is_some after ≡ whole_over name.now event.now found (is_some held)) }
 {
     match event {
-        Event::Command(Command::Search(search)) => match made(name, search.get()) {
-            Some(make) => begun(make, search.get(), found),
+        Event::Command(Command::Search(search)) => match find_make(name, search.get()) {
+            Some(make) => begin(make, search.get(), found),
             None => Ok(held),
         },
         _ => Ok(held),
@@ -121,7 +122,11 @@ fn apply(held: &mut Held, name: &ContextName, told: Told) -> Result<(), Trouble>
 }
 
 // What a client holds after what is told, if it holds anything.
-fn noticed(held: Option<Held>, name: &ContextName, tolds: Tolds) -> Result<Option<Held>, Trouble>
+fn hear_notices(
+    held: Option<Held>,
+    name: &ContextName,
+    tolds: Tolds,
+) -> Result<Option<Held>, Trouble>
     ensures held { IfOk result (λ after. after ≡ noticed name.now tolds held) }
     ensures whole { IfOk result (λ after. is_some after ≡ is_some held) }
 {
@@ -147,9 +152,9 @@ pub(crate) fn held_after(
         is_some after ≡ whole_after name.now event.now said (is_some held)) }
 {
     match said {
-        Said::Searched(found) => searched(held, name, event, found),
-        Said::Updated(tolds) => noticed(held, name, tolds),
-        Said::Drained(tolds) => noticed(held, name, tolds),
+        Said::Searched(found) => hear_search(held, name, event, found),
+        Said::Updated(tolds) => hear_notices(held, name, tolds),
+        Said::Drained(tolds) => hear_notices(held, name, tolds),
         _ => Ok(held),
     }
 }

@@ -16,7 +16,7 @@ mod trouble;
 
 pub use deed::Deed;
 pub use occasion::Occasion;
-pub use showing::{shown, shows};
+pub use showing::{show, shows};
 pub use step::Step;
 pub use story::Story;
 pub use trouble::Trouble;

@@ -13,7 +13,7 @@ use std::sync::ledger::Ledger;
 
 /// Runs a story, and gives what the client of its context then holds. All premises of the law of such clients (`live_law` of
 /// `acap_session`) hold of it: where one doesn't, or memory is refused, nothing is given.
-pub fn shown<L: Ledger>(alloc: Global, story: Story, steps: &mut Steps<L>) -> Result<Held, Trouble>
+pub fn show<L: Ledger>(alloc: Global, story: Story, steps: &mut Steps<L>) -> Result<Held, Trouble>
     ensures { IfOk result (λ held. Shows (telling_of story) held) }
 {
     let Story {
@@ -48,6 +48,6 @@ pub fn shows<L: Ledger>(
 ) -> Result<bool, Trouble>
     ensures { IfOk result (λ same. IsTrue same → ShowsRows (telling_of story) rows.now) }
 {
-    let held = shown(alloc, story, steps)?;
+    let held = show(alloc, story, steps)?;
     Ok(held.rows() == rows)
 }

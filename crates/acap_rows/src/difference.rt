@@ -45,7 +45,12 @@ fn add_printed(octet: u8, out: &mut String) -> Result<(), AllocError> {
 }
 
 // The line from a place on, as a row file has it, up to 60 octets behind another place.
-fn printed(alloc: Global, text: &[u8], start: usize, place: usize) -> Result<String, AllocError> {
+fn print_line(
+    alloc: Global,
+    text: &[u8],
+    start: usize,
+    place: usize,
+) -> Result<String, AllocError> {
     let behind = text.get(start..).unwrap_or(b"");
     let most = place.saturating_sub(start).saturating_add(SHOWN);
     let end = match behind.iter().position(|octet| *octet == b'\n') {
@@ -65,7 +70,7 @@ pub(crate) fn first_lines(alloc: Global, wanted: &[u8], got: &[u8]) -> Result<Li
     let place = same_length(wanted, got);
     let start = line_start(wanted, place);
     Ok(Lines {
-        wanted: printed(alloc, wanted, start, place)?,
-        got: printed(alloc, got, start, place)?,
+        wanted: print_line(alloc, wanted, start, place)?,
+        got: print_line(alloc, got, start, place)?,
     })
 }

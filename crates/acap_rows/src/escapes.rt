@@ -15,7 +15,7 @@ fn digit(octet: u8) -> Option<u8> {
 }
 
 // The octet that a letter behind a backslash stands for.
-fn escaped(letter: u8) -> Option<u8> {
+fn unescape(letter: u8) -> Option<u8> {
     match letter {
         b'\\' | b'{' | b'}' | b'*' => Some(letter),
         b'n' => Some(b'\n'),
@@ -39,7 +39,7 @@ fn add_first<'a>(text: &'a [u8], number: usize, out: &mut Vec<u8>) -> Option<&'a
             Some(behind)
         }
         [b'\\', letter, behind @ ..] => {
-            out.push(escaped(*letter)?).ok()?;
+            out.push(unescape(*letter)?).ok()?;
             Some(behind)
         }
         [octet, behind @ ..] => {

@@ -29,7 +29,7 @@ pub(crate) struct Wrong {
 }
 
 // What a session of that user writes that reads these octets.
-fn said<L: Ledger>(
+fn run_session<L: Ledger>(
     alloc: Global,
     user: &str,
     sent: &[u8],
@@ -62,7 +62,7 @@ fn add_fault(fault: ScriptFault, text: &mut Vec<u8>) -> Result<(), AllocError> {
 }
 
 // What a script writes, and, behind it, the fault that it ends by.
-fn played<L: Ledger>(
+fn play_script<L: Ledger>(
     alloc: Global,
     script: &[u8],
     sizes: PieceSizes,
@@ -88,7 +88,7 @@ fn words_of(alloc: Global, text: &str) -> Result<Vec<String>, AllocError> {
 }
 
 // What a call writes, and, behind it, what it tells on standard error, and its status.
-fn called<L: Ledger>(
+fn make_call<L: Ledger>(
     alloc: Global,
     words: &str,
     sent: &[u8],
@@ -119,16 +119,16 @@ fn called<L: Ledger>(
 }
 
 // What is written for what a row sends, cut so.
-fn answered<L: Ledger>(
+fn send_row<L: Ledger>(
     alloc: Global,
     row: &Row,
     sizes: PieceSizes,
     steps: &mut Steps<L>,
 ) -> Result<Vec<u8>, AllocError> {
     match row.kind {
-        Kind::Session(user) => said(alloc, user, row.sent.as_slice(), sizes, steps),
-        Kind::Script => played(alloc, row.sent.as_slice(), sizes, steps),
-        Kind::Call(words) => called(alloc, words, row.sent.as_slice(), sizes, steps),
+        Kind::Session(user) => run_session(alloc, user, row.sent.as_slice(), sizes, steps),
+        Kind::Script => play_script(alloc, row.sent.as_slice(), sizes, steps),
+        Kind::Call(words) => make_call(alloc, words, row.sent.as_slice(), sizes, steps),
     }
 }
 
@@ -150,7 +150,7 @@ fn wrong_at<L: Ledger>(
     sizes: PieceSizes,
     steps: &mut Steps<L>,
 ) -> Result<Option<Wrong>, AllocError> {
-    let got = answered(alloc, row, sizes, steps)?;
+    let got = send_row(alloc, row, sizes, steps)?;
     if got.as_slice() == wanted {
         return Ok(None);
     }

@@ -1,7 +1,7 @@
 use Rattle.std.proofs.Common.{◌≡◌, [], Option, Some, None, Result, IfOk, refl, sym, subst}
 use Rattle.std.specs.Option.{ok_or}
 use Rattle.acap_examples.proofs.Fates.{goes, shows_then}
-use Rattle.acap_examples.proofs.showing.shown.Goals as goal
+use Rattle.acap_examples.proofs.showing.show.Goals as goal
 use Rattle.acap_examples.specs.Stories.{Shows, telling_of}
 use Rattle.acap_examples.specs.declared.trouble.Trouble.{Trouble}
 use Rattle.acap_notices.specs.Holding.{Holding}
