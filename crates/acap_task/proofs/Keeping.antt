@@ -23,7 +23,7 @@ use Rattle.acap_dialogue.specs.declared.stage.Stage.{Stage}
 use Rattle.acap_dialogue.specs.declared.stage.Stage.TheVariants as stage
 use Rattle.acap_dialogue.proofs.Running.{run_snoc, pieces_snoc, clocks_snoc, nonces_snoc, drains_snoc, faults_snoc, calls_snoc, calls_then}
 use Rattle.acap_dialogue.proofs.Speaking.{same_talk}
-use Rattle.acap_task.specs.Kept.{Agrees, IsPicked, IsUntold, Kept, Terms, as_told, counted, fault_of, shape}
+use Rattle.acap_task.specs.Kept.{Agrees, IsPicked, IsUntold, Kept, Roles, as_told, counted, fault_of, shape}
 use Rattle.acap_task.specs.Progress.{Progress, untouched}
 use Rattle.acap_task.specs.Told.{WireTold, DeskTold, SourceTold, BellTold, after_call, after_ring, gives_moment, gives_nonce, up}
 use Rattle.acap_task.specs.Turns.{Acts, Drains, DrainsAs, Ends, Idles, KeepsAll, Leaves, Rings, Settles, Turns, fault_in, is_entering, reply_in, seats}
@@ -33,17 +33,17 @@ use Rattle.acap_task.specs.declared.step.Step.TheVariants as step
 use Rattle.acap_task.specs.declared.turned.Turned.{Turned}
 use Rattle.acap_task.proofs.Telling.{Goes, agrees_adds, agrees_as, counted_up, goes_by_call, goes_nowhere, goes_on, picked_more, picked_still}
 
-abbrev pub begin : Terms → At
-begin terms = start terms.host terms.user
+abbrev pub begin : Roles → At
+begin roles = start roles.host roles.user
 
 -- ---- the beginning
 
-pub kept_first : {w : WireTold} {d : DeskTold} {s : SourceTold} {b : BellTold} {k : Progress} (terms : Terms) (talk : Talking) (lost : Bool)
-    → (lost ≡ false → talk ≡ begun terms.host terms.user) → k ≡ untouched talk lost → IsUntold w d s b → Kept terms w d s b k
-kept_first {w} {d} {s} {b} {k} terms talk lost begins is untold =
-    subst (λ x. Kept terms w d s b x) (sym is) (record {
+pub kept_first : {w : WireTold} {d : DeskTold} {s : SourceTold} {b : BellTold} {k : Progress} (roles : Roles) (talk : Talking) (lost : Bool)
+    → (lost ≡ false → talk ≡ begun roles.host roles.user) → k ≡ untouched talk lost → IsUntold w d s b → Kept roles w d s b k
+kept_first {w} {d} {s} {b} {k} roles talk lost begins is untold =
+    subst (λ x. Kept roles w d s b x) (sym is) (record {
       dids = [];
-      at = begin terms;
+      at = begin roles;
       written = [];
       missing = [];
       unread = [];
@@ -81,23 +81,23 @@ owed_missing old new text whole (inr h) = (text, ap (λ xs. xs ++ text) (sym h.0
 pub shapes_snoc : (ds : List Did) (d : Did) → map shape (ds ++ d ∷ []) ≡ map shape ds ++ shape d ∷ []
 shapes_snoc ds d = map-append shape ds (d ∷ [])
 
-pub told_snoc : (terms : Terms) (ds : List Did) (x : Did) (at : At) → run terms.users ds (begin terms) ≡ Some at
-    → map as_told (calls terms.users (ds ++ x ∷ []) (begin terms)) ≡ map as_told (calls terms.users ds (begin terms)) ++ map as_told (calls_in terms.users x at)
-told_snoc terms ds x at ran =
-    ap (map as_told) (calls_snoc terms.users ds x (begin terms))
-    ∙ map-append as_told (calls terms.users ds (begin terms)) (calls_then terms.users x (run terms.users ds (begin terms)))
-    ∙ ap (λ o. map as_told (calls terms.users ds (begin terms)) ++ map as_told (calls_then terms.users x o)) ran
+pub told_snoc : (roles : Roles) (ds : List Did) (x : Did) (at : At) → run roles.users ds (begin roles) ≡ Some at
+    → map as_told (calls roles.users (ds ++ x ∷ []) (begin roles)) ≡ map as_told (calls roles.users ds (begin roles)) ++ map as_told (calls_in roles.users x at)
+told_snoc roles ds x at ran =
+    ap (map as_told) (calls_snoc roles.users ds x (begin roles))
+    ∙ map-append as_told (calls roles.users ds (begin roles)) (calls_then roles.users x (run roles.users ds (begin roles)))
+    ∙ ap (λ o. map as_told (calls roles.users ds (begin roles)) ++ map as_told (calls_then roles.users x o)) ran
 
-pub kept_step : {terms : Terms} {w v : WireTold} {d e : DeskTold} {s t : SourceTold} {b c : BellTold} {k l : Progress}
-    (h : Kept terms w d s b k) (x : Did) (at : At) (text unread : List ℕ) (moments : List ℤ) (numbers : List ℕ)
-    → did terms.users x h.at ≡ Some at → (l.lost ≡ false → at.talk ≡ l.talk) → at.seated ≡ l.seated → at.out ≡ h.at.out ++ text
+pub kept_step : {roles : Roles} {w v : WireTold} {d e : DeskTold} {s t : SourceTold} {b c : BellTold} {k l : Progress}
+    (h : Kept roles w d s b k) (x : Did) (at : At) (text unread : List ℕ) (moments : List ℤ) (numbers : List ℕ)
+    → did roles.users x h.at ≡ Some at → (l.lost ≡ false → at.talk ≡ l.talk) → at.seated ≡ l.seated → at.out ≡ h.at.out ++ text
     → k.lost ≡ false → Owes k text l → l.steps ≡ k.steps ++ shape x ∷ []
     → (l.lost ≡ false → unread ≡ []) → Agrees v.taken ((pieces h.dids ++ octets_in x) ++ unread) → v.put ≡ w.put
-    → Goes d e (calls_in terms.users x h.at) (faults_in x)
+    → Goes d e (calls_in roles.users x h.at) (faults_in x)
     → Agrees t.moments moments → Agrees t.nonces numbers → IsPicked (clocks h.dids ++ clocks_in x) moments → IsPicked (nonces h.dids ++ nonces_in x) numbers
     → Agrees c.rings (counted (drains h.dids + drains_in x))
-    → Kept terms v e t c l
-kept_step {terms} {w} {v} {d} {e} {s} {t} {b} {c} {k} {l} h x at text unread moments numbers does talk seated out whole owes steps all taken put goes gave numbered clocked nonced rings =
+    → Kept roles v e t c l
+kept_step {roles} {w} {v} {d} {e} {s} {t} {b} {c} {k} {l} h x at text unread moments numbers does talk seated out whole owes steps all taken put goes gave numbered clocked nonced rings =
     let left = owed_missing k l text whole owes in
     let said : at.out ≡ h.written ++ (l.owed ++ left.0) =
     out ∙ ap (λ ys. ys ++ text) h.said_is ∙ ap (λ ys. (h.written ++ (k.owed ++ ys)) ++ text) (h.whole whole)
@@ -110,7 +110,7 @@ kept_step {terms} {w} {v} {d} {e} {s} {t} {b} {c} {k} {l} h x at text unread mom
       unread = unread;
       moments = moments;
       numbers = numbers;
-      ran = run_snoc terms.users h.dids x (begin terms) ∙ ap (option_and_then (did terms.users x)) h.ran ∙ does;
+      ran = run_snoc roles.users h.dids x (begin roles) ∙ ap (option_and_then (did roles.users x)) h.ran ∙ does;
       steps_are = shapes_snoc h.dids x ∙ ap (λ ss. ss ++ shape x ∷ []) h.steps_are ∙ sym steps;
       talk_is = talk;
       seated_is = seated;
@@ -119,7 +119,7 @@ kept_step {terms} {w} {v} {d} {e} {s} {t} {b} {c} {k} {l} h x at text unread mom
       all_read = all;
       taken_is = agrees_as v.taken _ _ (ap (λ ys. ys ++ unread) (sym (pieces_snoc h.dids x))) taken;
       put_is = subst (λ o. Agrees o h.written) (sym put) h.put_is;
-      calls_are = agrees_as e.calls _ _ (sym (told_snoc terms h.dids x h.at h.ran)) (goes.told _ h.calls_are);
+      calls_are = agrees_as e.calls _ _ (sym (told_snoc roles h.dids x h.at h.ran)) (goes.told _ h.calls_are);
       faults_are = goes.counts _ h.faults_are ∙ ap counted (sym (faults_snoc h.dids x));
       moments_are = gave;
       numbers_are = numbered;
@@ -273,28 +273,28 @@ shape_turn clock nonce asked left a b p q = λ i. step.Turn clock nonce (p i) (q
 no_more : {A : Type 0} (xs ys : List A) → xs ++ ys ≡ (xs ++ []) ++ ys
 no_more xs ys = ap (λ zs. zs ++ ys) (sym (append-nil xs))
 
-module _ {terms : Terms} {w : WireTold} {d e : DeskTold} {s : SourceTold} {b : BellTold} {k l : Progress} where
+module _ {roles : Roles} {w : WireTold} {d e : DeskTold} {s : SourceTold} {b : BellTold} {k l : Progress} where
   -- a turn, by what it leaves and says
-  turn_step : (h : Kept terms w d s b k) (clock : ℤ) (nonce : ℕ) (x : Next × Talking) (asked left : Outcome) (at : At) (text : List ℕ)
-      → session_next terms.users nonce clock h.at.talk ≡ x → turned h.at x asked left ≡ Some at
+  turn_step : (h : Kept roles w d s b k) (clock : ℤ) (nonce : ℕ) (x : Next × Talking) (asked left : Outcome) (at : At) (text : List ℕ)
+      → session_next roles.users nonce clock h.at.talk ≡ x → turned h.at x asked left ≡ Some at
       → (l.lost ≡ false → at.talk ≡ l.talk) → at.seated ≡ l.seated → at.out ≡ h.at.out ++ text
       → k.lost ≡ false → Owes k text l → l.steps ≡ k.steps ++ shape (Turn clock nonce asked left) ∷ []
       → Goes d e (calls_with clock (event_in x) asked left) (fault_count asked + fault_count left)
-      → Kept terms w e (gives_nonce (gives_moment s clock) nonce) b l
+      → Kept roles w e (gives_nonce (gives_moment s clock) nonce) b l
   turn_step h clock nonce x asked left at text is does talk seated out whole owes steps goes =
       kept_step h (Turn clock nonce asked left) at text h.unread (h.moments ++ clock ∷ []) (h.numbers ++ nonce ∷ [])
-      (did_turn terms.users clock nonce asked left h.at x is ∙ does) talk seated out whole owes steps (λ _. h.all_read whole)
+      (did_turn roles.users clock nonce asked left h.at x is ∙ does) talk seated out whole owes steps (λ _. h.all_read whole)
       (agrees_as w.taken _ _ (no_more (pieces h.dids) h.unread) h.taken_is) refl
-      (subst (λ cs. Goes d e cs (fault_count asked + fault_count left)) (sym (turn_calls terms.users clock nonce asked left h.at x is)) goes)
+      (subst (λ cs. Goes d e cs (fault_count asked + fault_count left)) (sym (turn_calls roles.users clock nonce asked left h.at x is)) goes)
       (agrees_adds s.moments h.moments (clock ∷ []) h.moments_are) (agrees_adds s.nonces h.numbers (nonce ∷ []) h.numbers_are)
       (picked_more _ _ clock h.clocks_picked) (picked_more _ _ nonce h.nonces_picked)
       (agrees_as b.rings _ _ (ap counted (omega arith)) h.rings_are)
 
   -- nothing was next, but a moment and a nonce were given
-  turn_none : (h : Kept terms w d s b k) (clock : ℤ) (nonce : ℕ) → l ≡ k → e ≡ d → Kept terms w e (gives_nonce (gives_moment s clock) nonce) b l
+  turn_none : (h : Kept roles w d s b k) (clock : ℤ) (nonce : ℕ) → l ≡ k → e ≡ d → Kept roles w e (gives_nonce (gives_moment s clock) nonce) b l
   turn_none h clock nonce same desk =
-      let P : Progress → Type 0 = λ x. Kept terms w e (gives_nonce (gives_moment s clock) nonce) b x in
-      let Q : DeskTold → Type 0 = λ x. Kept terms w x (gives_nonce (gives_moment s clock) nonce) b k in
+      let P : Progress → Type 0 = λ x. Kept roles w e (gives_nonce (gives_moment s clock) nonce) b x in
+      let Q : DeskTold → Type 0 = λ x. Kept roles w x (gives_nonce (gives_moment s clock) nonce) b k in
       subst P (sym same) (subst Q (sym desk) (record {
         dids = h.dids;
         at = h.at;
@@ -322,19 +322,19 @@ module _ {terms : Terms} {w : WireTold} {d e : DeskTold} {s : SourceTold} {b : B
       }))
 
   -- a turn, by what is next
-  acted : (h : Kept terms w d s b k) (clock : ℤ) (nonce : ℕ) (was : Turned) (n : Next) (t : Talking) → session_next terms.users nonce clock k.talk ≡ (n, t)
+  acted : (h : Kept roles w d s b k) (clock : ℤ) (nonce : ℕ) (was : Turned) (n : Next) (t : Talking) → session_next roles.users nonce clock k.talk ≡ (n, t)
       → k.lost ≡ false → Acts (heard_of n) clock nonce (record k { talk = t; owed = added k.owed n }) d was l e
-      → Kept terms w e (gives_nonce (gives_moment s clock) nonce) b l
+      → Kept roles w e (gives_nonce (gives_moment s clock) nonce) b l
   acted h clock nonce was next.More t is whole made =
-      let same : t ≡ k.talk = ap (λ x. x.1) (sym is) ∙ same_talk terms.users nonce clock k.talk (ap (λ x. x.0) is) in
+      let same : t ≡ k.talk = ap (λ x. x.1) (sym is) ∙ same_talk roles.users nonce clock k.talk (ap (λ x. x.0) is) in
       turn_none h clock nonce (made.1 ∙ ap (λ x. record k { talk = x }) same) made.2
   acted h clock nonce was (next.Say octets) t is whole made =
-      let from = ap (session_next terms.users nonce clock) (h.talk_is whole) ∙ is in
+      let from = ap (session_next roles.users nonce clock) (h.talk_is whole) ∙ is in
       turn_step h clock nonce (next.Say octets, t) None None (record { talk = t; out = h.at.out ++ octets; seated = h.at.seated }) octets from refl
       (λ _. sym made.2.0) (h.seated_is ∙ sym made.2.3) refl whole (inl (made.2.1, made.2.2)) made.1
       (goes_nowhere d e made.3)
   acted h clock nonce was (next.Close octets) t is whole made =
-      let from = ap (session_next terms.users nonce clock) (h.talk_is whole) ∙ is in
+      let from = ap (session_next roles.users nonce clock) (h.talk_is whole) ∙ is in
       let m : (left : Option Fault) × (l.steps ≡ k.steps ++ step.Turn clock nonce None left ∷ []) × Leaves k.seated clock d left e
       × KeepsAll (record k { talk = t; owed = k.owed ++ octets; seated = false }) l = made.1 in
       let at : At = record { talk = t; out = h.at.out ++ octets; seated = false } in
@@ -344,7 +344,7 @@ module _ {terms : Terms} {w : WireTold} {d e : DeskTold} {s : SourceTold} {b : B
       (m.1 ∙ ap (λ y. k.steps ++ y ∷ []) (shape_turn clock nonce None m.0 None left.outcome refl left.shown))
       (goes_on (goes_nowhere d d refl) left.goes)
   acted h clock nonce was (next.Ask event) t is whole made =
-      let from = ap (session_next terms.users nonce clock) (h.talk_is whole) ∙ is in
+      let from = ap (session_next roles.users nonce clock) (h.talk_is whole) ∙ is in
       let m : (asked : Option Fault) × (left : Option Fault) × (l.steps ≡ k.steps ++ step.Turn clock nonce asked left ∷ [])
       × Settles event clock (record k { talk = t }) d asked left l e = made.1 in
       let q = settles {k = record k { talk = t }} {l = l} {d = d} {e = e} {clock = clock} {asked = m.0} {left = m.1} event h.at.out whole m.3 in
@@ -354,13 +354,13 @@ module _ {terms : Terms} {w : WireTold} {d e : DeskTold} {s : SourceTold} {b : B
       (m.2 ∙ ap (λ y. k.steps ++ y ∷ []) (shape_turn clock nonce m.0 m.1 (Some q.outcome) q.gone q.asked_shown q.left_shown))
       q.goes
 
-  pub turned_kept : {t : SourceTold} (was : Turned) → Kept terms w d s b k → Turns terms.users was k d s l e t → Kept terms w e t b l
+  pub turned_kept : {t : SourceTold} (was : Turned) → Kept roles w d s b k → Turns roles.users was k d s l e t → Kept roles w e t b l
   turned_kept {t} was h made =
-      let P : SourceTold → Type 0 = λ u. Kept terms w e u b l in
-      let x = session_next terms.users made.nonce made.clock k.talk in
+      let P : SourceTold → Type 0 = λ u. Kept roles w e u b l in
+      let x = session_next roles.users made.nonce made.clock k.talk in
       subst P (sym made.given) (acted h made.clock made.nonce was x.0 x.1 refl made.whole made.acts)
 
-given_on : {terms : Terms} {w : WireTold} {d : DeskTold} {s t : SourceTold} {b : BellTold} {k : Progress} (h : Kept terms w d s b k)
+given_on : {roles : Roles} {w : WireTold} {d : DeskTold} {s t : SourceTold} {b : BellTold} {k : Progress} (h : Kept roles w d s b k)
     → ((t ≡ s) ⊎ ((clock : ℤ) × (nonce : ℕ) × (t ≡ gives_nonce (gives_moment s clock) nonce)))
     → (moments : List ℤ) × (numbers : List ℕ) × Agrees t.moments moments × Agrees t.nonces numbers × IsPicked (clocks h.dids) moments × IsPicked (nonces h.dids) numbers
 given_on {s = s} h (inl same) = (
@@ -380,11 +380,11 @@ given_on {s = s} h (inr (clock, nonce, is)) = (
   picked_still _ _ nonce h.nonces_picked,
 )
 
-module _ {terms : Terms} {w : WireTold} {d e : DeskTold} {s t : SourceTold} {b : BellTold} {k l : Progress} where
-  pub idle_kept : Kept terms w d s b k → Idles k d s l e t → Kept terms w e t b l
+module _ {roles : Roles} {w : WireTold} {d e : DeskTold} {s t : SourceTold} {b : BellTold} {k l : Progress} where
+  pub idle_kept : Kept roles w d s b k → Idles k d s l e t → Kept roles w e t b l
   idle_kept h made =
       let given = given_on h made.given in
-      let P : DeskTold → Type 0 = λ z. Kept terms w z t b l in
+      let P : DeskTold → Type 0 = λ z. Kept roles w z t b l in
       subst P (sym made.desk) (record {
         dids = h.dids;
         at = h.at;
@@ -412,8 +412,8 @@ module _ {terms : Terms} {w : WireTold} {d e : DeskTold} {s t : SourceTold} {b :
       })
 
   -- what a turn leaves, whatever it answered
-  pub kept_turn : ∥ Kept terms w d s b k ∥₁ → (r : Result Turned Memory) → IfOk r (λ was. Turns terms.users was k d s l e t)
-      → OnErr r (Idles k d s l e t) → ∥ Kept terms w e t b l ∥₁
+  pub kept_turn : ∥ Kept roles w d s b k ∥₁ → (r : Result Turned Memory) → IfOk r (λ was. Turns roles.users was k d s l e t)
+      → OnErr r (Idles k d s l e t) → ∥ Kept roles w e t b l ∥₁
   kept_turn h (Ok was) made idle = ∥∥₁_map h (λ p. turned_kept was p made)
   kept_turn h (Err memory) made idle = ∥∥₁_map h (λ p. idle_kept p idle)
 
@@ -461,25 +461,25 @@ mute : (t : Talking) → IsMute (session_drain t).0
 unfolding session_drain
 mute t = mute_at t.stage t
 
-module _ {terms : Terms} {w : WireTold} {d e : DeskTold} {s : SourceTold} {b : BellTold} {k l : Progress} where
-  drain_step : (h : Kept terms w d s b k) (clock : ℤ) (x : Next × Talking) (asked left : Outcome) (at : At) (text : List ℕ)
+module _ {roles : Roles} {w : WireTold} {d e : DeskTold} {s : SourceTold} {b : BellTold} {k l : Progress} where
+  drain_step : (h : Kept roles w d s b k) (clock : ℤ) (x : Next × Talking) (asked left : Outcome) (at : At) (text : List ℕ)
       → session_drain h.at.talk ≡ x → turned h.at x asked left ≡ Some at
       → (l.lost ≡ false → at.talk ≡ l.talk) → at.seated ≡ l.seated → at.out ≡ h.at.out ++ text
       → k.lost ≡ false → Owes k text l → l.steps ≡ k.steps ++ shape (Drain clock asked left) ∷ []
       → Goes d e (calls_with clock (event_in x) asked left) (fault_count asked + fault_count left)
-      → Kept terms w e (gives_moment s clock) (after_ring b (Ready ring.Rung)) l
+      → Kept roles w e (gives_moment s clock) (after_ring b (Ready ring.Rung)) l
   drain_step h clock x asked left at text is does talk seated out whole owes steps goes =
       kept_step h (Drain clock asked left) at text h.unread (h.moments ++ clock ∷ []) h.numbers
-      (did_drain terms.users clock asked left h.at x is ∙ does) talk seated out whole owes steps (λ _. h.all_read whole)
+      (did_drain roles.users clock asked left h.at x is ∙ does) talk seated out whole owes steps (λ _. h.all_read whole)
       (agrees_as w.taken _ _ (no_more (pieces h.dids) h.unread) h.taken_is) refl
-      (subst (λ cs. Goes d e cs (fault_count asked + fault_count left)) (sym (drain_calls terms.users clock asked left h.at x is)) goes)
+      (subst (λ cs. Goes d e cs (fault_count asked + fault_count left)) (sym (drain_calls roles.users clock asked left h.at x is)) goes)
       (agrees_adds s.moments h.moments (clock ∷ []) h.moments_are) h.numbers_are
       (picked_more _ _ clock h.clocks_picked) (subst (λ xs. IsPicked xs h.numbers) (sym (append-nil (nonces h.dids))) h.nonces_picked)
       (rung_once b.rings (drains h.dids) h.rings_are)
 
-  drained : (h : Kept terms w d s b k) (clock : ℤ) (n : Next) (t : Talking) → IsMute n → session_drain k.talk ≡ (n, t)
+  drained : (h : Kept roles w d s b k) (clock : ℤ) (n : Next) (t : Talking) → IsMute n → session_drain k.talk ≡ (n, t)
       → k.lost ≡ false → DrainsAs n clock (record k { talk = t }) d l e
-      → Kept terms w e (gives_moment s clock) (after_ring b (Ready ring.Rung)) l
+      → Kept roles w e (gives_moment s clock) (after_ring b (Ready ring.Rung)) l
   drained h clock next.More t m is whole made =
       let from = ap session_drain (h.talk_is whole) ∙ is in
       drain_step h clock (next.More, t) None None (record { talk = t; out = h.at.out; seated = h.at.seated }) [] from refl
@@ -496,19 +496,19 @@ module _ {terms : Terms} {w : WireTold} {d e : DeskTold} {s : SourceTold} {b : B
       (made.2 ∙ ap (λ y. k.steps ++ y ∷ []) (shape_drain clock made.0 made.1 (Some q.outcome) q.gone q.asked_shown q.left_shown))
       q.goes
 
-  drains_kept : {t : SourceTold} → Kept terms w d s b k → k.lost ≡ false → Drains k d s l e t → Kept terms w e t (after_ring b (Ready ring.Rung)) l
+  drains_kept : {t : SourceTold} → Kept roles w d s b k → k.lost ≡ false → Drains k d s l e t → Kept roles w e t (after_ring b (Ready ring.Rung)) l
   drains_kept {t} h whole made =
-      let P : SourceTold → Type 0 = λ u. Kept terms w e u (after_ring b (Ready ring.Rung)) l in
+      let P : SourceTold → Type 0 = λ u. Kept roles w e u (after_ring b (Ready ring.Rung)) l in
       let x = session_drain k.talk in
       subst P (sym made.given) (drained h made.clock x.0 x.1 (mute k.talk) refl whole made.acts)
 
-module _ {terms : Terms} {w : WireTold} {d e : DeskTold} {s t : SourceTold} {b : BellTold} {k l : Progress} where
+module _ {roles : Roles} {w : WireTold} {d e : DeskTold} {s t : SourceTold} {b : BellTold} {k l : Progress} where
   -- nothing has changed but what a bell tells of its polls
-  bell_kept : {c : BellTold} → Kept terms w d s b k → c.rings ≡ b.rings → (l ≡ k) × (e ≡ d) × (t ≡ s) → Kept terms w e t c l
+  bell_kept : {c : BellTold} → Kept roles w d s b k → c.rings ≡ b.rings → (l ≡ k) × (e ≡ d) × (t ≡ s) → Kept roles w e t c l
   bell_kept {c} h rings same =
-      let P : Progress → Type 0 = λ x. Kept terms w e t c x in
-      let Q : DeskTold → Type 0 = λ x. Kept terms w x t c k in
-      let R : SourceTold → Type 0 = λ x. Kept terms w d x c k in
+      let P : Progress → Type 0 = λ x. Kept roles w e t c x in
+      let Q : DeskTold → Type 0 = λ x. Kept roles w x t c k in
+      let R : SourceTold → Type 0 = λ x. Kept roles w d x c k in
       subst P (sym same.0) (subst Q (sym same.1) (subst R (sym same.2) (record {
         dids = h.dids;
         at = h.at;
@@ -535,11 +535,11 @@ module _ {terms : Terms} {w : WireTold} {d e : DeskTold} {s t : SourceTold} {b :
         rings_are = subst (λ o. Agrees o (counted (drains h.dids))) (sym rings) h.rings_are;
       })))
 
-  rings_kept : (r : Poll Ring) → Kept terms w d s b k → k.lost ≡ false → Rings r k d s l e t → Kept terms w e t (after_ring b r) l
+  rings_kept : (r : Poll Ring) → Kept roles w d s b k → k.lost ≡ false → Rings r k d s l e t → Kept roles w e t (after_ring b r) l
   rings_kept (Ready ring.Rung) h whole made = drains_kept h whole made
   rings_kept (Ready ring.End) h whole made = bell_kept h refl made
   rings_kept Pending h whole made = bell_kept h refl made
 
-  pub kept_ring : {c : BellTold} (r : Poll Ring) → ∥ Kept terms w d s b k ∥₁ → k.lost ≡ false → c ≡ after_ring b r → Rings r k d s l e t → ∥ Kept terms w e t c l ∥₁
+  pub kept_ring : {c : BellTold} (r : Poll Ring) → ∥ Kept roles w d s b k ∥₁ → k.lost ≡ false → c ≡ after_ring b r → Rings r k d s l e t → ∥ Kept roles w e t c l ∥₁
   kept_ring {c} r h whole bell made =
-      let P : BellTold → Type 0 = λ z. ∥ Kept terms w e t z l ∥₁ in subst P (sym bell) (∥∥₁_map h (λ p. rings_kept r p whole made))
+      let P : BellTold → Type 0 = λ z. ∥ Kept roles w e t z l ∥₁ in subst P (sym bell) (∥∥₁_map h (λ p. rings_kept r p whole made))

@@ -9,7 +9,7 @@ use Rattle.acap_commands.specs.declared.event.Event.TheVariants as event
 use Rattle.acap_commands.specs.declared.fault.Fault.{Fault}
 use Rattle.acap_locked.specs.declared.answer.Answer.{Answer}
 use Rattle.acap_dialogue.specs.Running.{At, Piece, Leave, Outcome, clocks, did, drains, leaving, nonces, over, pieces, taking}
-use Rattle.acap_task.specs.Kept.{Agrees, IsPicked, Kept, Terms, counted}
+use Rattle.acap_task.specs.Kept.{Agrees, IsPicked, Kept, Roles, counted}
 use Rattle.acap_task.specs.Progress.{Progress}
 use Rattle.std.specs.Option.{option_and_then}
 use Rattle.acap_dialogue.proofs.Running.{run_snoc, pieces_snoc, clocks_snoc, nonces_snoc, drains_snoc, faults_snoc}
@@ -24,9 +24,9 @@ use Rattle.acap_task.proofs.Telling.{agrees_adds, agrees_as, goes_by_call, goes_
 
 -- ---- what is written
 
-module _ {terms : Terms} {w v : WireTold} {d : DeskTold} {s : SourceTold} {b : BellTold} {k : Progress} where
+module _ {roles : Roles} {w v : WireTold} {d : DeskTold} {s : SourceTold} {b : BellTold} {k : Progress} where
   -- nothing but counts of the wire has changed
-  same_kept : Kept terms w d s b k → v.taken ≡ w.taken → v.put ≡ w.put → Kept terms v d s b k
+  same_kept : Kept roles w d s b k → v.taken ≡ w.taken → v.put ≡ w.put → Kept roles v d s b k
   same_kept h taken put = record {
     dids = h.dids;
     at = h.at;
@@ -54,7 +54,7 @@ module _ {terms : Terms} {w v : WireTold} {d : DeskTold} {s : SourceTold} {b : B
   }
 
   -- the first octets of what is owed were written
-  paid_kept : (h : Kept terms w d s b k) (n : ℕ) → v.taken ≡ w.taken → v.put ≡ adds w.put (take n k.owed) → Kept terms v d s b (record k { owed = drop n k.owed })
+  paid_kept : (h : Kept roles w d s b k) (n : ℕ) → v.taken ≡ w.taken → v.put ≡ adds w.put (take n k.owed) → Kept roles v d s b (record k { owed = drop n k.owed })
   paid_kept h n taken put = record {
     dids = h.dids;
     at = h.at;
@@ -83,14 +83,14 @@ module _ {terms : Terms} {w v : WireTold} {d : DeskTold} {s : SourceTold} {b : B
     rings_are = h.rings_are;
   }
 
-  written_by : (r : Poll (Result ℕ WireFault)) → Kept terms w d s b k → v ≡ after_write w r k.owed → Kept terms v d s b (record k { owed = paid_by r k.owed })
+  written_by : (r : Poll (Result ℕ WireFault)) → Kept roles w d s b k → v ≡ after_write w r k.owed → Kept roles v d s b (record k { owed = paid_by r k.owed })
   written_by (Ready (Ok n)) h made = paid_kept h n (ap (λ u. u.taken) made) (ap (λ u. u.put) made)
   written_by (Ready (Err fault)) h made = same_kept h (ap (λ u. u.taken) made) (ap (λ u. u.put) made)
   written_by Pending h made = same_kept h (ap (λ u. u.taken) made) (ap (λ u. u.put) made)
 
-  pub kept_write : {l : Progress} (r : Poll (Result ℕ WireFault)) → ∥ Kept terms w d s b k ∥₁ → Writes w k r v l → ∥ Kept terms v d s b l ∥₁
+  pub kept_write : {l : Progress} (r : Poll (Result ℕ WireFault)) → ∥ Kept roles w d s b k ∥₁ → Writes w k r v l → ∥ Kept roles v d s b l ∥₁
   kept_write {l} r h made =
-      let P : Progress → Type 0 = λ x. ∥ Kept terms v d s b x ∥₁ in subst P (sym made.1) (∥∥₁_map h (λ p. written_by r p made.0))
+      let P : Progress → Type 0 = λ x. ∥ Kept roles v d s b x ∥₁ in subst P (sym made.1) (∥∥₁_map h (λ p. written_by r p made.0))
 
 -- ---- what is read
 
@@ -101,13 +101,13 @@ did_piece users octets at = refl
 no_drain : (o : Option ℕ) (n : ℕ) → Agrees o (counted n) → Agrees o (counted (n + 0))
 no_drain o n h = agrees_as o _ _ (ap counted (omega arith)) h
 
-module _ {terms : Terms} {w v : WireTold} {d : DeskTold} {s : SourceTold} {b : BellTold} {k l : Progress} where
+module _ {roles : Roles} {w v : WireTold} {d : DeskTold} {s : SourceTold} {b : BellTold} {k l : Progress} where
   -- the session took octets
-  took_kept : (h : Kept terms w d s b k) (octets : List ℕ) → v.taken ≡ adds w.taken octets → v.put ≡ w.put → k.lost ≡ false
+  took_kept : (h : Kept roles w d s b k) (octets : List ℕ) → v.taken ≡ adds w.taken octets → v.put ≡ w.put → k.lost ≡ false
       → l.owed ≡ k.owed → l.seated ≡ k.seated → l.talk ≡ taking k.talk octets → l.steps ≡ k.steps ++ step.Piece (length octets) ∷ [] → l.lost ≡ k.lost
-      → Kept terms v d s b l
+      → Kept roles v d s b l
   took_kept h octets taken put whole owed seated talk steps lost =
-      kept_step h (Piece octets) (record h.at { talk = taking h.at.talk octets }) [] [] h.moments h.numbers (did_piece terms.users octets h.at)
+      kept_step h (Piece octets) (record h.at { talk = taking h.at.talk octets }) [] [] h.moments h.numbers (did_piece roles.users octets h.at)
       (λ _. ap (λ t. taking t octets) (h.talk_is whole) ∙ sym talk) (h.seated_is ∙ sym seated) (sym (append-nil h.at.out)) whole
       (inl (owed ∙ sym (append-nil k.owed), lost)) steps (λ _. refl)
       (subst (λ o. Agrees o ((pieces h.dids ++ octets) ++ [])) (sym taken) (agrees_as (adds w.taken octets) _ _ (sym (append-nil (pieces h.dids ++ octets)))
@@ -118,8 +118,8 @@ module _ {terms : Terms} {w v : WireTold} {d : DeskTold} {s : SourceTold} {b : B
       (no_drain b.rings (drains h.dids) h.rings_are)
 
   -- memory was refused for octets that were read
-  lost_kept : (h : Kept terms w d s b k) (octets : List ℕ) → v.taken ≡ adds w.taken octets → v.put ≡ w.put → k.lost ≡ false
-      → l.owed ≡ k.owed → l.seated ≡ k.seated → l.steps ≡ k.steps → l.lost ≡ true → Kept terms v d s b l
+  lost_kept : (h : Kept roles w d s b k) (octets : List ℕ) → v.taken ≡ adds w.taken octets → v.put ≡ w.put → k.lost ≡ false
+      → l.owed ≡ k.owed → l.seated ≡ k.seated → l.steps ≡ k.steps → l.lost ≡ true → Kept roles v d s b l
   lost_kept h octets taken put whole owed seated steps lost = record {
     dids = h.dids;
     at = h.at;
@@ -147,7 +147,7 @@ module _ {terms : Terms} {w v : WireTold} {d : DeskTold} {s : SourceTold} {b : B
     rings_are = h.rings_are;
   }
 
-  takes_kept : (octets : List ℕ) → Kept terms w d s b k → k.lost ≡ false → v.taken ≡ adds w.taken octets → v.put ≡ w.put → Takes octets k l → Kept terms v d s b l
+  takes_kept : (octets : List ℕ) → Kept roles w d s b k → k.lost ≡ false → v.taken ≡ adds w.taken octets → v.put ≡ w.put → Takes octets k l → Kept roles v d s b l
   takes_kept octets h whole taken put (owed, seated, inl made) = took_kept h octets taken put whole owed seated made.0 made.1 made.2
   takes_kept octets h whole taken put (owed, seated, inr made) = lost_kept h octets taken put whole owed seated made.0 made.1
 
@@ -155,19 +155,19 @@ nothing_told : (o : Option (List ℕ)) → adds o [] ≡ o
 nothing_told None = refl
 nothing_told (Some xs) = ap (λ ys. Some ys) (append-nil xs)
 
-module _ {terms : Terms} {w v : WireTold} {d : DeskTold} {s : SourceTold} {b : BellTold} {k : Progress} where
-  read_kept : {l : Progress} (r : Poll (Result ℕ WireFault)) (buffer : List ℕ) → Kept terms w d s b k → k.lost ≡ false
-      → v ≡ after_read w r buffer → ReadsAs r buffer k l → Kept terms v d s b l
+module _ {roles : Roles} {w v : WireTold} {d : DeskTold} {s : SourceTold} {b : BellTold} {k : Progress} where
+  read_kept : {l : Progress} (r : Poll (Result ℕ WireFault)) (buffer : List ℕ) → Kept roles w d s b k → k.lost ≡ false
+      → v ≡ after_read w r buffer → ReadsAs r buffer k l → Kept roles v d s b l
   read_kept {l} (Ready (Ok n)) buffer h whole told (inl (none, same)) =
-      let P : Progress → Type 0 = λ x. Kept terms v d s b x in
+      let P : Progress → Type 0 = λ x. Kept roles v d s b x in
       subst P (sym same) (same_kept h (ap (λ u. u.taken) told ∙ ap (λ m. adds w.taken (take m buffer)) none ∙ nothing_told w.taken) (ap (λ u. u.put) told))
   read_kept (Ready (Ok n)) buffer h whole told (inr made) = takes_kept (take n buffer) h whole (ap (λ u. u.taken) told) (ap (λ u. u.put) told) made.2
   read_kept (Ready (Err fault)) buffer h whole told same =
-      let P : Progress → Type 0 = λ x. Kept terms v d s b x in subst P (sym same) (same_kept h (ap (λ u. u.taken) told) (ap (λ u. u.put) told))
+      let P : Progress → Type 0 = λ x. Kept roles v d s b x in subst P (sym same) (same_kept h (ap (λ u. u.taken) told) (ap (λ u. u.put) told))
   read_kept Pending buffer h whole told same =
-      let P : Progress → Type 0 = λ x. Kept terms v d s b x in subst P (sym same) (same_kept h (ap (λ u. u.taken) told) (ap (λ u. u.put) told))
+      let P : Progress → Type 0 = λ x. Kept roles v d s b x in subst P (sym same) (same_kept h (ap (λ u. u.taken) told) (ap (λ u. u.put) told))
 
-  pub kept_read : {l : Progress} (r : Poll (Result ℕ WireFault)) → ∥ Kept terms w d s b k ∥₁ → k.lost ≡ false → Reads w k r v l → ∥ Kept terms v d s b l ∥₁
+  pub kept_read : {l : Progress} (r : Poll (Result ℕ WireFault)) → ∥ Kept roles w d s b k ∥₁ → k.lost ≡ false → Reads w k r v l → ∥ Kept roles v d s b l ∥₁
   kept_read r h whole made = ∥∥₁_map h (λ p. read_kept r made.buffer p whole made.told made.as_read)
 
 -- ---- the end
@@ -176,13 +176,13 @@ did_leave : (users : List User) (clock : ℤ) (left : Outcome) (at : At) → did
 unfolding did
 did_leave users clock left at = refl
 
-module _ {terms : Terms} {w : WireTold} {d e : DeskTold} {s t : SourceTold} {b : BellTold} {k l : Progress} where
-  leave_kept : (h : Kept terms w d s b k) (clock : ℤ) (outcome : Result Answer Fault) → k.seated ≡ true
+module _ {roles : Roles} {w : WireTold} {d e : DeskTold} {s t : SourceTold} {b : BellTold} {k l : Progress} where
+  leave_kept : (h : Kept roles w d s b k) (clock : ℤ) (outcome : Result Answer Fault) → k.seated ≡ true
       → l ≡ record k { talk = over k.talk; steps = k.steps ++ step.Leave clock (fault_in outcome) ∷ []; seated = false }
-      → e ≡ after_call d event.Leave clock outcome → t ≡ gives_moment s clock → Kept terms w e t b l
+      → e ≡ after_call d event.Leave clock outcome → t ≡ gives_moment s clock → Kept roles w e t b l
   leave_kept h clock outcome seated is desk given =
-      let P : Progress → Type 0 = λ x. Kept terms w e t b x in
-      let Q : SourceTold → Type 0 = λ x. Kept terms w e x b (record k { talk = over k.talk; steps = k.steps ++ step.Leave clock (fault_in outcome) ∷ []; seated = false }) in
+      let P : Progress → Type 0 = λ x. Kept roles w e t b x in
+      let Q : SourceTold → Type 0 = λ x. Kept roles w e x b (record k { talk = over k.talk; steps = k.steps ++ step.Leave clock (fault_in outcome) ∷ []; seated = false }) in
       subst P (sym is) (subst Q (sym given) (record {
         dids = h.dids ++ Leave clock (Some (reply_in outcome)) ∷ [];
         at = record { talk = over h.at.talk; out = h.at.out; seated = false };
@@ -191,9 +191,9 @@ module _ {terms : Terms} {w : WireTold} {d e : DeskTold} {s t : SourceTold} {b :
         unread = h.unread;
         moments = h.moments ++ clock ∷ [];
         numbers = h.numbers;
-        ran = run_snoc terms.users h.dids (Leave clock (Some (reply_in outcome))) (begin terms)
-            ∙ ap (option_and_then (did terms.users (Leave clock (Some (reply_in outcome))))) h.ran
-            ∙ did_leave terms.users clock (Some (reply_in outcome)) h.at
+        ran = run_snoc roles.users h.dids (Leave clock (Some (reply_in outcome))) (begin roles)
+            ∙ ap (option_and_then (did roles.users (Leave clock (Some (reply_in outcome))))) h.ran
+            ∙ did_leave roles.users clock (Some (reply_in outcome)) h.at
             ∙ ap (λ z. leaving z (Some (reply_in outcome)) (record { talk = over h.at.talk; out = h.at.out; seated = false })) (h.seated_is ∙ seated);
         steps_are = shapes_snoc h.dids (Leave clock (Some (reply_in outcome))) ∙ (λ i. h.steps_are i ++ step.Leave clock (sym (shown_as outcome) i) ∷ []);
         talk_is = λ f. ap over (h.talk_is f);
@@ -203,7 +203,7 @@ module _ {terms : Terms} {w : WireTold} {d e : DeskTold} {s t : SourceTold} {b :
         all_read = h.all_read;
         taken_is = agrees_as w.taken _ _ (ap (λ ys. ys ++ h.unread) (sym (pieces_snoc h.dids (Leave clock (Some (reply_in outcome))) ∙ append-nil (pieces h.dids)))) h.taken_is;
         put_is = h.put_is;
-        calls_are = agrees_as e.calls _ _ (sym (told_snoc terms h.dids (Leave clock (Some (reply_in outcome))) h.at h.ran)) ((goes_by_call d e event.Leave clock outcome desk).told _ h.calls_are);
+        calls_are = agrees_as e.calls _ _ (sym (told_snoc roles h.dids (Leave clock (Some (reply_in outcome))) h.at h.ran)) ((goes_by_call d e event.Leave clock outcome desk).told _ h.calls_are);
         faults_are = (goes_by_call d e event.Leave clock outcome desk).counts _ h.faults_are ∙ ap counted (sym (faults_snoc h.dids (Leave clock (Some (reply_in outcome)))));
         moments_are = agrees_adds s.moments h.moments (clock ∷ []) h.moments_are;
         numbers_are = h.numbers_are;
@@ -212,28 +212,28 @@ module _ {terms : Terms} {w : WireTold} {d e : DeskTold} {s t : SourceTold} {b :
         rings_are = agrees_as b.rings _ _ (ap counted (sym (drains_snoc h.dids (Leave clock (Some (reply_in outcome))) ∙ omega arith))) h.rings_are;
       }))
 
-  left_kept : (seated : Bool) → k.seated ≡ seated → Kept terms w d s b k → LeavesAtEnd seated k d s l e t → Kept terms w e t b l
+  left_kept : (seated : Bool) → k.seated ≡ seated → Kept roles w d s b k → LeavesAtEnd seated k d s l e t → Kept roles w e t b l
   left_kept true is h made = leave_kept h made.0 made.1 is made.2 made.3 made.4
   left_kept false is h made =
-      let P : Progress → Type 0 = λ x. Kept terms w e t b x in
-      let Q : DeskTold → Type 0 = λ x. Kept terms w x t b k in
-      let R : SourceTold → Type 0 = λ x. Kept terms w d x b k in
+      let P : Progress → Type 0 = λ x. Kept roles w e t b x in
+      let Q : DeskTold → Type 0 = λ x. Kept roles w x t b k in
+      let R : SourceTold → Type 0 = λ x. Kept roles w d x b k in
       subst P (sym made.0) (subst Q (sym made.1) (subst R (sym made.2) h))
 
-  pub kept_leave : ∥ Kept terms w d s b k ∥₁ → LeavesAtEnd k.seated k d s l e t → ∥ Kept terms w e t b l ∥₁
+  pub kept_leave : ∥ Kept roles w d s b k ∥₁ → LeavesAtEnd k.seated k d s l e t → ∥ Kept roles w e t b l ∥₁
   kept_leave h made = ∥∥₁_map h (λ p. left_kept k.seated refl p made)
 
   -- it is over
-  pub over_as : (how : TaskEnd) (polls turns : ℕ) → ∥ Kept terms w d s b k ∥₁ → EndsAt how terms.users w k polls turns → LeavesAtEnd k.seated k d s l e t
-      → ∥ IsOver terms w e t b l how polls turns ∥₁
+  pub over_as : (how : TaskEnd) (polls turns : ℕ) → ∥ Kept roles w d s b k ∥₁ → EndsAt how roles.users w k polls turns → LeavesAtEnd k.seated k d s l e t
+      → ∥ IsOver roles w e t b l how polls turns ∥₁
   over_as how polls turns h ends left = ∥∥₁_map h (λ p. record { old = k; d = d; s = s; kept = p; ends = ends; left = left })
 
 -- the same, by what it is then
-pub over_then : {terms after : Terms} {w v : WireTold} {d e : DeskTold} {s t : SourceTold} {b c : BellTold} {k l : Progress} → after ≡ terms → v ≡ w → c ≡ b
-    → (how : TaskEnd) (polls turns : ℕ) → ∥ Kept terms w d s b k ∥₁ → EndsAt how terms.users w k polls turns → LeavesAtEnd k.seated k d s l e t
+pub over_then : {roles after : Roles} {w v : WireTold} {d e : DeskTold} {s t : SourceTold} {b c : BellTold} {k l : Progress} → after ≡ roles → v ≡ w → c ≡ b
+    → (how : TaskEnd) (polls turns : ℕ) → ∥ Kept roles w d s b k ∥₁ → EndsAt how roles.users w k polls turns → LeavesAtEnd k.seated k d s l e t
     → ∥ IsOver after v e t c l how polls turns ∥₁
-over_then {terms} {after} {w} {v} {d} {e} {s} {t} {b} {c} {k} {l} same wire bell how polls turns h ends left =
-    let P : Terms → Type 0 = λ x. ∥ IsOver x v e t c l how polls turns ∥₁ in
-    let Q : WireTold → Type 0 = λ x. ∥ IsOver terms x e t c l how polls turns ∥₁ in
-    let R : BellTold → Type 0 = λ x. ∥ IsOver terms w e t x l how polls turns ∥₁ in
+over_then {roles} {after} {w} {v} {d} {e} {s} {t} {b} {c} {k} {l} same wire bell how polls turns h ends left =
+    let P : Roles → Type 0 = λ x. ∥ IsOver x v e t c l how polls turns ∥₁ in
+    let Q : WireTold → Type 0 = λ x. ∥ IsOver roles x e t c l how polls turns ∥₁ in
+    let R : BellTold → Type 0 = λ x. ∥ IsOver roles w e t x l how polls turns ∥₁ in
     subst P (sym same) (subst Q (sym wire) (subst R (sym bell) (over_as how polls turns h ends left)))

@@ -8,14 +8,18 @@ use Rattle.acap_locked.specs.Notes.{call_of}
 use Rattle.acap_locked.specs.declared.call.Call.{Call}
 use Rattle.acap_task.specs.Progress.{Progress}
 use Rattle.acap_task.specs.Told.{WireTold, DeskTold, SourceTold, BellTold, last}
+use Rattle.acap_task.specs.declared.parties.Parties.{Parties}
 use Rattle.acap_task.specs.declared.step.Step.{Step}
 use Rattle.acap_task.specs.declared.step.Step.TheVariants as step
 
 -- who may log in, at which host, and whose session it is from the start, if it is anybody's
-pub record Terms : Type 0 where
+pub record Roles : Type 0 where
   pub users : List User
   pub host : List ℕ
   pub user : Option (List ℕ)
+
+abbrev pub roles_of : Parties → Roles
+roles_of p = record { users = p.users.now; host = p.host; user = p.user }
 
 -- ---- what is kept of a step
 
@@ -56,7 +60,7 @@ IsPicked {A} used (g ∷ gs) = IsPicked used gs ⊎ ((rest : List A) × (used �
 -- read, in their order, but for some that memory was refused for. Its moments and nonces were given, in their order and none twice. Its
 -- drains are the bell's rings. Its events that were answered are the desk's calls, and its faults as many as the desk counts. What was
 -- written, what is owed, and what memory was refused for, is what it said.
-pub record Kept (terms : Terms) (w : WireTold) (d : DeskTold) (s : SourceTold) (b : BellTold) (k : Progress) : Type 0 where
+pub record Kept (roles : Roles) (w : WireTold) (d : DeskTold) (s : SourceTold) (b : BellTold) (k : Progress) : Type 0 where
   pub dids : List Did
   pub at : At
   pub written : List ℕ
@@ -64,7 +68,7 @@ pub record Kept (terms : Terms) (w : WireTold) (d : DeskTold) (s : SourceTold) (
   pub unread : List ℕ
   pub moments : List ℤ
   pub numbers : List ℕ
-  pub ran : run terms.users dids (start terms.host terms.user) ≡ Some at
+  pub ran : run roles.users dids (start roles.host roles.user) ≡ Some at
   pub steps_are : map shape dids ≡ k.steps
   pub talk_is : k.lost ≡ false → at.talk ≡ k.talk
   pub seated_is : at.seated ≡ k.seated
@@ -73,7 +77,7 @@ pub record Kept (terms : Terms) (w : WireTold) (d : DeskTold) (s : SourceTold) (
   pub all_read : k.lost ≡ false → unread ≡ []
   pub taken_is : Agrees w.taken (pieces dids ++ unread)
   pub put_is : Agrees w.put written
-  pub calls_are : Agrees d.calls (map as_told (calls terms.users dids (start terms.host terms.user)))
+  pub calls_are : Agrees d.calls (map as_told (calls roles.users dids (start roles.host roles.user)))
   pub faults_are : d.faults ≡ counted (faults dids)
   pub moments_are : Agrees s.moments moments
   pub numbers_are : Agrees s.nonces numbers

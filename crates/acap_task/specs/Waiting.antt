@@ -6,7 +6,7 @@ use Rattle.acap_login.specs.Login.{User}
 use Rattle.acap_dialogue.specs.Session.{is_closed, session_next}
 use Rattle.acap_dialogue.specs.Talking.{Talking}
 use Rattle.acap_dialogue.specs.declared.next.Next.TheVariants as next
-use Rattle.acap_task.specs.Kept.{Kept, Terms, counted}
+use Rattle.acap_task.specs.Kept.{Kept, Roles, counted}
 use Rattle.acap_task.specs.Progress.{Progress, done}
 use Rattle.acap_task.specs.Told.{WireTold, DeskTold, SourceTold, BellTold, last}
 use Rattle.acap_task.specs.Turns.{LeavesAtEnd}
@@ -97,10 +97,10 @@ EndsAt end.TurnsSpent users w k polls turns = polls ≡ turns
 EndsAt other users w k polls turns = EndsAs other users w k
 
 -- What was kept when it ended, and then the seat was left, if there was one.
-pub record IsOver (terms : Terms) (w : WireTold) (e : DeskTold) (t : SourceTold) (b : BellTold) (new : Progress) (how : TaskEnd) (polls turns : ℕ) : Type 0 where
+pub record IsOver (roles : Roles) (w : WireTold) (e : DeskTold) (t : SourceTold) (b : BellTold) (new : Progress) (how : TaskEnd) (polls turns : ℕ) : Type 0 where
   pub old : Progress
   pub d : DeskTold
   pub s : SourceTold
-  pub kept : Kept terms w d s b old
-  pub ends : EndsAt how terms.users w old polls turns
+  pub kept : Kept roles w d s b old
+  pub ends : EndsAt how roles.users w old polls turns
   pub left : LeavesAtEnd old.seated old d s new e t

@@ -19,17 +19,19 @@ impl<W: Wire, D: Desk, S: Source, B: Bell> Running<'_, W, D, S, B> {
     ghost use Rattle.futures.specs.Poll.{IfReady, OnPending};
     ghost use Rattle.futures.specs.Task.{IsArmed, Keeps};
     ghost use Rattle.acap_task.specs.Progress.{HasRoom, progress};
-    ghost use Rattle.acap_task.specs.Waiting.{Comes, EndsAs, Flushes, Hears, IfWritten, IsQuiet, Later, Rose, Stops, Waits};
+    ghost use Rattle.acap_task.specs.Waiting.{Comes, EndsAs, Flushes, Hears, IfWritten, IsQuiet, Later, Rose};
+    ghost use Rattle.acap_task.specs.Waiting.{Stops, Waits};
 
     // Writes all that is owed.
     fn flush(&mut self, cx: &mut Context<'_>) -> Poll<Result<(), WireFault>>
-        ensures terms { (self.new.users ≡ self.old.users) × (self.new.host ≡ self.old.host) × (self.new.user ≡ self.old.user) }
+        ensures parties { self.new.parties ≡ self.old.parties }
         ensures bell { self.new.bell ≡ self.old.bell }
         ensures flushed { Flushes (W.told self.old.wire) (W.told self.new.wire)
             (progress self.old.course) (progress self.new.course) }
         ensures written { IfReady result (λ r. IfWritten r (W.told self.old.wire) (W.told self.new.wire)
             (progress self.new.course)) }
-        ensures stuck { OnPending result (Rose (W.told self.old.wire).write_waits (W.told self.new.wire).write_waits) }
+        ensures stuck { OnPending result
+            (Rose (W.told self.old.wire).write_waits (W.told self.new.wire).write_waits) }
         ensures armed { OnPending result (IsArmed cx.new) }
         ensures kept { Keeps cx.old cx.new }
     {
@@ -47,12 +49,12 @@ impl<W: Wire, D: Desk, S: Source, B: Bell> Running<'_, W, D, S, B> {
         requires room { HasRoom self.old.course }
         requires whole { self.old.course.lost ≡ false }
         requires paid { self.old.course.owed ≡ [] }
-        requires quiet { IsQuiet self.old.users.now self.old.course.session }
-        ensures terms { (self.new.users ≡ self.old.users) × (self.new.host ≡ self.old.host) × (self.new.user ≡ self.old.user) }
-        ensures comes { IfReady result (λ end. Comes end self.new.users.now (W.told self.new.wire)
+        requires quiet { IsQuiet self.old.parties.users.now self.old.course.session }
+        ensures parties { self.new.parties ≡ self.old.parties }
+        ensures comes { IfReady result (λ end. Comes end self.new.parties.users.now (W.told self.new.wire)
             (progress self.old.course) (progress self.new.course)) }
-        ensures hears { OnPending result (Hears self.new.users.now (W.told self.old.wire) (W.told self.new.wire)
-            (progress self.new.course)) }
+        ensures hears { OnPending result (Hears self.new.parties.users.now
+            (W.told self.old.wire) (W.told self.new.wire) (progress self.new.course)) }
         ensures later { Later (W.told self.old.wire) (W.told self.new.wire)
             (B.told self.old.bell) (B.told self.new.bell) }
         ensures bell { self.new.bell ≡ self.old.bell }
@@ -76,12 +78,12 @@ impl<W: Wire, D: Desk, S: Source, B: Bell> Running<'_, W, D, S, B> {
         requires room { HasRoom self.old.course }
         requires whole { self.old.course.lost ≡ false }
         requires paid { self.old.course.owed ≡ [] }
-        requires quiet { IsQuiet self.old.users.now self.old.course.session }
-        ensures terms { (self.new.users ≡ self.old.users) × (self.new.host ≡ self.old.host) × (self.new.user ≡ self.old.user) }
-        ensures comes { IfReady result (λ end. Comes end self.new.users.now (W.told self.new.wire)
+        requires quiet { IsQuiet self.old.parties.users.now self.old.course.session }
+        ensures parties { self.new.parties ≡ self.old.parties }
+        ensures comes { IfReady result (λ end. Comes end self.new.parties.users.now (W.told self.new.wire)
             (progress self.old.course) (progress self.new.course)) }
-        ensures stops { OnPending result (Stops self.new.users.now (W.told self.old.wire) (W.told self.new.wire)
-            (B.told self.old.bell) (B.told self.new.bell) (progress self.new.course)) }
+        ensures stops { OnPending result (Stops self.new.parties.users.now (W.told self.old.wire)
+            (W.told self.new.wire) (B.told self.old.bell) (B.told self.new.bell) (progress self.new.course)) }
         ensures later { Later (W.told self.old.wire) (W.told self.new.wire)
             (B.told self.old.bell) (B.told self.new.bell) }
         ensures armed { OnPending result (IsArmed cx.new) }
@@ -96,11 +98,11 @@ impl<W: Wire, D: Desk, S: Source, B: Bell> Running<'_, W, D, S, B> {
 
     // Writes all that is owed, and then makes a turn, or listens where nothing is next.
     fn round(&mut self, cx: &mut Context<'_>) -> Poll<Option<TaskEnd>>
-        ensures terms { (self.new.users ≡ self.old.users) × (self.new.host ≡ self.old.host) × (self.new.user ≡ self.old.user) }
-        ensures comes { IfReady result (λ end. Comes end self.new.users.now (W.told self.new.wire)
+        ensures parties { self.new.parties ≡ self.old.parties }
+        ensures comes { IfReady result (λ end. Comes end self.new.parties.users.now (W.told self.new.wire)
             (progress self.old.course) (progress self.new.course)) }
-        ensures stops { OnPending result (Stops self.new.users.now (W.told self.old.wire) (W.told self.new.wire)
-            (B.told self.old.bell) (B.told self.new.bell) (progress self.new.course)) }
+        ensures stops { OnPending result (Stops self.new.parties.users.now (W.told self.old.wire)
+            (W.told self.new.wire) (B.told self.old.bell) (B.told self.new.bell) (progress self.new.course)) }
         ensures later { Later (W.told self.old.wire) (W.told self.new.wire)
             (B.told self.old.bell) (B.told self.new.bell) }
         ensures armed { OnPending result (IsArmed cx.new) }
@@ -124,11 +126,12 @@ impl<W: Wire, D: Desk, S: Source, B: Bell> Running<'_, W, D, S, B> {
 
     /// Goes on until something isn't ready, at most 64 rounds.
     pub(crate) fn advance(&mut self, cx: &mut Context<'_>) -> Poll<TaskEnd>
-        ensures terms { (self.new.users ≡ self.old.users) × (self.new.host ≡ self.old.host) × (self.new.user ≡ self.old.user) }
-        ensures ends { IfReady result (λ end. EndsAs end self.new.users.now (W.told self.new.wire)
+        ensures parties { self.new.parties ≡ self.old.parties }
+        ensures ends { IfReady result (λ end. EndsAs end self.new.parties.users.now (W.told self.new.wire)
             (progress self.new.course)) }
-        ensures waits { OnPending result (Waits self.new.users.now (W.told self.old.wire) (W.told self.new.wire)
-            (B.told self.old.bell) (B.told self.new.bell) (progress self.old.course) (progress self.new.course)) }
+        ensures waits { OnPending result (Waits self.new.parties.users.now
+            (W.told self.old.wire) (W.told self.new.wire) (B.told self.old.bell) (B.told self.new.bell)
+            (progress self.old.course) (progress self.new.course)) }
         ensures armed { OnPending result (IsArmed cx.new) }
         ensures kept { Keeps cx.old cx.new }
     {

@@ -1,13 +1,14 @@
 //! A session that runs, and what its type keeps.
 ghost use Rattle.std.specs.Prelude.{◌≡◌, false, IfOk};
 ghost use Rattle.acap_dialogue.specs.Talking.{begun};
-ghost use Rattle.acap_task.specs.Kept.{Kept};
+ghost use Rattle.acap_task.specs.Kept.{Kept, roles_of};
 ghost use Rattle.acap_task.specs.Progress.{HasRoomToLeave, progress};
 
 use crate::bell::Bell;
 use crate::conn::Conn;
 use crate::course::Course;
 use crate::desk::Desk;
+use crate::parties::Parties;
 use crate::ring::Ring;
 use crate::source::Source;
 use crate::turned::Turned;
@@ -34,17 +35,13 @@ pub struct Running<'u, W: Wire, D: Desk, S: Source, B: Bell> {
     pub source: S,
     /// What rings where notices wait.
     pub bell: B,
-    /// Who may log in.
-    pub users: &'u Users,
-    /// The name of the host.
-    pub host: Octets,
-    /// Whose session it was from the start.
-    pub user: Option<UserName>,
+    /// Whom the session is between.
+    pub parties: Parties<'u>,
     /// How far the session has come.
     pub course: Course,
     buffer: Vec<u8>,
-    ghost kept: { ∥ Kept (record { users = users.now; host = host; user = user }) (W.told wire) (D.told desk)
-        (S.told source) (B.told bell) (progress course) ∥₁ },
+    ghost kept: { ∥ Kept (roles_of parties) (W.told wire) (D.told desk) (S.told source) (B.told bell)
+        (progress course) ∥₁ },
     ghost room: { HasRoomToLeave course },
 }
 
@@ -83,7 +80,8 @@ impl<'u, W: Wire, D: Desk, S: Source, B: Bell> Running<'u, W, D, S, B> {
         host: Octets,
     ) -> Running<'u, W, D, S, B>
         requires { IsUntold (W.told conn.wire) (D.told desk) (S.told conn.source) (B.told bell) }
-        ensures { (result.users ≡ users.entry) × (result.host ≡ host) × (result.user ≡ conn.user) }
+        ensures { (result.parties.users ≡ users.entry) × (result.parties.host ≡ host)
+            × (result.parties.user ≡ conn.user) }
     {
         let Conn { wire, user, source } = conn;
         let (session, lost) = begin(alloc, &host, &user);
@@ -93,9 +91,7 @@ impl<'u, W: Wire, D: Desk, S: Source, B: Bell> Running<'u, W, D, S, B> {
             desk,
             source,
             bell,
-            users,
-            host,
-            user,
+            parties: Parties { users, host, user },
             course,
             buffer: Vec::new(alloc),
         }
@@ -111,16 +107,16 @@ impl<W: Wire, D: Desk, S: Source, B: Bell> Running<'_, W, D, S, B> {
 
     /// One turn, with the event that it asks. Fails only for want of memory, now or before.
     pub(crate) fn turn(&mut self) -> Result<Turned, Memory>
-        ensures terms { (self.new.users ≡ self.old.users) × (self.new.host ≡ self.old.host) × (self.new.user ≡ self.old.user) }
+        ensures parties { self.new.parties ≡ self.old.parties }
         ensures same { (self.new.wire ≡ self.old.wire) × (self.new.bell ≡ self.old.bell) }
-        ensures turned { IfOk result (λ was. Turns self.old.users.now was
+        ensures turned { IfOk result (λ was. Turns self.old.parties.users.now was
             (progress self.old.course) (D.told self.old.desk) (S.told self.old.source)
             (progress self.new.course) (D.told self.new.desk) (S.told self.new.source)) }
         ensures more { IfOk result (λ was. IfNothing was (HasRoom self.new.course)) }
     {
         turning::turn(
             &mut self.course,
-            self.users,
+            self.parties.users,
             &mut self.desk,
             &mut self.source,
         )
@@ -128,7 +124,7 @@ impl<W: Wire, D: Desk, S: Source, B: Bell> Running<'_, W, D, S, B> {
 
     /// Writes some of what is owed.
     pub(crate) fn write(&mut self, cx: &mut Context<'_>) -> Poll<Result<usize, WireFault>>
-        ensures terms { (self.new.users ≡ self.old.users) × (self.new.host ≡ self.old.host) × (self.new.user ≡ self.old.user) }
+        ensures parties { self.new.parties ≡ self.old.parties }
         ensures same { self.new.bell ≡ self.old.bell }
         ensures written { Writes (W.told self.old.wire) (progress self.old.course) result
             (W.told self.new.wire) (progress self.new.course) }
@@ -142,7 +138,7 @@ impl<W: Wire, D: Desk, S: Source, B: Bell> Running<'_, W, D, S, B> {
     pub(crate) fn read(&mut self, cx: &mut Context<'_>) -> Poll<Result<usize, WireFault>>
         requires room { HasRoom self.old.course }
         requires whole { self.old.course.lost ≡ false }
-        ensures terms { (self.new.users ≡ self.old.users) × (self.new.host ≡ self.old.host) × (self.new.user ≡ self.old.user) }
+        ensures parties { self.new.parties ≡ self.old.parties }
         ensures same { self.new.bell ≡ self.old.bell }
         ensures reads { Reads (W.told self.old.wire) (progress self.old.course) result
             (W.told self.new.wire) (progress self.new.course) }
@@ -154,7 +150,7 @@ impl<W: Wire, D: Desk, S: Source, B: Bell> Running<'_, W, D, S, B> {
 
     /// Makes the buffer into which octets are read, if there is none yet: whether octets can be read at all.
     pub(crate) fn is_readable(&mut self) -> bool
-        ensures terms { (self.new.users ≡ self.old.users) × (self.new.host ≡ self.old.host) × (self.new.user ≡ self.old.user) }
+        ensures parties { self.new.parties ≡ self.old.parties }
         ensures same { (self.new.wire ≡ self.old.wire) × (self.new.bell ≡ self.old.bell)
             × (self.new.course ≡ self.old.course) }
     {
@@ -178,7 +174,7 @@ impl<W: Wire, D: Desk, S: Source, B: Bell> Running<'_, W, D, S, B> {
     pub(crate) fn ring(&mut self, cx: &mut Context<'_>) -> Poll<Ring>
         requires room { HasRoom self.old.course }
         requires whole { self.old.course.lost ≡ false }
-        ensures terms { (self.new.users ≡ self.old.users) × (self.new.host ≡ self.old.host) × (self.new.user ≡ self.old.user) }
+        ensures parties { self.new.parties ≡ self.old.parties }
         ensures same { self.new.wire ≡ self.old.wire }
         ensures bell { B.told self.new.bell ≡ after_ring (B.told self.old.bell) result }
         ensures rings { Rings result
@@ -199,7 +195,7 @@ impl<W: Wire, D: Desk, S: Source, B: Bell> Running<'_, W, D, S, B> {
 
     /// The session's end: its seat is left, if it has one.
     pub(crate) fn leave(&mut self)
-        ensures terms { (self.new.users ≡ self.old.users) × (self.new.host ≡ self.old.host) × (self.new.user ≡ self.old.user) }
+        ensures parties { self.new.parties ≡ self.old.parties }
         ensures same { (self.new.wire ≡ self.old.wire) × (self.new.bell ≡ self.old.bell) }
         ensures left { LeavesAtEnd self.old.course.seated
             (progress self.old.course) (D.told self.old.desk) (S.told self.old.source)

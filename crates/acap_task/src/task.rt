@@ -1,5 +1,6 @@
 //! A session that runs, as a future.
 ghost use Rattle.std.specs.Prelude.{◌≡◌, ◌<◌, ◌≤◌, Some, IfSome};
+ghost use Rattle.acap_task.specs.Kept.{roles_of};
 ghost use Rattle.acap_task.specs.Progress.{progress};
 ghost use Rattle.acap_task.specs.Waiting.{IsOver, EndsAt};
 
@@ -29,7 +30,7 @@ pub struct Over<'u, W: Wire, D: Desk, S: Source, B: Bell> {
     /// How often it might be polled.
     pub turns: u64,
     ghost bounded: { polls ≤ turns },
-    ghost over: { ∥ IsOver (record { users = running.users.now; host = running.host; user = running.user })
+    ghost over: { ∥ IsOver (roles_of running.parties)
         (W.told running.wire) (D.told running.desk) (S.told running.source) (B.told running.bell)
         (progress running.course) end polls turns ∥₁ },
 }
@@ -65,7 +66,8 @@ impl<'u, W: Wire, D: Desk, S: Source, B: Bell> SessionTask<'u, W, D, S, B> {
         requires untold { IsUntold (W.told conn.wire) (D.told desk) (S.told conn.source) (B.told bell) }
         requires turns { 0 < turns }
         ensures count { (result.polls ≡ 0) × (result.turns ≡ turns) × IsSome result.running }
-        ensures terms { IfSome result.running (λ r. (r.users ≡ users.entry) × (r.host ≡ host) × (r.user ≡ conn.user)) }
+        ensures parties { IfSome result.running (λ r. (r.parties.users ≡ users.entry)
+            × (r.parties.host ≡ host) × (r.parties.user ≡ conn.user)) }
     {
         SessionTask {
             running: Some(Running::new(alloc, conn, desk, bell, users, host)),
@@ -83,10 +85,10 @@ fn end_as<'u, W: Wire, D: Desk, S: Source, B: Bell>(
     turns: u64,
 ) -> Over<'u, W, D, S, B>
     requires polls { polls ≤ turns }
-    requires ends { EndsAt end running.users.now (W.told running.wire) (progress running.course) polls turns }
+    requires ends { EndsAt end running.parties.users.now (W.told running.wire) (progress running.course)
+        polls turns }
     ensures count { (result.turns ≡ turns) × (result.polls ≡ polls) }
-    ensures terms { (result.running.users ≡ running.entry.users) × (result.running.host ≡ running.entry.host)
-        × (result.running.user ≡ running.entry.user) }
+    ensures parties { result.running.parties ≡ running.entry.parties }
 {
     let mut running = running;
     running.leave();
@@ -109,13 +111,12 @@ impl<'u, W: Wire, D: Desk, S: Source, B: Bell> SessionTask<'u, W, D, S, B> {
     /// bell is ready; or at least 64 steps were made, so that others come to their turns. The last poll that the session may have ends it.
     pub fn go_on(&mut self, cx: &mut Context<'_>) -> Poll<Over<'u, W, D, S, B>>
         ensures over { IfReady result (λ over. (over.turns ≡ self.old.turns) × (self.old.polls < over.polls)
-            × IfSome self.old.running (λ r. (over.running.users ≡ r.users) × (over.running.host ≡ r.host)
-            × (over.running.user ≡ r.user))) }
-        ensures count { OnPending result ((self.new.turns ≡ self.old.turns) × (self.old.polls ≤ self.new.polls)) }
+            × IfSome self.old.running (λ r. over.running.parties ≡ r.parties)) }
+        ensures count { OnPending result
+            ((self.new.turns ≡ self.old.turns) × (self.old.polls ≤ self.new.polls)) }
         ensures waits { OnPending result (IfSome self.old.running (λ r. IsSomeAnd self.new.running (λ q.
-            (q.users ≡ r.users) × (q.host ≡ r.host) × (q.user ≡ r.user)
-            × Waits q.users.now (W.told r.wire) (W.told q.wire) (B.told r.bell) (B.told q.bell)
-            (progress r.course) (progress q.course)))) }
+            (q.parties ≡ r.parties) × Waits q.parties.users.now (W.told r.wire) (W.told q.wire)
+            (B.told r.bell) (B.told q.bell) (progress r.course) (progress q.course)))) }
         ensures armed { OnPending result (IsArmed cx.new) }
         ensures kept { Keeps cx.old cx.new }
     {
@@ -140,7 +141,7 @@ impl<'u, W: Wire, D: Desk, S: Source, B: Bell> Future for SessionTask<'u, W, D, 
     type Output = Over<'u, W, D, S, B>;
 
     ghost gives = { λ t over. (over.turns ≡ t.turns) × (t.polls < over.polls)
-        × IfSome t.running (λ r. (over.running.users ≡ r.users) × (over.running.host ≡ r.host) × (over.running.user ≡ r.user)) };
+        × IfSome t.running (λ r. over.running.parties ≡ r.parties) };
 
     fn poll(&mut self, cx: &mut Context<'_>) -> Poll<Over<'u, W, D, S, B>> {
         self.go_on(cx)

@@ -1,11 +1,11 @@
 use Rattle.std.proofs.Common.{ap}
+use Rattle.acap_task.specs.Kept.{roles_of}
 use Rattle.acap_task.proofs.Octets.{over_then}
 use Rattle.acap_task.proofs.task.end_as.Goals as goal
 
 pub invariant_of-result : goal.invariant_of-result
 invariant_of-result g c = record {
   bounded = c.requires.polls;
-  over = over_then (λ i. record { users = (c.leave.ensures.terms.0 i).now; host = c.leave.ensures.terms.1 i; user = c.leave.ensures.terms.2 i })
-      (ap (λ x. g.W.Wire.told x) c.leave.ensures.same.0) (ap (λ x. g.B.Bell.told x) c.leave.ensures.same.1)
+  over = over_then (ap roles_of c.leave.ensures.parties) (ap (λ x. g.W.Wire.told x) c.leave.ensures.same.0) (ap (λ x. g.B.Bell.told x) c.leave.ensures.same.1)
       c.args.end c.args.polls c.args.turns c.args.running.kept c.requires.ends c.leave.ensures.left;
 }

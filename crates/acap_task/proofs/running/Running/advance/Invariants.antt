@@ -7,7 +7,7 @@ use Rattle.acap_task.proofs.running.Running.advance.Given as goal
 abbrev pub invariant-loop : goal.invariant-loop
 invariant-loop g l = record {
   kept : Keeps l.fn.cx l.cx;
-  terms : (l.self.users ≡ l.fn.self.users) × (l.self.host ≡ l.fn.self.host) × (l.self.user ≡ l.fn.self.user);
+  parties : l.self.parties ≡ l.fn.self.parties;
   later : Later (g.W.Wire.told l.fn.self.wire) (g.W.Wire.told l.self.wire) (g.B.Bell.told l.fn.self.bell) (g.B.Bell.told l.self.bell);
   done : done (progress l.fn.self.course).steps + l.counter ≤ done (progress l.self.course).steps;
 }

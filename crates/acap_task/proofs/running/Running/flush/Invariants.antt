@@ -7,7 +7,7 @@ use Rattle.acap_task.proofs.running.Running.flush.Given as goal
 abbrev pub invariant-loop-self : goal.invariant-loop-self
 invariant-loop-self g l = record {
   kept : Keeps l.fn.cx l.cx;
-  terms : (l.self.users ≡ l.fn.self.users) × (l.self.host ≡ l.fn.self.host) × (l.self.user ≡ l.fn.self.user);
+  parties : l.self.parties ≡ l.fn.self.parties;
   bell : l.self.bell ≡ l.fn.self.bell;
   flushed : Flushes (g.W.Wire.told l.fn.self.wire) (g.W.Wire.told l.self.wire) (progress l.fn.self.course) (progress l.self.course);
   waits : (g.W.Wire.told l.self.wire).write_waits ≡ (g.W.Wire.told l.fn.self.wire).write_waits;

@@ -4,7 +4,7 @@ use Rattle.acap_task.proofs.Rounding.{turn_done, turn_quiet}
 use Rattle.acap_task.proofs.running.Running.round.Goals as goal
 
 pub listen-requires-clause-quiet : goal.listen-requires-clause-quiet
-listen-requires-clause-quiet g c = turn_quiet _ _ _ _ _ _ _ _ c.turn.result _ c.in-Ok-More.is c.in-Ok-More.field-0-is (ap (λ u. u.now) c.turn.ensures.terms.0) c.turn.ensures.turned
+listen-requires-clause-quiet g c = turn_quiet _ _ _ _ _ _ _ _ c.turn.result _ c.in-Ok-More.is c.in-Ok-More.field-0-is (ap (λ p. p.users.now) c.turn.ensures.parties) c.turn.ensures.turned
 
 pub returns-in-Ok-Other-clause-comes : goal.returns-in-Ok-Other-clause-comes
 returns-in-Ok-Other-clause-comes g c =
