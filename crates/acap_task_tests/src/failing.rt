@@ -78,8 +78,57 @@ fn is_front(output: &[u8], told: &[u8]) -> bool {
     output[..front] == HELLO[..front] && told.starts_with(&output[front..])
 }
 
-// Whether a session whose reader or writer fails at that poll, behind a session that doesn't, writes the beginning of what it should, all
-// of it where it ends well, and leaves.
+// A session whose devices don't fail.
+fn run_whole<S, L, R>(
+    rt: &R,
+    served: &Served<S, L>,
+    users: &Users,
+    pass: Pass<S>,
+    input: &[u8],
+) -> io::Result<Done<S>>
+where
+    S: Site,
+    L: Ledger,
+    R: Wait + RandomSource + AllocGlobal,
+{
+    let alloc = rt.alloc();
+    let always = Transfer::Moves(1_000);
+    let wire = wire(alloc, input, 0, always, always)?;
+    run(rt, served, pass, users, visit(wire, no_bell(alloc)?, 1_000))
+}
+
+// One whose reader or writer fails at that poll.
+fn run_cut<S, L, R>(
+    rt: &R,
+    served: &Served<S, L>,
+    users: &Users,
+    pass: Pass<S>,
+    input: &[u8],
+    at: usize,
+    fault: TaskEnd,
+) -> io::Result<Done<S>>
+where
+    S: Site,
+    L: Ledger,
+    R: Wait + RandomSource + AllocGlobal,
+{
+    let alloc = rt.alloc();
+    let (reads, writes) = match fault {
+        TaskEnd::ReadFault => (Transfer::Fails, Transfer::Moves(7)),
+        _ => (Transfer::Moves(7), Transfer::Fails),
+    };
+    let wire = wire(alloc, input, at, reads, writes)?;
+    run(rt, served, pass, users, visit(wire, no_bell(alloc)?, 1_000))
+}
+
+// Whether a session that ended by a fault wrote the beginning of what it should, all of it where it ended well, and left.
+fn is_cut<S: Site>(done: &Done<S>, told: &[u8], fault: TaskEnd) -> bool {
+    let all = done.output.len() == HELLO.len() + told.len();
+    let ended = done.end == fault || done.end == TaskEnd::Ended && all;
+    ended && done.entered && done.left && is_front(done.output.as_slice(), told)
+}
+
+// Whether a session whose reader or writer fails at that poll is cut as it should be, behind a session that isn't.
 fn is_cut_at<S, L, R>(
     rt: &R,
     blank: Blank,
@@ -110,38 +159,12 @@ where
         return Ok(false);
     };
     let (before, input, told) = row;
-    let whole = wire(
-        alloc,
-        before,
-        0,
-        Transfer::Moves(1_000),
-        Transfer::Moves(1_000),
-    )?;
-    let first = run(
-        rt,
-        &served,
-        first,
-        &users,
-        visit(whole, no_bell(alloc)?, 1_000),
-    )?;
-    let (reads, writes) = match fault {
-        TaskEnd::ReadFault => (Transfer::Fails, Transfer::Moves(7)),
-        _ => (Transfer::Moves(7), Transfer::Fails),
-    };
-    let wire = wire(alloc, input, at, reads, writes)?;
-    let done = run(
-        rt,
-        &served,
-        pass,
-        &users,
-        visit(wire, no_bell(alloc)?, 1_000),
-    )?;
-    let all = done.output.len() == HELLO.len() + told.len();
-    let ended = done.end == fault || done.end == TaskEnd::Ended && all;
-    let cut = done.entered && done.left && is_front(done.output.as_slice(), told);
+    let first = run_whole(rt, &served, &users, first, before)?;
+    let done = run_cut(rt, &served, &users, pass, input, at, fault)?;
+    let cut = is_cut(&done, told, fault);
     passes.push(first.seating.pass)?;
     passes.push(done.seating.pass)?;
-    Ok(ended && cut && served.close(passes).is_ok())
+    Ok(cut && served.close(passes).is_ok())
 }
 
 #[test]

@@ -1,9 +1,9 @@
 //! Sessions whose octets come in pieces of any size are told what the same clients are told by a script, and by a pipe.
 ghost use Rattle.std.specs.Prelude.{◌≡◌, ◌<◌};
 
-use crate::stage::{Visit, empty, no_bell, run, serve, wire};
+use crate::stage::{Done, Visit, empty, no_bell, run, serve, wire};
 use acap_entries::{Moment, Steps, UserName};
-use acap_locked::Site;
+use acap_locked::{Pass, Served, Site};
 use acap_login::Users;
 use acap_machine::State;
 use acap_session::{run_pipe, run_script};
@@ -94,6 +94,33 @@ fn add_lines(seat: u8, told: &[u8], text: &mut Vec<u8>) -> io::Result<()> {
     Ok(())
 }
 
+// A client's session at a pass, in pieces of that size.
+fn tell<S, L, R>(
+    rt: &R,
+    served: &Served<S, L>,
+    users: &Users,
+    pass: Pass<S>,
+    client: Client,
+    clock: i64,
+    width: usize,
+) -> io::Result<Done<S>>
+where
+    S: Site,
+    L: Ledger,
+    R: Wait + RandomSource + AllocGlobal,
+{
+    let alloc = rt.alloc();
+    let (user, input) = client;
+    let visit = Visit {
+        user,
+        wire: wire(alloc, input, width)?,
+        bell: no_bell(alloc)?,
+        clock: Moment::new(clock).unwrap_or(Moment::first()),
+        turns: 100_000,
+    };
+    run(rt, served, pass, users, visit)
+}
+
 // What clients one after the other are told in pieces of that size, each at a seat of its own, as a script writes it, and what the last
 // one is told. `None` where a session ends otherwise than it should, or the passes don't fit the history.
 fn told_in_pieces<S, L, R>(
@@ -126,19 +153,12 @@ where
     let mut last = Vec::new(alloc);
     let mut clients = row.clients.iter();
     for pass in passes {
-        let Some((user, input)) = clients.next() else {
+        let Some(client) = clients.next() else {
             used.push(pass)?;
             continue;
         };
-        let visit = Visit {
-            user: *user,
-            wire: wire(alloc, *input, width)?,
-            bell: no_bell(alloc)?,
-            clock: Moment::new(row.clock).unwrap_or(Moment::first()),
-            turns: 100_000,
-        };
         let seat = pass.seat().number();
-        let done = run(rt, &served, pass, &users, visit)?;
+        let done = tell(rt, &served, &users, pass, *client, row.clock, width)?;
         if done.end != TaskEnd::Ended || done.seating.owes_leave {
             return Ok(None);
         }

@@ -6,7 +6,7 @@ ghost use Rattle.acap_locked.specs.Shelf.{no_machine};
 
 use acap_commands::Event;
 use acap_entries::{Moment, Octets, Steps, UserName};
-use acap_locked::{Pass, Served, Site};
+use acap_locked::{Item, Pass, Served, Site};
 use acap_login::Users;
 use acap_machine::State;
 use acap_rights::Realm;
@@ -114,6 +114,92 @@ pub(crate) fn no_bell(alloc: Global) -> io::Result<MemBell>
     Ok(MemBell::new(plan(alloc, 0, Chime::Waits, Chime::Ends)?))
 }
 
+// What answers a session's events.
+type DeskOf<'a, S, L, R> = PassDesk<'a, S, L, R, Silent>;
+
+// A session that is about to begin.
+fn begin<'a, S, L, R, B>(
+    rt: &'a R,
+    served: &'a Served<S, L>,
+    ringer: &'a Silent,
+    pass: Pass<S>,
+    users: &'a Users,
+    visit: Visit<'_, B>,
+) -> io::Result<SessionTask<'a, MemWire, DeskOf<'a, S, L, R>, Still, B>>
+where
+    S: Site,
+    L: Ledger,
+    R: Wait + AllocGlobal,
+    B: Bell,
+    requires wire { visit.wire.told ≡ new_wire }
+    requires bell { Agrees (B.told visit.bell).rings 0 }
+    requires turns { 0 < visit.turns }
+{
+    let alloc = rt.alloc();
+    let user = match visit.user {
+        Some(name) => UserName::read(alloc, name).ok(),
+        None => None,
+    };
+    let source = Still {
+        clock: visit.clock,
+        nonce: 1896,
+    };
+    let mut host = Vec::new(alloc);
+    host.extend_from_slice(b"postoffice.reston.mci.net")?;
+    let host = Octets::from_vec(host);
+    let desk = PassDesk::new(alloc, rt, served, ringer, pass);
+    let Visit {
+        wire,
+        bell,
+        turns,
+        ..
+    } = visit;
+    let conn = Conn { wire, user, source };
+    Ok(SessionTask::new(alloc, conn, desk, bell, users, host, turns))
+}
+
+// Whether there is an Enter among these calls, and whether the last one is a Leave, or there is none.
+fn ends_of(calls: &[Item]) -> (bool, bool) {
+    let entered = calls
+        .iter()
+        .any(|item| matches!(item.event(), Event::Enter(_)));
+    let left = match calls.last() {
+        Some(item) => matches!(item.event(), Event::Leave),
+        None => true,
+    };
+    (entered, left)
+}
+
+// What came of a session that has ended.
+fn done_of<'a, S, L, R, B>(
+    alloc: Global,
+    over: Over<'a, MemWire, DeskOf<'a, S, L, R>, Still, B>,
+) -> io::Result<Done<S>>
+where
+    S: Site,
+    L: Ledger,
+    R: Wait + AllocGlobal,
+    B: Bell,
+{
+    let mut output = Vec::new(alloc);
+    output.extend_from_slice(over.running.wire.output())?;
+    let (entered, left) = ends_of(over.running.desk.calls.as_slice());
+    let Over {
+        running,
+        end,
+        polls,
+        ..
+    } = over;
+    Ok(Done {
+        seating: running.desk.into_seating(),
+        output,
+        end,
+        polls,
+        entered,
+        left,
+    })
+}
+
 /// A session from its beginning to its end.
 pub(crate) fn run<'a, S, L, R, B>(
     rt: &'a R,
@@ -131,56 +217,8 @@ where
     requires bell { Agrees (B.told visit.bell).rings 0 }
     requires turns { 0 < visit.turns }
 {
-    let alloc = rt.alloc();
-    let Visit {
-        user,
-        wire,
-        bell,
-        clock,
-        turns,
-    } = visit;
-    let user = match user {
-        Some(name) => UserName::read(alloc, name).ok(),
-        None => None,
-    };
-    let source = Still { clock, nonce: 1896 };
-    let mut host = Vec::new(alloc);
-    host.extend_from_slice(b"postoffice.reston.mci.net")?;
-    let desk = PassDesk::new(alloc, rt, served, &Silent, pass);
-    let conn = Conn { wire, user, source };
-    let task = SessionTask::new(
-        alloc,
-        conn,
-        desk,
-        bell,
-        users,
-        Octets::from_vec(host),
-        turns,
-    );
-    let Over {
-        running,
-        end,
-        polls,
-        ..
-    } = block_on(rt, task)?;
-    let mut output = Vec::new(alloc);
-    output.extend_from_slice(running.wire.output())?;
-    let calls = running.desk.calls.as_slice();
-    let entered = calls
-        .iter()
-        .any(|item| matches!(item.event(), Event::Enter(_)));
-    let left = match calls.last() {
-        Some(item) => matches!(item.event(), Event::Leave),
-        None => true,
-    };
-    Ok(Done {
-        seating: running.desk.into_seating(),
-        output,
-        end,
-        polls,
-        entered,
-        left,
-    })
+    let task = begin(rt, served, &Silent, pass, users, visit)?;
+    done_of(rt.alloc(), block_on(rt, task)?)
 }
 
 /// A machine without users, served, with its passes.
