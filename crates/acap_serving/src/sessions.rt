@@ -6,7 +6,7 @@ ghost use Rattle.acap_serving.specs.Faults.{IfTooMany};
 
 use crate::bells::Bells;
 use crate::channel_bell::ChannelBell;
-use crate::slot::{Occupied, Slot};
+use crate::slot::{Ending, Occupied, SessionSlot, Slot, into_parts};
 use crate::work::run_stream;
 use acap_entries::{Copying, Memory, Octets};
 use acap_locked::{Pass, Served, Site};
@@ -71,20 +71,40 @@ pub struct NotRun<S: Site, L: Ledger, W, O> {
     pub conns: Vec<Conn<W, O>>,
 }
 
+impl<S: Site, L: Ledger, W, O> NotRun<S, L, W, O> {
+    // All that was handed in, and why.
+    fn new(
+        fault: RunFault,
+        served: Served<S, L>,
+        passes: Vec<Pass<S>>,
+        conns: Vec<Conn<W, O>>,
+    ) -> NotRun<S, L, W, O>
+        ensures why { result.fault ≡ fault }
+        ensures served { result.served ≡ served }
+        ensures passes { result.passes ≡ passes }
+        ensures conns { result.conns ≡ conns }
+    {
+        NotRun {
+            fault,
+            served,
+            passes,
+            conns,
+        }
+    }
+}
+
 // The desk of a session.
 type DeskOf<'a, R, S, L> = PassDesk<'a, S, L, R, Bells>;
 
 // The slot of a session.
-type SlotOf<'a, R, S, L, W, O> = Slot<'a, W, DeskOf<'a, R, S, L>, O, ChannelBell>;
+type SlotOf<'a, R, S, L, W, O> = SessionSlot<'a, W, DeskOf<'a, R, S, L>, O, ChannelBell>;
 
 // Runs the sessions of one worker on this thread until all have ended; those for which a runtime or memory is refused stay as they are.
-fn run_crew<R, W, D, O, B>(rt: &R, crew: Vec<Occupied<'_, '_, W, D, O, B>>)
+fn run_crew<R, T, E>(rt: &R, crew: Vec<Occupied<'_, T, E>>)
 where
     R: Wait + Clock + Net + RandomSource + AllocGlobal,
-    W: Wire,
-    D: Desk,
-    O: Source,
-    B: Bell,
+    T: Ending<Left = E>,
+    E: Drop,
 {
     let Ok(mut runtime) = LocalRuntime::new(rt) else {
         return;
@@ -93,11 +113,11 @@ where
 }
 
 // Deals slots out to so many workers, one to each in turn. Fails only for want of memory.
-fn deal<'a, 'u, W: Wire, D: Desk, O: Source, B: Bell>(
+fn deal<'a, T, E>(
     alloc: Global,
-    slots: &'a mut Vec<Slot<'u, W, D, O, B>>,
+    slots: &'a mut Vec<Slot<T, E>>,
     workers: usize,
-) -> Result<Vec<Vec<Occupied<'a, 'u, W, D, O, B>>>, Memory>
+) -> Result<Vec<Vec<Occupied<'a, T, E>>>, Memory>
     requires { 0 < workers }
 {
     let mut crews = no_crews(alloc, workers)?;
@@ -122,7 +142,11 @@ fn no_crews<T: Drop>(alloc: Global, workers: usize) -> Result<Vec<Vec<T>>, Memor
 }
 
 // Runs the sessions of slots on so many workers until all have ended. Those of a worker that can't be started stay as they are.
-fn run_slots<R, W, D, O, B>(rt: &R, slots: &mut Vec<Slot<'_, W, D, O, B>>, workers: usize)
+fn run_slots<'u, R, W, D, O, B>(
+    rt: &R,
+    slots: &mut Vec<SessionSlot<'u, W, D, O, B>>,
+    workers: usize,
+)
 where
     R: Threads
         + Wait
@@ -269,7 +293,7 @@ where
     W: Wire,
     O: Source,
 {
-    let (running, end, polls) = slot.into_parts()?;
+    let (running, end, polls) = into_parts(slot)?;
     let Running {
         wire,
         desk,
@@ -382,22 +406,12 @@ where
 {
     let alloc = rt.alloc();
     if conns.len() > passes.len() {
-        return Err(NotRun {
-            fault: RunFault::TooManySessions,
-            served,
-            passes,
-            conns,
-        });
+        return Err(NotRun::new(RunFault::TooManySessions, served, passes, conns));
     }
     let stock = Stock::new(alloc, &passes, conns.len(), host);
     let lists = Lists::new(alloc, conns.len(), passes.len());
     let (Ok(stock), Ok(lists)) = (stock, lists) else {
-        return Err(NotRun {
-            fault: RunFault::Memory,
-            served,
-            passes,
-            conns,
-        });
+        return Err(NotRun::new(RunFault::Memory, served, passes, conns));
     };
     let Stock {
         bells,
@@ -419,11 +433,6 @@ where
             passes: left,
             done,
         }),
-        Err((passes, conns)) => Err(NotRun {
-            fault: RunFault::Memory,
-            served,
-            passes,
-            conns,
-        }),
+        Err((passes, conns)) => Err(NotRun::new(RunFault::Memory, served, passes, conns)),
     }
 }
