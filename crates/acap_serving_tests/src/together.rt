@@ -4,7 +4,7 @@ ghost use Rattle.acap_serving.specs.Devices.{silent_source, silent_wire};
 
 use crate::gate::{OneMoment, Stop, WaitingWire};
 use acap_entries::{Octets, Steps, UserName};
-use acap_locked::{Served, Site};
+use acap_locked::{Pass, Served, Site};
 use acap_login::Users;
 use acap_machine::State;
 use acap_rights::Realm;
@@ -53,6 +53,32 @@ fn conn_of<'a>(
     }
 }
 
+// How many events the history of a machine has, if it can be closed.
+fn events_of<S: Site, L: Ledger>(served: Served<S, L>, passes: Vec<Pass<S>>) -> Option<usize> {
+    match served.close(passes) {
+        Ok(report) => Some(report.history.len()),
+        Err(_) => None,
+    }
+}
+
+// What sessions came to, where their machine can be closed.
+fn outcome_of<'w, S: Site, L: Ledger>(
+    alloc: Global,
+    ran: Ran<S, L, WaitingWire<'w>, OneMoment>,
+) -> Result<Option<Outcome>, AllocError> {
+    let Ran {
+        served,
+        passes,
+        done,
+    } = ran;
+    let mut told = Vec::with_capacity(alloc, done.len())?;
+    for one in done {
+        told.push((one.end, one.wire.output))
+            .map_err(|_| AllocError)?;
+    }
+    Ok(events_of(served, passes).map(|events| Outcome { told, events }))
+}
+
 // Runs sessions on so many workers over a new machine, and closes it.
 fn run_on<'w, R, S, L>(
     rt: &R,
@@ -92,28 +118,10 @@ where
         return Err(AllocError);
     };
     let ran = run_sessions(rt, served, passes, conns, workers, &users, &host, TURNS);
-    let Ok(
-        Ran {
-            served,
-            passes,
-            done,
-        },
-    ) = ran
-    else {
-        return Ok(None);
-    };
-    let Ok(report) = served.close(passes) else {
-        return Ok(None);
-    };
-    let mut told = Vec::with_capacity(alloc, done.len())?;
-    for one in done {
-        told.push((one.end, one.wire.output))
-            .map_err(|_| AllocError)?;
+    match ran {
+        Ok(ran) => outcome_of(alloc, ran),
+        Err(_) => Ok(None),
     }
-    Ok(Some(Outcome {
-        told,
-        events: report.history.len(),
-    }))
 }
 
 // The same in a ledger of its own.
