@@ -55,7 +55,7 @@ fn call_alone(verb: &[u8]) -> Call
 }
 
 // What the words behind the program's name ask for.
-fn asked_by(alloc: Global, words: &[String]) -> Call
+fn call_by(alloc: Global, words: &[String]) -> Call
     ensures { IsCall (map (λ word. string_bytes word) words.now) result }
 {
     let Some((verb, behind)) = words.split_first() else {
@@ -75,7 +75,7 @@ pub(crate) fn read_call(alloc: Global, words: &Result<Vec<String>, ErrorKind>) -
     ensures { IsCallOf (words_of words.now) result }
 {
     match words {
-        Ok(words) => asked_by(alloc, words.as_slice()),
+        Ok(words) => call_by(alloc, words.as_slice()),
         Err(ErrorKind::OutOfMemory) => Call::Refused(Fault::Memory),
         Err(_) => Call::Nothing,
     }

@@ -19,7 +19,7 @@ use Rattle.acap_entries.specs.Store.{path_cmp}
 use Rattle.acap_entries.specs.declared.path.Path.{Path}
 use Rattle.acap_entries.proofs.SortedLemmas.{put_in_absent, found_absent, found_tied}
 use Rattle.acap_entries.proofs.StoreLemmas.{path_cmp_total}
-use Rattle.acap_commands.specs.EntryOrder.{path_at, keyed, Orders}
+use Rattle.acap_commands.specs.EntryOrder.{path_at, places_by_path, Orders}
 use Rattle.acap_commands.specs.EntryOrder.{has_path}
 use Rattle.acap_commands.specs.declared.store_entry.StoreEntry.{StoreEntry}
 
@@ -32,19 +32,19 @@ true_of false h = absurd h
 path_there : (entries : List StoreEntry) (i : ℕ) (d : StoreEntry) → i < length entries → path_at entries i ≡ (get_or entries i d).path
 path_there entries i d h = ap (λ o. option_map_or (λ (e : StoreEntry). e.path) o (record { dataset = []; name = [] })) (slice_get-get_or entries i d h)
 
-keyed_at : (entries : List StoreEntry) (places : List ℕ) (m i : ℕ) (d : Path × ℕ) → m < length places → get_or (keyed entries places) m d ≡ (path_at entries (get_or places m i), get_or places m i)
+keyed_at : (entries : List StoreEntry) (places : List ℕ) (m i : ℕ) (d : Path × ℕ) → m < length places → get_or (places_by_path entries places) m d ≡ (path_at entries (get_or places m i), get_or places m i)
 keyed_at entries places m i d h = get_or-map (λ i. (path_at entries i, i)) places m i d h
 
-key_there : (entries : List StoreEntry) (places : List ℕ) (m i : ℕ) (e : StoreEntry) (d : Path × ℕ) → Orders places entries → m < length places → i ≡ get_or places m i → (get_or (keyed entries places) m d).0 ≡ (get_or entries i e).path
+key_there : (entries : List StoreEntry) (places : List ℕ) (m i : ℕ) (e : StoreEntry) (d : Path × ℕ) → Orders places entries → m < length places → i ≡ get_or places m i → (get_or (places_by_path entries places) m d).0 ≡ (get_or entries i e).path
 key_there entries places m i e d orders h at =
     let within : i < length entries = subst (λ n. n < length entries) (sym at) (All-get_or (λ n. n < length entries) places m i h orders.within) in
     ap (λ t. t.0) (keyed_at entries places m i d h) ∙ ap (path_at entries) (sym at) ∙ path_there entries i e within
 
 -- what a comparison with the entry at a place says of the key there
-pub met_at : (entries : List StoreEntry) (places : List ℕ) (path : Path) (m i : ℕ) (e : StoreEntry) (o : Ordering) → Orders places entries → m < length places → i ≡ get_or places m i → path_cmp path (get_or entries i e).path ≡ o → path_cmp path (get_or (keyed entries places) m (path, 0)).0 ≡ o
+pub met_at : (entries : List StoreEntry) (places : List ℕ) (path : Path) (m i : ℕ) (e : StoreEntry) (o : Ordering) → Orders places entries → m < length places → i ≡ get_or places m i → path_cmp path (get_or entries i e).path ≡ o → path_cmp path (get_or (places_by_path entries places) m (path, 0)).0 ≡ o
 met_at entries places path m i e o orders h at met = ap (path_cmp path) (key_there entries places m i e (path, 0) orders h at) ∙ met
 
-pub keyed_len : (entries : List StoreEntry) (places : List ℕ) → length (keyed entries places) ≡ length places
+pub keyed_len : (entries : List StoreEntry) (places : List ℕ) → length (places_by_path entries places) ≡ length places
 keyed_len entries places = length-map places (λ i. (path_at entries i, i))
 
 -- ---- what is found
@@ -97,9 +97,9 @@ has_there path (e ∷ entries) zero h t = ap (λ b. b || has_tie path entries) t
 has_there path (e ∷ entries) (suc i) h t = ap (λ b. eq_by_cmp path_cmp path e.path || b) (has_there path entries i (omega (arith, h)) t) ∙ or_true _
 
 -- a path that is found stands at the place of an entry
-stands : (entries : List StoreEntry) (path : Path) (places : List ℕ) → All (λ i. i < length entries) places → list_any (eq_by_cmp path_cmp path) (map (λ x. x.0) (keyed entries places)) ≡ true → has_tie path entries ≡ true
+stands : (entries : List StoreEntry) (path : Path) (places : List ℕ) → All (λ i. i < length entries) places → list_any (eq_by_cmp path_cmp path) (map (λ x. x.0) (places_by_path entries places)) ≡ true → has_tie path entries ≡ true
 stands entries path [] w h = cc
-stands entries path (i ∷ places) w h = elim (eq_by_cmp path_cmp path (path_at entries i)) as (λ b. eq_by_cmp path_cmp path (path_at entries i) ≡ b → (b || list_any (eq_by_cmp path_cmp path) (map (λ x. x.0) (keyed entries places))) ≡ true → has_tie path entries ≡ true) [
+stands entries path (i ∷ places) w h = elim (eq_by_cmp path_cmp path (path_at entries i)) as (λ b. eq_by_cmp path_cmp path (path_at entries i) ≡ b → (b || list_any (eq_by_cmp path_cmp path) (map (λ x. x.0) (places_by_path entries places))) ≡ true → has_tie path entries ≡ true) [
   | true ↦ λ t h. has_there path entries i (All-head (λ i. i < length entries) i places w) t
   | false ↦ λ t h. stands entries path places (All-tail (λ i. i < length entries) i places w) h
 ] refl h
@@ -117,9 +117,9 @@ no_tie path keys e none some = elim (path_cmp path e.path) as (λ o. path_cmp pa
 ] refl
 
 -- a path ties with a key where it is an entry's
-pub tied_has : (entries : List StoreEntry) (places : List ℕ) (path : Path) → Orders places entries → is_tied path_cmp path (keyed entries places) ≡ has_path path entries
+pub tied_has : (entries : List StoreEntry) (places : List ℕ) (path : Path) → Orders places entries → is_tied path_cmp path (places_by_path entries places) ≡ has_path path entries
 tied_has entries places path orders =
-    let keys = keyed entries places in
+    let keys = places_by_path entries places in
     elim (is_tied path_cmp path keys) as (λ b. is_tied path_cmp path keys ≡ b → b ≡ has_path path entries) [
       | true ↦ λ t. sym (has_by_tie path entries ∙ stands entries path places orders.within (sym (found_is path keys) ∙ ap is_some (found_tied path_cmp path_cmp_total path keys (path, 0) orders.rises t)))
       | false ↦ λ t. sym (has_by_tie path entries ∙ list_any_none _ entries (All-weaker _ _ (λ e some. no_tie path keys e (found_absent path_cmp path_cmp_total path keys orders.rises t) some) entries orders.whole))
@@ -136,13 +136,13 @@ path_next : (entries : List StoreEntry) (next : StoreEntry) → path_at (entries
 path_next [] next = refl
 path_next (e ∷ entries) next = path_next entries next
 
-keyed_kept : (entries : List StoreEntry) (next : StoreEntry) (places : List ℕ) → All (λ i. i < length entries) places → keyed (entries ++ next ∷ []) places ≡ keyed entries places
+keyed_kept : (entries : List StoreEntry) (next : StoreEntry) (places : List ℕ) → All (λ i. i < length entries) places → places_by_path (entries ++ next ∷ []) places ≡ places_by_path entries places
 keyed_kept entries next [] w = refl
 keyed_kept entries next (i ∷ places) w =
-    ap (λ p. (p, i) ∷ keyed (entries ++ next ∷ []) places) (path_kept entries next i (All-head (λ i. i < length entries) i places w))
+    ap (λ p. (p, i) ∷ places_by_path (entries ++ next ∷ []) places) (path_kept entries next i (All-head (λ i. i < length entries) i places w))
     ∙ ap (λ t. (path_at entries i, i) ∷ t) (keyed_kept entries next places (All-tail (λ i. i < length entries) i places w))
 
-keyed_insert : (entries : List StoreEntry) (places : List ℕ) (at i : ℕ) → keyed entries (insert places at i) ≡ insert (keyed entries places) at (path_at entries i, i)
+keyed_insert : (entries : List StoreEntry) (places : List ℕ) (at i : ℕ) → places_by_path entries (insert places at i) ≡ insert (places_by_path entries places) at (path_at entries i, i)
 keyed_insert entries places at i =
     let f : ℕ → Path × ℕ = λ i. (path_at entries i, i) in
     map-append f (take at places) (i ∷ drop at places)
@@ -173,16 +173,13 @@ still_some : (b : Bool) (i : ℕ) (o : Option ℕ) → is_some o ≡ true → is
 still_some true i o h = refl
 still_some false i o h = h
 
-pub orders_none : Orders [] []
-orders_none = record { within = All-nil _; rises = record { rises = refl }; whole = All-nil _ }
-
 -- an entry whose path is new comes to its place
-pub orders_new : (entries : List StoreEntry) (places : List ℕ) (next : StoreEntry) → Orders places entries → is_tied path_cmp next.path (keyed entries places) ≡ false → Orders (insert places (place path_cmp next.path (keyed entries places)) (length entries)) (entries ++ next ∷ [])
+pub orders_new : (entries : List StoreEntry) (places : List ℕ) (next : StoreEntry) → Orders places entries → is_tied path_cmp next.path (places_by_path entries places) ≡ false → Orders (insert places (place path_cmp next.path (places_by_path entries places)) (length entries)) (entries ++ next ∷ [])
 orders_new entries places next orders new =
     let n = length entries in
-    let keys = keyed entries places in
+    let keys = places_by_path entries places in
     let at = place path_cmp next.path keys in
-    let now : keyed (entries ++ next ∷ []) (insert places at n) ≡ put_in path_cmp next.path n keys =
+    let now : places_by_path (entries ++ next ∷ []) (insert places at n) ≡ put_in path_cmp next.path n keys =
     keyed_insert (entries ++ next ∷ []) places at n
     ∙ ap (λ t. insert t at (path_at (entries ++ next ∷ []) n, n)) (keyed_kept entries next places orders.within)
     ∙ ap (λ p. insert keys at (p, n)) (path_next entries next)
@@ -199,9 +196,9 @@ orders_new entries places next orders new =
     }
 
 -- an entry whose path is there leaves the places as they are
-pub orders_same : (entries : List StoreEntry) (places : List ℕ) (next : StoreEntry) → Orders places entries → is_tied path_cmp next.path (keyed entries places) ≡ true → Orders places (entries ++ next ∷ [])
+pub orders_same : (entries : List StoreEntry) (places : List ℕ) (next : StoreEntry) → Orders places entries → is_tied path_cmp next.path (places_by_path entries places) ≡ true → Orders places (entries ++ next ∷ [])
 orders_same entries places next orders tied =
-    let keys = keyed entries places in
+    let keys = places_by_path entries places in
     let now = keyed_kept entries next places orders.within in
     record {
       within = within_more entries next places orders.within;

@@ -17,11 +17,11 @@ abbrev pub path_at : List StoreEntry → ℕ → Path
 path_at entries i = option_map_or (λ e. e.path) (slice_get entries i) (record { dataset = []; name = [] })
 
 -- each place behind the path that stands there
-abbrev pub keyed : List StoreEntry → List ℕ → List (Path × ℕ)
-keyed entries places = map (λ i. (path_at entries i, i)) places
+abbrev pub places_by_path : List StoreEntry → List ℕ → List (Path × ℕ)
+places_by_path entries places = map (λ i. (path_at entries i, i)) places
 
 -- places of entries, whose paths ascend, and every path of an entry is one of them
 pub record Orders (places : List ℕ) (entries : List StoreEntry) : Type 0 where
   pub within : All (λ i. i < length entries) places
-  pub rises : InOrder path_cmp (keyed entries places)
-  pub whole : All (λ e. is_some (found path_cmp e.path (keyed entries places)) ≡ true) entries
+  pub rises : InOrder path_cmp (places_by_path entries places)
+  pub whole : All (λ e. is_some (found path_cmp e.path (places_by_path entries places)) ≡ true) entries

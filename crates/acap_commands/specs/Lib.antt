@@ -2,6 +2,5 @@ pub mod Answers
 pub mod EntryOrder
 pub mod Modifiers
 pub mod Nodes
-pub mod Plain
 pub mod Statuses
 pub mod Wanted

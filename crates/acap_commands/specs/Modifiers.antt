@@ -4,8 +4,8 @@ use Rattle.acap_commands.specs.declared.search_modifiers.SearchModifiers.{Search
 use Rattle.acap_commands.specs.declared.store_modifiers.StoreModifiers.{StoreModifiers}
 
 -- a SEARCH that has none
-abbrev pub unmodified : SearchModifiers
-unmodified =
+abbrev pub no_modifiers : SearchModifiers
+no_modifiers =
     record { depth = None; hard_limit = None; limit = None; make_context = None; no_inherit = false; returns = None; sort = None }
 
 -- an entry of a STORE that has none

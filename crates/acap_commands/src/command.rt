@@ -7,7 +7,7 @@ use crate::search::Search;
 use acap_entries::{Boxed, ContextName, Copying, Dataset, Memory, Moment, Value};
 
 /// What a client asks for (RFC 2244 section 6).
-#[derive(Drop)]
+#[derive(Clone, Drop)]
 pub enum Command {
     /// NOOP: nothing is asked for (section 6.2).
     Noop,
@@ -67,31 +67,6 @@ impl Command {
 
 impl Copying for Command {
     fn copy(&self) -> Result<Command, Memory> {
-        match self {
-            Command::Noop => Ok(Command::Noop),
-            Command::Logout => Ok(Command::Logout),
-            Command::Authenticate(mechanism) => Ok(Command::Authenticate(mechanism.copy()?)),
-            Command::Store(entries) => Ok(Command::Store(entries.copy()?)),
-            Command::Search(search) => Ok(Command::Search(search.copy()?)),
-            Command::SetAcl(object, identifier, rights) => {
-                let object = object.copy()?;
-                let identifier = identifier.copy()?;
-                Ok(Command::SetAcl(object, identifier, rights.copy()?))
-            }
-            Command::DeleteAcl(object, identifier) => {
-                let object = object.copy()?;
-                Ok(Command::DeleteAcl(object, identifier.copy()?))
-            }
-            Command::MyRights(object) => Ok(Command::MyRights(object.copy()?)),
-            Command::ListRights(object, identifier) => {
-                let object = object.copy()?;
-                Ok(Command::ListRights(object, identifier.copy()?))
-            }
-            Command::DeletedSince(dataset, since) => {
-                Ok(Command::DeletedSince(dataset.copy()?, *since))
-            }
-            Command::FreeContext(name) => Ok(Command::FreeContext(name.copy()?)),
-            Command::UpdateContext(names) => Ok(Command::UpdateContext(names.copy()?)),
-        }
+        self.clone()
     }
 }

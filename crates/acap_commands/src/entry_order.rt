@@ -1,8 +1,8 @@
 //! Entries of a STORE in the order of their paths, so that a path is found among them by halving (RFC 2244 section 6.6.1).
-ghost use Rattle.std.specs.Prelude.{◌≡◌, ◌<◌, ◌≤◌, ◌++◌, ◌∷◌, [], not, length, IsTrue, IfOk, OnOk, OnErr};
+ghost use Rattle.std.specs.Prelude.{◌≡◌, ◌<◌, ◌≤◌, ◌++◌, ◌∷◌, [], not, length, IfOk, OnOk, OnErr};
 ghost use Rattle.acap_entries.specs.Sorted.{place, is_tied};
 ghost use Rattle.acap_entries.specs.Store.{path_cmp};
-ghost use Rattle.acap_commands.specs.EntryOrder.{keyed, Orders};
+ghost use Rattle.acap_commands.specs.EntryOrder.{places_by_path, Orders};
 ghost use Rattle.acap_commands.specs.EntryOrder.{has_path};
 
 use crate::store_entry::StoreEntry;
@@ -40,8 +40,8 @@ impl EntryOrder {
     // last is asked first.
     fn place_of(&self, entries: &[StoreEntry], path: &Path) -> (usize, bool)
         requires { Orders self.now entries.now }
-        ensures place { result.0 ≡ place path_cmp path.now (keyed entries.now self.now) }
-        ensures tied { result.1 ≡ is_tied path_cmp path.now (keyed entries.now self.now) }
+        ensures place { result.0 ≡ place path_cmp path.now (places_by_path entries.now self.now) }
+        ensures tied { result.1 ≡ is_tied path_cmp path.now (places_by_path entries.now self.now) }
         ensures within { result.0 ≤ length self.now }
     {
         let mut low = 0;

@@ -5,7 +5,7 @@ use crate::command::Command;
 use acap_entries::{Copying, Memory, UserName};
 
 /// What a session brings to the machine (RFC 2244 sections 2 and 6).
-#[derive(Drop)]
+#[derive(Clone, Drop)]
 pub enum Event {
     /// A user takes the seat.
     Enter(UserName),
@@ -33,11 +33,6 @@ impl Event {
 
 impl Copying for Event {
     fn copy(&self) -> Result<Event, Memory> {
-        match self {
-            Event::Enter(user) => Ok(Event::Enter(user.copy()?)),
-            Event::Command(command) => Ok(Event::Command(command.copy()?)),
-            Event::Drain => Ok(Event::Drain),
-            Event::Leave => Ok(Event::Leave),
-        }
+        self.clone()
     }
 }

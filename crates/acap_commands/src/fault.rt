@@ -1,6 +1,5 @@
 //! Why an event is not performed.
 use acap_entries::Memory;
-use std::alloc::AllocError;
 
 /// Why an event isn't performed; the machine is as before.
 #[derive(Clone, Copy, PartialEq, Eq)]
@@ -22,17 +21,6 @@ impl From<Memory> for Fault {
     ghost from_gives = { λ memory made. made ≡ fault.Memory };
 
     fn from(_memory: Memory) -> Fault {
-        Fault::Memory
-    }
-}
-
-impl From<AllocError> for Fault {
-    ghost use Rattle.std.specs.Prelude.{◌≡◌};
-    ghost use Rattle.acap_commands.specs.declared.fault.Fault.TheVariants as fault;
-
-    ghost from_gives = { λ memory made. made ≡ fault.Memory };
-
-    fn from(_memory: AllocError) -> Fault {
         Fault::Memory
     }
 }

@@ -1,10 +1,9 @@
 //! What an attribute is given.
-ghost use Rattle.std.specs.Prelude.{◌≡◌, ◌↔◌, IsTrue};
 
 use acap_entries::{Cell, Copying, Memory};
 
 /// What a STORE gives to an attribute or to its access control list (RFC 2244 section 6.6.1).
-#[derive(PartialEq, Eq, Drop)]
+#[derive(Clone, PartialEq, Eq, Drop)]
 pub enum Given {
     /// A value to be stored: NIL, one string, or a list of strings.
     Put(Cell),
@@ -14,9 +13,6 @@ pub enum Given {
 
 impl Copying for Given {
     fn copy(&self) -> Result<Given, Memory> {
-        match self {
-            Given::Put(cell) => Ok(Given::Put(cell.copy()?)),
-            Given::Default => Ok(Given::Default),
-        }
+        self.clone()
     }
 }

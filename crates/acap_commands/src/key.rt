@@ -74,8 +74,8 @@ impl Key {
     pub fn and(alloc: Global, first: Key, second: Key) -> Result<Key, Memory>
         ensures { IfOk result (λ made. made ≡ wanted.And first second) }
     {
-        let first = boxed(alloc, first)?;
-        let second = boxed(alloc, second)?;
+        let first = into_box(alloc, first)?;
+        let second = into_box(alloc, second)?;
         Ok(Key::new(Node::And(first, second)))
     }
 
@@ -83,8 +83,8 @@ impl Key {
     pub fn or(alloc: Global, first: Key, second: Key) -> Result<Key, Memory>
         ensures { IfOk result (λ made. made ≡ wanted.Or first second) }
     {
-        let first = boxed(alloc, first)?;
-        let second = boxed(alloc, second)?;
+        let first = into_box(alloc, first)?;
+        let second = into_box(alloc, second)?;
         Ok(Key::new(Node::Or(first, second)))
     }
 
@@ -92,7 +92,7 @@ impl Key {
     pub fn not(alloc: Global, key: Key) -> Result<Key, Memory>
         ensures { IfOk result (λ made. made ≡ wanted.Not key) }
     {
-        Ok(Key::new(Node::Not(boxed(alloc, key)?)))
+        Ok(Key::new(Node::Not(into_box(alloc, key)?)))
     }
 
     /// Whether two of them are equal. Takes no memory.
@@ -113,28 +113,39 @@ impl Key {
     }
 }
 
-fn boxed(alloc: Global, key: Key) -> Result<Box<Key>, Memory>
+fn into_box(alloc: Global, key: Key) -> Result<Box<Key>, Memory>
     ensures { IfOk result (λ made. made.value ≡ key) }
 {
     Ok(Box::new(alloc, key)?)
 }
 
 #[cycle(copying)]
-fn copied(key: &Box<Key>) -> Result<Box<Key>, Memory>
+fn copy_box(key: &Box<Key>) -> Result<Box<Key>, Memory>
     ensures { IfOk result (λ made. made.value ≡ key.now.value) }
 {
-    let made = key.copy()?;
-    boxed(*Box::allocator(key), made)
+    let made = (**key).clone()?;
+    into_box(*Box::allocator(key), made)
+}
+
+impl Clone for Key {
+    ghost is_clone = { λ x y. y ≡ x };
+
+    #[cycle(copying)]
+    fn clone(&self) -> Result<Key, Memory> {
+        match &self.node {
+            Node::One(test) => Ok(Key::new(Node::One(test.copy()?))),
+            Node::And(first, second) => Ok(Key::new(Node::And(
+                copy_box(first)?,
+                copy_box(second)?,
+            ))),
+            Node::Or(first, second) => Ok(Key::new(Node::Or(copy_box(first)?, copy_box(second)?))),
+            Node::Not(key) => Ok(Key::new(Node::Not(copy_box(key)?))),
+        }
+    }
 }
 
 impl Copying for Key {
-    #[cycle(copying)]
     fn copy(&self) -> Result<Key, Memory> {
-        match &self.node {
-            Node::One(test) => Ok(Key::new(Node::One(test.copy()?))),
-            Node::And(first, second) => Ok(Key::new(Node::And(copied(first)?, copied(second)?))),
-            Node::Or(first, second) => Ok(Key::new(Node::Or(copied(first)?, copied(second)?))),
-            Node::Not(key) => Ok(Key::new(Node::Not(copied(key)?))),
-        }
+        self.clone()
     }
 }

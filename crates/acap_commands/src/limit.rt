@@ -1,5 +1,4 @@
 //! How many matches are told.
-ghost use Rattle.std.specs.Prelude.{◌≡◌, ◌↔◌, IsTrue};
 
 /// LIMIT: how many entries a SEARCH tells where many match (RFC 2244 section 6.4.1).
 #[derive(Clone, Copy, PartialEq, Eq)]

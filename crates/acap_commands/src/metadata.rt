@@ -1,5 +1,4 @@
 //! What is told of an attribute.
-ghost use Rattle.std.specs.Prelude.{◌≡◌, ◌↔◌, IsTrue};
 
 use acap_entries::{Copying, Memory};
 

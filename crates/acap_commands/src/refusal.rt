@@ -1,6 +1,5 @@
 //! Why a command is refused.
-ghost use Rattle.std.specs.Prelude.{◌≡◌, ◌↔◌, IsTrue};
-ghost use Rattle.acap_commands.specs.Plain.{is_plain};
+ghost use Rattle.std.specs.Prelude.{◌≡◌};
 ghost use Rattle.acap_commands.specs.Statuses.{status_of};
 
 use crate::object_name::ObjectName;
@@ -8,7 +7,7 @@ use crate::status::Status;
 use acap_entries::{Attribute, Boxed, Copying, Dataset, Memory, Path};
 
 /// Why a command, or a connection, is refused (RFC 2244 sections 3.6 and 6.2).
-#[derive(PartialEq, Eq, Drop)]
+#[derive(Clone, PartialEq, Eq, Drop)]
 pub enum Refusal {
     /// No tag begins the command.
     BadTag,
@@ -121,54 +120,6 @@ impl From<Memory> for Refusal {
 
 impl Copying for Refusal {
     fn copy(&self) -> Result<Refusal, Memory> {
-        match self {
-            Refusal::Permission(object) => Ok(Refusal::Permission(object.copy()?)),
-            Refusal::NoExist(dataset) => Ok(Refusal::NoExist(dataset.copy()?)),
-            Refusal::Modified(path) => Ok(Refusal::Modified(path.copy()?)),
-            Refusal::Invalid(path, attribute) => {
-                let path = path.copy()?;
-                Ok(Refusal::Invalid(path, attribute.copy()?))
-            }
-            _ => Ok(plain(self)),
-        }
-    }
-}
-
-// A refusal that names nothing, once more.
-fn plain(refusal: &Refusal) -> Refusal
-    requires { IsTrue (is_plain refusal.now) }
-    ensures { result ≡ refusal.now }
-{
-    match refusal {
-        Refusal::BadTag => Refusal::BadTag,
-        Refusal::BadToken => Refusal::BadToken,
-        Refusal::BadLiteral => Refusal::BadLiteral,
-        Refusal::CommandTooLong => Refusal::CommandTooLong,
-        Refusal::LineTooLong => Refusal::LineTooLong,
-        Refusal::UnknownCommand => Refusal::UnknownCommand,
-        Refusal::Arguments => Refusal::Arguments,
-        Refusal::NotPermittedTwice => Refusal::NotPermittedTwice,
-        Refusal::BadName => Refusal::BadName,
-        Refusal::BadTime => Refusal::BadTime,
-        Refusal::BadComparator => Refusal::BadComparator,
-        Refusal::TooDeep => Refusal::TooDeep,
-        Refusal::TooMany => Refusal::TooMany,
-        Refusal::NotLoggedIn => Refusal::NotLoggedIn,
-        Refusal::LoggedIn => Refusal::LoggedIn,
-        Refusal::Cancelled => Refusal::Cancelled,
-        Refusal::NoMechanism => Refusal::NoMechanism,
-        Refusal::LoginFailed => Refusal::LoginFailed,
-        Refusal::Limit => Refusal::Limit,
-        Refusal::ClockEnd => Refusal::ClockEnd,
-        Refusal::RangeHere => Refusal::RangeHere,
-        Refusal::TooOld => Refusal::TooOld,
-        Refusal::WayTooMany => Refusal::WayTooMany,
-        Refusal::TryFreeContext => Refusal::TryFreeContext,
-        Refusal::NoContext => Refusal::NoContext,
-        Refusal::FreedContext => Refusal::FreedContext,
-        Refusal::NotNotify => Refusal::NotNotify,
-        Refusal::Memory => Refusal::Memory,
-        Refusal::HistoryFull => Refusal::HistoryFull,
-        _ => Refusal::TooManySessions,
+        self.clone()
     }
 }

@@ -1,5 +1,4 @@
 //! How a value meets a string.
-ghost use Rattle.std.specs.Prelude.{◌≡◌, ◌↔◌, IsTrue};
 
 /// How a value is to stand to the string of a key (RFC 2244 section 6.4.1).
 #[derive(Clone, Copy, PartialEq, Eq)]

@@ -5,7 +5,7 @@ use crate::said::Said;
 use acap_entries::{Copying, Memory, Octets};
 
 /// A reply: what is said, and the tag of the command that it answers (RFC 2244 section 6.2).
-#[derive(PartialEq, Eq, Drop)]
+#[derive(Clone, PartialEq, Eq, Drop)]
 pub struct Reply {
     /// The tag under which it is printed; without one a `*` stands in its place.
     pub tag: Option<Octets>,
@@ -14,7 +14,7 @@ pub struct Reply {
 }
 
 impl Reply {
-    ghost use Rattle.std.specs.Prelude.{◌≡◌, None, Some};
+    ghost use Rattle.std.specs.Prelude.{◌≡◌, None};
 
     /// A reply without a tag.
     pub fn new(said: Said) -> Reply
@@ -33,8 +33,6 @@ impl Reply {
 
 impl Copying for Reply {
     fn copy(&self) -> Result<Reply, Memory> {
-        let tag = self.tag.copy()?;
-        let said = self.said.copy()?;
-        Ok(Reply { tag, said })
+        self.clone()
     }
 }

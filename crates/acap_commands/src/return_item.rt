@@ -1,12 +1,11 @@
 //! One item of a RETURN.
-ghost use Rattle.std.specs.Prelude.{◌≡◌, ◌↔◌, IsTrue};
 
 use crate::lists::MetadataList;
 use crate::return_name::ReturnName;
 use acap_entries::{Copying, Memory};
 
 /// An item of RETURN (RFC 2244 section 6.4.1).
-#[derive(PartialEq, Eq, Drop)]
+#[derive(Clone, PartialEq, Eq, Drop)]
 pub struct ReturnItem {
     /// Of which attributes it tells.
     pub name: ReturnName,
@@ -16,8 +15,6 @@ pub struct ReturnItem {
 
 impl Copying for ReturnItem {
     fn copy(&self) -> Result<ReturnItem, Memory> {
-        let name = self.name.copy()?;
-        let metadata = self.metadata.copy()?;
-        Ok(ReturnItem { name, metadata })
+        self.clone()
     }
 }

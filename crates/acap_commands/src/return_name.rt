@@ -1,10 +1,9 @@
 //! The attributes that an item of RETURN names.
-ghost use Rattle.std.specs.Prelude.{◌≡◌, ◌↔◌, IsTrue};
 
 use acap_entries::{Attribute, Copying, Memory, Value};
 
 /// Of which attributes an item of RETURN tells (RFC 2244 section 6.4.1).
-#[derive(PartialEq, Eq, Drop)]
+#[derive(Clone, PartialEq, Eq, Drop)]
 pub enum ReturnName {
     /// The attribute of this name.
     Named(Attribute),
@@ -14,9 +13,6 @@ pub enum ReturnName {
 
 impl Copying for ReturnName {
     fn copy(&self) -> Result<ReturnName, Memory> {
-        match self {
-            ReturnName::Named(attribute) => Ok(ReturnName::Named(attribute.copy()?)),
-            ReturnName::Beginning(front) => Ok(ReturnName::Beginning(front.copy()?)),
-        }
+        self.clone()
     }
 }

@@ -1,5 +1,4 @@
 //! What is said to a client.
-ghost use Rattle.std.specs.Prelude.{◌≡◌, ◌↔◌, IsTrue};
 
 use crate::lists::Tolds;
 use crate::refusal::Refusal;
@@ -8,7 +7,7 @@ use crate::verb::Verb;
 use acap_entries::{Copying, Memory, Octets, Value, Values};
 
 /// What is said to a client (RFC 2244 section 6.2).
-#[derive(PartialEq, Eq, Drop)]
+#[derive(Clone, PartialEq, Eq, Drop)]
 pub enum Said {
     /// The greeting that begins a session.
     Greeting,
@@ -38,19 +37,6 @@ pub enum Said {
 
 impl Copying for Said {
     fn copy(&self) -> Result<Said, Memory> {
-        match self {
-            Said::Greeting => Ok(Said::Greeting),
-            Said::Left => Ok(Said::Left),
-            Said::Drained(tolds) => Ok(Said::Drained(tolds.copy()?)),
-            Said::Updated(tolds) => Ok(Said::Updated(tolds.copy()?)),
-            Said::Done(verb) => Ok(Said::Done(*verb)),
-            Said::Searched(found) => Ok(Said::Searched(found.copy()?)),
-            Said::Deleted(names) => Ok(Said::Deleted(names.copy()?)),
-            Said::Rights(rights) => Ok(Said::Rights(rights.copy()?)),
-            Said::RightsList(rights) => Ok(Said::RightsList(rights.copy()?)),
-            Said::Challenge(octets) => Ok(Said::Challenge(octets.copy()?)),
-            Said::GoodBye => Ok(Said::GoodBye),
-            Said::Refused(refusal) => Ok(Said::Refused(refusal.copy()?)),
-        }
+        self.clone()
     }
 }

@@ -7,7 +7,7 @@ use crate::target::Target;
 use acap_entries::{Copying, Memory};
 
 /// A SEARCH: what is looked through, what is wanted, and what is told of it (RFC 2244 section 6.4.1).
-#[derive(Drop)]
+#[derive(Clone, Drop)]
 pub struct Search {
     /// What is looked through.
     pub target: Target,
@@ -30,13 +30,6 @@ impl Search {
 
 impl Copying for Search {
     fn copy(&self) -> Result<Search, Memory> {
-        let target = self.target.copy()?;
-        let modifiers = self.modifiers.copy()?;
-        let key = self.key.copy()?;
-        Ok(Search {
-            target,
-            modifiers,
-            key,
-        })
+        self.clone()
     }
 }

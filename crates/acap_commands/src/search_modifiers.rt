@@ -26,11 +26,11 @@ pub struct SearchModifiers {
 }
 
 impl SearchModifiers {
-    ghost use Rattle.acap_commands.specs.Modifiers.{unmodified};
+    ghost use Rattle.acap_commands.specs.Modifiers.{no_modifiers};
 
     /// A SEARCH without modifiers.
     pub fn none() -> SearchModifiers
-        ensures { result ≡ unmodified }
+        ensures { result ≡ no_modifiers }
     {
         SearchModifiers {
             depth: None,
@@ -51,8 +51,10 @@ impl SearchModifiers {
     }
 }
 
-impl Copying for SearchModifiers {
-    fn copy(&self) -> Result<SearchModifiers, Memory> {
+impl Clone for SearchModifiers {
+    ghost is_clone = { λ x y. y ≡ x };
+
+    fn clone(&self) -> Result<SearchModifiers, Memory> {
         let make_context = self.make_context.copy()?;
         let returns = self.returns.copy()?;
         let sort = self.sort.copy()?;
@@ -65,5 +67,11 @@ impl Copying for SearchModifiers {
             returns,
             sort,
         })
+    }
+}
+
+impl Copying for SearchModifiers {
+    fn copy(&self) -> Result<SearchModifiers, Memory> {
+        self.clone()
     }
 }

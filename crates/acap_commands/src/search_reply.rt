@@ -1,12 +1,11 @@
 //! What a SEARCH tells.
-ghost use Rattle.std.specs.Prelude.{◌≡◌, ◌↔◌, IsTrue};
 
 use crate::lists::Rows;
 use acap_entries::{Copying, Memory, Moment};
 
 /// What a SEARCH tells: its rows, the store's last moment where a RETURN asked for rows, and how many entries matched
 /// where not all of them are printed (RFC 2244 section 6.4.1).
-#[derive(PartialEq, Eq, Drop)]
+#[derive(Clone, PartialEq, Eq, Drop)]
 pub struct SearchReply {
     /// The rows, each printed as an ENTRY.
     pub rows: Rows,
@@ -18,11 +17,6 @@ pub struct SearchReply {
 
 impl Copying for SearchReply {
     fn copy(&self) -> Result<SearchReply, Memory> {
-        let rows = self.rows.copy()?;
-        Ok(SearchReply {
-            rows,
-            last: self.last,
-            total: self.total,
-        })
+        self.clone()
     }
 }

@@ -1,11 +1,10 @@
 //! One item of a SORT.
-ghost use Rattle.std.specs.Prelude.{◌≡◌, ◌↔◌, IsTrue};
 
 use acap_entries::{Attribute, Copying, Memory};
 use acap_order::Comparator;
 
 /// An item of SORT (RFC 2244 section 6.4.1).
-#[derive(PartialEq, Eq, Drop)]
+#[derive(Clone, PartialEq, Eq, Drop)]
 pub struct SortItem {
     /// The attribute whose values order the entries.
     pub attribute: Attribute,
@@ -15,10 +14,6 @@ pub struct SortItem {
 
 impl Copying for SortItem {
     fn copy(&self) -> Result<SortItem, Memory> {
-        let attribute = self.attribute.copy()?;
-        Ok(SortItem {
-            attribute,
-            comparator: self.comparator,
-        })
+        self.clone()
     }
 }

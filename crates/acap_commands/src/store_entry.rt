@@ -1,12 +1,11 @@
 //! One entry of a STORE.
-ghost use Rattle.std.specs.Prelude.{◌≡◌, ◌↔◌, IsTrue};
 
 use crate::lists::StoreItems;
 use crate::store_modifiers::StoreModifiers;
 use acap_entries::{Copying, Memory, Path};
 
 /// One entry of a STORE (RFC 2244 section 6.6.1).
-#[derive(PartialEq, Eq, Drop)]
+#[derive(Clone, PartialEq, Eq, Drop)]
 pub struct StoreEntry {
     /// Where it is, as sent: a component `~` stands.
     pub path: Path,
@@ -18,13 +17,6 @@ pub struct StoreEntry {
 
 impl Copying for StoreEntry {
     fn copy(&self) -> Result<StoreEntry, Memory> {
-        let path = self.path.copy()?;
-        let modifiers = self.modifiers.copy()?;
-        let items = self.items.copy()?;
-        Ok(StoreEntry {
-            path,
-            modifiers,
-            items,
-        })
+        self.clone()
     }
 }

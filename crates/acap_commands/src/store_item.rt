@@ -1,12 +1,11 @@
 //! One item of a STORE.
-ghost use Rattle.std.specs.Prelude.{◌≡◌, ◌↔◌, IsTrue};
 
 use crate::given::Given;
 use crate::store_metadata::StoreMetadata;
 use acap_entries::{Attribute, Copying, Memory};
 
 /// What a STORE gives to one attribute of an entry (RFC 2244 section 6.6.1).
-#[derive(PartialEq, Eq, Drop)]
+#[derive(Clone, PartialEq, Eq, Drop)]
 pub struct StoreItem {
     /// The attribute.
     pub attribute: Attribute,
@@ -18,12 +17,6 @@ pub struct StoreItem {
 
 impl Copying for StoreItem {
     fn copy(&self) -> Result<StoreItem, Memory> {
-        let attribute = self.attribute.copy()?;
-        let given = self.given.copy()?;
-        Ok(StoreItem {
-            attribute,
-            metadata: self.metadata,
-            given,
-        })
+        self.clone()
     }
 }

@@ -1,5 +1,4 @@
 //! What of an attribute a STORE gives.
-ghost use Rattle.std.specs.Prelude.{◌≡◌, ◌↔◌, IsTrue};
 
 use acap_entries::{Copying, Memory};
 

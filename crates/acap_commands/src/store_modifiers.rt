@@ -1,10 +1,10 @@
 //! The conditions of a STORE.
-ghost use Rattle.std.specs.Prelude.{◌≡◌, ◌↔◌, IsTrue};
+ghost use Rattle.std.specs.Prelude.{◌≡◌};
 
 use acap_entries::{Copying, Memory, Moment};
 
 /// On what the STORE of an entry depends (RFC 2244 section 6.6.1).
-#[derive(PartialEq, Eq, Drop)]
+#[derive(Clone, PartialEq, Eq, Drop)]
 pub struct StoreModifiers {
     /// NOCREATE: the entry's dataset must exist.
     pub no_create: bool,
@@ -28,9 +28,6 @@ impl StoreModifiers {
 
 impl Copying for StoreModifiers {
     fn copy(&self) -> Result<StoreModifiers, Memory> {
-        Ok(StoreModifiers {
-            no_create: self.no_create,
-            unchanged_since: self.unchanged_since,
-        })
+        self.clone()
     }
 }

@@ -4,7 +4,7 @@ ghost use Rattle.std.specs.Prelude.{◌≡◌, ◌↔◌, IsTrue};
 use acap_entries::{ContextName, Copying, Dataset, Memory};
 
 /// What a SEARCH looks through (RFC 2244 section 6.4.1).
-#[derive(PartialEq, Eq, Drop)]
+#[derive(Clone, PartialEq, Eq, Drop)]
 pub enum Target {
     /// The entries of a dataset, as sent but with its closing `/`: a component `~` stands.
     Dataset(Dataset),
@@ -23,9 +23,6 @@ impl Target {
 
 impl Copying for Target {
     fn copy(&self) -> Result<Target, Memory> {
-        match self {
-            Target::Dataset(dataset) => Ok(Target::Dataset(dataset.copy()?)),
-            Target::Context(name) => Ok(Target::Context(name.copy()?)),
-        }
+        self.clone()
     }
 }

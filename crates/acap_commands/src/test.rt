@@ -6,7 +6,7 @@ use acap_entries::{Attribute, Copying, Memory, Moment, Value};
 use acap_order::Comparator;
 
 /// What a key asks of an entry (RFC 2244 section 6.4.1).
-#[derive(PartialEq, Eq, Drop)]
+#[derive(Clone, PartialEq, Eq, Drop)]
 pub enum Test {
     /// ALL: nothing.
     All,
@@ -30,15 +30,6 @@ impl Test {
 
 impl Copying for Test {
     fn copy(&self) -> Result<Test, Memory> {
-        match self {
-            Test::All => Ok(Test::All),
-            Test::IsNil(attribute, comparator) => Ok(Test::IsNil(attribute.copy()?, *comparator)),
-            Test::Meets(relation, attribute, comparator, value) => {
-                let attribute = attribute.copy()?;
-                let value = value.copy()?;
-                Ok(Test::Meets(*relation, attribute, *comparator, value))
-            }
-            Test::Range(first, last, since) => Ok(Test::Range(*first, *last, *since)),
-        }
+        self.clone()
     }
 }

@@ -1,5 +1,4 @@
 //! The verbs of commands.
-ghost use Rattle.std.specs.Prelude.{◌≡◌, ◌↔◌, IsTrue};
 
 /// The verbs of commands (RFC 2244 section 6).
 #[derive(Clone, Copy, PartialEq, Eq)]

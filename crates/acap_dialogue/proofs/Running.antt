@@ -22,10 +22,10 @@ use Rattle.acap_commands.specs.declared.event.Event.TheVariants as event
 use Rattle.acap_commands.specs.declared.fault.Fault.{Fault}
 use Rattle.acap_commands.specs.declared.fault.Fault.TheVariants as fault
 use Rattle.acap_commands.specs.declared.reply.Reply.{Reply}
-use Rattle.acap_dialogue.specs.Hearing.{heard, heard_line, heard_command, heard_answer, answer_line, answer_token, authenticated, mechanism_name, logs_in, who, asks, opening, seconds_of, tag_of}
+use Rattle.acap_dialogue.specs.Hearing.{response_to, heard_line, heard_command, heard_answer, answer_line, answer_token, login_or_refusal, mechanism_name, logs_in, who, asks, opening, seconds_of, tag_of}
 use Rattle.acap_dialogue.specs.Listening.{Listening}
-use Rattle.acap_dialogue.specs.Running.{Outcome, Did, Piece, Turn, Drain, Leave, At, start, closes, seated_by, is_left, leaving, over, spoken, turned, did, run, octets_in, pieces, clocks_in, clocks, nonces_in, nonces, drains_in, drains, faults_in, faults, Call, calls_in, calls, SeatedLaw}
-use Rattle.acap_dialogue.specs.Session.{answered, answer_said, answer_user, drain_for, drain_at, has_seat, has_seat_at, listening, next_at, session_drain, session_next}
+use Rattle.acap_dialogue.specs.Running.{Outcome, Did, Piece, Turn, Drain, Leave, At, start, closes, seated_by, is_left, leaving, over, after_saying, after_turn, did, after_steps, octets_in, pieces, clocks_in, clocks, nonces_in, nonces, drains_in, drains, faults_in, faults, Call, calls_in, calls, SeatedLaw}
+use Rattle.acap_dialogue.specs.Session.{after_answer, answer_said, answer_user, drain_for, drain_at, has_seat, has_seat_at, listening, next_at, session_drain, session_next}
 use Rattle.acap_dialogue.specs.Talking.{Talking}
 use Rattle.acap_dialogue.specs.declared.next.Next.{Next}
 use Rattle.acap_dialogue.specs.declared.next.Next.TheVariants as next
@@ -43,15 +43,15 @@ then_then f g None = refl
 then_then f g (Some x) = refl
 
 -- a run of steps behind others
-pub run_behind : (users : List User) (xs ys : List Did) (at : At) → run users (xs ++ ys) at ≡ option_and_then (run users ys) (run users xs at)
+pub run_behind : (users : List User) (xs ys : List Did) (at : At) → after_steps users (xs ++ ys) at ≡ option_and_then (after_steps users ys) (after_steps users xs at)
 run_behind users [] ys at = refl
 run_behind users (x ∷ xs) ys at =
     ap (λ (f : At → Option At). option_and_then f (did users x at)) (λ i a. run_behind users xs ys a i)
-    ∙ then_then (run users xs) (run users ys) (did users x at)
+    ∙ then_then (after_steps users xs) (after_steps users ys) (did users x at)
 
-pub run_snoc : (users : List User) (xs : List Did) (x : Did) (at : At) → run users (xs ++ x ∷ []) at ≡ option_and_then (did users x) (run users xs at)
+pub run_snoc : (users : List User) (xs : List Did) (x : Did) (at : At) → after_steps users (xs ++ x ∷ []) at ≡ option_and_then (did users x) (after_steps users xs at)
 run_snoc users xs x at =
-    run_behind users xs (x ∷ []) at ∙ ap (λ (f : At → Option At). option_and_then f (run users xs at)) (λ i a. then_some (did users x a) i)
+    run_behind users xs (x ∷ []) at ∙ ap (λ (f : At → Option At). option_and_then f (after_steps users xs at)) (λ i a. then_some (did users x a) i)
 
 flat_snoc : {X A : Type 0} (f : X → List A) (xs : List X) (x : X) → flat_map f (xs ++ x ∷ []) ≡ flat_map f xs ++ f x
 flat_snoc f xs x = flat_map-append f xs (x ∷ []) ∙ ap (λ l. flat_map f xs ++ l) (append-nil (f x))
@@ -78,8 +78,8 @@ abbrev pub calls_then : List User → Did → Option At → List Call
 calls_then users x at = option_map_or (calls_in users x) at []
 
 calls_behind : (users : List User) (xs : List Did) (x : Did) (o : Option At) →
-    ((at : At) → calls users (xs ++ x ∷ []) at ≡ calls users xs at ++ calls_then users x (run users xs at)) →
-    option_map_or (calls users (xs ++ x ∷ [])) o [] ≡ option_map_or (calls users xs) o [] ++ calls_then users x (option_and_then (run users xs) o)
+    ((at : At) → calls users (xs ++ x ∷ []) at ≡ calls users xs at ++ calls_then users x (after_steps users xs at)) →
+    option_map_or (calls users (xs ++ x ∷ [])) o [] ≡ option_map_or (calls users xs) o [] ++ calls_then users x (option_and_then (after_steps users xs) o)
 calls_behind users xs x None h = refl
 calls_behind users xs x (Some at) h = h at
 
@@ -87,11 +87,11 @@ none_more : (users : List User) (o : Option At) → option_map_or (calls users [
 none_more users None = refl
 none_more users (Some at) = refl
 
-pub calls_snoc : (users : List User) (xs : List Did) (x : Did) (at : At) → calls users (xs ++ x ∷ []) at ≡ calls users xs at ++ calls_then users x (run users xs at)
+pub calls_snoc : (users : List User) (xs : List Did) (x : Did) (at : At) → calls users (xs ++ x ∷ []) at ≡ calls users xs at ++ calls_then users x (after_steps users xs at)
 calls_snoc users [] x at = ap (λ l. calls_in users x at ++ l) (none_more users (did users x at)) ∙ append-nil (calls_in users x at)
 calls_snoc users (y ∷ ys) x at =
     ap (λ l. calls_in users y at ++ l) (calls_behind users ys x (did users y at) (calls_snoc users ys x))
-    ∙ sym (append_assoc (calls_in users y at) (option_map_or (calls users ys) (did users y at) []) (calls_then users x (run users (y ∷ ys) at)))
+    ∙ sym (append_assoc (calls_in users y at) (option_map_or (calls users ys) (did users y at) []) (calls_then users x (after_steps users (y ∷ ys) at)))
 
 -- ---- who has the seat, by what is next
 
@@ -140,7 +140,7 @@ if_fine : (b : Bool) (user : Option (List ℕ)) (x y : Next × Stage) → Fine u
 if_fine true user x y p q = p
 if_fine false user x y p q = q
 
-authenticated_fine : (l : Listening) (tag : Option (List ℕ)) (m : List ℕ) → Fine l.user (authenticated l tag m)
+authenticated_fine : (l : Listening) (tag : Option (List ℕ)) (m : List ℕ) → Fine l.user (login_or_refusal l tag m)
 authenticated_fine l tag m =
     if_fine (is_some l.user) l.user _ _ (ready_seat l.user)
     (if_fine (str_eq_ignore_ascii_case m mechanism_name) l.user _ _ (challenged_seat tag (challenge_of l.nonce (seconds_of l.clock) l.host) l.user) (ready_seat l.user))
@@ -168,8 +168,8 @@ line_fine : (l : Listening) (tag : Option (List ℕ)) (r : Result Command Gramma
 line_fine l tag (Ok c) = command_fine l tag c
 line_fine l tag (Err f) = ready_seat l.user
 
-heard_fine : (l : Listening) (x : Lexed) → Fine l.user (heard l x)
-unfolding heard
+heard_fine : (l : Listening) (x : Lexed) → Fine l.user (response_to l x)
+unfolding response_to
 heard_fine l lexed.More = ready_seat l.user
 heard_fine l lexed.Plus = ready_seat l.user
 heard_fine l (lexed.Line tokens) = line_fine l (tag_of tokens) (command_of tokens)
@@ -213,7 +213,7 @@ next_by : (users : List User) (nonce : ℕ) (clock : ℤ) (s : Stage) (t : Talki
 next_by users nonce clock stage.Opening t e = opening_seats t.user
 next_by users nonce clock stage.Entering t e = ap (λ k. has_seat_at k t.user) e
 next_by users nonce clock stage.Ready t e =
-    subst (λ b. Seats b t.user (heard (listening t nonce clock) (next_of mode.Command t.held).0).0 (heard (listening t nonce clock) (next_of mode.Command t.held).0).1)
+    subst (λ b. Seats b t.user (response_to (listening t nonce clock) (next_of mode.Command t.held).0).0 (response_to (listening t nonce clock) (next_of mode.Command t.held).0).1)
     (sym (ready_seat t.user)) (heard_fine (listening t nonce clock) (next_of mode.Command t.held).0)
 next_by users nonce clock (stage.Asked tag) t e = ap (λ k. has_seat_at k t.user) e
 next_by users nonce clock (stage.Challenged tag challenge) t e =
@@ -282,8 +282,8 @@ answers_by e seated stage.Ready user o h a = absurd a
 answers_by e seated (stage.Challenged tag challenge) user o h a = absurd a
 answers_by e seated stage.Closed user o h a = absurd a
 
-pub answered_seat : (e : Event) (seated : Bool) (t : Talking) (o : Result Reply Fault) → has_seat t ≡ seated → AskedAt e t.user t.stage → has_seat (answered t o).1 ≡ (not (closes (answered t o).0) && seated_by e o seated)
-unfolding answered
+pub answered_seat : (e : Event) (seated : Bool) (t : Talking) (o : Result Reply Fault) → has_seat t ≡ seated → AskedAt e t.user t.stage → has_seat (after_answer t o).1 ≡ (not (closes (after_answer t o).0) && seated_by e o seated)
+unfolding after_answer
 answered_seat e seated t o h a = answers_by e seated t.stage t.user o h a
 
 -- a session isn't closed by a reply
@@ -297,8 +297,8 @@ reply_by (stage.LoggingIn tag name) reply = refl
 reply_by stage.Draining reply = refl
 reply_by stage.Closed reply = refl
 
-pub reply_goes_on : (t : Talking) (reply : Reply) → closes (answered t (Ok reply)).0 ≡ false
-unfolding answered
+pub reply_goes_on : (t : Talking) (reply : Reply) → closes (after_answer t (Ok reply)).0 ≡ false
+unfolding after_answer
 reply_goes_on t reply = reply_by t.stage reply
 
 -- ---- a step, and a run
@@ -316,17 +316,17 @@ leaving_seated true None at h = tt
 leaving_seated false (Some outcome) at h = tt
 leaving_seated false None at h = h
 
-said_seated : (out : List ℕ) (left : Outcome) (seated : Bool) (n : Next) (t : Talking) → (not (closes n) && seated) ≡ has_seat t → AreSeated (leaving (is_left (seated, (n, t))) left (spoken out (seated, (n, t))))
-said_seated out left seated n t h = leaving_seated (is_left (seated, (n, t))) left (spoken out (seated, (n, t))) h
+said_seated : (out : List ℕ) (left : Outcome) (seated : Bool) (n : Next) (t : Talking) → (not (closes n) && seated) ≡ has_seat t → AreSeated (leaving (is_left (seated, (n, t))) left (after_saying out (seated, (n, t))))
+said_seated out left seated n t h = leaving_seated (is_left (seated, (n, t))) left (after_saying out (seated, (n, t))) h
 
-turned_seated : (at : At) (n : Next) (t : Talking) (asked left : Outcome) → IsSeated at → SeatsFrom at.talk (n, t) → AreSeated (turned at (n, t) asked left)
+turned_seated : (at : At) (n : Next) (t : Talking) (asked left : Outcome) → IsSeated at → SeatsFrom at.talk (n, t) → AreSeated (after_turn at (n, t) asked left)
 turned_seated at next.More t None left h s = said_seated at.out left at.seated next.More t (h ∙ sym s)
 turned_seated at next.More t (Some o) left h s = tt
 turned_seated at (next.Say octets) t None left h s = said_seated at.out left at.seated (next.Say octets) t (h ∙ sym s)
 turned_seated at (next.Say octets) t (Some o) left h s = tt
 turned_seated at (next.Ask e) t None left h s = tt
 turned_seated at (next.Ask e) t (Some o) left h s =
-    said_seated at.out left (seated_by e o at.seated) (answered t o).0 (answered t o).1 (sym (answered_seat e at.seated t o (s.0 ∙ sym h) s.1))
+    said_seated at.out left (seated_by e o at.seated) (after_answer t o).0 (after_answer t o).1 (sym (answered_seat e at.seated t o (s.0 ∙ sym h) s.1))
 turned_seated at (next.Close octets) t None left h s = said_seated at.out left at.seated (next.Close octets) t (sym (ap (λ k. has_seat_at k t.user) s))
 turned_seated at (next.Close octets) t (Some o) left h s = tt
 
@@ -342,11 +342,11 @@ did_seated users (Leave clock left) at h = leaving_seated at.seated left (record
 pub step_seated : (users : List User) (d : Did) (at end : At) → did users d at ≡ Some end → IsSeated at → IsSeated end
 step_seated users d at end e h = subst AreSeated e (did_seated users d at h)
 
-then_seated : (users : List User) (ds : List Did) (o : Option At) → ((at : At) → IsSeated at → AreSeated (run users ds at)) → AreSeated o → AreSeated (option_and_then (run users ds) o)
+then_seated : (users : List User) (ds : List Did) (o : Option At) → ((at : At) → IsSeated at → AreSeated (after_steps users ds at)) → AreSeated o → AreSeated (option_and_then (after_steps users ds) o)
 then_seated users ds None f h = tt
 then_seated users ds (Some at) f h = f at h
 
-run_seated : (users : List User) (ds : List Did) (at : At) → IsSeated at → AreSeated (run users ds at)
+run_seated : (users : List User) (ds : List Did) (at : At) → IsSeated at → AreSeated (after_steps users ds at)
 run_seated users [] at h = h
 run_seated users (d ∷ ds) at h = then_seated users ds (did users d at) (run_seated users ds) (did_seated users d at h)
 

@@ -22,7 +22,7 @@ use Rattle.acap_commands.specs.declared.reply.Reply.{Reply}
 use Rattle.acap_commands.specs.declared.fault.Fault.{Fault}
 use Rattle.acap_commands.specs.declared.fault.Fault.TheVariants as fault
 use Rattle.acap_dialogue.specs.Listening.{Listening}
-use Rattle.acap_dialogue.specs.Hearing.{heard, heard_line, heard_command, heard_answer, answer_line, answer_token, authenticated, mechanism_name, logs_in, who, asks, opening, tag_of, ready_line}
+use Rattle.acap_dialogue.specs.Hearing.{response_to, heard_line, heard_command, heard_answer, answer_line, answer_token, login_or_refusal, mechanism_name, logs_in, who, asks, opening, tag_of, ready_line}
 use Rattle.acap_dialogue.specs.Session.{listening, session_next, next_at, answer_said, is_asked, is_hearing, Awaits}
 use Rattle.acap_dialogue.specs.Running.{QuietLaw}
 use Rattle.acap_dialogue.specs.Saying.{IfMore, heard_of, next_of as told}
@@ -52,7 +52,7 @@ if_speaks : (b : Bool) (x y : Next × Stage) → Speaks x.0 x.1 → Speaks y.0 y
 if_speaks true x y p q = p
 if_speaks false x y p q = q
 
-authenticated_speaks : (l : Listening) (tag : Option (List ℕ)) (m : List ℕ) → Speaks (authenticated l tag m).0 (authenticated l tag m).1
+authenticated_speaks : (l : Listening) (tag : Option (List ℕ)) (m : List ℕ) → Speaks (login_or_refusal l tag m).0 (login_or_refusal l tag m).1
 authenticated_speaks l tag m = if_speaks (is_some l.user) _ _ refl (if_speaks (str_eq_ignore_ascii_case m mechanism_name) _ _ refl refl)
 
 asks_speaks : (user tag : Option (List ℕ)) (c : Command) → Speaks (asks user tag c).0 (asks user tag c).1
@@ -78,8 +78,8 @@ line_speaks : (l : Listening) (tag : Option (List ℕ)) (r : Result Command Gram
 line_speaks l tag (Ok c) = command_speaks l tag c
 line_speaks l tag (Err f) = refl
 
-pub heard_hears : (l : Listening) (x : Lexed) → Hears x stage.Ready (heard l x)
-unfolding heard
+pub heard_hears : (l : Listening) (x : Lexed) → Hears x stage.Ready (response_to l x)
+unfolding response_to
 heard_hears l lexed.More = refl
 heard_hears l lexed.Plus = refl
 heard_hears l (lexed.Line tokens) = line_speaks l (tag_of tokens) (command_of tokens)
@@ -140,7 +140,7 @@ hears_fits (lexed.Fatal f) s r e h = speaks_fits r.0 r.1 h.1
 fits_by : (users : List User) (nonce : ℕ) (clock : ℤ) (s : Stage) (t : Talking) → Fits (next_at users nonce clock s t).0 (next_at users nonce clock s t).1.stage
 fits_by users nonce clock stage.Opening t = speaks_fits (opening t.user).0 (opening t.user).1 (opening_speaks t.user)
 fits_by users nonce clock stage.Entering t = tt
-fits_by users nonce clock stage.Ready t = hears_fits (next_of mode.Command t.held).0 stage.Ready (heard (listening t nonce clock) (next_of mode.Command t.held).0) refl (heard_hears (listening t nonce clock) (next_of mode.Command t.held).0)
+fits_by users nonce clock stage.Ready t = hears_fits (next_of mode.Command t.held).0 stage.Ready (response_to (listening t nonce clock) (next_of mode.Command t.held).0) refl (heard_hears (listening t nonce clock) (next_of mode.Command t.held).0)
 fits_by users nonce clock (stage.Asked tag) t = tt
 fits_by users nonce clock (stage.Challenged tag challenge) t = hears_fits (next_of mode.Answer t.held).0 (stage.Challenged tag challenge) (heard_answer users tag challenge (next_of mode.Answer t.held).0) refl (answer_hears users tag challenge (next_of mode.Answer t.held).0)
 fits_by users nonce clock (stage.LoggingIn tag user) t = tt
@@ -217,7 +217,7 @@ same_at : (users : List User) (nonce : ℕ) (clock : ℤ) (s : Stage) (t : Talki
 same_at users nonce clock stage.Opening t e m = absurd (subst (λ k. Speaks k (opening t.user).1) m (opening_speaks t.user))
 same_at users nonce clock stage.Entering t e m = refl
 same_at users nonce clock stage.Ready t e m =
-    let r = more_lexed (next_of mode.Command t.held).0 stage.Ready (heard (listening t nonce clock) (next_of mode.Command t.held).0) (heard_hears (listening t nonce clock) (next_of mode.Command t.held).0) m in
+    let r = more_lexed (next_of mode.Command t.held).0 stage.Ready (response_to (listening t nonce clock) (next_of mode.Command t.held).0) (heard_hears (listening t nonce clock) (next_of mode.Command t.held).0) m in
     let h = same_held mode.Command t.held t.held.fatal refl r.0 in
     let k = r.1 ∙ sym e in
     λ i. record { host = t.host; user = t.user; held = h i; stage = k i }
@@ -252,8 +252,8 @@ quiet_at : (users : List User) (nonce later : ℕ) (clock after : ℤ) (s : Stag
 quiet_at users nonce later clock after stage.Opening t m = m
 quiet_at users nonce later clock after stage.Entering t m = refl
 quiet_at users nonce later clock after stage.Ready t m =
-    let r = more_lexed (next_of mode.Command t.held).0 stage.Ready (heard (listening t nonce clock) (next_of mode.Command t.held).0) (heard_hears (listening t nonce clock) (next_of mode.Command t.held).0) m in
-    ap (λ x. (heard (listening t later after) x).0) r.0 ∙ ap (λ p. p.0) (heard_hears (listening t later after) lexed.More)
+    let r = more_lexed (next_of mode.Command t.held).0 stage.Ready (response_to (listening t nonce clock) (next_of mode.Command t.held).0) (heard_hears (listening t nonce clock) (next_of mode.Command t.held).0) m in
+    ap (λ x. (response_to (listening t later after) x).0) r.0 ∙ ap (λ p. p.0) (heard_hears (listening t later after) lexed.More)
 quiet_at users nonce later clock after (stage.Asked tag) t m = refl
 quiet_at users nonce later clock after (stage.Challenged tag challenge) t m = m
 quiet_at users nonce later clock after (stage.LoggingIn tag user) t m = refl

@@ -15,9 +15,9 @@ use Rattle.acap_commands.specs.declared.said.Said.TheVariants as said
 use Rattle.acap_commands.specs.declared.verb.Verb.TheVariants as verb
 use Rattle.acap_commands.specs.declared.event.Event.TheVariants as event
 use Rattle.acap_commands.specs.declared.fault.Fault.TheVariants as fault
-use Rattle.acap_dialogue.specs.Hearing.{heard, heard_answer, opening, seconds_of}
-use Rattle.acap_dialogue.specs.Running.{At, Did, Drain, Leave, Outcome, Piece, Turn, run, start}
-use Rattle.acap_dialogue.specs.Session.{answered, is_asked, session_next, session_drain}
+use Rattle.acap_dialogue.specs.Hearing.{response_to, heard_answer, opening, seconds_of}
+use Rattle.acap_dialogue.specs.Running.{At, Did, Drain, Leave, Outcome, Piece, Turn, after_steps, start}
+use Rattle.acap_dialogue.specs.Session.{after_answer, is_asked, session_next, session_drain}
 use Rattle.acap_dialogue.specs.Talking.{Talking}
 use Rattle.acap_dialogue.specs.declared.next.Next.{Next}
 use Rattle.acap_dialogue.specs.declared.next.Next.TheVariants as next
@@ -59,19 +59,19 @@ logging = stage.LoggingIn (Some (codes "A1")) (codes "tim")
 
 pub record AnswerExamples : Type 0 where
   pub asked : map is_asked (stage.Opening ∷ stage.Entering ∷ stage.Ready ∷ waiting ∷ stage.Challenged None [] ∷ logging ∷ stage.Draining ∷ stage.Closed ∷ []) ≡ false ∷ true ∷ false ∷ true ∷ false ∷ true ∷ true ∷ false ∷ []
-  pub enters : answered (talking joe stage.Entering []) (Ok (plain said.Greeting)) ≡ (next.Say greeting, talking joe stage.Ready [])
-  pub may_not_enter : map (λ f. answered (talking joe stage.Entering []) (Err f)) (fault.Memory ∷ fault.NotEntered ∷ fault.AlreadyEntered ∷ fault.HistoryFull ∷ []) ≡ replicate 4 (then_ends joe [])
-  pub done : answered (talking joe waiting []) (Ok (plain (said.Done verb.Store))) ≡ then_says joe (codes "A1 OK \"STORE done\"")
-  pub no_memory : answered (talking joe waiting []) (Err fault.Memory) ≡ then_says joe (codes "A1 NO (TRYLATER) \"No memory\"")
-  pub history_full : answered (talking joe waiting []) (Err fault.HistoryFull) ≡ then_says joe (codes "A1 NO (TRYLATER) \"History is full\"")
-  pub not_entered : map (λ f. answered (talking joe waiting []) (Err f)) (fault.NotEntered ∷ fault.AlreadyEntered ∷ []) ≡ replicate 2 (then_ends joe [])
+  pub enters : after_answer (talking joe stage.Entering []) (Ok (plain said.Greeting)) ≡ (next.Say greeting, talking joe stage.Ready [])
+  pub may_not_enter : map (λ f. after_answer (talking joe stage.Entering []) (Err f)) (fault.Memory ∷ fault.NotEntered ∷ fault.AlreadyEntered ∷ fault.HistoryFull ∷ []) ≡ replicate 4 (then_ends joe [])
+  pub done : after_answer (talking joe waiting []) (Ok (plain (said.Done verb.Store))) ≡ then_says joe (codes "A1 OK \"STORE done\"")
+  pub no_memory : after_answer (talking joe waiting []) (Err fault.Memory) ≡ then_says joe (codes "A1 NO (TRYLATER) \"No memory\"")
+  pub history_full : after_answer (talking joe waiting []) (Err fault.HistoryFull) ≡ then_says joe (codes "A1 NO (TRYLATER) \"History is full\"")
+  pub not_entered : map (λ f. after_answer (talking joe waiting []) (Err f)) (fault.NotEntered ∷ fault.AlreadyEntered ∷ []) ≡ replicate 2 (then_ends joe [])
   -- who has entered after a login is the session's user; where that was refused there is none
-  pub logged_in : answered (talking None logging []) (Ok (plain said.Greeting)) ≡ then_says (Some (codes "tim")) (codes "A1 OK \"AUTHENTICATE done\"")
-  pub login_no_memory : answered (talking None logging []) (Err fault.Memory) ≡ then_says None (codes "A1 NO (TRYLATER) \"No memory\"")
-  pub login_history_full : answered (talking None logging []) (Err fault.HistoryFull) ≡ then_says None (codes "A1 NO (TRYLATER) \"History is full\"")
-  pub login_seat : map (λ f. answered (talking None logging []) (Err f)) (fault.NotEntered ∷ fault.AlreadyEntered ∷ []) ≡ replicate 2 (then_ends None [])
+  pub logged_in : after_answer (talking None logging []) (Ok (plain said.Greeting)) ≡ then_says (Some (codes "tim")) (codes "A1 OK \"AUTHENTICATE done\"")
+  pub login_no_memory : after_answer (talking None logging []) (Err fault.Memory) ≡ then_says None (codes "A1 NO (TRYLATER) \"No memory\"")
+  pub login_history_full : after_answer (talking None logging []) (Err fault.HistoryFull) ≡ then_says None (codes "A1 NO (TRYLATER) \"History is full\"")
+  pub login_seat : map (λ f. after_answer (talking None logging []) (Err f)) (fault.NotEntered ∷ fault.AlreadyEntered ∷ []) ≡ replicate 2 (then_ends None [])
   -- a drain that is refused says nothing
-  pub drained : map (answered (talking joe stage.Draining [])) (Ok (plain (said.Drained [])) ∷ Err fault.Memory ∷ Err fault.NotEntered ∷ []) ≡ replicate 3 (next.Say [], talking joe stage.Ready [])
+  pub drained : map (after_answer (talking joe stage.Draining [])) (Ok (plain (said.Drained [])) ∷ Err fault.Memory ∷ Err fault.NotEntered ∷ []) ≡ replicate 3 (next.Say [], talking joe stage.Ready [])
 
 -- ---- what is said to an answer of the lexer
 
@@ -94,13 +94,13 @@ authenticate mechanism = line (token (codes "AUTHENTICATE") ∷ string mechanism
 
 -- a host, a nonce and a moment
 abbrev pub hears : Option (List ℕ) → Lexed → Next × Stage
-hears user x = heard (record { host = codes "postoffice.reston.mci.net"; user = user; nonce = 1896; clock = pos 697170952000000 }) x
+hears user x = response_to (record { host = codes "postoffice.reston.mci.net"; user = user; nonce = 1896; clock = pos 697170952000000 }) x
 
-abbrev pub asked : List ℕ
-asked = codes "<1896.697170952@postoffice.reston.mci.net>"
+abbrev pub rfc_challenge : List ℕ
+rfc_challenge = codes "<1896.697170952@postoffice.reston.mci.net>"
 
-abbrev pub challenged : Stage
-challenged = stage.Challenged (Some (codes "A1")) asked
+abbrev pub challenge_stage : Stage
+challenge_stage = stage.Challenged (Some (codes "A1")) rfc_challenge
 
 pub record HearingExamples : Type 0 where
   pub begins : opening None ≡ (next.Say greeting, stage.Ready)
@@ -117,7 +117,7 @@ pub record HearingExamples : Type 0 where
   pub log_in : hears None (free (codes "c")) ≡ says (codes "A1 BAD \"Log in first\"")
   pub fault_first : hears None (free []) ≡ says (codes "A1 BAD \"Bad name\"")
   -- a login begins with a challenge; who is logged in needs none, whatever the mechanism
-  pub challenge : hears None (authenticate (codes "cram-md5")) ≡ (next.Say (codes "+ \"<1896.697170952@postoffice.reston.mci.net>\"" ++ crlf), challenged)
+  pub challenge : hears None (authenticate (codes "cram-md5")) ≡ (next.Say (codes "+ \"<1896.697170952@postoffice.reston.mci.net>\"" ++ crlf), challenge_stage)
   pub no_mechanism : hears None (authenticate (codes "PLAIN")) ≡ says (codes "A1 NO \"Mechanism not offered\"")
   pub logged_in : map (λ m. hears joe (authenticate m)) (codes "CRAM-MD5" ∷ codes "PLAIN" ∷ []) ≡ replicate 2 (says (codes "A1 BAD \"Already logged in\""))
   pub seconds : map seconds_of (negsuc 0 ∷ pos 0 ∷ pos 999999 ∷ pos 1000000 ∷ []) ≡ 0 ∷ 0 ∷ 0 ∷ 1 ∷ []
@@ -128,7 +128,7 @@ abbrev pub tims : List User
 tims = (codes "tim", codes "tanstaaftanstaaf") ∷ []
 
 abbrev pub hears_answer : Lexed → Next × Stage
-hears_answer x = heard_answer tims (Some (codes "A1")) asked x
+hears_answer x = heard_answer tims (Some (codes "A1")) rfc_challenge x
 
 abbrev pub answer : Token → Lexed
 answer t = lexed.Line (t ∷ [])
@@ -145,8 +145,8 @@ pub record LoginExamples : Type 0 where
   pub none : hears_answer (lexed.Line []) ≡ says (codes "A1 BAD \"Bad arguments\"")
   pub bad : hears_answer (lexed.Bad lexical.BadToken None) ≡ says (codes "A1 BAD \"Bad arguments\"")
   pub too_long : hears_answer (lexed.Fatal lexical.LineTooLong) ≡ ends (codes "* BYE \"Line too long\"" ++ crlf)
-  pub waits : hears_answer lexed.More ≡ (next.More, challenged)
-  pub continues : hears_answer lexed.Plus ≡ (next.Say (codes "+ \"Ready\"" ++ crlf), challenged)
+  pub waits : hears_answer lexed.More ≡ (next.More, challenge_stage)
+  pub continues : hears_answer lexed.Plus ≡ (next.Say (codes "+ \"Ready\"" ++ crlf), challenge_stage)
 
 -- ---- what is next
 
@@ -163,8 +163,8 @@ pub record NextExamples : Type 0 where
   pub opens : (text : List ℕ) → nexts (talking joe stage.Opening text) ≡ (next.Ask (event.Enter (codes "joe")), talking joe stage.Entering text)
   pub hears : nexts (talking joe stage.Ready (codes "A1 NOOP" ++ crlf ++ codes "A2")) ≡ (next.Say (codes "A1 OK \"NOOP done\"" ++ crlf), talking joe stage.Ready (codes "A2"))
   -- the line behind an AUTHENTICATE is its answer, though it was sent before the challenge
-  pub challenge : nexts (talking None stage.Ready (codes "A1 AUTHENTICATE \"CRAM-MD5\"" ++ crlf ++ codes "*" ++ crlf)) ≡ (next.Say (codes "+ \"<1896.697170952@postoffice.reston.mci.net>\"" ++ crlf), talking None challenged (codes "*" ++ crlf))
-  pub sent_ahead : nexts (talking None challenged (codes "*" ++ crlf)) ≡ then_says None (codes "A1 BAD \"Login cancelled\"")
+  pub challenge : nexts (talking None stage.Ready (codes "A1 AUTHENTICATE \"CRAM-MD5\"" ++ crlf ++ codes "*" ++ crlf)) ≡ (next.Say (codes "+ \"<1896.697170952@postoffice.reston.mci.net>\"" ++ crlf), talking None challenge_stage (codes "*" ++ crlf))
+  pub sent_ahead : nexts (talking None challenge_stage (codes "*" ++ crlf)) ≡ then_says None (codes "A1 BAD \"Login cancelled\"")
   -- what is pending is asked for by a user's session that awaits nothing
   pub drains : session_drain (talking joe stage.Ready []) ≡ (next.Ask event.Drain, talking joe stage.Draining [])
   pub nobody_drains : session_drain (talking None stage.Ready []) ≡ (next.More, talking None stage.Ready [])
@@ -174,7 +174,7 @@ pub record NextExamples : Type 0 where
 
 -- what a run of a session comes to, of that user if there is one
 abbrev pub runs : Option (List ℕ) → List Did → Option At
-runs user dids = run tims dids (start (codes "postoffice.reston.mci.net") user)
+runs user dids = after_steps tims dids (start (codes "postoffice.reston.mci.net") user)
 
 -- where it stands then
 abbrev pub stands : Option (List ℕ) → Stage → List ℕ → Bool → Option At

@@ -8,7 +8,7 @@ use Rattle.acap_lexer.specs.declared.kind.Kind.TheVariants as kind
 use Rattle.acap_lexer.specs.declared.lexed.Lexed.{Lexed}
 use Rattle.acap_lexer.specs.declared.lexed.Lexed.TheVariants as lexed
 use Rattle.acap_lexer.specs.Token.{Token}
-use Rattle.acap_login.specs.Login.{User, challenge_of, accepted, name_at}
+use Rattle.acap_login.specs.Login.{User, challenge_of, answering_user, name_at}
 use Rattle.acap_grammar.specs.Grammar.{command_of}
 use Rattle.acap_grammar.specs.Refusals.{of_lexical, of_grammar}
 use Rattle.acap_grammar.specs.Replies.{octets_of, crlf}
@@ -55,19 +55,19 @@ challenges tag challenge = (next.Say (octets_of (record { tag = None; said = sai
 abbrev pub mechanism_name : List ℕ
 mechanism_name = codes "CRAM-MD5"
 
-abbrev pub challenged : Listening → Option (List ℕ) → List ℕ → Next × Stage
-challenged l tag mechanism =
+abbrev pub challenge_or_refusal : Listening → Option (List ℕ) → List ℕ → Next × Stage
+challenge_or_refusal l tag mechanism =
     if str_eq_ignore_ascii_case mechanism mechanism_name then challenges tag (challenge_of l.nonce (seconds_of l.clock) l.host)
     else refuses tag refusals.NoMechanism
 
 -- a user who is logged in needs no mechanism, whatever it is
-abbrev pub authenticated : Listening → Option (List ℕ) → List ℕ → Next × Stage
-authenticated l tag mechanism = if is_some l.user then refuses tag refusals.LoggedIn else challenged l tag mechanism
+abbrev pub login_or_refusal : Listening → Option (List ℕ) → List ℕ → Next × Stage
+login_or_refusal l tag mechanism = if is_some l.user then refuses tag refusals.LoggedIn else challenge_or_refusal l tag mechanism
 
 unfoldable pub heard_command : Listening → Option (List ℕ) → Command → Next × Stage
 heard_command l tag command.Noop = says tag (said.Done verb.Noop)
 heard_command l tag command.Logout = closes tag said.GoodBye
-heard_command l tag (command.Authenticate mechanism) = authenticated l tag mechanism
+heard_command l tag (command.Authenticate mechanism) = login_or_refusal l tag mechanism
 heard_command l tag wanted = asks l.user tag wanted
 
 abbrev pub heard_line : Listening → Option (List ℕ) → Result Command GrammarFault → Next × Stage
@@ -83,18 +83,18 @@ abbrev pub ready_line : List ℕ
 ready_line = codes "+ \"Ready\"" ++ crlf
 
 -- what a session says to what it hears while no answer is awaited
-unfoldable pub heard : Listening → Lexed → Next × Stage
-heard l lexed.More = (next.More, stage.Ready)
-heard l lexed.Plus = (next.Say ready_line, stage.Ready)
-heard l (lexed.Line tokens) = heard_line l (tag_of tokens) (command_of tokens)
-heard l (lexed.Bad fault tag) = refuses tag (of_lexical fault)
-heard l (lexed.Fatal fault) = closes None (said.Refused (of_lexical fault))
+unfoldable pub response_to : Listening → Lexed → Next × Stage
+response_to l lexed.More = (next.More, stage.Ready)
+response_to l lexed.Plus = (next.Say ready_line, stage.Ready)
+response_to l (lexed.Line tokens) = heard_line l (tag_of tokens) (command_of tokens)
+response_to l (lexed.Bad fault tag) = refuses tag (of_lexical fault)
+response_to l (lexed.Fatal fault) = closes None (said.Refused (of_lexical fault))
 
 -- ---- the client's answer to a challenge
 
 -- whom an answer logs in
 abbrev pub who : List User → List ℕ → List ℕ → Option (List ℕ)
-who users challenge answer = option_and_then (λ place. name_at users place) (accepted users challenge answer)
+who users challenge answer = option_and_then (λ place. name_at users place) (answering_user users challenge answer)
 
 -- who is logged in asks to enter
 abbrev pub logs_in : Option (List ℕ) → Option (List ℕ) → Next × Stage

@@ -7,9 +7,9 @@ use Rattle.acap_commands.specs.declared.event.Event.{Event}
 use Rattle.acap_commands.specs.declared.event.Event.TheVariants as event
 use Rattle.acap_commands.specs.declared.fault.Fault.{Fault}
 use Rattle.acap_commands.specs.declared.reply.Reply.{Reply}
-use Rattle.acap_dialogue.specs.Saying.{added}
-use Rattle.acap_dialogue.specs.Session.{answered, has_seat, session_drain, session_next}
-use Rattle.acap_dialogue.specs.Talking.{Talking, begun}
+use Rattle.acap_dialogue.specs.Saying.{with_said}
+use Rattle.acap_dialogue.specs.Session.{after_answer, has_seat, session_drain, session_next}
+use Rattle.acap_dialogue.specs.Talking.{Talking, beginning}
 use Rattle.acap_dialogue.specs.Telling.{room_for, with_front}
 use Rattle.acap_dialogue.specs.declared.next.Next.{Next}
 use Rattle.acap_dialogue.specs.declared.next.Next.TheVariants as next
@@ -35,7 +35,7 @@ pub record At : Type 0 where
 
 -- a session that hasn't said anything
 abbrev pub start : List ℕ → Option (List ℕ) → At
-start host user = record { talk = begun host user; out = []; seated = false }
+start host user = record { talk = beginning host user; out = []; seated = false }
 
 -- ---- one step
 
@@ -62,11 +62,11 @@ seated_by event.Leave outcome seated = seated
 
 -- What is next once the event that is asked is answered, and whether an Enter stands then. An event that is asked is
 -- answered, and nothing else is.
-abbrev pub settled : Bool → Next × Talking → Outcome → Option (Bool × (Next × Talking))
-settled seated (next.Ask event, t) (Some outcome) = Some (seated_by event outcome seated, answered t outcome)
-settled seated (next.Ask event, t) None = None
-settled seated x None = Some (seated, x)
-settled seated x (Some outcome) = None
+abbrev pub after_asking : Bool → Next × Talking → Outcome → Option (Bool × (Next × Talking))
+after_asking seated (next.Ask event, t) (Some outcome) = Some (seated_by event outcome seated, after_answer t outcome)
+after_asking seated (next.Ask event, t) None = None
+after_asking seated x None = Some (seated, x)
+after_asking seated x (Some outcome) = None
 
 -- a session that is closed while its Enter stands leaves its seat
 abbrev pub is_left : Bool × (Next × Talking) → Bool
@@ -80,12 +80,12 @@ leaving false (Some outcome) at = None
 leaving false None at = Some at
 
 -- what is next is said
-abbrev pub spoken : List ℕ → Bool × (Next × Talking) → At
-spoken out x = record { talk = x.1.1; out = added out x.1.0; seated = not (closes x.1.0) && x.0 }
+abbrev pub after_saying : List ℕ → Bool × (Next × Talking) → At
+after_saying out x = record { talk = x.1.1; out = with_said out x.1.0; seated = not (closes x.1.0) && x.0 }
 
 -- a turn or a drain, by what is next
-abbrev pub turned : At → Next × Talking → Outcome → Outcome → Option At
-turned at x asked left = option_and_then (λ y. leaving (is_left y) left (spoken at.out y)) (settled at.seated x asked)
+abbrev pub after_turn : At → Next × Talking → Outcome → Outcome → Option At
+after_turn at x asked left = option_and_then (λ y. leaving (is_left y) left (after_saying at.out y)) (after_asking at.seated x asked)
 
 -- the session takes octets, as many as it has room for
 abbrev pub taking : Talking → List ℕ → Talking
@@ -98,14 +98,14 @@ over t = record t { stage = stage.Closed }
 -- One step of a session; None where no such step can be made.
 unfoldable pub did : List User → Did → At → Option At
 did users (Piece octets) at = Some (record at { talk = taking at.talk octets })
-did users (Turn clock nonce asked left) at = turned at (session_next users nonce clock at.talk) asked left
-did users (Drain clock asked left) at = turned at (session_drain at.talk) asked left
+did users (Turn clock nonce asked left) at = after_turn at (session_next users nonce clock at.talk) asked left
+did users (Drain clock asked left) at = after_turn at (session_drain at.talk) asked left
 did users (Leave clock left) at = leaving at.seated left (record { talk = over at.talk; out = at.out; seated = false })
 
 -- its steps, one after the other
-abbrev pub run : List User → List Did → At → Option At
-run users [] at = Some at
-run users (d ∷ ds) at = option_and_then (run users ds) (did users d at)
+abbrev pub after_steps : List User → List Did → At → Option At
+after_steps users [] at = Some at
+after_steps users (d ∷ ds) at = option_and_then (after_steps users ds) (did users d at)
 
 -- ---- what steps use
 
@@ -181,7 +181,7 @@ asked_in users (Leave clock left) t = None
 
 -- whether a step makes a Leave
 abbrev pub leaves_by : Bool → Next × Talking → Outcome → Bool
-leaves_by seated x asked = option_map_or is_left (settled seated x asked) false
+leaves_by seated x asked = option_map_or is_left (after_asking seated x asked) false
 
 abbrev pub leaves_in : List User → Did → At → Bool
 leaves_in users (Piece octets) at = false
@@ -209,7 +209,7 @@ calls users (d ∷ ds) at = calls_in users d at ++ option_map_or (calls users ds
 -- Where no memory was refused an Enter stands exactly where the session says that its user has the seat.
 abbrev pub SeatedLaw : Type 0
 SeatedLaw = (users : List User) (host : List ℕ) (user : Option (List ℕ)) (dids : List Did) (end : At) →
-    run users dids (start host user) ≡ Some end → end.seated ≡ has_seat end.talk
+    after_steps users dids (start host user) ≡ Some end → end.seated ≡ has_seat end.talk
 
 -- Where nothing is next, nothing is next whatever the clock shows and whichever nonce is handed in: only octets, or the
 -- answer to an event, bring more.

@@ -1,7 +1,7 @@
 -- How what is next is told by functions that are lent a vector: its octets are added to it, and all else is told apart.
 use Rattle.std.specs.Prelude.{◌≡◌, ℕ, Vec, List, ◌++◌, Result, Ok, Err}
 use Rattle.std.specs.declared.alloc.Global.{Global}
-use Rattle.acap_entries.specs.declared.memory.Memory.{Memory}
+use Rattle.std.specs.declared.alloc.AllocError.{AllocError as Memory}
 use Rattle.acap_dialogue.specs.declared.heard.Heard.{Heard}
 use Rattle.acap_dialogue.specs.declared.heard.Heard.TheVariants as heard
 use Rattle.acap_dialogue.specs.declared.next.Next.{Next}
@@ -11,11 +11,11 @@ use Rattle.acap_dialogue.specs.declared.stage.Stage.TheVariants as stage
 use Rattle.acap_dialogue.specs.Talking.{Talking}
 
 -- octets with those behind them that are said
-abbrev pub added : List ℕ → Next → List ℕ
-added out next.More = out
-added out (next.Say octets) = out ++ octets
-added out (next.Ask event) = out
-added out (next.Close octets) = out ++ octets
+abbrev pub with_said : List ℕ → Next → List ℕ
+with_said out next.More = out
+with_said out (next.Say octets) = out ++ octets
+with_said out (next.Ask event) = out
+with_said out (next.Close octets) = out ++ octets
 
 abbrev pub heard_of : Next → Heard
 heard_of next.More = heard.More
@@ -35,7 +35,7 @@ next_of heard.Closes octets = next.Close octets
 -- What a call makes of a stage and of the octets to be written: what is next is told, and where memory was refused
 -- both are as before.
 abbrev pub Hears : Next × Stage → Result Heard Memory → Stage → Stage → Vec ℕ Global → Vec ℕ Global → Type 0
-Hears turn (Ok told) before after out written = (told ≡ heard_of turn.0) × (after ≡ turn.1) × (written.items ≡ added out.items turn.0)
+Hears turn (Ok told) before after out written = (told ≡ heard_of turn.0) × (after ≡ turn.1) × (written.items ≡ with_said out.items turn.0)
 Hears turn (Err memory) before after out written = (after ≡ before) × (written.items ≡ out.items)
 
 -- the same host's session, of the same user
@@ -44,7 +44,7 @@ KeepsUser before after = (after.host ≡ before.host) × (after.user ≡ before.
 
 -- What a call makes of a session: where memory was refused it is closed without a word, and has the user that it had.
 abbrev pub Makes : Next × Talking → Result Heard Memory → Talking → Talking → Vec ℕ Global → Vec ℕ Global → Type 0
-Makes turn (Ok told) before after out written = (told ≡ heard_of turn.0) × (after ≡ turn.1) × (written.items ≡ added out.items turn.0)
+Makes turn (Ok told) before after out written = (told ≡ heard_of turn.0) × (after ≡ turn.1) × (written.items ≡ with_said out.items turn.0)
 Makes turn (Err memory) before after out written = (after.stage ≡ stage.Closed) × (written.items ≡ out.items) × KeepsUser before after
 
 -- memory was refused: the session is closed, and has the user that it had

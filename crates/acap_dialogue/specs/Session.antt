@@ -10,7 +10,7 @@ use Rattle.acap_commands.specs.declared.verb.Verb.TheVariants as verb
 use Rattle.acap_commands.specs.declared.event.Event.TheVariants as event
 use Rattle.acap_commands.specs.declared.fault.Fault.{Fault}
 use Rattle.acap_commands.specs.declared.fault.Fault.TheVariants as fault
-use Rattle.acap_dialogue.specs.Hearing.{heard, heard_answer, opening, says, refuses}
+use Rattle.acap_dialogue.specs.Hearing.{response_to, heard_answer, opening, says, refuses}
 use Rattle.acap_dialogue.specs.Listening.{Listening}
 use Rattle.acap_dialogue.specs.Talking.{Talking}
 use Rattle.acap_dialogue.specs.declared.next.Next.{Next}
@@ -29,7 +29,7 @@ listening t nonce clock = record { host = t.host; user = t.user; nonce = nonce; 
 -- one that awaits no answer hears a command
 abbrev pub heard_at : Talking → ℕ → ℤ → Next × Talking
 heard_at t nonce clock =
-    comes_to (record t { held = (next_of mode.Command t.held).1 }) (heard (listening t nonce clock) (next_of mode.Command t.held).0)
+    comes_to (record t { held = (next_of mode.Command t.held).1 }) (response_to (listening t nonce clock) (next_of mode.Command t.held).0)
 
 -- and one whose challenge waits hears what the client answers
 abbrev pub answer_at : List User → Option (List ℕ) → List ℕ → Talking → Next × Talking
@@ -63,41 +63,41 @@ is_asked stage.Closed = false
 
 -- the machine's answer to a command is said under its tag; want of memory and a full history are refusals, and a
 -- session whose seat isn't its own is closed without a word
-abbrev pub replied : Option (List ℕ) → Result Reply Fault → Next × Stage
-replied tag (Ok reply) = says tag reply.said
-replied tag (Err fault.Memory) = refuses tag refusals.Memory
-replied tag (Err fault.HistoryFull) = refuses tag refusals.HistoryFull
-replied tag (Err fault.NotEntered) = (next.Close [], stage.Closed)
-replied tag (Err fault.AlreadyEntered) = (next.Close [], stage.Closed)
+abbrev pub command_said : Option (List ℕ) → Result Reply Fault → Next × Stage
+command_said tag (Ok reply) = says tag reply.said
+command_said tag (Err fault.Memory) = refuses tag refusals.Memory
+command_said tag (Err fault.HistoryFull) = refuses tag refusals.HistoryFull
+command_said tag (Err fault.NotEntered) = (next.Close [], stage.Closed)
+command_said tag (Err fault.AlreadyEntered) = (next.Close [], stage.Closed)
 
 -- that of a user's entering begins the session, or ends it without a word
-abbrev pub welcomed : Result Reply Fault → Next × Stage
-welcomed (Ok reply) = says None reply.said
-welcomed (Err fault) = (next.Close [], stage.Closed)
+abbrev pub welcome_said : Result Reply Fault → Next × Stage
+welcome_said (Ok reply) = says None reply.said
+welcome_said (Err fault) = (next.Close [], stage.Closed)
 
 -- that of entering after a login is the login's; where it was refused the session stays without a user
 abbrev pub login_said : Option (List ℕ) → Result Reply Fault → Next × Stage
 login_said tag (Ok reply) = says tag (said.Done verb.Authenticate)
-login_said tag (Err fault) = replied tag (Err fault)
+login_said tag (Err fault) = command_said tag (Err fault)
 
 abbrev pub login_user : List ℕ → Option (List ℕ) → Result Reply Fault → Option (List ℕ)
 login_user name user (Ok reply) = Some name
 login_user name user (Err fault) = user
 
 -- that of a drain is said as it is; a drain that is refused says nothing
-abbrev pub drained : Result Reply Fault → Next × Stage
-drained (Ok reply) = says None reply.said
-drained (Err fault) = (next.Say [], stage.Ready)
+abbrev pub drain_said : Result Reply Fault → Next × Stage
+drain_said (Ok reply) = says None reply.said
+drain_said (Err fault) = (next.Say [], stage.Ready)
 
 -- by what the session had asked: what is said, and who its user is then
 abbrev pub answer_said : Stage → Result Reply Fault → Next × Stage
 answer_said stage.Opening outcome = (next.More, stage.Opening)
-answer_said stage.Entering outcome = welcomed outcome
+answer_said stage.Entering outcome = welcome_said outcome
 answer_said stage.Ready outcome = (next.More, stage.Ready)
-answer_said (stage.Asked tag) outcome = replied tag outcome
+answer_said (stage.Asked tag) outcome = command_said tag outcome
 answer_said (stage.Challenged tag challenge) outcome = (next.More, stage.Challenged tag challenge)
 answer_said (stage.LoggingIn tag name) outcome = login_said tag outcome
-answer_said stage.Draining outcome = drained outcome
+answer_said stage.Draining outcome = drain_said outcome
 answer_said stage.Closed outcome = (next.More, stage.Closed)
 
 abbrev pub answer_user : Stage → Option (List ℕ) → Result Reply Fault → Option (List ℕ)
@@ -110,8 +110,8 @@ answer_user (stage.LoggingIn tag name) user outcome = login_user name user outco
 answer_user stage.Draining user outcome = user
 answer_user stage.Closed user outcome = user
 
-unfoldable pub answered : Talking → Result Reply Fault → Next × Talking
-answered t outcome = comes_to (record t { user = answer_user t.stage t.user outcome }) (answer_said t.stage outcome)
+unfoldable pub after_answer : Talking → Result Reply Fault → Next × Talking
+after_answer t outcome = comes_to (record t { user = answer_user t.stage t.user outcome }) (answer_said t.stage outcome)
 
 -- a user's session that is ready may ask for what is pending; any other has nothing to ask
 abbrev pub drain_for : Option (List ℕ) → Talking → Next × Talking

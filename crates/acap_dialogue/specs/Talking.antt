@@ -12,5 +12,5 @@ pub record Talking : Type 0 where
   pub stage : Stage
 
 -- a session on that host that hasn't said anything, of that user if there is one
-abbrev pub begun : List ℕ → Option (List ℕ) → Talking
-begun host user = record { host = host; user = user; held = record { text = []; told = 0; fatal = None }; stage = stage.Opening }
+abbrev pub beginning : List ℕ → Option (List ℕ) → Talking
+beginning host user = record { host = host; user = user; held = record { text = []; told = 0; fatal = None }; stage = stage.Opening }

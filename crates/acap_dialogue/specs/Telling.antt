@@ -7,10 +7,10 @@ use Rattle.acap_lexer.specs.Token.{Token}
 use Rattle.acap_lexer.specs.declared.kind.Kind.{Kind}
 use Rattle.acap_lexer.specs.declared.lexed.Lexed.{Lexed}
 use Rattle.acap_login.specs.Login.{User}
-use Rattle.acap_entries.specs.declared.memory.Memory.{Memory}
+use Rattle.std.specs.declared.alloc.AllocError.{AllocError as Memory}
 use Rattle.acap_commands.specs.declared.command.Command.{Command}
 use Rattle.acap_grammar.specs.Lent.{lent_tag}
-use Rattle.acap_dialogue.specs.Hearing.{answer_line, answer_token, asks, authenticated, heard, heard_answer, heard_command, logs_in, who}
+use Rattle.acap_dialogue.specs.Hearing.{answer_line, answer_token, asks, login_or_refusal, response_to, heard_answer, heard_command, logs_in, who}
 use Rattle.acap_dialogue.specs.Listening.{Listening}
 use Rattle.acap_dialogue.specs.Saying.{Hears}
 use Rattle.acap_dialogue.specs.Session.{listening}
@@ -28,7 +28,7 @@ command_by l tag command = heard_command l (lent_tag tag) command
 -- what a call makes of a session's stage where a mechanism is named, and of the answer to a challenge: of its string, its one
 -- token, its line, and of what the lexer answers
 abbrev pub HearsLogin : Listening → Option (Bor (List ℕ)) → List ℕ → Result Heard Memory → Stage → Stage → Vec ℕ Global → Vec ℕ Global → Type 0
-HearsLogin l tag mechanism = Hears (authenticated l (lent_tag tag) mechanism)
+HearsLogin l tag mechanism = Hears (login_or_refusal l (lent_tag tag) mechanism)
 
 abbrev pub HearsString : List User → Option (List ℕ) → List ℕ → List ℕ → Result Heard Memory → Stage → Stage → Vec ℕ Global → Vec ℕ Global → Type 0
 HearsString users tag challenge answer = Hears (logs_in tag (who users challenge answer))
@@ -43,7 +43,7 @@ abbrev pub HearsAnswer : List User → Option (List ℕ) → List ℕ → Lexed 
 HearsAnswer users tag challenge lexed = Hears (heard_answer users tag challenge lexed)
 
 abbrev pub heard_by : Talking → ℕ → ℤ → Lexed → Next × Stage
-heard_by t nonce clock lexed = heard (listening t nonce clock) lexed
+heard_by t nonce clock lexed = response_to (listening t nonce clock) lexed
 
 -- what a call makes of a session's stage
 abbrev pub HearsOf : Next × Stage → Result Heard Memory → Talking → Talking → Vec ℕ Global → Vec ℕ Global → Type 0

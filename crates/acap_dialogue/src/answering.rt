@@ -1,6 +1,6 @@
 //! What is said to the machine's answers.
 
-ghost use Rattle.std.specs.Prelude.{◌≡◌, [], IfOk, OnOk, OnErr, false};
+ghost use Rattle.std.specs.Prelude.{◌≡◌, OnOk, OnErr, false};
 ghost use Rattle.acap_grammar.specs.Lent.{lent_tag};
 ghost use Rattle.acap_dialogue.specs.Running.{closes};
 ghost use Rattle.acap_dialogue.specs.Saying.{Hears};
@@ -29,8 +29,8 @@ fn say_reply(
     stage: &mut Stage,
     out: &mut Vec<u8>,
 ) -> Result<Heard, Memory>
-    ensures told { Hears (talk.replied tag.now outcome) result stage.old stage.new out.old out.new }
-    ensures open { OnErr result (closes (talk.replied tag.now outcome).0 ≡ false) }
+    ensures told { Hears (talk.command_said tag.now outcome) result stage.old stage.new out.old out.new }
+    ensures open { OnErr result (closes (talk.command_said tag.now outcome).0 ≡ false) }
 {
     match outcome {
         Ok(reply) => says(lend(tag), &reply.said, stage, out),
@@ -51,8 +51,8 @@ fn welcome(
     stage: &mut Stage,
     out: &mut Vec<u8>,
 ) -> Result<Heard, Memory>
-    ensures told { Hears (talk.welcomed outcome) result stage.old stage.new out.old out.new }
-    ensures open { OnErr result (closes (talk.welcomed outcome).0 ≡ false) }
+    ensures told { Hears (talk.welcome_said outcome) result stage.old stage.new out.old out.new }
+    ensures open { OnErr result (closes (talk.welcome_said outcome).0 ≡ false) }
 {
     match outcome {
         Ok(reply) => says(None, &reply.said, stage, out),
@@ -93,8 +93,8 @@ fn say_pending(
     stage: &mut Stage,
     out: &mut Vec<u8>,
 ) -> Result<Heard, Memory>
-    ensures told { Hears (talk.drained outcome) result stage.old stage.new out.old out.new }
-    ensures open { OnErr result (closes (talk.drained outcome).0 ≡ false) }
+    ensures told { Hears (talk.drain_said outcome) result stage.old stage.new out.old out.new }
+    ensures open { OnErr result (closes (talk.drain_said outcome).0 ≡ false) }
 {
     match outcome {
         Ok(reply) => says(None, &reply.said, stage, out),

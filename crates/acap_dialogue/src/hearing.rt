@@ -1,16 +1,13 @@
 //! What is said to what a session hears.
 
-ghost use Rattle.std.specs.Prelude.{◌≡◌, ◌++◌, [], None, IfOk, OnOk, OnErr};
-ghost use Rattle.acap_grammar.specs.Grammar.{command_of};
+ghost use Rattle.std.specs.Prelude.{◌≡◌, ◌++◌, None, IfOk, OnOk, OnErr};
 ghost use Rattle.acap_grammar.specs.Lent.{lent_tag};
-ghost use Rattle.acap_login.specs.Login.{challenge_of};
 ghost use Rattle.acap_lexer.specs.declared.lexed.Lexed.TheVariants.{Line};
 ghost use Rattle.acap_dialogue.specs.Hearing as hearing;
-ghost use Rattle.acap_dialogue.specs.Hearing.{challenges, closes, heard, opening, says};
+ghost use Rattle.acap_dialogue.specs.Hearing.{challenges, closes, response_to, opening, says};
 ghost use Rattle.acap_dialogue.specs.Saying.{Hears};
 ghost use Rattle.acap_dialogue.specs.Telling.{asks_by, command_by, HearsLogin};
 ghost use Rattle.acap_dialogue.specs.declared.heard.Heard.TheVariants as hears;
-ghost use Rattle.acap_dialogue.specs.declared.stage.Stage.TheVariants as stages;
 
 use crate::heard::Heard;
 use crate::listener::Listener;
@@ -165,14 +162,14 @@ fn tag_of(tokens: &Tokens) -> Option<&[u8]>
 }
 
 /// What is said to a whole line, or asked of the machine then.
-#[tactic(auto, unfolding(crate::specs::Hearing::heard, crate::specs::Hearing::heard_command))]
+#[tactic(auto, unfolding(crate::specs::Hearing::response_to, crate::specs::Hearing::heard_command))]
 pub(crate) fn hear_line(
     listener: &Listener,
     tokens: &Tokens,
     stage: &mut Stage,
     out: &mut Vec<u8>,
 ) -> Result<Heard, Memory>
-    ensures { Hears (heard listener.now (Line tokens.now)) result stage.old stage.new out.old out.new }
+    ensures { Hears (response_to listener.now (Line tokens.now)) result stage.old stage.new out.old out.new }
 {
     let tag = tag_of(tokens);
     if is_noop(listener.alloc, tokens) {
@@ -208,14 +205,14 @@ fn lend(tag: &Option<Tag>) -> Option<&[u8]>
 }
 
 /// What a session that awaits no answer says to an answer of its lexer, or what it asks the machine then.
-#[tactic(auto, unfolding(crate::specs::Hearing::heard))]
+#[tactic(auto, unfolding(crate::specs::Hearing::response_to))]
 pub(crate) fn hear(
     listener: &Listener,
     lexed: &Lexed,
     stage: &mut Stage,
     out: &mut Vec<u8>,
 ) -> Result<Heard, Memory>
-    ensures { Hears (heard listener.now lexed.now) result stage.old stage.new out.old out.new }
+    ensures { Hears (response_to listener.now lexed.now) result stage.old stage.new out.old out.new }
 {
     match lexed {
         Lexed::More => {

@@ -1,6 +1,6 @@
 //! What is said to the answer to a challenge.
 
-ghost use Rattle.std.specs.Prelude.{◌≡◌, OnOk, OnErr, IfOk};
+ghost use Rattle.std.specs.Prelude.{◌≡◌, IfOk};
 ghost use Rattle.acap_dialogue.specs.Hearing as hearing;
 ghost use Rattle.acap_dialogue.specs.Telling.{HearsAnswer, HearsLine, HearsString, HearsOne};
 

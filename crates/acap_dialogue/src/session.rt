@@ -5,9 +5,9 @@ ghost use Rattle.acap_dialogue.specs.Running.{closes};
 ghost use Rattle.acap_dialogue.specs.Saying as saying;
 ghost use Rattle.acap_dialogue.specs.Saying.{IfMore, IsCutOff, Makes};
 ghost use Rattle.acap_dialogue.specs.Telling.{HearsOf, heard_by, room_for, room_in, with_front};
-ghost use Rattle.acap_dialogue.specs.Session.{Awaits, answer_at, answered, drain_in, has_seat, heard_at};
+ghost use Rattle.acap_dialogue.specs.Session.{Awaits, answer_at, after_answer, drain_in, has_seat, heard_at};
 ghost use Rattle.acap_dialogue.specs.Session.{is_asked, is_closed, session_drain, session_next};
-ghost use Rattle.acap_dialogue.specs.Talking.{begun};
+ghost use Rattle.acap_dialogue.specs.Talking.{beginning};
 ghost use Rattle.acap_dialogue.specs.declared.stage.Stage.TheVariants as stages;
 
 use crate::answering::answer;
@@ -69,7 +69,7 @@ impl Model for Session {
 impl Session {
     /// A session at that host, of that user if there is one. Takes no memory.
     pub fn new(alloc: Global, host: Octets, user: Option<UserName>) -> Session
-        ensures { result ≡ begun host user }
+        ensures { result ≡ beginning host user }
     {
         Session {
             alloc,
@@ -213,9 +213,9 @@ impl Session {
     /// memory is refused the session is closed, and has the user that it had; the event stands, and its answer closes nothing.
     pub fn answer(&mut self, outcome: Result<Reply, Fault>) -> Result<Next, Memory>
         requires { is_asked self.old.stage ≡ true }
-        ensures ok { IfOk result (λ next. (next, self.new) ≡ answered self.old outcome) }
+        ensures ok { IfOk result (λ next. (next, self.new) ≡ after_answer self.old outcome) }
         ensures err { OnErr result (IsCutOff self.old self.new) }
-        ensures open { OnErr result (closes (answered self.old outcome).0 ≡ false) }
+        ensures open { OnErr result (closes (after_answer self.old outcome).0 ≡ false) }
     {
         let mut octets = Vec::new(self.alloc);
         let heard = self.reply(outcome, &mut octets)?;
@@ -223,15 +223,15 @@ impl Session {
     }
 
     /// The same, where the octets that are said are added to those that are lent.
-    #[tactic(auto, unfolding(crate::specs::Session::answered))]
+    #[tactic(auto, unfolding(crate::specs::Session::after_answer))]
     pub fn reply(
         &mut self,
         outcome: Result<Reply, Fault>,
         out: &mut Vec<u8>,
     ) -> Result<Heard, Memory>
         requires { is_asked self.old.stage ≡ true }
-        ensures makes { Makes (answered self.old outcome) result self.old self.new out.old out.new }
-        ensures open { OnErr result (closes (answered self.old outcome).0 ≡ false) }
+        ensures makes { Makes (after_answer self.old outcome) result self.old self.new out.old out.new }
+        ensures open { OnErr result (closes (after_answer self.old outcome).0 ≡ false) }
     {
         let stage = mem::replace(&mut self.stage, Stage::Closed);
         answer(stage, &mut self.user, outcome, &mut self.stage, out)

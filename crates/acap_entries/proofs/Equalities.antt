@@ -4,8 +4,7 @@ use Rattle.std.specs.Bool.{Decides}
 use Rattle.std.specs.Cmp.{first_so, second_so}
 use Rattle.std.specs.Cmp.Derive.{both_true}
 use Rattle.std.specs.Cmp.Lexicographic.{pointwise, pointwise_decides, bytes_decides}
-use Rattle.std.specs.FinMap.{FinMap, entries, same_entries_map}
-use Rattle.acap_entries.specs.Orders.{octets_cmp, octets_eq}
+use Rattle.acap_entries.specs.Orders.{octets_eq}
 use Rattle.acap_entries.specs.declared.cell.Cell.{Cell}
 use Rattle.acap_entries.specs.declared.cell.Cell.TheVariants.{Nil, Single, Multi}
 use Rattle.acap_entries.specs.declared.item.Item.{Item}
@@ -69,20 +68,3 @@ row_exact a b =
 
 pub rows_exact : (a b : List Row) → Decides (pointwise row.ghosts.eq a b) (a ≡ b)
 rows_exact = pointwise_decides row_exact
-
--- the entries of maps
-pub cell_entries_exact : (a b : List (List ℕ × Cell)) → Decides (pointwise (λ p q. octets_eq p.0 q.0 && cell.ghosts.eq p.1 q.1) a b) (a ≡ b)
-cell_entries_exact = pointwise_decides (pair_exact bytes_decides cell_exact)
-
-pub acl_entries_exact : (a b : List (List ℕ × List (List ℕ))) → Decides (pointwise (λ p q. octets_eq p.0 q.0 && pointwise octets_eq p.1 q.1) a b) (a ≡ b)
-acl_entries_exact = pointwise_decides (pair_exact bytes_decides values_exact)
-
--- maps are equal where their entries are
-map_exact : {X : Type 0} {E : List (List ℕ × X) → List (List ℕ × X) → Bool} → ((a b : List (List ℕ × X)) → Decides (E a b) (a ≡ b)) → (m n : FinMap octets_cmp X) → Decides (E (entries m) (entries n)) (m ≡ n)
-map_exact h m n = (λ e. same_entries_map m n ((h _ _).0 e), λ e. (h _ _).1 (ap entries e))
-
-pub cell_map_exact : (m n : FinMap octets_cmp Cell) → Decides (pointwise (λ p q. octets_eq p.0 q.0 && cell.ghosts.eq p.1 q.1) (entries m) (entries n)) (m ≡ n)
-cell_map_exact = map_exact cell_entries_exact
-
-pub acl_map_exact : (m n : FinMap octets_cmp (List (List ℕ))) → Decides (pointwise (λ p q. octets_eq p.0 q.0 && pointwise octets_eq p.1 q.1) (entries m) (entries n)) (m ≡ n)
-acl_map_exact = map_exact acl_entries_exact

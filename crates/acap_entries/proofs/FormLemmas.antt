@@ -11,7 +11,7 @@ use Rattle.std.proofs.Math.ListN.{take-append-drop}
 use Rattle.acap_entries.specs.FullPaths.{IsSplit, IsWellFormed}
 use Rattle.acap_entries.specs.Laws.{FormLaw}
 use Rattle.acap_entries.specs.Homes.{for_user, is_home, second_at}
-use Rattle.acap_entries.specs.Names.{slash, nul, dot, is_slash, has, begins_with, ends_with, closed, components, inside, is_component, is_dataset, is_closed_dataset, is_dataset_argument, is_entry_name, is_identity, is_path, is_user_name, dataset_of, name_of, own_entry}
+use Rattle.acap_entries.specs.Names.{slash, nul, dot, is_slash, has, begins_with, ends_with, with_slash, components, inside, is_component, is_dataset, is_closed_dataset, is_dataset_argument, is_entry_name, is_identity, is_path, is_user_name, dataset_of, name_of, own_entry}
 use Rattle.acap_entries.specs.declared.path.Path.{Path}
 use Rattle.acap_entries.proofs.PlainNames.{plain_utf8}
 use Rattle.acap_entries.proofs.OwnLaws.{own_entry_law}
@@ -30,10 +30,6 @@ and_true a b p q = ap (λ v. v && b) p ∙ q
 and_unit : (a : Bool) → a && true ≡ a
 and_unit true = refl
 and_unit false = refl
-
-and_assoc : (a b c : Bool) → (a && b) && c ≡ a && (b && c)
-and_assoc true b c = refl
-and_assoc false b c = refl
 
 not_true : (b : Bool) → not b ≡ true → b ≡ false
 not_true true e = cc
@@ -55,9 +51,6 @@ but_last (x ∷ y ∷ ys) = x ∷ but_last (y ∷ ys)
 steps : List ℕ → Bool
 steps [] = true
 steps (x ∷ xs) = all_parts (but_last (x ∷ xs))
-
-onto_joined : (x : ℕ) (a : List ℕ) (parts more : List (List ℕ)) → onto_first x ((a ∷ parts) ++ more) ≡ onto_first x (a ∷ parts) ++ more
-onto_joined x a parts more = refl
 
 split_some : (p : ℕ → Bool) (xs : List ℕ) → ((a : List ℕ) × (parts : List (List ℕ)) × (slice_split p xs ≡ a ∷ parts))
 split_some p [] = ([], [], refl)
@@ -325,7 +318,7 @@ open_parts (y ∷ ys) e h =
     sym (ap (λ c. list_all is_component (cond c [] (slice_split is_slash (inside (slash ∷ y ∷ ys))))) long ∙ ap (λ c. list_all is_component (slice_split is_slash (drop 1 (cond c (take (suc (suc (length ys)) - 1) (slash ∷ y ∷ ys)) (slash ∷ y ∷ ys))))) h)
     ∙ (both (begins_with slash (slash ∷ y ∷ ys)) _ e).1
 
-pub read_closed : (text : List ℕ) → is_dataset text ≡ true → is_closed_dataset (closed text) ≡ true
+pub read_closed : (text : List ℕ) → is_dataset text ≡ true → is_closed_dataset (with_slash text) ≡ true
 read_closed text e = elim (ends_with slash text) as (λ b. ends_with slash text ≡ b → is_closed_dataset (cond b text (text ++ slash ∷ [])) ≡ true) [
   | true ↦ λ h. whole_closed text e h
   | false ↦ λ h.

@@ -8,8 +8,8 @@ use Rattle.std.specs.List.{insert, remove, list_all}
 use Rattle.std.specs.FinMap.{find, put, is_sorted}
 use Rattle.std.specs.FinMap.Entries.{by_order, below_all}
 use Rattle.acap_entries.specs.Sorted.{place, is_tied, without, found, entry_of, put_in, InOrder}
-use Rattle.acap_entries.specs.Leaves.{joined, before, is_filled, AreFilled, IsAmong, IsBehind}
-use Rattle.std.proofs.lemmas.List.{get_or-append-add, get_or_default, drop-append-le}
+use Rattle.acap_entries.specs.Leaves.{contents, before, is_filled, AreFilled, IsAmong, IsBehind}
+use Rattle.std.proofs.lemmas.List.{get_or-append-add, get_or_default}
 use Rattle.std.proofs.Math.Seq.{drop-append_seam, drop-drop}
 use Rattle.std.proofs.Math.ListN.{get_or-append}
 use borrow.Author.Tests.{eqb-true}
@@ -30,36 +30,36 @@ both false b p q = absurd p
 
 -- ---- where a leaf lies among all
 
-pub joined_at : {A : Type 0} (ls : List (List A)) (i : ℕ) → i < length ls → joined ls ≡ joined (take i ls) ++ (get_or ls i [] ++ joined (drop (suc i) ls))
+pub joined_at : {A : Type 0} (ls : List (List A)) (i : ℕ) → i < length ls → contents ls ≡ contents (take i ls) ++ (get_or ls i [] ++ contents (drop (suc i) ls))
 joined_at [] i h = absurd (omega arith)
 joined_at (x ∷ ls) zero h = refl
-joined_at {A} (x ∷ ls) (suc i) h = ap (λ (t : List A). x ++ t) (joined_at ls i (omega arith)) ∙ sym (append_assoc x (joined (take i ls)) _)
+joined_at {A} (x ∷ ls) (suc i) h = ap (λ (t : List A). x ++ t) (joined_at ls i (omega arith)) ∙ sym (append_assoc x (contents (take i ls)) _)
 
-pub joined_set : {A : Type 0} (ls : List (List A)) (i : ℕ) (y : List A) → i < length ls → joined (set ls i y) ≡ joined (take i ls) ++ (y ++ joined (drop (suc i) ls))
+pub joined_set : {A : Type 0} (ls : List (List A)) (i : ℕ) (y : List A) → i < length ls → contents (set ls i y) ≡ contents (take i ls) ++ (y ++ contents (drop (suc i) ls))
 joined_set [] i y h = absurd (omega arith)
 joined_set (x ∷ ls) zero y h = refl
-joined_set {A} (x ∷ ls) (suc i) y h = ap (λ (t : List A). x ++ t) (joined_set ls i y (omega arith)) ∙ sym (append_assoc x (joined (take i ls)) _)
+joined_set {A} (x ∷ ls) (suc i) y h = ap (λ (t : List A). x ++ t) (joined_set ls i y (omega arith)) ∙ sym (append_assoc x (contents (take i ls)) _)
 
 before_suc : {A : Type 0} (ls : List (List A)) (i : ℕ) → i < length ls → before ls (suc i) ≡ before ls i + length (get_or ls i [])
 before_suc [] i h = absurd (omega arith)
 before_suc (x ∷ ls) zero h = omega (arith, length-append x [])
-before_suc (x ∷ ls) (suc i) h = omega (arith, before_suc ls i (omega arith), length-append x (joined (take i ls)), length-append x (joined (take (suc i) ls)))
+before_suc (x ∷ ls) (suc i) h = omega (arith, before_suc ls i (omega arith), length-append x (contents (take i ls)), length-append x (contents (take (suc i) ls)))
 
 pub before_next : {A : Type 0} (ls : List (List A)) (i : ℕ) → i < length ls → before ls (i + 1) ≡ before ls i + length (get_or ls i [])
 before_next ls i h = let e : i + 1 ≡ suc i = omega arith in rw e (before_suc ls i h)
 
-pub before_all : {A : Type 0} (ls : List (List A)) (i : ℕ) → length ls ≤ i → before ls i ≡ length (joined ls)
+pub before_all : {A : Type 0} (ls : List (List A)) (i : ℕ) → length ls ≤ i → before ls i ≡ length (contents ls)
 before_all [] zero h = refl
 before_all [] (suc i) h = refl
 before_all (x ∷ ls) zero h = absurd (omega arith)
-before_all (x ∷ ls) (suc i) h = omega (arith, before_all ls i (omega arith), length-append x (joined (take i ls)), length-append x (joined ls))
+before_all (x ∷ ls) (suc i) h = omega (arith, before_all ls i (omega arith), length-append x (contents (take i ls)), length-append x (contents ls))
 
 -- how many entries there are once a leaf is another
-pub joined_set_length : {A : Type 0} (ls : List (List A)) (i : ℕ) (y : List A) → i < length ls → length (joined (set ls i y)) + length (get_or ls i []) ≡ length (joined ls) + length y
+pub joined_set_length : {A : Type 0} (ls : List (List A)) (i : ℕ) (y : List A) → i < length ls → length (contents (set ls i y)) + length (get_or ls i []) ≡ length (contents ls) + length y
 joined_set_length ls i y h =
-    let a = joined (take i ls) in
+    let a = contents (take i ls) in
     let b = get_or ls i [] in
-    let c = joined (drop (suc i) ls) in
+    let c = contents (drop (suc i) ls) in
     omega (arith, ap length (joined_set ls i y h), ap length (joined_at ls i h), length-append a (y ++ c), length-append y c, length-append a (b ++ c), length-append b c)
 
 -- a leaf that was looked at
@@ -110,18 +110,18 @@ filled_insert ls i y h lt = record { each = yes _ (insert_filled ls i y (subst T
 
 -- ---- a leaf that is taken apart, or away
 
-pub joined_insert : {A : Type 0} (ls : List (List A)) (i : ℕ) (y : List A) → i ≤ length ls → joined (insert ls i y) ≡ joined (take i ls) ++ (y ++ joined (drop i ls))
+pub joined_insert : {A : Type 0} (ls : List (List A)) (i : ℕ) (y : List A) → i ≤ length ls → contents (insert ls i y) ≡ contents (take i ls) ++ (y ++ contents (drop i ls))
 joined_insert ls zero y h = refl
 joined_insert [] (suc i) y h = absurd (omega arith)
-joined_insert {A} (x ∷ ls) (suc i) y h = ap (λ (t : List A). x ++ t) (joined_insert ls i y (omega arith)) ∙ sym (append_assoc x (joined (take i ls)) _)
+joined_insert {A} (x ∷ ls) (suc i) y h = ap (λ (t : List A). x ++ t) (joined_insert ls i y (omega arith)) ∙ sym (append_assoc x (contents (take i ls)) _)
 
 -- a leaf gives its later entries to one right behind it
-split_suc : {A : Type 0} (ls : List (List A)) (i : ℕ) (earlier later : List A) → i < length ls → earlier ++ later ≡ get_or ls i [] → joined (insert (set ls i earlier) (suc i) later) ≡ joined ls
+split_suc : {A : Type 0} (ls : List (List A)) (i : ℕ) (earlier later : List A) → i < length ls → earlier ++ later ≡ get_or ls i [] → contents (insert (set ls i earlier) (suc i) later) ≡ contents ls
 split_suc [] i earlier later h e = absurd (omega arith)
-split_suc {A} (x ∷ ls) zero earlier later h e = sym (append_assoc earlier later (joined ls)) ∙ ap (λ (t : List A). t ++ joined ls) e
+split_suc {A} (x ∷ ls) zero earlier later h e = sym (append_assoc earlier later (contents ls)) ∙ ap (λ (t : List A). t ++ contents ls) e
 split_suc {A} (x ∷ ls) (suc i) earlier later h e = ap (λ (t : List A). x ++ t) (split_suc ls i earlier later (omega arith) e)
 
-pub joined_split : {A : Type 0} (ls : List (List A)) (i : ℕ) (earlier later : List A) → i < length ls → earlier ++ later ≡ get_or ls i [] → joined (insert (set ls i earlier) (i + 1) later) ≡ joined ls
+pub joined_split : {A : Type 0} (ls : List (List A)) (i : ℕ) (earlier later : List A) → i < length ls → earlier ++ later ≡ get_or ls i [] → contents (insert (set ls i earlier) (i + 1) later) ≡ contents ls
 joined_split ls i earlier later h e = let next : i + 1 ≡ suc i = omega arith in rw next (split_suc ls i earlier later h e)
 
 whole_behind : {A : Type 0} (es : List A) (x : A) → take (length es) es ++ x ∷ drop (length es) es ≡ es ++ x ∷ []
@@ -133,13 +133,13 @@ whole_behind {A} (y ∷ es) x = ap (λ (t : List A). y ∷ t) (whole_behind es x
 first_behind : {A : Type 0} (a b c : List A) (d : A) → 0 < length b → get_or (a ++ (b ++ c)) (length a) d ≡ get_or b 0 d
 first_behind a b c d h = let e : length a ≡ length a + 0 = omega arith in rw e (get_or-append-add a (b ++ c) 0 d ∙ get_or-append b c d 0 h)
 
-pub first_at : {A : Type 0} (ls : List (List A)) (i : ℕ) (d : A) → i < length ls → 0 < length (get_or ls i []) → get_or (joined ls) (before ls i) d ≡ get_or (get_or ls i []) 0 d
-first_at {A} ls i d h filled = ap (λ (es : List A). get_or es (before ls i) d) (joined_at ls i h) ∙ first_behind (joined (take i ls)) (get_or ls i []) (joined (drop (suc i) ls)) d filled
+pub first_at : {A : Type 0} (ls : List (List A)) (i : ℕ) (d : A) → i < length ls → 0 < length (get_or ls i []) → get_or (contents ls) (before ls i) d ≡ get_or (get_or ls i []) 0 d
+first_at {A} ls i d h filled = ap (λ (es : List A). get_or es (before ls i) d) (joined_at ls i h) ∙ first_behind (contents (take i ls)) (get_or ls i []) (contents (drop (suc i) ls)) d filled
 
-pub before_lt : {A : Type 0} (ls : List (List A)) (i : ℕ) → i < length ls → 0 < length (get_or ls i []) → before ls i < length (joined ls)
+pub before_lt : {A : Type 0} (ls : List (List A)) (i : ℕ) → i < length ls → 0 < length (get_or ls i []) → before ls i < length (contents ls)
 before_lt ls i h filled =
     let e = ap length (joined_at ls i h) in
-    omega (arith, e, length-append (joined (take i ls)) (get_or ls i [] ++ joined (drop (suc i) ls)), length-append (get_or ls i []) (joined (drop (suc i) ls)))
+    omega (arith, e, length-append (contents (take i ls)) (get_or ls i [] ++ contents (drop (suc i) ls)), length-append (get_or ls i []) (contents (drop (suc i) ls)))
 
 untied : (b : Bool) → (b ≡ true → ⊥) → b ≡ false
 untied true h = absurd (h refl)
@@ -148,8 +148,8 @@ untied false h = refl
 -- what a look at the first entry of a leaf tells
 pub record IsFirst {A : Type 0} (ls : List (List A)) (i : ℕ) (x : A) : Type 0 where
   pub within : i < length ls
-  pub index : before ls i < length (joined ls)
-  pub read : x ≡ get_or (joined ls) (before ls i) x
+  pub index : before ls i < length (contents ls)
+  pub read : x ≡ get_or (contents ls) (before ls i) x
 
 pub is_first : {A : Type 0} (ls : List (List A)) (i : ℕ) (leaf : List A) (x : A) → AreFilled ls → i < length ls → leaf ≡ get_or ls i leaf → x ≡ get_or leaf 0 x → IsFirst ls i x
 is_first {A} ls i leaf x f lt is read =
@@ -162,16 +162,16 @@ is_first {A} ls i leaf x f lt is read =
     }
 
 module _ {K X : Type 0} (R : K → K → Ordering) (o : IsTotalOrder R) where
-  pub leaf_less : (k : K) (ls : List (List (K × X))) (i : ℕ) (x : K × X) → InOrder R (joined ls) → IsFirst ls i x → R k x.0 ≡ Less → (place R k (joined ls) ≤ before ls i) × (is_tied R k (joined ls) ≡ true → place R k (joined ls) < before ls i)
-  leaf_less k ls i x h at e = less_at R o k (joined ls) (before ls i) x h at.index (ap (λ (y : K × X). R k y.0) (sym at.read) ∙ e)
+  pub leaf_less : (k : K) (ls : List (List (K × X))) (i : ℕ) (x : K × X) → InOrder R (contents ls) → IsFirst ls i x → R k x.0 ≡ Less → (place R k (contents ls) ≤ before ls i) × (is_tied R k (contents ls) ≡ true → place R k (contents ls) < before ls i)
+  leaf_less k ls i x h at e = less_at R o k (contents ls) (before ls i) x h at.index (ap (λ (y : K × X). R k y.0) (sym at.read) ∙ e)
 
-  leaf_equal : (k : K) (ls : List (List (K × X))) (i : ℕ) (x : K × X) → InOrder R (joined ls) → IsFirst ls i x → R k x.0 ≡ Equal → before ls i ≤ place R k (joined ls)
-  leaf_equal k ls i x h at e = let found = equal_at R o k (joined ls) (before ls i) x h at.index (ap (λ (y : K × X). R k y.0) (sym at.read) ∙ e) in omega (arith, found.0)
+  leaf_equal : (k : K) (ls : List (List (K × X))) (i : ℕ) (x : K × X) → InOrder R (contents ls) → IsFirst ls i x → R k x.0 ≡ Equal → before ls i ≤ place R k (contents ls)
+  leaf_equal k ls i x h at e = let found = equal_at R o k (contents ls) (before ls i) x h at.index (ap (λ (y : K × X). R k y.0) (sym at.read) ∙ e) in omega (arith, found.0)
 
-  leaf_greater : (k : K) (ls : List (List (K × X))) (i : ℕ) (x : K × X) → InOrder R (joined ls) → IsFirst ls i x → R k x.0 ≡ Greater → before ls i ≤ place R k (joined ls)
-  leaf_greater k ls i x h at e = let above = greater_at R o k (joined ls) (before ls i) x h at.index (ap (λ (y : K × X). R k y.0) (sym at.read) ∙ e) in omega (arith, above)
+  leaf_greater : (k : K) (ls : List (List (K × X))) (i : ℕ) (x : K × X) → InOrder R (contents ls) → IsFirst ls i x → R k x.0 ≡ Greater → before ls i ≤ place R k (contents ls)
+  leaf_greater k ls i x h at e = let above = greater_at R o k (contents ls) (before ls i) x h at.index (ap (λ (y : K × X). R k y.0) (sym at.read) ∙ e) in omega (arith, above)
 
-  pub leaf_from : (k : K) (ls : List (List (K × X))) (i : ℕ) (x : K × X) → InOrder R (joined ls) → IsFirst ls i x → (R k x.0 ≡ Equal) ⊎ (R k x.0 ≡ Greater) → before ls i ≤ place R k (joined ls)
+  pub leaf_from : (k : K) (ls : List (List (K × X))) (i : ℕ) (x : K × X) → InOrder R (contents ls) → IsFirst ls i x → (R k x.0 ≡ Equal) ⊎ (R k x.0 ≡ Greater) → before ls i ≤ place R k (contents ls)
   leaf_from k ls i x h at (inl e) = leaf_equal k ls i x h at e
   leaf_from k ls i x h at (inr e) = leaf_greater k ls i x h at e
 
@@ -234,12 +234,12 @@ module _ {K X : Type 0} (R : K → K → Ordering) where
     until : place R k (b ++ c) ≤ length b
     tied : is_tied R k (b ++ c) ≡ true → place R k (b ++ c) < length b
 
-  lies : (k : K) (ls : List (List (K × X))) (i : ℕ) → IsAmong R k ls i (i + 1) → Lies k (joined (take i ls)) (get_or ls i []) (joined (drop (suc i) ls))
+  lies : (k : K) (ls : List (List (K × X))) (i : ℕ) → IsAmong R k ls i (i + 1) → Lies k (contents (take i ls)) (get_or ls i []) (contents (drop (suc i) ls))
   lies k ls i h =
       let at : i < length ls = omega (arith, h.within) in
       let e = joined_at ls i at in
       let from = subst (λ (es : List (K × X)). before ls i ≤ place R k es) e h.from in
-      let moved = place_past k (joined (take i ls)) (get_or ls i [] ++ joined (drop (suc i) ls)) from in
+      let moved = place_past k (contents (take i ls)) (get_or ls i [] ++ contents (drop (suc i) ls)) from in
       let next = before_next ls i at in
       let whole = ap (λ (es : List (K × X)). place R k es) e in
       record {
@@ -248,14 +248,14 @@ module _ {K X : Type 0} (R : K → K → Ordering) where
         tied = λ t. omega (arith, moved.0, next, whole, h.tied (ap (λ (es : List (K × X)). is_tied R k es) e ∙ moved.1 ∙ t));
       }
 
-  pub put_in_leaf : (k : K) (v : X) (ls : List (List (K × X))) (i : ℕ) → IsAmong R k ls i (i + 1) → joined (set ls i (put_in R k v (get_or ls i []))) ≡ put_in R k v (joined ls)
+  pub put_in_leaf : (k : K) (v : X) (ls : List (List (K × X))) (i : ℕ) → IsAmong R k ls i (i + 1) → contents (set ls i (put_in R k v (get_or ls i []))) ≡ put_in R k v (contents ls)
   unfolding put_in
   put_in_leaf k v ls i h =
       let at : i < length ls = omega (arith, h.within) in
       let l = lies k ls i h in
       joined_set ls i _ at
-      ∙ ap (λ (t : List (K × X)). joined (take i ls) ++ t) (sym (put_within k v (get_or ls i []) (joined (drop (suc i) ls)) l.until l.tied))
-      ∙ sym (put_past k v (joined (take i ls)) (get_or ls i [] ++ joined (drop (suc i) ls)) l.from)
+      ∙ ap (λ (t : List (K × X)). contents (take i ls) ++ t) (sym (put_within k v (get_or ls i []) (contents (drop (suc i) ls)) l.until l.tied))
+      ∙ sym (put_past k v (contents (take i ls)) (get_or ls i [] ++ contents (drop (suc i) ls)) l.from)
       ∙ ap (λ (es : List (K × X)). put R k v es) (sym (joined_at ls i at))
 
   pub put_in_behind : (k : K) (v : X) (es : List (K × X)) → IsBehind R k es → put_in R k v es ≡ es ++ (k, v) ∷ []
@@ -269,13 +269,13 @@ module _ {K X : Type 0} (R : K → K → Ordering) where
   behind_short k (x ∷ es) h = absurd (omega arith)
 
   -- a key behind the last leaf's entries is behind all
-  pub behind_all : (k : K) (ls : List (List (K × X))) (i : ℕ) → i + 1 ≡ length ls → IsAmong R k ls i (i + 1) → IsBehind R k (get_or ls i []) → IsBehind R k (joined ls)
+  pub behind_all : (k : K) (ls : List (List (K × X))) (i : ℕ) → i + 1 ≡ length ls → IsAmong R k ls i (i + 1) → IsBehind R k (get_or ls i []) → IsBehind R k (contents ls)
   behind_all k ls i last h b =
       let at : i < length ls = omega arith in
       let l = lies k ls i h in
       let e = joined_at ls i at in
-      let moved = place_past k (joined (take i ls)) (get_or ls i [] ++ joined (drop (suc i) ls)) l.from in
-      let inside = place_within k (get_or ls i []) (joined (drop (suc i) ls)) l.until l.tied in
+      let moved = place_past k (contents (take i ls)) (get_or ls i [] ++ contents (drop (suc i) ls)) l.from in
+      let inside = place_within k (get_or ls i []) (contents (drop (suc i) ls)) l.until l.tied in
       let all = before_all ls (i + 1) (omega arith) in
       let next = before_next ls i at in
       record {
@@ -290,8 +290,8 @@ module _ {K X : Type 0} (R : K → K → Ordering) where
         rise = some;
         within = omega arith;
         from = omega arith;
-        until = omega (arith, all, place_le R k (joined ls));
-        tied = λ t. omega (arith, all, tied_lt R k (joined ls) t);
+        until = omega (arith, all, place_le R k (contents ls));
+        tied = λ t. omega (arith, all, tied_lt R k (contents ls) t);
       }
 
 -- ---- the entries of a leaf are in order, and answer for its keys
@@ -309,10 +309,10 @@ sorted_rest R [] r h = h
 sorted_rest R (x ∷ a) r h = sorted_rest R a r (second _ _ h)
 
 module _ {K X : Type 0} (R : K → K → Ordering) where
-  pub leaf_in_order : (ls : List (List (K × X))) (i : ℕ) → InOrder R (joined ls) → i < length ls → InOrder R (get_or ls i [])
+  pub leaf_in_order : (ls : List (List (K × X))) (i : ℕ) → InOrder R (contents ls) → i < length ls → InOrder R (get_or ls i [])
   leaf_in_order ls i h lt =
       let whole = subst (λ (es : List (K × X)). T (is_sorted R es)) (joined_at ls i lt) (subst T (sym h.rises) tt) in
-      record { rises = yes _ (sorted_front R (get_or ls i []) _ (sorted_rest R (joined (take i ls)) _ whole)) }
+      record { rises = yes _ (sorted_front R (get_or ls i []) _ (sorted_rest R (contents (take i ls)) _ whole)) }
 
   put_grows : (k : K) (v : X) (es : List (K × X)) → (length es ≤ length (put R k v es)) × (0 < length (put R k v es))
   put_grows k v [] = (omega arith, omega arith)
@@ -347,14 +347,14 @@ module _ {K X : Type 0} (R : K → K → Ordering) where
       | Greater ↦ λ e h t. find_within k b c (second _ _ s) (omega arith) (λ u. omega (arith, t u))
     ] refl
 
-    pub found_in_leaf : (k : K) (ls : List (List (K × X))) (i : ℕ) → InOrder R (joined ls) → IsAmong R k ls i (i + 1) → found R k (get_or ls i []) ≡ found R k (joined ls)
+    pub found_in_leaf : (k : K) (ls : List (List (K × X))) (i : ℕ) → InOrder R (contents ls) → IsAmong R k ls i (i + 1) → found R k (get_or ls i []) ≡ found R k (contents ls)
     unfolding found
     found_in_leaf k ls i h among =
         let at : i < length ls = omega (arith, among.within) in
         let l = lies R k ls i among in
         let e = joined_at ls i at in
-        let rest = sorted_rest R (joined (take i ls)) _ (subst (λ (es : List (K × X)). T (is_sorted R es)) e (subst T (sym h.rises) tt)) in
-        sym (ap (λ (es : List (K × X)). find R k es) e ∙ find_past k (joined (take i ls)) _ l.from ∙ find_within k (get_or ls i []) (joined (drop (suc i) ls)) rest l.until l.tied)
+        let rest = sorted_rest R (contents (take i ls)) _ (subst (λ (es : List (K × X)). T (is_sorted R es)) e (subst T (sym h.rises) tt)) in
+        sym (ap (λ (es : List (K × X)). find R k es) e ∙ find_past k (contents (take i ls)) _ l.from ∙ find_within k (get_or ls i []) (contents (drop (suc i) ls)) rest l.until l.tied)
 
     -- the entry of a key
     entry_past : (k : K) (a r : List (K × X)) → length a ≤ place R k (a ++ r) → entry_of R k (a ++ r) ≡ entry_of R k r
@@ -378,13 +378,13 @@ module _ {K X : Type 0} (R : K → K → Ordering) where
       | Greater ↦ λ e h t. entry_within k b c (second _ _ s) (omega arith) (λ u. omega (arith, t u))
     ] refl
 
-    pub entry_in_leaf : (k : K) (ls : List (List (K × X))) (i : ℕ) → InOrder R (joined ls) → IsAmong R k ls i (i + 1) → entry_of R k (get_or ls i []) ≡ entry_of R k (joined ls)
+    pub entry_in_leaf : (k : K) (ls : List (List (K × X))) (i : ℕ) → InOrder R (contents ls) → IsAmong R k ls i (i + 1) → entry_of R k (get_or ls i []) ≡ entry_of R k (contents ls)
     entry_in_leaf k ls i h among =
         let at : i < length ls = omega (arith, among.within) in
         let l = lies R k ls i among in
         let e = joined_at ls i at in
-        let rest = sorted_rest R (joined (take i ls)) _ (subst (λ (es : List (K × X)). T (is_sorted R es)) e (subst T (sym h.rises) tt)) in
-        sym (ap (λ (es : List (K × X)). entry_of R k es) e ∙ entry_past k (joined (take i ls)) _ l.from ∙ entry_within k (get_or ls i []) (joined (drop (suc i) ls)) rest l.until l.tied)
+        let rest = sorted_rest R (contents (take i ls)) _ (subst (λ (es : List (K × X)). T (is_sorted R es)) e (subst T (sym h.rises) tt)) in
+        sym (ap (λ (es : List (K × X)). entry_of R k es) e ∙ entry_past k (contents (take i ls)) _ l.from ∙ entry_within k (get_or ls i []) (contents (drop (suc i) ls)) rest l.until l.tied)
 
     -- what stays when a key is taken out
     without_past : (k : K) (a r : List (K × X)) → length a ≤ place R k (a ++ r) → without R k (a ++ r) ≡ a ++ without R k r
@@ -408,15 +408,15 @@ module _ {K X : Type 0} (R : K → K → Ordering) where
       | Greater ↦ λ e h t. ap (λ (u : List (K × X)). x ∷ u) (without_within k b c (second _ _ s) (omega arith) (λ v. omega (arith, t v)))
     ] refl
 
-    pub without_in_leaf : (k : K) (ls : List (List (K × X))) (i : ℕ) → InOrder R (joined ls) → IsAmong R k ls i (i + 1) → joined (set ls i (without R k (get_or ls i []))) ≡ without R k (joined ls)
+    pub without_in_leaf : (k : K) (ls : List (List (K × X))) (i : ℕ) → InOrder R (contents ls) → IsAmong R k ls i (i + 1) → contents (set ls i (without R k (get_or ls i []))) ≡ without R k (contents ls)
     without_in_leaf k ls i h among =
         let at : i < length ls = omega (arith, among.within) in
         let l = lies R k ls i among in
         let e = joined_at ls i at in
-        let rest = sorted_rest R (joined (take i ls)) _ (subst (λ (es : List (K × X)). T (is_sorted R es)) e (subst T (sym h.rises) tt)) in
+        let rest = sorted_rest R (contents (take i ls)) _ (subst (λ (es : List (K × X)). T (is_sorted R es)) e (subst T (sym h.rises) tt)) in
         joined_set ls i _ at
-        ∙ ap (λ (t : List (K × X)). joined (take i ls) ++ t) (sym (without_within k (get_or ls i []) (joined (drop (suc i) ls)) rest l.until l.tied))
-        ∙ sym (without_past k (joined (take i ls)) (get_or ls i [] ++ joined (drop (suc i) ls)) l.from)
+        ∙ ap (λ (t : List (K × X)). contents (take i ls) ++ t) (sym (without_within k (get_or ls i []) (contents (drop (suc i) ls)) rest l.until l.tied))
+        ∙ sym (without_past k (contents (take i ls)) (get_or ls i [] ++ contents (drop (suc i) ls)) l.from)
         ∙ ap (λ (es : List (K × X)). without R k es) (sym e)
 
 -- a leaf that is split leaves none empty
@@ -427,19 +427,19 @@ split_filled ls i h lt many =
     let rest : length leaf / 2 < length leaf = omega arith in
     filled_insert (set ls i (take (length leaf / 2) leaf)) (i + 1) _ (filled_set ls i _ h (omega (arith, length-take (length leaf / 2) leaf))) (omega (arith, length-drop (length leaf / 2) leaf))
 
-pub joined_push : {A : Type 0} (ls : List (List A)) (y : List A) → joined (ls ++ y ∷ []) ≡ joined ls ++ y
+pub joined_push : {A : Type 0} (ls : List (List A)) (y : List A) → contents (ls ++ y ∷ []) ≡ contents ls ++ y
 joined_push [] y = append-nil y
-joined_push {A} (x ∷ ls) y = ap (λ (t : List A). x ++ t) (joined_push ls y) ∙ sym (append_assoc x (joined ls) y)
+joined_push {A} (x ∷ ls) y = ap (λ (t : List A). x ++ t) (joined_push ls y) ∙ sym (append_assoc x (contents ls) y)
 
 pub push_filled : {A : Type 0} (ls : List (List A)) (y : List A) → AreFilled ls → 0 < length y → AreFilled (ls ++ y ∷ [])
 push_filled ls y h lt = subst AreFilled (whole_behind ls y) (filled_insert ls (length ls) y h lt)
 
-pub found_none : {K X : Type 0} (R : K → K → Ordering) (k : K) (ls : List (List (K × X))) → true ≡ (length ls == 0) → None ≡ found R k (joined ls)
+pub found_none : {K X : Type 0} (R : K → K → Ordering) (k : K) (ls : List (List (K × X))) → true ≡ (length ls == 0) → None ≡ found R k (contents ls)
 unfolding found
 found_none R k [] h = refl
 found_none R k (x ∷ ls) h = let none = eqb-true (suc (length ls)) 0 (sym h) in absurd (omega (arith, none))
 
-pub entry_of_none : {K X : Type 0} (R : K → K → Ordering) (k : K) (ls : List (List (K × X))) → length ls ≡ 0 → None ≡ entry_of R k (joined ls)
+pub entry_of_none : {K X : Type 0} (R : K → K → Ordering) (k : K) (ls : List (List (K × X))) → length ls ≡ 0 → None ≡ entry_of R k (contents ls)
 unfolding entry_of
 entry_of_none R k [] h = refl
 entry_of_none R k (x ∷ ls) h = absurd (omega arith)
@@ -453,17 +453,17 @@ none_from None P Q f h = f h
 none_from (Some a) P Q f h = tt
 
 -- an entry that is put behind the last leaf's
-all_but_none : {A : Type 0} (ls : List (List A)) → joined (drop (length ls) ls) ≡ []
+all_but_none : {A : Type 0} (ls : List (List A)) → contents (drop (length ls) ls) ≡ []
 all_but_none [] = refl
 all_but_none (x ∷ ls) = all_but_none ls
 
-pub joined_last : {A : Type 0} (ls : List (List A)) (i : ℕ) (more : List A) → i + 1 ≡ length ls → joined (set ls i (get_or ls i [] ++ more)) ≡ joined ls ++ more
+pub joined_last : {A : Type 0} (ls : List (List A)) (i : ℕ) (more : List A) → i + 1 ≡ length ls → contents (set ls i (get_or ls i [] ++ more)) ≡ contents ls ++ more
 joined_last {A} ls i more last =
     let at : i < length ls = omega arith in
-    let a = joined (take i ls) in
+    let a = contents (take i ls) in
     let b = get_or ls i [] in
     let next : suc i ≡ length ls = omega arith in
-    let none : joined (drop (suc i) ls) ≡ [] = ap (λ n. joined (drop n ls)) next ∙ all_but_none ls in
+    let none : contents (drop (suc i) ls) ≡ [] = ap (λ n. contents (drop n ls)) next ∙ all_but_none ls in
     joined_set ls i _ at
     ∙ ap (λ (c : List A). a ++ ((b ++ more) ++ c)) none ∙ ap (λ (t : List A). a ++ t) (append-nil (b ++ more))
     ∙ sym (append_assoc a b more)
@@ -475,7 +475,7 @@ pub filled_last : {A : Type 0} (ls : List (List A)) (i : ℕ) (leaf : List A) (x
 filled_last ls i leaf x h = filled_set ls i _ h (omega (arith, length-append leaf (x ∷ [])))
 
 -- a leaf that has lost its last entry goes
-pub joined_emptied : {A : Type 0} (ls : List (List A)) (i : ℕ) (y : List A) → i < length ls → length y ≡ 0 → joined (remove (set ls i y) i) ≡ joined (set ls i y)
+pub joined_emptied : {A : Type 0} (ls : List (List A)) (i : ℕ) (y : List A) → i < length ls → length y ≡ 0 → contents (remove (set ls i y) i) ≡ contents (set ls i y)
 joined_emptied [] i y lt none = absurd (omega arith)
 joined_emptied (x ∷ ls) zero [] lt none = refl
 joined_emptied (x ∷ ls) zero (z ∷ y) lt none = absurd (omega arith)
@@ -494,7 +494,7 @@ pub positive_if : (n : ℕ) → (n ≡ 0 → ⊥) → 0 < n
 positive_if zero h = absurd (h refl)
 positive_if (suc n) h = omega arith
 
-pub without_none : {K X : Type 0} (R : K → K → Ordering) (k : K) (ls : List (List (K × X))) → length ls ≡ 0 → joined ls ≡ without R k (joined ls)
+pub without_none : {K X : Type 0} (R : K → K → Ordering) (k : K) (ls : List (List (K × X))) → length ls ≡ 0 → contents ls ≡ without R k (contents ls)
 unfolding without
 without_none R k [] h = refl
 without_none R k (x ∷ ls) h = absurd (omega arith)
@@ -506,7 +506,7 @@ split_front [] i e l h = absurd (omega arith)
 split_front (x ∷ ls) zero e l h = refl
 split_front {A} (x ∷ ls) (suc i) e l h = ap (λ (t : List (List A)). x ∷ t) (split_front ls i e l (omega arith))
 
-split_back : {A : Type 0} (ls : List (List A)) (i : ℕ) (e l : List A) → i < length ls → e ++ l ≡ get_or ls i [] → joined (take (suc (suc i)) (insert (set ls i e) (suc i) l)) ≡ joined (take (suc i) ls)
+split_back : {A : Type 0} (ls : List (List A)) (i : ℕ) (e l : List A) → i < length ls → e ++ l ≡ get_or ls i [] → contents (take (suc (suc i)) (insert (set ls i e) (suc i) l)) ≡ contents (take (suc i) ls)
 split_back [] i e l h w = absurd (omega arith)
 split_back {A} (x ∷ ls) zero e l h w = sym (append_assoc e l []) ∙ ap (λ (t : List A). t ++ []) w
 split_back {A} (x ∷ ls) (suc i) e l h w = ap (λ (t : List A). x ++ t) (split_back ls i e l (omega arith) w)
@@ -532,7 +532,7 @@ one_of_two (suc i) (suc j) h lt = elim (one_of_two i j (omega arith) (omega arit
 abbrev pub halved : {A : Type 0} → List (List A) → ℕ → List (List A)
 halved ls i = let leaf = get_or ls i [] in insert (set ls i (take (length leaf / 2) leaf)) (i + 1) (drop (length leaf / 2) leaf)
 
-pub joined_halved : {A : Type 0} (ls : List (List A)) (i : ℕ) → i < length ls → joined (halved ls i) ≡ joined ls
+pub joined_halved : {A : Type 0} (ls : List (List A)) (i : ℕ) → i < length ls → contents (halved ls i) ≡ contents ls
 joined_halved ls i h = joined_split ls i _ _ h (take-append-drop (length (get_or ls i []) / 2) (get_or ls i []))
 
 pub halved_room : {A : Type 0} (ls : List (List A)) (i j : ℕ) → i < length ls → i ≤ j → j < i + 2 → length (get_or ls i []) ≤ 64 → 1 < length (get_or ls i []) → length (get_or (halved ls i) j []) < 64
@@ -550,7 +550,7 @@ halved_front : {A : Type 0} (ls : List (List A)) (i : ℕ) → i < length ls →
 halved_front {A} ls i h =
     let leaf = get_or ls i [] in
     let next : i + 1 ≡ suc i = omega arith in
-    rw next (ap (λ (t : List (List A)). length (joined t)) (split_front ls i (take (length leaf / 2) leaf) (drop (length leaf / 2) leaf) h))
+    rw next (ap (λ (t : List (List A)). length (contents t)) (split_front ls i (take (length leaf / 2) leaf) (drop (length leaf / 2) leaf) h))
 
 halved_back : {A : Type 0} (ls : List (List A)) (i : ℕ) → i < length ls → before (halved ls i) (i + 2) ≡ before ls (i + 1)
 halved_back {A} ls i h =
@@ -585,10 +585,10 @@ module _ {K X : Type 0} (R : K → K → Ordering) where
 
 -- ---- the leaves from one on
 
-pub joined_parts : {A : Type 0} (ls : List (List A)) (i : ℕ) → joined ls ≡ joined (take i ls) ++ joined (drop i ls)
+pub joined_parts : {A : Type 0} (ls : List (List A)) (i : ℕ) → contents ls ≡ contents (take i ls) ++ contents (drop i ls)
 joined_parts ls zero = refl
 joined_parts [] (suc i) = refl
-joined_parts {A} (x ∷ ls) (suc i) = ap (λ (t : List A). x ++ t) (joined_parts ls i) ∙ sym (append_assoc x (joined (take i ls)) _)
+joined_parts {A} (x ∷ ls) (suc i) = ap (λ (t : List A). x ++ t) (joined_parts ls i) ∙ sym (append_assoc x (contents (take i ls)) _)
 
 drop_filled : {A : Type 0} (ls : List (List A)) (i : ℕ) → T (are_filled ls) → T (are_filled (drop i ls))
 drop_filled ls zero h = h
@@ -598,56 +598,49 @@ drop_filled (x ∷ ls) (suc i) h = drop_filled ls i (second _ _ h)
 pub filled_drop : {A : Type 0} (ls : List (List A)) (i : ℕ) → AreFilled ls → AreFilled (drop i ls)
 filled_drop ls i h = record { each = yes _ (drop_filled ls i (subst T (sym h.each) tt)) }
 
-pub drop_front : {A : Type 0} (n : ℕ) (ls : List (List A)) → 0 < length ls → n ≤ length (get_or ls 0 []) → drop n (get_or ls 0 []) ++ joined (drop 1 ls) ≡ drop n (joined ls)
-drop_front n [] some h = absurd (omega arith)
-drop_front n (x ∷ ls) some h = sym (drop-append-le n x (joined ls) h)
-
 drop_past : {A : Type 0} (a b : List A) (n : ℕ) → drop (length a + n) (a ++ b) ≡ drop n b
 drop_past {A} a b n = sym (drop-drop n (length a) (a ++ b)) ∙ ap (λ (t : List A). drop n t) (drop-append_seam a b)
 
-pub drop_behind : {A : Type 0} (ls : List (List A)) (i n : ℕ) → drop (before ls i + n) (joined ls) ≡ drop n (joined (drop i ls))
-drop_behind {A} ls i n = ap (λ (t : List A). drop (before ls i + n) t) (joined_parts ls i) ∙ drop_past (joined (take i ls)) (joined (drop i ls)) n
+pub drop_behind : {A : Type 0} (ls : List (List A)) (i n : ℕ) → drop (before ls i + n) (contents ls) ≡ drop n (contents (drop i ls))
+drop_behind {A} ls i n = ap (λ (t : List A). drop (before ls i + n) t) (joined_parts ls i) ∙ drop_past (contents (take i ls)) (contents (drop i ls)) n
 
 module _ {K X : Type 0} (R : K → K → Ordering) where
-  pub rest_in_order : (ls : List (List (K × X))) (i : ℕ) → InOrder R (joined ls) → InOrder R (joined (drop i ls))
+  pub rest_in_order : (ls : List (List (K × X))) (i : ℕ) → InOrder R (contents ls) → InOrder R (contents (drop i ls))
   rest_in_order ls i h =
       let whole = subst (λ (es : List (K × X)). T (is_sorted R es)) (joined_parts ls i) (subst T (sym h.rises) tt) in
-      record { rises = yes _ (sorted_rest R (joined (take i ls)) _ whole) }
+      record { rises = yes _ (sorted_rest R (contents (take i ls)) _ whole) }
 
-  pub place_behind : (k : K) (ls : List (List (K × X))) (i : ℕ) → before ls i ≤ place R k (joined ls) → place R k (joined ls) ≡ before ls i + place R k (joined (drop i ls))
+  pub place_behind : (k : K) (ls : List (List (K × X))) (i : ℕ) → before ls i ≤ place R k (contents ls) → place R k (contents ls) ≡ before ls i + place R k (contents (drop i ls))
   place_behind k ls i h =
       let e = joined_parts ls i in
-      ap (λ (es : List (K × X)). place R k es) e ∙ (place_past R k (joined (take i ls)) (joined (drop i ls)) (subst (λ (es : List (K × X)). before ls i ≤ place R k es) e h)).0
+      ap (λ (es : List (K × X)). place R k es) e ∙ (place_past R k (contents (take i ls)) (contents (drop i ls)) (subst (λ (es : List (K × X)). before ls i ≤ place R k es) e h)).0
 
-  pub place_of_leaf : (k : K) (ls : List (List (K × X))) (i : ℕ) → IsAmong R k ls i (i + 1) → before ls i + place R k (get_or ls i []) ≡ place R k (joined ls)
+  pub place_of_leaf : (k : K) (ls : List (List (K × X))) (i : ℕ) → IsAmong R k ls i (i + 1) → before ls i + place R k (get_or ls i []) ≡ place R k (contents ls)
   place_of_leaf k ls i h =
       let at : i < length ls = omega (arith, h.within) in
       let l = lies R k ls i h in
-      let moved = place_past R k (joined (take i ls)) (get_or ls i [] ++ joined (drop (suc i) ls)) l.from in
-      let inside = place_within R k (get_or ls i []) (joined (drop (suc i) ls)) l.until l.tied in
+      let moved = place_past R k (contents (take i ls)) (get_or ls i [] ++ contents (drop (suc i) ls)) l.from in
+      let inside = place_within R k (get_or ls i []) (contents (drop (suc i) ls)) l.until l.tied in
       let whole = ap (λ (es : List (K × X)). place R k es) (joined_at ls i at) in
       omega (arith, moved.0, inside.0, whole)
 
-  pub tied_in_leaf : (k : K) (ls : List (List (K × X))) (i : ℕ) → IsAmong R k ls i (i + 1) → is_tied R k (get_or ls i []) ≡ is_tied R k (joined ls)
+  pub tied_in_leaf : (k : K) (ls : List (List (K × X))) (i : ℕ) → IsAmong R k ls i (i + 1) → is_tied R k (get_or ls i []) ≡ is_tied R k (contents ls)
   tied_in_leaf k ls i h =
       let at : i < length ls = omega (arith, h.within) in
       let l = lies R k ls i h in
-      let moved = place_past R k (joined (take i ls)) (get_or ls i [] ++ joined (drop (suc i) ls)) l.from in
-      let inside = place_within R k (get_or ls i []) (joined (drop (suc i) ls)) l.until l.tied in
+      let moved = place_past R k (contents (take i ls)) (get_or ls i [] ++ contents (drop (suc i) ls)) l.from in
+      let inside = place_within R k (get_or ls i []) (contents (drop (suc i) ls)) l.until l.tied in
       inside.1 ∙ sym moved.1 ∙ sym (ap (λ (es : List (K × X)). is_tied R k es) (joined_at ls i at))
 
-pub leaf_within : {A : Type 0} (leaf : List A) (ls : List (List A)) → length leaf ≤ length (leaf ++ joined ls)
-leaf_within leaf ls = omega (arith, length-append leaf (joined ls))
-
-drop_at : {A : Type 0} (ls : List (List A)) (i : ℕ) → i < length ls → joined (drop i ls) ≡ get_or ls i [] ++ joined (drop (suc i) ls)
+drop_at : {A : Type 0} (ls : List (List A)) (i : ℕ) → i < length ls → contents (drop i ls) ≡ get_or ls i [] ++ contents (drop (suc i) ls)
 drop_at [] i h = absurd (omega arith)
 drop_at (x ∷ ls) zero h = refl
 drop_at (x ∷ ls) (suc i) h = drop_at ls i (omega arith)
 
-pub next_leaf : {A : Type 0} (ls : List (List A)) (i : ℕ) (leaf : List A) → i < length ls → leaf ≡ get_or ls i leaf → joined (drop i ls) ≡ leaf ++ joined (drop (i + 1) ls)
+pub next_leaf : {A : Type 0} (ls : List (List A)) (i : ℕ) (leaf : List A) → i < length ls → leaf ≡ get_or ls i leaf → contents (drop i ls) ≡ leaf ++ contents (drop (i + 1) ls)
 next_leaf {A} ls i leaf lt is =
     let next : i + 1 ≡ suc i = omega arith in
-    rw next (drop_at ls i lt ∙ ap (λ (l : List A). l ++ joined (drop (suc i) ls)) (leaf_read ls i leaf lt is))
+    rw next (drop_at ls i lt ∙ ap (λ (l : List A). l ++ contents (drop (suc i) ls)) (leaf_read ls i leaf lt is))
 
 -- ---- an iterator's first item
 

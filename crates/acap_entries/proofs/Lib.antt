@@ -21,7 +21,6 @@ pub mod DeletionLaws
 pub mod FullPathLaws
 pub mod DatasetRanges
 pub mod Equalities
-pub mod RecordEquality
 pub mod WordLemmas
 pub mod PlainNames
 pub mod OwnLaws

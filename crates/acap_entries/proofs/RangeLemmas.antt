@@ -170,10 +170,6 @@ greater_by_dataset Less n = refl
 greater_by_dataset Equal n = never_greater n
 greater_by_dataset Greater n = refl
 
-not_greater : (r : Ordering) → (r ≡ Less) ⊎ (r ≡ Equal) → is_gt r ≡ false
-not_greater r (inl e) = ap is_gt e
-not_greater r (inr e) = ap is_gt e
-
 -- of the octets 0, `/` (47) and `0` (48)
 no_octet_before_nul : (y : ℕ) → is_gt (nat_cmp 0 y) ≡ false
 no_octet_before_nul y = elim (nat_cmp 0 y) as (λ r. r ≡ nat_cmp 0 y → is_gt r ≡ false) [

@@ -9,7 +9,7 @@ use Rattle.std.specs.List.{slice_get, insert, remove}
 use Rattle.std.proofs.lemmas.Option.{slice_get-get_or, get_or_from_slice_get}
 use Rattle.acap_entries.specs.Sorted.{place, is_tied, found, without, entry_of, put_in, InOrder}
 use Rattle.acap_entries.specs.Ranks.{units, Ascending, rank_of, item_at, with_item, without_item}
-use Rattle.acap_entries.specs.RankLaws.{keyed, RankLaw}
+use Rattle.acap_entries.specs.RankLaws.{own_keys, RankLaw}
 use Rattle.acap_entries.proofs.SortedLemmas.{tied_lt, entry_tied, entry_absent, put_in_tied, put_in_absent, without_tied, without_absent}
 use Rattle.acap_entries.proofs.Halves.{equal_at}
 use Rattle.acap_entries.proofs.MapLemmas.{put_in_order, without_in_order}
@@ -48,7 +48,7 @@ items_set [] i d v = refl
 items_set (x ∷ es) zero d v = refl
 items_set {K} (x ∷ es) (suc i) d v = ap (λ (t : List K). x.0 ∷ t) (items_set es i d v)
 
-items_keyed : {K : Type 0} (xs : List K) → items (keyed xs) ≡ xs
+items_keyed : {K : Type 0} (xs : List K) → items (own_keys xs) ≡ xs
 items_keyed [] = refl
 items_keyed {K} (x ∷ xs) = ap (λ (t : List K). x ∷ t) (items_keyed xs)
 
@@ -176,10 +176,10 @@ module _ {K : Type 0} (R : K → K → Ordering) (o : IsTotalOrder R) where
       let es = units xs in
       subst (λ (t : List K). Ascending R t) (without_items R k es ∙ ap (λ (t : List K). without_item R k t) (items_units xs)) (ascending R (without R k es) (without_in_order R o es k (order_of xs h)))
 
-  as_found : (k : K) (xs : List K) → item_at R k xs ≡ found R k (keyed xs)
+  as_found : (k : K) (xs : List K) → item_at R k xs ≡ found R k (own_keys xs)
   unfolding item_at found
   as_found k [] = refl
-  as_found k (x ∷ xs) = elim (eq_by_cmp R k x) as (λ b. cond b (Some x) (item_at R k xs) ≡ cond b (Some x) (found R k (keyed xs))) [
+  as_found k (x ∷ xs) = elim (eq_by_cmp R k x) as (λ b. cond b (Some x) (item_at R k xs) ≡ cond b (Some x) (found R k (own_keys xs))) [
     | true ↦ refl
     | false ↦ as_found k xs
   ]
@@ -197,6 +197,6 @@ module _ {K : Type 0} (R : K → K → Ordering) (o : IsTotalOrder R) where
     after_put = after_put;
     after_take = after_take;
     as_found = as_found;
-    as_put = λ x xs. sym (put_items R x x (keyed xs) ∙ ap (λ (t : List K). with_item R x t) (items_keyed xs));
-    as_without = λ k xs. sym (without_items R k (keyed xs) ∙ ap (λ (t : List K). without_item R k t) (items_keyed xs));
+    as_put = λ x xs. sym (put_items R x x (own_keys xs) ∙ ap (λ (t : List K). with_item R x t) (items_keyed xs));
+    as_without = λ k xs. sym (without_items R k (own_keys xs) ∙ ap (λ (t : List K). without_item R k t) (items_keyed xs));
   }

@@ -12,7 +12,7 @@ use Rattle.std.proofs.lemmas.List.Kept.{AllPairs-cons}
 use Rattle.std.proofs.lemmas.List.Elements.{All-cons}
 use Rattle.std.proofs.lemmas.List.Sums.{sum_by-cons}
 use Rattle.acap_entries.specs.Sorted.{place, without, entry_of, put_in, InOrder}
-use Rattle.acap_entries.specs.Leaves.{joined}
+use Rattle.acap_entries.specs.Leaves.{contents}
 use Rattle.acap_entries.specs.Ranks.{units, Ascending, rank_of, item_at, with_item, without_item}
 use Rattle.acap_entries.proofs.SortedLemmas.{first, second, is_less, lower, lower_equal, rises_behind}
 
@@ -52,7 +52,7 @@ slice_within [] b n h = absurd (omega arith)
 slice_within (x ∷ a) b zero h = refl
 slice_within (x ∷ a) b (suc n) h = slice_within a b n (omega arith)
 
-pub none_left : {A : Type 0} (ls : List (List A)) (i : ℕ) → length ls ≤ i → joined (drop i ls) ≡ []
+pub none_left : {A : Type 0} (ls : List (List A)) (i : ℕ) → length ls ≤ i → contents (drop i ls) ≡ []
 none_left [] zero h = refl
 none_left [] (suc i) h = refl
 none_left (x ∷ ls) zero h = absurd (omega arith)
@@ -95,7 +95,7 @@ module _ {K X : Type 0} (R : K → K → Ordering) where
   pub item_of : (k : K) (es : List (K × X)) (e : Option (K × X)) (xs : List K) → e ≡ entry_of R k es → items es ≡ xs → option_map (λ (e : K × X). e.0) e ≡ item_at R k xs
   item_of k es e xs p q = ap (λ (t : Option (K × X)). option_map (λ (e : K × X). e.0) t) p ∙ item_entry k es ∙ ap (λ (t : List K). item_at R k t) q
 
-  pub rank_empty : (k : K) (ls : List (List (K × X))) (xs : List K) → length ls ≡ 0 → items (joined ls) ≡ xs → 0 ≡ rank_of R k xs
+  pub rank_empty : (k : K) (ls : List (List (K × X))) (xs : List K) → length ls ≡ 0 → items (contents ls) ≡ xs → 0 ≡ rank_of R k xs
   rank_empty k [] xs h e = sym (rank_none R k) ∙ ap (λ (t : List K). rank_of R k t) e
   rank_empty k (l ∷ ls) xs h e = absurd (omega arith)
 

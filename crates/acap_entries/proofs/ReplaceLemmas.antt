@@ -10,7 +10,7 @@ use Rattle.std.specs.FinMap.Entries.{by_order, below_all}
 use Rattle.std.proofs.lemmas.List.{length-set, set-append_left, set-append_right}
 use Rattle.std.proofs.lemmas.List.Edits.{length-insert}
 use Rattle.acap_entries.specs.Sorted.{place, is_tied, without, entry_of, put_in, InOrder}
-use Rattle.acap_entries.specs.Leaves.{joined, before, AreFilled}
+use Rattle.acap_entries.specs.Leaves.{contents, before, AreFilled}
 use Rattle.acap_entries.specs.Replacing.{LiesAt, replaced}
 use Rattle.acap_entries.proofs.SortedLemmas.{first, second, is_less, lower_equal, equal_kept, place_le, tied_lt, entry_tied, put_in_absent, without_absent}
 use Rattle.acap_entries.proofs.LeafLemmas.{joined_at, joined_set, filled_at, filled_set, joined_set_length, leaf_in_order, entry_in_leaf, put_in_leaf, place_of_leaf, tied_in_leaf, without_none}
@@ -39,11 +39,11 @@ module _ {K X : Type 0} (R : K → K → Ordering) (o : IsTotalOrder R) where
 
   -- the same of its leaf
   set_in_leaf : (ls : List (List (K × X))) (i n : ℕ) (y : K × X) → i < length ls → n < length (get_or ls i [])
-      → joined (set ls i (set (get_or ls i []) n y)) ≡ set (joined ls) (before ls i + n) y
+      → contents (set ls i (set (get_or ls i []) n y)) ≡ set (contents ls) (before ls i + n) y
   set_in_leaf ls i n y at within =
-      let front = joined (take i ls) in
+      let front = contents (take i ls) in
       let leaf = get_or ls i [] in
-      let back = joined (drop (suc i) ls) in
+      let back = contents (drop (suc i) ls) in
       let less : before ls i + n - before ls i ≡ n = omega arith in
       joined_set ls i _ at
       ∙ ap (λ (t : List (K × X)). front ++ t) (sym (set-append_left leaf back n y within))
@@ -55,43 +55,43 @@ module _ {K X : Type 0} (R : K → K → Ordering) (o : IsTotalOrder R) where
     pub leaf_there : i < length ls
     leaf_there = omega (arith, lies.among.within)
 
-    pub there_within : is_tied R k (joined ls) ≡ true → n < length (get_or ls i [])
+    pub there_within : is_tied R k (contents ls) ≡ true → n < length (get_or ls i [])
     there_within t = let in_leaf = tied_lt R k (get_or ls i []) (tied_in_leaf R k ls i lies.among ∙ t) in omega (arith, in_leaf, lies.place)
 
     pub at_most : n ≤ length (get_or ls i [])
     at_most = let most = place_le R k (get_or ls i []) in omega (arith, most, lies.place)
 
-    pub exchanged : (v : X) → InOrder R (joined ls) → is_tied R k (joined ls) ≡ true → joined (set ls i (set (get_or ls i []) n (k, v))) ≡ replaced R k v (joined ls)
+    pub exchanged : (v : X) → InOrder R (contents ls) → is_tied R k (contents ls) ≡ true → contents (set ls i (set (get_or ls i []) n (k, v))) ≡ replaced R k v (contents ls)
     exchanged v h t =
-        let index : before ls i + n ≡ place R k (joined ls) = omega (arith, lies.place, place_of_leaf R k ls i lies.among) in
+        let index : before ls i + n ≡ place R k (contents ls) = omega (arith, lies.place, place_of_leaf R k ls i lies.among) in
         set_in_leaf ls i n (k, v) leaf_there (there_within t)
-        ∙ ap (λ m. set (joined ls) m (k, v)) index
-        ∙ set_tied k v (joined ls) h t
+        ∙ ap (λ m. set (contents ls) m (k, v)) index
+        ∙ set_tied k v (contents ls) h t
 
     pub exchanged_filled : (v : X) → AreFilled ls → AreFilled (set ls i (set (get_or ls i []) n (k, v)))
     exchanged_filled v f = let some = filled_at ls i f leaf_there in filled_set ls i _ f (omega (arith, some, length-set (get_or ls i []) n (k, v)))
 
-    pub exchanged_length : (v : X) → length (joined (set ls i (set (get_or ls i []) n (k, v)))) ≡ length (joined ls)
+    pub exchanged_length : (v : X) → length (contents (set ls i (set (get_or ls i []) n (k, v)))) ≡ length (contents ls)
     exchanged_length v = omega (arith, joined_set_length ls i (set (get_or ls i []) n (k, v)) leaf_there, length-set (get_or ls i []) n (k, v))
 
-    pub exchanged_for : (d : K × X) → d ≡ get_or (get_or ls i []) n d → InOrder R (joined ls) → is_tied R k (joined ls) ≡ true → Some d ≡ entry_of R k (joined ls)
+    pub exchanged_for : (d : K × X) → d ≡ get_or (get_or ls i []) n d → InOrder R (contents ls) → is_tied R k (contents ls) ≡ true → Some d ≡ entry_of R k (contents ls)
     exchanged_for d read h t =
         let leaf = get_or ls i [] in
         ap Some (read ∙ ap (λ m. get_or leaf m d) lies.place)
         ∙ sym (entry_tied R o k leaf d (leaf_in_order R ls i h leaf_there) (tied_in_leaf R k ls i lies.among ∙ t))
         ∙ entry_in_leaf R o k ls i h lies.among
 
-    pub inserted : (v : X) → is_tied R k (joined ls) ≡ false → joined (set ls i (insert (get_or ls i []) n (k, v))) ≡ put_in R k v (joined ls)
+    pub inserted : (v : X) → is_tied R k (contents ls) ≡ false → contents (set ls i (insert (get_or ls i []) n (k, v))) ≡ put_in R k v (contents ls)
     inserted v t =
         let leaf = get_or ls i [] in
-        ap (λ m. joined (set ls i (insert leaf m (k, v)))) lies.place
-        ∙ ap (λ (es : List (K × X)). joined (set ls i es)) (sym (put_in_absent R k v leaf (tied_in_leaf R k ls i lies.among ∙ t)))
+        ap (λ m. contents (set ls i (insert leaf m (k, v)))) lies.place
+        ∙ ap (λ (es : List (K × X)). contents (set ls i es)) (sym (put_in_absent R k v leaf (tied_in_leaf R k ls i lies.among ∙ t)))
         ∙ put_in_leaf R k v ls i lies.among
 
     pub inserted_filled : (v : X) → AreFilled ls → AreFilled (set ls i (insert (get_or ls i []) n (k, v)))
     inserted_filled v f = filled_set ls i _ f (omega (arith, length-insert (get_or ls i []) n (k, v) at_most))
 
-    pub inserted_length : (v : X) → length (joined (set ls i (insert (get_or ls i []) n (k, v)))) ≡ length (joined ls) + 1
+    pub inserted_length : (v : X) → length (contents (set ls i (insert (get_or ls i []) n (k, v)))) ≡ length (contents ls) + 1
     inserted_length v = omega (arith, joined_set_length ls i (insert (get_or ls i []) n (k, v)) leaf_there, length-insert (get_or ls i []) n (k, v) at_most)
 
   -- an entry whose key is nowhere takes none's
@@ -105,5 +105,5 @@ module _ {K X : Type 0} (R : K → K → Ordering) (o : IsTotalOrder R) where
     | false ↦ λ t. omega (arith, ap length (replaced_absent k v es h t ∙ put_in_absent R k v es t), length-insert es (place R k es) (k, v) (place_le R k es), place_le R k es)
   ] refl
 
-pub replaced_none : {K X : Type 0} (R : K → K → Ordering) (k : K) (v : X) (ls : List (List (K × X))) → length ls ≡ 0 → put_in R k v (joined ls) ≡ replaced R k v (joined ls)
+pub replaced_none : {K X : Type 0} (R : K → K → Ordering) (k : K) (v : X) (ls : List (List (K × X))) → length ls ≡ 0 → put_in R k v (contents ls) ≡ replaced R k v (contents ls)
 replaced_none R k v ls h = ap (put_in R k v) (without_none R k ls h)

@@ -9,7 +9,7 @@ use Rattle.jiff_core.proofs.CalendarLemmas.{day_count-epoch, days_in_month_bound
 use Rattle.jiff_core.proofs.MarchLemmas.{day_count-early, day_count-late}
 use Rattle.acap_entries.specs.Moments.{first_moment}
 use Rattle.acap_entries.specs.Stamp.{IsCivil, moment_of, two, four, six, text_of}
-use Rattle.acap_entries.specs.Times.{number_of, written, settled, civil_in, is_civil, is_time, time_of}
+use Rattle.acap_entries.specs.Times.{number_of, civil_of, without_leap, civil_in, is_civil, is_time, time_of}
 use Rattle.acap_entries.specs.Laws.{TimeLaw, TimeExamples}
 use Rattle.acap_entries.specs.declared.civil.Civil.{Civil}
 use Rattle.acap_entries.proofs.StampLemmas.{zero_count}
@@ -29,7 +29,7 @@ day_bound : (c : Civil) → IsCivil c → c.day < 100
 day_bound c h = omega (arith, h.date, days_in_month_bounds (pos c.year) c.month)
 
 -- the digits of a date and time write them
-written_back : (c : Civil) → IsCivil c → written (text_of c) ≡ c
+written_back : (c : Civil) → IsCivil c → civil_of (text_of c) ≡ c
 written_back c h =
     let year = four_back c.year (omega (arith, h.year)) in
     let month = two_back c.month (omega (arith, h.date)) in
@@ -41,11 +41,11 @@ written_back c h =
     λ i. record { year = year i; month = month i; day = day i; hour = hour i; minute = minute i; second = second i; micros = micros i }
 
 -- a second below 60 stays
-settled_back : (c : Civil) → c.second < 60 → settled c ≡ c
+settled_back : (c : Civil) → c.second < 60 → without_leap c ≡ c
 settled_back c h = cond-false (c.second == 60) _ _ (ne_eqb c.second 60 (λ e. omega arith))
 
 civil_back : (c : Civil) → IsCivil c → civil_in (text_of c) ≡ c
-civil_back c h = ap settled (written_back c h) ∙ settled_back c h.second
+civil_back c h = ap without_leap (written_back c h) ∙ settled_back c h.second
 
 test_by_civil : (c : Civil) → IsCivil c → is_civil c ≡ true
 unfolding is_civil

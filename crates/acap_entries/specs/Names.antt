@@ -77,8 +77,8 @@ unfoldable pub is_closed_dataset : List ℕ → Bool
 is_closed_dataset text = is_dataset text && ends_with slash text
 
 -- with its closing `/`
-abbrev pub closed : List ℕ → List ℕ
-closed text = if ends_with slash text then text else text ++ slash ∷ []
+abbrev pub with_slash : List ℕ → List ℕ
+with_slash text = if ends_with slash text then text else text ++ slash ∷ []
 
 -- a path `/c1/../cn/name`: its dataset is all through the last `/`, its entry name the rest
 abbrev pub dataset_len : List ℕ → ℕ

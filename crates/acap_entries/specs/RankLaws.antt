@@ -6,8 +6,8 @@ use Rattle.acap_entries.specs.Ranks.{Ascending, rank_of, item_at, with_item, wit
 use Rattle.acap_entries.specs.Sorted.{found, put_in, without}
 
 -- each item as its own key
-abbrev pub keyed : {T : Type 0} → List T → List (T × T)
-keyed xs = map (λ x. (x, x)) xs
+abbrev pub own_keys : {T : Type 0} → List T → List (T × T)
+own_keys xs = map (λ x. (x, x)) xs
 
 pub record RankLaw {T : Type 0} (R : T → T → Ordering) : Type 0 where
   -- the item at the rank of a key that is there is that key's, and each item stands at its own rank
@@ -25,6 +25,6 @@ pub record RankLaw {T : Type 0} (R : T → T → Ordering) : Type 0 where
   pub after_put : (x : T) (xs : List T) → Ascending R xs → Ascending R (with_item R x xs)
   pub after_take : (k : T) (xs : List T) → Ascending R xs → Ascending R (without_item R k xs)
   -- all this is what finite maps do that are kept in order
-  pub as_found : (k : T) (xs : List T) → item_at R k xs ≡ found R k (keyed xs)
-  pub as_put : (x : T) (xs : List T) → with_item R x xs ≡ map (λ e. e.0) (put_in R x x (keyed xs))
-  pub as_without : (k : T) (xs : List T) → without_item R k xs ≡ map (λ e. e.0) (without R k (keyed xs))
+  pub as_found : (k : T) (xs : List T) → item_at R k xs ≡ found R k (own_keys xs)
+  pub as_put : (x : T) (xs : List T) → with_item R x xs ≡ map (λ e. e.0) (put_in R x x (own_keys xs))
+  pub as_without : (k : T) (xs : List T) → without_item R k xs ≡ map (λ e. e.0) (without R k (own_keys xs))

@@ -19,8 +19,8 @@ abbrev pub twenty : List ℕ → List ℕ
 twenty text = take 20 (text ++ replicate 6 48)
 
 -- the date and time of day that twenty digits write
-abbrev pub written : List ℕ → Civil
-written digits = record {
+abbrev pub civil_of : List ℕ → Civil
+civil_of digits = record {
   year = field 0 4 digits;
   month = field 4 2 digits;
   day = field 6 2 digits;
@@ -31,12 +31,12 @@ written digits = record {
 }
 
 -- a leap second, the second 60 of its minute, is read as the last microsecond of that minute
-abbrev pub settled : Civil → Civil
-settled c = if c.second == 60 then record c { second = 59; micros = 999_999 } else c
+abbrev pub without_leap : Civil → Civil
+without_leap c = if c.second == 60 then record c { second = 59; micros = 999_999 } else c
 
 -- the date and time of day that a text writes
 abbrev pub civil_in : List ℕ → Civil
-civil_in text = settled (written (twenty text))
+civil_in text = without_leap (civil_of (twenty text))
 
 -- the calendar has the date, in the years 0000 to 9999, and the day has the time: `IsCivil` as a test
 unfoldable pub is_civil : Civil → Bool

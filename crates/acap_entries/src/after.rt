@@ -1,7 +1,5 @@
 //! A store as a change will leave it.
 ghost use Rattle.std.specs.Prelude.{◌≡◌};
-ghost use Rattle.std.specs.Option.{option_copied};
-ghost use Rattle.std.specs.FinMap as map;
 ghost use Rattle.acap_entries.specs.Ahead.{IsReadAhead};
 ghost use Rattle.acap_entries.specs.Leaving.{store_ahead};
 

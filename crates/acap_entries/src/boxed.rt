@@ -81,9 +81,17 @@ impl<T: Ord> Ord for Boxed<T> {
     }
 }
 
-impl<T: Copying + Drop> Copying for Boxed<T> {
-    fn copy(&self) -> Result<Boxed<T>, Memory> {
+impl<T: Copying + Drop> Clone for Boxed<T> {
+    ghost is_clone = { λ x y. y ≡ x };
+
+    fn clone(&self) -> Result<Boxed<T>, Memory> {
         let value = self.held.copy()?;
         Boxed::new(*Box::allocator(&self.held), value)
+    }
+}
+
+impl<T: Copying + Drop> Copying for Boxed<T> {
+    fn copy(&self) -> Result<Boxed<T>, Memory> {
+        self.clone()
     }
 }

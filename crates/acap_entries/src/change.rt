@@ -8,7 +8,7 @@ use crate::writes::Writes;
 
 /// A step from one store to the next: what is written, the moment that the store then has, and which entries stop
 /// existing (RFC 2244 sections 3.1 and 6.6.2).
-#[derive(Drop)]
+#[derive(Clone, Drop)]
 pub struct Change {
     /// The records put and removed, by path.
     pub writes: Writes,
@@ -20,12 +20,6 @@ pub struct Change {
 
 impl Copying for Change {
     fn copy(&self) -> Result<Change, Memory> {
-        let writes = self.writes.copy()?;
-        let deleted = self.deleted.copy()?;
-        Ok(Change {
-            writes,
-            moment: self.moment,
-            deleted,
-        })
+        self.clone()
     }
 }

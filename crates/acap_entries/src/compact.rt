@@ -85,7 +85,7 @@ impl Few {
 }
 
 // Four texts that are few together, one behind the other.
-fn few_joined(alloc: Global, first: &[u8], second: &[u8], third: &[u8], fourth: &[u8]) -> Few
+fn join_few(alloc: Global, first: &[u8], second: &[u8], third: &[u8], fourth: &[u8]) -> Few
     requires { length first.now + length second.now + length third.now + length fourth.now ≤ 30 }
     ensures { take result.len result.octets ≡ first.now ++ second.now ++ third.now ++ fourth.now }
 {
@@ -99,7 +99,7 @@ fn few_joined(alloc: Global, first: &[u8], second: &[u8], third: &[u8], fourth: 
 
 impl Compact {
     /// The octets of four texts, one behind the other. Fails only for want of memory.
-    pub(crate) fn joined(
+    pub(crate) fn join(
         alloc: Global,
         first: &[u8],
         second: &[u8],
@@ -114,7 +114,7 @@ impl Compact {
             .saturating_add(third.len())
             .saturating_add(fourth.len());
         if room <= IN_PLACE {
-            let few = few_joined(alloc, first, second, third, fourth);
+            let few = join_few(alloc, first, second, third, fourth);
             return Ok(Compact {
                 kept: Kept::InPlace(few),
             });

@@ -13,7 +13,7 @@ use std::alloc::Global;
 use std::marker::Model;
 
 /// The name of a dataset: components with a `/` before each, and one behind the last (RFC 2244 section 3.1).
-#[derive(PartialEq, Eq, PartialOrd, Ord, Drop)]
+#[derive(Clone, PartialEq, Eq, PartialOrd, Ord, Drop)]
 pub struct Dataset {
     octets: DatasetText,
 }
@@ -38,13 +38,13 @@ impl Dataset {
     /// where the octets are no such name; a component `~` stays (`for_user`).
     pub fn read(alloc: Global, octets: &[u8]) -> Result<Dataset, NameFault>
         ensures good { OnOk result (IsTrue (name.is_dataset_argument octets.now)) }
-        ensures value { IfOk result (λ made. made ≡ name.closed octets.now) }
+        ensures value { IfOk result (λ made. made ≡ name.with_slash octets.now) }
         ensures bad { (result ≡ Err NameFault.BadName) ↔ (name.is_dataset_argument octets.now ≡ false) }
     {
         if !names::is_dataset_argument(octets) {
             return Err(NameFault::BadName);
         }
-        let octets = closed(alloc, octets)?;
+        let octets = close(alloc, octets)?;
         Ok(Dataset { octets })
     }
 
@@ -116,26 +116,25 @@ impl Dataset {
     {
         entry.form_law();
         let alloc = self.octets.allocator();
-        let octets = DatasetText::joined(alloc, self.as_slice(), entry.as_slice(), b"/", b"")?;
+        let octets = DatasetText::join(alloc, self.as_slice(), entry.as_slice(), b"/", b"")?;
         Ok(Dataset { octets })
     }
 }
 
 impl Copying for Dataset {
     fn copy(&self) -> Result<Dataset, Memory> {
-        let octets = self.octets.copy()?;
-        Ok(Dataset { octets })
+        self.clone()
     }
 }
 
 // The octets with a closing `/`.
-fn closed(alloc: Global, octets: &[u8]) -> Result<DatasetText, Memory>
-    ensures { IfOk result (λ made. made ≡ name.closed octets.now) }
+fn close(alloc: Global, octets: &[u8]) -> Result<DatasetText, Memory>
+    ensures { IfOk result (λ made. made ≡ name.with_slash octets.now) }
 {
     let missing: &[u8] = if names::ends_with(octets, b'/') {
         b""
     } else {
         b"/"
     };
-    DatasetText::joined(alloc, octets, missing, b"", b"")
+    DatasetText::join(alloc, octets, missing, b"", b"")
 }

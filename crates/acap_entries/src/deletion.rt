@@ -6,7 +6,7 @@ use crate::moment::Moment;
 use crate::path::Path;
 
 /// That an entry stopped existing in its dataset, and when (RFC 2244 section 6.6.2).
-#[derive(PartialEq, Eq, Drop)]
+#[derive(Clone, PartialEq, Eq, Drop)]
 pub struct Deletion {
     /// Where the entry was.
     pub path: Path,
@@ -16,10 +16,6 @@ pub struct Deletion {
 
 impl Copying for Deletion {
     fn copy(&self) -> Result<Deletion, Memory> {
-        let path = self.path.copy()?;
-        Ok(Deletion {
-            path,
-            moment: self.moment,
-        })
+        self.clone()
     }
 }

@@ -1,5 +1,5 @@
 //! The newest deletions of a store.
-ghost use Rattle.std.specs.Prelude.{◌≡◌, ◌+◌, ◌≤◌, [], ◌∷◌, length, IfOk, OnOk, None};
+ghost use Rattle.std.specs.Prelude.{◌≡◌, ◌≤◌, [], ◌∷◌, length, IfOk, OnOk, None};
 ghost use Rattle.acap_entries.specs.Deletions.{HasSlots, IsAdded, deletions_at};
 
 use crate::copying::Copying;

@@ -6,7 +6,7 @@ use crate::memory::Memory;
 use crate::record::Record;
 
 /// What a change does at a path. A record lies in a box, so that it moves as a whole in eight octets.
-#[derive(Drop)]
+#[derive(Clone, Drop)]
 pub enum Fate {
     /// Puts a record there, in place of one that may be there.
     Put(Boxed<Record>),
@@ -16,9 +16,6 @@ pub enum Fate {
 
 impl Copying for Fate {
     fn copy(&self) -> Result<Fate, Memory> {
-        match self {
-            Fate::Put(record) => Ok(Fate::Put(record.copy()?)),
-            Fate::Remove => Ok(Fate::Remove),
-        }
+        self.clone()
     }
 }

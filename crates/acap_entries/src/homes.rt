@@ -27,11 +27,11 @@ fn tilde_at(dataset: &[u8]) -> Option<usize>
 }
 
 // The octets with `user/USER` in place of the one octet there, in no more memory than they need.
-fn replaced(alloc: Global, octets: &[u8], at: usize, user: &[u8]) -> Result<DatasetText, Memory>
+fn put_user(alloc: Global, octets: &[u8], at: usize, user: &[u8]) -> Result<DatasetText, Memory>
     requires { at < length octets.now }
     ensures { IsMade (home.with_user_at at user.now octets.now) result }
 {
-    DatasetText::joined(alloc, &octets[..at], b"user/", user, &octets[at + 1..])
+    DatasetText::join(alloc, &octets[..at], b"user/", user, &octets[at + 1..])
 }
 
 // The dataset that a user means, in memory of its own.
@@ -40,7 +40,7 @@ pub(crate) fn for_user(dataset: &DatasetText, user: &[u8]) -> Result<DatasetText
     ensures { IsMade (home.for_user user.now dataset.now) result }
 {
     match tilde_at(dataset.as_slice()) {
-        Some(at) => replaced(dataset.allocator(), dataset.as_slice(), at, user),
+        Some(at) => put_user(dataset.allocator(), dataset.as_slice(), at, user),
         None => dataset.copy(),
     }
 }
@@ -55,7 +55,7 @@ pub(crate) fn other_for_user(
     ensures same { IfOk result (λ made. IfNone made (home.for_user user.now dataset.now ≡ dataset.now)) }
 {
     match tilde_at(dataset.as_slice()) {
-        Some(at) => Ok(Some(replaced(dataset.allocator(), dataset.as_slice(), at, user)?)),
+        Some(at) => Ok(Some(put_user(dataset.allocator(), dataset.as_slice(), at, user)?)),
         None => Ok(None),
     }
 }

@@ -3,7 +3,7 @@ ghost use Rattle.std.specs.Prelude.{◌≡◌, ◌+◌, ◌-◌, ◌^◌, ◌++�
 ghost use Rattle.std.specs.Prelude.{slice_index_or, vec_len, vec_capacity, IfSome, IfNone, OnOk, OnErr, IfOk};
 ghost use Rattle.std.specs.Option.{option_copied};
 ghost use Rattle.acap_entries.specs.Sorted.{InOrder, place, put_in, without, found, entry_of};
-ghost use Rattle.acap_entries.specs.Leaves.{joined, entry_count, split_at, AreFilled, IsAmong, IsBehind};
+ghost use Rattle.acap_entries.specs.Leaves.{contents, entry_count, split_at, AreFilled, IsAmong, IsBehind};
 ghost use Rattle.acap_entries.specs.Replacing.{replaced};
 
 use crate::copying::{Copying, copy_all};
@@ -25,7 +25,7 @@ pub(crate) fn leaf_among<K: Ord + Drop, V: Drop, Q: Probe<K>>(
 ) -> usize
     requires among { IsAmong K.cmp (Q.key probe.now) leaves.now low high }
     requires filled { AreFilled leaves.now }
-    requires sorted { InOrder K.cmp (joined leaves.now) }
+    requires sorted { InOrder K.cmp (contents leaves.now) }
     ensures among { IsAmong K.cmp (Q.key probe.now) leaves.now result (result + 1) }
     ensures low { low ≤ result }
     ensures high { result < high }
@@ -47,7 +47,7 @@ pub(crate) fn leaf_of<K: Ord + Drop, V: Drop, Q: Probe<K>>(
 ) -> usize
     requires some { 0 < length leaves.now }
     requires filled { AreFilled leaves.now }
-    requires sorted { InOrder K.cmp (joined leaves.now) }
+    requires sorted { InOrder K.cmp (contents leaves.now) }
     ensures { IsAmong K.cmp (Q.key probe.now) leaves.now result (result + 1) }
 {
     leaf_among(leaves, 0, leaves.len(), probe)
@@ -59,8 +59,8 @@ pub(crate) fn entry<'a, K: Ord + Drop, V: Drop, Q: Probe<K>>(
     probe: &Q,
 ) -> Option<&'a (K, V)>
     requires filled { AreFilled leaves.now }
-    requires sorted { InOrder K.cmp (joined leaves.now) }
-    ensures { option_copied result ≡ entry_of K.cmp (Q.key probe.now) (joined leaves.now) }
+    requires sorted { InOrder K.cmp (contents leaves.now) }
+    ensures { option_copied result ≡ entry_of K.cmp (Q.key probe.now) (contents leaves.now) }
 {
     if leaves.is_empty() {
         return None;
@@ -75,8 +75,8 @@ pub(crate) fn find<'a, K: Ord + Drop, V: Drop, Q: Probe<K>>(
     probe: &Q,
 ) -> Option<&'a V>
     requires filled { AreFilled leaves.now }
-    requires sorted { InOrder K.cmp (joined leaves.now) }
-    ensures { option_copied result ≡ found K.cmp (Q.key probe.now) (joined leaves.now) }
+    requires sorted { InOrder K.cmp (contents leaves.now) }
+    ensures { option_copied result ≡ found K.cmp (Q.key probe.now) (contents leaves.now) }
 {
     if leaves.is_empty() {
         return None;
@@ -95,8 +95,8 @@ fn put_at<K: Ord + Drop, V: Drop>(
     requires among { IsAmong K.cmp key leaves.old.items at (at + 1) }
     requires room { length (slice_index_or leaves.old.items at []) < 64 }
     requires filled { AreFilled leaves.old.items }
-    requires sorted { InOrder K.cmp (joined leaves.old.items) }
-    ensures items { joined leaves.new.items ≡ put_in K.cmp key value (joined leaves.old.items) }
+    requires sorted { InOrder K.cmp (contents leaves.old.items) }
+    ensures items { contents leaves.new.items ≡ put_in K.cmp key value (contents leaves.old.items) }
     ensures filled { AreFilled leaves.new.items }
     ensures count { entry_count leaves.new.items ≡ entry_count leaves.old.items + result }
     ensures few { result ≤ 1 }
@@ -116,10 +116,10 @@ fn put_behind<K: Ord + Drop, V: Drop>(
     key: K,
     value: V,
 )
-    requires behind { IsBehind K.cmp key (joined leaves.old.items) }
+    requires behind { IsBehind K.cmp key (contents leaves.old.items) }
     requires room { vec_len leaves.old < vec_capacity leaves.old }
     requires filled { AreFilled leaves.old.items }
-    ensures items { joined leaves.new.items ≡ put_in K.cmp key value (joined leaves.old.items) }
+    ensures items { contents leaves.new.items ≡ put_in K.cmp key value (contents leaves.old.items) }
     ensures filled { AreFilled leaves.new.items }
     ensures count { entry_count leaves.new.items ≡ entry_count leaves.old.items + 1 }
     ensures len { vec_len leaves.new ≡ vec_len leaves.old + 1 }
@@ -155,9 +155,9 @@ fn take_out_at<K: Ord + Drop, V: Drop, Q: Probe<K>>(
 ) -> Option<(K, V)>
     requires among { IsAmong K.cmp (Q.key probe.now) leaves.old.items at (at + 1) }
     requires filled { AreFilled leaves.old.items }
-    requires sorted { InOrder K.cmp (joined leaves.old.items) }
-    ensures taken { result ≡ entry_of K.cmp (Q.key probe.now) (joined leaves.old.items) }
-    ensures items { joined leaves.new.items ≡ without K.cmp (Q.key probe.now) (joined leaves.old.items) }
+    requires sorted { InOrder K.cmp (contents leaves.old.items) }
+    ensures taken { result ≡ entry_of K.cmp (Q.key probe.now) (contents leaves.old.items) }
+    ensures items { contents leaves.new.items ≡ without K.cmp (Q.key probe.now) (contents leaves.old.items) }
     ensures filled { AreFilled leaves.new.items }
     ensures some { IfSome result (λ _. entry_count leaves.new.items + 1 ≡ entry_count leaves.old.items) }
     ensures none { IfNone result (entry_count leaves.new.items ≡ entry_count leaves.old.items) }
@@ -183,12 +183,12 @@ fn room_for<K: Ord + Drop, V: Drop, Q: Probe<K>>(
     requires room { vec_len leaves.old < vec_capacity leaves.old }
     requires spare { 0 < vec_len spare.old }
     requires filled { AreFilled leaves.old.items }
-    requires sorted { InOrder K.cmp (joined leaves.old.items) }
-    ensures items { joined leaves.new.items ≡ joined leaves.old.items }
+    requires sorted { InOrder K.cmp (contents leaves.old.items) }
+    ensures items { contents leaves.new.items ≡ contents leaves.old.items }
     ensures filled { AreFilled leaves.new.items }
     ensures some { IfSome result (λ at. IsAmong K.cmp (Q.key probe.now) leaves.new.items at (at + 1)) }
     ensures room { IfSome result (λ at. length (slice_index_or leaves.new.items at []) < 64) }
-    ensures none { IfNone result (IsBehind K.cmp (Q.key probe.now) (joined leaves.new.items)) }
+    ensures none { IfNone result (IsBehind K.cmp (Q.key probe.now) (contents leaves.new.items)) }
     ensures kept { IfNone result (spare.new ≡ spare.old) }
     ensures unsplit { IfNone result (vec_len leaves.new ≡ vec_len leaves.old) }
     ensures len { vec_len leaves.new ≤ vec_len leaves.old + 1 }
@@ -228,7 +228,7 @@ fn push_last<K: Ord + Drop, V: Drop>(leaves: &mut Vec<Leaf<K, V>>, key: K, value
     requires some { 0 < length leaves.old.items }
     requires room { length (slice_index_or leaves.old.items (length leaves.old.items - 1) []) < 64 }
     requires filled { AreFilled leaves.old.items }
-    ensures items { joined leaves.new.items ≡ joined leaves.old.items ++ (key, value) ∷ [] }
+    ensures items { contents leaves.new.items ≡ contents leaves.old.items ++ (key, value) ∷ [] }
     ensures filled { AreFilled leaves.new.items }
 {
     let last = leaves.len() - 1;
@@ -243,7 +243,7 @@ fn push_leaf<K: Ord + Drop, V: Drop>(
     value: V,
 ) -> Result<(), Memory>
     requires filled { AreFilled leaves.old.items }
-    ensures items { OnOk result (joined leaves.new.items ≡ joined leaves.old.items ++ (key, value) ∷ []) }
+    ensures items { OnOk result (contents leaves.new.items ≡ contents leaves.old.items ++ (key, value) ∷ []) }
     ensures filled { OnOk result (AreFilled leaves.new.items) }
     ensures same { OnErr result (leaves.new.items ≡ leaves.old.items) }
 {
@@ -264,12 +264,12 @@ pub(crate) struct Leaves<K, V> {
 
 impl<K, V> Model for Leaves<K, V> {
     ghost use Rattle.std.specs.Prelude.{◌≡◌, ℕ, List, vec_len};
-    ghost use Rattle.acap_entries.specs.Leaves.{joined, entry_count, AreFilled, room_of};
+    ghost use Rattle.acap_entries.specs.Leaves.{contents, entry_count, AreFilled, room_of};
     ghost use Rattle.acap_entries.specs.Room.{free_of};
 
     ghost Value = { List (K × V) × ℕ };
 
-    ghost view = { λ l. (joined l.leaves.items, room_of (vec_len l.spare) (free_of l.leaves) l.count) };
+    ghost view = { λ l. (contents l.leaves.items, room_of (vec_len l.spare) (free_of l.leaves) l.count) };
 
     ghost invariant = { λ l. AreFilled l.leaves.items × (l.count ≡ entry_count l.leaves.items) };
 }
@@ -307,7 +307,7 @@ impl<K: Ord + Drop, V: Drop> Leaves<K, V> {
 
     /// The leaves in their order, each with an entry.
     pub(crate) fn as_slice(&self) -> &[Leaf<K, V>]
-        ensures items { joined result.now ≡ self.now.0 }
+        ensures items { contents result.now ≡ self.now.0 }
         ensures filled { AreFilled result.now }
         ensures counted { entry_count result.now < 2 ^ 64 }
     {

@@ -89,7 +89,9 @@ pub use sequence::Sequence;
 pub use stamps::{civil_of, stamp};
 pub use steps::Steps;
 pub use table::{Acls, Cells, Table};
-pub use text::{AnyOctets, Attribute, ContextName, EntryName, Kind, Named, Text, UserName, Value};
+pub use text::{
+    AnyOctets, Attribute, ContextName, EntryName, Named, Text, TextKind, UserName, Value,
+};
 pub use times::read_time;
 pub use tree::Tree;
 pub use writes::Writes;

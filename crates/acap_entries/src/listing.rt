@@ -1,6 +1,6 @@
 //! Records of a tree in the order of their paths, wherever they lie.
 ghost use Rattle.std.specs.Prelude.{◌≡◌, ◌==◌, ◌++◌, length};
-ghost use Rattle.acap_entries.specs.Leaves.{joined, AreFilled};
+ghost use Rattle.acap_entries.specs.Leaves.{contents, AreFilled};
 ghost use Rattle.std.specs.Iterator.{YieldsFirstBy, item_count};
 
 use crate::boxed::Boxed;
@@ -20,7 +20,7 @@ pub struct Listing<'a> {
 
 impl<'a> Model for Listing<'a> {
     ghost use Rattle.std.specs.Prelude.{List, ◌++◌, take};
-    ghost use Rattle.acap_entries.specs.Leaves.{joined, AreToCome};
+    ghost use Rattle.acap_entries.specs.Leaves.{contents, AreToCome};
     ghost use Rattle.acap_entries.specs.declared.path.Path.{Path};
     ghost use Rattle.acap_entries.specs.declared.record.Record.{Record};
     ghost use Rattle.acap_entries.specs.contracts.path.Path as path;
@@ -31,18 +31,18 @@ impl<'a> Model for Listing<'a> {
 
     ghost coded = { coded_list (coded× path.the_row.coded row.the_row.coded) };
 
-    ghost view = { λ l. take l.left (l.front.now ++ joined l.leaves.now) };
+    ghost view = { λ l. take l.left (l.front.now ++ contents l.leaves.now) };
 
     ghost invariant = { λ l. AreToCome l.left l.front.now l.leaves.now };
 }
 
 // The same entries, the first of them in the slice, if there is one.
-pub(crate) fn filled<'a, K: Ord + Drop, V: Drop>(
+pub(crate) fn fill_front<'a, K: Ord + Drop, V: Drop>(
     front: &'a [(K, V)],
     leaves: &'a [Leaf<K, V>],
 ) -> (&'a [(K, V)], &'a [Leaf<K, V>])
     requires { AreFilled leaves.now }
-    ensures same { result.0.now ++ joined result.1.now ≡ front.now ++ joined leaves.now }
+    ensures same { result.0.now ++ contents result.1.now ≡ front.now ++ contents leaves.now }
     ensures filled { AreFilled result.1.now }
     ensures first { length result.0.now ≡ 0 → length result.1.now ≡ 0 }
 {
@@ -82,7 +82,7 @@ impl<'a> Iterator for Listing<'a> {
         if self.left == 0 {
             return None;
         }
-        let (front, leaves) = filled(self.front, self.leaves);
+        let (front, leaves) = fill_front(self.front, self.leaves);
         let (entry, front) = front.split_first()?;
         self.front = front;
         self.leaves = leaves;

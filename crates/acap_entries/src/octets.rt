@@ -62,10 +62,18 @@ impl Octets {
     }
 }
 
-impl Copying for Octets {
-    fn copy(&self) -> Result<Octets, Memory> {
+impl Clone for Octets {
+    ghost is_clone = { λ x y. y ≡ x };
+
+    fn clone(&self) -> Result<Octets, Memory> {
         let bytes = self.bytes.clone()?;
         Ok(Octets { bytes })
+    }
+}
+
+impl Copying for Octets {
+    fn copy(&self) -> Result<Octets, Memory> {
+        self.clone()
     }
 }
 

@@ -1,5 +1,5 @@
 //! Where entries are.
-ghost use Rattle.std.specs.Prelude.{◌≡◌, ◌↔◌, ◌&&◌, IfOk, OnOk, OnErr, IsTrue, Err, false};
+ghost use Rattle.std.specs.Prelude.{◌≡◌, ◌↔◌, IfOk, OnOk, OnErr, IsTrue, Err, false};
 ghost use Rattle.std.specs.Option.{option_map};
 ghost use Rattle.acap_entries.specs.Names as rule;
 ghost use Rattle.acap_entries.specs.FullPaths.{parts_of, path_for, path_in, path_of};
@@ -15,7 +15,7 @@ use std::alloc::Global;
 use std::cmp::Ordering;
 
 /// Where an entry is: its dataset and its name there (RFC 2244 section 3.1). Ordered by dataset, then by name.
-#[derive(PartialEq, Eq, PartialOrd, Ord, Drop)]
+#[derive(Clone, PartialEq, Eq, PartialOrd, Ord, Drop)]
 pub struct Path {
     /// The dataset.
     pub dataset: Dataset,
@@ -57,7 +57,7 @@ impl Path {
         ensures { IfOk result (λ path. path ≡ path_of dataset.now name.now) }
     {
         let dataset = Dataset::of_closed(alloc, dataset)?;
-        let name = EntryName::copied(alloc, name)?;
+        let name = EntryName::copy_octets(alloc, name)?;
         Ok(Path { dataset, name })
     }
 
@@ -84,9 +84,7 @@ impl Path {
 
 impl Copying for Path {
     fn copy(&self) -> Result<Path, Memory> {
-        let dataset = self.dataset.copy()?;
-        let name = self.name.copy()?;
-        Ok(Path { dataset, name })
+        self.clone()
     }
 }
 

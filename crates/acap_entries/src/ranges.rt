@@ -3,7 +3,8 @@ ghost use Rattle.std.specs.Prelude.{◌≡◌, ◌+◌, ◌<◌, ◌≤◌, ◌^
 ghost use Rattle.std.specs.Prelude.{slice_get, slice_index_or};
 ghost use Rattle.std.specs.Option.{option_copied};
 ghost use Rattle.acap_entries.specs.Sorted.{InOrder};
-ghost use Rattle.acap_entries.specs.Leaves.{joined, before, between, entry_count, place_in, AreFilled, Rises};
+ghost use Rattle.acap_entries.specs.Leaves.{contents, before, between, entry_count, place_in};
+ghost use Rattle.acap_entries.specs.Leaves.{AreFilled, Rises};
 ghost use Rattle.acap_entries.specs.Store.{path_cmp};
 
 use crate::boxed::Boxed;
@@ -22,7 +23,7 @@ fn place_among<K: Ord + Drop, V: Drop, Q: Probe<K>>(
 ) -> (usize, usize)
     requires some { 0 < length leaves.now }
     requires filled { AreFilled leaves.now }
-    requires sorted { InOrder K.cmp (joined leaves.now) }
+    requires sorted { InOrder K.cmp (contents leaves.now) }
     ensures leaf { result.0 < length leaves.now }
     ensures within { result.1 ≤ length (slice_index_or leaves.now result.0 []) }
     ensures place { before leaves.now result.0 + result.1 ≡ place_in K.cmp (Q.key probe.now) leaves.now }
@@ -52,7 +53,7 @@ pub(crate) fn count_before<K: Ord + Drop, V: Drop, Q: Probe<K>>(
 ) -> usize
     requires some { 0 < length leaves.now }
     requires filled { AreFilled leaves.now }
-    requires sorted { InOrder K.cmp (joined leaves.now) }
+    requires sorted { InOrder K.cmp (contents leaves.now) }
     requires counted { entry_count leaves.now < 2 ^ 64 }
     ensures { result ≡ place_in K.cmp (Q.key probe.now) leaves.now }
 {
@@ -66,7 +67,7 @@ pub(crate) fn entry_at<K: Ord + Drop, V: Drop>(
     leaves: &[Leaf<K, V>],
     index: usize,
 ) -> Option<&(K, V)>
-    ensures { option_copied result ≡ slice_get (joined leaves.now) index }
+    ensures { option_copied result ≡ slice_get (contents leaves.now) index }
 {
     let mut left = index;
     for leaf in leaves {
@@ -79,12 +80,12 @@ pub(crate) fn entry_at<K: Ord + Drop, V: Drop>(
 }
 
 // So many records behind some of the first leaf's.
-fn listed(leaves: &[Leaf<Path, Boxed<Record>>], skipped: usize, left: usize) -> Listing<'_>
+fn list_from(leaves: &[Leaf<Path, Boxed<Record>>], skipped: usize, left: usize) -> Listing<'_>
     requires some { 0 < length leaves.now }
     requires filled { AreFilled leaves.now }
     requires within { skipped ≤ length (slice_index_or leaves.now 0 []) }
     requires left { skipped + left ≤ entry_count leaves.now }
-    ensures { result ≡ take left (drop skipped (joined leaves.now)) }
+    ensures { result ≡ take left (drop skipped (contents leaves.now)) }
 {
     let front = &leaves[0];
     let front = &front.as_slice()[skipped..];
@@ -103,7 +104,7 @@ pub(crate) fn between<'a, Q: Probe<Path>>(
     high: &Q,
 ) -> Listing<'a>
     requires filled { AreFilled leaves.now }
-    requires sorted { InOrder path_cmp (joined leaves.now) }
+    requires sorted { InOrder path_cmp (contents leaves.now) }
     requires counted { entry_count leaves.now < 2 ^ 64 }
     requires rises { Rises path_cmp (Q.key low.now) (Q.key high.now) }
     ensures { result ≡ between path_cmp (Q.key low.now) (Q.key high.now) leaves.now }
@@ -118,5 +119,5 @@ pub(crate) fn between<'a, Q: Probe<Path>>(
     let (first, skipped) = place_among(leaves, low);
     let (_, rest) = leaves.split_at(first);
     let until = count_before(rest, high);
-    listed(rest, skipped, until - skipped)
+    list_from(rest, skipped, until - skipped)
 }

@@ -9,7 +9,7 @@ use crate::leaves::{Leaves, entry};
 use crate::memory::Memory;
 use crate::ranges::{count_before, entry_at};
 use crate::ranking::Ranking;
-use crate::rising::{ascend, listed};
+use crate::rising::{ascend, into_leaves};
 use std::alloc::Global;
 use std::marker::Model;
 
@@ -62,7 +62,7 @@ impl<T: Ord + Drop> Ranked<T> {
         if !ascend(items.as_slice()) {
             return Ok(Err(items));
         }
-        let entries = listed(items)?;
+        let entries = into_leaves(items)?;
         Ok(Ok(Ranked { entries }))
     }
 

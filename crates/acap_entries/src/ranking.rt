@@ -3,7 +3,7 @@ ghost use Rattle.std.specs.Prelude.{◌≡◌, ◌==◌, length};
 ghost use Rattle.std.specs.Iterator.{YieldsFirstBy, item_count};
 
 use crate::leaf::Leaf;
-use crate::listing::filled;
+use crate::listing::fill_front;
 use std::marker::Model;
 
 /// Items in their order: an iterator, seen as the list of those that are still to come. Looks at them where they lie,
@@ -17,11 +17,11 @@ pub struct Ranking<'a, T> {
 
 impl<'a, T> Model for Ranking<'a, T> {
     ghost use Rattle.std.specs.Prelude.{List, ◌++◌, take, map};
-    ghost use Rattle.acap_entries.specs.Leaves.{joined, AreToCome};
+    ghost use Rattle.acap_entries.specs.Leaves.{contents, AreToCome};
 
     ghost Value = { List T };
 
-    ghost view = { λ l. take l.left (map (λ e. e.0) (l.front.now ++ joined l.leaves.now)) };
+    ghost view = { λ l. take l.left (map (λ e. e.0) (l.front.now ++ contents l.leaves.now)) };
 
     ghost invariant = { λ l. AreToCome l.left l.front.now l.leaves.now };
 }
@@ -53,7 +53,7 @@ impl<'a, T: Ord + Drop> Iterator for Ranking<'a, T> {
         if self.left == 0 {
             return None;
         }
-        let (front, leaves) = filled(self.front, self.leaves);
+        let (front, leaves) = fill_front(self.front, self.leaves);
         let (entry, front) = front.split_first()?;
         self.front = front;
         self.leaves = leaves;

@@ -1,5 +1,4 @@
 //! What the store keeps at a path.
-ghost use Rattle.std.specs.Prelude.{◌≡◌, ◌↔◌, IsTrue};
 
 use crate::copying::Copying;
 use crate::memory::Memory;
@@ -7,7 +6,7 @@ use crate::moment::Moment;
 use crate::table::{Acls, Cells};
 
 /// What the store keeps at a path (RFC 2244 section 3.1).
-#[derive(PartialEq, Eq, Drop)]
+#[derive(Clone, PartialEq, Eq, Drop)]
 pub struct Record {
     /// Whether the entry exists here; a deleted one leaves its record.
     pub present: bool,
@@ -21,25 +20,8 @@ pub struct Record {
     pub modtime: Moment,
 }
 
-impl Record {
-    /// Whether two of them are equal, as `==` says it. Takes no memory.
-    pub fn equals(&self, other: &Record) -> bool
-        ensures { IsTrue result ↔ (self.now ≡ other.now) }
-    {
-        *self == *other
-    }
-}
-
 impl Copying for Record {
     fn copy(&self) -> Result<Record, Memory> {
-        let cells = self.cells.copy()?;
-        let acls = self.acls.copy()?;
-        Ok(Record {
-            present: self.present,
-            blocks_inheritance: self.blocks_inheritance,
-            cells,
-            acls,
-            modtime: self.modtime,
-        })
+        self.clone()
     }
 }

@@ -2,7 +2,7 @@
 ghost use Rattle.std.specs.Prelude.{◌≡◌, ◌+◌, ◌<◌, ◌≤◌, ◌^◌, [], Some, true, false};
 ghost use Rattle.std.specs.Prelude.{length, slice_index_or, vec_len, vec_capacity};
 ghost use Rattle.acap_entries.specs.Sorted.{place, is_tied, entry_of, put_in, InOrder};
-ghost use Rattle.acap_entries.specs.Leaves.{joined, AreFilled};
+ghost use Rattle.acap_entries.specs.Leaves.{contents, AreFilled};
 ghost use Rattle.acap_entries.specs.Replacing.{LiesAt, replaced};
 
 use crate::keys::Probe;
@@ -16,11 +16,11 @@ use crate::spot::Spot;
 pub(crate) fn seek<K: Ord + Drop, V: Drop, Q: Probe<K>>(leaves: &[Leaf<K, V>], probe: &Q) -> Spot
     requires some { 0 < length leaves.now }
     requires filled { AreFilled leaves.now }
-    requires sorted { InOrder K.cmp (joined leaves.now) }
-    requires counted { length (joined leaves.now) < 2 ^ 64 }
+    requires sorted { InOrder K.cmp (contents leaves.now) }
+    requires counted { length (contents leaves.now) < 2 ^ 64 }
     ensures lies { LiesAt K.cmp (Q.key probe.now) leaves.now result.leaf result.at }
-    ensures rank { result.rank ≡ place K.cmp (Q.key probe.now) (joined leaves.now) }
-    ensures tied { result.is_there ≡ is_tied K.cmp (Q.key probe.now) (joined leaves.now) }
+    ensures rank { result.rank ≡ place K.cmp (Q.key probe.now) (contents leaves.now) }
+    ensures tied { result.is_there ≡ is_tied K.cmp (Q.key probe.now) (contents leaves.now) }
 {
     let leaf = leaf_of(leaves, probe);
     let entries = leaves[leaf].as_slice();
@@ -42,13 +42,13 @@ pub(crate) fn exchange_at<K: Ord + Drop, V: Drop>(
     value: V,
 ) -> (K, V)
     requires lies { LiesAt K.cmp key leaves.old.items spot.leaf spot.at }
-    requires tied { is_tied K.cmp key (joined leaves.old.items) ≡ true }
+    requires tied { is_tied K.cmp key (contents leaves.old.items) ≡ true }
     requires filled { AreFilled leaves.old.items }
-    requires sorted { InOrder K.cmp (joined leaves.old.items) }
-    ensures taken { Some result ≡ entry_of K.cmp key (joined leaves.old.items) }
-    ensures items { joined leaves.new.items ≡ replaced K.cmp key value (joined leaves.old.items) }
+    requires sorted { InOrder K.cmp (contents leaves.old.items) }
+    ensures taken { Some result ≡ entry_of K.cmp key (contents leaves.old.items) }
+    ensures items { contents leaves.new.items ≡ replaced K.cmp key value (contents leaves.old.items) }
     ensures filled { AreFilled leaves.new.items }
-    ensures count { length (joined leaves.new.items) ≡ length (joined leaves.old.items) }
+    ensures count { length (contents leaves.new.items) ≡ length (contents leaves.old.items) }
     ensures len { vec_len leaves.new ≡ vec_len leaves.old }
     ensures capacity { vec_capacity leaves.old ≤ vec_capacity leaves.new }
 {
@@ -65,11 +65,11 @@ pub(crate) fn insert_at<K: Ord + Drop, V: Drop>(
 )
     requires lies { LiesAt K.cmp key leaves.old.items spot.leaf spot.at }
     requires room { length (slice_index_or leaves.old.items spot.leaf []) < 64 }
-    requires absent { is_tied K.cmp key (joined leaves.old.items) ≡ false }
+    requires absent { is_tied K.cmp key (contents leaves.old.items) ≡ false }
     requires filled { AreFilled leaves.old.items }
-    ensures items { joined leaves.new.items ≡ put_in K.cmp key value (joined leaves.old.items) }
+    ensures items { contents leaves.new.items ≡ put_in K.cmp key value (contents leaves.old.items) }
     ensures filled { AreFilled leaves.new.items }
-    ensures count { length (joined leaves.new.items) ≡ length (joined leaves.old.items) + 1 }
+    ensures count { length (contents leaves.new.items) ≡ length (contents leaves.old.items) + 1 }
     ensures len { vec_len leaves.new ≡ vec_len leaves.old }
     ensures capacity { vec_capacity leaves.old ≤ vec_capacity leaves.new }
 {

@@ -25,7 +25,7 @@ pub(crate) fn ascend<T: Ord>(items: &[T]) -> bool
 }
 
 // The items in leaves, each filled before the next.
-pub(crate) fn listed<T: Ord + Drop>(items: Vec<T>) -> Result<Leaves<T, ()>, Memory>
+pub(crate) fn into_leaves<T: Ord + Drop>(items: Vec<T>) -> Result<Leaves<T, ()>, Memory>
     ensures { IfOk result (λ made. made.0 ≡ units items.items) }
 {
     let mut made = Leaves::with_capacity(*items.allocator(), items.len())?;

@@ -7,7 +7,7 @@ use crate::memory::Memory;
 use crate::text::Value;
 
 /// What is printed of an entry: its name and an item for each of RETURN (RFC 2244 section 6.4.1).
-#[derive(PartialEq, Eq, Drop)]
+#[derive(Clone, PartialEq, Eq, Drop)]
 pub struct Row {
     /// The name as printed, or the full path.
     pub name: Value,
@@ -26,8 +26,6 @@ impl Row {
 
 impl Copying for Row {
     fn copy(&self) -> Result<Row, Memory> {
-        let name = self.name.copy()?;
-        let items = self.items.copy()?;
-        Ok(Row { name, items })
+        self.clone()
     }
 }

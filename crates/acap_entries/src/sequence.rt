@@ -81,10 +81,18 @@ impl<T: Drop> Sequence<T> {
     }
 }
 
-impl<T: Copying + Drop> Copying for Sequence<T> {
-    fn copy(&self) -> Result<Sequence<T>, Memory> {
+impl<T: Copying + Drop> Clone for Sequence<T> {
+    ghost is_clone = { λ x y. y ≡ x };
+
+    fn clone(&self) -> Result<Sequence<T>, Memory> {
         let items = copy_all(&self.items)?;
         Ok(Sequence { items })
+    }
+}
+
+impl<T: Copying + Drop> Copying for Sequence<T> {
+    fn copy(&self) -> Result<Sequence<T>, Memory> {
+        self.clone()
     }
 }
 

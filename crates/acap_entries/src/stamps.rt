@@ -1,5 +1,5 @@
 //! The printed form of a moment (RFC 2244 sections 3.1.1 and 8).
-ghost use Rattle.std.specs.Prelude.{◌≡◌, ◌+◌, ◌*◌, ◌<◌, ◌≤◌, pos, ◌+ℤ◌};
+ghost use Rattle.std.specs.Prelude.{◌≡◌, ◌+◌, ◌*◌, ◌<◌, pos, ◌+ℤ◌};
 ghost use Rattle.jiff_core.specs.Calendar.{IsBetween, day_count, IsCivilDate};
 ghost use Rattle.acap_entries.specs.Moments.{first_moment, IsMoment};
 ghost use Rattle.acap_entries.specs.Stamp as calendar;

@@ -122,9 +122,17 @@ impl<V: Eq> Eq for Table<V> {
     ghost laws = { tables_equiv V.Eq.laws };
 }
 
-impl<V: Copying + Drop> Copying for Table<V> {
-    fn copy(&self) -> Result<Table<V>, Memory> {
+impl<V: Copying + Drop> Clone for Table<V> {
+    ghost is_clone = { λ x y. y ≡ x };
+
+    fn clone(&self) -> Result<Table<V>, Memory> {
         let entries = copy_all(&self.entries)?;
         Ok(Table { entries })
+    }
+}
+
+impl<V: Copying + Drop> Copying for Table<V> {
+    fn copy(&self) -> Result<Table<V>, Memory> {
+        self.clone()
     }
 }

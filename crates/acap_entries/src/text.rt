@@ -61,17 +61,17 @@ pub struct ValueKind;
 pub struct DatasetKind;
 
 /// A kind of texts: which octets such a text may have.
-pub trait Kind {
+pub trait TextKind {
     ghost may_be: { List ℕ → Bool };
 }
 
 /// A kind of texts that any octets are.
-pub trait AnyOctets: Kind {
+pub trait AnyOctets: TextKind {
     ghost any: { (octets : List ℕ) → Self.may_be octets ≡ true };
 }
 
 /// A kind of texts that are read: which octets are a name of this kind.
-pub trait Named: Kind {
+pub trait Named: TextKind {
     ghost is_name: { List ℕ → Bool };
 
     /// Whether the octets are such a name. Takes no memory.
@@ -83,12 +83,12 @@ pub trait Named: Kind {
 
 /// Octets that are of a kind, ordered octet by octet with a proper prefix first.
 #[derive(Drop)]
-pub struct Text<K: Kind> {
+pub struct Text<K: TextKind> {
     octets: Compact,
     kind: PhantomData<K>,
 }
 
-impl<K: Kind> Model for Text<K> {
+impl<K: TextKind> Model for Text<K> {
     ghost use Rattle.std.specs.Prelude.{ℕ, List, IsTrue};
 
     ghost Value = { List ℕ };
@@ -108,7 +108,7 @@ impl<K: Named> Text<K> {
         if !K::is_name(octets) {
             return Err(NameFault::BadName);
         }
-        Ok(Text::copied(alloc, octets)?)
+        Ok(Text::copy_octets(alloc, octets)?)
     }
 }
 
@@ -124,11 +124,11 @@ impl<K: AnyOctets> Text<K> {
     pub fn from_slice(alloc: Global, octets: &[u8]) -> Result<Text<K>, Memory>
         ensures { IfOk result (λ made. made ≡ octets.now) }
     {
-        Text::copied(alloc, octets)
+        Text::copy_octets(alloc, octets)
     }
 
     /// The octets of four texts, one behind the other. Fails only for want of memory.
-    pub(crate) fn joined(
+    pub(crate) fn join(
         alloc: Global,
         first: &[u8],
         second: &[u8],
@@ -137,7 +137,7 @@ impl<K: AnyOctets> Text<K> {
     ) -> Result<Text<K>, Memory>
         ensures { IfOk result (λ made. made ≡ first.now ++ second.now ++ third.now ++ fourth.now) }
     {
-        let octets = Compact::joined(alloc, first, second, third, fourth)?;
+        let octets = Compact::join(alloc, first, second, third, fourth)?;
         Ok(Text::of(octets))
     }
 }
@@ -151,7 +151,7 @@ impl EntryName {
     }
 }
 
-impl<K: Kind> Text<K> {
+impl<K: TextKind> Text<K> {
     // The text of these octets, which are of the kind.
     #[inline]
     fn of(octets: Compact) -> Text<K>
@@ -165,7 +165,7 @@ impl<K: Kind> Text<K> {
     }
 
     /// The text of octets that are of the kind, copied. Fails only for want of memory.
-    pub(crate) fn copied(alloc: Global, octets: &[u8]) -> Result<Text<K>, Memory>
+    pub(crate) fn copy_octets(alloc: Global, octets: &[u8]) -> Result<Text<K>, Memory>
         requires { IsTrue (K.may_be octets.now) }
         ensures { IfOk result (λ made. made ≡ octets.now) }
     {
@@ -195,14 +195,22 @@ impl<K: Kind> Text<K> {
     }
 }
 
-impl<K: Kind> Copying for Text<K> {
-    fn copy(&self) -> Result<Text<K>, Memory> {
+impl<K: TextKind> Clone for Text<K> {
+    ghost is_clone = { λ x y. y ≡ x };
+
+    fn clone(&self) -> Result<Text<K>, Memory> {
         self.form_law();
-        Text::copied(self.allocator(), self.as_slice())
+        Text::copy_octets(self.allocator(), self.as_slice())
     }
 }
 
-impl<K: Kind> PartialEq for Text<K> {
+impl<K: TextKind> Copying for Text<K> {
+    fn copy(&self) -> Result<Text<K>, Memory> {
+        self.clone()
+    }
+}
+
+impl<K: TextKind> PartialEq for Text<K> {
     ghost eq = { pointwise nat_eq };
 
     ghost laws = { partial_equiv_from_equiv nat_list_eq_equiv };
@@ -212,11 +220,11 @@ impl<K: Kind> PartialEq for Text<K> {
     }
 }
 
-impl<K: Kind> Eq for Text<K> {
+impl<K: TextKind> Eq for Text<K> {
     ghost laws = { nat_list_eq_equiv };
 }
 
-impl<K: Kind> PartialOrd for Text<K> {
+impl<K: TextKind> PartialOrd for Text<K> {
     ghost partial_cmp = { λ x y. Some (slice_cmp nat_cmp x y) };
 
     ghost laws = { texts_po };
@@ -226,7 +234,7 @@ impl<K: Kind> PartialOrd for Text<K> {
     }
 }
 
-impl<K: Kind> Ord for Text<K> {
+impl<K: TextKind> Ord for Text<K> {
     ghost cmp = { slice_cmp nat_cmp };
 
     ghost total = { nat_list_cmp_total };
@@ -240,7 +248,7 @@ impl<K: Kind> Ord for Text<K> {
     }
 }
 
-impl Kind for AttributeKind {
+impl TextKind for AttributeKind {
     ghost may_be = { λ octets. true };
 }
 
@@ -258,7 +266,7 @@ impl Named for AttributeKind {
     }
 }
 
-impl Kind for EntryKind {
+impl TextKind for EntryKind {
     ghost may_be = { name.is_entry_name };
 }
 
@@ -272,7 +280,7 @@ impl Named for EntryKind {
     }
 }
 
-impl Kind for ContextKind {
+impl TextKind for ContextKind {
     ghost may_be = { name.is_context_name };
 }
 
@@ -286,7 +294,7 @@ impl Named for ContextKind {
     }
 }
 
-impl Kind for UserKind {
+impl TextKind for UserKind {
     ghost may_be = { name.is_user_name };
 }
 
@@ -300,7 +308,7 @@ impl Named for UserKind {
     }
 }
 
-impl Kind for ValueKind {
+impl TextKind for ValueKind {
     ghost may_be = { λ octets. true };
 }
 
@@ -308,7 +316,7 @@ impl AnyOctets for ValueKind {
     ghost any = { λ octets. refl };
 }
 
-impl Kind for DatasetKind {
+impl TextKind for DatasetKind {
     ghost may_be = { λ octets. true };
 }
 

@@ -21,7 +21,7 @@ pub fn read_time(text: &[u8]) -> Option<Moment>
     if text.len() < 14 || !are_digits(text) {
         return None;
     }
-    let civil = settled(written(&twenty(text)));
+    let civil = settle(read_civil(&twenty(text)));
     if is_civil(civil) {
         Some(moment_at(civil))
     } else {
@@ -87,9 +87,9 @@ fn six(digits: &[u8; 20], from: usize) -> u32
 }
 
 // The date and time of day that twenty digits write.
-fn written(digits: &[u8; 20]) -> Civil
+fn read_civil(digits: &[u8; 20]) -> Civil
     requires { list_all is_ascii_digit digits.now ≡ true }
-    ensures { result ≡ time.written digits.now }
+    ensures { result ≡ time.civil_of digits.now }
 {
     Civil {
         year: four(digits, 0) as u16,
@@ -103,8 +103,8 @@ fn written(digits: &[u8; 20]) -> Civil
 }
 
 // A leap second as the last microsecond of its minute, and any other time as it is.
-fn settled(civil: Civil) -> Civil
-    ensures { result ≡ time.settled civil }
+fn settle(civil: Civil) -> Civil
+    ensures { result ≡ time.without_leap civil }
 {
     if civil.second == 60 {
         Civil {

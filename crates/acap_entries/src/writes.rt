@@ -136,9 +136,17 @@ impl Writes {
     }
 }
 
-impl Copying for Writes {
-    fn copy(&self) -> Result<Writes, Memory> {
+impl Clone for Writes {
+    ghost is_clone = { λ x y. y ≡ x };
+
+    fn clone(&self) -> Result<Writes, Memory> {
         let entries = copy_all(&self.entries)?;
         Ok(Writes { entries })
+    }
+}
+
+impl Copying for Writes {
+    fn copy(&self) -> Result<Writes, Memory> {
+        self.clone()
     }
 }

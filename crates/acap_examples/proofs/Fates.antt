@@ -1,5 +1,5 @@
 -- What comes of a story from any step on: its world, what the client holds, whether it began whole, and whether all have names.
-use Rattle.std.proofs.Common.{◌≡◌, ℕ, ◌==◌, Bool, true, false, cond, ◌&&◌, List, [], ◌∷◌, ◌++◌, map, Option, Some, None, refl, sym, ap, subst, ◌∙◌}
+use Rattle.std.proofs.Common.{◌≡◌, ℕ, ◌==◌, Bool, true, cond, ◌&&◌, List, [], ◌∷◌, ◌++◌, map, Option, Some, None, refl, sym, ap, subst, ◌∙◌}
 use Rattle.std.specs.List.{list_all}
 use Rattle.std.specs.Option.{is_some}
 use Rattle.std.proofs.lemmas.Bool.{eqb-true}
@@ -12,30 +12,10 @@ use Rattle.acap_examples.specs.Stories.{Shows, as_step}
 use Rattle.acap_examples.specs.declared.step.Step.{Step as StoryStep}
 use Rattle.acap_machine.specs.Client.{Client, View, client_after, live_at, whole_after}
 use Rattle.acap_notices.specs.Holding.{Holding}
-use Rattle.acap_session.specs.Live.{Telling, after, all_steps, client_in, client_told, is_named_deed, start, tells_in, told_all, told_in, whole_in, whole_told}
-use Rattle.acap_session.specs.World.{World, Step, run}
+use Rattle.acap_session.specs.Live.{Telling, after, all_steps, client_in, client_told, is_named_deed, start, tells_in, told_all, whole_in, whole_told}
+use Rattle.acap_session.specs.World.{World, Step, world_after}
 
 -- ---- one step
-
-pub gone_other : (seat : ℕ) (name : List ℕ) (x : Step) (told : Option (Event × Said)) (old new : World) (held : Client) → IsDone x told old new → is_named_deed x.deed ≡ true → (x.occasion.seat == seat) ≡ false → HasGone seat name x false old held new held
-gone_other seat name x told old new held d named own = record {
-  left = d.left;
-  held_is = sym (ap (λ b. cond b (client_told name (told_in old x) held) held) own);
-  whole = sym (ap (λ b. cond b (whole_told name (told_in old x) (is_some held)) (is_some held)) own);
-  named = named;
-  tells = λ k. absurd cc;
-  live = λ k. absurd cc;
-}
-
-pub gone_none : (seat : ℕ) (name : List ℕ) (x : Step) (old new : World) (held : Client) → IsDone x None old new → is_named_deed x.deed ≡ true → (x.occasion.seat == seat) ≡ true → HasGone seat name x false old held new held
-gone_none seat name x old new held d named own = record {
-  left = d.left;
-  held_is = λ i. cond (sym own i) (client_told name (d.told_is i) held) held;
-  whole = λ i. cond (sym own i) (whole_told name (d.told_is i) (is_some held)) (is_some held);
-  named = named;
-  tells = λ k. absurd cc;
-  live = λ k. absurd cc;
-}
 
 pub gone_some : (seat : ℕ) (name : List ℕ) (x : Step) (e : Event) (words : Said) (is_end : Bool) (old new : World) (before held : Client) → IsDone x (Some (e, words)) old new → is_named_deed x.deed ≡ true → (x.occasion.seat == seat) ≡ true
     → held ≡ client_after name e words before → is_some held ≡ whole_after name e words (is_some before) → is_end ≡ updates name e words → HasGone seat name x is_end old before new held
@@ -58,7 +38,7 @@ pub record Fate : Type 0 where
 
 abbrev pub fate : ℕ → List ℕ → List Step → World → Client → Fate
 fate seat name xs w held = record {
-  world = run xs w;
+  world = world_after xs w;
   held = client_in seat name xs w held;
   whole = whole_in seat name xs w (is_some held);
   named = list_all (λ x. is_named_deed x.deed) xs;
@@ -70,7 +50,7 @@ fate_of t = fate t.seat t.name (all_steps t) (start t) None
 
 gone_on : (seat : ℕ) (name : List ℕ) (x : Step) (xs : List Step) (ended : Bool) (old new : World) (before held : Client) → HasGone seat name x ended old before new held → fate seat name xs new held ≡ fate seat name (x ∷ xs) old before
 gone_on seat name x xs ended old new before held g = λ i. record {
-  world = run xs (g.left i);
+  world = world_after xs (g.left i);
   held = client_in seat name xs (g.left i) (g.held_is i);
   whole = whole_in seat name xs (g.left i) (g.whole i);
   named = sym g.named i && list_all (λ x. is_named_deed x.deed) xs;
@@ -80,7 +60,7 @@ gone_on seat name x xs ended old new before held g = λ i. record {
 
 pub record IsUnderWay (t : Telling) (rest : List StoryStep) (w : World) (held : Client) : Type 0 where
   pub end : fate t.seat t.name (map as_step rest ++ t.last ∷ []) w held ≡ fate_of t
-  pub front : run (map as_step rest) w ≡ run t.steps (start t)
+  pub front : world_after (map as_step rest) w ≡ world_after t.steps (start t)
 
 pub goes : (t : Telling) (x : StoryStep) (rest more : List StoryStep) (ended : Bool) (old new : World) (before held : Client) → rest ≡ x ∷ more → HasGone t.seat t.name (as_step x) ended old before new held
     → IsUnderWay t rest old before → IsUnderWay t more new held
@@ -88,7 +68,7 @@ goes t x rest more ended old new before held e g h = record {
   end = gone_on t.seat t.name (as_step x) (map as_step more ++ t.last ∷ []) ended old new before held g
       ∙ sym (ap (λ ss. fate t.seat t.name (map as_step ss ++ t.last ∷ []) old before) e)
       ∙ h.end;
-  front = ap (run (map as_step more)) g.left ∙ sym (ap (λ ss. run (map as_step ss) old) e) ∙ h.front;
+  front = ap (world_after (map as_step more)) g.left ∙ sym (ap (λ ss. world_after (map as_step ss) old) e) ∙ h.front;
 }
 
 -- ---- the last step

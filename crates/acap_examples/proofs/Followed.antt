@@ -6,9 +6,9 @@ use Rattle.acap_commands.specs.declared.fault.Fault.{Fault}
 use Rattle.acap_commands.specs.declared.reply.Reply.{Reply}
 use Rattle.acap_commands.specs.declared.said.Said.{Said}
 use Rattle.acap_dialogue.specs.Running.{event_in}
-use Rattle.acap_dialogue.specs.Saying.{added, heard_of}
-use Rattle.acap_dialogue.specs.Session.{answered, has_seat, is_closed, session_next}
-use Rattle.acap_dialogue.specs.Talking.{Talking, begun}
+use Rattle.acap_dialogue.specs.Saying.{with_said, heard_of}
+use Rattle.acap_dialogue.specs.Session.{after_answer, has_seat, is_closed, session_next}
+use Rattle.acap_dialogue.specs.Talking.{Talking, beginning}
 use Rattle.acap_dialogue.specs.declared.heard.Heard.{Heard}
 use Rattle.acap_dialogue.specs.declared.heard.Heard.TheVariants as heard
 use Rattle.acap_dialogue.specs.declared.next.Next.{Next}
@@ -22,8 +22,8 @@ use Rattle.acap_session.proofs.Alone.{did_by, did_is}
 use Rattle.acap_session.proofs.Placing.{nothing_behind}
 use Rattle.acap_session.specs.Laws.{asked_by, own_at}
 use Rattle.acap_session.specs.Live.{told_with}
-use Rattle.acap_session.specs.Places.{Place, Places, if_open, place_at, placed}
-use Rattle.acap_session.specs.Turning.{Scene, asked_of, left_at, performed, scene, shown, turn_by, turn_of}
+use Rattle.acap_session.specs.Places.{Place, Places, if_open, place_at, with_place}
+use Rattle.acap_session.specs.Turning.{Scene, asked_of, left_at, event_outcome, scene, turn_and_scene, turn_by, turn_of}
 use Rattle.acap_session.specs.World as world
 use Rattle.acap_session.specs.World.{World, Deed, Step, did, open_at, said_before, scene_of, takes, with_scene}
 
@@ -41,13 +41,13 @@ not_left (heard.Asks event) seated x m e = refl
 not_left heard.Closes seated x m e = absurd cc
 
 abbrev asked_with : Step → Machine → List ℕ → Talking → Result (Reply × Machine) Fault → Scene
-asked_with x m out t r = (shown x.occasion (has_seat t || is_ok r) (machine_after m r) out (answered t (outcome_of r))).1
+asked_with x m out t r = (turn_and_scene x.occasion (has_seat t || is_ok r) (machine_after m r) out (after_answer t (outcome_of r))).1
 
 pub performed_with : (x : Step) (event : Event) (words : Said) (m n : Machine) (t new_t : Talking) (out new_out : List ℕ) (reply : Reply) (h : Heard)
-    → step_of m x.occasion.seat event x.occasion.clock ≡ Ok (reply, n) → words ≡ reply.said → h ≡ heard_of (answered t (Ok reply)).0 → new_t ≡ (answered t (Ok reply)).1 → new_out ≡ added out (answered t (Ok reply)).0
+    → step_of m x.occasion.seat event x.occasion.clock ≡ Ok (reply, n) → words ≡ reply.said → h ≡ heard_of (after_answer t (Ok reply)).0 → new_t ≡ (after_answer t (Ok reply)).1 → new_out ≡ with_said out (after_answer t (Ok reply)).0
     → goes_on h ≡ true → IsPerformed x event words (scene m t out) (scene n new_t new_out)
 performed_with x event words m n t new_t out new_out reply h step says e f g on =
-    let stays = not_left (heard_of (answered t (Ok reply)).0) (has_seat t || true) x n (ap goes_on (sym e) ∙ on) in
+    let stays = not_left (heard_of (after_answer t (Ok reply)).0) (has_seat t || true) x n (ap goes_on (sym e) ∙ on) in
     record {
       answered = record { reply = reply; words_are = sym says; step = step };
       left = (λ i. scene (sym stays i) (f i) (g i)) ∙ ap (asked_with x m out t) (sym step);
@@ -61,7 +61,7 @@ is_silent heard.Said = true
 is_silent (heard.Asks event) = false
 is_silent heard.Closes = false
 
-silent : (x : Step) (s : Scene) (n : Next) (t : Talking) (out : List ℕ) → is_silent (heard_of n) ≡ true → out ≡ added s.out n
+silent : (x : Step) (s : Scene) (n : Next) (t : Talking) (out : List ℕ) → is_silent (heard_of n) ≡ true → out ≡ with_said s.out n
     → (event_in (n, t) ≡ None) × (scene s.machine t out ≡ (turn_by x.occasion false s (n, t)).1)
 silent x s next.More t out quiet g = (refl, ap (scene s.machine t) g)
 silent x s (next.Say octets) t out quiet g = (refl, ap (scene s.machine t) g)
@@ -69,7 +69,7 @@ silent x s (next.Ask event) t out quiet g = absurd cc
 silent x s (next.Close octets) t out quiet g = absurd cc
 
 pub told_none : (users : List User) (x : Step) (s : Scene) (t : Talking) (out : List ℕ) (h : Heard) → is_silent h ≡ true
-    → h ≡ heard_of (session_next users x.occasion.nonce x.occasion.clock s.talk).0 → t ≡ (session_next users x.occasion.nonce x.occasion.clock s.talk).1 → out ≡ added s.out (session_next users x.occasion.nonce x.occasion.clock s.talk).0
+    → h ≡ heard_of (session_next users x.occasion.nonce x.occasion.clock s.talk).0 → t ≡ (session_next users x.occasion.nonce x.occasion.clock s.talk).1 → out ≡ with_said s.out (session_next users x.occasion.nonce x.occasion.clock s.talk).0
     → IsToldTurn users x s None (scene s.machine t out)
 unfolding turn_of
 told_none users x s t out h quiet e f g =
@@ -90,7 +90,7 @@ asks_is (next.Ask asked) event e = ap (asked_or asked) e
 asks_is (next.Close octets) event e = cc
 
 pub told_some : (users : List User) (x : Step) (s : Scene) (t : Talking) (out : List ℕ) (h : Heard) (event : Event) (told : Event × Said) (new : Scene) → h ≡ heard.Asks event
-    → h ≡ heard_of (session_next users x.occasion.nonce x.occasion.clock s.talk).0 → t ≡ (session_next users x.occasion.nonce x.occasion.clock s.talk).1 → out ≡ added s.out (session_next users x.occasion.nonce x.occasion.clock s.talk).0
+    → h ≡ heard_of (session_next users x.occasion.nonce x.occasion.clock s.talk).0 → t ≡ (session_next users x.occasion.nonce x.occasion.clock s.talk).1 → out ≡ with_said s.out (session_next users x.occasion.nonce x.occasion.clock s.talk).0
     → told.0 ≡ event → IsPerformed x event told.1 (scene s.machine t out) new → IsToldTurn users x s (Some told) new
 unfolding turn_of
 told_some users x s t out h event told new a e f g same k =
@@ -99,13 +99,13 @@ told_some users x s t out h event told new a e f g same k =
     let made = k.answered in
     record {
       told_is = (λ i. Some (same i, sym made.words_are i)) ∙ ap (λ r. told_with event (outcome_of r)) (sym made.step) ∙ ap (λ q. told_by s.machine x.occasion.seat x.occasion.clock (event_in (q, y.1))) (sym n);
-      left = k.left ∙ (λ i. (asked_of x.occasion false s.machine ((g ∙ ap (added s.out) n) i) (f i) event).1) ∙ ap (λ q. (turn_by x.occasion false s (q, y.1)).1) (sym n);
+      left = k.left ∙ (λ i. (asked_of x.occasion false s.machine ((g ∙ ap (with_said s.out) n) i) (f i) event).1) ∙ ap (λ q. (turn_by x.occasion false s (q, y.1)).1) (sym n);
       answered = subst (λ q. IsAnswered s.machine x.occasion.seat x.occasion.clock q told.1 new.machine) (sym same) made;
     }
 
 -- ---- the same as a step of a world
 
-told_same : (m : Machine) (x : Step) (asks : Option Event) → told_by m x.occasion.seat x.occasion.clock asks ≡ option_and_then (λ e. option_and_then (told_with e) (option_map (λ event. outcome_of (performed false m x.occasion event)) asks)) asks
+told_same : (m : Machine) (x : Step) (asks : Option Event) → told_by m x.occasion.seat x.occasion.clock asks ≡ option_and_then (λ e. option_and_then (told_with e) (option_map (λ event. outcome_of (event_outcome false m x.occasion event)) asks)) asks
 told_same m x None = refl
 told_same m x (Some e) = refl
 
@@ -130,22 +130,22 @@ turn_done old w v x place s told same there put k =
       answered = answered_at told w.machine x.occasion.seat x.occasion.clock s.machine v.machine (ap (λ (y : World). y.machine) put) k.answered;
     })
 
-placed_behind : (xs : Places) (k : ℕ) (p : Place) → k ≡ length xs → xs ++ Some p ∷ [] ≡ placed xs k p
+placed_behind : (xs : Places) (k : ℕ) (p : Place) → k ≡ length xs → xs ++ Some p ∷ [] ≡ with_place xs k p
 placed_behind [] zero p e = refl
 placed_behind [] (suc k) p e = absurd (omega (arith, e))
 placed_behind (x ∷ xs) zero p e = absurd (omega (arith, e))
 placed_behind (x ∷ xs) (suc k) p e = ap (λ ys. x ∷ ys) (placed_behind xs k p (omega (arith, e)))
 
 -- a session that opens at the first seat where none stands
-pub open_done : (old w v : World) (x : Step) (user : List ℕ) (t : Talking) (left : Place) (m : Machine) (told : Option (Event × Said)) → w ≡ old → x.occasion.seat ≡ length w.places → t ≡ begun w.host (Some user)
+pub open_done : (old w v : World) (x : Step) (user : List ℕ) (t : Talking) (left : Place) (m : Machine) (told : Option (Event × Said)) → w ≡ old → x.occasion.seat ≡ length w.places → t ≡ beginning w.host (Some user)
     → v ≡ record w { machine = m; places = w.places ++ Some left ∷ [] } → IsToldTurn w.users x (scene w.machine t []) told (scene m left.talk left.out) → IsDone (on x (world.Open (Some user))) told old v
 open_done old w v x user t left m told same next begins put k =
     let none = nothing_behind w.places x.occasion.seat (omega (arith, next)) in
     let there : open_at w x.occasion.seat ≡ None = ap if_open none in
-    let first : scene w.machine t [] ≡ scene w.machine (begun w.host (Some user)) (said_before (place_at w.places x.occasion.seat)) = λ i. scene w.machine (begins i) (said_before (sym none i)) in
+    let first : scene w.machine t [] ≡ scene w.machine (beginning w.host (Some user)) (said_before (place_at w.places x.occasion.seat)) = λ i. scene w.machine (begins i) (said_before (sym none i)) in
     let h = subst (λ (s : Scene). IsToldTurn w.users x s told (scene m left.talk left.out)) first k in
     subst (λ y. IsDone (on x (world.Open (Some user))) told y v) same (record {
-      told_is = h.told_is ∙ told_same w.machine x (event_in (session_next w.users x.occasion.nonce x.occasion.clock (begun w.host (Some user)))) ∙ sym (ap (told_at w (on x (world.Open (Some user)))) there);
+      told_is = h.told_is ∙ told_same w.machine x (event_in (session_next w.users x.occasion.nonce x.occasion.clock (beginning w.host (Some user)))) ∙ sym (ap (told_at w (on x (world.Open (Some user)))) there);
       left = put ∙ ap (λ ys. record w { machine = m; places = ys }) (placed_behind w.places x.occasion.seat left next) ∙ ap (with_scene w x.occasion.seat) h.left ∙ sym (did_is x.occasion false (world.Open (Some user)) w ∙ ap (did_at x (world.Open (Some user)) w) there);
       answered = answered_at told w.machine x.occasion.seat x.occasion.clock m v.machine (ap (λ (y : World). y.machine) put) h.answered;
     })

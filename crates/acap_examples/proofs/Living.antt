@@ -16,8 +16,8 @@ use Rattle.acap_examples.specs.Followed.{IsAnswered, updates}
 use Rattle.acap_machine.proofs.ClientSteps.{put_contexts, sits}
 use Rattle.acap_machine.specs.Client.{live_at, live_in, live_kept, tells, tells_named}
 use Rattle.acap_machine.specs.Machine.{Machine, user_at}
-use Rattle.acap_machine.specs.Serving.{served, updated_or}
-use Rattle.acap_machine.specs.Stepping.{replied, step_of}
+use Rattle.acap_machine.specs.Serving.{answer_to, updated_or}
+use Rattle.acap_machine.specs.Stepping.{reply_of, step_of}
 use Rattle.acap_moves.proofs.Splits.{same_name}
 use Rattle.acap_moves.specs.Hits.{is_among}
 use Rattle.acap_views.specs.Contexts.{Kept, Snapshot, Live, Freed, Context, Contexts}
@@ -88,7 +88,7 @@ is_updated (said.Updated tolds) = true
 is_updated other = false
 
 by_fault : (m : Machine) (seat : ℕ) (user : List ℕ) (names : List (List ℕ)) (name : List ℕ) (reply : Reply) (new : Machine) (fault : Option ViewRefusal) → user_at m seat ≡ Some user
-    → fault_of (contexts_at m.seats seat) names ≡ fault → replied (ends_in m seat names fault) ≡ (reply, new) → is_updated reply.said ≡ true → is_among name names ≡ true → is_some (live_at new seat name) ≡ true
+    → fault_of (contexts_at m.seats seat) names ≡ fault → reply_of (ends_in m seat names fault) ≡ (reply, new) → is_updated reply.said ≡ true → is_among name names ≡ true → is_some (live_at new seat name) ≡ true
 by_fault m seat user names name reply new None at k e u t =
     ap (λ (p : Reply × Machine). is_some (live_at p.1 seat name)) (sym e)
     ∙ ap (λ contexts. is_live (table.get contexts name)) (put_contexts m seat (sits m seat user at) (after_updates (contexts_at m.seats seat) names m.store.last))
@@ -97,12 +97,12 @@ by_fault m seat user names name reply new None at k e u t =
 by_fault m seat user names name reply new (Some why) at k e u t = absurd (let f = ap (λ (p : Reply × Machine). is_updated p.0.said) e ∙ u in cc)
 
 by_user : (m : Machine) (seat : ℕ) (names : List (List ℕ)) (name : List ℕ) (clock : ℤ) (reply : Reply) (new : Machine) (user : Option (List ℕ)) → user_at m seat ≡ user
-    → option_map_or (λ u. Ok (replied (served m seat u (command.UpdateContext names) clock))) user (Err fault.NotEntered) ≡ Ok (reply, new)
+    → option_map_or (λ u. Ok (reply_of (answer_to m seat u (command.UpdateContext names) clock))) user (Err fault.NotEntered) ≡ Ok (reply, new)
     → is_updated reply.said ≡ true → is_among name names ≡ true → is_some (live_at new seat name) ≡ true
-unfolding served
+unfolding answer_to
 by_user m seat names name clock reply new None at e u t = absurd cc
 by_user m seat names name clock reply new (Some user) at e u t =
-    let same : replied (ends_in m seat names (fault_of (contexts_at m.seats seat) names)) ≡ (reply, new) = cc in
+    let same : reply_of (ends_in m seat names (fault_of (contexts_at m.seats seat) names)) ≡ (reply, new) = cc in
     by_fault m seat user names name reply new (fault_of (contexts_at m.seats seat) names) at refl same u t
 
 -- ---- any event

@@ -9,8 +9,8 @@ use Rattle.acap_commands.specs.declared.said.Said.TheVariants as said
 use Rattle.acap_commands.specs.declared.search.Search.{Search}
 use Rattle.acap_commands.specs.declared.search_reply.SearchReply.{SearchReply}
 use Rattle.acap_dialogue.specs.Running.{event_in}
-use Rattle.acap_dialogue.specs.Saying.{added, heard_of}
-use Rattle.acap_dialogue.specs.Session.{answered, session_next}
+use Rattle.acap_dialogue.specs.Saying.{with_said, heard_of}
+use Rattle.acap_dialogue.specs.Session.{after_answer, session_next}
 use Rattle.acap_dialogue.specs.Talking.{Talking}
 use Rattle.acap_dialogue.specs.declared.heard.Heard.{Heard}
 use Rattle.acap_dialogue.specs.declared.heard.Heard.TheVariants as heard
@@ -40,9 +40,9 @@ pub record IsAnswered (m : Machine) (seat : ℕ) (clock : ℤ) (event : Event) (
 pub record IsHanded (t : Talking) (out : List ℕ) (reply : Reply) (words : Said) (new : Talking) (written : List ℕ) : Type 0 where
   pub words_are : words ≡ reply.said
   pub heard : Heard
-  pub heard_is : heard ≡ heard_of (answered t (Ok reply)).0
-  pub new_is : new ≡ (answered t (Ok reply)).1
-  pub written_is : written ≡ added out (answered t (Ok reply)).0
+  pub heard_is : heard ≡ heard_of (after_answer t (Ok reply)).0
+  pub new_is : new ≡ (after_answer t (Ok reply)).1
+  pub written_is : written ≡ with_said out (after_answer t (Ok reply)).0
   pub going : goes_on heard ≡ true
 
 -- a session's event was performed, and the session was handed what the machine said

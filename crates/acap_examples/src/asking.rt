@@ -1,5 +1,5 @@
 //! One turn of a session, with the event that it asks and what is said to it.
-ghost use Rattle.std.specs.Prelude.{◌≡◌, true, IfOk, OnOk};
+ghost use Rattle.std.specs.Prelude.{◌≡◌, true, IfOk};
 ghost use Rattle.acap_dialogue.specs.Session.{is_asked};
 ghost use Rattle.acap_machine.specs.Stepping.{Stepped};
 ghost use Rattle.acap_session.specs.Turning.{scene};

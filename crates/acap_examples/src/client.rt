@@ -1,7 +1,7 @@
 //! What the client of a context holds after what its session is told.
 ghost use Rattle.std.specs.Prelude.{◌≡◌, Some, is_some, IfOk, IfSome, OnOk};
 ghost use Rattle.std.specs.List.{list_any};
-ghost use Rattle.acap_machine.specs.Client.{answered_on, client_after, makes, noticed, searched_on};
+ghost use Rattle.acap_machine.specs.Client.{answered_on, client_after, makes, client_after_tolds};
 ghost use Rattle.acap_machine.specs.Client.{tells_named, whole_after, whole_over};
 ghost use Rattle.acap_entries.specs.Orders.{octets_eq};
 ghost use Rattle.acap_moves.specs.Hits.{is_among};
@@ -127,7 +127,7 @@ fn hear_notices(
     name: &ContextName,
     tolds: Tolds,
 ) -> Result<Option<Held>, Trouble>
-    ensures held { IfOk result (λ after. after ≡ noticed name.now tolds held) }
+    ensures held { IfOk result (λ after. after ≡ client_after_tolds name.now tolds held) }
     ensures whole { IfOk result (λ after. is_some after ≡ is_some held) }
 {
     match held {
@@ -141,7 +141,7 @@ fn hear_notices(
 
 /// What the client of the context of a name holds after an event of its seat and what was said to it. Where a notice doesn't fit, that
 /// is told as a failure.
-pub(crate) fn held_after(
+pub(crate) fn hold_after(
     held: Option<Held>,
     name: &ContextName,
     event: &Event,

@@ -3,7 +3,7 @@ ghost use Rattle.std.specs.Prelude.{IfOk};
 ghost use Rattle.acap_examples.specs.Followed.{HasGone};
 ghost use Rattle.acap_examples.specs.Stories.{as_step};
 
-use crate::client::{held_after, updates};
+use crate::client::{hold_after, updates};
 use crate::sessions::Sessions;
 use crate::step::Step;
 use crate::trouble::Trouble;
@@ -32,7 +32,7 @@ pub(crate) fn follow<L: Ledger>(
     match told {
         Some((event, said)) => {
             let tells = updates(name, &event, &said);
-            let after = held_after(held, name, &event, said)?;
+            let after = hold_after(held, name, &event, said)?;
             Ok((tells, after))
         }
         None => Ok((false, held)),

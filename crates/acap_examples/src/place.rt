@@ -19,12 +19,12 @@ use std::sync::ledger::Ledger;
 
 /// The session of a seat, with what was said to its client.
 #[derive(Drop)]
-pub(crate) struct Place {
+pub(crate) struct StoryPlace {
     session: Session,
     out: Vec<u8>,
 }
 
-impl Model for Place {
+impl Model for StoryPlace {
     ghost use Rattle.acap_session.specs.Places.{Place as Seen};
 
     ghost Value = { Seen };
@@ -32,12 +32,12 @@ impl Model for Place {
     ghost view = { λ p. record { talk = p.session; out = p.out.items } };
 }
 
-impl Place {
+impl StoryPlace {
     /// A session, and what was said before at its seat.
-    pub(crate) fn new(session: Session, out: Vec<u8>) -> Place
+    pub(crate) fn new(session: Session, out: Vec<u8>) -> StoryPlace
         ensures { result ≡ record { talk = session; out = out.items } }
     {
-        Place { session, out }
+        StoryPlace { session, out }
     }
 
     /// Whether the session is over.

@@ -8,7 +8,7 @@ ghost use Rattle.acap_examples.specs.Stories.{as_step, step_on};
 
 use crate::deed::Deed;
 use crate::occasion::Occasion;
-use crate::place::Place;
+use crate::place::StoryPlace;
 use crate::step::Step;
 use crate::trouble::Trouble;
 use acap_commands::{Event, Said};
@@ -29,7 +29,7 @@ pub(crate) struct Sessions {
     host: Octets,
     users: Users,
     state: State,
-    places: Vec<Option<Place>>,
+    places: Vec<Option<StoryPlace>>,
 }
 
 impl Model for Sessions {
@@ -98,7 +98,7 @@ impl Sessions {
         let host = self.host.copy()?;
         self.places.reserve(1)?;
         let session = Session::new(self.alloc, host, Some(user));
-        let mut place = Place::new(session, Vec::new(self.alloc));
+        let mut place = StoryPlace::new(session, Vec::new(self.alloc));
         let told = place.ask(&mut self.state, &self.users, occasion, steps)?;
         self.places.push(Some(place)).unwrap();
         Ok(told)

@@ -3,7 +3,6 @@
 use acap_commands::Fault;
 use acap_entries::Memory;
 use acap_notices::HeldFault;
-use std::alloc::AllocError;
 
 /// Why nothing is shown of a story.
 #[derive(Clone, Copy, Debug, PartialEq, Eq)]
@@ -28,12 +27,6 @@ pub enum Trouble {
 
 impl From<Memory> for Trouble {
     fn from(_memory: Memory) -> Trouble {
-        Trouble::Memory
-    }
-}
-
-impl From<AllocError> for Trouble {
-    fn from(_memory: AllocError) -> Trouble {
         Trouble::Memory
     }
 }

@@ -15,7 +15,7 @@ use std::sync::ledger::{Blank, Ledger};
 type Lines = &'static [(u8, &'static [u8])];
 
 /// Rows of one value each.
-type Told = &'static [(&'static [u8], &'static [u8])];
+type Pairs = &'static [(&'static [u8], &'static [u8])];
 
 /// Who opens a session at which seat, and what is then sent at which, to the UPDATECONTEXT of the context of
 /// that name.
@@ -141,7 +141,7 @@ fn step(number: u8, deed: Deed) -> Step {
 }
 
 // A line as it is sent.
-fn sent(alloc: Global, line: &[u8]) -> Result<Deed, Memory> {
+fn send(alloc: Global, line: &[u8]) -> Result<Deed, Memory> {
     let mut octets = Vec::new(alloc);
     octets.extend_from_slice(line)?;
     octets.extend_from_slice(b"\r\n")?;
@@ -157,7 +157,7 @@ fn steps_of(alloc: Global, users: Lines, lines: Lines) -> Result<Vec<Step>, Trou
         steps.push(open).map_err(|_| Trouble::Memory)?;
     }
     for (number, line) in lines {
-        let piece = step(*number, sent(alloc, *line)?);
+        let piece = step(*number, send(alloc, *line)?);
         steps.push(piece).map_err(|_| Trouble::Memory)?;
         let turn = step(*number, Deed::Turn);
         steps.push(turn).map_err(|_| Trouble::Memory)?;
@@ -179,7 +179,7 @@ fn story(alloc: Global, tale: &Tale) -> Result<Story, Trouble> {
     })
 }
 
-fn rows_of(alloc: Global, told: Told) -> Result<Rows, Memory> {
+fn rows_of(alloc: Global, told: Pairs) -> Result<Rows, Memory> {
     let mut rows = Rows::new(alloc);
     for (name, value) in told {
         let mut items = Items::new(alloc);
@@ -191,7 +191,7 @@ fn rows_of(alloc: Global, told: Told) -> Result<Rows, Memory> {
 }
 
 // Whether the client of the context of that seat and name holds these rows at the end.
-fn holds<L: Ledger>(alloc: Global, blank: Blank, tale: &Tale, told: Told) -> Result<bool, Trouble>
+fn holds<L: Ledger>(alloc: Global, blank: Blank, tale: &Tale, told: Pairs) -> Result<bool, Trouble>
     requires name { blank.name ≡ L.name }
     requires parts { blank.parts ≡ L.parts }
     requires some { 0 < L.parts }
@@ -204,8 +204,8 @@ fn holds<L: Ledger>(alloc: Global, blank: Blank, tale: &Tale, told: Told) -> Res
 
 #[test]
 fn sorted_context(rt: HostRuntime) {
-    let good: Told = &[(b"b", b"2"), (b"c", b"3"), (b"a", b"9")];
-    let other: Told = &[(b"a", b"9"), (b"b", b"2"), (b"c", b"3")];
+    let good: Pairs = &[(b"b", b"2"), (b"c", b"3"), (b"a", b"9")];
+    let other: Pairs = &[(b"a", b"9"), (b"b", b"2"), (b"c", b"3")];
     assert_eq!(rt;
         holds::<Brand>(rt.alloc(), Blank::new(1), &SORTED, good),
         Ok(true)
@@ -218,8 +218,8 @@ fn sorted_context(rt: HostRuntime) {
 
 #[test]
 fn live_rights(rt: HostRuntime) {
-    let good: Told = &[(b"e", b"s"), (b"f", b"t")];
-    let other: Told = &[(b"e", b"s")];
+    let good: Pairs = &[(b"e", b"s"), (b"f", b"t")];
+    let other: Pairs = &[(b"e", b"s")];
     assert_eq!(rt;
         holds::<Brand>(rt.alloc(), Blank::new(1), &RIGHTS, good),
         Ok(true)
@@ -232,8 +232,8 @@ fn live_rights(rt: HostRuntime) {
 
 #[test]
 fn mixed_notices(rt: HostRuntime) {
-    let good: Told = &[(b"a", b"1"), (b"d", b"4"), (b"f", b"9")];
-    let other: Told = &[(b"a", b"1"), (b"d", b"4"), (b"f", b"6")];
+    let good: Pairs = &[(b"a", b"1"), (b"d", b"4"), (b"f", b"9")];
+    let other: Pairs = &[(b"a", b"1"), (b"d", b"4"), (b"f", b"6")];
     assert_eq!(rt;
         holds::<Brand>(rt.alloc(), Blank::new(1), &MIXED, good),
         Ok(true)
@@ -250,8 +250,8 @@ fn mixed_notices(rt: HostRuntime) {
 
 #[test]
 fn without_positions(rt: HostRuntime) {
-    let good: Told = &[(b"d", b"4"), (b"f", b"9"), (b"a", b"1")];
-    let other: Told = &[(b"d", b"4"), (b"f", b"6"), (b"a", b"1")];
+    let good: Pairs = &[(b"d", b"4"), (b"f", b"9"), (b"a", b"1")];
+    let other: Pairs = &[(b"d", b"4"), (b"f", b"6"), (b"a", b"1")];
     assert_eq!(rt;
         holds::<Brand>(rt.alloc(), Blank::new(1), &UNPLACED, good),
         Ok(true)

@@ -33,7 +33,7 @@ use Rattle.acap_grammar.specs.Grammar as grammar
 use Rattle.acap_grammar.specs.Keys as keys
 use Rattle.acap_grammar.specs.Laws.{FirstFault, place_in, fault_at}
 use Rattle.acap_grammar.specs.Marks as mark
-use Rattle.acap_grammar.specs.Outcome.{◌>>=◌, Fault, Read, refused, judged}
+use Rattle.acap_grammar.specs.Outcome.{◌>>=◌, Fault, Read, fault_here, verdict_at}
 use Rattle.acap_grammar.specs.Searching as searching
 use Rattle.acap_grammar.specs.Storing as storing
 use Rattle.acap_commands.specs.Wanted.{Wanted}
@@ -45,8 +45,8 @@ number : Looks argument.number_at
 unfolding argument.number_at
 number = by_token _ (begins _ refl) (λ t. by_kind t (mark.is_word t.kind) refl (argument.number_in t.value) refl) where
   by_kind : (t : Token) (b : Bool) → mark.is_word t.kind ≡ b → (o : Option ℕ) → argument.number_in t.value ≡ o → At argument.number_at t
-  by_kind t false e o n = Stops (refused [] fault.Arguments) (λ rest. rw e refl)
-  by_kind t true e None n = Stops (refused [] fault.Arguments) (λ rest. rw (e, n) refl)
+  by_kind t false e o n = Stops (fault_here [] fault.Arguments) (λ rest. rw e refl)
+  by_kind t true e None n = Stops (fault_here [] fault.Arguments) (λ rest. rw (e, n) refl)
   by_kind t true e (Some x) n = Goes (λ rest. Ok (x, rest)) (value x) (λ rest. rw (e, n) refl)
 
 entry_part : (dataset attribute : List ℕ) → Looks (argument.entry_part dataset attribute)
@@ -66,18 +66,18 @@ object = behind mark.is_open _ (bind _ _ (named _) (λ d. bind _ _ (attribute_pa
 strings_step : (u : Token) (rest : List Token) (seen : List (List ℕ)) (r : Read (List (List ℕ))) (t : Token) (left : List Token)
     → (storing.strings_at (seen ++ u.value ∷ []) rest ≡ r → Front (storing.strings_at (seen ++ u.value ∷ [])) rest r t left) → left_in r ≡ t ∷ left
     → (b : Bool) → mark.is_close u.kind ≡ b → (c : Bool) → mark.is_string u.kind ≡ c
-    → (if b then Ok (seen, rest) else (if c then storing.strings_at (seen ++ u.value ∷ []) rest else refused (u ∷ rest) fault.Arguments)) ≡ r → Front (storing.strings_at seen) (u ∷ rest) r t left
+    → (if b then Ok (seen, rest) else (if c then storing.strings_at (seen ++ u.value ∷ []) rest else fault_here (u ∷ rest) fault.Arguments)) ≡ r → Front (storing.strings_at seen) (u ∷ rest) r t left
 unfolding storing.strings_at
 strings_step u rest seen r t left further l true p c q e = behind_first (storing.strings_at seen) (λ more. Ok (seen, more)) u rest r t left (λ more. rw p refl) ((value seen).ahead rest r t left e l)
 strings_step u rest seen r t left further l false p true q e = behind_first (storing.strings_at seen) (storing.strings_at (seen ++ u.value ∷ [])) u rest r t left (λ more. rw (p, q) refl) (further e)
-strings_step u rest seen r t left further l false p false q e = stops_there (storing.strings_at seen) u rest r (refused [] fault.Arguments) t left (λ more. rw (p, q) refl) e l
+strings_step u rest seen r t left further l false p false q e = stops_there (storing.strings_at seen) u rest r (fault_here [] fault.Arguments) t left (λ more. rw (p, q) refl) e l
 
 strings_ahead : (tokens : List Token) (seen : List (List ℕ)) (r : Read (List (List ℕ))) (t : Token) (left : List Token) → storing.strings_at seen tokens ≡ r → left_in r ≡ t ∷ left → Front (storing.strings_at seen) tokens r t left
 unfolding storing.strings_at
 strings_ahead [] seen r t left e l = let p : [] ≡ t ∷ left = ap left_in e ∙ l in absurd cc
 strings_ahead (u ∷ rest) seen r t left e l = strings_step u rest seen r t left (λ m. strings_ahead rest (seen ++ u.value ∷ []) r t left m l) l (mark.is_close u.kind) refl (mark.is_string u.kind) refl e
 
-argument_missing : {A : Type 0} (tokens : List Token) (e : Fault) → ◌≡◌ {A = Read A} (refused tokens fault.Arguments) (Err e) → e.fault ≡ fault.Arguments
+argument_missing : {A : Type 0} (tokens : List Token) (e : Fault) → ◌≡◌ {A = Read A} (fault_here tokens fault.Arguments) (Err e) → e.fault ≡ fault.Arguments
 argument_missing tokens e m = let same : record { fault = fault.Arguments; left = tokens } ≡ e = cc in ap (λ (x : Fault). x.fault) (sym same)
 
 strings_end : (tokens : List Token) (seen : List (List ℕ)) (e : Fault) → storing.strings_at seen tokens ≡ Err e → e.fault ≡ fault.Arguments
@@ -85,7 +85,7 @@ unfolding storing.strings_at
 strings_end [] seen e m = argument_missing [] e m
 strings_end (u ∷ rest) seen e m = by_kind (mark.is_close u.kind) (mark.is_string u.kind) (λ n. strings_end rest (seen ++ u.value ∷ []) e n) m where
   by_kind : (b c : Bool) → (storing.strings_at (seen ++ u.value ∷ []) rest ≡ Err e → e.fault ≡ fault.Arguments)
-      → (if b then Ok (seen, rest) else (if c then storing.strings_at (seen ++ u.value ∷ []) rest else refused (u ∷ rest) fault.Arguments)) ≡ Err e → e.fault ≡ fault.Arguments
+      → (if b then Ok (seen, rest) else (if c then storing.strings_at (seen ++ u.value ∷ []) rest else fault_here (u ∷ rest) fault.Arguments)) ≡ Err e → e.fault ≡ fault.Arguments
   by_kind true c further n = absurd cc
   by_kind false true further n = further n
   by_kind false false further n = argument_missing (u ∷ rest) e n
@@ -97,7 +97,7 @@ plain : Looks storing.plain_at
 unfolding storing.plain_at
 plain =
     choose _ _ _ (starting mark.is_string) (bind _ _ string (λ x. value _))
-    (worded storing.given_words (λ ts o. judged ts (argument.or_fault fault.Arguments o)) (λ ts. refl) (λ t w. Goes (λ rest. Ok (w, rest)) (value w) (λ rest. refl)))
+    (worded storing.given_words (λ ts o. verdict_at ts (argument.or_fault fault.Arguments o)) (λ ts. refl) (λ t w. Goes (λ rest. Ok (w, rest)) (value w) (λ rest. refl)))
 
 given : Looks storing.given_at
 unfolding storing.given_at
@@ -122,14 +122,14 @@ store_items : Looks storing.items_at
 unfolding storing.items_at mark.starts
 store_items = some_items _ _ storing.item_at (starting mark.is_close) (starting mark.is_string) (inr refl) item 256 []
 
-conditioned : (seen : StoreModifiers) (w : StoreWord) → Looks (storing.conditioned seen w)
-unfolding storing.conditioned
+conditioned : (seen : StoreModifiers) (w : StoreWord) → Looks (storing.behind_condition seen w)
+unfolding storing.behind_condition
 conditioned seen store_word.NoCreate = value _
 conditioned seen store_word.UnchangedSince = bind _ _ (named _) (λ x. value _)
 
 condition : (seen : StoreModifiers) → Looks (storing.condition_at seen)
 unfolding storing.condition_at
-condition seen = worded storing.store_words (storing.condition_by seen) (λ ts. refl) (λ t w. judged_first (storing.once (storing.has_condition seen w)) (storing.conditioned seen w) (conditioned seen w) t)
+condition seen = worded storing.store_words (storing.condition_by seen) (λ ts. refl) (λ t w. judged_first (storing.once (storing.has_condition seen w)) (storing.behind_condition seen w) (conditioned seen w) t)
 
 conditions : Looks storing.conditions_at
 unfolding storing.conditions_at storing.no_condition mark.word_at
@@ -183,7 +183,7 @@ key_behind inner p (key_word.Meets r) = bind _ _ (meets r) (λ x. value _)
 
 key : (levels : ℕ) → Looks (keys.key_at levels)
 unfolding keys.key_at mark.ends mark.word_at
-key zero = by_token _ (begins _ refl) (λ t. Stops (refused [] fault.TooDeep) (λ rest. refl))
+key zero = by_token _ (begins _ refl) (λ t. Stops (fault_here [] fault.TooDeep) (λ rest. refl))
 key (suc levels) = worded keys.key_words (keys.key_by (keys.key_at levels)) (λ ts. refl) (λ t w. Goes (keys.key_behind (keys.key_at levels) w) (key_behind _ (key levels) w) (λ rest. refl))
 
 -- ---- SEARCH
@@ -226,8 +226,8 @@ make_context : Looks searching.make_context_at
 unfolding searching.make_context_at searching.flag_at
 make_context = flagged (codes "ENUMERATE") (λ ts o. notified_behind (searching.flag_by ts o).0 (searching.flag_by ts o).1) (notified_behind true) (notified false) (notified true) (λ ts rest. refl)
 
-modified : (m : SearchModifiers) (w : SearchWord) → Looks (searching.modified m w)
-unfolding searching.modified
+modified : (m : SearchModifiers) (w : SearchWord) → Looks (searching.behind_modifier m w)
+unfolding searching.behind_modifier
 modified m search_word.Depth = bind _ _ number (λ x. value _)
 modified m search_word.HardLimit = bind _ _ number (λ x. value _)
 modified m search_word.Limit = bind _ _ limit (λ x. value _)
@@ -240,7 +240,7 @@ modifier : (s : Scope) → Looks (searching.modifier_at s)
 unfolding searching.modifier_at
 modifier s =
     worded searching.search_words (searching.modifier_by s) (λ ts. refl)
-    (λ t w. judged_first (searching.may_modify s w) (λ ts. searching.modified s.modifiers w ts >>= λ y. Ok (record s { modifiers = y.0 }, y.1)) (bind _ _ (modified s.modifiers w) (λ y. value _)) t)
+    (λ t w. judged_first (searching.may_modify s w) (λ ts. searching.behind_modifier s.modifiers w ts >>= λ y. Ok (record s { modifiers = y.0 }, y.1)) (bind _ _ (modified s.modifiers w) (λ y. value _)) t)
 
 modifiers : (of : Target) → Looks (searching.modifiers_at of)
 unfolding searching.modifiers_at searching.no_modifier mark.word_at
@@ -279,7 +279,7 @@ behind_verb verb.UpdateContext = bind _ _ contexts (λ x. value _)
 
 -- behind a verb up to the end
 abbrev ended_by : Bool → Command × List Token → Read Command
-ended_by b x = if b then Ok (x.0, x.1) else refused x.1 fault.Arguments
+ended_by b x = if b then Ok (x.0, x.1) else fault_here x.1 fault.Arguments
 
 abbrev ended : Command × List Token → Read Command
 ended x = ended_by (mark.ends x.1) x
@@ -289,19 +289,19 @@ line_behind v ts = grammar.arguments_at v ts >>= ended
 
 line_looks : (v : Verb) → Looks (line_behind v)
 line_looks v =
-    bind _ _ (behind_verb v) (λ c. choose mark.ends (λ ts. Ok (c, ts)) (λ ts. refused ts fault.Arguments) ending (value c) (by_token _ (begins _ refl) (λ t. Stops (refused [] fault.Arguments) (λ rest. refl))))
+    bind _ _ (behind_verb v) (λ c. choose mark.ends (λ ts. Ok (c, ts)) (λ ts. fault_here ts fault.Arguments) ending (value c) (by_token _ (begins _ refl) (λ t. Stops (fault_here [] fault.Arguments) (λ rest. refl))))
 
 to_line : (r : Read Command) (e : Fault) → (r >>= grammar.whole) ≡ Err e → (r >>= ended) ≡ Err e
 to_line (Err d) e m = let same : d ≡ e = cc in ap Err same
 to_line (Ok x) e m = by_end (mark.ends x.1) m where
-  by_end : (b : Bool) → (if b then Ok x.0 else refused x.1 fault.Arguments) ≡ Err e → ended_by b x ≡ Err e
+  by_end : (b : Bool) → (if b then Ok x.0 else fault_here x.1 fault.Arguments) ≡ Err e → ended_by b x ≡ Err e
   by_end true n = absurd cc
   by_end false n = let same : record { fault = fault.Arguments; left = x.1 } ≡ e = cc in ap Err same
 
 from_line : (r : Read Command) (e : Fault) → (r >>= ended) ≡ Err e → (r >>= grammar.whole) ≡ Err e
 from_line (Err d) e m = let same : d ≡ e = cc in ap Err same
 from_line (Ok x) e m = by_end (mark.ends x.1) m where
-  by_end : (b : Bool) → ended_by b x ≡ Err e → (if b then Ok x.0 else refused x.1 fault.Arguments) ≡ Err e
+  by_end : (b : Bool) → ended_by b x ≡ Err e → (if b then Ok x.0 else fault_here x.1 fault.Arguments) ≡ Err e
   by_end true n = absurd cc
   by_end false n = let same : record { fault = fault.Arguments; left = x.1 } ≡ e = cc in ap Err same
 
@@ -309,9 +309,9 @@ from_line (Ok x) e m = by_end (mark.ends x.1) m where
 record Place (tokens : List Token) (e : Fault) (t : Token) (left : List Token) : Type 0 where
   pub front : List Token
   pub whole : tokens ≡ front ++ t ∷ left
-  pub same : (other : List Token) → grammar.command_at (front ++ t ∷ other) ≡ refused (t ∷ other) e.fault
+  pub same : (other : List Token) → grammar.command_at (front ++ t ∷ other) ≡ fault_here (t ∷ other) e.fault
 
-verb_missing : {A : Type 0} (tokens : List Token) (e : Fault) → ◌≡◌ {A = Result A Fault} (refused tokens fault.UnknownCommand) (Err e) → record { fault = fault.UnknownCommand; left = tokens } ≡ e
+verb_missing : {A : Type 0} (tokens : List Token) (e : Fault) → ◌≡◌ {A = Result A Fault} (fault_here tokens fault.UnknownCommand) (Err e) → record { fault = fault.UnknownCommand; left = tokens } ≡ e
 verb_missing tokens e m = cc
 
 line_place : (tokens : List Token) (e : Fault) (t : Token) (left : List Token) → grammar.command_at tokens ≡ Err e → e.left ≡ t ∷ left → Place tokens e t left
@@ -319,7 +319,7 @@ unfolding mark.word_at
 line_place [] e t left m l = let p : [] ≡ t ∷ left = ap (λ (x : Fault). x.left) (verb_missing [] e m) ∙ l in absurd cc
 line_place (tag ∷ []) e t left m l = let p : [] ≡ t ∷ left = ap (λ (x : Fault). x.left) (verb_missing [] e m) ∙ l in absurd cc
 line_place (tag ∷ u ∷ rest) e t left m l = by_word (mark.is_word u.kind) refl (mark.word_in grammar.verbs u.value) refl m where
-  unknown : ((more : List Token) → grammar.command_at (tag ∷ u ∷ more) ≡ refused (u ∷ more) fault.UnknownCommand) → grammar.command_at (tag ∷ u ∷ rest) ≡ Err e → Place (tag ∷ u ∷ rest) e t left
+  unknown : ((more : List Token) → grammar.command_at (tag ∷ u ∷ more) ≡ fault_here (u ∷ more) fault.UnknownCommand) → grammar.command_at (tag ∷ u ∷ rest) ≡ Err e → Place (tag ∷ u ∷ rest) e t left
   unknown is n =
       let same : record { fault = fault.UnknownCommand; left = u ∷ rest } ≡ e = verb_missing (u ∷ rest) e (sym (is rest) ∙ n) in
       let all : u ∷ rest ≡ t ∷ left = ap (λ (x : Fault). x.left) same ∙ l in
@@ -327,7 +327,7 @@ line_place (tag ∷ u ∷ rest) e t left m l = by_word (mark.is_word u.kind) ref
       record {
         front = tag ∷ [];
         whole = ap (λ (ts : List Token). tag ∷ ts) all;
-        same = λ other. subst (λ (v : Token). grammar.command_at (tag ∷ v ∷ other) ≡ refused (v ∷ other) e.fault) first (is other ∙ ap (λ (x : Fault). refused (u ∷ other) x.fault) same);
+        same = λ other. subst (λ (v : Token). grammar.command_at (tag ∷ v ∷ other) ≡ fault_here (v ∷ other) e.fault) first (is other ∙ ap (λ (x : Fault). fault_here (u ∷ other) x.fault) same);
       }
 
   by_word : (b : Bool) → mark.is_word u.kind ≡ b → (o : Option Verb) → mark.word_in grammar.verbs u.value ≡ o → grammar.command_at (tag ∷ u ∷ rest) ≡ Err e → Place (tag ∷ u ∷ rest) e t left
@@ -367,7 +367,7 @@ parts : {A B : Type 0} (a c : A) (b d : B) → ◌≡◌ {A = Option (A × B)} (
 parts {A} {B} a c b d e = let p : ◌≡◌ {A = A × B} (a, b) (c, d) = cc in (ap (λ (x : A × B). x.0) p, ap (λ (x : A × B). x.1) p)
 
 cut_there : (tokens others front : List Token) (t : Token) (left : List Token) (i : ℕ) (e f : GrammarFault) → tokens ≡ front ++ t ∷ left → length front ≡ i → f ≡ e
-    → grammar.command_at (front ++ t ∷ others) ≡ refused (t ∷ others) f → fault_at (take (i + 1) tokens ++ others) ≡ Some (e, i)
+    → grammar.command_at (front ++ t ∷ others) ≡ fault_here (t ∷ others) f → fault_at (take (i + 1) tokens ++ others) ≡ Some (e, i)
 cut_there tokens others front t left i e f whole index same is = rw (whole, ← index, taken front t left others, is, index_of front t others, same) refl
 
 told : (tokens : List Token) (r : Result Command Fault) (e : GrammarFault) (i : ℕ) → place_in tokens r ≡ Some (e, i) → grammar.without_place r ≡ Err e

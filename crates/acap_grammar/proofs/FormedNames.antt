@@ -13,7 +13,7 @@ use Rattle.std.proofs.lemmas.Str.{IsUtf8-from_is_utf8, is_utf8-from_IsUtf8}
 use Rattle.std.proofs.Math.Seq.{take-append_seam, drop-append_seam}
 use borrow.Author.Tests.{eqb-true}
 use Rattle.acap_lexer.proofs.SpelledTokens.{longest}
-use Rattle.acap_entries.specs.Names.{is_slash, slash, dot, star, percent, nul, has, begins_with, ends_with, is_component, components, dataset_len, dataset_of, name_of, is_entry_name, step_count, is_path, is_dataset_argument, is_attribute, is_context_name, closed}
+use Rattle.acap_entries.specs.Names.{is_slash, slash, dot, star, percent, nul, has, begins_with, ends_with, is_component, components, dataset_len, dataset_of, name_of, is_entry_name, step_count, is_path, is_dataset_argument, is_attribute, is_context_name, with_slash}
 use Rattle.acap_entries.specs.declared.path.Path.{Path}
 use Rattle.acap_entries.proofs.NameLemmas.{closed_by_slash, part_count, path_has_dataset, same_parts, taken_closed}
 use Rattle.acap_grammar.specs.declared.grammar_fault.GrammarFault.{GrammarFault}
@@ -89,7 +89,7 @@ closed_split (x ∷ xs) = by_slash (is_slash x) refl (closed_split xs) where
   by_slash true e more = let same : slash ≡ x = sym (eqb-true x slash e) in ap (λ (t : List ℕ). slash ∷ t) more ∙ ap (λ (n : ℕ). n ∷ (xs ++ slash ∷ [])) same
   by_slash false e more = closed_onto x (slice_split is_slash xs) (omega (arith, part_count xs)) ∙ ap (λ (t : List ℕ). x ∷ t) more
 
-closed_is : (text : List ℕ) → begins_with slash text ≡ true → closed text ≡ slash ∷ closed_each (components text)
+closed_is : (text : List ℕ) → begins_with slash text ≡ true → with_slash text ≡ slash ∷ closed_each (components text)
 unfolding components
 closed_is [] b = absurd cc
 closed_is (x ∷ []) b = rw b (ap (λ (n : ℕ). n ∷ []) (eqb-true x slash b))
@@ -105,10 +105,10 @@ closed_is (x ∷ y ∷ ys) b = by_end (ends_with slash (x ∷ y ∷ ys)) refl wh
       let parts : closed_each (components (x ∷ y ∷ ys)) ≡ y ∷ (ys ++ slash ∷ []) = ap closed_each (components_open x y ys e) ∙ closed_split (y ∷ ys) in
       ap (λ (n : ℕ). n ∷ y ∷ (ys ++ slash ∷ [])) (eqb-true x slash b) ∙ ap (λ (t : List ℕ). slash ∷ t) (sym parts)
 
-made_of : (text : List ℕ) → begins_with slash text ≡ true → list_all is_component (components text) ≡ true → IsMadeOf (components text) (closed text)
+made_of : (text : List ℕ) → begins_with slash text ≡ true → list_all is_component (components text) ≡ true → IsMadeOf (components text) (with_slash text)
 made_of text b h = record { each = components_are (components text) h; whole = closed_is text b }
 
-closed_ends : (text : List ℕ) → ends_with slash (closed text) ≡ true
+closed_ends : (text : List ℕ) → ends_with slash (with_slash text) ≡ true
 closed_ends text = by_end (ends_with slash text) refl where
   by_end : (b : Bool) → ends_with slash text ≡ b → ends_with slash (if b then text else text ++ slash ∷ []) ≡ true
   by_end true e = e
@@ -117,12 +117,12 @@ closed_ends text = by_end (ends_with slash text) refl where
 -- what a name that was read was, and what it was read as
 record WasRead (text d : List ℕ) : Type 0 where
   good : is_dataset_argument text ≡ true
-  is : closed text ≡ d
+  is : with_slash text ≡ d
 
 was_read : (text d : List ℕ) → dataset_named text ≡ Ok d → WasRead text d
 unfolding dataset_named
 was_read text d e = by_good (is_dataset_argument text) refl e where
-  by_good : (b : Bool) → is_dataset_argument text ≡ b → if_named b (closed text) ≡ Ok d → WasRead text d
+  by_good : (b : Bool) → is_dataset_argument text ≡ b → if_named b (with_slash text) ≡ Ok d → WasRead text d
   by_good true h f = record { good = h; is = cc }
   by_good false h f = absurd cc
 
@@ -139,7 +139,7 @@ no_longer text = by_size (nat_le (length text) 1) where
   by_size true = omega arith
   by_size false = let size = length-take-le (length text - 1) text (omega arith) in omega (arith, size)
 
-as_sent : (text : List ℕ) → begins_with slash text ≡ true → length (dataset_text (closed text)) ≤ length text
+as_sent : (text : List ℕ) → begins_with slash text ≡ true → length (dataset_text (with_slash text)) ≤ length text
 as_sent [] h = absurd cc
 as_sent (x ∷ text) h = by_end (ends_with slash (x ∷ text)) where
   by_end : (b : Bool) → length (dataset_text (if b then x ∷ text else x ∷ (text ++ slash ∷ []))) ≤ length (x ∷ text)
@@ -151,7 +151,7 @@ dataset_formed text d e =
     let w = was_read text d e in
     let a = argument text w.good in
     let size : length text ≤ 1024 = leb-true (length text) 1024 a.size in
-    let sent : length (dataset_text (closed text)) ≤ 1024 = omega (arith, size, as_sent text a.begins) in
+    let sent : length (dataset_text (with_slash text)) ≤ 1024 = omega (arith, size, as_sent text a.begins) in
     record {
       components = components text;
       is = subst (λ (t : List ℕ). IsMadeOf (components text) t) w.is (made_of text a.begins a.parts);
@@ -229,7 +229,7 @@ unfolding dataset_of name_of
 formed_parts text h =
     let g = good_path text h in
     let ends = dataset_ends text (path_has_dataset text h) in
-    let same : closed (dataset_of text) ≡ dataset_of text = rw ends refl in
+    let same : with_slash (dataset_of text) ≡ dataset_of text = rw ends refl in
     record {
       components = components (dataset_of text);
       dataset = subst (λ (t : List ℕ). IsMadeOf (components (dataset_of text)) t) same (made_of (dataset_of text) g.begins g.parts);

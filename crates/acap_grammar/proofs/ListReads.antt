@@ -3,10 +3,10 @@ use Rattle.std.proofs.Common.{◌≡◌, ℕ, zero, suc, ◌-◌, ◌≤◌, Boo
 use Rattle.std.proofs.lemmas.List.{append-nil}
 use Rattle.acap_lexer.specs.Token.{Token}
 use Rattle.acap_grammar.specs.Outcome.{Read}
-use Rattle.acap_grammar.specs.Several.{several, some_of, enclosed}
+use Rattle.acap_grammar.specs.Several.{several, some_of, in_parenthesis}
 use Rattle.acap_grammar.specs.Marks.{is_close, starts, behind}
 use Rattle.acap_grammar.specs.Sendable.{Each, OneTo}
-use Rattle.acap_grammar.specs.Spelling.{each, opened, shut}
+use Rattle.acap_grammar.specs.Spelling.{each, open_then, shut}
 
 -- an item is read, and the next
 pub one_more : {A : Type 0} (over fits : List Token → Bool) (item : A → List Token → Read A) (room : ℕ) (seen : A) (tokens : List Token) (x : A × List Token)
@@ -58,6 +58,6 @@ some_read {X} {over} {next} {item} {spell} {Suits} r fits (x ∷ xs) room rest o
 -- in a parenthesis
 pub enclosed_read : {X : Type 0} {next : List Token → Bool} {item : List X → List Token → Read (List X)} {spell : X → List Token → List Token} {Suits : List X → X → Type 0}
     → ReadsEach (starts is_close) next item spell Suits → (fits : List Token → Bool) (xs : List X) (room : ℕ) (rest : List Token)
-    → next (shut rest) ≡ true → OneTo (suc room) xs → Each Suits [] xs → enclosed (starts is_close) fits item (suc room) [] (opened (each spell xs (shut rest))) ≡ Ok (xs, rest)
-unfolding enclosed behind starts
+    → next (shut rest) ≡ true → OneTo (suc room) xs → Each Suits [] xs → in_parenthesis (starts is_close) fits item (suc room) [] (open_then (each spell xs (shut rest))) ≡ Ok (xs, rest)
+unfolding in_parenthesis behind starts
 enclosed_read r fits xs room rest n h s = rw (some_read r fits xs room (shut rest) refl n h s) refl

@@ -6,8 +6,8 @@ use Rattle.acap_lexer.specs.declared.kind.Kind.{Kind}
 use Rattle.acap_lexer.specs.Token.{Token}
 use Rattle.acap_grammar.specs.declared.grammar_fault.GrammarFault.{GrammarFault}
 use Rattle.acap_grammar.specs.declared.grammar_fault.GrammarFault.TheVariants as fault
-use Rattle.acap_grammar.specs.Outcome.{◌>>=◌, Fault, Read, refused, judged}
-use Rattle.acap_grammar.specs.Several.{several, some_of, enclosed}
+use Rattle.acap_grammar.specs.Outcome.{◌>>=◌, Fault, Read, fault_here, verdict_at}
+use Rattle.acap_grammar.specs.Several.{several, some_of, in_parenthesis}
 use Rattle.acap_grammar.specs.Marks as mark
 use Rattle.acap_grammar.specs.Arguments.{named_at}
 use Rattle.acap_grammar.specs.Storing.{once}
@@ -20,7 +20,7 @@ left_in (Err e) = e.left
 -- the same with others left
 abbrev pub leaving : {A : Type 0} → Read A → List Token → Read A
 leaving (Ok x) left = Ok (x.0, left)
-leaving (Err e) left = refused left e.fault
+leaving (Err e) left = fault_here left e.fault
 
 -- the tokens before that one, with which it is read the same whatever stands behind it
 pub record Front {A : Type 0} (read : List Token → Read A) (tokens : List Token) (r : Read A) (t : Token) (left : List Token) : Type 0 where
@@ -155,8 +155,8 @@ pub record Begins {A : Type 0} (read : List Token → Read A) : Type 0 where
 pub by_token : {A : Type 0} (read : List Token → Read A) → Begins read → ((t : Token) → At read t) → Looks read
 by_token read b at = record { ahead = by_token_ahead read b.none at; at_end = by_token_end read b.missing at }
 
-pub begins : {A : Type 0} (read : List Token → Read A) → read [] ≡ refused [] fault.Arguments → Begins read
-begins read p = record { none = ap left_in p; missing = λ e m. let q : refused [] fault.Arguments ≡ Err e = sym p ∙ m in cc }
+pub begins : {A : Type 0} (read : List Token → Read A) → read [] ≡ fault_here [] fault.Arguments → Begins read
+begins read p = record { none = ap left_in p; missing = λ e m. let q : fault_here [] fault.Arguments ≡ Err e = sym p ∙ m in cc }
 
 -- a reader that reads the same as another
 pub same_as : {A : Type 0} (read other : List Token → Read A) → ((ts : List Token) → read ts ≡ other ts) → Looks other → Looks read
@@ -212,9 +212,9 @@ by_string : {A : Type 0} (named : List ℕ → Result A GrammarFault) (t : Token
 unfolding named_at mark.string_at
 by_string {A} named t = by_kind (mark.is_string t.kind) refl (named t.value) refl where
   by_kind : (b : Bool) → mark.is_string t.kind ≡ b → (r : Result A GrammarFault) → named t.value ≡ r → At (named_at named) t
-  by_kind false e r n = Stops (refused [] fault.Arguments) (λ rest. rw e refl)
+  by_kind false e r n = Stops (fault_here [] fault.Arguments) (λ rest. rw e refl)
   by_kind true e (Ok x) n = Goes (λ rest. Ok (x, rest)) (value x) (λ rest. rw (e, n) refl)
-  by_kind true e (Err f) n = Stops (refused [] f) (λ rest. rw (e, n) refl)
+  by_kind true e (Err f) n = Stops (fault_here [] f) (λ rest. rw (e, n) refl)
 
 pub named : {A : Type 0} (read : List ℕ → Result A GrammarFault) → Looks (named_at read)
 unfolding named_at mark.string_at
@@ -224,51 +224,51 @@ pub string : Looks mark.string_at
 unfolding mark.string_at
 string = by_token _ (begins _ refl) (λ t. by_kind t (mark.is_string t.kind) refl) where
   by_kind : (t : Token) (b : Bool) → mark.is_string t.kind ≡ b → At mark.string_at t
-  by_kind t false e = Stops (refused [] fault.Arguments) (λ rest. rw e refl)
+  by_kind t false e = Stops (fault_here [] fault.Arguments) (λ rest. rw e refl)
   by_kind t true e = Goes (λ rest. Ok (t.value, rest)) (value t.value) (λ rest. rw e refl)
 
 -- a name that didn't stand before
 pub new_name : {A B : Type 0} (read : List ℕ → Result A GrammarFault) (stood : A → Bool) (f : A → List Token → Read B) → ((x : A) → Looks (f x))
-    → Looks (λ ts. named_at read ts >>= λ x. judged ts (once (stood x.0)) >>= λ new. f x.0 x.1)
+    → Looks (λ ts. named_at read ts >>= λ x. verdict_at ts (once (stood x.0)) >>= λ new. f x.0 x.1)
 unfolding named_at mark.string_at
 new_name {A} {B} read stood f p = by_token _ (begins _ refl) at where
-  at : (t : Token) → At (λ ts. named_at read ts >>= λ x. judged ts (once (stood x.0)) >>= λ new. f x.0 x.1) t
+  at : (t : Token) → At (λ ts. named_at read ts >>= λ x. verdict_at ts (once (stood x.0)) >>= λ new. f x.0 x.1) t
   at t = by_kind (mark.is_string t.kind) refl (read t.value) refl where
-    by_kind : (b : Bool) → mark.is_string t.kind ≡ b → (r : Result A GrammarFault) → read t.value ≡ r → At (λ ts. named_at read ts >>= λ x. judged ts (once (stood x.0)) >>= λ new. f x.0 x.1) t
-    by_kind false e r n = Stops (refused [] fault.Arguments) (λ rest. rw e refl)
-    by_kind true e (Err d) n = Stops (refused [] d) (λ rest. rw (e, n) refl)
+    by_kind : (b : Bool) → mark.is_string t.kind ≡ b → (r : Result A GrammarFault) → read t.value ≡ r → At (λ ts. named_at read ts >>= λ x. verdict_at ts (once (stood x.0)) >>= λ new. f x.0 x.1) t
+    by_kind false e r n = Stops (fault_here [] fault.Arguments) (λ rest. rw e refl)
+    by_kind true e (Err d) n = Stops (fault_here [] d) (λ rest. rw (e, n) refl)
     by_kind true e (Ok x) n = by_stood (stood x) refl where
-      by_stood : (c : Bool) → stood x ≡ c → At (λ ts. named_at read ts >>= λ y. judged ts (once (stood y.0)) >>= λ new. f y.0 y.1) t
+      by_stood : (c : Bool) → stood x ≡ c → At (λ ts. named_at read ts >>= λ y. verdict_at ts (once (stood y.0)) >>= λ new. f y.0 y.1) t
       by_stood false s = Goes (f x) (p x) (λ rest. rw (e, n, s) refl)
-      by_stood true s = Stops (refused [] fault.NotPermittedTwice) (λ rest. rw (e, n, s) refl)
+      by_stood true s = Stops (fault_here [] fault.NotPermittedTwice) (λ rest. rw (e, n, s) refl)
 
 -- behind a token of a kind
 pub behind : {A : Type 0} (is : Kind → Bool) (f : List Token → Read A) → Looks f → Looks (λ ts. mark.behind is ts >>= f)
 unfolding mark.behind
 behind {A} is f p = by_token _ (begins _ refl) (λ t. by_kind t (is t.kind) refl) where
   by_kind : (t : Token) (b : Bool) → is t.kind ≡ b → At (λ ts. mark.behind is ts >>= f) t
-  by_kind t false e = Stops (refused [] fault.Arguments) (λ rest. rw e refl)
+  by_kind t false e = Stops (fault_here [] fault.Arguments) (λ rest. rw e refl)
   by_kind t true e = Goes f p (λ rest. rw e refl)
 
 -- ---- words
 
 -- what is read by a word of a table
-pub worded : {W A : Type 0} (table : List (List ℕ × W)) (g : List Token → Option (W × List Token) → Read A) → ((ts : List Token) → g ts None ≡ refused ts fault.Arguments)
+pub worded : {W A : Type 0} (table : List (List ℕ × W)) (g : List Token → Option (W × List Token) → Read A) → ((ts : List Token) → g ts None ≡ fault_here ts fault.Arguments)
     → ((t : Token) (w : W) → At (λ ts. g ts (Some (w, drop 1 ts))) t) → Looks (λ ts. g ts (mark.word_at table ts))
 unfolding mark.word_at
 worded {W} {A} table g none some = by_token _ (begins _ (none [])) (λ t. by_kind t (mark.is_word t.kind) refl (mark.word_in table t.value) refl) where
   by_kind : (t : Token) (b : Bool) → mark.is_word t.kind ≡ b → (o : Option W) → mark.word_in table t.value ≡ o → At (λ ts. g ts (mark.word_at table ts)) t
-  by_kind t false e o n = Stops (refused [] fault.Arguments) (λ rest. rw e (none (t ∷ rest)))
-  by_kind t true e None n = Stops (refused [] fault.Arguments) (λ rest. rw (e, n) (none (t ∷ rest)))
+  by_kind t false e o n = Stops (fault_here [] fault.Arguments) (λ rest. rw e (none (t ∷ rest)))
+  by_kind t true e None n = Stops (fault_here [] fault.Arguments) (λ rest. rw (e, n) (none (t ∷ rest)))
   by_kind t true e (Some w) n = elim (some t w) [
     | Stops verdict is ↦ Stops verdict (λ rest. rw (e, n) (is rest))
     | Goes next p is ↦ Goes next p (λ rest. rw (e, n) (is rest))
   ]
 
 -- what is judged of a word, before what stands behind it
-pub judged_first : {A : Type 0} (judgement : Result (Unit {0}) GrammarFault) (next : List Token → Read A) → Looks next → (t : Token) → At (λ ts. judged ts judgement >>= λ new. next (drop 1 ts)) t
+pub judged_first : {A : Type 0} (judgement : Result (Unit {0}) GrammarFault) (next : List Token → Read A) → Looks next → (t : Token) → At (λ ts. verdict_at ts judgement >>= λ new. next (drop 1 ts)) t
 judged_first (Ok x) next p t = Goes next p (λ rest. refl)
-judged_first (Err f) next p t = Stops (refused [] f) (λ rest. refl)
+judged_first (Err f) next p t = Stops (fault_here [] f) (λ rest. refl)
 
 -- whether a word of a table stands first
 pub worded_first : {W : Type 0} (table : List (List ℕ × W)) → Glances (λ ts. is_none (mark.word_at table ts))
@@ -301,7 +301,7 @@ flagged {A} text g next p q is = same_as _ _ by_form (choose stands (λ ts. next
 
 -- a further item, where there is room for none
 abbrev limit : {A : Type 0} → Bool → Bool → A → List Token → Read A
-limit over fits seen ts = if over then Ok (seen, ts) else refused ts (if fits then fault.TooMany else fault.Arguments)
+limit over fits seen ts = if over then Ok (seen, ts) else fault_here ts (if fits then fault.TooMany else fault.Arguments)
 
 limit_left : {A : Type 0} (over fits : Bool) (seen : A) (ts : List Token) → limit over fits seen ts ≡ leaving (limit over fits seen []) ts
 limit_left true fits seen ts = refl
@@ -332,7 +332,7 @@ unfolding some_of
 some_items over fits item o f n p most none = bind (item none) _ (p none) (λ x. items over fits item o f n p (most - 1) x)
 
 -- in a parenthesis
-pub enclosed_items : {A : Type 0} (is : Kind → Bool) (item : A → List Token → Read A) → ((seen : A) → Looks (item seen)) → (most : ℕ) (none : A) → Looks (enclosed (mark.starts mark.is_close) (mark.starts is) item most none)
-unfolding enclosed mark.starts
+pub enclosed_items : {A : Type 0} (is : Kind → Bool) (item : A → List Token → Read A) → ((seen : A) → Looks (item seen)) → (most : ℕ) (none : A) → Looks (in_parenthesis (mark.starts mark.is_close) (mark.starts is) item most none)
+unfolding in_parenthesis mark.starts
 enclosed_items is item p most none =
     behind mark.is_open _ (bind _ _ (some_items (mark.starts mark.is_close) (mark.starts is) item (starting mark.is_close) (starting is) (inr refl) p most none) (λ x. behind mark.is_close _ (value x)))

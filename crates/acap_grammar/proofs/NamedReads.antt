@@ -10,7 +10,7 @@ use Rattle.jiff_core.proofs.CalendarLemmas.{day_count_bounds}
 use Rattle.jiff_core.proofs.SignedLemmas.{signed_arith}
 use Rattle.acap_entries.specs.Moments.{IsMoment}
 use Rattle.acap_entries.specs.Stamp.{IsCivil, days_of, clock_of, moment_of}
-use Rattle.acap_entries.specs.Names.{is_slash, slash, begins_with, ends_with, is_component, components, is_dataset_argument, closed}
+use Rattle.acap_entries.specs.Names.{is_slash, slash, begins_with, ends_with, is_component, components, is_dataset_argument, with_slash}
 use Rattle.acap_entries.specs.Times.{civil_in, is_time, time_of}
 use Rattle.acap_entries.specs.declared.civil.Civil.{Civil}
 use Rattle.acap_entries.proofs.StampLemmas.{zero_count}
@@ -117,7 +117,7 @@ some_text [] h = absurd cc
 some_text (x ∷ xs) h = omega arith
 
 -- a text is read as the dataset whose text it is
-pub read_back : (text d : List ℕ) → is_dataset_argument text ≡ true → closed text ≡ d → dataset_text d ≡ text → IsDataset d
+pub read_back : (text d : List ℕ) → is_dataset_argument text ≡ true → with_slash text ≡ d → dataset_text d ≡ text → IsDataset d
 unfolding dataset_named
 read_back text d h c s = rw (s, h, c) refl
 

@@ -38,9 +38,9 @@ use Rattle.acap_grammar.specs.Grammar as grammar
 use Rattle.acap_grammar.specs.Keys as keys
 use Rattle.acap_grammar.specs.Laws.{place_in, fault_at}
 use Rattle.acap_grammar.specs.Marks as mark
-use Rattle.acap_grammar.specs.Outcome.{◌>>=◌, Fault, Read, refused, judged}
+use Rattle.acap_grammar.specs.Outcome.{◌>>=◌, Fault, Read, fault_here, verdict_at}
 use Rattle.acap_grammar.specs.Searching as searching
-use Rattle.acap_grammar.specs.Several.{several, some_of, enclosed}
+use Rattle.acap_grammar.specs.Several.{several, some_of, in_parenthesis}
 use Rattle.acap_grammar.specs.Storing as storing
 use Rattle.acap_commands.specs.Wanted.{Wanted}
 
@@ -96,7 +96,7 @@ bind : {A B : Type 0} (read : List Token → Read A) (f : A × List Token → Re
 bind read f p q = bind_all read (λ ts x. f x) p (λ x ts rest. (q x).same rest)
 
 judged_same : {A : Type 0} (judgement : Result (Unit {0}) GrammarFault) (read : List Token → Read A) → Blind read → (ts rest : List Token)
-    → (judged (map plain ts) judgement >>= λ new. read (map plain rest)) ≡ plain_read (judged ts judgement >>= λ new. read rest)
+    → (verdict_at (map plain ts) judgement >>= λ new. read (map plain rest)) ≡ plain_read (verdict_at ts judgement >>= λ new. read rest)
 judged_same (Ok x) read p ts rest = p.same rest
 judged_same (Err e) read p ts rest = refl
 
@@ -125,7 +125,7 @@ behind : {A : Type 0} (is : Kind → Bool) (f : List Token → Read A) → IsOfK
 unfolding mark.behind
 behind is f h p = record { same = same } where
   by_kind : (t : Token) (rest : List Token) (b : Bool)
-      → ((if b then Ok (map plain rest) else refused (plain t ∷ map plain rest) fault.Arguments) >>= f) ≡ plain_read ((if b then Ok rest else refused (t ∷ rest) fault.Arguments) >>= f)
+      → ((if b then Ok (map plain rest) else fault_here (plain t ∷ map plain rest) fault.Arguments) >>= f) ≡ plain_read ((if b then Ok rest else fault_here (t ∷ rest) fault.Arguments) >>= f)
   by_kind t rest true = p.same rest
   by_kind t rest false = refl
 
@@ -139,7 +139,7 @@ string : Blind mark.string_at
 unfolding mark.string_at
 string = record { same = same } where
   by_kind : (t : Token) (rest : List Token) (b : Bool)
-      → (if b then Ok (t.value, map plain rest) else refused (plain t ∷ map plain rest) fault.Arguments) ≡ plain_read (if b then Ok (t.value, rest) else refused (t ∷ rest) fault.Arguments)
+      → (if b then Ok (t.value, map plain rest) else fault_here (plain t ∷ map plain rest) fault.Arguments) ≡ plain_read (if b then Ok (t.value, rest) else fault_here (t ∷ rest) fault.Arguments)
   by_kind t rest true = refl
   by_kind t rest false = refl
 
@@ -148,7 +148,7 @@ string = record { same = same } where
   same (t ∷ rest) = rw (strings_kind t.kind) (by_kind t rest (mark.is_string t.kind))
 
 judged_name : {A : Type 0} (judgement : Result A GrammarFault) (ts rest : List Token)
-    → (judged (map plain ts) judgement >>= λ x. Ok (x, map plain rest)) ≡ plain_read (judged ts judgement >>= λ x. Ok (x, rest))
+    → (verdict_at (map plain ts) judgement >>= λ x. Ok (x, map plain rest)) ≡ plain_read (verdict_at ts judgement >>= λ x. Ok (x, rest))
 judged_name (Ok x) ts rest = refl
 judged_name (Err e) ts rest = refl
 
@@ -158,15 +158,15 @@ named read = bind_all _ _ string (λ text ts rest. judged_name (read text) ts re
 
 -- a name that didn't stand before
 new_name : {A B : Type 0} (read : List ℕ → Result A GrammarFault) (stood : A → Bool) (f : A → List Token → Read B) → ((x : A) → Blind (f x))
-    → Blind (λ ts. argument.named_at read ts >>= λ x. judged ts (storing.once (stood x.0)) >>= λ new. f x.0 x.1)
+    → Blind (λ ts. argument.named_at read ts >>= λ x. verdict_at ts (storing.once (stood x.0)) >>= λ new. f x.0 x.1)
 new_name read stood f p = bind_all _ _ (named read) (λ x ts rest. judged_same (storing.once (stood x)) (f x) (p x) ts rest)
 
 number : Blind argument.number_at
 unfolding argument.number_at
 number = record { same = same } where
   by_kind : (t : Token) (rest : List Token) (b : Bool)
-      → (if b then (judged (plain t ∷ map plain rest) (argument.or_fault fault.Arguments (argument.number_in t.value)) >>= λ x. Ok (x, map plain rest)) else refused (plain t ∷ map plain rest) fault.Arguments)
-      ≡ plain_read (if b then (judged (t ∷ rest) (argument.or_fault fault.Arguments (argument.number_in t.value)) >>= λ x. Ok (x, rest)) else refused (t ∷ rest) fault.Arguments)
+      → (if b then (verdict_at (plain t ∷ map plain rest) (argument.or_fault fault.Arguments (argument.number_in t.value)) >>= λ x. Ok (x, map plain rest)) else fault_here (plain t ∷ map plain rest) fault.Arguments)
+      ≡ plain_read (if b then (verdict_at (t ∷ rest) (argument.or_fault fault.Arguments (argument.number_in t.value)) >>= λ x. Ok (x, rest)) else fault_here (t ∷ rest) fault.Arguments)
   by_kind t rest true = judged_name (argument.or_fault fault.Arguments (argument.number_in t.value)) (t ∷ rest) rest
   by_kind t rest false = refl
 
@@ -203,7 +203,7 @@ worded {W} {A} table g none some = record { same = λ ts. rw (word_same table ts
   by_word ts None = none.same ts
   by_word ts (Some x) = some x.0 ts x.1
 
-missing : {A : Type 0} (e : GrammarFault) → Blind {A = A} (λ ts. refused ts e)
+missing : {A : Type 0} (e : GrammarFault) → Blind {A = A} (λ ts. fault_here ts e)
 missing e = record { same = λ ts. refl }
 
 -- what is read where a word stands first, and where not
@@ -239,8 +239,8 @@ unfolding some_of
 some_items over fits item o f p most none = bind (item none) _ (p none) (λ x. items over fits item o f p (most - 1) x)
 
 -- strings in a parenthesis
-enclosed_items : {A : Type 0} (item : A → List Token → Read A) → ((seen : A) → Blind (item seen)) → (most : ℕ) (none : A) → Blind (enclosed (mark.starts mark.is_close) (mark.starts mark.is_string) item most none)
-unfolding enclosed
+enclosed_items : {A : Type 0} (item : A → List Token → Read A) → ((seen : A) → Blind (item seen)) → (most : ℕ) (none : A) → Blind (in_parenthesis (mark.starts mark.is_close) (mark.starts mark.is_string) item most none)
+unfolding in_parenthesis
 enclosed_items item p most none =
     behind mark.is_open _ opens_kind (bind _ _ (some_items _ _ item (starting mark.is_close closes_kind) (starting mark.is_string strings_kind) p most none) (λ x. behind mark.is_close _ closes_kind (value x)))
 
@@ -265,8 +265,8 @@ unfolding storing.strings_at
 strings_same [] seen = refl
 strings_same (t ∷ rest) seen = rw (closes_kind t.kind, strings_kind t.kind) (by_kind (mark.is_close t.kind) (mark.is_string t.kind) (strings_same rest (seen ++ t.value ∷ []))) where
   by_kind : (b c : Bool) → storing.strings_at (seen ++ t.value ∷ []) (map plain rest) ≡ plain_read (storing.strings_at (seen ++ t.value ∷ []) rest)
-      → (if b then Ok (seen, map plain rest) else (if c then storing.strings_at (seen ++ t.value ∷ []) (map plain rest) else refused (plain t ∷ map plain rest) fault.Arguments))
-      ≡ plain_read (if b then Ok (seen, rest) else (if c then storing.strings_at (seen ++ t.value ∷ []) rest else refused (t ∷ rest) fault.Arguments))
+      → (if b then Ok (seen, map plain rest) else (if c then storing.strings_at (seen ++ t.value ∷ []) (map plain rest) else fault_here (plain t ∷ map plain rest) fault.Arguments))
+      ≡ plain_read (if b then Ok (seen, rest) else (if c then storing.strings_at (seen ++ t.value ∷ []) rest else fault_here (t ∷ rest) fault.Arguments))
   by_kind true c further = refl
   by_kind false true further = further
   by_kind false false further = refl
@@ -282,7 +282,7 @@ plain_value : Blind storing.plain_at
 unfolding storing.plain_at
 plain_value =
     choose _ _ _ (starting mark.is_string strings_kind) (bind _ _ string (λ x. value _))
-    (worded storing.given_words (λ ts o. judged ts (argument.or_fault fault.Arguments o)) (missing fault.Arguments) (λ w ts rest. refl))
+    (worded storing.given_words (λ ts o. verdict_at ts (argument.or_fault fault.Arguments o)) (missing fault.Arguments) (λ w ts rest. refl))
 
 given : Blind storing.given_at
 unfolding storing.given_at
@@ -307,15 +307,15 @@ store_items : Blind storing.items_at
 unfolding storing.items_at
 store_items = some_items _ _ storing.item_at (starting mark.is_close closes_kind) (starting mark.is_string strings_kind) item 256 []
 
-conditioned : (seen : StoreModifiers) (w : StoreWord) → Blind (storing.conditioned seen w)
-unfolding storing.conditioned
+conditioned : (seen : StoreModifiers) (w : StoreWord) → Blind (storing.behind_condition seen w)
+unfolding storing.behind_condition
 conditioned seen store_word.NoCreate = value _
 conditioned seen store_word.UnchangedSince = bind _ _ (named _) (λ x. value _)
 
 condition : (seen : StoreModifiers) → Blind (storing.condition_at seen)
 unfolding storing.condition_at
 condition seen =
-    worded storing.store_words (storing.condition_by seen) (missing fault.Arguments) (λ w ts rest. judged_same (storing.once (storing.has_condition seen w)) (storing.conditioned seen w) (conditioned seen w) ts rest)
+    worded storing.store_words (storing.condition_by seen) (missing fault.Arguments) (λ w ts rest. judged_same (storing.once (storing.has_condition seen w)) (storing.behind_condition seen w) (conditioned seen w) ts rest)
 
 conditions : Blind storing.conditions_at
 unfolding storing.conditions_at storing.no_condition
@@ -413,8 +413,8 @@ make_context : Blind searching.make_context_at
 unfolding searching.make_context_at searching.flag_at
 make_context = flagged (codes "ENUMERATE") (λ ts o. notified_behind (searching.flag_by ts o).0 (searching.flag_by ts o).1) (notified false) (λ ts rest. (notified true).same rest)
 
-modified : (m : SearchModifiers) (w : SearchWord) → Blind (searching.modified m w)
-unfolding searching.modified
+modified : (m : SearchModifiers) (w : SearchWord) → Blind (searching.behind_modifier m w)
+unfolding searching.behind_modifier
 modified m search_word.Depth = bind _ _ number (λ x. value _)
 modified m search_word.HardLimit = bind _ _ number (λ x. value _)
 modified m search_word.Limit = bind _ _ limit (λ x. value _)
@@ -427,7 +427,7 @@ modifier : (s : Scope) → Blind (searching.modifier_at s)
 unfolding searching.modifier_at
 modifier s =
     worded searching.search_words (searching.modifier_by s) (missing fault.Arguments)
-    (λ w ts rest. judged_same (searching.may_modify s w) (λ left. searching.modified s.modifiers w left >>= λ all. Ok (record s { modifiers = all.0 }, all.1)) (bind _ _ (modified s.modifiers w) (λ all. value _)) ts rest)
+    (λ w ts rest. judged_same (searching.may_modify s w) (λ left. searching.behind_modifier s.modifiers w left >>= λ all. Ok (record s { modifiers = all.0 }, all.1)) (bind _ _ (modified s.modifiers w) (λ all. value _)) ts rest)
 
 modifiers : (of : Target) → Blind (searching.modifiers_at of)
 unfolding searching.modifiers_at searching.no_modifier
@@ -464,7 +464,7 @@ plain_result (Err e) = Err (plain_fault e)
 
 whole_same : (r : Read Command) → (plain_read r >>= grammar.whole) ≡ plain_result (r >>= grammar.whole)
 whole_same (Ok x) = rw (ending.same x.1) (by_end (mark.ends x.1)) where
-  by_end : (b : Bool) → (if b then Ok x.0 else refused (map plain x.1) fault.Arguments) ≡ plain_result (if b then Ok x.0 else refused x.1 fault.Arguments)
+  by_end : (b : Bool) → (if b then Ok x.0 else fault_here (map plain x.1) fault.Arguments) ≡ plain_result (if b then Ok x.0 else fault_here x.1 fault.Arguments)
   by_end true = refl
   by_end false = refl
 whole_same (Err e) = refl

@@ -32,10 +32,10 @@ use Rattle.acap_grammar.specs.Several.{several}
 use Rattle.acap_grammar.specs.Marks.{is_string, is_open, is_close, starts, behind, string_at, word_at, behind_word}
 use Rattle.acap_grammar.specs.Arguments.{comparator_for, named_at, is_of_texts}
 use Rattle.acap_grammar.specs.Keys.{value_part, meets_at, range_at, key_at, key_behind}
-use Rattle.acap_commands.specs.Modifiers.{unmodified}
-use Rattle.acap_grammar.specs.Searching.{is_context, metadata_at, default_metadata, metadata_part, return_at, returns_at, sort_at, sorts_at, limit_at, flag_at, make_context_at, modified, modifier_at, no_modifier, modifiers_at, search_at}
+use Rattle.acap_commands.specs.Modifiers.{no_modifiers}
+use Rattle.acap_grammar.specs.Searching.{is_context, metadata_at, default_metadata, metadata_part, return_at, returns_at, sort_at, sorts_at, limit_at, flag_at, make_context_at, behind_modifier, modifier_at, no_modifier, modifiers_at, search_at}
 use Rattle.acap_grammar.specs.Sendable.{Each, OneTo, IsNumber, IsAttribute, IsLimit, IsContext, IsReturn, AreReturns, AreSorts, AreModifiers, Fits, IsTest, IsKey, levels, IsSearch}
-use Rattle.acap_grammar.specs.Spelling.{string, opened, shut, each, if_there, flag, word, number, time, comparator_name, comparator, told, is_left_out, return_item, sort_item, depth, hard_limit, limit, make_context, returns, sort, modifiers, test_tokens, key, search_tokens}
+use Rattle.acap_grammar.specs.Spelling.{string, open_then, shut, each, if_there, flag, word, number, time, comparator_name, comparator, metadata_then, is_left_out, return_item, sort_item, depth, hard_limit, limit, make_context, returns, sort, modifiers, test_tokens, key, search_tokens}
 use Rattle.acap_commands.specs.Wanted.{Wanted, One, And, Or, Not}
 use Rattle.acap_grammar.proofs.NumberReads.{number_reads}
 use Rattle.acap_grammar.proofs.ListReads.{ReadsEach, one_more, no_more, list_reads, enclosed_read}
@@ -109,10 +109,10 @@ key_leads (Not a) rest = refl
 
 -- ---- RETURN and SORT
 
-are_told : ReadsEach {X = Metadata} (starts is_close) (λ ts. true) metadata_at told (λ before m. Unit {0})
+are_told : ReadsEach {X = Metadata} (starts is_close) (λ ts. true) metadata_at metadata_then (λ before m. Unit {0})
 unfolding starts metadata_at named_at string_at
 are_told = record { leads = λ x rest. refl; follows = λ x rest. refl; reads = read } where
-  read : (seen : List Metadata) (m : Metadata) (rest : List Token) → Unit {0} → true ≡ true → metadata_at seen (told m rest) ≡ Ok (seen ++ m ∷ [], rest)
+  read : (seen : List Metadata) (m : Metadata) (rest : List Token) → Unit {0} → true ≡ true → metadata_at seen (metadata_then m rest) ≡ Ok (seen ++ m ∷ [], rest)
   read seen metadata.Acl rest u n = refl
   read seen metadata.Attribute rest u n = refl
   read seen metadata.MyRights rest u n = refl
@@ -131,15 +131,15 @@ left_out n all e = absurd cc
 abbrev not_opened : List Token → Bool
 not_opened tokens = not (starts is_open tokens)
 
-enclosed_metadata : (n : ReturnName) (all : List Metadata) (rest : List Token) → OneTo 32 all → metadata_part n (opened (each told all (shut rest))) ≡ Ok (all, rest)
+enclosed_metadata : (n : ReturnName) (all : List Metadata) (rest : List Token) → OneTo 32 all → metadata_part n (open_then (each metadata_then all (shut rest))) ≡ Ok (all, rest)
 unfolding metadata_part starts
 enclosed_metadata n all rest h = enclosed_read are_told (starts is_string) all 31 rest refl h (all_told [] all)
 
 metadata_reads : (n : ReturnName) (all : List Metadata) (rest : List Token) → OneTo 32 all → not_opened rest ≡ true
-    → metadata_part n (if is_left_out n all then rest else opened (each told all (shut rest))) ≡ Ok (all, rest)
+    → metadata_part n (if is_left_out n all then rest else open_then (each metadata_then all (shut rest))) ≡ Ok (all, rest)
 unfolding metadata_part
 metadata_reads n all rest h o = by_form (is_left_out n all) refl where
-  by_form : (b : Bool) → is_left_out n all ≡ b → metadata_part n (if b then rest else opened (each told all (shut rest))) ≡ Ok (all, rest)
+  by_form : (b : Bool) → is_left_out n all ≡ b → metadata_part n (if b then rest else open_then (each metadata_then all (shut rest))) ≡ Ok (all, rest)
   by_form true e = rw (not-true (starts is_open rest) o) (ap (λ (m : List Metadata). Ok (m, rest)) (left_out n all e))
   by_form false e = enclosed_metadata n all rest h
 
@@ -147,7 +147,7 @@ are_returns : ReadsEach {X = ReturnItem} (starts is_close) not_opened return_at 
 unfolding starts return_at named_at string_at
 are_returns = record { leads = λ x rest. refl; follows = λ x rest. refl; reads = λ seen r rest s n. rw (s.0, metadata_reads r.name r.metadata rest s.1 n) refl }
 
-returns_read : (all : List ReturnItem) (rest : List Token) → AreReturns all → returns_at (opened (each return_item all (shut rest))) ≡ Ok (all, rest)
+returns_read : (all : List ReturnItem) (rest : List Token) → AreReturns all → returns_at (open_then (each return_item all (shut rest))) ≡ Ok (all, rest)
 unfolding returns_at behind starts
 returns_read all rest h = rw (list_reads are_returns (starts is_string) all 256 [] (shut rest) refl refl h.0 h.1) refl
 
@@ -155,7 +155,7 @@ are_sorts : ReadsEach {X = SortItem} (starts is_close) (λ ts. true) sort_at sor
 unfolding starts sort_at named_at string_at
 are_sorts = record { leads = λ x rest. refl; follows = λ x rest. refl; reads = λ seen s rest a n. rw (a, comparator_is s.comparator) refl }
 
-sorts_read : (all : List SortItem) (rest : List Token) → AreSorts all → sorts_at (opened (each sort_item all (shut rest))) ≡ Ok (all, rest)
+sorts_read : (all : List SortItem) (rest : List Token) → AreSorts all → sorts_at (open_then (each sort_item all (shut rest))) ≡ Ok (all, rest)
 unfolding sorts_at
 sorts_read all rest h = enclosed_read are_sorts (starts is_string) all 15 rest refl h.0 h.1
 
@@ -222,15 +222,15 @@ given P None v h e = absurd cc
 given P (Some w) v h e = let same : w ≡ v = cc in subst P same h
 
 modifiers_end : (of : Target) (m : SearchModifiers) (rest : List Token) → AreModifiers m → Fits of m → no_modifier rest ≡ true
-    → Ends (so_far of m) rest 7 (so_far of unmodified) (modifiers m rest)
-unfolding no_modifier modifier_at modified word_at
+    → Ends (so_far of m) rest 7 (so_far of no_modifiers) (modifiers m rest)
+unfolding no_modifier modifier_at behind_modifier word_at
 modifiers_end of m rest h f n =
-    may_be depth (λ d. so_far of (record m { depth = d })) (λ d. so_far of (record unmodified { depth = d })) rest _ 6
-    (λ d. may_be hard_limit (λ o. so_far of (record m { depth = d; hard_limit = o })) (λ o. so_far of (record unmodified { depth = d; hard_limit = o })) rest _ 5
-    (λ o. may_be limit (λ l. so_far of (record m { depth = d; hard_limit = o; limit = l })) (λ l. so_far of (record unmodified { depth = d; hard_limit = o; limit = l })) rest _ 4
-    (λ l. may_be make_context (λ c. so_far of (record m { depth = d; hard_limit = o; limit = l; make_context = c })) (λ c. so_far of (record unmodified { depth = d; hard_limit = o; limit = l; make_context = c })) rest _ 3
-    (λ c. may_stand (codes "NOINHERIT") (λ b. so_far of (record m { depth = d; hard_limit = o; limit = l; make_context = c; no_inherit = b })) (λ b. so_far of (record unmodified { depth = d; hard_limit = o; limit = l; make_context = c; no_inherit = b })) rest _ 2
-    (λ b. may_be returns (λ r. so_far of (record m { depth = d; hard_limit = o; limit = l; make_context = c; no_inherit = b; returns = r })) (λ r. so_far of (record unmodified { depth = d; hard_limit = o; limit = l; make_context = c; no_inherit = b; returns = r })) rest _ 1
+    may_be depth (λ d. so_far of (record m { depth = d })) (λ d. so_far of (record no_modifiers { depth = d })) rest _ 6
+    (λ d. may_be hard_limit (λ o. so_far of (record m { depth = d; hard_limit = o })) (λ o. so_far of (record no_modifiers { depth = d; hard_limit = o })) rest _ 5
+    (λ o. may_be limit (λ l. so_far of (record m { depth = d; hard_limit = o; limit = l })) (λ l. so_far of (record no_modifiers { depth = d; hard_limit = o; limit = l })) rest _ 4
+    (λ l. may_be make_context (λ c. so_far of (record m { depth = d; hard_limit = o; limit = l; make_context = c })) (λ c. so_far of (record no_modifiers { depth = d; hard_limit = o; limit = l; make_context = c })) rest _ 3
+    (λ c. may_stand (codes "NOINHERIT") (λ b. so_far of (record m { depth = d; hard_limit = o; limit = l; make_context = c; no_inherit = b })) (λ b. so_far of (record no_modifiers { depth = d; hard_limit = o; limit = l; make_context = c; no_inherit = b })) rest _ 2
+    (λ b. may_be returns (λ r. so_far of (record m { depth = d; hard_limit = o; limit = l; make_context = c; no_inherit = b; returns = r })) (λ r. so_far of (record no_modifiers { depth = d; hard_limit = o; limit = l; make_context = c; no_inherit = b; returns = r })) rest _ 1
     (λ r. may_be sort (λ s. so_far of (record { depth = d; hard_limit = o; limit = l; make_context = c; no_inherit = b; returns = r; sort = s })) (λ s. so_far of (record { depth = d; hard_limit = o; limit = l; make_context = c; no_inherit = b; returns = r; sort = s })) rest rest 0
     (λ s. record { in_room = λ room e. no_more no_modifier no_modifier modifier_at room _ rest n })
     m.sort (λ v e. (refl, rw (and_right (is_context of) false refl, sorts_read v rest (given AreSorts m.sort v h.sort e)) refl)))

@@ -54,10 +54,10 @@ use Rattle.acap_grammar.specs.Arguments as argument
 use Rattle.acap_grammar.specs.Grammar as grammar
 use Rattle.acap_grammar.specs.Keys as keys
 use Rattle.acap_grammar.specs.Marks as mark
-use Rattle.acap_grammar.specs.Outcome.{◌>>=◌, Fault, Read, refused, judged}
+use Rattle.acap_grammar.specs.Outcome.{◌>>=◌, Fault, Read, fault_here, verdict_at}
 use Rattle.acap_grammar.specs.Searching as searching
 use Rattle.acap_grammar.specs.Sendable.{Names, IsNumber, Each, OneTo, InCase, IsAttribute, IsDataset, IsObject, IsNew, AreItems, IsEntry, IsStore, IsLimit, IsContextName, IsContext, IsReturn, AreReturns, AreSorts, AreModifiers, Fits, IsTest, IsKey, levels, IsSearch, IsSendable}
-use Rattle.acap_grammar.specs.Several.{several, some_of, enclosed}
+use Rattle.acap_grammar.specs.Several.{several, some_of, in_parenthesis}
 use Rattle.acap_grammar.specs.Spelling.{target_text}
 use Rattle.acap_grammar.specs.Storing as storing
 use Rattle.acap_commands.specs.Wanted.{Wanted, One, And, Or, Not}
@@ -129,12 +129,12 @@ number : Yields argument.number_at IsNumber
 unfolding argument.number_at
 number = record { gives = gives } where
   by_number : (t : Token) (rest : List Token) (x : ℕ × List Token) (o : Option ℕ) → argument.number_in t.value ≡ o
-      → (judged (t ∷ rest) (argument.or_fault fault.Arguments o) >>= λ n. Ok (n, rest)) ≡ Ok x → IsNumber x.0
+      → (verdict_at (t ∷ rest) (argument.or_fault fault.Arguments o) >>= λ n. Ok (n, rest)) ≡ Ok x → IsNumber x.0
   by_number t rest x None m e = absurd cc
   by_number t rest x (Some n) m e = let same : (n, rest) ≡ x = cc in subst IsNumber (ap (λ (z : ℕ × List Token). z.0) same) (number_in t.value n m)
 
   by_kind : (t : Token) (rest : List Token) (x : ℕ × List Token) (b : Bool)
-      → (if b then (judged (t ∷ rest) (argument.or_fault fault.Arguments (argument.number_in t.value)) >>= λ n. Ok (n, rest)) else refused (t ∷ rest) fault.Arguments) ≡ Ok x → IsNumber x.0
+      → (if b then (verdict_at (t ∷ rest) (argument.or_fault fault.Arguments (argument.number_in t.value)) >>= λ n. Ok (n, rest)) else fault_here (t ∷ rest) fault.Arguments) ≡ Ok x → IsNumber x.0
   by_kind t rest x true e = by_number t rest x (argument.number_in t.value) refl e
   by_kind t rest x false e = absurd cc
 
@@ -247,7 +247,7 @@ same_attribute : (seen next all : Gifts) → Gift seen next → Gift next all �
 same_attribute seen next all g h = ap (λ (x : Gifts). x.attribute) h.whole ∙ ap (λ (x : Gifts). x.attribute) g.whole
 
 gifts : (seen : Gifts) → Yields (storing.gifts_at seen) (Items seen.items seen.attribute)
-unfolding storing.gifts_at enclosed some_of
+unfolding storing.gifts_at in_parenthesis some_of
 gifts seen =
     choose P _ _ _
     (bind Q P _ _
@@ -351,8 +351,8 @@ store_items =
 abbrev SinceMoment : StoreModifiers → Type 0
 SinceMoment m = IfSome m.unchanged_since IsMoment
 
-conditioned : (m : StoreModifiers) → SinceMoment m → (w : StoreWord) → Yields (storing.conditioned m w) SinceMoment
-unfolding storing.conditioned
+conditioned : (m : StoreModifiers) → SinceMoment m → (w : StoreWord) → Yields (storing.behind_condition m w) SinceMoment
+unfolding storing.behind_condition
 conditioned m h store_word.NoCreate = value SinceMoment (record m { no_create = true }) h
 conditioned m h store_word.UnchangedSince = bind _ SinceMoment _ _ (named argument.time_named) (λ t n. value SinceMoment (record m { unchanged_since = Some t }) (time_is t n))
 
@@ -360,7 +360,7 @@ condition : (m : StoreModifiers) → SinceMoment m → Yields (storing.condition
 unfolding storing.condition_at
 condition m h =
     worded SinceMoment storing.store_words (storing.condition_by m) (λ ts y e. no_fault SinceMoment _ y e)
-    (λ w ts rest y e. (conditioned m h w).gives rest y (past_once (storing.has_condition m w) ts (storing.conditioned m w rest) y e).1)
+    (λ w ts rest y e. (conditioned m h w).gives rest y (past_once (storing.has_condition m w) ts (storing.behind_condition m w rest) y e).1)
 
 conditions : Yields storing.conditions_at SinceMoment
 unfolding storing.conditions_at
@@ -511,8 +511,8 @@ over_both : (of : Target) (m n : SearchModifiers) → n.depth ≡ m.depth → n.
 over_both (target.Dataset d) m n p q r f = tt
 over_both (target.Context c) m n p q r f = (p ∙ f.0, q ∙ f.1, r ∙ f.2)
 
-modified : (of : Target) (m : SearchModifiers) (w : SearchWord) → FitModifiers of m → searching.is_context of && searching.is_of_datasets w ≡ false → Yields (searching.modified m w) (FitModifiers of)
-unfolding searching.modified
+modified : (of : Target) (m : SearchModifiers) (w : SearchWord) → FitModifiers of m → searching.is_context of && searching.is_of_datasets w ≡ false → Yields (searching.behind_modifier m w) (FitModifiers of)
+unfolding searching.behind_modifier
 modified of m search_word.Depth (h, f) o =
     bind _ (FitModifiers of) _ _ number (λ n k. value (FitModifiers of) (record m { depth = Some n })
     (record { depth = k; hard_limit = h.hard_limit; limit = h.limit; make_context = h.make_context; returns = h.returns; sort = h.sort }, over_dataset of _ o))
@@ -540,11 +540,11 @@ record IsScope (of : Target) (s : Scope) : Type 0 where
   target_is : s.target ≡ of
   fit : FitModifiers of s.modifiers
 
-may_modify : {A : Type 0} (s : Scope) (w : SearchWord) (ts : List Token) (r : Read A) (y : A × List Token) → (judged ts (searching.may_modify s w) >>= λ new. r) ≡ Ok y
+may_modify : {A : Type 0} (s : Scope) (w : SearchWord) (ts : List Token) (r : Read A) (y : A × List Token) → (verdict_at ts (searching.may_modify s w) >>= λ new. r) ≡ Ok y
     → (searching.is_context s.target && searching.is_of_datasets w ≡ false) × (r ≡ Ok y)
 may_modify {A} s w ts r y e = by_test (searching.is_context s.target && searching.is_of_datasets w) refl e where
   by_test : (b : Bool) → searching.is_context s.target && searching.is_of_datasets w ≡ b
-      → (judged ts (if b then Err fault.Arguments else storing.once (searching.has_modifier s.modifiers w)) >>= λ new. r) ≡ Ok y → (searching.is_context s.target && searching.is_of_datasets w ≡ false) × (r ≡ Ok y)
+      → (verdict_at ts (if b then Err fault.Arguments else storing.once (searching.has_modifier s.modifiers w)) >>= λ new. r) ≡ Ok y → (searching.is_context s.target && searching.is_of_datasets w ≡ false) × (r ≡ Ok y)
   by_test true m f = absurd cc
   by_test false m f = (m, (past_once (searching.has_modifier s.modifiers w) ts r y f).1)
 
@@ -553,11 +553,11 @@ unfolding searching.modifier_at
 modifier of s k = worded (IsScope of) searching.search_words (searching.modifier_by s) (λ ts y e. no_fault (IsScope of) _ y e) by_word where
   by_word : (w : SearchWord) (ts rest : List Token) (y : Scope × List Token) → searching.modifier_by s ts (Some (w, rest)) ≡ Ok y → IsScope of y.0
   by_word w ts rest y e =
-      let m = may_modify s w ts (searching.modified s.modifiers w rest >>= λ all. Ok (record s { modifiers = all.0 }, all.1)) y e in
+      let m = may_modify s w ts (searching.behind_modifier s.modifiers w rest >>= λ all. Ok (record s { modifiers = all.0 }, all.1)) y e in
       let over : searching.is_context of && searching.is_of_datasets w ≡ false = subst (λ (t : Target). searching.is_context t && searching.is_of_datasets w ≡ false) k.target_is m.0 in
-      (bind (FitModifiers of) (IsScope of) (searching.modified s.modifiers w) _ (modified of s.modifiers w k.fit over) (λ n h. value (IsScope of) (record s { modifiers = n }) (record { target_is = k.target_is; fit = h }))).gives rest y m.1
+      (bind (FitModifiers of) (IsScope of) (searching.behind_modifier s.modifiers w) _ (modified of s.modifiers w k.fit over) (λ n h. value (IsScope of) (record s { modifiers = n }) (record { target_is = k.target_is; fit = h }))).gives rest y m.1
 
-unmodified_fits : (of : Target) → Fits of plain_modifiers.unmodified
+unmodified_fits : (of : Target) → Fits of plain_modifiers.no_modifiers
 unmodified_fits (target.Dataset d) = tt
 unmodified_fits (target.Context c) = (refl, refl, refl)
 
@@ -612,7 +612,7 @@ arguments verb.UpdateContext = bind _ IsSendable _ _ contexts (λ c h. value IsS
 whole : (r : Read Command) (c : Command) → (r >>= grammar.whole) ≡ Ok c → (rest : List Token) × (r ≡ Ok (c, rest))
 whole (Err e) c m = absurd cc
 whole (Ok x) c m = by_end (mark.ends x.1) m where
-  by_end : (b : Bool) → ◌≡◌ {A = Result Command Fault} (if b then Ok x.0 else refused x.1 fault.Arguments) (Ok c) → (rest : List Token) × (◌≡◌ {A = Read Command} (Ok x) (Ok (c, rest)))
+  by_end : (b : Bool) → ◌≡◌ {A = Result Command Fault} (if b then Ok x.0 else fault_here x.1 fault.Arguments) (Ok c) → (rest : List Token) × (◌≡◌ {A = Read Command} (Ok x) (Ok (c, rest)))
   by_end true n = let same : x.0 ≡ c = cc in (x.1, ap (λ (d : Command). let r : Read Command = Ok (d, x.1) in r) same)
   by_end false n = absurd cc
 

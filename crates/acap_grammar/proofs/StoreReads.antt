@@ -17,12 +17,12 @@ use Rattle.acap_commands.specs.declared.store_item.StoreItem.{StoreItem}
 use Rattle.acap_commands.specs.declared.store_metadata.StoreMetadata.{StoreMetadata}
 use Rattle.acap_commands.specs.declared.store_metadata.StoreMetadata.TheVariants as metadata
 use Rattle.acap_commands.specs.declared.store_modifiers.StoreModifiers.{StoreModifiers}
-use Rattle.acap_grammar.specs.Several.{several, some_of, enclosed}
+use Rattle.acap_grammar.specs.Several.{several, some_of, in_parenthesis}
 use Rattle.acap_grammar.specs.Marks.{is_string, is_open, is_close, ends, starts, behind, string_at, word_at}
 use Rattle.acap_grammar.specs.Arguments.{named_at}
-use Rattle.acap_grammar.specs.Storing.{has_attribute, has_item, same_metadata, strings_at, plain_at, given_at, gift_at, gifts_at, item_at, items_at, conditioned, condition_at, no_condition, conditions_at, path_at, entry_at, entries_at}
+use Rattle.acap_grammar.specs.Storing.{has_attribute, has_item, same_metadata, strings_at, plain_at, given_at, gift_at, gifts_at, item_at, items_at, behind_condition, condition_at, no_condition, conditions_at, path_at, entry_at, entries_at}
 use Rattle.acap_grammar.specs.Sendable.{InCase, IsNew, AreItems, IsEntry, IsStore}
-use Rattle.acap_grammar.specs.Spelling.{string, opened, shut, each, given_tokens, stored_name, gift, is_bare, one_gift, items, conditions, entry}
+use Rattle.acap_grammar.specs.Spelling.{string, open_then, shut, each, given_tokens, stored_name, gift, is_bare, one_gift, items, conditions, entry}
 use Rattle.acap_grammar.proofs.ListReads.{ReadsEach, one_more, no_more, first_of_some, some_read}
 
 -- ---- what is given
@@ -62,8 +62,8 @@ gift_reads attribute seen metadata.Value g rest h = rw (h, given_reads g rest) r
 gift_reads attribute seen metadata.Acl g rest h = rw (h, given_reads g rest) refl
 
 enclosed_gift : (i : StoreItem) (seen : List StoreItem) (rest : List Token) → has_attribute i.attribute seen ≡ false
-    → gifts_at (record { attribute = i.attribute; items = seen }) (opened (gift i (shut rest))) ≡ Ok (seen ++ i ∷ [], rest)
-unfolding gifts_at enclosed some_of several starts behind
+    → gifts_at (record { attribute = i.attribute; items = seen }) (open_then (gift i (shut rest))) ≡ Ok (seen ++ i ∷ [], rest)
+unfolding gifts_at in_parenthesis some_of several starts behind
 enclosed_gift i seen rest h = rw (gift_reads i.attribute seen i.metadata i.given (shut rest) (no_item_of i.attribute i.metadata seen h)) refl
 
 bare_gift : (i : StoreItem) (seen : List StoreItem) (rest : List Token) (m : StoreMetadata) (g : Given) → has_attribute i.attribute seen ≡ false → is_bare m g ≡ true
@@ -79,7 +79,7 @@ gifts_read : (i : StoreItem) (seen : List StoreItem) (rest : List Token) → has
     → gifts_at (record { attribute = i.attribute; items = seen }) (one_gift i rest) ≡ Ok (seen ++ i ∷ [], rest)
 gifts_read i seen rest h = by_form (is_bare i.metadata i.given) refl where
   by_form : (b : Bool) → is_bare i.metadata i.given ≡ b
-      → gifts_at (record { attribute = i.attribute; items = seen }) (if b then given_tokens i.given rest else opened (gift i (shut rest))) ≡ Ok (seen ++ i ∷ [], rest)
+      → gifts_at (record { attribute = i.attribute; items = seen }) (if b then given_tokens i.given rest else open_then (gift i (shut rest))) ≡ Ok (seen ++ i ∷ [], rest)
   by_form true e = bare_gift i seen rest i.metadata i.given h e
   by_form false e = enclosed_gift i seen rest h
 
@@ -88,8 +88,8 @@ unfolding item_at named_at string_at
 one_item i seen rest n = rw (n.0, n.1, gifts_read i seen rest n.1) refl
 
 two_items : (i j : StoreItem) (seen : List StoreItem) (rest : List Token) → IsNew seen i → i.attribute ≡ j.attribute → same_metadata i.metadata j.metadata ≡ false
-    → item_at seen (string i.attribute (opened (gift i (gift j (shut rest))))) ≡ Ok (seen ++ i ∷ j ∷ [], rest)
-unfolding item_at named_at string_at gifts_at enclosed some_of several starts behind
+    → item_at seen (string i.attribute (open_then (gift i (gift j (shut rest))))) ≡ Ok (seen ++ i ∷ j ∷ [], rest)
+unfolding item_at named_at string_at gifts_at in_parenthesis some_of several starts behind
 two_items i j seen rest n same d =
     let second = no_second i.attribute i.metadata j.metadata i.given seen n.1 d in
     rw (
@@ -110,7 +110,7 @@ AreRead room seen xs rest = several (starts is_close) (starts is_string) item_at
 next_items : (b : Bool) (i j : StoreItem) (xs : List StoreItem) (room : ℕ) (seen : List StoreItem) (rest : List Token) → bytes_eq i.attribute j.attribute ≡ b → IsNew seen i
     → InCase b ((same_metadata i.metadata j.metadata ≡ false) × AreRead room (seen ++ i ∷ j ∷ []) xs rest) (AreRead room (seen ++ i ∷ []) (j ∷ xs) rest)
     → several (starts is_close) (starts is_string) item_at (suc room) seen
-    (if b then string i.attribute (opened (gift i (gift j (shut (items xs (shut rest)))))) else string i.attribute (one_gift i (items (j ∷ xs) (shut rest)))) ≡ Ok (seen ++ i ∷ j ∷ xs, shut rest)
+    (if b then string i.attribute (open_then (gift i (gift j (shut (items xs (shut rest)))))) else string i.attribute (one_gift i (items (j ∷ xs) (shut rest)))) ≡ Ok (seen ++ i ∷ j ∷ xs, shut rest)
 unfolding starts
 next_items true i j xs room seen rest e n h =
     one_more _ _ item_at room seen _ _ refl (two_items i j seen _ n ((bytes_eq-Decides i.attribute j.attribute).0 e) h.0)
@@ -137,7 +137,7 @@ items_lead : (test : List Token → Bool) (b : Bool) → ((text : List ℕ) (res
 items_lead test b h [] rest some = absurd (omega arith)
 items_lead test b h (i ∷ []) rest some = h i.attribute _
 items_lead test b h (i ∷ j ∷ xs) rest some = by_same (bytes_eq i.attribute j.attribute) where
-  by_same : (c : Bool) → test (if c then string i.attribute (opened (gift i (gift j (shut (items xs rest))))) else string i.attribute (one_gift i (items (j ∷ xs) rest))) ≡ b
+  by_same : (c : Bool) → test (if c then string i.attribute (open_then (gift i (gift j (shut (items xs rest))))) else string i.attribute (one_gift i (items (j ∷ xs) rest))) ≡ b
   by_same true = h i.attribute _
   by_same false = h i.attribute _
 
@@ -148,7 +148,7 @@ entry_items xs rest some h = first_of_some _ _ item_at 255 [] _ (items_lead (sta
 -- ---- entries
 
 conditions_read : (m : StoreModifiers) (rest : List Token) → IfSome m.unchanged_since IsMoment → no_condition rest ≡ true → conditions_at (conditions m rest) ≡ Ok (m, rest)
-unfolding conditions_at several no_condition condition_at conditioned named_at string_at word_at
+unfolding conditions_at several no_condition condition_at behind_condition named_at string_at word_at
 conditions_read m rest h n = by_parts m.no_create m.unchanged_since h where
   by_parts : (stands : Bool) (since : Option ℤ) → IfSome since IsMoment
       → conditions_at (conditions (record { no_create = stands; unchanged_since = since }) rest) ≡ Ok (record { no_create = stands; unchanged_since = since }, rest)

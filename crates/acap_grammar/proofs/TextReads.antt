@@ -16,7 +16,7 @@ use Rattle.acap_lexer.specs.declared.mode.Mode.TheVariants as mode
 use Rattle.acap_lexer.specs.Held.{next_of, answers_from, answers_of}
 use Rattle.acap_lexer.specs.Holding.{Held}
 use Rattle.acap_lexer.specs.Octets.{is_word, is_digit, within}
-use Rattle.acap_lexer.specs.Printing.{escaped, is_printable, may_quote}
+use Rattle.acap_lexer.specs.Printing.{escaped_form, is_printable, may_quote}
 use Rattle.acap_lexer.specs.Spelling.{Written, Quoted, Literal, IsCount, IsSpelled, IsSpelling, Stand, crlf, gap, kind_of, mark, may_follow, may_part, own, text_of, token, tokens_before, tokens_from, wait, waits_of}
 use Rattle.acap_lexer.specs.Stream.{progress}
 use Rattle.acap_lexer.specs.Token.{Token}
@@ -43,7 +43,7 @@ use Rattle.acap_commands.specs.declared.test.Test.TheVariants as test
 use Rattle.acap_grammar.specs.Alike.{plain_kind, plain}
 use Rattle.acap_grammar.specs.Sendable.{IsNumber, IsLimit, AreModifiers, IsTest, IsKey, IsSendable}
 use Rattle.acap_grammar.specs.Spelling as spelling
-use Rattle.acap_grammar.specs.Texts.{written_string, written, pieces_behind, pieces_of, line_of, holding, SpelledTexts, ReadsTexts}
+use Rattle.acap_grammar.specs.Texts.{written_string, writing_of, pieces_behind, pieces_of, line_of, holding, SpelledTexts, ReadsTexts}
 use Rattle.acap_commands.specs.Wanted.{Wanted, One, And, Or, Not}
 use Rattle.acap_grammar.proofs.NumberReads.{numerals}
 use Rattle.acap_grammar.proofs.PlainReads.{places_law}
@@ -163,11 +163,11 @@ entry_stands e rest r =
 
 -- ---- SEARCH
 
-told_stands : (m : Metadata) (rest : List Token) → AllStand rest → AllStand (spelling.told m rest)
+told_stands : (m : Metadata) (rest : List Token) → AllStand rest → AllStand (spelling.metadata_then m rest)
 told_stands m rest r = (tt, r)
 
 return_stands : (i : ReturnItem) (rest : List Token) → AllStand rest → AllStand (spelling.return_item i rest)
-return_stands i rest r = (tt, in_order (spelling.is_left_out i.name i.metadata) _ _ r (refl, all_of spelling.told told_stands i.metadata _ (refl, r)))
+return_stands i rest r = (tt, in_order (spelling.is_left_out i.name i.metadata) _ _ r (refl, all_of spelling.metadata_then told_stands i.metadata _ (refl, r)))
 
 sort_item_stands : (s : SortItem) (rest : List Token) → AllStand rest → AllStand (spelling.sort_item s rest)
 sort_item_stands s rest r = (tt, (tt, r))
@@ -283,11 +283,11 @@ unfolding may_quote
 string_spelled text h = by_quote (may_quote text) refl h where
   by_quote : (b : Bool) → may_quote text ≡ b → length (own (if b then Quoted text else literal_of text)) ≤ 262144 → IsSpelled (if b then Quoted text else literal_of text)
   by_quote true e h =
-      let p = and_parts (nat_le (length (escaped text)) 1024) (is_utf8 text && list_all is_printable text) e in
-      ((and_parts (is_utf8 text) (list_all is_printable text) p.1).1, leb-true (length (escaped text)) 1024 p.0)
+      let p = and_parts (nat_le (length (escaped_form text)) 1024) (is_utf8 text && list_all is_printable text) e in
+      ((and_parts (is_utf8 text) (list_all is_printable text) p.1).1, leb-true (length (escaped_form text)) 1024 p.0)
   by_quote false e h = literal_spelled text h
 
-spelled : (k : Kind) (value : List ℕ) → CanStand k value → length (own (written k value)) ≤ 262144 → IsSpelled (written k value)
+spelled : (k : Kind) (value : List ℕ) → CanStand k value → length (own (writing_of k value)) ≤ 262144 → IsSpelled (writing_of k value)
 spelled kind.Tag value s h = absurd s
 spelled kind.Word value s h = s
 spelled kind.Quoted value s h = string_spelled value h
@@ -299,7 +299,7 @@ string_kind : (b : Bool) (text : List ℕ) → IsBehindTag (kind_of (if b then Q
 string_kind true text = tt
 string_kind false text = tt
 
-behind_tag : (k : Kind) (value : List ℕ) → CanStand k value → IsBehindTag (kind_of (written k value))
+behind_tag : (k : Kind) (value : List ℕ) → CanStand k value → IsBehindTag (kind_of (writing_of k value))
 behind_tag kind.Tag value s = absurd s
 behind_tag kind.Word value s = tt
 behind_tag kind.Quoted value s = string_kind (may_quote value) value
@@ -310,7 +310,7 @@ behind_tag kind.Close value s = tt
 pieces_stand : (last : Kind) (ts : List Token) → IsBehindTag last → AllStand ts → length (text_of (pieces_behind last ts)) ≤ 262144 → Stand (Some last) (pieces_behind last ts)
 pieces_stand last [] b a h = tt
 pieces_stand last (t ∷ ts) b a h =
-    let w = written t.kind t.value in
+    let w = writing_of t.kind t.value in
     let left = text_of (pieces_behind (kind_of w) ts) in
     let outer = length-append (gap (may_part last (kind_of w))) (own w ++ left) in
     let inner = length-append (own w) left in
@@ -320,7 +320,7 @@ string_waits : (b : Bool) (text : List ℕ) → wait (if b then Quoted text else
 string_waits true text = refl
 string_waits false text = refl
 
-one_waits : (k : Kind) (value : List ℕ) → CanStand k value → wait (written k value) ≡ 0
+one_waits : (k : Kind) (value : List ℕ) → CanStand k value → wait (writing_of k value) ≡ 0
 one_waits kind.Tag value s = absurd s
 one_waits kind.Word value s = refl
 one_waits kind.Quoted value s = string_waits (may_quote value) value
@@ -330,7 +330,7 @@ one_waits kind.Close value s = refl
 
 pieces_wait : (last : Kind) (ts : List Token) → AllStand ts → waits_of (pieces_behind last ts) ≡ 0
 pieces_wait last [] a = refl
-pieces_wait last (t ∷ ts) a = let one = one_waits t.kind t.value a.0 in let others = pieces_wait (kind_of (written t.kind t.value)) ts a.1 in omega (arith, one, others)
+pieces_wait last (t ∷ ts) a = let one = one_waits t.kind t.value a.0 in let others = pieces_wait (kind_of (writing_of t.kind t.value)) ts a.1 in omega (arith, one, others)
 
 abbrev plain_token : Kind → List ℕ → Token
 plain_token k value = record { kind = plain_kind k; value = value; start = 0; end = 0 }
@@ -339,7 +339,7 @@ string_alike : (b : Bool) (text : List ℕ) (at : ℕ) → plain (token at (if b
 string_alike true text at = refl
 string_alike false text at = refl
 
-one_alike : (k : Kind) (value : List ℕ) (at : ℕ) → CanStand k value → plain (token at (written k value)) ≡ plain_token k value
+one_alike : (k : Kind) (value : List ℕ) (at : ℕ) → CanStand k value → plain (token at (writing_of k value)) ≡ plain_token k value
 one_alike kind.Tag value at s = absurd s
 one_alike kind.Word value at s = refl
 one_alike kind.Quoted value at s = string_alike (may_quote value) value at
@@ -350,7 +350,7 @@ one_alike kind.Close value at s = ap (plain_token kind.Close) (sym s)
 pieces_alike : (last : Kind) (at : ℕ) (ts : List Token) → AllStand ts → map plain (tokens_from at (pieces_behind last ts)) ≡ map plain ts
 pieces_alike last at [] a = refl
 pieces_alike last at (t ∷ ts) a =
-    let w = written t.kind t.value in
+    let w = writing_of t.kind t.value in
     let start = at + length (gap (may_part last (kind_of w))) in
     let others = pieces_alike (kind_of w) (start + length (own w)) ts a.1 in
     ap (λ (u : Token). u ∷ map plain (tokens_from (start + length (own w)) (pieces_behind (kind_of w) ts))) (one_alike t.kind t.value start a.0) ∙ ap (λ (us : List Token). plain t ∷ us) others

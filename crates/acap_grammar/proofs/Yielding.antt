@@ -5,8 +5,8 @@ use Rattle.std.proofs.lemmas.List.{append-nil}
 use Rattle.acap_lexer.specs.declared.kind.Kind.{Kind}
 use Rattle.acap_lexer.specs.Token.{Token}
 use Rattle.acap_grammar.specs.declared.grammar_fault.GrammarFault.{GrammarFault}
-use Rattle.acap_grammar.specs.Outcome.{◌>>=◌, Fault, Read, judged}
-use Rattle.acap_grammar.specs.Several.{several, some_of, enclosed}
+use Rattle.acap_grammar.specs.Outcome.{◌>>=◌, Fault, Read, verdict_at}
+use Rattle.acap_grammar.specs.Several.{several, some_of, in_parenthesis}
 use Rattle.acap_grammar.specs.Marks as mark
 use Rattle.acap_grammar.specs.Arguments.{named_at}
 use Rattle.acap_grammar.specs.Sendable.{Each, OneTo}
@@ -58,24 +58,24 @@ pub record IsNamed {A : Type 0} (read : List ℕ → Result A GrammarFault) (x :
 pub named : {A : Type 0} (read : List ℕ → Result A GrammarFault) → Yields (named_at read) (IsNamed read)
 unfolding named_at
 named {A} read = record { gives = λ ts x e. by_string ts x (mark.string_at ts) e } where
-  by_judge : (ts : List Token) (x : A × List Token) (t : List ℕ × List Token) (j : Result A GrammarFault) → read t.0 ≡ j → (judged ts j >>= λ n. Ok (n, t.1)) ≡ Ok x → IsNamed read x.0
+  by_judge : (ts : List Token) (x : A × List Token) (t : List ℕ × List Token) (j : Result A GrammarFault) → read t.0 ≡ j → (verdict_at ts j >>= λ n. Ok (n, t.1)) ≡ Ok x → IsNamed read x.0
   by_judge ts x t (Ok n) m e =
       let same : (n, t.1) ≡ x = cc in
       record { text = t.0; is = m ∙ ap (λ (z : A × List Token). Ok z.0) same }
   by_judge ts x t (Err d) m e = absurd cc
 
-  by_string : (ts : List Token) (x : A × List Token) (r : Read (List ℕ)) → (r >>= λ t. judged ts (read t.0) >>= λ n. Ok (n, t.1)) ≡ Ok x → IsNamed read x.0
+  by_string : (ts : List Token) (x : A × List Token) (r : Read (List ℕ)) → (r >>= λ t. verdict_at ts (read t.0) >>= λ n. Ok (n, t.1)) ≡ Ok x → IsNamed read x.0
   by_string ts x (Ok t) e = by_judge ts x t (read t.0) refl e
   by_string ts x (Err d) e = absurd cc
 
 -- what is read past a word or name that may stand once
-pub past_once : {A : Type 0} (stood : Bool) (ts : List Token) (r : Read A) (y : A × List Token) → (judged ts (once stood) >>= λ new. r) ≡ Ok y → (stood ≡ false) × (r ≡ Ok y)
+pub past_once : {A : Type 0} (stood : Bool) (ts : List Token) (r : Read A) (y : A × List Token) → (verdict_at ts (once stood) >>= λ new. r) ≡ Ok y → (stood ≡ false) × (r ≡ Ok y)
 past_once false ts r y e = (refl, e)
 past_once true ts r y e = absurd cc
 
 -- a name that didn't stand before
 pub new_name : {A B : Type 0} (Q : B → Type 0) (read : List ℕ → Result A GrammarFault) (stood : A → Bool) (f : A → List Token → Read B)
-    → ((x : A) → IsNamed read x → stood x ≡ false → Yields (f x) Q) → Yields (λ ts. named_at read ts >>= λ x. judged ts (once (stood x.0)) >>= λ new. f x.0 x.1) Q
+    → ((x : A) → IsNamed read x → stood x ≡ false → Yields (f x) Q) → Yields (λ ts. named_at read ts >>= λ x. verdict_at ts (once (stood x.0)) >>= λ new. f x.0 x.1) Q
 new_name Q read stood f p =
     bind_all (IsNamed read) Q _ _ (named read) (λ x h ts rest y e. let o = past_once (stood x) ts (f x rest) y e in (p x h o.0).gives rest y o.1)
 
@@ -156,7 +156,7 @@ some_items {X} Suits over fits item p room =
 
 -- the same in a parenthesis
 pub enclosed_items : {X : Type 0} (Suits : List X → X → Type 0) (is : Kind → Bool) (item : List X → List Token → Read (List X)) → ((seen : List X) → Yields (item seen) (AddsOne Suits seen))
-    → (room : ℕ) → Yields (enclosed (mark.starts mark.is_close) (mark.starts is) item (suc room) []) (λ all. OneTo (suc room) all × Each Suits [] all)
-unfolding enclosed
+    → (room : ℕ) → Yields (in_parenthesis (mark.starts mark.is_close) (mark.starts is) item (suc room) []) (λ all. OneTo (suc room) all × Each Suits [] all)
+unfolding in_parenthesis
 enclosed_items {X} Suits is item p room =
     behind _ mark.is_open _ (bind (λ all. OneTo (suc room) all × Each Suits [] all) (λ all. OneTo (suc room) all × Each Suits [] all) _ _ (some_items Suits _ _ item p room) (λ all h. behind _ mark.is_close _ (value _ all h)))

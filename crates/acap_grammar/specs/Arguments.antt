@@ -7,7 +7,7 @@ use Rattle.acap_lexer.specs.Token.{Token}
 use Rattle.acap_order.specs.Ranks.{is_numeric}
 use Rattle.acap_order.specs.Spellings.{comparator_of}
 use Rattle.acap_order.specs.declared.comparator.Comparator.{Comparator}
-use Rattle.acap_entries.specs.Names.{is_path, is_attribute, is_dataset_argument, is_entry_name, is_context_name, dataset_of, name_of, closed, begins_with, slash}
+use Rattle.acap_entries.specs.Names.{is_path, is_attribute, is_dataset_argument, is_entry_name, is_context_name, dataset_of, name_of, with_slash, begins_with, slash}
 use Rattle.acap_entries.specs.Times.{time_of}
 use Rattle.acap_entries.specs.declared.path.Path.{Path}
 use Rattle.acap_grammar.specs.declared.grammar_fault.GrammarFault.{GrammarFault}
@@ -18,7 +18,7 @@ use Rattle.acap_commands.specs.declared.relation.Relation.{Relation}
 use Rattle.acap_commands.specs.declared.relation.Relation.TheVariants as relation
 use Rattle.acap_commands.specs.declared.target.Target.{Target}
 use Rattle.acap_commands.specs.declared.target.Target.TheVariants as target
-use Rattle.acap_grammar.specs.Outcome.{◌>>=◌, Read, refused, judged}
+use Rattle.acap_grammar.specs.Outcome.{◌>>=◌, Read, fault_here, verdict_at}
 use Rattle.acap_grammar.specs.Marks.{is_word, is_open, is_close, starts, behind, string_at}
 
 -- what is there, or else a fault
@@ -38,7 +38,7 @@ unfoldable pub attribute_named : List ℕ → Result (List ℕ) GrammarFault
 attribute_named text = if_named (is_attribute text) text
 
 unfoldable pub dataset_named : List ℕ → Result (List ℕ) GrammarFault
-dataset_named text = if_named (is_dataset_argument text) (closed text)
+dataset_named text = if_named (is_dataset_argument text) (with_slash text)
 
 unfoldable pub context_named : List ℕ → Result (List ℕ) GrammarFault
 context_named text = if_named (is_context_name text) text
@@ -57,7 +57,7 @@ target_named text =
 unfoldable pub named_at : {A : Type 0} → (List ℕ → Result A GrammarFault) → List Token → Read A
 named_at named tokens = do
   text ← string_at tokens
-  name ← judged tokens (named text.0)
+  name ← verdict_at tokens (named text.0)
   Ok (name, text.1)
 
 -- a number: a word of 1 to 10 digits up to 4294967295
@@ -65,10 +65,10 @@ abbrev pub number_in : List ℕ → Option ℕ
 number_in text = if list_all is_ascii_digit text then count_of text else None
 
 unfoldable pub number_at : List Token → Read ℕ
-number_at [] = refused [] fault.Arguments
+number_at [] = fault_here [] fault.Arguments
 number_at (t ∷ rest) =
-    if is_word t.kind then (judged (t ∷ rest) (or_fault fault.Arguments (number_in t.value)) >>= λ x. Ok (x, rest))
-    else refused (t ∷ rest) fault.Arguments
+    if is_word t.kind then (verdict_at (t ∷ rest) (or_fault fault.Arguments (number_in t.value)) >>= λ x. Ok (x, rest))
+    else fault_here (t ∷ rest) fault.Arguments
 
 -- a time
 abbrev pub time_named : List ℕ → Result ℤ GrammarFault

@@ -30,10 +30,10 @@ use Rattle.acap_commands.specs.declared.target.Target.TheVariants as target
 use Rattle.acap_commands.specs.declared.test.Test.TheVariants as test
 use Rattle.acap_commands.specs.declared.verb.Verb.TheVariants as verb
 use Rattle.acap_grammar.specs.Grammar.{command_of}
-use Rattle.acap_grammar.specs.Laws.{fault_of, word_token, under, alone, refused}
+use Rattle.acap_grammar.specs.Laws.{fault_of, word_token, under, alone, refusal_under}
 use Rattle.acap_grammar.specs.Refusals.{of_lexical, of_grammar}
 use Rattle.acap_grammar.specs.Replies.{octets_of, crlf}
-use Rattle.acap_commands.specs.Modifiers.{unmodified}
+use Rattle.acap_commands.specs.Modifiers.{no_modifiers}
 use Rattle.acap_commands.specs.Wanted.{Wanted, One, And, Or, Not}
 
 -- ---- tokens, wherever they lie
@@ -44,8 +44,8 @@ word text behind = word_token text ∷ behind
 abbrev pub string : List ℕ → List Token → List Token
 string text behind = record { kind = kind.Quoted; value = text; start = 0; end = 0 } ∷ behind
 
-abbrev pub opened : List Token → List Token
-opened behind = record { kind = kind.Open; value = []; start = 0; end = 0 } ∷ behind
+abbrev pub open_then : List Token → List Token
+open_then behind = record { kind = kind.Open; value = []; start = 0; end = 0 } ∷ behind
 
 abbrev pub shut : List Token → List Token
 shut behind = record { kind = kind.Close; value = []; start = 0; end = 0 } ∷ behind
@@ -56,14 +56,14 @@ line verb behind = record { kind = kind.Tag; value = codes "A1"; start = 0; end 
 
 -- `("/a/") ..`, and the object
 abbrev pub a_object : List Token → List Token
-a_object behind = opened (string (codes "/a/") (shut behind))
+a_object behind = open_then (string (codes "/a/") (shut behind))
 
 abbrev pub a_named : ObjectName
 a_named = object_name.Dataset (codes "/a/")
 
 -- `STORE ("/a/b" ..`
 abbrev pub store : List Token → List Token
-store behind = line (codes "STORE") (opened (string (codes "/a/b") behind))
+store behind = line (codes "STORE") (open_then (string (codes "/a/b") behind))
 
 -- `SEARCH "/" ..` and `SEARCH "c" ..`
 abbrev pub search : List Token → List Token
@@ -88,7 +88,7 @@ at_second n = moment_of (record { year = 1970; month = 1; day = 1; hour = 0; min
 
 -- these tokens behind `SEARCH "/" AND` are two such keys
 abbrev pub found_by : Wanted → Wanted → List Token → Type 0
-found_by first second behind = command_of (search (word (codes "AND") behind)) ≡ Ok (command.Search (record { target = target.Dataset (codes "/"); modifiers = unmodified; key = And first second }))
+found_by first second behind = command_of (search (word (codes "AND") behind)) ≡ Ok (command.Search (record { target = target.Dataset (codes "/"); modifiers = no_modifiers; key = And first second }))
 
 pub record LineExamples : Type 0 where
   -- words are read in any case, and the arguments in their order
@@ -104,7 +104,7 @@ pub record LineExamples : Type 0 where
   pub update_context : command_of (line (codes "UPDATECONTEXT") (string (codes "d") (string (codes "c") []))) ≡ Ok (command.UpdateContext (codes "d" ∷ codes "c" ∷ []))
   -- what a STORE gives, and on which conditions
   pub given : command_of (store (word (codes "NOCREATE") (word (codes "UNCHANGEDSINCE") (string (codes "19700101000000") (string (codes "k") (word (codes "NIL") (string (codes "l") (word (codes "DEFAULT")
-      (string (codes "m") (opened (string (codes "value") (opened (string (codes "x") (string (codes "y") (shut (string (codes "acl") (word (codes "default") (shut (shut [])))))))))))))))))))
+      (string (codes "m") (open_then (string (codes "value") (open_then (string (codes "x") (string (codes "y") (shut (string (codes "acl") (word (codes "default") (shut (shut [])))))))))))))))))))
       ≡ Ok (command.Store (record {
         path = record { dataset = codes "/a/"; name = codes "b" };
         modifiers = record { no_create = true; unchanged_since = Some (at_second 0) };
@@ -114,7 +114,7 @@ pub record LineExamples : Type 0 where
   -- the modifiers of a SEARCH
   pub modifiers : command_of (search (word (codes "DEPTH") (word (codes "2") (word (codes "HARDLIMIT") (word (codes "3") (word (codes "LIMIT") (word (codes "4") (word (codes "5")
       (word (codes "MAKECONTEXT") (word (codes "ENUMERATE") (word (codes "NOTIFY") (string (codes "c") (word (codes "NOINHERIT")
-      (word (codes "RETURN") (opened (string (codes "a*") (opened (string (codes "size") (string (codes "acl") (shut (string (codes "*") (shut (word (codes "SORT") (opened (string (codes "k") (string (codes "-i;octet") (shut all)))))))))))))))))))))))))))
+      (word (codes "RETURN") (open_then (string (codes "a*") (open_then (string (codes "size") (string (codes "acl") (shut (string (codes "*") (shut (word (codes "SORT") (open_then (string (codes "k") (string (codes "-i;octet") (shut all)))))))))))))))))))))))))))
       ≡ Ok (command.Search (record {
         target = target.Dataset (codes "/");
         modifiers = record {
@@ -129,8 +129,8 @@ pub record LineExamples : Type 0 where
         key = One test.All;
       }))
   pub notify_alone : command_of (search (word (codes "MAKECONTEXT") (word (codes "NOTIFY") (string (codes "c") all))))
-      ≡ Ok (command.Search (record { target = target.Dataset (codes "/"); modifiers = record unmodified { make_context = Some (record { enumerate = false; notify = true; name = codes "c" }) }; key = One test.All }))
-  pub over_a_context : command_of (search_context all) ≡ Ok (command.Search (record { target = target.Context (codes "c"); modifiers = unmodified; key = One test.All }))
+      ≡ Ok (command.Search (record { target = target.Dataset (codes "/"); modifiers = record no_modifiers { make_context = Some (record { enumerate = false; notify = true; name = codes "c" }) }; key = One test.All }))
+  pub over_a_context : command_of (search_context all) ≡ Ok (command.Search (record { target = target.Context (codes "c"); modifiers = no_modifiers; key = One test.All }))
   -- keys
   pub equal : found_by (One (test.Meets relation.Equal (codes "k") (ascending AsciiNumeric) (codes "x"))) (One (test.IsNil (codes "k") (ascending Octet)))
       (meets (codes "EQUAL") (codes "i;ascii-numeric") (test_of (codes "EQUAL") (codes "i;octet") (word (codes "NIL") [])))
@@ -152,7 +152,7 @@ pub record LineFaults : Type 0 where
   pub other_verb : fault_of (line (codes "NOOPS") []) ≡ Some fault.UnknownCommand
   pub left_over : fault_of (line (codes "NOOP") (string (codes "x") [])) ≡ Some fault.Arguments
   pub no_items : fault_of (store (shut [])) ≡ Some fault.Arguments
-  pub other_metadata : fault_of (search (word (codes "RETURN") (opened (string (codes "k") (opened (string (codes "VALUE") (shut (shut all)))))))) ≡ Some fault.Arguments
+  pub other_metadata : fault_of (search (word (codes "RETURN") (open_then (string (codes "k") (open_then (string (codes "VALUE") (shut (shut all)))))))) ≡ Some fault.Arguments
   pub nil_for_a_part : fault_of (search (test_of (codes "PREFIX") (codes "i;octet") (word (codes "NIL") []))) ≡ Some fault.Arguments
   pub depth_of_a_context : fault_of (search_context (word (codes "DEPTH") (word (codes "1") all))) ≡ Some fault.Arguments
   pub context_of_a_context : fault_of (search_context (word (codes "MAKECONTEXT") (string (codes "d") all))) ≡ Some fault.Arguments
@@ -165,14 +165,14 @@ pub record LineFaults : Type 0 where
   pub front_of_a_number : fault_of (search (meets (codes "PREFIX") (codes "i;ascii-numeric") [])) ≡ Some fault.BadComparator
   pub part_of_a_number : fault_of (search (meets (codes "SUBSTRING") (codes "-i;ascii-numeric") [])) ≡ Some fault.BadComparator
   -- an object's dataset and entry name are a path of at most 16 components
-  pub object_of_16 : fault_of (line (codes "MYRIGHTS") (opened (string (codes "/a/b/c/d/e/f/g/h/i/j/k/l/m/n/o/") (string (codes "k") (string (codes "p") (shut [])))))) ≡ None
-  pub object_of_17 : fault_of (line (codes "MYRIGHTS") (opened (string (codes "/a/b/c/d/e/f/g/h/i/j/k/l/m/n/o/p/") (string (codes "k") (string (codes "q") (shut [])))))) ≡ Some fault.BadName
+  pub object_of_16 : fault_of (line (codes "MYRIGHTS") (open_then (string (codes "/a/b/c/d/e/f/g/h/i/j/k/l/m/n/o/") (string (codes "k") (string (codes "p") (shut [])))))) ≡ None
+  pub object_of_17 : fault_of (line (codes "MYRIGHTS") (open_then (string (codes "/a/b/c/d/e/f/g/h/i/j/k/l/m/n/o/p/") (string (codes "k") (string (codes "q") (shut [])))))) ≡ Some fault.BadName
   -- what may stand once
   pub attribute_twice : fault_of (store (gift (gift (shut [])))) ≡ Some fault.NotPermittedTwice
-  pub path_twice : fault_of (store (gift (shut (opened (string (codes "/a/b") (gift (shut []))))))) ≡ Some fault.NotPermittedTwice
-  pub name_in_two_datasets : fault_of (store (gift (shut (opened (string (codes "/c/b") (gift (shut []))))))) ≡ None
+  pub path_twice : fault_of (store (gift (shut (open_then (string (codes "/a/b") (gift (shut []))))))) ≡ Some fault.NotPermittedTwice
+  pub name_in_two_datasets : fault_of (store (gift (shut (open_then (string (codes "/c/b") (gift (shut []))))))) ≡ None
   pub condition_twice : fault_of (store (word (codes "NOCREATE") (word (codes "NOCREATE") (gift (shut []))))) ≡ Some fault.NotPermittedTwice
-  pub metadata_twice : fault_of (store (string (codes "k") (opened (string (codes "acl") (word (codes "NIL") (string (codes "acl") (word (codes "NIL") (shut (shut []))))))))) ≡ Some fault.NotPermittedTwice
+  pub metadata_twice : fault_of (store (string (codes "k") (open_then (string (codes "acl") (word (codes "NIL") (string (codes "acl") (word (codes "NIL") (shut (shut []))))))))) ≡ Some fault.NotPermittedTwice
   pub contexts_twice : fault_of (line (codes "UPDATECONTEXT") (string (codes "c") (string (codes "c") []))) ≡ None
   -- a repetition is seen before what follows it, and a bad name before a repetition
   pub before_its_value : fault_of (store (gift (string (codes "k") (word (codes "x") [])))) ≡ Some fault.NotPermittedTwice
@@ -185,23 +185,23 @@ abbrev pub each : ℕ → (ℕ → List Token → List Token) → List Token →
 each zero form behind = behind
 each (suc count) form behind = form count (each count form behind)
 
-abbrev pub numbered : ℕ → List ℕ
-numbered n = codes "n" ++ decimal n
+abbrev pub nth_name : ℕ → List ℕ
+nth_name n = codes "n" ++ decimal n
 
 abbrev pub items : ℕ → List Token
-items count = store (each count (λ n behind. string (numbered n) (string [] behind)) (shut []))
+items count = store (each count (λ n behind. string (nth_name n) (string [] behind)) (shut []))
 
 abbrev pub entries : ℕ → List Token
-entries count = line (codes "STORE") (each count (λ n behind. opened (string (codes "/a/" ++ numbered n) (gift (shut behind)))) [])
+entries count = line (codes "STORE") (each count (λ n behind. open_then (string (codes "/a/" ++ nth_name n) (gift (shut behind)))) [])
 
 abbrev pub returns : ℕ → List Token
-returns count = search (word (codes "RETURN") (opened (each count (λ n behind. string (codes "k") behind) (shut all))))
+returns count = search (word (codes "RETURN") (open_then (each count (λ n behind. string (codes "k") behind) (shut all))))
 
 abbrev pub sorts : ℕ → List Token
-sorts count = search (word (codes "SORT") (opened (each count (λ n behind. string (codes "k") (string (codes "i;octet") behind)) (shut all))))
+sorts count = search (word (codes "SORT") (open_then (each count (λ n behind. string (codes "k") (string (codes "i;octet") behind)) (shut all))))
 
 abbrev pub metadata_of : ℕ → List Token
-metadata_of count = search (word (codes "RETURN") (opened (string (codes "k") (opened (each count (λ n behind. string (codes "acl") behind) (shut (shut all)))))))
+metadata_of count = search (word (codes "RETURN") (open_then (string (codes "k") (open_then (each count (λ n behind. string (codes "acl") behind) (shut (shut all)))))))
 
 abbrev pub contexts : ℕ → List Token
 contexts count = line (codes "UPDATECONTEXT") (each count (λ n behind. string (codes "c") behind) [])
@@ -227,7 +227,7 @@ abbrev pub lines : List (List ℕ) → List ℕ
 lines texts = flat_map (λ text. text ++ crlf) texts
 
 abbrev pub refusals_of : List Refusal → List ℕ
-refusals_of all = flat_map (λ r. octets_of (refused (codes "A1") r)) all
+refusals_of all = flat_map (λ r. octets_of (refusal_under (codes "A1") r)) all
 
 pub record TextExamples : Type 0 where
   pub lexical_faults : map of_lexical (lexical.BadTag ∷ lexical.BadToken ∷ lexical.BadLiteral ∷ lexical.CommandTooLong ∷ lexical.LineTooLong ∷ [])

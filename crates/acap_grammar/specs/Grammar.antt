@@ -8,7 +8,7 @@ use Rattle.acap_grammar.specs.declared.grammar_fault.GrammarFault.{GrammarFault}
 use Rattle.acap_grammar.specs.declared.grammar_fault.GrammarFault.TheVariants as fault
 use Rattle.acap_commands.specs.declared.verb.Verb.{Verb}
 use Rattle.acap_commands.specs.declared.verb.Verb.TheVariants as verb
-use Rattle.acap_grammar.specs.Outcome.{◌>>=◌, Fault, Read, refused}
+use Rattle.acap_grammar.specs.Outcome.{◌>>=◌, Fault, Read, fault_here}
 use Rattle.acap_grammar.specs.Several.{some_of}
 use Rattle.acap_grammar.specs.Marks.{is_string, ends, starts, string_at, word_at}
 use Rattle.acap_grammar.specs.Arguments.{dataset_named, context_named, named_at, time_named, object_at}
@@ -84,10 +84,10 @@ arguments_at verb.UpdateContext tokens = contexts_at tokens >>= λ x. Ok (comman
 
 -- a command takes all tokens up to the end
 abbrev pub whole : Command × List Token → Result Command Fault
-whole read = if ends read.1 then Ok read.0 else refused read.1 fault.Arguments
+whole read = if ends read.1 then Ok read.0 else fault_here read.1 fault.Arguments
 
 abbrev pub command_by : List Token → Option (Verb × List Token) → Result Command Fault
-command_by tokens None = refused tokens fault.UnknownCommand
+command_by tokens None = fault_here tokens fault.UnknownCommand
 command_by tokens (Some x) = arguments_at x.0 x.1 >>= whole
 
 -- The command of a line, whose first token is its tag, or its first fault and where that lies.

@@ -9,7 +9,7 @@ use Rattle.acap_commands.specs.declared.test.Test.{Test}
 use Rattle.acap_commands.specs.declared.test.Test.TheVariants as test
 use Rattle.acap_grammar.specs.declared.words.KeyWord.{KeyWord}
 use Rattle.acap_grammar.specs.declared.words.KeyWord.TheVariants as key_word
-use Rattle.acap_grammar.specs.Outcome.{◌>>=◌, Read, refused}
+use Rattle.acap_grammar.specs.Outcome.{◌>>=◌, Read, fault_here}
 use Rattle.acap_grammar.specs.Marks.{ends, string_at, behind_word, word_at}
 use Rattle.acap_grammar.specs.Arguments.{attribute_named, named_at, number_at, time_named, comparator_for}
 use Rattle.acap_commands.specs.Wanted.{Wanted, One, And, Or, Not}
@@ -69,10 +69,10 @@ key_behind inner key_word.Range tokens = one_of (range_at tokens)
 key_behind inner (key_word.Meets relation) tokens = one_of (meets_at relation tokens)
 
 abbrev pub key_by : (List Token → Read Wanted) → List Token → Option (KeyWord × List Token) → Read Wanted
-key_by inner tokens None = refused tokens fault.Arguments
+key_by inner tokens None = fault_here tokens fault.Arguments
 key_by inner tokens (Some x) = key_behind inner x.0 x.1
 
 -- a key of so many levels at most; one level too many is refused at its first token, whatever it is
 unfoldable pub key_at : ℕ → List Token → Read Wanted
-key_at zero tokens = refused tokens (if ends tokens then fault.Arguments else fault.TooDeep)
+key_at zero tokens = fault_here tokens (if ends tokens then fault.Arguments else fault.TooDeep)
 key_at (suc levels) tokens = key_by (key_at levels) tokens (word_at key_words tokens)

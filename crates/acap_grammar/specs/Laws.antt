@@ -28,7 +28,7 @@ use Rattle.acap_commands.specs.declared.verb.Verb.TheVariants as verb
 use Rattle.acap_grammar.specs.Grammar.{command_at, command_of}
 use Rattle.acap_grammar.specs.Outcome.{Fault}
 use Rattle.acap_grammar.specs.Replies.{octets_of, crlf}
-use Rattle.acap_commands.specs.Modifiers.{unmodified}
+use Rattle.acap_commands.specs.Modifiers.{no_modifiers}
 use Rattle.acap_grammar.specs.Sendable.{IsSendable}
 use Rattle.acap_commands.specs.Modifiers.{unconditional}
 use Rattle.acap_commands.specs.Wanted.{One}
@@ -89,7 +89,7 @@ abbrev pub search_command : Command
 search_command = command.Search (
     record {
       target = target.Dataset (codes "/option/~/");
-      modifiers = record unmodified { returns = Some (value_of (codes "option.value") ∷ value_of (codes "modtime") ∷ []) };
+      modifiers = record no_modifiers { returns = Some (value_of (codes "option.value") ∷ value_of (codes "modtime") ∷ []) };
       key = One test.All;
     })
 
@@ -143,8 +143,8 @@ under tag said = record { tag = Some tag; said = said }
 abbrev pub alone : Said → Reply
 alone said = record { tag = None; said = said }
 
-abbrev pub refused : List ℕ → Refusal → Reply
-refused tag refusal = under tag (said.Refused refusal)
+abbrev pub refusal_under : List ℕ → Refusal → Reply
+refusal_under tag refusal = under tag (said.Refused refusal)
 
 -- a search that finds one row, of which this is told
 abbrev pub telling : List Item → Reply
@@ -157,23 +157,23 @@ pub record ReplyExamples : Type 0 where
   pub good_bye : octets_of (under (codes "A3") said.GoodBye) ≡ codes "* BYE \"Good bye\"" ++ crlf ++ codes "A3 OK \"LOGOUT done\"" ++ crlf
   pub bad_tag : octets_of (alone (said.Refused refusal.BadTag)) ≡ codes "* BAD \"Bad tag\"" ++ crlf
   pub too_long : octets_of (alone (said.Refused refusal.CommandTooLong)) ≡ codes "* BYE \"Command too long\"" ++ crlf
-  pub no_exist : octets_of (refused (codes "A4") (refusal.NoExist (codes "/option/user/joe/")))
+  pub no_exist : octets_of (refusal_under (codes "A4") (refusal.NoExist (codes "/option/user/joe/")))
       ≡ codes "A4 NO (NOEXIST \"/option/user/joe/\") \"No such dataset\"" ++ crlf
-  pub invalid : octets_of (refused (codes "A1") (refusal.Invalid (record { dataset = codes "/option/user/joe/"; name = codes "n" }) (codes "modtime")))
+  pub invalid : octets_of (refusal_under (codes "A1") (refusal.Invalid (record { dataset = codes "/option/user/joe/"; name = codes "n" }) (codes "modtime")))
       ≡ codes "A1 NO (INVALID (\"/option/user/joe/n\" \"modtime\")) \"Invalid value\"" ++ crlf
-  pub permission : octets_of (refused (codes "A5") (refusal.Permission (object_name.Entry (codes "/option/site/") (codes "entry") (codes "b"))))
+  pub permission : octets_of (refusal_under (codes "A5") (refusal.Permission (object_name.Entry (codes "/option/site/") (codes "entry") (codes "b"))))
       ≡ codes "A5 NO (PERMISSION (\"/option/site/\" \"entry\" \"b\")) \"Permission denied\"" ++ crlf
-  pub permission_dataset : octets_of (refused (codes "A5") (refusal.Permission (object_name.Dataset (codes "/option/site/"))))
+  pub permission_dataset : octets_of (refusal_under (codes "A5") (refusal.Permission (object_name.Dataset (codes "/option/site/"))))
       ≡ codes "A5 NO (PERMISSION (\"/option/site/\")) \"Permission denied\"" ++ crlf
-  pub permission_attribute : octets_of (refused (codes "A5") (refusal.Permission (object_name.Attribute (codes "/option/site/") (codes "entry"))))
+  pub permission_attribute : octets_of (refusal_under (codes "A5") (refusal.Permission (object_name.Attribute (codes "/option/site/") (codes "entry"))))
       ≡ codes "A5 NO (PERMISSION (\"/option/site/\" \"entry\")) \"Permission denied\"" ++ crlf
-  pub modified : octets_of (refused (codes "A6") (refusal.Modified (record { dataset = codes "/option/user/joe/"; name = codes "n" })))
+  pub modified : octets_of (refusal_under (codes "A6") (refusal.Modified (record { dataset = codes "/option/user/joe/"; name = codes "n" })))
       ≡ codes "A6 NO (MODIFIED \"/option/user/joe/n\") \"Entry was changed\"" ++ crlf
-  pub too_old : octets_of (refused (codes "A7") refusal.TooOld) ≡ codes "A7 NO (TOOOLD) \"Time too old\"" ++ crlf
-  pub way_too_many : octets_of (refused (codes "A8") refusal.WayTooMany) ≡ codes "A8 NO (WAYTOOMANY) \"Too many matches\"" ++ crlf
-  pub try_free_context : octets_of (refused (codes "A9") refusal.TryFreeContext) ≡ codes "A9 NO (TRYFREECONTEXT) \"Too many contexts\"" ++ crlf
-  pub memory : octets_of (refused (codes "A1") refusal.Memory) ≡ codes "A1 NO (TRYLATER) \"No memory\"" ++ crlf
-  pub history_full : octets_of (refused (codes "A1") refusal.HistoryFull) ≡ codes "A1 NO (TRYLATER) \"History is full\"" ++ crlf
+  pub too_old : octets_of (refusal_under (codes "A7") refusal.TooOld) ≡ codes "A7 NO (TOOOLD) \"Time too old\"" ++ crlf
+  pub way_too_many : octets_of (refusal_under (codes "A8") refusal.WayTooMany) ≡ codes "A8 NO (WAYTOOMANY) \"Too many matches\"" ++ crlf
+  pub try_free_context : octets_of (refusal_under (codes "A9") refusal.TryFreeContext) ≡ codes "A9 NO (TRYFREECONTEXT) \"Too many contexts\"" ++ crlf
+  pub memory : octets_of (refusal_under (codes "A1") refusal.Memory) ≡ codes "A1 NO (TRYLATER) \"No memory\"" ++ crlf
+  pub history_full : octets_of (refusal_under (codes "A1") refusal.HistoryFull) ≡ codes "A1 NO (TRYLATER) \"History is full\"" ++ crlf
   pub too_many : octets_of (under (codes "A2") (said.Searched (record { rows = []; last = None; total = Some 65_536 }))) ≡ codes "A2 OK (TOOMANY 65536) \"SEARCH done\"" ++ crlf
   pub list_row : octets_of (telling (item.One (cell.Multi (codes "a" ∷ codes "b" ∷ [])) ∷ [])) ≡ codes "A3 ENTRY \"font\" (\"a\" \"b\")" ++ crlf ++ codes "A3 OK \"SEARCH done\"" ++ crlf
   pub nil_row : octets_of (telling (item.One cell.Nil ∷ [])) ≡ codes "A3 ENTRY \"font\" NIL" ++ crlf ++ codes "A3 OK \"SEARCH done\"" ++ crlf

@@ -1,7 +1,7 @@
 -- A reply whose tag is lent, and how its last line goes on behind it.
 use Rattle.std.specs.Prelude.{ℕ, List, ◌++◌, codes, Option, Some, None}
 use Rattle.std.specs.Borrow.{Bor}
-use Rattle.acap_lexer.specs.Printing.{printed}
+use Rattle.acap_lexer.specs.Printing.{printed_form}
 use Rattle.acap_commands.specs.declared.reply.Reply.{Reply}
 use Rattle.acap_commands.specs.declared.said.Said.{Said}
 use Rattle.acap_commands.specs.declared.verb.Verb.{Verb}
@@ -17,4 +17,4 @@ reply_of tag words = record { tag = lent_tag tag; said = words }
 
 -- behind the tag of a completion
 abbrev pub completion_of : Verb → List ℕ
-completion_of verb = codes " OK " ++ printed (done_of verb) ++ crlf
+completion_of verb = codes " OK " ++ printed_form (done_of verb) ++ crlf

@@ -5,7 +5,7 @@ use Rattle.acap_lexer.specs.declared.kind.Kind.{Kind}
 use Rattle.acap_lexer.specs.declared.kind.Kind.TheVariants as kind
 use Rattle.acap_lexer.specs.Token.{Token}
 use Rattle.acap_grammar.specs.declared.grammar_fault.GrammarFault.TheVariants as fault
-use Rattle.acap_grammar.specs.Outcome.{Fault, Read, refused}
+use Rattle.acap_grammar.specs.Outcome.{Fault, Read, fault_here}
 
 -- a string is sent quoted or as a literal
 abbrev pub is_string : Kind → Bool
@@ -37,13 +37,13 @@ starts is (t ∷ rest) = is t.kind
 
 -- the tokens behind one of that kind
 unfoldable pub behind : (Kind → Bool) → List Token → Result (List Token) Fault
-behind is [] = refused [] fault.Arguments
-behind is (t ∷ rest) = if is t.kind then Ok rest else refused (t ∷ rest) fault.Arguments
+behind is [] = fault_here [] fault.Arguments
+behind is (t ∷ rest) = if is t.kind then Ok rest else fault_here (t ∷ rest) fault.Arguments
 
 -- the string that stands first
 unfoldable pub string_at : List Token → Read (List ℕ)
-string_at [] = refused [] fault.Arguments
-string_at (t ∷ rest) = if is_string t.kind then Ok (t.value, rest) else refused (t ∷ rest) fault.Arguments
+string_at [] = fault_here [] fault.Arguments
+string_at (t ∷ rest) = if is_string t.kind then Ok (t.value, rest) else fault_here (t ∷ rest) fault.Arguments
 
 -- what a table has beside a word, read in any case
 abbrev pub word_in : {A : Type 0} → List (List ℕ × A) → List ℕ → Option A

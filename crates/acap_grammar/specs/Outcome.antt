@@ -20,13 +20,13 @@ abbrev pub ◌>>=◌ : {A B E : Type 0} → Result A E → (A → Result B E) �
 (Err e) >>= f = Err e
 
 -- this fault lies at the first of these tokens
-abbrev pub refused : {A : Type 0} → List Token → GrammarFault → Result A Fault
-refused tokens fault = Err (record { fault = fault; left = tokens })
+abbrev pub fault_here : {A : Type 0} → List Token → GrammarFault → Result A Fault
+fault_here tokens fault = Err (record { fault = fault; left = tokens })
 
 -- what is judged of the first of these tokens
-abbrev pub judged : {A : Type 0} → List Token → Result A GrammarFault → Result A Fault
-judged tokens (Ok x) = Ok x
-judged tokens (Err fault) = refused tokens fault
+abbrev pub verdict_at : {A : Type 0} → List Token → Result A GrammarFault → Result A Fault
+verdict_at tokens (Ok x) = Ok x
+verdict_at tokens (Err fault) = fault_here tokens fault
 
 -- ---- the words of contracts
 
@@ -45,7 +45,7 @@ left_by (Ok x) = []
 left_by (Err e) = e.left
 
 abbrev pub Refuses : {Y : Type 0} → GrammarError → Result Y Fault → Type 0
-Refuses e read = (fault : GrammarFault) → e ≡ error.Fault fault → read ≡ refused (left_by read) fault
+Refuses e read = (fault : GrammarFault) → e ≡ error.Fault fault → read ≡ fault_here (left_by read) fault
 
 -- what a function returned, seen by view beside the tokens that it left, is what is read, unless memory was refused
 abbrev pub ReadsBy : {X Y : Type 0} → (X → List Token → Y) → Result X GrammarError → List Token → Result Y Fault → Type 0

@@ -2,7 +2,7 @@
 use Rattle.std.specs.Prelude.{ℕ, List, [], ◌++◌, codes}
 use Rattle.acap_lexer.specs.declared.fault.LexFault.{LexFault}
 use Rattle.acap_lexer.specs.declared.fault.LexFault.TheVariants as lexical
-use Rattle.acap_lexer.specs.Printing.{printed}
+use Rattle.acap_lexer.specs.Printing.{printed_form}
 use Rattle.acap_entries.specs.declared.path.Path.{Path}
 use Rattle.acap_grammar.specs.declared.grammar_fault.GrammarFault.{GrammarFault}
 use Rattle.acap_grammar.specs.declared.grammar_fault.GrammarFault.TheVariants as fault
@@ -68,14 +68,14 @@ text_of refusal.TooManySessions = codes "Too many sessions"
 
 -- a path is printed as one string: its dataset and then its name
 unfoldable pub path_form : Path → List ℕ
-path_form path = printed (path.dataset ++ path.name)
+path_form path = printed_form (path.dataset ++ path.name)
 
 -- an object: `(` dataset [attribute [entry name]] `)`
 unfoldable pub object_form : ObjectName → List ℕ
-object_form (object_name.Dataset dataset) = codes "(" ++ printed dataset ++ codes ")"
-object_form (object_name.Attribute dataset attribute) = codes "(" ++ printed dataset ++ codes " " ++ printed attribute ++ codes ")"
+object_form (object_name.Dataset dataset) = codes "(" ++ printed_form dataset ++ codes ")"
+object_form (object_name.Attribute dataset attribute) = codes "(" ++ printed_form dataset ++ codes " " ++ printed_form attribute ++ codes ")"
 object_form (object_name.Entry dataset attribute name) =
-    codes "(" ++ printed dataset ++ codes " " ++ printed attribute ++ codes " " ++ printed name ++ codes ")"
+    codes "(" ++ printed_form dataset ++ codes " " ++ printed_form attribute ++ codes " " ++ printed_form name ++ codes ")"
 
 abbrev pub permission_code : ObjectName → List ℕ
 permission_code object = codes "(PERMISSION " ++ object_form object ++ codes ") "
@@ -83,9 +83,9 @@ permission_code object = codes "(PERMISSION " ++ object_form object ++ codes ") 
 -- the code in its parenthesis and the space behind it, where there is one
 unfoldable pub code_of : Refusal → List ℕ
 code_of (refusal.Permission object) = permission_code object
-code_of (refusal.NoExist dataset) = codes "(NOEXIST " ++ printed dataset ++ codes ") "
+code_of (refusal.NoExist dataset) = codes "(NOEXIST " ++ printed_form dataset ++ codes ") "
 code_of (refusal.Modified path) = codes "(MODIFIED " ++ path_form path ++ codes ") "
-code_of (refusal.Invalid path attribute) = codes "(INVALID (" ++ path_form path ++ codes " " ++ printed attribute ++ codes ")) "
+code_of (refusal.Invalid path attribute) = codes "(INVALID (" ++ path_form path ++ codes " " ++ printed_form attribute ++ codes ")) "
 code_of refusal.TooOld = codes "(TOOOLD) "
 code_of refusal.WayTooMany = codes "(WAYTOOMANY) "
 code_of refusal.TryFreeContext = codes "(TRYFREECONTEXT) "

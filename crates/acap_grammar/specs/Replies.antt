@@ -1,6 +1,6 @@
 -- The printed form of a reply [RFC 2244 sections 2.2, 3.6, 6.1 to 6.4, 6.6.2, 6.7 and 8; RFC 2195 section 2].
 use Rattle.std.specs.Prelude.{ℕ, ℤ, List, [], ◌∷◌, ◌++◌, codes, decimal, flat_map, Option, Some, None}
-use Rattle.acap_lexer.specs.Printing.{printed}
+use Rattle.acap_lexer.specs.Printing.{printed_form}
 use Rattle.acap_entries.specs.Stamp.{stamp_of}
 use Rattle.acap_entries.specs.declared.cell.Cell.{Cell}
 use Rattle.acap_entries.specs.declared.cell.Cell.TheVariants as cell
@@ -28,22 +28,22 @@ abbrev pub crlf : List ℕ
 crlf = codes "\r\n"
 
 -- each of a list behind a space
-abbrev pub spaced : {A : Type 0} → (A → List ℕ) → List A → List ℕ
-spaced form xs = flat_map (λ x. codes " " ++ form x) xs
+abbrev pub behind_spaces : {A : Type 0} → (A → List ℕ) → List A → List ℕ
+behind_spaces form xs = flat_map (λ x. codes " " ++ form x) xs
 
 -- a list in a parenthesis, with one space between two
-abbrev pub joined : {A : Type 0} → (A → List ℕ) → List A → List ℕ
-joined form [] = []
-joined form (x ∷ xs) = form x ++ spaced form xs
+abbrev pub between_spaces : {A : Type 0} → (A → List ℕ) → List A → List ℕ
+between_spaces form [] = []
+between_spaces form (x ∷ xs) = form x ++ behind_spaces form xs
 
 unfoldable pub list_form : {A : Type 0} → (A → List ℕ) → List A → List ℕ
-list_form form xs = codes "(" ++ joined form xs ++ codes ")"
+list_form form xs = codes "(" ++ between_spaces form xs ++ codes ")"
 
 -- a datum: NIL, a string, or a list of strings
 unfoldable pub cell_form : Cell → List ℕ
 cell_form cell.Nil = codes "NIL"
-cell_form (cell.Single value) = printed value
-cell_form (cell.Multi values) = list_form printed values
+cell_form (cell.Single value) = printed_form value
+cell_form (cell.Multi values) = list_form printed_form values
 
 -- one datum bare, several in one parenthesis, and for a name with `*` a parenthesis of parentheses
 unfoldable pub item_form : Item → List ℕ
@@ -53,7 +53,7 @@ item_form (item.PerAttribute lists) = list_form (list_form cell_form) lists
 
 -- a row of a search: tag `ENTRY` name data*
 unfoldable pub row_form : List ℕ → Row → List ℕ
-row_form tag row = tag ++ codes " ENTRY " ++ printed row.name ++ spaced item_form row.items ++ crlf
+row_form tag row = tag ++ codes " ENTRY " ++ printed_form row.name ++ behind_spaces item_form row.items ++ crlf
 
 abbrev pub rows_form : List ℕ → List Row → List ℕ
 rows_form tag rows = flat_map (row_form tag) rows
@@ -61,7 +61,7 @@ rows_form tag rows = flat_map (row_form tag) rows
 -- the moment that a search tells: tag `MODTIME` stamp
 unfoldable pub last_form : List ℕ → Option ℤ → List ℕ
 last_form tag None = []
-last_form tag (Some moment) = tag ++ codes " MODTIME " ++ printed (stamp_of moment) ++ crlf
+last_form tag (Some moment) = tag ++ codes " MODTIME " ++ printed_form (stamp_of moment) ++ crlf
 
 -- the text of an OK: the verb in capitals and ` done`
 abbrev pub done_of : Verb → List ℕ
@@ -80,7 +80,7 @@ done_of verb.ListRights = codes "LISTRIGHTS done"
 
 -- the completion of a command: tag `OK` text
 unfoldable pub done_form : List ℕ → Verb → List ℕ
-done_form tag verb = tag ++ codes " OK " ++ printed (done_of verb) ++ crlf
+done_form tag verb = tag ++ codes " OK " ++ printed_form (done_of verb) ++ crlf
 
 -- a refusal: NO or BAD under the tag, BYE under none
 abbrev pub status_form : Status → List ℕ → List ℕ
@@ -89,7 +89,7 @@ status_form status.Bad tag = tag ++ codes " BAD "
 status_form status.Bye tag = codes "* BYE "
 
 unfoldable pub refused_form : List ℕ → Refusal → List ℕ
-refused_form tag refusal = status_form (status_of refusal) tag ++ code_of refusal ++ printed (text_of refusal) ++ crlf
+refused_form tag refusal = status_form (status_of refusal) tag ++ code_of refusal ++ printed_form (text_of refusal) ++ crlf
 
 abbrev pub greeting : List ℕ
 greeting = codes "* ACAP (IMPLEMENTATION \"acapd\") (SASL \"CRAM-MD5\") (CONTEXTLIMIT \"200\")" ++ crlf
@@ -101,7 +101,7 @@ total_form total = codes "(TOOMANY " ++ decimal total ++ codes ") "
 -- the completion of a search: with how many matched where LIMIT kept some of them from being printed
 unfoldable pub searched_form : List ℕ → Option ℕ → List ℕ
 searched_form tag None = done_form tag verb.Search
-searched_form tag (Some total) = tag ++ codes " OK " ++ total_form total ++ printed (done_of verb.Search) ++ crlf
+searched_form tag (Some total) = tag ++ codes " OK " ++ total_form total ++ printed_form (done_of verb.Search) ++ crlf
 
 -- the end of a search: its rows, the moment that it tells, and its completion
 unfoldable pub found_form : List ℕ → SearchReply → List ℕ
@@ -109,7 +109,7 @@ found_form tag found = rows_form tag found.rows ++ last_form tag found.last ++ s
 
 -- the name of a deleted entry: tag `DELETED` name
 unfoldable pub deleted_name_form : List ℕ → List ℕ → List ℕ
-deleted_name_form tag name = tag ++ codes " DELETED " ++ printed name ++ crlf
+deleted_name_form tag name = tag ++ codes " DELETED " ++ printed_form name ++ crlf
 
 abbrev pub deleted_names_form : List ℕ → List (List ℕ) → List ℕ
 deleted_names_form tag names = flat_map (deleted_name_form tag) names
@@ -120,25 +120,25 @@ deleted_form tag names = deleted_names_form tag names ++ done_form tag verb.Dele
 
 -- the end of a MYRIGHTS: tag `MYRIGHTS` rights, and its completion
 unfoldable pub rights_form : List ℕ → List ℕ → List ℕ
-rights_form tag rights = tag ++ codes " MYRIGHTS " ++ printed rights ++ crlf ++ done_form tag verb.MyRights
+rights_form tag rights = tag ++ codes " MYRIGHTS " ++ printed_form rights ++ crlf ++ done_form tag verb.MyRights
 
 -- the end of a LISTRIGHTS: tag `LISTRIGHTS` rights*, and its completion
 unfoldable pub rights_list_form : List ℕ → List (List ℕ) → List ℕ
-rights_list_form tag rights = tag ++ codes " LISTRIGHTS" ++ spaced printed rights ++ crlf ++ done_form tag verb.ListRights
+rights_list_form tag rights = tag ++ codes " LISTRIGHTS" ++ behind_spaces printed_form rights ++ crlf ++ done_form tag verb.ListRights
 
 -- a login that goes on: `+` challenge, under no tag
 unfoldable pub challenge_form : List ℕ → List ℕ
-challenge_form challenge = codes "+ " ++ printed challenge ++ crlf
+challenge_form challenge = codes "+ " ++ printed_form challenge ++ crlf
 
 -- the end of a session: BYE under no tag, and then the completion
 unfoldable pub good_bye_form : List ℕ → List ℕ
-good_bye_form tag = codes "* BYE " ++ printed (codes "Good bye") ++ crlf ++ done_form tag verb.Logout
+good_bye_form tag = codes "* BYE " ++ printed_form (codes "Good bye") ++ crlf ++ done_form tag verb.Logout
 
 -- ---- what is told of contexts [RFC 2244 section 6.5]: no line has a tag
 
 -- what stands first: `*` and a word, the context and the entry, or what the word tells of the context
 unfoldable pub about_form : List ℕ → List ℕ → List ℕ → List ℕ
-about_form word context thing = word ++ printed context ++ codes " " ++ printed thing
+about_form word context thing = word ++ printed_form context ++ codes " " ++ printed_form thing
 
 -- a position behind a space
 unfoldable pub position_form : ℕ → List ℕ
@@ -146,7 +146,7 @@ position_form position = codes " " ++ decimal position
 
 -- an entry that came in: `ADDTO` context entry position data*
 unfoldable pub added_form : List ℕ → ℕ → Row → List ℕ
-added_form context position row = about_form (codes "* ADDTO ") context row.name ++ position_form position ++ spaced item_form row.items ++ crlf
+added_form context position row = about_form (codes "* ADDTO ") context row.name ++ position_form position ++ behind_spaces item_form row.items ++ crlf
 
 -- one that went: `REMOVEFROM` context entry position
 unfoldable pub removed_form : List ℕ → List ℕ → ℕ → List ℕ
@@ -155,7 +155,7 @@ removed_form context entry position = about_form (codes "* REMOVEFROM ") context
 -- one that changed: `CHANGE` context entry old new data*
 unfoldable pub changed_form : List ℕ → ℕ → ℕ → Row → List ℕ
 changed_form context old new row =
-    about_form (codes "* CHANGE ") context row.name ++ position_form old ++ position_form new ++ spaced item_form row.items ++ crlf
+    about_form (codes "* CHANGE ") context row.name ++ position_form old ++ position_form new ++ behind_spaces item_form row.items ++ crlf
 
 abbrev pub notice_form : List ℕ → Notice → List ℕ
 notice_form context (notice.AddTo position row) = added_form context position row
@@ -168,7 +168,7 @@ upto_form context moment = about_form (codes "* MODTIME ") context (stamp_of mom
 
 -- the server gave a context up: `ALERT` text, in which its name stands
 unfoldable pub freed_form : List ℕ → List ℕ
-freed_form context = codes "* ALERT " ++ printed (codes "Context freed: " ++ context) ++ crlf
+freed_form context = codes "* ALERT " ++ printed_form (codes "Context freed: " ++ context) ++ crlf
 
 abbrev pub told_form : Told → List ℕ
 told_form (told.Note context notice) = notice_form context notice

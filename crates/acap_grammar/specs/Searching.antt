@@ -13,15 +13,15 @@ use Rattle.acap_commands.specs.declared.return_name.ReturnName.{ReturnName}
 use Rattle.acap_commands.specs.declared.return_name.ReturnName.TheVariants as name
 use Rattle.acap_commands.specs.declared.search.Search.{Search}
 use Rattle.acap_grammar.specs.declared.searching.Scope.{Scope}
-use Rattle.acap_commands.specs.Modifiers.{unmodified}
+use Rattle.acap_commands.specs.Modifiers.{no_modifiers}
 use Rattle.acap_commands.specs.declared.search_modifiers.SearchModifiers.{SearchModifiers}
 use Rattle.acap_commands.specs.declared.sort_item.SortItem.{SortItem}
 use Rattle.acap_commands.specs.declared.target.Target.{Target}
 use Rattle.acap_commands.specs.declared.target.Target.TheVariants as target
 use Rattle.acap_grammar.specs.declared.words.SearchWord.{SearchWord}
 use Rattle.acap_grammar.specs.declared.words.SearchWord.TheVariants as search_word
-use Rattle.acap_grammar.specs.Outcome.{◌>>=◌, Read, refused, judged}
-use Rattle.acap_grammar.specs.Several.{several, enclosed}
+use Rattle.acap_grammar.specs.Outcome.{◌>>=◌, Read, fault_here, verdict_at}
+use Rattle.acap_grammar.specs.Several.{several, in_parenthesis}
 use Rattle.acap_grammar.specs.Marks.{is_string, is_open, is_close, starts, behind, text_in, word_at, behind_word}
 use Rattle.acap_grammar.specs.Arguments.{or_fault, if_named, attribute_named, context_named, target_named, named_at, number_at, comparator_named}
 use Rattle.acap_grammar.specs.Storing.{once}
@@ -56,7 +56,7 @@ default_metadata (name.Beginning front) = metadata.Attribute ∷ metadata.Value 
 -- `(` metadata+ `)`, at most 32, or nothing
 unfoldable pub metadata_part : ReturnName → List Token → Read (List Metadata)
 metadata_part name tokens =
-    if starts is_open tokens then enclosed (starts is_close) (starts is_string) metadata_at 32 [] tokens
+    if starts is_open tokens then in_parenthesis (starts is_close) (starts is_string) metadata_at 32 [] tokens
     else Ok (default_metadata name, tokens)
 
 -- an item, behind those before; they may be repeated
@@ -85,7 +85,7 @@ sort_at seen tokens = do
 
 -- behind SORT: `(` item+ `)`, at most 16
 unfoldable pub sorts_at : List Token → Read (List SortItem)
-sorts_at tokens = enclosed (starts is_close) (starts is_string) sort_at 16 [] tokens
+sorts_at tokens = in_parenthesis (starts is_close) (starts is_string) sort_at 16 [] tokens
 
 -- ---- the other modifiers
 
@@ -130,14 +130,14 @@ has_modifier m search_word.Return = is_some m.returns
 has_modifier m search_word.Sort = is_some m.sort
 
 -- behind the word of a modifier
-unfoldable pub modified : SearchModifiers → SearchWord → List Token → Read SearchModifiers
-modified m search_word.Depth tokens = number_at tokens >>= λ x. Ok (record m { depth = Some x.0 }, x.1)
-modified m search_word.HardLimit tokens = number_at tokens >>= λ x. Ok (record m { hard_limit = Some x.0 }, x.1)
-modified m search_word.Limit tokens = limit_at tokens >>= λ x. Ok (record m { limit = Some x.0 }, x.1)
-modified m search_word.MakeContext tokens = make_context_at tokens >>= λ x. Ok (record m { make_context = Some x.0 }, x.1)
-modified m search_word.NoInherit tokens = Ok (record m { no_inherit = true }, tokens)
-modified m search_word.Return tokens = returns_at tokens >>= λ x. Ok (record m { returns = Some x.0 }, x.1)
-modified m search_word.Sort tokens = sorts_at tokens >>= λ x. Ok (record m { sort = Some x.0 }, x.1)
+unfoldable pub behind_modifier : SearchModifiers → SearchWord → List Token → Read SearchModifiers
+behind_modifier m search_word.Depth tokens = number_at tokens >>= λ x. Ok (record m { depth = Some x.0 }, x.1)
+behind_modifier m search_word.HardLimit tokens = number_at tokens >>= λ x. Ok (record m { hard_limit = Some x.0 }, x.1)
+behind_modifier m search_word.Limit tokens = limit_at tokens >>= λ x. Ok (record m { limit = Some x.0 }, x.1)
+behind_modifier m search_word.MakeContext tokens = make_context_at tokens >>= λ x. Ok (record m { make_context = Some x.0 }, x.1)
+behind_modifier m search_word.NoInherit tokens = Ok (record m { no_inherit = true }, tokens)
+behind_modifier m search_word.Return tokens = returns_at tokens >>= λ x. Ok (record m { returns = Some x.0 }, x.1)
+behind_modifier m search_word.Sort tokens = sorts_at tokens >>= λ x. Ok (record m { sort = Some x.0 }, x.1)
 
 -- DEPTH, MAKECONTEXT and NOINHERIT stand only over a dataset
 abbrev pub is_of_datasets : SearchWord → Bool
@@ -155,10 +155,10 @@ abbrev pub may_modify : Scope → SearchWord → Result (Unit {0}) GrammarFault
 may_modify s word = if is_context s.target && is_of_datasets word then Err fault.Arguments else once (has_modifier s.modifiers word)
 
 abbrev pub modifier_by : Scope → List Token → Option (SearchWord × List Token) → Read Scope
-modifier_by s tokens None = refused tokens fault.Arguments
+modifier_by s tokens None = fault_here tokens fault.Arguments
 modifier_by s tokens (Some x) = do
-  new ← judged tokens (may_modify s x.0)
-  all ← modified s.modifiers x.0 x.1
+  new ← verdict_at tokens (may_modify s x.0)
+  all ← behind_modifier s.modifiers x.0 x.1
   Ok (record s { modifiers = all.0 }, all.1)
 
 unfoldable pub modifier_at : Scope → List Token → Read Scope
@@ -170,7 +170,7 @@ no_modifier tokens = is_none (word_at search_words tokens)
 
 -- modifiers in any order. There are seven and each may stand once, so that an eighth is refused for itself.
 unfoldable pub modifiers_at : Target → List Token → Read Scope
-modifiers_at target tokens = several no_modifier no_modifier modifier_at 8 (record { target = target; modifiers = unmodified }) tokens
+modifiers_at target tokens = several no_modifier no_modifier modifier_at 8 (record { target = target; modifiers = no_modifiers }) tokens
 
 -- ---- behind SEARCH: (dataset or context) modifier* key, which has at most 32 levels
 unfoldable pub search_at : List Token → Read Search

@@ -53,8 +53,8 @@ word text behind = token kind.Word text ∷ behind
 abbrev pub string : List ℕ → List Token → List Token
 string text behind = token kind.Quoted text ∷ behind
 
-abbrev pub opened : List Token → List Token
-opened behind = token kind.Open [] ∷ behind
+abbrev pub open_then : List Token → List Token
+open_then behind = token kind.Open [] ∷ behind
 
 abbrev pub shut : List Token → List Token
 shut behind = token kind.Close [] ∷ behind
@@ -105,9 +105,9 @@ dataset name behind = string (dataset_text name) behind
 
 -- object: `(` dataset [attribute [entry name]] `)`
 abbrev pub object : ObjectName → List Token → List Token
-object (object_name.Dataset of) behind = opened (dataset of (shut behind))
-object (object_name.Attribute of attribute) behind = opened (dataset of (string attribute (shut behind)))
-object (object_name.Entry of attribute name) behind = opened (dataset of (string attribute (string name (shut behind))))
+object (object_name.Dataset of) behind = open_then (dataset of (shut behind))
+object (object_name.Attribute of attribute) behind = open_then (dataset of (string attribute (shut behind)))
+object (object_name.Entry of attribute name) behind = open_then (dataset of (string attribute (string name (shut behind))))
 
 -- ---- STORE
 
@@ -115,7 +115,7 @@ object (object_name.Entry of attribute name) behind = opened (dataset of (string
 abbrev pub given_tokens : Given → List Token → List Token
 given_tokens (given.Put cell.Nil) behind = word (codes "NIL") behind
 given_tokens (given.Put (cell.Single text)) behind = string text behind
-given_tokens (given.Put (cell.Multi texts)) behind = opened (each string texts (shut behind))
+given_tokens (given.Put (cell.Multi texts)) behind = open_then (each string texts (shut behind))
 given_tokens given.Default behind = word (codes "DEFAULT") behind
 
 abbrev pub stored_name : StoreMetadata → List ℕ
@@ -133,14 +133,14 @@ is_bare stored.Value (given.Put (cell.Multi texts)) = false
 is_bare stored.Value given = true
 
 abbrev pub one_gift : StoreItem → List Token → List Token
-one_gift i behind = if is_bare i.metadata i.given then given_tokens i.given behind else opened (gift i (shut behind))
+one_gift i behind = if is_bare i.metadata i.given then given_tokens i.given behind else open_then (gift i (shut behind))
 
 -- (attribute item)+: an attribute and its item, or in one parenthesis both its items, the value and the list of rights
 abbrev pub items : List StoreItem → List Token → List Token
 items [] behind = behind
 items (i ∷ []) behind = string i.attribute (one_gift i behind)
 items (i ∷ j ∷ rest) behind =
-    if bytes_eq i.attribute j.attribute then string i.attribute (opened (gift i (gift j (shut (items rest behind)))))
+    if bytes_eq i.attribute j.attribute then string i.attribute (open_then (gift i (gift j (shut (items rest behind)))))
     else string i.attribute (one_gift i (items (j ∷ rest) behind))
 
 -- modifier of STORE: `NOCREATE`, `UNCHANGEDSINCE` time
@@ -152,7 +152,7 @@ conditions m behind = flag (codes "NOCREATE") m.no_create (if_there unchanged_si
 
 -- entry: `(` path modifier* (attribute item)+ `)`
 abbrev pub entry : StoreEntry → List Token → List Token
-entry e behind = opened (string (e.path.dataset ++ e.path.name) (conditions e.modifiers (items e.items (shut behind))))
+entry e behind = open_then (string (e.path.dataset ++ e.path.name) (conditions e.modifiers (items e.items (shut behind))))
 
 -- ---- SEARCH
 
@@ -168,8 +168,8 @@ metadata_name metadata.MyRights = codes "myrights"
 metadata_name metadata.Size = codes "size"
 metadata_name metadata.Value = codes "value"
 
-abbrev pub told : Metadata → List Token → List Token
-told m behind = string (metadata_name m) behind
+abbrev pub metadata_then : Metadata → List Token → List Token
+metadata_then m behind = string (metadata_name m) behind
 
 -- what is told where nothing is asked for is left out
 abbrev pub is_left_out : ReturnName → List Metadata → Bool
@@ -178,7 +178,7 @@ is_left_out (name.Beginning front) (metadata.Attribute ∷ metadata.Value ∷ []
 is_left_out name metadata = false
 
 abbrev pub return_item : ReturnItem → List Token → List Token
-return_item r behind = string (return_text r.name) (if is_left_out r.name r.metadata then behind else opened (each told r.metadata (shut behind)))
+return_item r behind = string (return_text r.name) (if is_left_out r.name r.metadata then behind else open_then (each metadata_then r.metadata (shut behind)))
 
 abbrev pub sort_item : SortItem → List Token → List Token
 sort_item s behind = string s.attribute (comparator s.comparator behind)
@@ -202,10 +202,10 @@ abbrev pub no_inherit : Bool → List Token → List Token
 no_inherit stands behind = flag (codes "NOINHERIT") stands behind
 
 abbrev pub returns : List ReturnItem → List Token → List Token
-returns all behind = word (codes "RETURN") (opened (each return_item all (shut behind)))
+returns all behind = word (codes "RETURN") (open_then (each return_item all (shut behind)))
 
 abbrev pub sort : List SortItem → List Token → List Token
-sort all behind = word (codes "SORT") (opened (each sort_item all (shut behind)))
+sort all behind = word (codes "SORT") (open_then (each sort_item all (shut behind)))
 
 abbrev pub modifiers : SearchModifiers → List Token → List Token
 modifiers m behind =

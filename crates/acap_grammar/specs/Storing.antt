@@ -19,8 +19,8 @@ use Rattle.acap_commands.specs.declared.store_modifiers.StoreModifiers.{StoreMod
 use Rattle.acap_grammar.specs.declared.storing.Gifts.{Gifts}
 use Rattle.acap_grammar.specs.declared.words.StoreWord.{StoreWord}
 use Rattle.acap_grammar.specs.declared.words.StoreWord.TheVariants as store_word
-use Rattle.acap_grammar.specs.Outcome.{◌>>=◌, Read, refused, judged}
-use Rattle.acap_grammar.specs.Several.{several, some_of, enclosed}
+use Rattle.acap_grammar.specs.Outcome.{◌>>=◌, Read, fault_here, verdict_at}
+use Rattle.acap_grammar.specs.Several.{several, some_of, in_parenthesis}
 use Rattle.acap_grammar.specs.Marks.{is_string, is_open, is_close, ends, starts, behind, string_at, text_in, word_at}
 use Rattle.acap_grammar.specs.Arguments.{or_fault, path_named, attribute_named, named_at, time_named}
 
@@ -46,10 +46,10 @@ has_item attribute metadata seen = list_any (λ i. bytes_eq i.attribute attribut
 
 -- the strings up to the parenthesis that closes them, behind those before
 unfoldable pub strings_at : List (List ℕ) → List Token → Read (List (List ℕ))
-strings_at seen [] = refused [] fault.Arguments
+strings_at seen [] = fault_here [] fault.Arguments
 strings_at seen (t ∷ rest) =
     if is_close t.kind then Ok (seen, rest)
-    else (if is_string t.kind then strings_at (seen ++ t.value ∷ []) rest else refused (t ∷ rest) fault.Arguments)
+    else (if is_string t.kind then strings_at (seen ++ t.value ∷ []) rest else fault_here (t ∷ rest) fault.Arguments)
 
 -- the words that are given in place of a string
 abbrev pub given_words : List (List ℕ × Given)
@@ -59,7 +59,7 @@ given_words = (codes "NIL", given.Put cell.Nil) ∷ (codes "DEFAULT", given.Defa
 unfoldable pub plain_at : List Token → Read Given
 plain_at tokens =
     if starts is_string tokens then (string_at tokens >>= λ x. Ok (given.Put (cell.Single x.0), x.1))
-    else judged tokens (or_fault fault.Arguments (word_at given_words tokens))
+    else verdict_at tokens (or_fault fault.Arguments (word_at given_words tokens))
 
 -- one of these, or a list: `(` string* `)`
 unfoldable pub given_at : List Token → Read Given
@@ -83,7 +83,7 @@ with_gift seen stored given = seen.items ++ record { attribute = seen.attribute;
 unfoldable pub gift_at : Gifts → List Token → Read Gifts
 gift_at seen tokens = do
   metadata ← named_at metadata_named tokens
-  new ← judged tokens (once (has_item seen.attribute metadata.0 seen.items))
+  new ← verdict_at tokens (once (has_item seen.attribute metadata.0 seen.items))
   given ← given_at metadata.1
   Ok (record seen { items = with_gift seen metadata.0 given.0 }, given.1)
 
@@ -91,14 +91,14 @@ gift_at seen tokens = do
 -- once, so that a third is refused for itself.
 unfoldable pub gifts_at : Gifts → List Token → Read (List StoreItem)
 gifts_at seen tokens =
-    if starts is_open tokens then (enclosed (starts is_close) (starts is_string) gift_at 3 seen tokens >>= λ x. Ok (x.0.items, x.1))
+    if starts is_open tokens then (in_parenthesis (starts is_close) (starts is_string) gift_at 3 seen tokens >>= λ x. Ok (x.0.items, x.1))
     else (plain_at tokens >>= λ x. Ok (with_gift seen metadata.Value x.0, x.1))
 
 -- an attribute that isn't among those before, and what it is given
 unfoldable pub item_at : List StoreItem → List Token → Read (List StoreItem)
 item_at seen tokens = do
   attribute ← named_at attribute_named tokens
-  new ← judged tokens (once (has_attribute attribute.0 seen))
+  new ← verdict_at tokens (once (has_attribute attribute.0 seen))
   gifts_at (record { attribute = attribute.0; items = seen }) attribute.1
 
 -- one attribute or more, at most 256, up to the parenthesis that closes the entry
@@ -116,13 +116,13 @@ has_condition seen store_word.NoCreate = seen.no_create
 has_condition seen store_word.UnchangedSince = is_some seen.unchanged_since
 
 -- behind the word of a modifier
-unfoldable pub conditioned : StoreModifiers → StoreWord → List Token → Read StoreModifiers
-conditioned seen store_word.NoCreate tokens = Ok (record seen { no_create = true }, tokens)
-conditioned seen store_word.UnchangedSince tokens = named_at time_named tokens >>= λ x. Ok (record seen { unchanged_since = Some x.0 }, x.1)
+unfoldable pub behind_condition : StoreModifiers → StoreWord → List Token → Read StoreModifiers
+behind_condition seen store_word.NoCreate tokens = Ok (record seen { no_create = true }, tokens)
+behind_condition seen store_word.UnchangedSince tokens = named_at time_named tokens >>= λ x. Ok (record seen { unchanged_since = Some x.0 }, x.1)
 
 abbrev pub condition_by : StoreModifiers → List Token → Option (StoreWord × List Token) → Read StoreModifiers
-condition_by seen tokens None = refused tokens fault.Arguments
-condition_by seen tokens (Some x) = judged tokens (once (has_condition seen x.0)) >>= λ new. conditioned seen x.0 x.1
+condition_by seen tokens None = fault_here tokens fault.Arguments
+condition_by seen tokens (Some x) = verdict_at tokens (once (has_condition seen x.0)) >>= λ new. behind_condition seen x.0 x.1
 
 unfoldable pub condition_at : StoreModifiers → List Token → Read StoreModifiers
 condition_at seen tokens = condition_by seen tokens (word_at store_words tokens)
@@ -141,7 +141,7 @@ conditions_at tokens = several no_condition no_condition condition_at 3 uncondit
 unfoldable pub path_at : List StoreEntry → List Token → Read Path
 path_at seen tokens = do
   path ← named_at path_named tokens
-  new ← judged tokens (once (has_path path.0 seen))
+  new ← verdict_at tokens (once (has_path path.0 seen))
   Ok path
 
 -- an entry: `(` path modifier* item+ `)`

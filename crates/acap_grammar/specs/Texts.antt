@@ -22,12 +22,12 @@ use Rattle.acap_grammar.specs.Spelling.{tokens_of}
 abbrev pub written_string : List ℕ → Written
 written_string text = if may_quote text then Quoted text else Literal (decimal (length text)) false text
 
-abbrev pub written : Kind → List ℕ → Written
-written kind.Open value = Open
-written kind.Close value = Close
-written kind.Quoted value = written_string value
-written kind.Literal value = written_string value
-written _ value = Word value
+abbrev pub writing_of : Kind → List ℕ → Written
+writing_of kind.Open value = Open
+writing_of kind.Close value = Close
+writing_of kind.Quoted value = written_string value
+writing_of kind.Literal value = written_string value
+writing_of _ value = Word value
 
 -- behind a token of that kind, each behind one SP where it may have one
 abbrev pub piece : Kind → Written → Piece
@@ -35,7 +35,7 @@ piece last w = record { spaced = may_part last (kind_of w); written = w }
 
 abbrev pub pieces_behind : Kind → List Token → List Piece
 pieces_behind last [] = []
-pieces_behind last (t ∷ ts) = piece last (written t.kind t.value) ∷ pieces_behind (kind_of (written t.kind t.value)) ts
+pieces_behind last (t ∷ ts) = piece last (writing_of t.kind t.value) ∷ pieces_behind (kind_of (writing_of t.kind t.value)) ts
 
 abbrev pub pieces_of : List ℕ → Command → List Piece
 pieces_of tag c = pieces_behind kind.Tag (drop 1 (tokens_of tag c))

@@ -5,6 +5,6 @@ use Rattle.acap_grammar.specs.declared.grammar_fault.GrammarFault.TheVariants as
 use Rattle.acap_grammar.specs.declared.grammar_error.GrammarError.{GrammarError}
 use Rattle.acap_grammar.specs.declared.grammar_error.GrammarError.TheVariants as error
 
-abbrev pub unnamed : NameFault → GrammarError
-unnamed unread.BadName = error.Fault fault.BadName
-unnamed unread.Memory = error.Memory
+abbrev pub name_error : NameFault → GrammarError
+name_error unread.BadName = error.Fault fault.BadName
+name_error unread.Memory = error.Memory

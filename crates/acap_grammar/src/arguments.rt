@@ -7,7 +7,7 @@ ghost use Rattle.std.specs.List.{list_all};
 ghost use Rattle.std.specs.Char.{is_ascii_digit};
 ghost use Rattle.acap_entries.specs.Names.{is_path as is_path_text};
 ghost use Rattle.acap_grammar.specs.Arguments as argument;
-ghost use Rattle.acap_grammar.specs.Unnamed.{unnamed};
+ghost use Rattle.acap_grammar.specs.Unnamed.{name_error};
 
 use crate::cursor::{Cursor, Piece};
 use crate::grammar_error::GrammarError;
@@ -34,7 +34,7 @@ pub(crate) trait Named: Drop + Sized {
 
 /// What the string that stands first is read as.
 #[tactic(auto, unfolding(crate::specs::Arguments::named_at))]
-pub(crate) fn named_at<N: Named>(cursor: &mut Cursor<'_>) -> Result<N, GrammarError>
+pub(crate) fn name_at<N: Named>(cursor: &mut Cursor<'_>) -> Result<N, GrammarError>
     ensures { Reads result cursor.new (argument.named_at N.named cursor.old) }
 {
     let text = cursor.string()?;
@@ -42,8 +42,8 @@ pub(crate) fn named_at<N: Named>(cursor: &mut Cursor<'_>) -> Result<N, GrammarEr
 }
 
 // A name, or why it wasn't read.
-fn as_named<T: Drop>(read: Result<T, NameFault>) -> Result<T, GrammarError>
-    ensures { MatchResult read (λ name. result ≡ Ok name) (λ fault. result ≡ Err (unnamed fault)) }
+fn accept_name<T: Drop>(read: Result<T, NameFault>) -> Result<T, GrammarError>
+    ensures { MatchResult read (λ name. result ≡ Ok name) (λ fault. result ≡ Err (name_error fault)) }
 {
     match read {
         Ok(name) => Ok(name),
@@ -57,7 +57,7 @@ impl Named for Path {
 
     #[tactic(auto, unfolding(crate::specs::Arguments::path_named))]
     fn of_text(alloc: Global, text: &[u8]) -> Result<Path, GrammarError> {
-        as_named(Path::read(alloc, text))
+        accept_name(Path::read(alloc, text))
     }
 }
 
@@ -66,7 +66,7 @@ impl Named for Attribute {
 
     #[tactic(auto, unfolding(crate::specs::Arguments::attribute_named))]
     fn of_text(alloc: Global, text: &[u8]) -> Result<Attribute, GrammarError> {
-        as_named(Attribute::read(alloc, text))
+        accept_name(Attribute::read(alloc, text))
     }
 }
 
@@ -75,7 +75,7 @@ impl Named for Dataset {
 
     #[tactic(auto, unfolding(crate::specs::Arguments::dataset_named))]
     fn of_text(alloc: Global, text: &[u8]) -> Result<Dataset, GrammarError> {
-        as_named(Dataset::read(alloc, text))
+        accept_name(Dataset::read(alloc, text))
     }
 }
 
@@ -84,7 +84,7 @@ impl Named for ContextName {
 
     #[tactic(auto, unfolding(crate::specs::Arguments::context_named))]
     fn of_text(alloc: Global, text: &[u8]) -> Result<ContextName, GrammarError> {
-        as_named(ContextName::read(alloc, text))
+        accept_name(ContextName::read(alloc, text))
     }
 }
 
@@ -212,10 +212,10 @@ fn is_path_of(alloc: Global, dataset: &Dataset, name: &[u8]) -> Result<bool, Mem
 }
 
 #[tactic(auto, unfolding(crate::specs::Arguments::entry_named))]
-fn entry_named(alloc: Global, dataset: &Dataset, text: &[u8]) -> Result<EntryName, GrammarError>
+fn read_entry_name(alloc: Global, dataset: &Dataset, text: &[u8]) -> Result<EntryName, GrammarError>
     ensures { Gives result (argument.entry_named dataset.now text.now) }
 {
-    let name = as_named(EntryName::read(alloc, text))?;
+    let name = accept_name(EntryName::read(alloc, text))?;
     if !is_path_of(alloc, dataset, text)? {
         return Err(GrammarError::Fault(GrammarFault::BadName));
     }
@@ -227,7 +227,7 @@ fn entry_name_at(dataset: &Dataset, cursor: &mut Cursor<'_>) -> Result<EntryName
     ensures { Reads result cursor.new (argument.named_at (argument.entry_named dataset.now) cursor.old) }
 {
     let text = cursor.string()?;
-    entry_named(cursor.alloc(), dataset, text)
+    read_entry_name(cursor.alloc(), dataset, text)
 }
 
 // An object behind its attribute: the name of an entry, where it is there.
@@ -258,7 +258,7 @@ fn attribute_part(dataset: Dataset, cursor: &mut Cursor<'_>) -> Result<ObjectNam
     if cursor.closes() {
         return Ok(ObjectName::Dataset { dataset });
     }
-    let attribute = named_at(cursor)?;
+    let attribute = name_at(cursor)?;
     entry_part(dataset, attribute, cursor)
 }
 
@@ -268,7 +268,7 @@ pub(crate) fn object_at(cursor: &mut Cursor<'_>) -> Result<ObjectName, GrammarEr
     ensures { Reads result cursor.new (argument.object_at cursor.old) }
 {
     cursor.pass_open()?;
-    let dataset = named_at(cursor)?;
+    let dataset = name_at(cursor)?;
     let object = attribute_part(dataset, cursor)?;
     cursor.pass_close()?;
     Ok(object)

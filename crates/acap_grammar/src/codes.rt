@@ -1,7 +1,7 @@
 //! The codes of refusals, as octets (RFC 2244 section 3.6).
 
 ghost use Rattle.std.specs.Prelude.{◌∷◌};
-ghost use Rattle.acap_lexer.specs.Printing.{printed};
+ghost use Rattle.acap_lexer.specs.Printing.{printed_form};
 ghost use Rattle.acap_grammar.specs.Appending.{Appends};
 ghost use Rattle.acap_grammar.specs.Refusals.{object_form, permission_code, code_of};
 
@@ -10,7 +10,7 @@ use acap_commands::{ObjectName, Refusal};
 use acap_entries::{Attribute, Dataset, Memory, Path};
 
 fn append_argument(text: &[u8], out: &mut Vec<u8>) -> Result<(), Memory>
-    ensures { Appends result out.old.items out.new.items (32 ∷ printed text.now) }
+    ensures { Appends result out.old.items out.new.items (32 ∷ printed_form text.now) }
 {
     out.push(b' ')?;
     append_string(text, out)?;

@@ -132,7 +132,7 @@ impl<'a> Cursor<'a> {
                     value,
                     ..
                 },
-            ) => W::spelled(value).is_none(),
+            ) => W::look_up(value).is_none(),
             _ => true,
         }
     }
@@ -231,7 +231,7 @@ impl<'a> Cursor<'a> {
                     ..
                 },
             ) => {
-                let found = W::spelled(value)?;
+                let found = W::look_up(value)?;
                 self.pass();
                 Some(found)
             }

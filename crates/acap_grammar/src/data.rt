@@ -1,7 +1,7 @@
 //! The data of a row, as octets (RFC 2244 section 6.4.1).
 
 ghost use Rattle.acap_grammar.specs.Appending.{Appends};
-ghost use Rattle.acap_grammar.specs.Replies.{spaced, list_form, cell_form, item_form};
+ghost use Rattle.acap_grammar.specs.Replies.{behind_spaces, list_form, cell_form, item_form};
 
 use crate::strings::{append_string, append_values};
 use acap_entries::{Cell, CellList, Item, Memory};
@@ -21,7 +21,7 @@ fn append_cell(cell: &Cell, out: &mut Vec<u8>) -> Result<(), Memory>
 }
 
 fn append_spaced_cells(cells: &[Cell], out: &mut Vec<u8>) -> Result<(), Memory>
-    ensures { Appends result out.old.items out.new.items (spaced cell_form cells.now) }
+    ensures { Appends result out.old.items out.new.items (behind_spaces cell_form cells.now) }
 {
     for cell in cells {
         out.push(b' ')?;
@@ -44,7 +44,7 @@ fn append_cells(cells: &[Cell], out: &mut Vec<u8>) -> Result<(), Memory>
 }
 
 fn append_spaced_lists(lists: &[CellList], out: &mut Vec<u8>) -> Result<(), Memory>
-    ensures { Appends result out.old.items out.new.items (spaced (list_form cell_form) lists.now) }
+    ensures { Appends result out.old.items out.new.items (behind_spaces (list_form cell_form) lists.now) }
 {
     for list in lists {
         out.push(b' ')?;
@@ -79,7 +79,7 @@ fn append_item(item: &Item, out: &mut Vec<u8>) -> Result<(), Memory>
 
 /// Each item behind a space.
 pub(crate) fn append_items(items: &[Item], out: &mut Vec<u8>) -> Result<(), Memory>
-    ensures { Appends result out.old.items out.new.items (spaced item_form items.now) }
+    ensures { Appends result out.old.items out.new.items (behind_spaces item_form items.now) }
 {
     for item in items {
         out.push(b' ')?;

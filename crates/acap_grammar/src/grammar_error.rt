@@ -2,7 +2,7 @@
 
 use crate::grammar_fault::GrammarFault;
 use acap_entries::Memory;
-use std::alloc::{AllocError, AllocFailed};
+use std::alloc::AllocFailed;
 
 /// Why a command wasn't read: a fault of its own, or want of memory.
 #[derive(Clone, Copy, PartialEq, Eq)]
@@ -20,17 +20,6 @@ impl From<Memory> for GrammarError {
     ghost from_gives = { λ _ e. e ≡ error.Memory };
 
     fn from(_error: Memory) -> GrammarError {
-        GrammarError::Memory
-    }
-}
-
-impl From<AllocError> for GrammarError {
-    ghost use Rattle.std.specs.Prelude.{◌≡◌};
-    ghost use Rattle.acap_grammar.specs.declared.grammar_error.GrammarError.TheVariants as error;
-
-    ghost from_gives = { λ _ e. e ≡ error.Memory };
-
-    fn from(_error: AllocError) -> GrammarError {
         GrammarError::Memory
     }
 }

@@ -6,7 +6,7 @@ ghost use Rattle.acap_grammar.specs.Marks.{ends};
 ghost use Rattle.acap_grammar.specs.declared.grammar_fault.GrammarFault.TheVariants as fault;
 ghost use Rattle.acap_grammar.specs.Keys as keys;
 
-use crate::arguments::{comparator_for_at, named_at, number_at};
+use crate::arguments::{comparator_for_at, name_at, number_at};
 use crate::cursor::Cursor;
 use crate::grammar_error::GrammarError;
 use crate::grammar_fault::GrammarFault;
@@ -39,7 +39,7 @@ fn value_part(
 fn meets_at(relation: Relation, cursor: &mut Cursor<'_>) -> Result<Test, GrammarError>
     ensures { Reads result cursor.new (keys.meets_at relation cursor.old) }
 {
-    let attribute = named_at(cursor)?;
+    let attribute = name_at(cursor)?;
     let comparator = comparator_for_at(relation, cursor)?;
     value_part(relation, attribute, comparator, cursor)
 }
@@ -51,7 +51,7 @@ fn range_at(cursor: &mut Cursor<'_>) -> Result<Test, GrammarError>
 {
     let first = number_at(cursor)?;
     let last = number_at(cursor)?;
-    let since: Moment = named_at(cursor)?;
+    let since: Moment = name_at(cursor)?;
     Ok(Test::Range(first, last, since))
 }
 

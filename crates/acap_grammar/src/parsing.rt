@@ -6,7 +6,7 @@ ghost use Rattle.acap_grammar.specs.Outcome.{Gives, Reads};
 ghost use Rattle.acap_grammar.specs.Arguments.{object_at as object_in};
 ghost use Rattle.acap_grammar.specs.Grammar as grammar;
 
-use crate::arguments::{named_at, object_at};
+use crate::arguments::{name_at, object_at};
 use crate::cursor::Cursor;
 use crate::grammar_error::GrammarError;
 use crate::grammar_fault::GrammarFault;
@@ -72,8 +72,8 @@ fn list_rights_at(cursor: &mut Cursor<'_>) -> Result<Command, GrammarError>
 fn deleted_since_at(cursor: &mut Cursor<'_>) -> Result<Command, GrammarError>
     ensures { Reads result cursor.new (grammar.deleted_since_at cursor.old) }
 {
-    let dataset: Dataset = named_at(cursor)?;
-    let since: Moment = named_at(cursor)?;
+    let dataset: Dataset = name_at(cursor)?;
+    let since: Moment = name_at(cursor)?;
     Ok(Command::DeletedSince(dataset, since))
 }
 
@@ -82,7 +82,7 @@ impl Gather for ContextNames {
 
     #[tactic(auto, unfolding(crate::specs::Grammar::context_at))]
     fn gather(self, cursor: &mut Cursor<'_>) -> Result<ContextNames, GrammarError> {
-        let name: ContextName = named_at(cursor)?;
+        let name: ContextName = name_at(cursor)?;
         let mut all = self;
         all.push(name)?;
         Ok(all)
@@ -116,7 +116,7 @@ fn arguments_at(verb: Verb, cursor: &mut Cursor<'_>) -> Result<Command, GrammarE
         Verb::MyRights => Ok(Command::MyRights(boxed_object_at(cursor)?)),
         Verb::ListRights => list_rights_at(cursor),
         Verb::DeletedSince => deleted_since_at(cursor),
-        Verb::FreeContext => Ok(Command::FreeContext(named_at(cursor)?)),
+        Verb::FreeContext => Ok(Command::FreeContext(name_at(cursor)?)),
         Verb::UpdateContext => Ok(Command::UpdateContext(contexts_at(cursor)?)),
     }
 }

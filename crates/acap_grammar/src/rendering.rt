@@ -283,7 +283,7 @@ pub fn render_said(tag: Option<&[u8]>, said: &Said, out: &mut Vec<u8>) -> Result
     done
 }
 
-fn lent(tag: &Option<Octets>) -> Option<&[u8]>
+fn lend(tag: &Option<Octets>) -> Option<&[u8]>
     ensures { lent_tag result ≡ tag.now }
 {
     match tag {
@@ -297,5 +297,5 @@ pub fn render(reply: &Reply, out: &mut Vec<u8>) -> Result<(), Memory>
     ensures ok { OnOk result (out.new.items ≡ out.old.items ++ octets_of reply.now) }
     ensures err { OnErr result (out.new.items ≡ out.old.items) }
 {
-    render_said(lent(&reply.tag), &reply.said, out)
+    render_said(lend(&reply.tag), &reply.said, out)
 }

@@ -4,14 +4,14 @@ ghost use Rattle.std.specs.Prelude.{◌≡◌, IfOk};
 ghost use Rattle.acap_grammar.specs.Outcome.{Gives, Reads};
 ghost use Rattle.acap_grammar.specs.Searching as searching;
 
-use crate::arguments::{Named, named_at, number_at};
+use crate::arguments::{Named, name_at, number_at};
 use crate::cursor::Cursor;
 use crate::grammar_error::GrammarError;
 use crate::grammar_fault::GrammarFault;
 use crate::keys::key_at;
-use crate::several::{Gather, Series, enclosed, several};
+use crate::several::{Gather, Series, read_enclosed, several};
 use crate::storing::once;
-use crate::words::{METADATA, SearchWord, named_by};
+use crate::words::{METADATA, SearchWord, find_text};
 use acap_commands::{
     Limit, MakeContext, Metadata, MetadataList, ReturnItem, ReturnName, Returns, Search,
     SearchModifiers, SortItem, SortItems, Target,
@@ -42,7 +42,7 @@ impl Named for Metadata {
     ghost named = { searching.metadata_named };
 
     fn of_text(_alloc: Global, text: &[u8]) -> Result<Metadata, GrammarError> {
-        match named_by(&METADATA, text) {
+        match find_text(&METADATA, text) {
             Some(metadata) => Ok(metadata),
             None => Err(GrammarError::Fault(GrammarFault::Arguments)),
         }
@@ -54,7 +54,7 @@ impl Gather for MetadataList {
 
     #[tactic(auto, unfolding(crate::specs::Searching::metadata_at))]
     fn gather(self, cursor: &mut Cursor<'_>) -> Result<MetadataList, GrammarError> {
-        let metadata: Metadata = named_at(cursor)?;
+        let metadata: Metadata = name_at(cursor)?;
         let mut all = self;
         all.push(metadata)?;
         Ok(all)
@@ -78,7 +78,7 @@ fn metadata_part(name: &ReturnName, cursor: &mut Cursor<'_>) -> Result<MetadataL
     ensures { Reads result cursor.new (searching.metadata_part name.now cursor.old) }
 {
     if cursor.opens() {
-        return enclosed(MetadataList::new(cursor.alloc()), 32, cursor);
+        return read_enclosed(MetadataList::new(cursor.alloc()), 32, cursor);
     }
     Ok(default_metadata(cursor.alloc(), name)?)
 }
@@ -88,7 +88,7 @@ impl Gather for Returns {
 
     #[tactic(auto, unfolding(crate::specs::Searching::return_at))]
     fn gather(self, cursor: &mut Cursor<'_>) -> Result<Returns, GrammarError> {
-        let name: ReturnName = named_at(cursor)?;
+        let name: ReturnName = name_at(cursor)?;
         let metadata = metadata_part(&name, cursor)?;
         let mut all = self;
         all.push(ReturnItem { name, metadata })?;
@@ -114,8 +114,8 @@ impl Gather for SortItems {
 
     #[tactic(auto, unfolding(crate::specs::Searching::sort_at))]
     fn gather(self, cursor: &mut Cursor<'_>) -> Result<SortItems, GrammarError> {
-        let attribute: Attribute = named_at(cursor)?;
-        let comparator: Comparator = named_at(cursor)?;
+        let attribute: Attribute = name_at(cursor)?;
+        let comparator: Comparator = name_at(cursor)?;
         let mut all = self;
         all.push(SortItem {
             attribute,
@@ -129,7 +129,7 @@ impl Gather for SortItems {
 fn sorts_at(cursor: &mut Cursor<'_>) -> Result<SortItems, GrammarError>
     ensures { Reads result cursor.new (searching.sorts_at cursor.old) }
 {
-    enclosed(SortItems::new(cursor.alloc()), 16, cursor)
+    read_enclosed(SortItems::new(cursor.alloc()), 16, cursor)
 }
 
 // ---- the other modifiers
@@ -157,7 +157,7 @@ fn make_context_at(cursor: &mut Cursor<'_>) -> Result<MakeContext, GrammarError>
 {
     let enumerate = flag_at(b"ENUMERATE", cursor);
     let notify = flag_at(b"NOTIFY", cursor);
-    let name: ContextName = named_at(cursor)?;
+    let name: ContextName = name_at(cursor)?;
     Ok(MakeContext {
         enumerate,
         notify,
@@ -175,13 +175,13 @@ pub(crate) struct Scope {
 }
 
 // Behind the word of a modifier.
-#[tactic(auto, unfolding(crate::specs::Searching::modified))]
-fn modified(
+#[tactic(auto, unfolding(crate::specs::Searching::behind_modifier))]
+fn modify(
     modifiers: SearchModifiers,
     word: SearchWord,
     cursor: &mut Cursor<'_>,
 ) -> Result<SearchModifiers, GrammarError>
-    ensures { Reads result cursor.new (searching.modified modifiers word cursor.old) }
+    ensures { Reads result cursor.new (searching.behind_modifier modifiers word cursor.old) }
 {
     match word {
         SearchWord::Depth => Ok(SearchModifiers {
@@ -266,7 +266,7 @@ impl Gather for Scope {
             return Err(GrammarError::Fault(GrammarFault::Arguments));
         };
         self.may_modify(word)?;
-        let modifiers = modified(self.modifiers, word, cursor)?;
+        let modifiers = modify(self.modifiers, word, cursor)?;
         Ok(Scope {
             target: self.target,
             modifiers,
@@ -290,7 +290,7 @@ fn modifiers_at(target: Target, cursor: &mut Cursor<'_>) -> Result<Scope, Gramma
 pub(crate) fn search_at(cursor: &mut Cursor<'_>) -> Result<Search, GrammarError>
     ensures { Reads result cursor.new (searching.search_at cursor.old) }
 {
-    let target: Target = named_at(cursor)?;
+    let target: Target = name_at(cursor)?;
     let scope = modifiers_at(target, cursor)?;
     let key = key_at(32, cursor)?;
     Ok(Search {

@@ -103,8 +103,8 @@ pub(crate) fn some_of<S: Gather>(
 }
 
 /// The same in a parenthesis.
-#[tactic(auto, unfolding(crate::specs::Several::enclosed))]
-pub(crate) fn enclosed<S: Gather>(
+#[tactic(auto, unfolding(crate::specs::Several::in_parenthesis))]
+pub(crate) fn read_enclosed<S: Gather>(
     none: S,
     most: u32,
     cursor: &mut Cursor<'_>,

@@ -6,13 +6,13 @@ ghost use Rattle.acap_grammar.specs.Marks.{word_at};
 ghost use Rattle.acap_grammar.specs.Storing as storing;
 ghost use Rattle.acap_grammar.specs.Storing.{with_gift};
 
-use crate::arguments::{Named, named_at};
+use crate::arguments::{Named, name_at};
 use crate::cursor::Cursor;
 use crate::gathered::{GatheredEntries, GatheredItems};
 use crate::grammar_error::GrammarError;
 use crate::grammar_fault::GrammarFault;
-use crate::several::{Gather, Series, enclosed, several, some_of};
-use crate::words::{STORE_METADATA, StoreWord, named_by};
+use crate::several::{Gather, Series, read_enclosed, several, some_of};
+use crate::words::{STORE_METADATA, StoreWord, find_text};
 use acap_commands::{
     Entries, Given, StoreEntry, StoreItem, StoreItems, StoreMetadata, StoreModifiers,
 };
@@ -101,7 +101,7 @@ impl Named for StoreMetadata {
     ghost named = { storing.metadata_named };
 
     fn of_text(_alloc: Global, text: &[u8]) -> Result<StoreMetadata, GrammarError> {
-        match named_by(&STORE_METADATA, text) {
+        match find_text(&STORE_METADATA, text) {
             Some(metadata) => Ok(metadata),
             None => Err(GrammarError::Fault(GrammarFault::Arguments)),
         }
@@ -150,7 +150,7 @@ impl Gather for Gifts {
 
     #[tactic(auto, unfolding(crate::specs::Storing::gift_at))]
     fn gather(self, cursor: &mut Cursor<'_>) -> Result<Gifts, GrammarError> {
-        let metadata: StoreMetadata = named_at(cursor)?;
+        let metadata: StoreMetadata = name_at(cursor)?;
         once(self.items.has_item(&self.attribute, metadata))?;
         let given = given_at(cursor)?;
         Ok(self.put(metadata, given)?)
@@ -163,7 +163,7 @@ fn gifts_at(seen: Gifts, cursor: &mut Cursor<'_>) -> Result<GatheredItems, Gramm
     ensures { Reads result cursor.new (storing.gifts_at seen cursor.old) }
 {
     if cursor.opens() {
-        let gifts = enclosed(seen, 3, cursor)?;
+        let gifts = read_enclosed(seen, 3, cursor)?;
         return Ok(gifts.items);
     }
     let given = plain_at(cursor)?;
@@ -175,7 +175,7 @@ impl Gather for GatheredItems {
 
     #[tactic(auto, unfolding(crate::specs::Storing::item_at))]
     fn gather(self, cursor: &mut Cursor<'_>) -> Result<GatheredItems, GrammarError> {
-        let attribute: Attribute = named_at(cursor)?;
+        let attribute: Attribute = name_at(cursor)?;
         once(self.has_attribute(&attribute))?;
         let seen = Gifts {
             attribute,
@@ -207,13 +207,13 @@ fn has_condition(seen: &StoreModifiers, word: StoreWord) -> bool
 }
 
 // Behind the word of a modifier.
-#[tactic(auto, unfolding(crate::specs::Storing::conditioned))]
-fn conditioned(
+#[tactic(auto, unfolding(crate::specs::Storing::behind_condition))]
+fn condition(
     seen: StoreModifiers,
     word: StoreWord,
     cursor: &mut Cursor<'_>,
 ) -> Result<StoreModifiers, GrammarError>
-    ensures { Reads result cursor.new (storing.conditioned seen word cursor.old) }
+    ensures { Reads result cursor.new (storing.behind_condition seen word cursor.old) }
 {
     match word {
         StoreWord::NoCreate => Ok(StoreModifiers {
@@ -221,7 +221,7 @@ fn conditioned(
             ..seen
         }),
         StoreWord::UnchangedSince => Ok(StoreModifiers {
-            unchanged_since: Some(named_at(cursor)?),
+            unchanged_since: Some(name_at(cursor)?),
             ..seen
         }),
     }
@@ -236,7 +236,7 @@ impl Gather for StoreModifiers {
             return Err(GrammarError::Fault(GrammarFault::Arguments));
         };
         once(has_condition(&self, word))?;
-        conditioned(self, word, cursor)
+        condition(self, word, cursor)
     }
 }
 
@@ -258,7 +258,7 @@ fn conditions_at(cursor: &mut Cursor<'_>) -> Result<StoreModifiers, GrammarError
 fn new_path_at(seen: &GatheredEntries, cursor: &mut Cursor<'_>) -> Result<Path, GrammarError>
     ensures { Reads result cursor.new (storing.path_at seen.now cursor.old) }
 {
-    let path: Path = named_at(cursor)?;
+    let path: Path = name_at(cursor)?;
     once(seen.has_path(&path))?;
     Ok(path)
 }

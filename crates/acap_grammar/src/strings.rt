@@ -1,15 +1,15 @@
 //! Strings and lists of strings, as octets.
 
-ghost use Rattle.acap_lexer.specs.Printing.{printed};
+ghost use Rattle.acap_lexer.specs.Printing.{printed_form};
 ghost use Rattle.acap_grammar.specs.Appending.{Appends};
-ghost use Rattle.acap_grammar.specs.Replies.{spaced, list_form};
+ghost use Rattle.acap_grammar.specs.Replies.{behind_spaces, list_form};
 ghost use Rattle.acap_grammar.specs.Refusals.{path_form};
 
 use acap_entries::{Memory, Path, Value};
 use acap_lexer::print_string;
 
 pub(crate) fn append_string(text: &[u8], out: &mut Vec<u8>) -> Result<(), Memory>
-    ensures { Appends result out.old.items out.new.items (printed text.now) }
+    ensures { Appends result out.old.items out.new.items (printed_form text.now) }
 {
     match print_string(text, out) {
         Ok(()) => Ok(()),
@@ -19,7 +19,7 @@ pub(crate) fn append_string(text: &[u8], out: &mut Vec<u8>) -> Result<(), Memory
 
 /// Each behind a space.
 pub(crate) fn append_spaced(values: &[Value], out: &mut Vec<u8>) -> Result<(), Memory>
-    ensures { Appends result out.old.items out.new.items (spaced printed values.now) }
+    ensures { Appends result out.old.items out.new.items (behind_spaces printed_form values.now) }
 {
     for value in values {
         out.push(b' ')?;
@@ -30,7 +30,7 @@ pub(crate) fn append_spaced(values: &[Value], out: &mut Vec<u8>) -> Result<(), M
 
 #[tactic(auto, unfolding(crate::specs::Replies::list_form))]
 pub(crate) fn append_values(values: &[Value], out: &mut Vec<u8>) -> Result<(), Memory>
-    ensures { Appends result out.old.items out.new.items (list_form printed values.now) }
+    ensures { Appends result out.old.items out.new.items (list_form printed_form values.now) }
 {
     out.push(b'(')?;
     if let Some((first, others)) = values.split_first() {

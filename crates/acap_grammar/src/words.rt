@@ -126,7 +126,7 @@ pub(crate) trait Spelled: Copy {
     ghost table: { List (List ℕ × Self) };
 
     /// What a word stands for.
-    fn spelled(word: &[u8]) -> Option<Self>
+    fn look_up(word: &[u8]) -> Option<Self>
         ensures { result ≡ word_in table word.now };
 }
 
@@ -135,7 +135,7 @@ impl Spelled for Verb {
 
     ghost table = { verbs };
 
-    fn spelled(word: &[u8]) -> Option<Verb> {
+    fn look_up(word: &[u8]) -> Option<Verb> {
         meaning(&VERBS, word)
     }
 }
@@ -145,7 +145,7 @@ impl Spelled for StoreWord {
 
     ghost table = { store_words };
 
-    fn spelled(word: &[u8]) -> Option<StoreWord> {
+    fn look_up(word: &[u8]) -> Option<StoreWord> {
         meaning(&STORE_WORDS, word)
     }
 }
@@ -155,7 +155,7 @@ impl Spelled for SearchWord {
 
     ghost table = { search_words };
 
-    fn spelled(word: &[u8]) -> Option<SearchWord> {
+    fn look_up(word: &[u8]) -> Option<SearchWord> {
         meaning(&SEARCH_WORDS, word)
     }
 }
@@ -165,13 +165,13 @@ impl Spelled for KeyWord {
 
     ghost table = { key_words };
 
-    fn spelled(word: &[u8]) -> Option<KeyWord> {
+    fn look_up(word: &[u8]) -> Option<KeyWord> {
         meaning(&KEY_WORDS, word)
     }
 }
 
 /// What a table has beside a text, octet by octet.
-pub(crate) fn named_by<W: Copy>(table: &[(&[u8], W)], text: &[u8]) -> Option<W>
+pub(crate) fn find_text<W: Copy>(table: &[(&[u8], W)], text: &[u8]) -> Option<W>
     ensures { result ≡ text_in (rows_of table.now) text.now }
 {
     for row in table {

@@ -8,7 +8,7 @@ use Rattle.acap_entries.specs.declared.cell.Cell.TheVariants.{Nil, Single, Multi
 use Rattle.acap_entries.specs.declared.record.Record.{Record}
 use Rattle.acap_inherit.specs.Chains.{name_in, base_at, onward, chain_within, chain_of}
 use Rattle.acap_inherit.specs.Records.{record_at, cell_in, ends_inheritance}
-use Rattle.acap_inherit.specs.Resolving.{by_cell, by_record, resolved}
+use Rattle.acap_inherit.specs.Resolving.{by_cell, by_record, lookup}
 use Rattle.acap_inherit.specs.Laws.{ChainLaw, BaseLaw}
 
 -- ---- one name after the other
@@ -67,7 +67,7 @@ cell_named (Some (Single name)) entry dataset = refl
 cell_named (Some (Multi names)) entry dataset = refl
 
 pub base_law : BaseLaw
-unfolding resolved
+unfolding lookup
 base_law records dataset =
     elim (record_at records dataset []) as (λ (entry : Option Record). option_and_then name_in (option_and_then (λ r. cell_in r (codes "dataset.inherit")) entry) ≡ option_and_then (λ found. name_in found.0) (by_record entry (codes "dataset.inherit") dataset None)) [
       | None ↦ refl

@@ -13,8 +13,8 @@ use Rattle.acap_entries.specs.declared.cell.Cell.TheVariants.{Nil, Single, Multi
 use Rattle.acap_entries.specs.declared.record.Record.{Record}
 use Rattle.acap_inherit.specs.Chains.{name_in, base_at, onward, chain_within}
 use Rattle.acap_inherit.specs.Records.{cell_in}
-use Rattle.acap_inherit.specs.Resolving.{resolved, modtime_of}
-use Rattle.acap_inherit.specs.Examples.{kept, no_cells, one_cell, inherits, management_of, a, b, value, ChainExamples, OverBaseExamples, MomentExamples}
+use Rattle.acap_inherit.specs.Resolving.{lookup, modtime_of}
+use Rattle.acap_inherit.specs.Examples.{record_with, no_cells, one_cell, inherits, management_of, a, b, value, ChainExamples, OverBaseExamples, MomentExamples}
 
 -- ---- cells
 
@@ -40,7 +40,7 @@ named : (records : Stored) (dataset : List ℕ) (cell : Cell) → management_of 
 unfolding base_of
 named records dataset cell h = ap base_of h ∙ ap (option_and_then name_in) (own_cell (codes "dataset.inherit") cell refl)
 
-unnamed : (records : Stored) (dataset : List ℕ) (ends : Bool) → management_of records dataset ≡ Some (kept true ends no_cells 0) → base_at records dataset ≡ None
+unnamed : (records : Stored) (dataset : List ℕ) (ends : Bool) → management_of records dataset ≡ Some (record_with true ends no_cells 0) → base_at records dataset ≡ None
 unfolding base_of
 unnamed records dataset ends h = ap base_of h ∙ ap (option_and_then name_in) (no_cell (codes "dataset.inherit"))
 
@@ -48,7 +48,7 @@ none_named : (records : Stored) (dataset : List ℕ) → management_of records d
 unfolding base_of
 none_named records dataset h = ap base_of h
 
-deleted_named : (records : Stored) (dataset : List ℕ) → management_of records dataset ≡ Some (kept false true no_cells 0) → base_at records dataset ≡ None
+deleted_named : (records : Stored) (dataset : List ℕ) → management_of records dataset ≡ Some (record_with false true no_cells 0) → base_at records dataset ≡ None
 unfolding base_of
 deleted_named records dataset h = ap base_of h
 
@@ -102,7 +102,7 @@ one_text : map.get (one_cell value (Single (codes "1"))) value ≡ Some (Single 
 one_text = own_cell value (Single (codes "1")) refl
 
 pub over_base_examples : OverBaseExamples
-unfolding resolved modtime_of
+unfolding lookup modtime_of
 over_base_examples = record {
   nothing_stored = λ records h. record { cell = rw (h.own, h.base, one_text) refl; entry = rw (h.own, h.base) refl; moment = rw (h.own, h.base) refl };
   nil_stored = λ records h. record { cell = rw (h.own, own_cell value Nil refl) refl; entry = rw h.own refl; moment = rw (h.own, h.base) refl };

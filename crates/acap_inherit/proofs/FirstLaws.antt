@@ -13,8 +13,8 @@ use Rattle.acap_entries.specs.declared.cell.Cell.{Cell}
 use Rattle.acap_entries.specs.declared.cell.Cell.TheVariants.{Single}
 use Rattle.acap_entries.specs.declared.record.Record.{Record}
 use Rattle.acap_inherit.specs.Records.{record_at, cell_in, ends_inheritance}
-use Rattle.acap_inherit.specs.Resolving.{Resolution, lying, by_cell, by_record, by_presence, value_on, entry_on, records_along, until_end, greatest, modtime_on, stamped, members_for, members_of, resolved, entry_exists, modtime_of}
-use Rattle.acap_inherit.specs.Laws.{FirstLaw, MomentLaw, FirstDatasetLaw, placed, down_to_end, cells_among}
+use Rattle.acap_inherit.specs.Resolving.{Resolution, lying, by_cell, by_record, by_presence, value_on, entry_on, records_along, until_end, greatest, modtime_on, stamp_value, members_for, members_of, lookup, entry_exists, modtime_of}
+use Rattle.acap_inherit.specs.Laws.{FirstLaw, MomentLaw, FirstDatasetLaw, placed_records, down_to_end, cells_among}
 
 -- ---- the first record that tells of it
 
@@ -32,17 +32,17 @@ record_first : (entry : Option Record) (attribute dataset : List ℕ) (places : 
 record_first None attribute dataset places beyond e = e
 record_first (Some entry) attribute dataset places beyond e = cell_first (cell_in entry attribute) entry attribute dataset places beyond e
 
-value_first : (records : Stored) (chain : List (List ℕ)) (name attribute : List ℕ) → value_on records chain name attribute ≡ told_by (slice_get (cells_among attribute (down_to_end (placed records chain name))) 0)
+value_first : (records : Stored) (chain : List (List ℕ)) (name attribute : List ℕ) → value_on records chain name attribute ≡ told_by (slice_get (cells_among attribute (down_to_end (placed_records records chain name))) 0)
 value_first records [] name attribute = refl
 value_first records (dataset ∷ chain) name attribute =
-    record_first (record_at records dataset name) attribute dataset (placed records chain name) (value_on records chain name attribute) (value_first records chain name attribute)
+    record_first (record_at records dataset name) attribute dataset (placed_records records chain name) (value_on records chain name attribute) (value_first records chain name attribute)
 
 pub stored_value : (records : Stored) (chain : List (List ℕ)) (name attribute : List ℕ) → octets_eq attribute (codes "entry") ≡ false → octets_eq attribute (codes "modtime") ≡ false
-    → resolved records chain name attribute ≡ value_on records (members_of chain name attribute) name attribute
-unfolding resolved
+    → lookup records chain name attribute ≡ value_on records (members_of chain name attribute) name attribute
+unfolding lookup
 stored_value records chain name attribute e m =
-    ap (λ b. if b then entry_on records (members_for chain name) name else (if octets_eq attribute (codes "modtime") then stamped chain (modtime_on records (members_for chain name) name) else value_on records (members_of chain name attribute) name attribute)) e
-    ∙ ap (λ b. if b then stamped chain (modtime_on records (members_for chain name) name) else value_on records (members_of chain name attribute) name attribute) m
+    ap (λ b. if b then entry_on records (members_for chain name) name else (if octets_eq attribute (codes "modtime") then stamp_value chain (modtime_on records (members_for chain name) name) else value_on records (members_of chain name attribute) name attribute)) e
+    ∙ ap (λ b. if b then stamp_value chain (modtime_on records (members_for chain name) name) else value_on records (members_of chain name attribute) name attribute) m
 
 abbrev present_at : List ℕ → Option (List ℕ × Record) → Resolution
 present_at name place = option_and_then (λ p. if p.1.present then Some (Single name, p.0) else None) place
@@ -52,17 +52,17 @@ presence_first : (entry : Option Record) (name dataset : List ℕ) (places : Lis
 presence_first None name dataset places beyond e = e
 presence_first (Some entry) name dataset places beyond e = refl
 
-entry_first : (records : Stored) (chain : List (List ℕ)) (name : List ℕ) → entry_on records chain name ≡ present_at name (slice_get (placed records chain name) 0)
+entry_first : (records : Stored) (chain : List (List ℕ)) (name : List ℕ) → entry_on records chain name ≡ present_at name (slice_get (placed_records records chain name) 0)
 entry_first records [] name = refl
 entry_first records (dataset ∷ chain) name =
-    presence_first (record_at records dataset name) name dataset (placed records chain name) (entry_on records chain name) (entry_first records chain name)
+    presence_first (record_at records dataset name) name dataset (placed_records records chain name) (entry_on records chain name) (entry_first records chain name)
 
-entry_of : (records : Stored) (chain : List (List ℕ)) (name : List ℕ) → resolved records chain name (codes "entry") ≡ present_at name (slice_get (placed records (members_for chain name) name) 0)
-unfolding resolved
+entry_of : (records : Stored) (chain : List (List ℕ)) (name : List ℕ) → lookup records chain name (codes "entry") ≡ present_at name (slice_get (placed_records records (members_for chain name) name) 0)
+unfolding lookup
 entry_of records chain name = entry_first records (members_for chain name) name
 
-existence_of : (records : Stored) (chain : List (List ℕ)) (name : List ℕ) → entry_exists records chain name ≡ is_some (resolved records chain name (codes "entry"))
-unfolding resolved entry_exists
+existence_of : (records : Stored) (chain : List (List ℕ)) (name : List ℕ) → entry_exists records chain name ≡ is_some (lookup records chain name (codes "entry"))
+unfolding lookup entry_exists
 existence_of records chain name = refl
 
 pub first_law : FirstLaw
@@ -127,12 +127,12 @@ none_of : (records : Stored) (chain : List (List ℕ)) (name : List ℕ) → mod
 unfolding modtime_of
 none_of records chain name e = moment_none _ e
 
-as_stamp : (dataset : List ℕ) (chain : List (List ℕ)) (moment : Option ℤ) → stamped (dataset ∷ chain) moment ≡ option_map (λ m. (Single (stamp_of m), dataset)) moment
+as_stamp : (dataset : List ℕ) (chain : List (List ℕ)) (moment : Option ℤ) → stamp_value (dataset ∷ chain) moment ≡ option_map (λ m. (Single (stamp_of m), dataset)) moment
 as_stamp dataset chain None = refl
 as_stamp dataset chain (Some moment) = refl
 
-shown : (records : Stored) (dataset : List ℕ) (chain : List (List ℕ)) (name : List ℕ) → resolved records (dataset ∷ chain) name (codes "modtime") ≡ option_map (λ m. (Single (stamp_of m), dataset)) (modtime_of records (dataset ∷ chain) name)
-unfolding resolved modtime_of
+shown : (records : Stored) (dataset : List ℕ) (chain : List (List ℕ)) (name : List ℕ) → lookup records (dataset ∷ chain) name (codes "modtime") ≡ option_map (λ m. (Single (stamp_of m), dataset)) (modtime_of records (dataset ∷ chain) name)
+unfolding lookup modtime_of
 shown records dataset chain name = as_stamp dataset chain (modtime_on records (members_for (dataset ∷ chain) name) name)
 
 pub moment_law : MomentLaw
@@ -140,19 +140,19 @@ moment_law = record { shown = shown; reached = reached_of; bound = bound_of; non
 
 -- ---- the first dataset alone
 
-stamped_first : (dataset : List ℕ) (chain : List (List ℕ)) (moment : Option ℤ) → stamped (dataset ∷ chain) moment ≡ stamped (dataset ∷ []) moment
+stamped_first : (dataset : List ℕ) (chain : List (List ℕ)) (moment : Option ℤ) → stamp_value (dataset ∷ chain) moment ≡ stamp_value (dataset ∷ []) moment
 stamped_first dataset chain None = refl
 stamped_first dataset chain (Some moment) = refl
 
-management : (records : Stored) (dataset : List ℕ) (chain : List (List ℕ)) (attribute : List ℕ) → resolved records (dataset ∷ chain) [] attribute ≡ resolved records (dataset ∷ []) [] attribute
-unfolding resolved
+management : (records : Stored) (dataset : List ℕ) (chain : List (List ℕ)) (attribute : List ℕ) → lookup records (dataset ∷ chain) [] attribute ≡ lookup records (dataset ∷ []) [] attribute
+unfolding lookup
 management records dataset chain attribute =
     let stamps = stamped_first dataset chain (modtime_on records (dataset ∷ []) []) in
     let values = elim (octets_eq attribute (codes "subdataset")) as (λ b. value_on records (if b then dataset ∷ [] else dataset ∷ []) [] attribute ≡ value_on records (if b then dataset ∷ [] else dataset ∷ []) [] attribute) [ true ↦ refl | false ↦ refl ] in
     λ i. if octets_eq attribute (codes "entry") then entry_on records (dataset ∷ []) [] else (if octets_eq attribute (codes "modtime") then stamps i else values i)
 
-subdataset_first : (records : Stored) (dataset : List ℕ) (chain : List (List ℕ)) (name : List ℕ) → resolved records (dataset ∷ chain) name (codes "subdataset") ≡ resolved records (dataset ∷ []) name (codes "subdataset")
-unfolding resolved
+subdataset_first : (records : Stored) (dataset : List ℕ) (chain : List (List ℕ)) (name : List ℕ) → lookup records (dataset ∷ chain) name (codes "subdataset") ≡ lookup records (dataset ∷ []) name (codes "subdataset")
+unfolding lookup
 subdataset_first records dataset chain name = refl
 
 existence_first : (records : Stored) (dataset : List ℕ) (chain : List (List ℕ)) → entry_exists records (dataset ∷ chain) [] ≡ entry_exists records (dataset ∷ []) []

@@ -19,7 +19,7 @@ use Rattle.acap_inherit.specs.Chains.{base_at, onward, chain_within, chain_of}
 use Rattle.acap_inherit.specs.EntryNames.{names_in}
 use Rattle.acap_inherit.specs.Index.{is_linked, is_base, IsIndexOf, heirs_in}
 use Rattle.acap_inherit.specs.Records.{record_at}
-use Rattle.acap_inherit.specs.Touched.{is_written, is_written_on, has_record_on, is_reached, is_touched, ordered_among, in_order, touched}
+use Rattle.acap_inherit.specs.Touched.{is_written, is_written_on, has_record_on, is_reached, is_touched, ordered_among, in_order, touched_paths}
 use Rattle.acap_inherit.specs.Touching.{datasets_written, with_heirs, datasets_reached, path_at, paths_written, paths_stored, paths_of_member, paths_along, paths_below, paths_in, paths_found}
 use Rattle.acap_inherit.specs.declared.link.Link.{Link}
 use Rattle.acap_inherit.proofs.IndexLemmas.{any_with, either_and, never, base_kept}
@@ -332,7 +332,7 @@ touched_reached written old new links h index p e =
     ] refl (second_of (dataset_exists new p.dataset) _ e)
 
 pub found_touched : (change : Change) (old new : Store) (links : List Link) (left : Stored) (datasets : List (List ℕ)) (paths : List Path) → IsIndexOf old.records links → IsStoreAfter change old new → left ≡ new.records
-    → datasets ≡ datasets_reached change.writes links → paths ≡ paths_found change.writes old.records left datasets → paths ≡ touched change.writes old.records new.records
+    → datasets ≡ datasets_reached change.writes links → paths ≡ paths_found change.writes old.records left datasets → paths ≡ touched_paths change.writes old.records new.records
 found_touched change old new links left datasets paths index h same d e =
     let found = flat_map (paths_in change.writes old.records new.records) (datasets_reached change.writes links) in
     e

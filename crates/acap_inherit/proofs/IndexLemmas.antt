@@ -20,7 +20,7 @@ use Rattle.acap_entries.specs.declared.change.Change.{Change}
 use Rattle.acap_entries.specs.declared.path.Path.{Path}
 use Rattle.acap_entries.specs.declared.fate.Fate.{Fate}
 use Rattle.acap_inherit.specs.Chains.{base_at}
-use Rattle.acap_inherit.specs.Index.{link_cmp, is_linked, is_base, IsIndexOf, link_at, links_of, links_written, without_all, with_all, settled}
+use Rattle.acap_inherit.specs.Index.{link_cmp, is_linked, is_base, IsIndexOf, link_at, links_of, links_written, without_all, with_all, index_with}
 use Rattle.acap_inherit.specs.Records.{record_at}
 use Rattle.acap_inherit.specs.Touched.{is_written}
 use Rattle.acap_inherit.specs.declared.link.Link.{Link}
@@ -188,7 +188,7 @@ settles false old new h = h refl
 pub base_kept : (written : Written) (old new : Stored) → IsPathByPath written old new → (heir : List ℕ) → is_written written heir [] ≡ false → base_at old heir ≡ base_at new heir
 base_kept written old new h heir e = let same = unwritten written old new h heir [] e in rw same refl
 
-pub settled_index : (written : Written) (old new : Stored) (links : List Link) → IsPathByPath written old new → IsIndexOf old links → IsIndexOf new (settled (links_written written old, links_written written new) links)
+pub settled_index : (written : Written) (old new : Stored) (links : List Link) → IsPathByPath written old new → IsIndexOf old links → IsIndexOf new (index_with (links_written written old, links_written written new) links)
 settled_index written old new links h index = record {
   each = λ base heir.
       let taken = links_written written old in
@@ -208,6 +208,6 @@ empty_index links e = record {
 }
 
 pub index_after : (change : Change) (old new : Store) (links taken put : List Link) (left : Stored) → IsIndexOf old.records links → IsStoreAfter change old new
-    → taken ≡ links_written change.writes old.records → put ≡ links_written change.writes left → left ≡ new.records → IsIndexOf new.records (settled (taken, put) links)
+    → taken ≡ links_written change.writes old.records → put ≡ links_written change.writes left → left ≡ new.records → IsIndexOf new.records (index_with (taken, put) links)
 index_after change old new links taken put left index h t p same =
-    subst (λ (prepared : List Link × List Link). IsIndexOf new.records (settled prepared links)) (λ i. (sym t i, sym (p ∙ ap (links_written change.writes) same) i)) (settled_index change.writes old.records new.records links h.paths index)
+    subst (λ (prepared : List Link × List Link). IsIndexOf new.records (index_with prepared links)) (λ i. (sym t i, sym (p ∙ ap (links_written change.writes) same) i)) (settled_index change.writes old.records new.records links h.paths index)

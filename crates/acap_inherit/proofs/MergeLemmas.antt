@@ -14,8 +14,8 @@ use Rattle.std.proofs.lemmas.List.{length-map}
 use Rattle.std.proofs.Math.Seq.{drop-length, take-length}
 use Rattle.std.proofs.lemmas.List.Folds.{list_any-append, list_all-append}
 use Rattle.acap_entries.specs.Orders.{octets_cmp, octets_eq}
-use Rattle.acap_inherit.specs.EntryNames.{set_of, merged}
-use Rattle.acap_inherit.specs.Merging.{is_below, is_rising, passed, is_ended, is_first, is_least, IsLeast, lesser}
+use Rattle.acap_inherit.specs.EntryNames.{set_of, union_of}
+use Rattle.acap_inherit.specs.Merging.{is_below, is_rising, past_name, is_ended, is_first, is_least, IsLeast, lesser}
 
 total : IsTotalOrder octets_cmp
 total = nat_list_cmp_total
@@ -71,7 +71,7 @@ below_append m [] ys a b = b
 below_append m (x ∷ xs) ys a b = both_of _ _ (first_of _ _ a) (below_append m xs ys (second_of _ _ a) b)
 
 -- what is left of a rising list whose first name isn't lesser
-above_passed : (m : List ℕ) (xs : List (List ℕ)) → is_rising xs ≡ true → is_least m xs ≡ true → is_below m (passed m xs) ≡ true
+above_passed : (m : List ℕ) (xs : List (List ℕ)) → is_rising xs ≡ true → is_least m xs ≡ true → is_below m (past_name m xs) ≡ true
 above_passed m [] r l = refl
 above_passed m (x ∷ xs) r l =
     elim (octets_eq m x) as (λ b. octets_eq m x ≡ b → is_below m (cond b xs (x ∷ xs)) ≡ true) [
@@ -82,7 +82,7 @@ above_passed m (x ∷ xs) r l =
           both_of _ _ (ap is_lt after) (below_less m x xs after (first_of _ _ r))
     ] refl
 
-pub rising_passed : (m : List ℕ) (xs : List (List ℕ)) → is_rising xs ≡ true → is_rising (passed m xs) ≡ true
+pub rising_passed : (m : List ℕ) (xs : List (List ℕ)) → is_rising xs ≡ true → is_rising (past_name m xs) ≡ true
 rising_passed m [] r = refl
 rising_passed m (x ∷ xs) r =
     elim (octets_eq m x) as (λ b. is_rising (cond b xs (x ∷ xs)) ≡ true) [ true ↦ second_of _ _ r | false ↦ r ]
@@ -91,24 +91,24 @@ rising_passed m (x ∷ xs) r =
 abbrev pub all_rising : List (List (List ℕ)) → Bool
 all_rising lists = list_all is_rising lists
 
-pub all_rising_passed : (m : List ℕ) (lists : List (List (List ℕ))) → all_rising lists ≡ true → all_rising (map (passed m) lists) ≡ true
+pub all_rising_passed : (m : List ℕ) (lists : List (List (List ℕ))) → all_rising lists ≡ true → all_rising (map (past_name m) lists) ≡ true
 all_rising_passed m [] r = refl
 all_rising_passed m (xs ∷ lists) r = both_of _ _ (rising_passed m xs (first_of _ _ r)) (all_rising_passed m lists (second_of _ _ r))
 
 abbrev pub all_of : List (List (List ℕ)) → List (List ℕ)
 all_of lists = flat_map (λ names. names) lists
 
-above_all : (m : List ℕ) (lists : List (List (List ℕ))) → all_rising lists ≡ true → list_all (is_least m) lists ≡ true → is_below m (all_of (map (passed m) lists)) ≡ true
+above_all : (m : List ℕ) (lists : List (List (List ℕ))) → all_rising lists ≡ true → list_all (is_least m) lists ≡ true → is_below m (all_of (map (past_name m) lists)) ≡ true
 above_all m [] r l = refl
 above_all m (xs ∷ lists) r l =
-    below_append m (passed m xs) _ (above_passed m xs (first_of _ _ r) (first_of _ _ l)) (above_all m lists (second_of _ _ r) (second_of _ _ l))
+    below_append m (past_name m xs) _ (above_passed m xs (first_of _ _ r) (first_of _ _ l)) (above_all m lists (second_of _ _ r) (second_of _ _ l))
 
 -- ---- which names there are
 
 abbrev pub is_name : List ℕ → List ℕ → Bool
 is_name q = eq_by_cmp octets_cmp q
 
-any_passed : (m q : List ℕ) (xs : List (List ℕ)) → list_any (is_name q) xs ≡ (is_first m xs && is_name q m || list_any (is_name q) (passed m xs))
+any_passed : (m q : List ℕ) (xs : List (List ℕ)) → list_any (is_name q) xs ≡ (is_first m xs && is_name q m || list_any (is_name q) (past_name m xs))
 any_passed m q [] = refl
 any_passed m q (x ∷ xs) =
     elim (octets_eq m x) as (λ b. octets_eq m x ≡ b → (is_name q x || list_any (is_name q) xs) ≡ (b && is_name q m || list_any (is_name q) (cond b xs (x ∷ xs)))) [
@@ -116,13 +116,13 @@ any_passed m q (x ∷ xs) =
       | false ↦ λ e. refl
     ] refl
 
-any_all : (m q : List ℕ) (lists : List (List (List ℕ))) → list_any (is_name q) (all_of lists) ≡ (list_any (is_first m) lists && is_name q m || list_any (is_name q) (all_of (map (passed m) lists)))
+any_all : (m q : List ℕ) (lists : List (List (List ℕ))) → list_any (is_name q) (all_of lists) ≡ (list_any (is_first m) lists && is_name q m || list_any (is_name q) (all_of (map (past_name m) lists)))
 any_all m q [] = refl
 any_all m q (xs ∷ lists) =
     list_any-append (is_name q) xs (all_of lists)
     ∙ ((λ i. any_passed m q xs i || any_all m q lists i)
     ∙ (apart (is_first m xs) (list_any (is_first m) lists) (is_name q m) _ _
-    ∙ ap (λ b. list_any (is_first m) (xs ∷ lists) && is_name q m || b) (sym (list_any-append (is_name q) (passed m xs) (all_of (map (passed m) lists))))))
+    ∙ ap (λ b. list_any (is_first m) (xs ∷ lists) && is_name q m || b) (sym (list_any-append (is_name q) (past_name m xs) (all_of (map (past_name m) lists))))))
 
 keys_listed : (xs : List (List ℕ)) → map (λ (e : List ℕ × Unit {0}). e.0) (map (λ (name : List ℕ). (name, tt)) xs) ≡ xs
 keys_listed [] = refl
@@ -149,9 +149,9 @@ marked_or true x = refl
 marked_or false x = refl
 
 -- the set of lists is that of what is left of them, and the name that is passed
-same_set : (m : List ℕ) (lists : List (List (List ℕ))) → list_any (is_first m) lists ≡ true → set_of (all_of lists) ≡ names.insert (set_of (all_of (map (passed m) lists))) m tt
+same_set : (m : List ℕ) (lists : List (List (List ℕ))) → list_any (is_first m) lists ≡ true → set_of (all_of lists) ≡ names.insert (set_of (all_of (map (past_name m) lists))) m tt
 same_set m lists f =
-    let rest = all_of (map (passed m) lists) in
+    let rest = all_of (map (past_name m) lists) in
     names.same_map total same_names _ _ (λ q. marked _ _
     (in_set (all_of lists) q
     ∙ (any_all m q lists
@@ -182,11 +182,11 @@ least_first m xs b =
     ∙ put_front m (names.entries (set_of xs)) (λ q a. behind m q xs b (sym (in_set xs q) ∙ (names.contains_key-keys (set_of xs) q ∙ a))))
 
 -- the merged names begin with the least of the first names, and go on with what is left
-pub merged_next : (m : List ℕ) (lists : List (List (List ℕ))) → all_rising lists ≡ true → IsLeast (Some m) lists → merged lists ≡ m ∷ merged (map (passed m) lists)
-unfolding merged
+pub merged_next : (m : List ℕ) (lists : List (List (List ℕ))) → all_rising lists ≡ true → IsLeast (Some m) lists → union_of lists ≡ m ∷ union_of (map (past_name m) lists)
+unfolding union_of
 merged_next m lists r l =
     ap (λ s. names.keys s) (same_set m lists (second_of _ _ l))
-    ∙ least_first m (all_of (map (passed m) lists)) (above_all m lists r (first_of _ _ l))
+    ∙ least_first m (all_of (map (past_name m) lists)) (above_all m lists r (first_of _ _ l))
 
 ended_none : (lists : List (List (List ℕ))) → list_all is_ended lists ≡ true → all_of lists ≡ []
 ended_none [] e = refl
@@ -197,16 +197,13 @@ no_length : {A : Type 0} (xs : List A) → length xs ≡ 0 → xs ≡ []
 no_length [] e = refl
 no_length (x ∷ xs) e = absurd (omega arith)
 
-pub merged_ended : (lists : List (List (List ℕ))) → IsLeast None lists → merged lists ≡ []
-unfolding merged
+pub merged_ended : (lists : List (List (List ℕ))) → IsLeast None lists → union_of lists ≡ []
+unfolding union_of
 merged_ended lists e =
     ap (λ names_of. names.keys (set_of names_of)) (ended_none lists e)
     ∙ ap (map (λ e. e.0)) (no_length _ (sym (names.len-entries {R = octets_cmp} (set_of [])) ∙ names.len-empty octets_cmp (Unit {0})))
 
 -- ---- the least of the first names of lists, one list after the other
-
-not_less : (a b : List ℕ) → is_lt (octets_cmp a b) ≡ true → not (is_lt (octets_cmp b a)) ≡ true
-not_less a b e = ap (λ r. not (is_lt r)) (total.antisymm b a ∙ ap ordering_reverse (less _ e))
 
 unturned : (r : Ordering) → not (is_lt r) ≡ true → is_gt (ordering_reverse r) ≡ false
 unturned Less e = cc
@@ -272,9 +269,9 @@ least_more (Some m) lists (x ∷ xs) l =
     ] refl
 
 -- what is written over all of a list is the list
-pub refilled : (m : List ℕ) (lists ws : List (List (List ℕ))) → ws ≡ map (passed m) lists → refill (length lists) lists ws ≡ map (passed m) lists
+pub refilled : (m : List ℕ) (lists ws : List (List (List ℕ))) → ws ≡ map (past_name m) lists → refill (length lists) lists ws ≡ map (past_name m) lists
 refilled m lists ws e =
-    let n : length ws ≡ length lists = ap length e ∙ length-map lists (passed m) in
+    let n : length ws ≡ length lists = ap length e ∙ length-map lists (past_name m) in
     ap (λ k. take (length lists) (ws ++ drop k lists)) n
     ∙ (ap (λ rest. take (length lists) (ws ++ rest)) (drop-length lists)
     ∙ (ap (λ k. take k (ws ++ [])) (sym n) ∙ (ap (λ xs. take (length ws) xs) (append-nil ws) ∙ (take-length ws ∙ e))))

@@ -14,7 +14,7 @@ use Rattle.acap_entries.specs.Orders.{octets_cmp, octets_eq}
 use Rattle.acap_entries.specs.Store.{Stored, path_cmp}
 use Rattle.acap_entries.specs.declared.path.Path.{Path}
 use Rattle.acap_entries.specs.declared.record.Record.{Record}
-use Rattle.acap_inherit.specs.EntryNames.{names_in, set_of, merged, names_on}
+use Rattle.acap_inherit.specs.EntryNames.{names_in, set_of, union_of, names_on}
 use Rattle.acap_inherit.specs.Merging.{is_below, is_rising}
 use Rattle.acap_inherit.specs.Records.{record_at}
 use Rattle.acap_inherit.specs.Laws.{NamesLaw}
@@ -54,7 +54,7 @@ listed_on records q (d ∷ chain) =
 
 -- two chains, of one store or of two, with records of the same names
 pub same_names_on : (old new : Stored) (a b : List (List ℕ)) → ((q : List ℕ) → list_any (λ d. is_some (record_at old d q)) a ≡ list_any (λ d. is_some (record_at new d q)) b) → names_on old a ≡ names_on new b
-unfolding merged
+unfolding union_of
 same_names_on old new a b h =
     ap (λ s. names.keys s) (same_sets (all_of (map (names_in old) a)) (all_of (map (names_in new) b)) (λ q. listed_on old q a ∙ (h q ∙ sym (listed_on new q b))))
 
@@ -69,14 +69,14 @@ rising_keys [] h = refl
 rising_keys (e ∷ es) h = both_of _ _ (below_keys e.0 es (first _ _ h)) (rising_keys es (second _ _ h))
 
 names_of : (records : Stored) (chain : List (List ℕ)) (q : List ℕ) → list_any (octets_eq q) (names_on records chain) ≡ list_any (λ d. is_some (record_at records d q)) chain
-unfolding merged
+unfolding union_of
 names_of records chain q =
     let all = all_of (map (names_in records) chain) in
     (λ i. list_any (λ x. texts_ties q x i) (names.keys (set_of all)))
     ∙ (sym (names.contains_key-keys (set_of all) q) ∙ (in_set all q ∙ listed_on records q chain))
 
 rising_on : (records : Stored) (chain : List (List ℕ)) → is_rising (names_on records chain) ≡ true
-unfolding merged
+unfolding union_of
 rising_on records chain =
     let s = set_of (all_of (map (names_in records) chain)) in rising_keys (names.entries s) (names.entries_sorted s)
 

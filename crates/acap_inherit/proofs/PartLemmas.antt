@@ -22,7 +22,7 @@ use Rattle.acap_entries.proofs.RankLemmas.{order_of_units, units_in_order}
 use Rattle.acap_entries.proofs.StoreLemmas.{octets_same, path_same, path_cmp_total}
 use Rattle.acap_inherit.specs.Chains.{chain_of}
 use Rattle.acap_inherit.specs.Index.{IsIndexOf, heirs_in}
-use Rattle.acap_inherit.specs.Touched.{is_written, is_written_on, is_touched, by_octets, octets_total, ordered_among, in_order, touched, datasets_touched, touched_at}
+use Rattle.acap_inherit.specs.Touched.{is_written, is_written_on, is_touched, by_octets, octets_total, ordered_among, in_order, touched_paths, datasets_touched, touched_at}
 use Rattle.acap_inherit.specs.Touching.{datasets_written, with_heirs, datasets_reached, path_at, paths_in, touched_dataset, datasets_found}
 use Rattle.acap_inherit.specs.declared.link.Link.{Link}
 use Rattle.acap_inherit.specs.declared.touched_dataset.TouchedDataset.{TouchedDataset}
@@ -90,12 +90,12 @@ swapped false false = refl
 part_at : (written : Written) (old new : Stored) → IsPathByPath written old new → (d : List ℕ) → in_order (paths_in written old new d) ≡ touched_at written old new d
 part_at written old new h d =
     same_list by_octets octets_total same_paths (in_order (paths_in written old new d)) (touched_at written old new d) (order_rises (paths_in written old new d))
-    (kept_rises by_octets octets_total same_paths (λ p. octets_eq d p.dataset) (touched written old new) (touched_rises written old new))
+    (kept_rises by_octets octets_total same_paths (λ p. octets_eq d p.dataset) (touched_paths written old new) (touched_rises written old new))
     (λ p.
     any_order p (paths_in written old new d)
     ∙ (in_dataset written old new h p d
     ∙ (swapped (is_name p.dataset d) (is_touched written old new p)
-    ∙ sym (any_part by_octets octets_total same_paths (λ p. octets_eq d p.dataset) p (touched written old new)
+    ∙ sym (any_part by_octets octets_total same_paths (λ p. octets_eq d p.dataset) p (touched_paths written old new)
     ∙ (λ i. any_touched written old new h p i && name_turned p.dataset d i)))))
 
 pub found_at : (change : Change) (old new : Store) (left : Stored) (d : List ℕ) (paths : List Path) → IsStoreAfter change old new → left ≡ new.records
@@ -142,11 +142,11 @@ unfolding is_touched
 touched_exists written old new p e = first_of _ _ e
 
 touched_dataset_in : (written : Written) (old new : Stored) (links : List Link) → IsPathByPath written old new → IsIndexOf old links → (d : List ℕ)
-    → list_any (λ (p : Path). is_name d p.dataset) (touched written old new) ≡ (is_in d (datasets_reached written links) && dataset_exists new d)
+    → list_any (λ (p : Path). is_name d p.dataset) (touched_paths written old new) ≡ (is_in d (datasets_reached written links) && dataset_exists new d)
 touched_dataset_in written old new links h index d =
     alike_if _ _
     (λ e.
-    let p = any_member by_octets octets_total same_paths (λ (p : Path). is_name d p.dataset) (touched written old new) e in
+    let p = any_member by_octets octets_total same_paths (λ (p : Path). is_name d p.dataset) (touched_paths written old new) e in
     let is : is_touched written old new p.0 ≡ true = sym (any_touched written old new h p.0) ∙ p.2 in
     let same = octets_same d p.0.dataset (equal _ p.1) in
     ap (λ k. is_in k (datasets_reached written links) && dataset_exists new k) same
@@ -155,19 +155,19 @@ touched_dataset_in written old new links h index d =
     let n = name_along written (chain_of old d false) (sym (reached_datasets written old links index d) ∙ first_of _ _ e) in
     let is = touched_somewhere written old new d n.0 (second_of _ _ e) n.1 in
     any_weaker (is_path (path_at d n.0)) (λ (p : Path). is_name d p.dataset) (λ p t. ap (λ (q : Path). is_name d q.dataset) (sym (same_paths (path_at d n.0) p (equal _ t))) ∙ ap is_eq (tied_itself nat_list_cmp_total d))
-    (touched written old new) (any_touched written old new h (path_at d n.0) ∙ is))
+    (touched_paths written old new) (any_touched written old new h (path_at d n.0) ∙ is))
 
 part_datasets : (written : Written) (old new : Stored) (links : List Link) → IsPathByPath written old new → IsIndexOf old links → filter (dataset_exists new) (datasets_reached written links) ≡ datasets_touched written old new
 part_datasets written old new links h index =
     same_list octets_cmp nat_list_cmp_total octets_same (filter (dataset_exists new) (datasets_reached written links)) (datasets_touched written old new)
     (kept_rises octets_cmp nat_list_cmp_total octets_same (dataset_exists new) (datasets_reached written links)
     (heirs_rise 7 links (datasets_written written) [] (none_rises octets_cmp nat_list_cmp_total octets_same)))
-    (among_rises octets_cmp nat_list_cmp_total octets_same (each (λ (p : Path). p.dataset) (touched written old new)) [] (none_rises octets_cmp nat_list_cmp_total octets_same))
+    (among_rises octets_cmp nat_list_cmp_total octets_same (each (λ (p : Path). p.dataset) (touched_paths written old new)) [] (none_rises octets_cmp nat_list_cmp_total octets_same))
     (λ d.
     any_part octets_cmp nat_list_cmp_total octets_same (dataset_exists new) d (datasets_reached written links)
     ∙ (sym (touched_dataset_in written old new links h index d)
-    ∙ sym (any_among octets_cmp nat_list_cmp_total d (each (λ (p : Path). p.dataset) (touched written old new)) []
-    ∙ (or_false _ ∙ any_each (is_name d) (λ (p : Path). p.dataset) (touched written old new)))))
+    ∙ sym (any_among octets_cmp nat_list_cmp_total d (each (λ (p : Path). p.dataset) (touched_paths written old new)) []
+    ∙ (or_false _ ∙ any_each (is_name d) (λ (p : Path). p.dataset) (touched_paths written old new)))))
 
 each_part : {A B : Type 0} (p : A → Bool) (f : A → B) (xs : List A) → flat_map (λ x. if p x then f x ∷ [] else []) xs ≡ each f (filter p xs)
 each_part p f [] = refl
@@ -198,21 +198,21 @@ either_same false true false = refl
 either_same false false true = refl
 either_same false false false = refl
 
-in_parts : (written : Written) (old new : Stored) (p : Path) (ds : List (List ℕ)) → list_any (is_path p) (flat_map (touched_at written old new) ds) ≡ (is_in p.dataset ds && list_any (is_path p) (touched written old new))
+in_parts : (written : Written) (old new : Stored) (p : Path) (ds : List (List ℕ)) → list_any (is_path p) (flat_map (touched_at written old new) ds) ≡ (is_in p.dataset ds && list_any (is_path p) (touched_paths written old new))
 in_parts written old new p [] = refl
 in_parts written old new p (d ∷ ds) =
     list_any-append (is_path p) (touched_at written old new d) (flat_map (touched_at written old new) ds)
-    ∙ ((λ i. (any_part by_octets octets_total same_paths (λ p. octets_eq d p.dataset) p (touched written old new) ∙ ap (λ b. list_any (is_path p) (touched written old new) && b) (name_turned p.dataset d)) i || in_parts written old new p ds i)
-    ∙ either_same (is_name p.dataset d) (is_in p.dataset ds) (list_any (is_path p) (touched written old new)))
+    ∙ ((λ i. (any_part by_octets octets_total same_paths (λ p. octets_eq d p.dataset) p (touched_paths written old new) ∙ ap (λ b. list_any (is_path p) (touched_paths written old new) && b) (name_turned p.dataset d)) i || in_parts written old new p ds i)
+    ∙ either_same (is_name p.dataset d) (is_in p.dataset ds) (list_any (is_path p) (touched_paths written old new)))
 
-dataset_of_path : (written : Written) (old new : Stored) (p : Path) → list_any (is_path p) (touched written old new) ≡ true → is_in p.dataset (datasets_touched written old new) ≡ true
+dataset_of_path : (written : Written) (old new : Stored) (p : Path) → list_any (is_path p) (touched_paths written old new) ≡ true → is_in p.dataset (datasets_touched written old new) ≡ true
 dataset_of_path written old new p e =
-    any_among octets_cmp nat_list_cmp_total p.dataset (each (λ (q : Path). q.dataset) (touched written old new)) []
-    ∙ (or_false _ ∙ (any_each (is_name p.dataset) (λ (q : Path). q.dataset) (touched written old new)
-    ∙ any_weaker (is_path p) (λ (q : Path). is_name p.dataset q.dataset) (λ q t. ap (λ (r : Path). is_name p.dataset r.dataset) (sym (same_paths p q (equal _ t))) ∙ ap is_eq (tied_itself nat_list_cmp_total p.dataset)) (touched written old new) e))
+    any_among octets_cmp nat_list_cmp_total p.dataset (each (λ (q : Path). q.dataset) (touched_paths written old new)) []
+    ∙ (or_false _ ∙ (any_each (is_name p.dataset) (λ (q : Path). q.dataset) (touched_paths written old new)
+    ∙ any_weaker (is_path p) (λ (q : Path). is_name p.dataset q.dataset) (λ q t. ap (λ (r : Path). is_name p.dataset r.dataset) (sym (same_paths p q (equal _ t))) ∙ ap is_eq (tied_itself nat_list_cmp_total p.dataset)) (touched_paths written old new) e))
 
-pub together : (written : Written) (old new : Stored) → in_order (flat_map (touched_at written old new) (datasets_touched written old new)) ≡ touched written old new
+pub together : (written : Written) (old new : Stored) → in_order (flat_map (touched_at written old new) (datasets_touched written old new)) ≡ touched_paths written old new
 together written old new =
     let parts = flat_map (touched_at written old new) (datasets_touched written old new) in
-    same_list by_octets octets_total same_paths (in_order parts) (touched written old new) (order_rises parts) (touched_rises written old new)
-    (λ p. any_order p parts ∙ (in_parts written old new p (datasets_touched written old new) ∙ absorbed (is_in p.dataset (datasets_touched written old new)) (list_any (is_path p) (touched written old new)) (dataset_of_path written old new p)))
+    same_list by_octets octets_total same_paths (in_order parts) (touched_paths written old new) (order_rises parts) (touched_rises written old new)
+    (λ p. any_order p parts ∙ (in_parts written old new p (datasets_touched written old new) ∙ absorbed (is_in p.dataset (datasets_touched written old new)) (list_any (is_path p) (touched_paths written old new)) (dataset_of_path written old new p)))

@@ -11,7 +11,7 @@ use Rattle.acap_entries.specs.declared.cell.Cell.TheVariants.{Nil, Single, Multi
 use Rattle.acap_entries.specs.declared.record.Record.{Record}
 use Rattle.acap_inherit.specs.Chains.{name_in, base_at, onward, chain_within, chain_of}
 use Rattle.acap_inherit.specs.Records.{record_at, cell_in, ends_inheritance}
-use Rattle.acap_inherit.specs.Resolving.{Resolution, lying, by_cell, by_record, by_presence, value_on, entry_on, records_along, until_end, greatest, modtime_on, stamped, members_for, members_of, resolved, entry_exists, modtime_of}
+use Rattle.acap_inherit.specs.Resolving.{Resolution, lying, by_cell, by_record, by_presence, value_on, entry_on, records_along, until_end, greatest, modtime_on, stamp_value, members_for, members_of, lookup, entry_exists, modtime_of}
 use Rattle.acap_inherit.specs.Laws.{NothingLaw, ReadingLaw, AgreeOn}
 use Rattle.acap_inherit.proofs.FirstLaws.{here, there, stored_value}
 use Rattle.acap_inherit.proofs.NamesLaws.{same_names_on}
@@ -64,11 +64,11 @@ whichever true b = refl
 whichever false true = refl
 whichever false false = refl
 
-all_none : (records : Stored) (chain : List (List ℕ)) (name attribute : List ℕ) → ((d : List ℕ) → Contains chain d → record_at records d name ≡ None) → resolved records chain name attribute ≡ None
-unfolding resolved
+all_none : (records : Stored) (chain : List (List ℕ)) (name attribute : List ℕ) → ((d : List ℕ) → Contains chain d → record_at records d name ≡ None) → lookup records chain name attribute ≡ None
+unfolding lookup
 all_none records chain name attribute h =
     let entries = entry_none records (members_for chain name) name (λ d k. h d (of_members_for chain name d k)) in
-    let stamps = ap (stamped chain) (modtime_none records (members_for chain name) name (λ d k. h d (of_members_for chain name d k))) in
+    let stamps = ap (stamp_value chain) (modtime_none records (members_for chain name) name (λ d k. h d (of_members_for chain name d k))) in
     let values = value_none records (members_of chain name attribute) name attribute (λ d k. ap (λ entry. option_and_then (λ r. cell_in r attribute) entry) (h d (of_members chain name attribute d k))) in
     (λ i. if octets_eq attribute (codes "entry") then entries i else (if octets_eq attribute (codes "modtime") then stamps i else values i))
     ∙ whichever (octets_eq attribute (codes "entry")) (octets_eq attribute (codes "modtime"))
@@ -128,17 +128,17 @@ entry_within records [] name found dataset e = not_found _ _ e
 entry_within records (d ∷ chain) name found dataset e =
     by_presence_within (record_at records d name) name d (entry_on records chain name) chain found dataset (entry_within records chain name found dataset) e
 
-stamp_within : (chain : List (List ℕ)) (moment : Option ℤ) (found : Cell) (dataset : List ℕ) → stamped chain moment ≡ Some (found, dataset) → Contains chain dataset
+stamp_within : (chain : List (List ℕ)) (moment : Option ℤ) (found : Cell) (dataset : List ℕ) → stamp_value chain moment ≡ Some (found, dataset) → Contains chain dataset
 stamp_within chain None found dataset e = not_found _ _ e
 stamp_within [] (Some moment) found dataset e = not_found _ _ e
 stamp_within (d ∷ chain) (Some moment) found dataset e = at_first _ d chain found dataset e
 
-lies_within : (records : Stored) (chain : List (List ℕ)) (name attribute : List ℕ) (found : Cell) (dataset : List ℕ) → resolved records chain name attribute ≡ Some (found, dataset) → Contains chain dataset
-unfolding resolved
+lies_within : (records : Stored) (chain : List (List ℕ)) (name attribute : List ℕ) (found : Cell) (dataset : List ℕ) → lookup records chain name attribute ≡ Some (found, dataset) → Contains chain dataset
+unfolding lookup
 lies_within records chain name attribute found dataset =
-    elim (octets_eq attribute (codes "entry")) as (λ b. (if b then entry_on records (members_for chain name) name else (if octets_eq attribute (codes "modtime") then stamped chain (modtime_on records (members_for chain name) name) else value_on records (members_of chain name attribute) name attribute)) ≡ Some (found, dataset) → Contains chain dataset) [
+    elim (octets_eq attribute (codes "entry")) as (λ b. (if b then entry_on records (members_for chain name) name else (if octets_eq attribute (codes "modtime") then stamp_value chain (modtime_on records (members_for chain name) name) else value_on records (members_of chain name attribute) name attribute)) ≡ Some (found, dataset) → Contains chain dataset) [
       | true ↦ λ e. of_members_for chain name dataset (entry_within records (members_for chain name) name found dataset e)
-      | false ↦ elim (octets_eq attribute (codes "modtime")) as (λ b. (if b then stamped chain (modtime_on records (members_for chain name) name) else value_on records (members_of chain name attribute) name attribute) ≡ Some (found, dataset) → Contains chain dataset) [
+      | false ↦ elim (octets_eq attribute (codes "modtime")) as (λ b. (if b then stamp_value chain (modtime_on records (members_for chain name) name) else value_on records (members_of chain name attribute) name attribute) ≡ Some (found, dataset) → Contains chain dataset) [
         | true ↦ λ e. stamp_within chain _ found dataset e
         | false ↦ λ e. of_members chain name attribute dataset (value_within records (members_of chain name attribute) name attribute found dataset e)
       ]
@@ -185,17 +185,17 @@ for_entry old new chain name attribute h e = subst (λ a. AgreeOn old new (membe
 for_modtime : (old new : Stored) (chain : List (List ℕ)) (name attribute : List ℕ) → AgreeOn old new (members_of chain name attribute) name → octets_eq attribute (codes "modtime") ≡ true → AgreeOn old new (members_for chain name) name
 for_modtime old new chain name attribute h e = subst (λ a. AgreeOn old new (members_of chain name a) name) (same_text attribute (codes "modtime") (sym e)) h
 
-attribute_same : (old new : Stored) (chain : List (List ℕ)) (name attribute : List ℕ) → AgreeOn old new (members_of chain name attribute) name → resolved old chain name attribute ≡ resolved new chain name attribute
-unfolding resolved
+attribute_same : (old new : Stored) (chain : List (List ℕ)) (name attribute : List ℕ) → AgreeOn old new (members_of chain name attribute) name → lookup old chain name attribute ≡ lookup new chain name attribute
+unfolding lookup
 attribute_same old new chain name attribute h =
     elim (octets_eq attribute (codes "entry")) as (λ b. octets_eq attribute (codes "entry") ≡ b →
-    (if b then entry_on old (members_for chain name) name else (if octets_eq attribute (codes "modtime") then stamped chain (modtime_on old (members_for chain name) name) else value_on old (members_of chain name attribute) name attribute))
-    ≡ (if b then entry_on new (members_for chain name) name else (if octets_eq attribute (codes "modtime") then stamped chain (modtime_on new (members_for chain name) name) else value_on new (members_of chain name attribute) name attribute))) [
+    (if b then entry_on old (members_for chain name) name else (if octets_eq attribute (codes "modtime") then stamp_value chain (modtime_on old (members_for chain name) name) else value_on old (members_of chain name attribute) name attribute))
+    ≡ (if b then entry_on new (members_for chain name) name else (if octets_eq attribute (codes "modtime") then stamp_value chain (modtime_on new (members_for chain name) name) else value_on new (members_of chain name attribute) name attribute))) [
       | true ↦ λ e. entry_same old new (members_for chain name) name (for_entry old new chain name attribute h e)
       | false ↦ λ _. elim (octets_eq attribute (codes "modtime")) as (λ b. octets_eq attribute (codes "modtime") ≡ b →
-          (if b then stamped chain (modtime_on old (members_for chain name) name) else value_on old (members_of chain name attribute) name attribute)
-          ≡ (if b then stamped chain (modtime_on new (members_for chain name) name) else value_on new (members_of chain name attribute) name attribute)) [
-            | true ↦ λ e. ap (stamped chain) (modtime_same old new (members_for chain name) name (for_modtime old new chain name attribute h e))
+          (if b then stamp_value chain (modtime_on old (members_for chain name) name) else value_on old (members_of chain name attribute) name attribute)
+          ≡ (if b then stamp_value chain (modtime_on new (members_for chain name) name) else value_on new (members_of chain name attribute) name attribute)) [
+            | true ↦ λ e. ap (stamp_value chain) (modtime_same old new (members_for chain name) name (for_modtime old new chain name attribute h e))
             | false ↦ λ _. value_same old new (members_of chain name attribute) name attribute h
           ] refl
     ] refl

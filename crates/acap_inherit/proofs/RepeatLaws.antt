@@ -8,7 +8,7 @@ use Rattle.acap_entries.specs.Store.{Stored}
 use Rattle.acap_entries.specs.declared.cell.Cell.{Cell}
 use Rattle.acap_entries.specs.declared.record.Record.{Record}
 use Rattle.acap_inherit.specs.Records.{record_at, cell_in, ends_inheritance}
-use Rattle.acap_inherit.specs.Resolving.{Resolution, by_cell, by_record, by_presence, value_on, entry_on, records_along, until_end, greatest, modtime_on, stamped, members_for, members_of, resolved, entry_exists, modtime_of}
+use Rattle.acap_inherit.specs.Resolving.{Resolution, by_cell, by_record, by_presence, value_on, entry_on, records_along, until_end, greatest, modtime_on, stamp_value, members_for, members_of, lookup, entry_exists, modtime_of}
 use Rattle.acap_inherit.specs.Laws.{RepeatLaw}
 use Rattle.acap_inherit.proofs.NamesLaws.{same_names_on}
 use Rattle.acap_inherit.proofs.Moments.{either, either_swap, either_twice}
@@ -144,7 +144,7 @@ take_one : (front : List (List ℕ)) (dataset : List ℕ) (a b : List (List ℕ)
 take_one [] dataset a b = refl
 take_one (first ∷ front) dataset a b = refl
 
-stamped_one : (front : List (List ℕ)) (dataset : List ℕ) (a b : List (List ℕ)) (moment : Option ℤ) → stamped (front ++ dataset ∷ a) moment ≡ stamped (front ++ dataset ∷ b) moment
+stamped_one : (front : List (List ℕ)) (dataset : List ℕ) (a b : List (List ℕ)) (moment : Option ℤ) → stamp_value (front ++ dataset ∷ a) moment ≡ stamp_value (front ++ dataset ∷ b) moment
 stamped_one front dataset a b None = refl
 stamped_one [] dataset a b (Some moment) = refl
 stamped_one (first ∷ front) dataset a b (Some moment) = refl
@@ -161,14 +161,14 @@ counted_of f name attribute front dataset a b e =
       | false ↦ counted f (length name == 0) front dataset a b e
     ]
 
-attribute_twice : (records : Stored) (front between rest : List (List ℕ)) (dataset name attribute : List ℕ) → resolved records (front ++ dataset ∷ (between ++ dataset ∷ rest)) name attribute ≡ resolved records (front ++ dataset ∷ (between ++ rest)) name attribute
-unfolding resolved
+attribute_twice : (records : Stored) (front between rest : List (List ℕ)) (dataset name attribute : List ℕ) → lookup records (front ++ dataset ∷ (between ++ dataset ∷ rest)) name attribute ≡ lookup records (front ++ dataset ∷ (between ++ rest)) name attribute
+unfolding lookup
 attribute_twice records front between rest dataset name attribute =
     let a = between ++ dataset ∷ rest in
     let b = between ++ rest in
     let entries = counted (λ c. entry_on records c name) (length name == 0) front dataset a b (entry_twice records front between rest dataset name) in
     let moments = counted (λ c. modtime_on records c name) (length name == 0) front dataset a b (modtime_twice records front between rest dataset name) in
-    let stamps = ap (stamped (front ++ dataset ∷ a)) moments ∙ stamped_one front dataset a b (modtime_on records (members_for (front ++ dataset ∷ b) name) name) in
+    let stamps = ap (stamp_value (front ++ dataset ∷ a)) moments ∙ stamped_one front dataset a b (modtime_on records (members_for (front ++ dataset ∷ b) name) name) in
     let values = counted_of (λ c. value_on records c name attribute) name attribute front dataset a b (value_twice records front between rest dataset name attribute) in
     λ i. if octets_eq attribute (codes "entry") then entries i else (if octets_eq attribute (codes "modtime") then stamps i else values i)
 

@@ -18,7 +18,7 @@ use Rattle.acap_entries.specs.declared.record.Record.{Record}
 use Rattle.acap_entries.proofs.StoreLemmas.{path_cmp_total}
 use Rattle.acap_inherit.specs.Chains.{name_in, onward, chain_within, chain_of}
 use Rattle.acap_inherit.specs.Records.{record_at, cell_in}
-use Rattle.acap_inherit.specs.Touched.{is_written, is_reached, is_touched, paths_known, crossed, in_order, touched}
+use Rattle.acap_inherit.specs.Touched.{is_written, is_reached, is_touched, paths_known, paths_across, in_order, touched_paths}
 use Rattle.acap_inherit.specs.TouchedExamples.{Attributes, present, store_of, fate_of, writes_of, at}
 
 -- ---- what is looked up: the cells of a record by attribute, if there is one
@@ -164,9 +164,9 @@ known_in rows writes =
     each (λ e. e.0) (all_put (each (λ row. (row.0, present row.1)) rows)) ++ each (λ e. e.0) (all_put (each (λ row. (row.0, fate_of row.1)) writes))
 
 pub all_computed : (rows : List (Path × Attributes)) (writes : List (Path × Option Attributes)) (new : Stored) → IsPathByPath (writes_of writes) (store_of rows) new
-    → touched (writes_of writes) (store_of rows) new ≡ in_order (filter (is_touched_in rows writes) (crossed (known_in rows writes) (known_in rows writes)))
-unfolding touched
+    → touched_paths (writes_of writes) (store_of rows) new ≡ in_order (filter (is_touched_in rows writes) (paths_across (known_in rows writes) (known_in rows writes)))
+unfolding touched_paths
 all_computed rows writes new h =
     let known : paths_known (writes_of writes) (store_of rows) ≡ known_in rows writes =
     λ i. each (λ e. e.0) (entries_put (each (λ row. (row.0, present row.1)) rows) i) ++ each (λ e. e.0) (entries_put (each (λ row. (row.0, fate_of row.1)) writes) i) in
-    λ i. in_order (filter (λ p. one_computed rows writes new h p i) (crossed (known i) (known i)))
+    λ i. in_order (filter (λ p. one_computed rows writes new h p i) (paths_across (known i) (known i)))

@@ -26,7 +26,7 @@ use Rattle.acap_entries.proofs.RankLemmas.{items, items_units, order_of_units}
 use Rattle.acap_entries.proofs.StoreLemmas.{octets_same, path_same}
 use Rattle.acap_inherit.specs.Chains.{chain_of}
 use Rattle.acap_inherit.specs.Records.{record_at}
-use Rattle.acap_inherit.specs.Touched.{is_written, is_written_on, has_record_on, is_reached, is_touched, paths_known, crossed, in_question, by_octets, octets_total, in_order, touched}
+use Rattle.acap_inherit.specs.Touched.{is_written, is_written_on, has_record_on, is_reached, is_touched, paths_known, paths_across, in_question, by_octets, octets_total, in_order, touched_paths}
 use Rattle.acap_inherit.proofs.IndexLemmas.{any_with, either_and, never}
 use Rattle.acap_inherit.proofs.MergeLemmas.{marked, itself, or_left, or_right, first_of, second_of, both_of}
 use Rattle.acap_inherit.proofs.UnreadLaws.{chain_alone}
@@ -157,10 +157,10 @@ any_row p d (n ∷ ns) =
     (λ i. by_parts p (record { dataset = d.dataset; name = n.name }) i || any_row p d ns i)
     ∙ and_either (in_dataset p d) (of_name p n) (list_any (of_name p) ns)
 
-any_crossed : (p : Path) (ds ns : List Path) → list_any (is_path p) (crossed ds ns) ≡ (list_any (in_dataset p) ds && list_any (of_name p) ns)
+any_crossed : (p : Path) (ds ns : List Path) → list_any (is_path p) (paths_across ds ns) ≡ (list_any (in_dataset p) ds && list_any (of_name p) ns)
 any_crossed p [] ns = refl
 any_crossed p (d ∷ ds) ns =
-    list_any-append (is_path p) (each (λ (n : Path). record { dataset = d.dataset; name = n.name }) ns) (crossed ds ns)
+    list_any-append (is_path p) (each (λ (n : Path). record { dataset = d.dataset; name = n.name }) ns) (paths_across ds ns)
     ∙ ((λ i. any_row p d ns i || any_crossed p ds ns i)
     ∙ either_and (in_dataset p d) (list_any (in_dataset p) ds) (list_any (of_name p) ns))
 
@@ -229,21 +229,21 @@ touched_known written old new h p e =
       | false ↦ λ _ r. both_of _ _ (reach_dataset written old new after p r) (reach_name written old new after p _ r)
     ] refl reached
 
-pub any_touched : (written : Written) (old new : Stored) → IsPathByPath written old new → (p : Path) → list_any (is_path p) (touched written old new) ≡ is_touched written old new p
-unfolding touched
+pub any_touched : (written : Written) (old new : Stored) → IsPathByPath written old new → (p : Path) → list_any (is_path p) (touched_paths written old new) ≡ is_touched written old new p
+unfolding touched_paths
 any_touched written old new h p =
     any_order p (kept (is_touched written old new) (in_question written old))
     ∙ (any_kept (is_touched written old new) p (in_question written old)
     ∙ absorbed (list_any (is_path p) (in_question written old)) (is_touched written old new p) (touched_known written old new h p))
 
-pub touched_rises : (written : Written) (old new : Stored) → Ascending by_octets (touched written old new)
-unfolding touched
+pub touched_rises : (written : Written) (old new : Stored) → Ascending by_octets (touched_paths written old new)
+unfolding touched_paths
 touched_rises written old new = order_rises (filter (is_touched written old new) (in_question written old))
 
 -- a list in the order in which are just the touched paths is the list of them
-pub touched_is : (written : Written) (old new : Stored) → IsPathByPath written old new → (xs : List Path) → Ascending by_octets xs → ((p : Path) → list_any (is_path p) xs ≡ is_touched written old new p) → xs ≡ touched written old new
+pub touched_is : (written : Written) (old new : Stored) → IsPathByPath written old new → (xs : List Path) → Ascending by_octets xs → ((p : Path) → list_any (is_path p) xs ≡ is_touched written old new p) → xs ≡ touched_paths written old new
 touched_is written old new h xs a e =
-    same_list by_octets octets_total same_paths xs (touched written old new) a (touched_rises written old new) (λ p. e p ∙ sym (any_touched written old new h p))
+    same_list by_octets octets_total same_paths xs (touched_paths written old new) a (touched_rises written old new) (λ p. e p ∙ sym (any_touched written old new h p))
 
 -- ---- paths that are well formed
 

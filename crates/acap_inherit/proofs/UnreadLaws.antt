@@ -10,7 +10,7 @@ use Rattle.acap_entries.specs.declared.path.Path.{Path}
 use Rattle.acap_inherit.specs.Chains.{base_at, onward, chain_within, chain_of}
 use Rattle.acap_inherit.specs.Laws.{AgreeOn}
 use Rattle.acap_inherit.specs.Records.{record_at}
-use Rattle.acap_inherit.specs.Resolving.{resolved, entry_exists, modtime_of}
+use Rattle.acap_inherit.specs.Resolving.{lookup, entry_exists, modtime_of}
 use Rattle.acap_inherit.specs.Touched.{is_written, is_written_on, has_record_on, is_reached, is_touched}
 use Rattle.acap_inherit.specs.TouchedLaws.{IsStep, IsReadAlike, IsNowhere, IsAnsweredAlike, UnreadLaw}
 use Rattle.acap_inherit.proofs.FirstLaws.{here, there}
@@ -146,7 +146,7 @@ alike old new dataset name h =
     let on : (b : Bool) → AgreeOn old new (chain_of old dataset b) name = λ b d k. h.records d (within_chain old dataset b d k) in
     record {
       attribute = λ b a. reading_law.attribute old new (chain_of old dataset b) name a (λ d k. on b d (of_members (chain_of old dataset b) name a d k))
-          ∙ ap (λ chain. resolved new chain name a) (same_of old new dataset b h.chain);
+          ∙ ap (λ chain. lookup new chain name a) (same_of old new dataset b h.chain);
       existence = λ b. reading_law.existence old new (chain_of old dataset b) name (λ d k. on b d (of_members_for (chain_of old dataset b) name d k))
           ∙ ap (λ chain. entry_exists new chain name) (same_of old new dataset b h.chain);
       moment = λ b. reading_law.moment old new (chain_of old dataset b) name (λ d k. on b d (of_members_for (chain_of old dataset b) name d k))

@@ -14,9 +14,9 @@ abbrev pub set_of : List (List ℕ) → map.FinMap octets_cmp (Unit {0})
 set_of names = map.from_entries (each (λ name. (name, tt)) names)
 
 -- the names of several lists, each once, in the order of their octets
-unfoldable pub merged : List (List (List ℕ)) → List (List ℕ)
-merged lists = map.keys (set_of (flat_map (λ names. names) lists))
+unfoldable pub union_of : List (List (List ℕ)) → List (List ℕ)
+union_of lists = map.keys (set_of (flat_map (λ names. names) lists))
 
 -- the names that have a record in a dataset of the chain
 abbrev pub names_on : Stored → List (List ℕ) → List (List ℕ)
-names_on records chain = merged (each (names_in records) chain)
+names_on records chain = union_of (each (names_in records) chain)

@@ -49,8 +49,8 @@ with_all [] links = links
 with_all (link ∷ put) links = with_item link_cmp link (with_all put links)
 
 -- what becomes of an index once the first of two lists was taken out, and the second put in
-abbrev pub settled : List Link × List Link → List Link → List Link
-settled prepared links = with_all prepared.1 (without_all prepared.0 links)
+abbrev pub index_with : List Link × List Link → List Link → List Link
+index_with prepared links = with_all prepared.1 (without_all prepared.0 links)
 
 -- the heirs of a base
 abbrev pub heirs_in : List Link → List ℕ → List (List ℕ)

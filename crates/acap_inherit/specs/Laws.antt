@@ -12,7 +12,7 @@ use Rattle.acap_inherit.specs.Chains.{name_in, base_at, chain_of}
 use Rattle.acap_inherit.specs.EntryNames.{names_on}
 use Rattle.acap_inherit.specs.Merging.{is_rising}
 use Rattle.acap_inherit.specs.Records.{record_at, cell_in, ends_inheritance}
-use Rattle.acap_inherit.specs.Resolving.{lying, records_along, until_end, members_for, members_of, resolved, entry_exists, modtime_of}
+use Rattle.acap_inherit.specs.Resolving.{lying, records_along, until_end, members_for, members_of, lookup, entry_exists, modtime_of}
 
 -- a chain begins with its dataset and has at most eight names, of which each of the first seven names the next, or none where it is the
 -- last; where nothing is to be inherited it is its first name alone
@@ -27,12 +27,12 @@ pub record ChainLaw : Type 0 where
 abbrev pub BaseLaw : Type 0
 BaseLaw =
     (records : Stored) (dataset : List ℕ)
-    → base_at records dataset ≡ option_and_then (λ found. name_in found.0) (resolved records (dataset ∷ []) [] (codes "dataset.inherit"))
+    → base_at records dataset ≡ option_and_then (λ found. name_in found.0) (lookup records (dataset ∷ []) [] (codes "dataset.inherit"))
 
 -- that a dataset comes again in a chain changes nothing
 pub record RepeatLaw : Type 0 where
   pub attribute : (records : Stored) (front between rest : List (List ℕ)) (dataset name attribute : List ℕ)
-      → resolved records (front ++ dataset ∷ (between ++ dataset ∷ rest)) name attribute ≡ resolved records (front ++ dataset ∷ (between ++ rest)) name attribute
+      → lookup records (front ++ dataset ∷ (between ++ dataset ∷ rest)) name attribute ≡ lookup records (front ++ dataset ∷ (between ++ rest)) name attribute
   pub existence : (records : Stored) (front between rest : List (List ℕ)) (dataset name : List ℕ)
       → entry_exists records (front ++ dataset ∷ (between ++ dataset ∷ rest)) name ≡ entry_exists records (front ++ dataset ∷ (between ++ rest)) name
   pub moment : (records : Stored) (front between rest : List (List ℕ)) (dataset name : List ℕ)
@@ -42,8 +42,8 @@ pub record RepeatLaw : Type 0 where
 
 -- the records of an entry along a chain with their datasets, down to the first at which inheritance ends, and what these have for an
 -- attribute
-abbrev pub placed : Stored → List (List ℕ) → List ℕ → List (List ℕ × Record)
-placed records chain name = filter_map (λ dataset. option_map (λ entry. (dataset, entry)) (record_at records dataset name)) chain
+abbrev pub placed_records : Stored → List (List ℕ) → List ℕ → List (List ℕ × Record)
+placed_records records chain name = filter_map (λ dataset. option_map (λ entry. (dataset, entry)) (record_at records dataset name)) chain
 
 abbrev pub down_to_end : List (List ℕ × Record) → List (List ℕ × Record)
 down_to_end [] = []
@@ -56,12 +56,12 @@ cells_among attribute places = filter_map (λ place. option_map (λ cell. (cell,
 -- entry exists, and its name lies, where the first record is, if that is present
 pub record FirstLaw : Type 0 where
   pub value : (records : Stored) (chain : List (List ℕ)) (name attribute : List ℕ) → octets_eq attribute (codes "entry") ≡ false → octets_eq attribute (codes "modtime") ≡ false
-      → resolved records chain name attribute
-      ≡ option_and_then (λ found. lying found.0 found.1) (slice_get (cells_among attribute (down_to_end (placed records (members_of chain name attribute) name))) 0)
+      → lookup records chain name attribute
+      ≡ option_and_then (λ found. lying found.0 found.1) (slice_get (cells_among attribute (down_to_end (placed_records records (members_of chain name attribute) name))) 0)
   pub entry : (records : Stored) (chain : List (List ℕ)) (name : List ℕ)
-      → resolved records chain name (codes "entry")
-      ≡ option_and_then (λ place. if place.1.present then Some (Single name, place.0) else None) (slice_get (placed records (members_for chain name) name) 0)
-  pub existence : (records : Stored) (chain : List (List ℕ)) (name : List ℕ) → entry_exists records chain name ≡ is_some (resolved records chain name (codes "entry"))
+      → lookup records chain name (codes "entry")
+      ≡ option_and_then (λ place. if place.1.present then Some (Single name, place.0) else None) (slice_get (placed_records records (members_for chain name) name) 0)
+  pub existence : (records : Stored) (chain : List (List ℕ)) (name : List ℕ) → entry_exists records chain name ≡ is_some (lookup records chain name (codes "entry"))
 
 -- the moments of an entry's records down to the end of inheritance
 abbrev pub moments_of : Stored → List (List ℕ) → List ℕ → List ℤ
@@ -71,28 +71,28 @@ moments_of records chain name = map (λ entry. entry.modtime) (until_end (record
 -- the first dataset of the chain
 pub record MomentLaw : Type 0 where
   pub shown : (records : Stored) (dataset : List ℕ) (chain : List (List ℕ)) (name : List ℕ)
-      → resolved records (dataset ∷ chain) name (codes "modtime") ≡ option_map (λ moment. (Single (stamp_of moment), dataset)) (modtime_of records (dataset ∷ chain) name)
+      → lookup records (dataset ∷ chain) name (codes "modtime") ≡ option_map (λ moment. (Single (stamp_of moment), dataset)) (modtime_of records (dataset ∷ chain) name)
   pub reached : (records : Stored) (chain : List (List ℕ)) (name : List ℕ) (moment : ℤ) → modtime_of records chain name ≡ Some moment → Contains (moments_of records chain name) moment
   pub bound : (records : Stored) (chain : List (List ℕ)) (name : List ℕ) (moment : ℤ) → modtime_of records chain name ≡ Some moment → All (λ other. other ≤ℤ moment) (moments_of records chain name)
   pub none : (records : Stored) (chain : List (List ℕ)) (name : List ℕ) → modtime_of records chain name ≡ None → records_along records (members_for chain name) name ≡ []
 
 -- the management entry and `subdataset` are those of the first dataset alone
 pub record FirstDatasetLaw : Type 0 where
-  pub attribute : (records : Stored) (dataset : List ℕ) (chain : List (List ℕ)) (attribute : List ℕ) → resolved records (dataset ∷ chain) [] attribute ≡ resolved records (dataset ∷ []) [] attribute
+  pub attribute : (records : Stored) (dataset : List ℕ) (chain : List (List ℕ)) (attribute : List ℕ) → lookup records (dataset ∷ chain) [] attribute ≡ lookup records (dataset ∷ []) [] attribute
   pub existence : (records : Stored) (dataset : List ℕ) (chain : List (List ℕ)) → entry_exists records (dataset ∷ chain) [] ≡ entry_exists records (dataset ∷ []) []
   pub moment : (records : Stored) (dataset : List ℕ) (chain : List (List ℕ)) → modtime_of records (dataset ∷ chain) [] ≡ modtime_of records (dataset ∷ []) []
   pub subdataset : (records : Stored) (dataset : List ℕ) (chain : List (List ℕ)) (name : List ℕ)
-      → resolved records (dataset ∷ chain) name (codes "subdataset") ≡ resolved records (dataset ∷ []) name (codes "subdataset")
+      → lookup records (dataset ∷ chain) name (codes "subdataset") ≡ lookup records (dataset ∷ []) name (codes "subdataset")
 
 -- what no record of a chain has is NIL, and an entry without a record there doesn't exist; what is found lies in the chain
 pub record NothingLaw : Type 0 where
   pub attribute : (records : Stored) (chain : List (List ℕ)) (name attribute : List ℕ) → octets_eq attribute (codes "entry") ≡ false → octets_eq attribute (codes "modtime") ≡ false
       → ((dataset : List ℕ) → Contains chain dataset → option_and_then (λ entry. cell_in entry attribute) (record_at records dataset name) ≡ None)
-      → resolved records chain name attribute ≡ None
+      → lookup records chain name attribute ≡ None
   pub entry : (records : Stored) (chain : List (List ℕ)) (name : List ℕ) → ((dataset : List ℕ) → Contains chain dataset → record_at records dataset name ≡ None)
-      → (entry_exists records chain name ≡ false) × (modtime_of records chain name ≡ None) × ((attribute : List ℕ) → resolved records chain name attribute ≡ None)
+      → (entry_exists records chain name ≡ false) × (modtime_of records chain name ≡ None) × ((attribute : List ℕ) → lookup records chain name attribute ≡ None)
   pub within : (records : Stored) (chain : List (List ℕ)) (name attribute : List ℕ) (cell : Cell) (dataset : List ℕ)
-      → resolved records chain name attribute ≡ Some (cell, dataset) → Contains chain dataset
+      → lookup records chain name attribute ≡ Some (cell, dataset) → Contains chain dataset
 
 -- two stores have the same record of an entry in each of some datasets
 abbrev pub AgreeOn : Stored → Stored → List (List ℕ) → List ℕ → Type 0
@@ -104,7 +104,7 @@ pub record ReadingLaw : Type 0 where
   pub chain : (old new : Stored) (dataset : List ℕ) (no_inherit : Bool) → AgreeOn old new (take 7 (chain_of old dataset no_inherit)) []
       → chain_of old dataset no_inherit ≡ chain_of new dataset no_inherit
   pub attribute : (old new : Stored) (chain : List (List ℕ)) (name attribute : List ℕ) → AgreeOn old new (members_of chain name attribute) name
-      → resolved old chain name attribute ≡ resolved new chain name attribute
+      → lookup old chain name attribute ≡ lookup new chain name attribute
   pub existence : (old new : Stored) (chain : List (List ℕ)) (name : List ℕ) → AgreeOn old new (members_for chain name) name → entry_exists old chain name ≡ entry_exists new chain name
   pub moment : (old new : Stored) (chain : List (List ℕ)) (name : List ℕ) → AgreeOn old new (members_for chain name) name → modtime_of old chain name ≡ modtime_of new chain name
   pub names : (old new : Stored) (chain : List (List ℕ)) → ((name dataset : List ℕ) → Contains chain dataset → is_some (record_at old dataset name) ≡ is_some (record_at new dataset name))

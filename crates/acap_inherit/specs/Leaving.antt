@@ -7,9 +7,9 @@ use Rattle.acap_entries.specs.declared.after.After.{After}
 use Rattle.acap_entries.specs.declared.change.Change.{Change}
 use Rattle.acap_entries.specs.declared.path.Path.{Path}
 use Rattle.acap_inherit.specs.EntryNames.{names_on}
-use Rattle.acap_inherit.specs.Index.{IsIndexOf, links_written, settled}
+use Rattle.acap_inherit.specs.Index.{IsIndexOf, links_written, index_with}
 use Rattle.acap_inherit.specs.NamesAfter.{name_left, names_left_written, names_left_stored, names_left}
-use Rattle.acap_inherit.specs.Touched.{in_order, touched, touched_at, datasets_touched}
+use Rattle.acap_inherit.specs.Touched.{in_order, touched_paths, touched_at, datasets_touched}
 use Rattle.acap_inherit.specs.Touching.{paths_along, paths_below, paths_in, paths_stored, paths_found, touched_dataset, datasets_found}
 use Rattle.acap_inherit.specs.declared.link.Link.{Link}
 use Rattle.acap_inherit.specs.declared.touched_dataset.TouchedDataset.{TouchedDataset}
@@ -18,7 +18,7 @@ use Rattle.acap_inherit.specs.declared.touched_dataset.TouchedDataset.{TouchedDa
 
 -- the touched paths, those of one dataset, and the datasets in which they are
 abbrev pub AreTouched : Change → Store → List Path → Type 0
-AreTouched change old paths = ForStoreAfter change old (λ new. paths ≡ touched change.writes old.records new.records)
+AreTouched change old paths = ForStoreAfter change old (λ new. paths ≡ touched_paths change.writes old.records new.records)
 
 abbrev pub AreTouchedAt : Change → Store → List ℕ → List Path → Type 0
 AreTouchedAt change old dataset paths = ForStoreAfter change old (λ new. paths ≡ touched_at change.writes old.records new.records dataset)
@@ -29,7 +29,7 @@ AreTouchedDatasets change old made =
 
 -- what makes the index of afterwards of that of before
 abbrev pub IsPrepared : Change → Store → List Link → List Link × List Link → Type 0
-IsPrepared change old links made = ForStoreAfter change old (λ new. IsIndexOf new.records (settled made links))
+IsPrepared change old links made = ForStoreAfter change old (λ new. IsIndexOf new.records (index_with made links))
 
 -- the names along a chain
 abbrev pub AreNamesAfter : Change → Store → List (List ℕ) → List (List ℕ) → Type 0

@@ -14,9 +14,9 @@ is_rising [] = true
 is_rising (name ∷ names) = is_below name names && is_rising names
 
 -- without the first name, if it is that one
-abbrev pub passed : List ℕ → List (List ℕ) → List (List ℕ)
-passed name [] = []
-passed name (first ∷ names) = if octets_eq name first then names else first ∷ names
+abbrev pub past_name : List ℕ → List (List ℕ) → List (List ℕ)
+past_name name [] = []
+past_name name (first ∷ names) = if octets_eq name first then names else first ∷ names
 
 -- whether a list has no name, begins with a name, begins with no lesser one
 abbrev pub is_ended : List (List ℕ) → Bool

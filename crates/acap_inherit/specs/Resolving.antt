@@ -70,10 +70,10 @@ abbrev pub modtime_on : Stored → List (List ℕ) → List ℕ → Option ℤ
 modtime_on records chain name = greatest (map (λ entry. entry.modtime) (until_end (records_along records chain name)))
 
 -- as a value it is the moment's stamp, and lies where it was looked for
-abbrev pub stamped : List (List ℕ) → Option ℤ → Resolution
-stamped chain None = None
-stamped [] (Some moment) = None
-stamped (dataset ∷ chain) (Some moment) = Some (Single (stamp_of moment), dataset)
+abbrev pub stamp_value : List (List ℕ) → Option ℤ → Resolution
+stamp_value chain None = None
+stamp_value [] (Some moment) = None
+stamp_value (dataset ∷ chain) (Some moment) = Some (Single (stamp_of moment), dataset)
 
 -- ---- what is inherited
 
@@ -86,10 +86,10 @@ abbrev pub members_of : List (List ℕ) → List ℕ → List ℕ → List (List
 members_of chain name attribute = if octets_eq attribute (codes "subdataset") then take 1 chain else members_for chain name
 
 -- the answer to each attribute: the entry's name, its moment, and what is stored
-unfoldable pub resolved : Stored → List (List ℕ) → List ℕ → List ℕ → Resolution
-resolved records chain name attribute =
+unfoldable pub lookup : Stored → List (List ℕ) → List ℕ → List ℕ → Resolution
+lookup records chain name attribute =
     if octets_eq attribute (codes "entry") then entry_on records (members_for chain name) name
-    else (if octets_eq attribute (codes "modtime") then stamped chain (modtime_on records (members_for chain name) name)
+    else (if octets_eq attribute (codes "modtime") then stamp_value chain (modtime_on records (members_for chain name) name)
     else value_on records (members_of chain name attribute) name attribute)
 
 -- whether the entry exists

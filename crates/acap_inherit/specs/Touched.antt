@@ -44,11 +44,11 @@ is_touched written old new p =
 abbrev pub paths_known : Written → Stored → List Path
 paths_known written old = each (λ e. e.0) (map.entries old) ++ each (λ e. e.0) (map.entries written)
 
-abbrev pub crossed : List Path → List Path → List Path
-crossed datasets names = flat_map (λ d. each (λ n. record { dataset = d.dataset; name = n.name }) names) datasets
+abbrev pub paths_across : List Path → List Path → List Path
+paths_across datasets names = flat_map (λ d. each (λ n. record { dataset = d.dataset; name = n.name }) names) datasets
 
 abbrev pub in_question : Written → Stored → List Path
-in_question written old = crossed (paths_known written old) (paths_known written old)
+in_question written old = paths_across (paths_known written old) (paths_known written old)
 
 -- the order of full octets. Paths that differ have other octets, if they are well formed; else their datasets tell them apart
 abbrev pub by_octets : Path → Path → Ordering
@@ -67,12 +67,12 @@ abbrev pub in_order : List Path → List Path
 in_order paths = ordered_among by_octets paths []
 
 -- the paths that a change touches
-unfoldable pub touched : Written → Stored → Stored → List Path
-touched written old new = in_order (filter (is_touched written old new) (in_question written old))
+unfoldable pub touched_paths : Written → Stored → Stored → List Path
+touched_paths written old new = in_order (filter (is_touched written old new) (in_question written old))
 
 -- the datasets of these, each once, and of one dataset those that are in it
 abbrev pub datasets_touched : Written → Stored → Stored → List (List ℕ)
-datasets_touched written old new = ordered_among octets_cmp (each (λ p. p.dataset) (touched written old new)) []
+datasets_touched written old new = ordered_among octets_cmp (each (λ p. p.dataset) (touched_paths written old new)) []
 
 abbrev pub touched_at : Written → Stored → Stored → List ℕ → List Path
-touched_at written old new dataset = filter (λ p. octets_eq dataset p.dataset) (touched written old new)
+touched_at written old new dataset = filter (λ p. octets_eq dataset p.dataset) (touched_paths written old new)

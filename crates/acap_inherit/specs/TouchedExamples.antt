@@ -10,7 +10,7 @@ use Rattle.acap_entries.specs.declared.fate.Fate.{Fate}
 use Rattle.acap_entries.specs.declared.fate.Fate.TheVariants.{Put, Remove}
 use Rattle.acap_entries.specs.declared.path.Path.{Path}
 use Rattle.acap_entries.specs.declared.record.Record.{Record}
-use Rattle.acap_inherit.specs.Touched.{is_touched, touched}
+use Rattle.acap_inherit.specs.Touched.{is_touched, touched_paths}
 
 -- a record that is present, by its attributes
 abbrev pub Attributes : Type 0
@@ -38,7 +38,7 @@ writes_of rows = map.from_entries (each (λ row. (row.0, fate_of row.1)) rows)
 
 -- what those writes touch in that store, whatever is left is a store after them
 abbrev pub Touches : List (Path × Attributes) → List (Path × Option Attributes) → List Path → Type 0
-Touches rows writes paths = (new : Stored) → IsPathByPath (writes_of writes) (store_of rows) new → touched (writes_of writes) (store_of rows) new ≡ paths
+Touches rows writes paths = (new : Stored) → IsPathByPath (writes_of writes) (store_of rows) new → touched_paths (writes_of writes) (store_of rows) new ≡ paths
 
 -- the same of one path
 abbrev pub TouchesOne : List (Path × Attributes) → List (Path × Option Attributes) → Path → Bool → Type 0
@@ -59,11 +59,11 @@ abbrev pub entry : List ℕ → List ℕ → Path × Attributes
 entry dataset name = (at dataset name, [])
 
 -- a record, and the removal of one
-abbrev pub put : Path × Attributes → Path × Option Attributes
-put row = (row.0, Some row.1)
+abbrev pub new_row : Path × Attributes → Path × Option Attributes
+new_row row = (row.0, Some row.1)
 
-abbrev pub removed : List ℕ → List ℕ → Path × Option Attributes
-removed dataset name = (at dataset name, None)
+abbrev pub no_row : List ℕ → List ℕ → Path × Option Attributes
+no_row dataset name = (at dataset name, None)
 
 -- a list for the rights in a dataset
 abbrev pub lists : List ℕ → Path × Attributes
@@ -97,28 +97,28 @@ nine =
 
 pub record TouchedExamples : Type 0 where
   -- a record of a dataset that no one inherits, in the dataset that it is in alone
-  pub own : Touches three (put (entry a x) ∷ []) (at a x ∷ [])
+  pub own : Touches three (new_row (entry a x) ∷ []) (at a x ∷ [])
   -- a record of a base is seen by its heir, and by the heir's heir
-  pub heirs : Touches (three ++ inherits b a ∷ inherits c b ∷ []) (put (entry a x) ∷ []) (at a x ∷ at b x ∷ at c x ∷ [])
+  pub heirs : Touches (three ++ inherits b a ∷ inherits c b ∷ []) (new_row (entry a x) ∷ []) (at a x ∷ at b x ∷ at c x ∷ [])
   -- each other's base
-  pub ring : Touches (three ++ inherits a b ∷ inherits b a ∷ []) (put (entry a x) ∷ []) (at a x ∷ at b x ∷ [])
+  pub ring : Touches (three ++ inherits a b ∷ inherits b a ∷ []) (new_row (entry a x) ∷ []) (at a x ∷ at b x ∷ [])
   -- of nine in a row the last is too far from the first, and not from the second
-  pub ninth : TouchesOne nine (put (entry (codes "/i/") x) ∷ []) (at a x) false
-  pub eighth : TouchesOne nine (put (entry (codes "/i/") x) ∷ []) (at b x) true
+  pub ninth : TouchesOne nine (new_row (entry (codes "/i/") x) ∷ []) (at a x) false
+  pub eighth : TouchesOne nine (new_row (entry (codes "/i/") x) ∷ []) (at b x) true
   -- a list of a base, or anything else of its management entry, is looked at for each entry that is seen through it; an entry that has
   -- no record there is none of these
-  pub listed : Touches (three ++ inherits b a ∷ entry a x ∷ entry b y ∷ entry c x ∷ []) (put (lists a) ∷ [])
+  pub listed : Touches (three ++ inherits b a ∷ entry a x ∷ entry b y ∷ entry c x ∷ []) (new_row (lists a) ∷ [])
       (at a [] ∷ at a x ∷ at b [] ∷ at b x ∷ at b y ∷ [])
   -- another base: what was seen, what is seen, and what the dataset has itself
-  pub rebased : Touches (three ++ inherits c a ∷ entry a x ∷ entry b y ∷ entry c (codes "z") ∷ []) (put (inherits c b) ∷ [])
+  pub rebased : Touches (three ++ inherits c a ∷ entry a x ∷ entry b y ∷ entry c (codes "z") ∷ []) (new_row (inherits c b) ∷ [])
       (at c [] ∷ at c x ∷ at c y ∷ at c (codes "z") ∷ [])
   -- a dataset that comes to be with its first entry; one that doesn't is not told of
-  pub made : Touches (dataset (codes "a") ∷ []) (put (dataset (codes "b")) ∷ put (entry b x) ∷ []) (at (codes "/") (codes "b") ∷ at b x ∷ [])
-  pub not_made : Touches (dataset (codes "a") ∷ []) (put (entry b x) ∷ []) []
+  pub made : Touches (dataset (codes "a") ∷ []) (new_row (dataset (codes "b")) ∷ new_row (entry b x) ∷ []) (at (codes "/") (codes "b") ∷ at b x ∷ [])
+  pub not_made : Touches (dataset (codes "a") ∷ []) (new_row (entry b x) ∷ []) []
   -- the removal of a record over a base's
-  pub uncovered : Touches (three ++ inherits b a ∷ entry a x ∷ entry b x ∷ []) (removed b x ∷ []) (at b x ∷ [])
+  pub uncovered : Touches (three ++ inherits b a ∷ entry a x ∷ entry b x ∷ []) (no_row b x ∷ []) (at b x ∷ [])
   -- a management entry of a dataset that inherits nothing
-  pub managed : Touches (three ++ entry a x ∷ entry b y ∷ []) (put (lists a) ∷ []) (at a [] ∷ at a x ∷ [])
+  pub managed : Touches (three ++ entry a x ∷ entry b y ∷ []) (new_row (lists a) ∷ []) (at a [] ∷ at a x ∷ [])
   -- the order is that of full octets, in which `!` comes before `/`
   pub ordered : Touches (three ++ (at (codes "/a/") (codes "b"), (codes "subdataset", Multi (codes "." ∷ [])) ∷ []) ∷ [])
-      (put (entry (codes "/a/b/") x) ∷ put (entry a (codes "b!")) ∷ []) (at a (codes "b!") ∷ at (codes "/a/b/") x ∷ [])
+      (new_row (entry (codes "/a/b/") x) ∷ new_row (entry a (codes "b!")) ∷ []) (at a (codes "b!") ∷ at (codes "/a/b/") x ∷ [])

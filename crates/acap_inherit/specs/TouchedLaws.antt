@@ -10,8 +10,8 @@ use Rattle.acap_entries.specs.Store.{Stored, Written, IsPathByPath}
 use Rattle.acap_entries.specs.declared.path.Path.{Path}
 use Rattle.acap_inherit.specs.Chains.{chain_of}
 use Rattle.acap_inherit.specs.Laws.{AgreeOn}
-use Rattle.acap_inherit.specs.Resolving.{resolved, entry_exists, modtime_of}
-use Rattle.acap_inherit.specs.Touched.{has_record_on, is_touched, by_octets, in_order, touched, datasets_touched, touched_at}
+use Rattle.acap_inherit.specs.Resolving.{lookup, entry_exists, modtime_of}
+use Rattle.acap_inherit.specs.Touched.{has_record_on, is_touched, by_octets, in_order, touched_paths, datasets_touched, touched_at}
 
 -- writes lead from one store to another, in both of which the dataset of each record exists, and take no dataset away
 pub record IsStep (written : Written) (old new : Stored) : Type 0 where
@@ -35,7 +35,7 @@ pub record IsNowhere (old new : Stored) (dataset name : List ℕ) : Type 0 where
 -- two stores answer alike of an entry, whether what is inherited is asked for or the dataset alone
 pub record IsAnsweredAlike (old new : Stored) (dataset name : List ℕ) : Type 0 where
   pub attribute : (no_inherit : Bool) (attribute : List ℕ)
-      → resolved old (chain_of old dataset no_inherit) name attribute ≡ resolved new (chain_of new dataset no_inherit) name attribute
+      → lookup old (chain_of old dataset no_inherit) name attribute ≡ lookup new (chain_of new dataset no_inherit) name attribute
   pub existence : (no_inherit : Bool) → entry_exists old (chain_of old dataset no_inherit) name ≡ entry_exists new (chain_of new dataset no_inherit) name
   pub moment : (no_inherit : Bool) → modtime_of old (chain_of old dataset no_inherit) name ≡ modtime_of new (chain_of new dataset no_inherit) name
 
@@ -50,7 +50,7 @@ pub record UnreadLaw : Type 0 where
 -- that are split at their last slash, as all of a store are, are told apart by these alone. Those of each touched dataset are all of them together
 pub record TouchedPathsLaw : Type 0 where
   pub all : (written : Written) (old new : Stored) → IsPathByPath written old new → (p : Path)
-      → list_any (eq_by_cmp by_octets p) (touched written old new) ≡ is_touched written old new p
-  pub rises : (written : Written) (old new : Stored) → Ascending by_octets (touched written old new)
-  pub together : (written : Written) (old new : Stored) → in_order (flat_map (touched_at written old new) (datasets_touched written old new)) ≡ touched written old new
+      → list_any (eq_by_cmp by_octets p) (touched_paths written old new) ≡ is_touched written old new p
+  pub rises : (written : Written) (old new : Stored) → Ascending by_octets (touched_paths written old new)
+  pub together : (written : Written) (old new : Stored) → in_order (flat_map (touched_at written old new) (datasets_touched written old new)) ≡ touched_paths written old new
   pub formed : (a b : Path) → IsSplit a → IsSplit b → by_octets a b ≡ full_path_cmp a b

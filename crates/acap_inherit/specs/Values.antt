@@ -9,7 +9,7 @@ use Rattle.acap_inherit.specs.declared.found.Found.{Found}
 use Rattle.acap_inherit.specs.declared.found.Found.TheVariants.{Nil, At}
 use Rattle.acap_entries.specs.Store.{Store}
 use Rattle.acap_inherit.specs.Chains.{chain_of}
-use Rattle.acap_inherit.specs.Resolving.{Resolution, value_on, entry_on, modtime_on, resolved}
+use Rattle.acap_inherit.specs.Resolving.{Resolution, value_on, entry_on, modtime_on, lookup}
 
 abbrev pub cell_of : Lent → Cell
 cell_of (Single text) = cell.Single text.now
@@ -22,7 +22,7 @@ found_of (At dataset value) = Some (cell_of value, dataset.now)
 
 -- what an attribute resolves to along the chain of a dataset
 abbrev pub resolved_in : Store → List ℕ → Bool → List ℕ → List ℕ → Resolution
-resolved_in store dataset no_inherit name attribute = resolved store.records (chain_of store.records dataset no_inherit) name attribute
+resolved_in store dataset no_inherit name attribute = lookup store.records (chain_of store.records dataset no_inherit) name attribute
 
 abbrev pub Resolves : Store → List ℕ → Bool → List ℕ → List ℕ → Found → Type 0
 Resolves store dataset no_inherit name attribute found = found_of found ≡ resolved_in store dataset no_inherit name attribute

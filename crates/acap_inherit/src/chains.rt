@@ -20,7 +20,7 @@ pub(crate) fn base_of<'a, R: Records>(records: &'a R, dataset: &[u8]) -> Option<
 }
 
 // The dataset, the one that it inherits from, and so on.
-fn inherited<'a, R: Records>(records: &'a R, dataset: &'a [u8]) -> Lineage<'a>
+fn follow_bases<'a, R: Records>(records: &'a R, dataset: &'a [u8]) -> Lineage<'a>
     ensures { result ≡ rule.chain_within 8 (R.store records.now).records dataset.now }
 {
     let mut names = ArrayVec::new();
@@ -46,5 +46,5 @@ pub fn chain<'a, R: Records>(records: &'a R, dataset: &'a Dataset, no_inherit: b
         names.push(dataset.as_slice());
         return Lineage { names };
     }
-    inherited(records, dataset.as_slice())
+    follow_bases(records, dataset.as_slice())
 }

@@ -20,12 +20,12 @@ pub struct EntryNames<'a> {
 impl<'a> Model for EntryNames<'a> {
     ghost use Rattle.std.specs.Prelude.{◌≡◌, ℕ, true, List};
     ghost use Rattle.std.specs.List.{list_all};
-    ghost use Rattle.acap_inherit.specs.EntryNames.{merged};
+    ghost use Rattle.acap_inherit.specs.EntryNames.{union_of};
     ghost use Rattle.acap_inherit.specs.Merging.{is_rising};
 
     ghost Value = { List (List ℕ) };
 
-    ghost view = { λ n. merged n.ranges.items };
+    ghost view = { λ n. union_of n.ranges.items };
 
     ghost invariant = { λ n. list_all is_rising n.ranges.items ≡ true };
 }

@@ -1,8 +1,7 @@
 //! Which datasets inherit from some, by the index.
-ghost use Rattle.std.specs.Prelude.{◌≡◌, ◌++◌, [], ◌∷◌, map, IfOk, OnOk};
+ghost use Rattle.std.specs.Prelude.{◌≡◌, ◌++◌, [], map, IfOk, OnOk};
 ghost use Rattle.std.specs.FinMap as table;
 ghost use Rattle.std.specs.List.{flat_map};
-ghost use Rattle.acap_entries.specs.Orders.{octets_cmp};
 ghost use Rattle.acap_inherit.specs.Index.{heirs_in};
 ghost use Rattle.acap_inherit.specs.Touched.{ordered_among};
 ghost use Rattle.acap_inherit.specs.Touching as rule;
@@ -31,7 +30,7 @@ impl<'a> Probe<Boxed<Link>> for FirstHeir<'a> {
 }
 
 // A copy of a dataset in a box.
-fn boxed(alloc: Global, dataset: &Dataset) -> Result<Boxed<Dataset>, Memory>
+fn box_copy(alloc: Global, dataset: &Dataset) -> Result<Boxed<Dataset>, Memory>
     ensures { IfOk result (λ made. made ≡ dataset.now) }
 {
     Boxed::new(alloc, dataset.copy()?)
@@ -55,7 +54,7 @@ fn add_heirs(
         if base != link.base.as_slice() {
             return Ok(());
         }
-        heirs.push(boxed(alloc, &link.heir)?)?;
+        heirs.push(box_copy(alloc, &link.heir)?)?;
     }
     Ok(())
 }
@@ -89,12 +88,12 @@ pub(crate) fn put_among<T: Ord + Drop>(
 }
 
 // Copies of the datasets in which something is written, one for each record.
-fn all_written(alloc: Global, writes: &Writes) -> Result<Vec<Boxed<Dataset>>, Memory>
+fn copy_written(alloc: Global, writes: &Writes) -> Result<Vec<Boxed<Dataset>>, Memory>
     ensures { IfOk result (λ datasets. datasets.items ≡ map (λ w. w.0.dataset) (table.entries writes.now)) }
 {
     let mut datasets = Vec::new(alloc);
     for (path, _) in writes.entries() {
-        datasets.push(boxed(alloc, &path.dataset)?)?;
+        datasets.push(box_copy(alloc, &path.dataset)?)?;
     }
     Ok(datasets)
 }
@@ -104,10 +103,10 @@ fn datasets_written(alloc: Global, writes: &Writes) -> Result<Vec<Boxed<Dataset>
     ensures { IfOk result (λ datasets. datasets.items ≡ rule.datasets_written writes.now) }
 {
     let mut ranked = Ranked::new(alloc);
-    put_among(&mut ranked, all_written(alloc, writes)?)?;
+    put_among(&mut ranked, copy_written(alloc, writes)?)?;
     let mut datasets = Vec::with_capacity(alloc, ranked.len())?;
     for dataset in ranked.iter() {
-        datasets.push(boxed(alloc, dataset.get())?)?;
+        datasets.push(box_copy(alloc, dataset.get())?)?;
     }
     Ok(datasets)
 }

@@ -4,7 +4,7 @@ use acap_entries::{Copying, Dataset, Memory, Value};
 
 /// That a dataset names another as the one that it inherits from. Ordered by base, then by heir, so that the heirs of a
 /// base lie together (RFC 2244 section 5.2).
-#[derive(PartialEq, Eq, PartialOrd, Ord, Drop)]
+#[derive(Clone, PartialEq, Eq, PartialOrd, Ord, Drop)]
 pub struct Link {
     /// What is inherited from: any octets, as they are stored.
     pub base: Value,
@@ -14,8 +14,6 @@ pub struct Link {
 
 impl Copying for Link {
     fn copy(&self) -> Result<Link, Memory> {
-        let base = self.base.copy()?;
-        let heir = self.heir.copy()?;
-        Ok(Link { base, heir })
+        self.clone()
     }
 }

@@ -9,7 +9,7 @@ use acap_entries::{Boxed, Change, Copying, Dataset, Memory, Ranked, Records, Val
 use std::alloc::Global;
 
 // A pair in a box.
-fn linked(alloc: Global, base: &[u8], heir: &Dataset) -> Result<Boxed<Link>, Memory>
+fn box_link(alloc: Global, base: &[u8], heir: &Dataset) -> Result<Boxed<Link>, Memory>
     ensures { IfOk result (λ made. made ≡ record { base = base.now; heir = heir.now }) }
 {
     let base = Value::from_slice(alloc, base)?;
@@ -31,7 +31,7 @@ pub(crate) fn links_written<R: Records>(
         if path.name.as_slice().is_empty()
             && let Some(base) = base_of(records, path.dataset.as_slice())
         {
-            links.push(linked(alloc, base, &path.dataset)?)?;
+            links.push(box_link(alloc, base, &path.dataset)?)?;
         }
     }
     Ok(links)

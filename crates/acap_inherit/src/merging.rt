@@ -36,7 +36,7 @@ pub(crate) fn least_of<'a>(ranges: &[Range<'a>]) -> Option<&'a EntryName>
 
 /// Passes a name wherever it is the first.
 pub(crate) fn pass_all(ranges: &mut [Range<'_>], name: &EntryName)
-    ensures { ranges.new ≡ map (rule.passed name.now) ranges.old }
+    ensures { ranges.new ≡ map (rule.past_name name.now) ranges.old }
 {
     for range in ranges.iter_mut() {
         range.pass(name);

@@ -1,7 +1,7 @@
 //! The names of one dataset's records.
 ghost use Rattle.std.specs.Prelude.{◌≡◌, map, slice_get};
 ghost use Rattle.std.specs.Option.{option_copied};
-ghost use Rattle.acap_inherit.specs.Merging.{passed};
+ghost use Rattle.acap_inherit.specs.Merging.{past_name};
 
 use acap_entries::{EntryName, Listing};
 use std::marker::Model;
@@ -46,7 +46,7 @@ impl<'a> Range<'a> {
 
     /// Passes a name, if it is the first.
     pub(crate) fn pass(&mut self, name: &EntryName)
-        ensures { self.new ≡ passed name.now self.old }
+        ensures { self.new ≡ past_name name.now self.old }
     {
         if self.first() == Some(name)
             && let Some((_, records)) = self.left.take()

@@ -1,7 +1,7 @@
 //! The index from datasets to those that inherit from them, kept up to date by changes.
 ghost use Rattle.std.specs.Prelude.{◌≡◌, ◌≤◌, length, IfOk, OnOk};
 ghost use Rattle.acap_entries.specs.Store.{empty_store};
-ghost use Rattle.acap_inherit.specs.Index.{IsIndexOf, settled};
+ghost use Rattle.acap_inherit.specs.Index.{IsIndexOf, index_with};
 ghost use Rattle.acap_inherit.specs.Leaving.{IsPrepared, AreTouched, AreTouchedDatasets};
 ghost use Rattle.acap_inherit.specs.Values.{Resolves};
 
@@ -83,7 +83,7 @@ impl Resolved {
     /// Does what was prepared, in the room that there is. Takes no memory and cannot fail.
     pub fn commit(&mut self, prepared: Prepared)
         requires { length prepared.1 ≤ self.old.1 }
-        ensures { self.new.0 ≡ settled prepared self.old.0 }
+        ensures { self.new.0 ≡ index_with prepared self.old.0 }
     {
         let Prepared { taken, put } = prepared;
         take_all(&mut self.links, taken);

@@ -69,7 +69,7 @@ fn value_on<'a, R: Records>(
 }
 
 // The name of an entry, if the record that decides is present.
-fn named<'a>(entry: &Record, dataset: &'a [u8], name: &'a [u8]) -> Found<'a>
+fn find_name<'a>(entry: &Record, dataset: &'a [u8], name: &'a [u8]) -> Found<'a>
     ensures { found_of result ≡ rule.by_presence (Some entry.now) name.now dataset.now None }
 {
     if !entry.present {
@@ -87,7 +87,7 @@ fn entry_on<'a, R: Records>(records: &'a R, members: &[&'a [u8]], name: &'a [u8]
 {
     for member in members {
         if let Some(record) = records.find(member, name) {
-            return named(record, *member, name);
+            return find_name(record, *member, name);
         }
     }
     Found::Nil
@@ -140,8 +140,8 @@ fn members_of<'s, 'a>(chain: &'s Lineage<'a>, name: &[u8], attribute: &[u8]) -> 
 }
 
 // A moment as a value, which lies where it was looked for.
-fn stamped<'a>(chain: &Lineage<'a>, moment: Option<Moment>) -> Found<'a>
-    ensures { found_of result ≡ rule.stamped chain.now moment }
+fn lend_stamp<'a>(chain: &Lineage<'a>, moment: Option<Moment>) -> Found<'a>
+    ensures { found_of result ≡ rule.stamp_value chain.now moment }
 {
     match moment {
         Some(moment) => {
@@ -159,19 +159,19 @@ fn stamped<'a>(chain: &Lineage<'a>, moment: Option<Moment>) -> Found<'a>
 /// entry that exists, and lies where its first record is; `modtime` is the stamp of its moment, and lies in the first
 /// dataset; `subdataset` and all of the management entry, whose name is empty, are those of the first dataset alone. Takes
 /// no memory.
-#[tactic(auto, unfolding(crate::specs::Resolving::resolved))]
+#[tactic(auto, unfolding(crate::specs::Resolving::lookup))]
 pub fn resolve<'a, R: Records>(
     records: &'a R,
     chain: &Lineage<'a>,
     name: &'a [u8],
     attribute: &[u8],
 ) -> Found<'a>
-    ensures { found_of result ≡ rule.resolved (R.store records.now).records chain.now name.now attribute.now }
+    ensures { found_of result ≡ rule.lookup (R.store records.now).records chain.now name.now attribute.now }
 {
     if attribute == b"entry".as_slice() {
         entry_on(records, members_for(chain, name), name)
     } else if attribute == b"modtime".as_slice() {
-        stamped(chain, modtime_on(records, members_for(chain, name), name))
+        lend_stamp(chain, modtime_on(records, members_for(chain, name), name))
     } else {
         value_on(records, members_of(chain, name, attribute), name, attribute)
     }

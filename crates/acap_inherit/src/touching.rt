@@ -127,7 +127,7 @@ fn add_touched(
 }
 
 // Copies of paths.
-fn listed(paths: &Ranked<Boxed<FullPath>>, mut made: Paths) -> Result<Paths, Memory>
+fn copy_paths(paths: &Ranked<Boxed<FullPath>>, mut made: Paths) -> Result<Paths, Memory>
     requires { made ≡ [] }
     ensures { IfOk result (λ made. made ≡ paths.now.0) }
 {
@@ -144,7 +144,7 @@ fn in_order(found: Vec<Boxed<FullPath>>) -> Result<Paths, Memory>
     let alloc = *found.allocator();
     let mut paths = Ranked::new(alloc);
     put_among(&mut paths, found)?;
-    listed(&paths, Paths::new(alloc))
+    copy_paths(&paths, Paths::new(alloc))
 }
 
 /// The touched paths of some datasets. Fails only for want of memory.

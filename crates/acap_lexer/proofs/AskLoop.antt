@@ -1,7 +1,7 @@
 -- What the loop over a command's continuations keeps, and how it ends.
 use Rattle.std.proofs.Common.{◌≡◌, ℕ, ◌-◌, ◌<◌, List, [], ◌∷◌, ◌++◌, None, sym, ap, subst, ◌∙◌, arith}
-use Rattle.acap_lexer.specs.declared.asked.Asked.{Asked}
-use Rattle.acap_lexer.specs.declared.asked.Asked.TheVariants as asked
+use Rattle.acap_lexer.specs.declared.answered.Answered.{Answered}
+use Rattle.acap_lexer.specs.declared.answered.Answered.TheVariants as asked
 use Rattle.acap_lexer.specs.declared.lexed.Lexed.{Lexed}
 use Rattle.acap_lexer.specs.declared.lexed.Lexed.TheVariants.{More, Plus, Line, Bad, Fatal}
 use Rattle.acap_lexer.specs.declared.mode.Mode.{Mode}
@@ -43,7 +43,7 @@ by_lexed Plus mode old said here new now s t = (λ modes more. s.owes modes more
 by_lexed (Line tokens) mode old said here new now s t = (λ modes more. s.owes modes more ∙ owes_item mode modes here new (Line tokens) now s.going t more, ap (λ h. h.fatal) t.is)
 by_lexed (Bad fault tag) mode old said here new now s t = (λ modes more. s.owes modes more ∙ owes_item mode modes here new (Bad fault tag) now s.going t more, ap (λ h. h.fatal) t.is)
 
-pub takes : (lexed : Lexed) (asked : Asked) (mode : Mode) (old : Held) (said : List Lexed) (here new : Held) (now : List Lexed) → asked ≡ how_whole lexed → (lexed ≡ Plus → ⊥) → (lexed ≡ More → ⊥)
+pub takes : (lexed : Lexed) (asked : Answered) (mode : Mode) (old : Held) (said : List Lexed) (here new : Held) (now : List Lexed) → asked ≡ how_whole lexed → (lexed ≡ Plus → ⊥) → (lexed ≡ More → ⊥)
     → IsSoFar mode old said here now → Next mode here lexed new → AsksFor mode old said new (now ++ lexed ∷ []) asked
 takes lexed asked mode old said here new now e not_plus not_more s n =
     rw e (by_lexed lexed mode old said here new now s (item_cases mode here new lexed s.going not_plus not_more n))

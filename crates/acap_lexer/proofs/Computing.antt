@@ -6,13 +6,13 @@ use Rattle.std.specs.Fmt.{digits}
 use Rattle.acap_lexer.specs.Octets.{is_word, is_tag, is_quotable, is_escaped, is_digit}
 use Rattle.acap_lexer.specs.Reading.{quoted_at, escaped_at, string_at, is_count, count_of, closing_of, mark_of, stray, token_at, may_touch, gap_behind, ends_tag, tag_at}
 use Rattle.acap_lexer.specs.Part.{part_within}
-use Rattle.acap_lexer.specs.Printing.{is_printable, may_quote, quoted, literal, printed}
-use Rattle.acap_lexer.specs.Stream.{end_of, part_end, said, step_of, progress_within, progress_from, progress}
+use Rattle.acap_lexer.specs.Printing.{is_printable, may_quote, quoted_form, literal, printed_form}
+use Rattle.acap_lexer.specs.Stream.{end_of, part_end, step_of_part, step_of, progress_within, progress_from, progress}
 use Rattle.acap_lexer.specs.Held.{next_of, answers_from}
 use Rattle.acap_lexer.specs.Examples.{Examples, OctetExamples, LimitExamples, HeldExamples, PrintedExamples}
 
 pub examples : Examples
-unfolding is_word is_tag is_quotable is_escaped is_digit quoted_at escaped_at string_at is_count count_of closing_of mark_of stray token_at may_touch gap_behind ends_tag tag_at part_within end_of part_end said step_of progress_within progress_from progress
+unfolding is_word is_tag is_quotable is_escaped is_digit quoted_at escaped_at string_at is_count count_of closing_of mark_of stray token_at may_touch gap_behind ends_tag tag_at part_within end_of part_end step_of_part step_of progress_within progress_from progress
 examples = record {
   noop = refl;
   unfinished = refl;
@@ -62,7 +62,7 @@ octet_examples = record {
 }
 
 pub limit_examples : LimitExamples
-unfolding is_word is_tag is_quotable is_escaped is_digit quoted_at escaped_at string_at is_count count_of closing_of mark_of stray token_at may_touch gap_behind ends_tag tag_at part_within end_of part_end said step_of progress_within progress_from progress
+unfolding is_word is_tag is_quotable is_escaped is_digit quoted_at escaped_at string_at is_count count_of closing_of mark_of stray token_at may_touch gap_behind ends_tag tag_at part_within end_of part_end step_of_part step_of progress_within progress_from progress
 limit_examples = record {
   string_of_1024 = refl;
   string_of_1025 = refl;
@@ -86,7 +86,7 @@ limit_examples = record {
 }
 
 pub held_examples : HeldExamples
-unfolding is_word is_tag is_quotable is_escaped is_digit quoted_at escaped_at string_at is_count count_of closing_of mark_of stray token_at may_touch gap_behind ends_tag tag_at part_within end_of part_end said step_of progress_within progress_from progress next_of answers_from
+unfolding is_word is_tag is_quotable is_escaped is_digit quoted_at escaped_at string_at is_count count_of closing_of mark_of stray token_at may_touch gap_behind ends_tag tag_at part_within end_of part_end step_of_part step_of progress_within progress_from progress next_of answers_from
 held_examples = record {
   tells = refl;
   told = refl;
@@ -98,7 +98,7 @@ held_examples = record {
 }
 
 pub printed_examples : PrintedExamples
-unfolding is_escaped is_printable may_quote is_utf8 chars encode_utf8 digits quoted literal printed
+unfolding is_escaped is_printable may_quote is_utf8 chars encode_utf8 digits quoted_form literal printed_form
 printed_examples = record {
   empty = refl;
   quotes = refl;

@@ -1,7 +1,7 @@
 -- Values in the copy of a part.
 use Rattle.std.proofs.Common.{◌≡◌, ℕ, ◌+◌, ◌-◌, ◌≤◌, Bool, true, false, cond, List, [], ◌∷◌, ◌++◌, length, take, drop, Option, Some, None, Result, Ok, Err, refl, sym, ap, ◌∙◌, subst, append_assoc, arith, length-append, eqb, leb, slice_index}
 use Rattle.std.specs.List.{prefix_len}
-use Rattle.std.proofs.lemmas.List.{append-nil, drop_at, take-append-le, take-append-drop}
+use Rattle.std.proofs.lemmas.List.{drop_at, take-append-le, take-append-drop}
 use Rattle.acap_lexer.specs.declared.fault.LexFault.{LexFault}
 use Rattle.acap_lexer.specs.declared.fault.LexFault.TheVariants.{BadToken}
 use Rattle.acap_lexer.specs.declared.kind.Kind.{Kind}
@@ -9,7 +9,7 @@ use Rattle.acap_lexer.specs.declared.kind.Kind.TheVariants as kinds
 use Rattle.acap_lexer.specs.Octets.{is_word, is_quotable, is_escaped}
 use Rattle.acap_lexer.specs.declared.mode.Mode.{Mode}
 use Rattle.acap_lexer.specs.declared.mode.Mode.TheVariants as modes
-use Rattle.acap_lexer.specs.Part.{pushed, placed, begun_at, tag_token}
+use Rattle.acap_lexer.specs.Part.{with_token, token_of_lexeme, begun_at, tag_token}
 use Rattle.acap_lexer.specs.Places.{LiesIn, Splits}
 use Rattle.acap_lexer.specs.Printing.{Grows}
 use Rattle.acap_lexer.specs.Reading.{◌>>=◌, Read, Lexeme, behind, quoted_at, escaped_at, string_at, as_string, token_at, may_touch, gap_behind, gap_at, stray, quoted_limit, tag_at}
@@ -127,14 +127,6 @@ lies_grown copy new end text g l =
       behind_is = l.behind_is;
     }
 
-pub lies_copied : (text part new : List ℕ) (end : ℕ) → new ≡ text ++ part → end ≡ length new → LiesIn new end part
-lies_copied text part new end is e = record {
-  front = text;
-  after = [];
-  whole_is = is ∙ ap (λ (xs : List ℕ). text ++ xs) (sym (append-nil part));
-  behind_is = omega (arith, e, ap length is, length-append text part);
-}
-
 -- the octets at its front
 pub front_in : (copy : List ℕ) (end : ℕ) (text : List ℕ) (start n : ℕ) → LiesIn copy end text → n ≤ length text → start ≡ end - length text → take (start + n - start) (drop start copy) ≡ take n text
 front_in copy end text start n l within e =
@@ -162,11 +154,11 @@ begun_tag mode [] new part tag left m e read s is =
 begun_tag mode (t ∷ ts) new part tag left m e read s is = absurd (omega arith)
 
 -- behind a token that was pushed
-left_of : (seen new : List Token) (end : ℕ) (front left : List ℕ) (read : Read Lexeme) → pushed seen end front read ≡ Ok (new, left) → Leaves front read → EndsIn front left
+left_of : (seen new : List Token) (end : ℕ) (front left : List ℕ) (read : Read Lexeme) → with_token seen end front read ≡ Ok (new, left) → Leaves front read → EndsIn front left
 left_of seen new end front left (Err f) e h = absurd cc
 left_of seen new end front left (Ok x) e h =
-    let p : ◌≡◌ {A = List Token × List ℕ} (seen ++ placed end front x ∷ [], x.1) (new, left) = cc in
+    let p : ◌≡◌ {A = List Token × List ℕ} (seen ++ token_of_lexeme end front x ∷ [], x.1) (new, left) = cc in
     subst (EndsIn front) (ap (λ q. q.1) p) h
 
-pub token_ends : (seen new : List Token) (end : ℕ) (front left : List ℕ) → pushed seen end front (token_at front) ≡ Ok (new, left) → EndsIn front left
+pub token_ends : (seen new : List Token) (end : ℕ) (front left : List ℕ) → with_token seen end front (token_at front) ≡ Ok (new, left) → EndsIn front left
 token_ends seen new end front left e = left_of seen new end front left (token_at front) e (token_leaves front)

@@ -7,7 +7,7 @@ use Rattle.acap_lexer.specs.declared.fault.LexFault.TheVariants.{BadToken}
 use Rattle.acap_lexer.specs.declared.kind.Kind.{Kind}
 use Rattle.acap_lexer.specs.declared.kind.Kind.TheVariants as kinds
 use Rattle.acap_lexer.specs.Octets.{is_word, is_quotable, is_escaped}
-use Rattle.acap_lexer.specs.Part.{Part, last_kind, pushed, placed, part_by, part_within}
+use Rattle.acap_lexer.specs.Part.{Part, last_kind, with_token, token_of_lexeme, part_by, part_within}
 use Rattle.acap_lexer.specs.Reading.{◌>>=◌, Read, Lexeme, behind, quoted_at, escaped_at, string_at, as_string, token_at, mark_of, may_touch, gap_behind, gap_at, stray, quoted_limit}
 use Rattle.acap_lexer.specs.Token.{Token}
 
@@ -90,8 +90,8 @@ gap_keeps (Some kinds.Close) text = behind_keeps kinds.Close text
 
 same_token : (n end : ℕ) (seen : List Token) (front : List ℕ) (f g : List Token → List ℕ → Result Part LexFault) (read : Read Lexeme)
     → ((ts : List Token) (t : List ℕ) → length t < n → f ts t ≡ g ts t) → Leaves n read
-    → (pushed seen end front read >>= λ x. f x.0 x.1) ≡ (pushed seen end front read >>= λ x. g x.0 x.1)
-same_token n end seen front f g (Ok x) same h = same (seen ++ placed end front x ∷ []) x.1 h
+    → (with_token seen end front read >>= λ x. f x.0 x.1) ≡ (with_token seen end front read >>= λ x. g x.0 x.1)
+same_token n end seen front f g (Ok x) same h = same (seen ++ token_of_lexeme end front x ∷ []) x.1 h
 same_token n end seen front f g (Err e) same h = refl
 
 same_part : (n end : ℕ) (seen : List Token) (front : List ℕ) (f g : List Token → List ℕ → Result Part LexFault) (mark : Option Announced)

@@ -1,13 +1,11 @@
 -- What the loops over commands, parts and pieces keep.
-use Rattle.std.proofs.Common.{◌≡◌, ℕ, ◌-◌, ◌<◌, ◌≤◌, List, [], ◌∷◌, ◌++◌, length, take, drop, min, None, refl, sym, ap, ◌∙◌, arith, append_assoc, Bor}
-use Rattle.std.proofs.lemmas.List.{append-nil, take-append-drop}
-use Rattle.acap_lexer.specs.declared.asked.Asked.TheVariants as asked
-use Rattle.std.specs.Prelude.{flat_map}
+use Rattle.std.proofs.Common.{◌≡◌, ℕ, ◌<◌, List, [], ◌∷◌, ◌++◌, length, None, refl, sym, ap, ◌∙◌, arith, Bor}
+use Rattle.acap_lexer.specs.declared.answered.Answered.TheVariants as asked
 use Rattle.acap_lexer.specs.declared.lexed.Lexed.{Lexed}
 use Rattle.acap_lexer.specs.declared.mode.Mode.{Mode}
-use Rattle.acap_lexer.specs.Holding.{Held, held_limit}
+use Rattle.acap_lexer.specs.Holding.{Held}
 use Rattle.acap_lexer.specs.Held.{answers_from, answers_of}
-use Rattle.acap_lexer.specs.Owing.{Owes, IsReady, AsksFor, AsksAll, Feeds, with_more}
+use Rattle.acap_lexer.specs.Owing.{Owes, IsReady, AsksFor, AsksAll, Feeds, octets_of, with_more}
 use Rattle.acap_lexer.specs.Stream.{end_of, part_end, step_of, progress_within, progress_from, progress}
 
 pub record AsksSoFar (modes : List Mode) (old : Held) (said : List Lexed) (left : List Mode) (new : Held) (now : List Lexed) : Type 0 where
@@ -18,11 +16,8 @@ pub record FeedsSoFar (piece : List ℕ) (modes : List Mode) (old : Held) (said 
   pub owes : (more : List ℕ) → said ++ answers_from modes (with_more old (piece ++ more)) ≡ now ++ answers_from left (with_more new (rest ++ more))
   pub ready : IsReady left new
 
-abbrev pub joined : List (Bor (List ℕ)) → List ℕ
-joined pieces = flat_map (λ piece. piece.now) pieces
-
 pub record JoinsSoFar (modes : List Mode) (pieces rest : List (Bor (List ℕ))) (left : List Mode) (new : Held) (now : List Lexed) : Type 0 where
-  pub owes : answers_of modes (joined pieces) ≡ now ++ answers_from left (with_more new (joined rest))
+  pub owes : answers_of modes (octets_of pieces) ≡ now ++ answers_from left (with_more new (octets_of rest))
   pub ready : IsReady left new
 
 no_modes : (h : Held) → answers_from [] h ≡ []
@@ -43,25 +38,6 @@ asks_none modes [] old new said now none s = record { owes = s.owes; ready = rea
 asks_none modes (m ∷ left) old new said now none s = absurd (omega arith)
 
 -- ---- parts of a piece
-
-pub taken_some : (rest : List ℕ) (held n : ℕ) → 0 < length rest → held < held_limit → n ≡ min (length rest) (held_limit - held) → (0 < n) × (n ≤ length rest)
-taken_some rest held n some room e = (omega (arith, e), omega (arith, e))
-
-pub feeds_on : (piece : List ℕ) (modes left after : List Mode) (old here pushed new : Held) (said middle now : List Lexed) (rest behind : List ℕ) (n : ℕ) → FeedsSoFar piece modes old said rest left here middle
-    → pushed ≡ record here { text = here.text ++ take n rest } → behind ≡ drop n rest → AsksAll left pushed middle after new now → FeedsSoFar piece modes old said behind after new now
-feeds_on piece modes left after old here pushed new said middle now rest behind n s p b a = record {
-  owes = λ more.
-      let regroup : (here.text ++ take n rest) ++ (drop n rest ++ more) ≡ here.text ++ (rest ++ more) =
-      append_assoc here.text (take n rest) (drop n rest ++ more) ∙ ap (λ (t : List ℕ). here.text ++ t) (sym (append_assoc (take n rest) (drop n rest) more) ∙ ap (λ (t : List ℕ). t ++ more) (take-append-drop n rest)) in
-      let held : with_more pushed (drop n rest ++ more) ≡ with_more here (rest ++ more) =
-      ap (λ h. with_more h (drop n rest ++ more)) p ∙ ap (λ (t : List ℕ). let h : Held = record { text = t; told = here.told; fatal = here.fatal } in h) regroup in
-      s.owes more ∙ ap (λ h. middle ++ answers_from left h) (sym held) ∙ a.owes (drop n rest ++ more) ∙ ap (λ (t : List ℕ). now ++ answers_from after (with_more new (t ++ more))) (sym b);
-  ready = a.ready;
-}
-
-pub feeds_all : (piece : List ℕ) (modes left : List Mode) (old new : Held) (said now : List Lexed) (rest : List ℕ) → length rest ≡ 0 → FeedsSoFar piece modes old said rest left new now → Feeds piece modes old said left new now
-feeds_all piece modes left old new said now [] none s = record { owes = s.owes; ready = s.ready }
-feeds_all piece modes left old new said now (c ∷ rest) none s = absurd (omega arith)
 
 pub feeds_none : (piece : List ℕ) (modes left : List Mode) (old new : Held) (said now : List Lexed) (rest : List ℕ) → length left ≡ 0 → FeedsSoFar piece modes old said rest left new now → Feeds piece modes old said [] new now
 feeds_none piece modes [] old new said now rest none s = record {
@@ -86,13 +62,3 @@ joins_start modes pieces new now e n = rw (e, n) (record {
   owes = refl;
   ready = record { going = λ some. refl; room = λ some. omega arith; done = nothing_owed modes };
 })
-
-pub joins_on : (modes : List Mode) (pieces rest : List (Bor (List ℕ))) (piece : Bor (List ℕ)) (left after : List Mode) (here new : Held) (middle now : List Lexed) → JoinsSoFar modes pieces (piece ∷ rest) left here middle
-    → Feeds piece.now left here middle after new now → JoinsSoFar modes pieces rest after new now
-joins_on modes pieces rest piece left after here new middle now s f = record { owes = s.owes ∙ f.owes (joined rest); ready = f.ready }
-
-pub joins_all : (modes : List Mode) (pieces rest : List (Bor (List ℕ))) (left : List Mode) (new : Held) (now : List Lexed) → length rest ≡ 0 → JoinsSoFar modes pieces rest left new now → now ≡ answers_of modes (joined pieces)
-joins_all modes pieces [] left new now none s =
-    let same : with_more new [] ≡ new = ap (λ (t : List ℕ). let h : Held = record { text = t; told = new.told; fatal = new.fatal } in h) (append-nil new.text) in
-    sym (s.owes ∙ ap (λ h. now ++ answers_from left h) same ∙ ap (λ (xs : List Lexed). now ++ xs) s.ready.done ∙ append-nil now)
-joins_all modes pieces (p ∷ rest) left new now none s = absurd (omega arith)

@@ -6,7 +6,7 @@ use Rattle.std.specs.Str.{is_utf8}
 use Rattle.std.proofs.lemmas.Bool.{and_parts, le-leb, ltb-true}
 use Rattle.std.proofs.lemmas.Str.{is_utf8-from_IsUtf8, IsUtf8-from_ascii}
 use Rattle.acap_lexer.specs.Octets.{is_escaped, is_plain, is_quotable, quote}
-use Rattle.acap_lexer.specs.Printing.{escape, escaped, is_printable, may_quote, quoted, printed}
+use Rattle.acap_lexer.specs.Printing.{escape, escaped_form, is_printable, may_quote, quoted_form, printed_form}
 
 parts_of : (x d e : Bool) → not (x || d || e) ≡ true → (not x ≡ true) × ((d || e) ≡ false)
 parts_of true d e h = cc
@@ -27,7 +27,7 @@ plain_octet c h =
     record { bare = parts.1; printable = parts.0; ascii = ltb-true _ _ both.1 }
 
 record IsPlainText (text : List ℕ) : Type 0 where
-  same : escaped text ≡ text
+  same : escaped_form text ≡ text
   printable : list_all is_printable text ≡ true
   ascii : (i : ℕ) → slice_index text i < 128
 
@@ -47,15 +47,15 @@ plain_text (c ∷ text) h =
     let others : IsPlainText text = plain_text text both.1 in
     let form : escape c ≡ c ∷ [] = rw octet.bare refl in
     record {
-      same = ap (λ (front : List ℕ). front ++ escaped text) form ∙ ap (λ (rest : List ℕ). c ∷ rest) others.same;
+      same = ap (λ (front : List ℕ). front ++ escaped_form text) form ∙ ap (λ (rest : List ℕ). c ∷ rest) others.same;
       printable = rw (octet.printable, others.printable) refl;
       ascii = ascii_more c text octet.ascii others.ascii;
     }
 
-pub plain_form : (text : List ℕ) → list_all is_plain text ≡ true → length text ≤ 64 → printed text ≡ quote ∷ [] ++ text ++ quote ∷ []
-unfolding printed may_quote quoted
+pub plain_form : (text : List ℕ) → list_all is_plain text ≡ true → length text ≤ 64 → printed_form text ≡ quote ∷ [] ++ text ++ quote ∷ []
+unfolding printed_form may_quote quoted_form
 plain_form text plain short =
     let is : IsPlainText text = plain_text text plain in
-    let fits : nat_le (length (escaped text)) 1024 ≡ true = le-leb _ _ (rw is.same (omega arith)) in
+    let fits : nat_le (length (escaped_form text)) 1024 ≡ true = le-leb _ _ (rw is.same (omega arith)) in
     let utf8 : is_utf8 text ≡ true = is_utf8-from_IsUtf8 text (IsUtf8-from_ascii text is.ascii) in
     rw (fits, utf8, is.printable, is.same) refl

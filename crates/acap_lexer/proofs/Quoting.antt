@@ -6,7 +6,7 @@ use Rattle.std.proofs.lemmas.Bool.{and_parts, and_from, eqb-true, or_parts, or_f
 use Rattle.std.proofs.lemmas.List.{append-nil}
 use Rattle.acap_lexer.specs.declared.kind.Kind.TheVariants as kinds
 use Rattle.std.specs.List.{list_all}
-use Rattle.acap_lexer.specs.Printing.{escape, escaped, is_printable, may_quote, quoted}
+use Rattle.acap_lexer.specs.Printing.{escape, escaped_form, is_printable, may_quote, quoted_form}
 use Rattle.std.specs.List.{prefix_len}
 use Rattle.acap_lexer.specs.Octets.{is_quotable, is_escaped}
 use Rattle.acap_lexer.specs.Reading.{Read, behind, quoted_at, escaped_at, string_at, token_at}
@@ -89,34 +89,34 @@ is_plain c p e =
     let control = not-true (eqb c 0 || eqb c 10 || eqb c 13) p in
     not_from_false _ (or_from (eqb c 0 || eqb c 10 || eqb c 13 || eqb c 34) (eqb c 92) (or_from (eqb c 0 || eqb c 10 || eqb c 13) (eqb c 34) control special.0) special.1)
 
-pub escaped_reads : (text rest : List ℕ) → list_all is_printable text ≡ true → quoted_at (escaped text ++ 34 ∷ rest) ≡ Ok (text, rest)
+pub escaped_reads : (text rest : List ℕ) → list_all is_printable text ≡ true → quoted_at (escaped_form text ++ 34 ∷ rest) ≡ Ok (text, rest)
 unfolding quoted_at
 escaped_reads [] rest p = refl
 escaped_reads (c ∷ text) rest p = by_test (is_escaped c) refl (and_parts (is_printable c) (list_all is_printable text) p).0 (escaped_reads text rest (and_parts (is_printable c) (list_all is_printable text) p).1)
   where
     tail : List ℕ
-    tail = escaped text ++ 34 ∷ rest
+    tail = escaped_form text ++ 34 ∷ rest
 
-    by_test : (b : Bool) → is_escaped c ≡ b → is_printable c ≡ true → quoted_at tail ≡ Ok (text, rest) → quoted_at (escaped (c ∷ text) ++ 34 ∷ rest) ≡ Ok (c ∷ text, rest)
+    by_test : (b : Bool) → is_escaped c ≡ b → is_printable c ≡ true → quoted_at tail ≡ Ok (text, rest) → quoted_at (escaped_form (c ∷ text) ++ 34 ∷ rest) ≡ Ok (c ∷ text, rest)
     by_test true e printable later =
         let form : escape c ≡ 92 ∷ c ∷ [] = rw e refl in
-        ap (λ (front : List ℕ). quoted_at ((front ++ escaped text) ++ 34 ∷ rest)) form ∙ read_escaped c tail e ∙ ap (behind (c ∷ [])) later
+        ap (λ (front : List ℕ). quoted_at ((front ++ escaped_form text) ++ 34 ∷ rest)) form ∙ read_escaped c tail e ∙ ap (behind (c ∷ [])) later
     by_test false e printable later =
         let form : escape c ≡ c ∷ [] = rw e refl in
-        ap (λ (front : List ℕ). quoted_at ((front ++ escaped text) ++ 34 ∷ rest)) form ∙ read_plain c tail (is_plain c printable e) ∙ ap (behind (c ∷ [])) later
+        ap (λ (front : List ℕ). quoted_at ((front ++ escaped_form text) ++ 34 ∷ rest)) form ∙ read_plain c tail (is_plain c printable e) ∙ ap (behind (c ∷ [])) later
 
-pub reads_string : (text rest : List ℕ) → list_all is_printable text ≡ true → length (escaped text) ≤ 1024 → token_at (quoted text ++ rest) ≡ Ok (record { kind = kinds.Quoted; value = text }, rest)
-unfolding token_at quoted string_at
+pub reads_string : (text rest : List ℕ) → list_all is_printable text ≡ true → length (escaped_form text) ≤ 1024 → token_at (quoted_form text ++ rest) ≡ Ok (record { kind = kinds.Quoted; value = text }, rest)
+unfolding token_at quoted_form string_at
 reads_string text rest printable few =
     let read = escaped_reads text rest printable in
-    let regroup : (escaped text ++ 34 ∷ []) ++ rest ≡ escaped text ++ 34 ∷ rest = append_assoc (escaped text) (34 ∷ []) rest in
-    let short : leb (length (escaped text ++ 34 ∷ rest)) (length rest + 1025) ≡ true = le-leb _ _ (omega (arith, length-append (escaped text) (34 ∷ rest), few)) in
+    let regroup : (escaped_form text ++ 34 ∷ []) ++ rest ≡ escaped_form text ++ 34 ∷ rest = append_assoc (escaped_form text) (34 ∷ []) rest in
+    let short : leb (length (escaped_form text ++ 34 ∷ rest)) (length rest + 1025) ≡ true = le-leb _ _ (omega (arith, length-append (escaped_form text) (34 ∷ rest), few)) in
     rw (regroup, read, short) refl
 
-pub reads_quoted : (text rest : List ℕ) → may_quote text ≡ true → token_at (quoted text ++ rest) ≡ Ok (record { kind = kinds.Quoted; value = text }, rest)
+pub reads_quoted : (text rest : List ℕ) → may_quote text ≡ true → token_at (quoted_form text ++ rest) ≡ Ok (record { kind = kinds.Quoted; value = text }, rest)
 unfolding may_quote
 reads_quoted text rest m =
-    let parts = and_parts (leb (length (escaped text)) 1024) (is_utf8 text && list_all is_printable text) m in
+    let parts = and_parts (leb (length (escaped_form text)) 1024) (is_utf8 text && list_all is_printable text) m in
     let printable = (and_parts (is_utf8 text) (list_all is_printable text) parts.1).1 in
     reads_string text rest printable (leb-true _ _ parts.0)
 
@@ -124,7 +124,7 @@ reads_quoted text rest m =
 
 -- the text is a string's escaped form, its quote, and what is left
 pub record IsQuote (text value left : List ℕ) : Type 0 where
-  pub form : text ≡ escaped value ++ 34 ∷ left
+  pub form : text ≡ escaped_form value ++ 34 ∷ left
   pub printable : list_all is_printable value ≡ true
 
 abbrev Adds : ℕ → List ℕ → List ℕ → List ℕ → Type 0
@@ -141,7 +141,7 @@ escaped_parts d rest value left e = grind arith
 
 one_more : (c : ℕ) (front rest value left : List ℕ) → escape c ≡ front → (a : Adds c rest value left) → IsQuote rest a.0 left → IsQuote (front ++ rest) value left
 one_more c front rest value left form a q = record {
-  form = rw (q.form, a.2, form) (sym (append_assoc front (escaped a.0) (34 ∷ left)));
+  form = rw (q.form, a.2, form) (sym (append_assoc front (escaped_form a.0) (34 ∷ left)));
   printable = rw a.2 (and_from _ _ a.3 q.printable);
 }
 

@@ -46,9 +46,6 @@ reaches_goes text old new sound reaches g more =
     reaches more ∙ ap (waiting old.waits) (step_longer old.mode (stage_of old) (stage_of new) text more g.plus within g.step_is) ∙ waiting_on old.waits g.plus (progress_from old.mode (stage_of new) (text ++ more)) in
     rw (g.mode, g.waits) e
 
-pub reaches_stays : (text : List ℕ) (old new : Scan) (step : Step) → Reaches text old → Stays step old new → Reaches text new
-reaches_stays text old new step reaches s more = rw (s.mode, s.waits, s.stage) (reaches more)
-
 reaches_here : (text : List ℕ) (scan : Scan) → Reaches text scan → progress scan.mode text ≡ waiting scan.waits (progress_from scan.mode (stage_of scan) text)
 reaches_here text scan reaches =
     subst (λ (t : List ℕ). progress scan.mode t ≡ waiting scan.waits (progress_from scan.mode (stage_of scan) t)) (append-nil text) (reaches [])

@@ -6,7 +6,7 @@ use Rattle.std.proofs.lemmas.List.Folds.{list_all_at}
 use Rattle.memchr.specs.Find.{IsFirstByte, is_byte2, is_byte3}
 use Rattle.acap_lexer.specs.Escapes.{IsSplitAtEscape}
 use Rattle.acap_lexer.specs.Octets.{is_escaped}
-use Rattle.acap_lexer.specs.Printing.{escape, escaped, is_printable}
+use Rattle.acap_lexer.specs.Printing.{escape, escaped_form, is_printable}
 
 decided : (b : Bool) → (b ≡ true → ⊥) → b ≡ false
 decided true h = absurd (h refl)
@@ -16,7 +16,7 @@ none_before : List ℕ → ℕ → Type 0
 none_before text n = (k : ℕ) → k < n → is_escaped (slice_index text k) ≡ true → ⊥
 
 -- octets that want no backslash stay as they are
-run_of : (text : List ℕ) (n : ℕ) → none_before text n → escaped text ≡ take n text ++ escaped (drop n text)
+run_of : (text : List ℕ) (n : ℕ) → none_before text n → escaped_form text ≡ take n text ++ escaped_form (drop n text)
 unfolding none_before
 run_of [] zero h = refl
 run_of [] (suc n) h = refl
@@ -24,22 +24,22 @@ run_of (c ∷ text) zero h = refl
 run_of (c ∷ text) (suc n) h =
     let plain : is_escaped c ≡ false = decided (is_escaped c) (h 0 (omega arith)) in
     let form : escape c ≡ c ∷ [] = rw plain refl in
-    let later : escaped text ≡ take n text ++ escaped (drop n text) = run_of text n (λ k lt e. h (suc k) (omega arith) e) in
-    ap (λ (front : List ℕ). front ++ escaped text) form ∙ ap (λ (rest : List ℕ). c ∷ rest) later
+    let later : escaped_form text ≡ take n text ++ escaped_form (drop n text) = run_of text n (λ k lt e. h (suc k) (omega arith) e) in
+    ap (λ (front : List ℕ). front ++ escaped_form text) form ∙ ap (λ (rest : List ℕ). c ∷ rest) later
 
-escaped_first : (c : ℕ) (behind : List ℕ) → is_escaped c ≡ true → escaped (c ∷ behind) ≡ 92 ∷ c ∷ escaped behind
-escaped_first c behind e = let form : escape c ≡ 92 ∷ c ∷ [] = rw e refl in ap (λ (front : List ℕ). front ++ escaped behind) form
+escaped_first : (c : ℕ) (behind : List ℕ) → is_escaped c ≡ true → escaped_form (c ∷ behind) ≡ 92 ∷ c ∷ escaped_form behind
+escaped_first c behind e = let form : escape c ≡ 92 ∷ c ∷ [] = rw e refl in ap (λ (front : List ℕ). front ++ escaped_form behind) form
 
-all_plain : (text : List ℕ) → none_before text (length text) → escaped text ≡ text
+all_plain : (text : List ℕ) → none_before text (length text) → escaped_form text ≡ text
 unfolding none_before
 all_plain [] h = refl
 all_plain (c ∷ text) h =
     let plain : is_escaped c ≡ false = decided (is_escaped c) (h 0 (omega arith)) in
     let form : escape c ≡ c ∷ [] = rw plain refl in
-    ap (λ (front : List ℕ). front ++ escaped text) form ∙ ap (λ (rest : List ℕ). c ∷ rest) (all_plain text (λ k lt e. h (suc k) (omega arith) e))
+    ap (λ (front : List ℕ). front ++ escaped_form text) form ∙ ap (λ (rest : List ℕ). c ∷ rest) (all_plain text (λ k lt e. h (suc k) (omega arith) e))
 
 -- no octet wants a backslash
-pub no_escape : (text : List ℕ) → IsFirstByte (is_byte2 34 92) text None → escaped text ≡ text
+pub no_escape : (text : List ℕ) → IsFirstByte (is_byte2 34 92) text None → escaped_form text ≡ text
 unfolding is_escaped none_before
 no_escape text f = all_plain text (λ k lt e. f k (omega arith) lt e)
 
@@ -53,17 +53,17 @@ pub split_escape : (text run behind : List ℕ) (c n : ℕ) → IsFirstByte (is_
 unfolding is_escaped none_before
 split_escape text run behind c n f front back =
     let is : is_escaped c ≡ true = ap is_escaped (sym (first_at text behind c n back)) ∙ f.1 in
-    let form : escaped text ≡ take n text ++ escaped (drop n text) = run_of text n (λ k lt e. f.0.before k (omega arith) lt e) in
+    let form : escaped_form text ≡ take n text ++ escaped_form (drop n text) = run_of text n (λ k lt e. f.0.before k (omega arith) lt e) in
     record {
-      form = form ∙ ap (λ (rest : List ℕ). take n text ++ escaped rest) back ∙ ap (λ (rest : List ℕ). take n text ++ rest) (escaped_first c behind is) ∙ ap (λ (xs : List ℕ). xs ++ 92 ∷ c ∷ escaped behind) (sym front);
+      form = form ∙ ap (λ (rest : List ℕ). take n text ++ escaped_form rest) back ∙ ap (λ (rest : List ℕ). take n text ++ rest) (escaped_first c behind is) ∙ ap (λ (xs : List ℕ). xs ++ 92 ∷ c ∷ escaped_form behind) (sym front);
       shorter = omega (arith, ap length back, length-drop n text, f.0.high);
     }
 
 -- what is printed so far, and what is left
-pub goes_on : (old out left run behind : List ℕ) (text : List ℕ) (c : ℕ) → IsSplitAtEscape left run c behind → out ++ escaped left ≡ old ++ escaped text
-    → (((out ++ run) ++ (92 ∷ [])) ++ (c ∷ [])) ++ escaped behind ≡ old ++ escaped text
+pub goes_on : (old out left run behind : List ℕ) (text : List ℕ) (c : ℕ) → IsSplitAtEscape left run c behind → out ++ escaped_form left ≡ old ++ escaped_form text
+    → (((out ++ run) ++ (92 ∷ [])) ++ (c ∷ [])) ++ escaped_form behind ≡ old ++ escaped_form text
 goes_on old out left run behind text c s so_far =
-    append_assoc ((out ++ run) ++ (92 ∷ [])) (c ∷ []) (escaped behind) ∙ append_assoc (out ++ run) (92 ∷ []) (c ∷ escaped behind) ∙ append_assoc out run (92 ∷ c ∷ escaped behind)
+    append_assoc ((out ++ run) ++ (92 ∷ [])) (c ∷ []) (escaped_form behind) ∙ append_assoc (out ++ run) (92 ∷ []) (c ∷ escaped_form behind) ∙ append_assoc out run (92 ∷ c ∷ escaped_form behind)
     ∙ ap (λ (xs : List ℕ). out ++ xs) (sym s.form) ∙ so_far
 
 -- ---- what may stand between quotes

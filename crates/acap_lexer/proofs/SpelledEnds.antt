@@ -13,7 +13,7 @@ use Rattle.acap_lexer.specs.declared.mode.Mode.TheVariants as modes
 use Rattle.acap_lexer.specs.declared.part_end.PartEnd.TheVariants.{At}
 use Rattle.acap_lexer.specs.Octets.{is_word, is_tag, is_digit}
 use Rattle.acap_lexer.specs.Part.{begun_at, tag_token, last_kind}
-use Rattle.acap_lexer.specs.Printing.{escape, escaped, is_printable, quoted}
+use Rattle.acap_lexer.specs.Printing.{escape, escaped_form, is_printable, quoted_form}
 use Rattle.acap_lexer.specs.Reading.{ends_tag, tag_at}
 use Rattle.acap_lexer.specs.Spelling.{Written, Word, Quoted, Literal, Open, Close, kind_of, own, mark, IsSpelled, IsTag, may_follow, Piece, gap}
 use Rattle.acap_lexer.specs.Stream.{end_of, part_end, part_limit}
@@ -39,16 +39,16 @@ escape_others : (c : ℕ) → is_printable c ≡ true → list_all is_other (esc
 unfolding is_printable
 escape_others c p = grind arith
 
-escaped_others : (text : List ℕ) → list_all is_printable text ≡ true → list_all is_other (escaped text) ≡ true
+escaped_others : (text : List ℕ) → list_all is_printable text ≡ true → list_all is_other (escaped_form text) ≡ true
 escaped_others [] all = refl
 escaped_others (c ∷ text) all =
     let a = and_parts (is_printable c) (list_all is_printable text) all in
-    others_append (escape c) (escaped text) (escape_others c a.0) (escaped_others text a.1)
+    others_append (escape c) (escaped_form text) (escape_others c a.0) (escaped_others text a.1)
 
 own_others : (w : Written) → IsSpelled w → IsPlain w → list_all is_other (own w) ≡ true
-unfolding is_word quoted
+unfolding is_word quoted_form
 own_others (Word octets) s plain = all_others is_word octets refl s.0
-own_others (Quoted octets) s plain = others_append (escaped octets) (34 ∷ []) (escaped_others octets s.0) refl
+own_others (Quoted octets) s plain = others_append (escaped_form octets) (34 ∷ []) (escaped_others octets s.0) refl
 own_others (Literal digits waits octets) s plain = absurd plain
 own_others Open s plain = refl
 own_others Close s plain = refl

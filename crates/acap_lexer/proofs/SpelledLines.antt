@@ -14,7 +14,7 @@ use Rattle.acap_lexer.specs.declared.mode.Mode.TheVariants as modes
 use Rattle.acap_lexer.specs.declared.part_end.PartEnd.TheVariants.{At}
 use Rattle.acap_lexer.specs.Part.{Part, last_kind, part_within, begun_at}
 use Rattle.acap_lexer.specs.Spelling.{Written, Literal, kind_of, own, mark, number, IsCount, Piece, gap, Stand, text_of, token, tokens_from, wait, waits_of, lengths_by, part_lengths, Begins, IsSpelling, kind_before, tokens_before}
-use Rattle.acap_lexer.specs.Stream.{Front, Stage, AtPart, InLiteral, Goes, Progress, said, step_by_mark, step_by_end, step_of, literal_token, part_end, part_limit, command_limit, waiting, progress_by, progress_from, progress}
+use Rattle.acap_lexer.specs.Stream.{Front, Stage, AtPart, InLiteral, Goes, Progress, step_of_part, step_by_mark, step_by_end, step_of, literal_token, part_end, part_limit, command_limit, waiting, progress_by, progress_from, progress}
 use Rattle.acap_lexer.specs.Token.{Token}
 use Rattle.acap_lexer.proofs.EndLaws.{is_at}
 use Rattle.acap_lexer.proofs.ProgressLaws.{by_stages, keeps_items, takes_octets}
@@ -126,8 +126,8 @@ drop_part at text part more e =
 
 said_reads : (mode : Mode) (front : Front) (lead : List ℕ) (seen : List Token) (e : Ending) (qs : List Piece) → IsLead mode front.tokens lead seen → PartStands e (last_kind seen) qs
     → front.octets + length (lead ++ part_text e qs) + 2 ≤ command_limit
-    → said mode front (lead ++ part_text e qs) ≡ step_by_mark (front.octets + length (lead ++ part_text e qs)) (seen ++ tokens_from (front.octets + length lead) qs) (mark_at (place_behind (front.octets + length lead) qs) e)
-unfolding said
+    → step_of_part mode front (lead ++ part_text e qs) ≡ step_by_mark (front.octets + length (lead ++ part_text e qs)) (seen ++ tokens_from (front.octets + length lead) qs) (mark_at (place_behind (front.octets + length lead) qs) e)
+unfolding step_of_part
 said_reads mode front lead seen e qs l s le =
     let end = front.octets + length (lead ++ part_text e qs) in
     let read = part_reads qs e (length (part_text e qs)) end (front.octets + length lead) seen s (omega (arith, length-append lead (part_text e qs))) (omega arith) in
@@ -153,7 +153,7 @@ has_step mode front text lead seen e qs octets rs fits s r =
     let end : part_end (drop front.octets text) ≡ At (length part) = ap part_end split ∙ ends_at part more others (omega (arith, all.0, length-append lead (part_text e qs))) in
     let front_is : take (length part) (drop front.octets text) ≡ part = ap (take (length part)) split ∙ take-append_seam part (13 ∷ 10 ∷ more) in
     record {
-      step = ap (step_by_end mode front (drop front.octets text)) end ∙ ap (said mode front) front_is ∙ said_reads mode front lead seen e qs r.is_lead s (omega (arith, long, fits));
+      step = ap (step_by_end mode front (drop front.octets text)) end ∙ ap (step_of_part mode front) front_is ∙ said_reads mode front lead seen e qs r.is_lead s (omega (arith, long, fits));
       left = drop_part front.octets text part more split;
       whole = long;
       lengths = all.1;
@@ -239,13 +239,13 @@ Says p tokens n = p.item ≡ Some (Line tokens, n)
 
 -- what a line says of the steps that lead to it
 by_end : (mode : Mode) (front : Front) (rest : List ℕ) (go : Stage → Progress) (tokens : List Token) (n : ℕ) → Says (progress_by go (step_by_end mode front rest (part_end rest))) tokens n
-    → (k : ℕ) × (part_end rest ≡ At k) × Says (progress_by go (said mode front (take k rest))) tokens n
+    → (k : ℕ) × (part_end rest ≡ At k) × Says (progress_by go (step_of_part mode front (take k rest))) tokens n
 by_end mode front rest go tokens n e = grind arith
 
-by_said : (mode : Mode) (front : Front) (part : List ℕ) (go : Stage → Progress) (tokens : List Token) (n : ℕ) → Says (progress_by go (said mode front part)) tokens n
+by_said : (mode : Mode) (front : Front) (part : List ℕ) (go : Stage → Progress) (tokens : List Token) (n : ℕ) → Says (progress_by go (step_of_part mode front part)) tokens n
     → (front.octets + length part + 2 ≤ command_limit) × (x : List Token × List ℕ) × (begun_at mode front.tokens part ≡ Ok x)
     × (p : Part) × (part_within (length x.1) (front.octets + length part) x.0 x.1 ≡ Ok p) × Says (progress_by go (step_by_mark (front.octets + length part) p.tokens p.mark)) tokens n
-unfolding said
+unfolding step_of_part
 by_said mode front part go tokens n e = grind arith
 
 by_mark : (end : ℕ) (seen : List Token) (m : ℕ × Announced) (go : Stage → Progress) (tokens : List Token) (n : ℕ) → Says (progress_by go (step_by_mark end seen (Some m))) tokens n

@@ -7,7 +7,7 @@ use Rattle.acap_lexer.specs.declared.fault.LexFault.{LexFault}
 use Rattle.acap_lexer.specs.declared.kind.Kind.{Kind}
 use Rattle.acap_lexer.specs.declared.kind.Kind.TheVariants as kinds
 use Rattle.acap_lexer.specs.Octets.{is_word}
-use Rattle.acap_lexer.specs.Part.{Part, last_kind, placed, pushed, part_by, next_at, part_within}
+use Rattle.acap_lexer.specs.Part.{Part, last_kind, token_of_lexeme, with_token, part_by, next_at, part_within}
 use Rattle.acap_lexer.specs.Reading.{◌>>=◌, Read, Lexeme, gap_at, mark_of, token_at}
 use Rattle.acap_lexer.specs.Spelling.{Written, kind_of, own, mark, number, IsCount, IsSpelled, may_follow, Piece, gap, token, tokens_from}
 use Rattle.acap_lexer.specs.Token.{Token}
@@ -79,7 +79,7 @@ next_marks : (go : List Token → List ℕ → Result Part LexFault) (end : ℕ)
 next_marks go end seen text front m g h = rw (g, h) refl
 
 next_takes : (go : List Token → List ℕ → Result Part LexFault) (end : ℕ) (seen : List Token) (text front : List ℕ) (x : Lexeme × List ℕ) → gap_at (last_kind seen) text ≡ Ok front → mark_of front ≡ None → token_at front ≡ Ok x
-    → next_at go end seen text ≡ go (seen ++ placed end front x ∷ []) x.1
+    → next_at go end seen text ≡ go (seen ++ token_of_lexeme end front x ∷ []) x.1
 next_takes go end seen text front x g h t = rw (g, h, t) refl
 
 -- a token is read behind its gap
@@ -163,10 +163,10 @@ next_spelled : (go : List Token → List ℕ → Result Part LexFault) (end : �
     → ((seen : List Token) (text : List ℕ) → go seen text ≡ Ok part → IsPart (last_kind seen) text part.mark) → next_at go end seen text ≡ Ok part → IsPart (last_kind seen) text part.mark
 next_spelled go end seen text part later e = by_gap (gap_at (last_kind seen) text) refl e
   where
-    by_token : (front : List ℕ) (read : Read Lexeme) → gap_at (last_kind seen) text ≡ Ok front → token_at front ≡ read → (pushed seen end front read >>= λ x. go x.0 x.1) ≡ Ok part → IsPart (last_kind seen) text part.mark
+    by_token : (front : List ℕ) (read : Read Lexeme) → gap_at (last_kind seen) text ≡ Ok front → token_at front ≡ read → (with_token seen end front read >>= λ x. go x.0 x.1) ≡ Ok part → IsPart (last_kind seen) text part.mark
     by_token front (Err f) g t h = absurd cc
     by_token front (Ok x) g t h =
-        let next = placed end front x in
+        let next = token_of_lexeme end front x in
         one_more (last_kind seen) text front x part.mark g t (subst (λ (l : Option Kind). IsPart l x.1 part.mark) (last_pushed seen next) (later (seen ++ next ∷ []) x.1 h))
 
     by_mark : (front : List ℕ) (m : Option Announced) → gap_at (last_kind seen) text ≡ Ok front → mark_of front ≡ m → part_by go end seen front m ≡ Ok part → IsPart (last_kind seen) text part.mark

@@ -10,7 +10,7 @@ use Rattle.acap_lexer.specs.declared.announced.Announced.{Announced}
 use Rattle.acap_lexer.specs.declared.kind.Kind.{Kind}
 use Rattle.acap_lexer.specs.declared.kind.Kind.TheVariants as kinds
 use Rattle.acap_lexer.specs.Octets.{is_word, is_digit}
-use Rattle.acap_lexer.specs.Printing.{escaped, quoted}
+use Rattle.acap_lexer.specs.Printing.{escaped_form, quoted_form}
 use Rattle.acap_lexer.specs.Reading.{Read, Lexeme, as_string, number_of, is_count, count_of, closing_of, mark_of, quoted_at, string_at, token_at, may_touch, gap_behind, gap_at}
 use Rattle.acap_lexer.specs.Spelling.{Written, Word, Quoted, Literal, Open, Close, kind_of, value_of, own, mark, number, IsCount, IsSpelled, may_follow, gap}
 use Rattle.acap_lexer.proofs.Counting.{number_from}
@@ -122,10 +122,10 @@ unfolding is_word
 word_first c w = grind arith
 
 pub starts : (w : Written) → IsSpelled w → Starts (kind_of w) (own w)
-unfolding quoted
+unfolding quoted_form
 starts (Word []) s = absurd (omega (arith, s.1))
 starts (Word (c ∷ cs)) s = (c, cs, refl, (word_first c (and_parts (is_word c) (list_all is_word cs) s.0).0).0)
-starts (Quoted octets) s = (34, escaped octets ++ 34 ∷ [], refl, (refl, refl, refl, refl))
+starts (Quoted octets) s = (34, escaped_form octets ++ 34 ∷ [], refl, (refl, refl, refl, refl))
 starts (Literal digits waits octets) s = (123, _, refl, refl)
 starts Open s = (40, [], refl, refl)
 starts Close s = (41, [], refl, refl)
@@ -185,7 +185,7 @@ pub record IsToken (text : List ℕ) (x : Lexeme × List ℕ) : Type 0 where
   pub lexeme_is : x.0 ≡ lexeme_of written
 
 pub token_spelled : (text : List ℕ) (x : Lexeme × List ℕ) → token_at text ≡ Ok x → IsToken text x
-unfolding token_at quoted
+unfolding token_at quoted_form
 token_spelled [] x e = absurd cc
 token_spelled (c ∷ rest) x e =
     elim (token_parts c rest x e) [
@@ -198,9 +198,9 @@ token_spelled (c ∷ rest) x e =
               let quote = quoted_spelled rest x.0.value x.1 t.0 in
               record {
                 written = Quoted x.0.value;
-                spelled = (quote.printable, omega (arith, t.2, ap length quote.form, length-append (escaped x.0.value) (34 ∷ x.1)));
+                spelled = (quote.printable, omega (arith, t.2, ap length quote.form, length-append (escaped_form x.0.value) (34 ∷ x.1)));
                 plain = tt;
-                text_is = rw s.0 (ap (λ (r : List ℕ). 34 ∷ r) (quote.form ∙ sym (append_assoc (escaped x.0.value) (34 ∷ []) x.1)));
+                text_is = rw s.0 (ap (λ (r : List ℕ). 34 ∷ r) (quote.form ∙ sym (append_assoc (escaped_form x.0.value) (34 ∷ []) x.1)));
                 lexeme_is = t.1;
               })
           | inr w ↦ record {

@@ -10,7 +10,7 @@ use Rattle.acap_lexer.specs.declared.mode.Mode.{Mode}
 use Rattle.acap_lexer.specs.Token.{Token}
 use Rattle.acap_lexer.specs.Reading.{Read}
 use Rattle.acap_lexer.specs.Part.{Part, part_within, begun_at, tag_of}
-use Rattle.acap_lexer.specs.Stream.{Front, Stage, AtPart, InLiteral, Step, Waits, Ends, Goes, IsItem, said, step_by_mark, step_by_part, step_by_front, step_by_end, step_of, octets_of, part_end, command_limit}
+use Rattle.acap_lexer.specs.Stream.{Front, Stage, AtPart, InLiteral, Step, Waits, Ends, Goes, IsItem, step_of_part, step_by_mark, step_by_part, step_by_front, step_by_end, step_of, octets_of, part_end, command_limit}
 use Rattle.acap_lexer.proofs.EndLaws.{is_at, is_never, is_short, keeps_at, keeps_never}
 
 -- what a whole part, which ends there, leads to
@@ -36,14 +36,14 @@ outcome_front : (mode : Mode) (end : ℕ) (read : Read (List Token)) → Outcome
 outcome_front mode end (Err fault) = (refl, tt)
 outcome_front mode end (Ok x) = outcome_part (tag_of mode x.0) end (part_within (length x.1) end x.0 x.1)
 
-pub outcome : (mode : Mode) (front : Front) (part : List ℕ) → Outcome (front.octets + length part + 2) (said mode front part)
-unfolding said
+pub outcome : (mode : Mode) (front : Front) (part : List ℕ) → Outcome (front.octets + length part + 2) (step_of_part mode front part)
+unfolding step_of_part
 outcome mode front part = by_test (ltb command_limit (front.octets + length part + 2)) refl
   where
     end : ℕ
     end = front.octets + length part
 
-    by_test : (b : Bool) → ltb command_limit (end + 2) ≡ b → Outcome (end + 2) (said mode front part)
+    by_test : (b : Bool) → ltb command_limit (end + 2) ≡ b → Outcome (end + 2) (step_of_part mode front part)
     by_test true e = rw e (refl, tt)
     by_test false e = rw e (outcome_front mode end (begun_at mode front.tokens part))
 
@@ -71,11 +71,11 @@ Tells mode stage text (Goes p next) = Onwards stage next text × ((more : List �
 
 -- a part whose CR LF is there
 part_tells : (mode : Mode) (front : Front) (text : List ℕ) (n : ℕ) (step : Step) → front.octets ≤ length text → part_end (drop front.octets text) ≡ At n
-    → said mode front (take n (drop front.octets text)) ≡ step → Outcome (front.octets + n + 2) step → Tells mode (AtPart front) text step
+    → step_of_part mode front (take n (drop front.octets text)) ≡ step → Outcome (front.octets + n + 2) step → Tells mode (AtPart front) text step
 unfolding step_of
 part_tells mode front text n step within at is o = by_step step is o
   where
-    longer : (more : List ℕ) → step_of mode (AtPart front) (text ++ more) ≡ said mode front (take n (drop front.octets text))
+    longer : (more : List ℕ) → step_of mode (AtPart front) (text ++ more) ≡ step_of_part mode front (take n (drop front.octets text))
     longer more =
         let a = is_at (drop front.octets text) n at in
         let left : drop front.octets (text ++ more) ≡ drop front.octets text ++ more = drop-append-le front.octets text more within in
@@ -85,7 +85,7 @@ part_tells mode front text n step within at is o = by_step step is o
     room : front.octets + n + 2 ≤ length text
     room = omega (arith, (is_at (drop front.octets text) n at).within, length-drop front.octets text)
 
-    by_step : (s : Step) → said mode front (take n (drop front.octets text)) ≡ s → Outcome (front.octets + n + 2) s → Tells mode (AtPart front) text s
+    by_step : (s : Step) → step_of_part mode front (take n (drop front.octets text)) ≡ s → Outcome (front.octets + n + 2) s → Tells mode (AtPart front) text s
     by_step Waits e o = absurd o
     by_step (Ends item k) e o = (omega (arith, o.0), omega (arith, o.0, room), o.1, λ more. longer more ∙ e)
     by_step (Goes p (AtPart f)) e o = absurd o
@@ -98,9 +98,9 @@ unfolding step_of
 end_tells mode front text (At n) within e =
     let a = is_at (drop front.octets text) n e in
     let len : length (take n (drop front.octets text)) ≡ n = omega (arith, length-take n (drop front.octets text), a.within) in
-    let o : Outcome (front.octets + n + 2) (said mode front (take n (drop front.octets text))) =
-    subst (λ (k : ℕ). Outcome (front.octets + k + 2) (said mode front (take n (drop front.octets text)))) len (outcome mode front (take n (drop front.octets text))) in
-    part_tells mode front text n (said mode front (take n (drop front.octets text))) within e refl o
+    let o : Outcome (front.octets + n + 2) (step_of_part mode front (take n (drop front.octets text))) =
+    subst (λ (k : ℕ). Outcome (front.octets + k + 2) (step_of_part mode front (take n (drop front.octets text)))) len (outcome mode front (take n (drop front.octets text))) in
+    part_tells mode front text n (step_of_part mode front (take n (drop front.octets text))) within e refl o
 end_tells mode front text Never within e =
     let long = is_never (drop front.octets text) e in (
       omega arith,

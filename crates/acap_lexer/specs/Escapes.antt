@@ -2,13 +2,13 @@
 use Rattle.std.specs.Prelude.{◌≡◌, ℕ, ◌<◌, List, ◌∷◌, ◌++◌, length, Option, MatchOption}
 use Rattle.std.specs.Borrow.{Bor}
 use Rattle.acap_lexer.specs.Octets.{backslash}
-use Rattle.acap_lexer.specs.Printing.{escaped}
+use Rattle.acap_lexer.specs.Printing.{escaped_form}
 
 -- what stands before it, the octet, and what stands behind it
 pub record IsSplitAtEscape (text run : List ℕ) (escape : ℕ) (behind : List ℕ) : Type 0 where
-  pub form : escaped text ≡ run ++ backslash ∷ escape ∷ escaped behind
+  pub form : escaped_form text ≡ run ++ backslash ∷ escape ∷ escaped_form behind
   pub shorter : length behind < length text
 
 -- the parts at the first such octet, or none where no octet is printed so
 abbrev pub SplitsAtEscape : List ℕ → Option (Bor (List ℕ) × ℕ × Bor (List ℕ)) → Type 0
-SplitsAtEscape text result = MatchOption result (escaped text ≡ text) (λ x. IsSplitAtEscape text x.0.now x.1 x.2.now)
+SplitsAtEscape text result = MatchOption result (escaped_form text ≡ text) (λ x. IsSplitAtEscape text x.0.now x.1 x.2.now)

@@ -11,9 +11,9 @@ use Rattle.acap_lexer.specs.declared.mode.Mode.TheVariants as modes
 use Rattle.acap_lexer.specs.Held.{next_of, answers_of}
 use Rattle.acap_lexer.specs.Holding.{Held, held_limit}
 use Rattle.acap_lexer.specs.Octets.{is_word, is_tag, is_quotable, is_escaped, is_digit}
-use Rattle.acap_lexer.specs.Printing.{is_printable, printed}
+use Rattle.acap_lexer.specs.Printing.{is_printable, printed_form}
 use Rattle.acap_lexer.specs.Reading.{count_of, mark_of, may_touch, string_at}
-use Rattle.acap_lexer.specs.Stream.{Front, Ends, Progress, progress, part_limit, command_limit, part_end, said}
+use Rattle.acap_lexer.specs.Stream.{Front, Ends, Progress, progress, part_limit, command_limit, part_end, step_of_part}
 use Rattle.acap_lexer.specs.Token.{Token}
 
 abbrev pub crlf : List ℕ
@@ -115,9 +115,9 @@ pub record LimitExamples : Type 0 where
   -- a command has 262,144 octets, its literals and each CR LF counted, which is seen before another fault of its part
   pub announced : command (codes "A1 X {262127}" ++ crlf) ≡ record { waits = 1; item = None }
   pub announced_more : command (codes "A1 X {262128}" ++ crlf) ≡ item 0 (Fatal CommandTooLong) 15
-  pub command_of_262144 : said modes.Command (front 262142) [] ≡ Ends (Line (a1 ∷ [])) 262144
-  pub command_of_262145 : said modes.Command (front 262143) [] ≡ Ends (Fatal CommandTooLong) 262145
-  pub before_other_faults : said modes.Command (front 262142) (codes "  ") ≡ Ends (Fatal CommandTooLong) 262146
+  pub command_of_262144 : step_of_part modes.Command (front 262142) [] ≡ Ends (Line (a1 ∷ [])) 262144
+  pub command_of_262145 : step_of_part modes.Command (front 262143) [] ≡ Ends (Fatal CommandTooLong) 262145
+  pub before_other_faults : step_of_part modes.Command (front 262142) (codes "  ") ≡ Ends (Fatal CommandTooLong) 262146
   -- a command and a part may be held
   pub held : held_limit ≡ command_limit + part_limit
 
@@ -145,15 +145,15 @@ pub record HeldExamples : Type 0 where
   pub behind_a_fatal : answers_of (modes.Command ∷ modes.Command ∷ []) (codes "A1 {262145}" ++ crlf ++ codes "A1" ++ crlf) ≡ Fatal CommandTooLong ∷ []
 
 pub record PrintedExamples : Type 0 where
-  pub empty : printed [] ≡ codes "\"\""
+  pub empty : printed_form [] ≡ codes "\"\""
   -- a backslash is put before a quote and a backslash
-  pub quotes : printed (97 ∷ 34 ∷ 98 ∷ 92 ∷ []) ≡ 34 ∷ 97 ∷ 92 ∷ 34 ∷ 98 ∷ 92 ∷ 92 ∷ 34 ∷ []
+  pub quotes : printed_form (97 ∷ 34 ∷ 98 ∷ 92 ∷ []) ≡ 34 ∷ 97 ∷ 92 ∷ 34 ∷ 98 ∷ 92 ∷ 92 ∷ 34 ∷ []
   -- a literal is its length, CR LF, and the octets as they are
-  pub nul : printed (0 ∷ []) ≡ codes "{1}" ++ crlf ++ 0 ∷ []
-  pub line_feed : printed (34 ∷ 10 ∷ []) ≡ codes "{2}" ++ crlf ++ 34 ∷ 10 ∷ []
-  pub return : printed (97 ∷ 13 ∷ 98 ∷ []) ≡ codes "{3}" ++ crlf ++ 97 ∷ 13 ∷ 98 ∷ []
-  pub no_text : printed (255 ∷ []) ≡ codes "{1}" ++ crlf ++ 255 ∷ []
+  pub nul : printed_form (0 ∷ []) ≡ codes "{1}" ++ crlf ++ 0 ∷ []
+  pub line_feed : printed_form (34 ∷ 10 ∷ []) ≡ codes "{2}" ++ crlf ++ 34 ∷ 10 ∷ []
+  pub return : printed_form (97 ∷ 13 ∷ 98 ∷ []) ≡ codes "{3}" ++ crlf ++ 97 ∷ 13 ∷ 98 ∷ []
+  pub no_text : printed_form (255 ∷ []) ≡ codes "{1}" ++ crlf ++ 255 ∷ []
   -- 1,024 octets between quotes, escapes counted
-  pub quoted_1024 : printed (letters 1024) ≡ 34 ∷ letters 1024 ++ 34 ∷ []
-  pub literal_1025 : printed (letters 1025) ≡ codes "{1025}" ++ crlf ++ letters 1025
-  pub escapes_counted : printed (34 ∷ letters 1023) ≡ codes "{1024}" ++ crlf ++ 34 ∷ letters 1023
+  pub quoted_1024 : printed_form (letters 1024) ≡ 34 ∷ letters 1024 ++ 34 ∷ []
+  pub literal_1025 : printed_form (letters 1025) ≡ codes "{1025}" ++ crlf ++ letters 1025
+  pub escapes_counted : printed_form (34 ∷ letters 1023) ≡ codes "{1024}" ++ crlf ++ 34 ∷ letters 1023

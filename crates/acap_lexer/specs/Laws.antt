@@ -8,7 +8,7 @@ use Rattle.acap_lexer.specs.Holding.{held_limit}
 use Rattle.acap_lexer.specs.Part.{part_within}
 use Rattle.acap_lexer.specs.Reading.{token_at}
 use Rattle.acap_lexer.specs.Stream.{Stage, IsItem, step_of, octets_of, progress, progress_from, progress_by}
-use Rattle.acap_lexer.specs.Printing.{may_quote, quoted}
+use Rattle.acap_lexer.specs.Printing.{may_quote, quoted_form}
 use Rattle.acap_lexer.specs.Spelling.{IsSpelling}
 use Rattle.acap_lexer.specs.Token.{Token}
 
@@ -43,7 +43,7 @@ ReadsParts = (most end : ℕ) (seen : List Token) (text : List ℕ) → length t
 -- What is printed between quotes is read back as that string, whatever follows.
 abbrev pub ReadsQuoted : Type 0
 ReadsQuoted = (text rest : List ℕ) → IsTrue (may_quote text) →
-    token_at (quoted text ++ rest) ≡ Ok (record { kind = kinds.Quoted; value = text }, rest)
+    token_at (quoted_form text ++ rest) ≡ Ok (record { kind = kinds.Quoted; value = text }, rest)
 
 -- A text that is written so is read as that line, with so many continuations due before it, whatever follows.
 abbrev pub ReadsSpellings : Type 0

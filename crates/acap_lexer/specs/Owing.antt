@@ -1,15 +1,15 @@
 -- What is answered, and what is still owed, whatever octets come behind those that are held.
 use Rattle.std.specs.Prelude.{◌≡◌, ℕ, ◌<◌, List, [], ◌∷◌, ◌++◌, length, None, Result, IfOk, flat_map}
 use Rattle.std.specs.Borrow.{Bor}
-use Rattle.acap_lexer.specs.declared.asked.Asked.{Asked}
-use Rattle.acap_lexer.specs.declared.asked.Asked.TheVariants as asked
+use Rattle.acap_lexer.specs.declared.answered.Answered.{Answered}
+use Rattle.acap_lexer.specs.declared.answered.Answered.TheVariants as asked
 use Rattle.acap_lexer.specs.declared.lexed.Lexed.{Lexed}
 use Rattle.acap_lexer.specs.declared.lexed.Lexed.TheVariants.{Fatal}
 use Rattle.acap_lexer.specs.declared.mode.Mode.{Mode}
 use Rattle.acap_lexer.specs.Holding.{Held, held_limit}
 use Rattle.acap_lexer.specs.Held.{answers_from}
 
-abbrev pub how_whole : Lexed → Asked
+abbrev pub how_whole : Lexed → Answered
 how_whole (Fatal fault) = asked.Closed
 how_whole _ = asked.Whole
 
@@ -23,7 +23,7 @@ Owes before old said after new now =
     (more : List ℕ) → said ++ answers_from before (with_more old more) ≡ now ++ answers_from after (with_more new more)
 
 -- a command was asked for in this mode, before others in these modes
-abbrev pub AsksFor : Mode → Held → List Lexed → Held → List Lexed → Asked → Type 0
+abbrev pub AsksFor : Mode → Held → List Lexed → Held → List Lexed → Answered → Type 0
 AsksFor mode old said new now asked.NotYet =
     ((modes : List Mode) → Owes (mode ∷ modes) old said (mode ∷ modes) new now) × (new.fatal ≡ None) × (length new.text < held_limit)
     × ((modes : List Mode) → answers_from (mode ∷ modes) new ≡ [])
@@ -54,5 +54,5 @@ abbrev pub LeavesFed : {E : Type 0} → List ℕ → List Mode → Held → List
 LeavesFed piece before old said result new now = IfOk result (λ after. Feeds piece before old said after.now new now)
 
 -- the octets of pieces
-abbrev pub joined : List (Bor (List ℕ)) → List ℕ
-joined pieces = flat_map (λ piece. piece.now) pieces
+abbrev pub octets_of : List (Bor (List ℕ)) → List ℕ
+octets_of pieces = flat_map (λ piece. piece.now) pieces

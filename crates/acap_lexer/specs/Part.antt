@@ -21,17 +21,17 @@ abbrev pub last_kind : List Token → Option Kind
 last_kind tokens = option_map (λ t. t.kind) (slice_get tokens (length tokens - 1))
 
 -- what was read at the front of a text that goes up to the place `end` of the command
-abbrev pub placed : ℕ → List ℕ → Lexeme × List ℕ → Token
-placed end front x = record { kind = x.0.kind; value = x.0.value; start = end - length front; end = end - length x.1 }
+abbrev pub token_of_lexeme : ℕ → List ℕ → Lexeme × List ℕ → Token
+token_of_lexeme end front x = record { kind = x.0.kind; value = x.0.value; start = end - length front; end = end - length x.1 }
 
 -- the tokens with the one that was read at the front, and what is left
-abbrev pub pushed : List Token → ℕ → List ℕ → Read Lexeme → Read (List Token)
-pushed seen end front read = read >>= λ x. Ok (seen ++ placed end front x ∷ [], x.1)
+abbrev pub with_token : List Token → ℕ → List ℕ → Read Lexeme → Read (List Token)
+with_token seen end front read = read >>= λ x. Ok (seen ++ token_of_lexeme end front x ∷ [], x.1)
 
 -- from where the next token begins: the part's mark, or that token and what goes on behind it
 abbrev pub part_by : (List Token → List ℕ → Result Part LexFault) → ℕ → List Token → List ℕ → Option Announced → Result Part LexFault
 part_by go end seen front (Some mark) = Ok (record { tokens = seen; mark = Some (end - length front, mark) })
-part_by go end seen front None = pushed seen end front (token_at front) >>= λ x. go x.0 x.1
+part_by go end seen front None = with_token seen end front (token_at front) >>= λ x. go x.0 x.1
 
 -- the next token of a text that isn't empty, or its mark
 abbrev pub next_at : (List Token → List ℕ → Result Part LexFault) → ℕ → List Token → List ℕ → Result Part LexFault

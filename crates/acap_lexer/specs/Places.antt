@@ -1,20 +1,20 @@
 -- Tokens as places in one text of values.
 use Rattle.std.specs.Prelude.{◌≡◌, ℕ, ◌+◌, ◌-◌, ◌≤◌, List, ◌++◌, length, take, drop, map}
 use Rattle.std.specs.List.{AllByRecursion}
-use Rattle.acap_lexer.specs.declared.place.Place.{Place}
+use Rattle.acap_lexer.specs.declared.place.TokenPlace.{TokenPlace}
 use Rattle.acap_lexer.specs.Token.{Token}
 
-abbrev pub token_in : List ℕ → Place → Token
+abbrev pub token_in : List ℕ → TokenPlace → Token
 token_in text m = record { kind = m.kind; value = take (m.value_end - m.value_start) (drop m.value_start text); start = m.start; end = m.end }
 
-abbrev pub tokens_in : List ℕ → List Place → List Token
+abbrev pub tokens_in : List ℕ → List TokenPlace → List Token
 tokens_in text places = map (token_in text) places
 
-pub record IsWithin (text : List ℕ) (m : Place) : Type 0 where
+pub record IsWithin (text : List ℕ) (m : TokenPlace) : Type 0 where
   pub start : m.value_start ≤ m.value_end
   pub end : m.value_end ≤ length text
 
-abbrev pub AreWithin : List ℕ → List Place → Type 0
+abbrev pub AreWithin : List ℕ → List TokenPlace → Type 0
 AreWithin text places = AllByRecursion (IsWithin text) places
 
 -- the text lies in the whole, up to the index behind it there

@@ -7,24 +7,24 @@ use Rattle.acap_lexer.specs.Octets.{is_escaped, backslash, brace, carriage_retur
 abbrev pub escape : ℕ → List ℕ
 escape c = if is_escaped c then backslash ∷ c ∷ [] else c ∷ []
 
-abbrev pub escaped : List ℕ → List ℕ
-escaped text = flat_map escape text
+abbrev pub escaped_form : List ℕ → List ℕ
+escaped_form text = flat_map escape text
 
 -- no NUL, CR or LF
 unfoldable pub is_printable : ℕ → Bool
 is_printable c = not (c == 0 || c == line_feed || c == carriage_return)
 
 unfoldable pub may_quote : List ℕ → Bool
-may_quote text = nat_le (length (escaped text)) 1024 && (is_utf8 text && list_all is_printable text)
+may_quote text = nat_le (length (escaped_form text)) 1024 && (is_utf8 text && list_all is_printable text)
 
-unfoldable pub quoted : List ℕ → List ℕ
-quoted text = quote ∷ [] ++ escaped text ++ quote ∷ []
+unfoldable pub quoted_form : List ℕ → List ℕ
+quoted_form text = quote ∷ [] ++ escaped_form text ++ quote ∷ []
 
 unfoldable pub literal : List ℕ → List ℕ
 literal text = brace ∷ [] ++ decimal (length text) ++ closing_brace ∷ carriage_return ∷ line_feed ∷ [] ++ text
 
-unfoldable pub printed : List ℕ → List ℕ
-printed text = if may_quote text then quoted text else literal text
+unfoldable pub printed_form : List ℕ → List ℕ
+printed_form text = if may_quote text then quoted_form text else literal text
 
 -- new begins with old
 abbrev pub Grows : {X : Type 0} → List X → List X → Type 0

@@ -82,16 +82,16 @@ unfoldable pub count_of : List ℕ → Option ℕ
 count_of digits = if is_count digits then Some (number_of digits) else None
 
 -- from the number and what closes the mark
-abbrev pub announced : Option ℕ → Option Bool → Option Announced
-announced (Some count) (Some waits) = Some (record { count = count; waits = waits })
-announced (Some count) None = None
-announced None closing = None
+abbrev pub announcement : Option ℕ → Option Bool → Option Announced
+announcement (Some count) (Some waits) = Some (record { count = count; waits = waits })
+announcement (Some count) None = None
+announcement None closing = None
 
 -- The literal mark that the text is, up to the end of its part: `{`, the count, and what closes it. [2.6.3]
 unfoldable pub mark_of : List ℕ → Option Announced
 mark_of [] = None
 mark_of (c ∷ rest) =
-    if c == brace then announced (count_of (take (prefix_len is_digit rest) rest)) (closing_of (drop (prefix_len is_digit rest) rest)) else None
+    if c == brace then announcement (count_of (take (prefix_len is_digit rest) rest)) (closing_of (drop (prefix_len is_digit rest) rest)) else None
 
 -- what an octet that may not stand here is
 unfoldable pub stray : List ℕ → LexFault

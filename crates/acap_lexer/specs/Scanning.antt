@@ -9,7 +9,7 @@ use Rattle.acap_lexer.specs.declared.scan.Scan.{Scan}
 use Rattle.acap_lexer.specs.declared.stage_outcome.StageOutcome.{StageOutcome}
 use Rattle.acap_lexer.specs.declared.stage_outcome.StageOutcome.TheVariants as outcomes
 use Rattle.acap_lexer.specs.Ends.{NoEnd}
-use Rattle.acap_lexer.specs.Stream.{Front, step_by_mark, said, step_of, Stage, AtPart, InLiteral, Step, Waits, Ends, Goes, progress, progress_from, waiting}
+use Rattle.acap_lexer.specs.Stream.{Front, step_by_mark, step_of_part, step_of, Stage, AtPart, InLiteral, Step, Waits, Ends, Goes, progress, progress_from, waiting}
 
 abbrev pub front_of : Scan → Front
 front_of scan = record { tokens = scan.draft.tokens; octets = scan.octets }
@@ -54,7 +54,7 @@ TurnsAtMark end start announced old new turn = Turns (step_by_mark end old.draft
 
 -- a turn at a whole part, unless memory was refused
 abbrev pub ReadsWhole : {E : Type 0} → List ℕ → Scan → Scan → Result StageOutcome E → Type 0
-ReadsWhole part old new result = IfOk result (λ turn. Turns (said old.mode (front_of old) part) old new turn)
+ReadsWhole part old new result = IfOk result (λ turn. Turns (step_of_part old.mode (front_of old) part) old new turn)
 
 -- a turn at what comes of the stage, unless memory was refused
 abbrev pub Steps : {E : Type 0} → List ℕ → Scan → Scan → Result StageOutcome E → Type 0

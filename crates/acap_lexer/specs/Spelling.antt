@@ -6,7 +6,7 @@ use Rattle.acap_lexer.specs.declared.kind.Kind.TheVariants as kinds
 use Rattle.acap_lexer.specs.declared.mode.Mode.{Mode}
 use Rattle.acap_lexer.specs.declared.mode.Mode.TheVariants as modes
 use Rattle.acap_lexer.specs.Octets.{is_word, is_tag, is_digit, carriage_return, line_feed}
-use Rattle.acap_lexer.specs.Printing.{escaped, is_printable, quoted}
+use Rattle.acap_lexer.specs.Printing.{escaped_form, is_printable, quoted_form}
 use Rattle.acap_lexer.specs.Token.{Token}
 
 -- A token behind the tag, as it is written. A literal has the digits of its mark, whether the client waits to be
@@ -43,7 +43,7 @@ mark digits waits = codes "{" ++ (digits ++ (if waits then codes "}" else codes 
 -- the octets that it is written with
 abbrev pub own : Written → List ℕ
 own (Word octets) = octets
-own (Quoted octets) = quoted octets
+own (Quoted octets) = quoted_form octets
 own (Literal digits waits octets) = mark digits waits ++ (crlf ++ octets)
 own Open = codes "("
 own Close = codes ")"
@@ -65,7 +65,7 @@ pub record IsCount (digits : List ℕ) (count : ℕ) : Type 0 where
 -- the backslashes; in a literal any, as many as its mark says.
 abbrev pub IsSpelled : Written → Type 0
 IsSpelled (Word octets) = IsTrue (list_all is_word octets) × (1 ≤ length octets)
-IsSpelled (Quoted octets) = IsTrue (list_all is_printable octets) × (length (escaped octets) ≤ 1024)
+IsSpelled (Quoted octets) = IsTrue (list_all is_printable octets) × (length (escaped_form octets) ≤ 1024)
 IsSpelled (Literal digits waits octets) = IsCount digits (length octets)
 IsSpelled Open = Unit {0}
 IsSpelled Close = Unit {0}

@@ -78,14 +78,14 @@ step_by_front mode end (Err fault) = Ends (Bad fault None) (end + 2)
 step_by_front mode end (Ok x) = step_by_part (tag_of mode x.0) end (part_within (length x.1) end x.0 x.1)
 
 -- what a whole part says, without its CR LF
-unfoldable pub said : Mode → Front → List ℕ → Step
-said mode front part =
+unfoldable pub step_of_part : Mode → Front → List ℕ → Step
+step_of_part mode front part =
     let end = front.octets + length part in
     if nat_lt command_limit (end + 2) then Ends (Fatal CommandTooLong) (end + 2)
     else step_by_front mode end (begun_at mode front.tokens part)
 
 abbrev pub step_by_end : Mode → Front → List ℕ → PartEnd → Step
-step_by_end mode front text (At n) = said mode front (take n text)
+step_by_end mode front text (At n) = step_of_part mode front (take n text)
 step_by_end mode front text Never = Ends (Fatal LineTooLong) (front.octets + part_limit)
 step_by_end mode front text NotYet = Waits
 

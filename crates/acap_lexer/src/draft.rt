@@ -1,16 +1,15 @@
 //! The tokens of a command that is being read.
 
-ghost use Rattle.std.specs.Prelude.{◌≡◌, ◌<◌, ◌≤◌, ◌+◌, ◌-◌, ◌==◌, ◌++◌, ◌∷◌, [], length, take, drop, slice_get, option_map, OnOk, OnErr, IfOk};
+ghost use Rattle.std.specs.Prelude.{◌≡◌, ◌<◌, ◌≤◌, ◌+◌, ◌-◌, ◌==◌, ◌++◌, ◌∷◌, [], length, take, slice_get, option_map, OnErr, IfOk};
 ghost use Rattle.acap_lexer.specs.Adding.{Adds, lying};
-ghost use Rattle.acap_lexer.specs.Token.{Token};
-ghost use Rattle.acap_lexer.specs.Part.{last_kind, pushed};
+ghost use Rattle.acap_lexer.specs.Part.{last_kind, with_token};
 ghost use Rattle.acap_lexer.specs.Places.{LiesIn};
 ghost use Rattle.acap_lexer.specs.Printing.{Grows};
 ghost use Rattle.acap_lexer.specs.Reading.{Gives, as_string, string_at};
 
 use crate::fault::{LexError, Memory};
 use crate::kind::Kind;
-use crate::place::Place;
+use crate::place::TokenPlace;
 use crate::strings::{plain_string_at, string_at};
 use crate::tokens::Tokens;
 use std::alloc::Global;
@@ -37,7 +36,7 @@ const INDEX_LIMIT: usize = 4294967295;
 #[derive(Drop)]
 pub(crate) struct Draft {
     text: Vec<u8>,
-    places: Vec<Place>,
+    places: Vec<TokenPlace>,
 }
 
 impl Model for Draft {
@@ -63,7 +62,7 @@ impl Draft {
     }
 
     /// No token yet, in memory that was used before, unless that is more than is kept.
-    pub(crate) fn within(alloc: Global, text: Vec<u8>, places: Vec<Place>) -> Draft
+    pub(crate) fn within(alloc: Global, text: Vec<u8>, places: Vec<TokenPlace>) -> Draft
         ensures { result ≡ record { text = []; tokens = [] } }
     {
         if text.capacity() > OCTETS_KEPT || places.capacity() > TOKENS_KEPT {
@@ -77,7 +76,7 @@ impl Draft {
     }
 
     /// No token, in the memory of these, unless that is more than is kept.
-    pub(crate) fn emptied(self, alloc: Global) -> Draft
+    pub(crate) fn clear(self, alloc: Global) -> Draft
         ensures { result ≡ record { text = []; tokens = [] } }
     {
         Draft::within(alloc, self.text, self.places)
@@ -142,7 +141,7 @@ impl Draft {
         if value.end > INDEX_LIMIT || span.start > INDEX_LIMIT || span.end > INDEX_LIMIT {
             return Err(Memory);
         }
-        self.places.push(Place {
+        self.places.push(TokenPlace {
             kind,
             value_start: value.start as u32,
             value_end: value.end as u32,
@@ -202,7 +201,7 @@ impl Draft {
         requires within { length rest.now + 1 ≤ end }
         requires copied { LiesIn self.old.text behind rest.now }
         ensures gives { Gives (λ left. (self.new.tokens, left.now)) result
-            (pushed self.old.tokens end (34 ∷ rest.now) (as_string (string_at rest.now))) }
+            (with_token self.old.tokens end (34 ∷ rest.now) (as_string (string_at rest.now))) }
         ensures grows { Grows self.old.tokens self.new.tokens }
         ensures text { Grows self.old.text self.new.text }
         ensures within { IfOk result (λ left. length left.now ≤ length rest.now) }
@@ -219,7 +218,7 @@ impl Draft {
     fn push_escaped<'a>(&mut self, rest: &'a [u8], end: usize) -> Result<&'a [u8], LexError>
         requires { length rest.now + 1 ≤ end }
         ensures gives { Gives (λ left. (self.new.tokens, left.now)) result
-            (pushed self.old.tokens end (34 ∷ rest.now) (as_string (string_at rest.now))) }
+            (with_token self.old.tokens end (34 ∷ rest.now) (as_string (string_at rest.now))) }
         ensures grows { Grows self.old.tokens self.new.tokens }
         ensures text { Grows self.old.text self.new.text }
         ensures within { IfOk result (λ left. length left.now ≤ length rest.now) }

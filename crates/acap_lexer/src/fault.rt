@@ -3,7 +3,10 @@
 ghost use Rattle.std.specs.Prelude.{◌≡◌};
 ghost use Rattle.acap_lexer.specs.declared.fault.LexError.TheVariants as errors;
 
-use std::alloc::{AllocError, AllocFailed};
+use std::alloc::AllocFailed;
+
+/// Memory was refused.
+pub use std::alloc::AllocError as Memory;
 
 /// What is wrong with a line or a command: the first fault from the left (RFC 2244, sections 2.2 and 2.6).
 #[derive(Clone, Copy, PartialEq, Eq)]
@@ -20,31 +23,11 @@ pub enum LexFault {
     LineTooLong,
 }
 
-/// A growth was refused memory.
-#[derive(Clone, Copy, PartialEq, Eq)]
-pub struct Memory;
-
 /// Why a part wasn't read.
 #[derive(Clone, Copy, PartialEq, Eq)]
 pub(crate) enum LexError {
     Memory,
     Fault(LexFault),
-}
-
-impl From<AllocError> for LexError {
-    ghost from_gives = { λ _ e. e ≡ errors.Memory };
-
-    fn from(_error: AllocError) -> LexError {
-        LexError::Memory
-    }
-}
-
-impl<T: Drop> From<AllocFailed<T>> for LexError {
-    ghost from_gives = { λ _ e. e ≡ errors.Memory };
-
-    fn from(_error: AllocFailed<T>) -> LexError {
-        LexError::Memory
-    }
 }
 
 impl From<Memory> for LexError {
@@ -55,14 +38,10 @@ impl From<Memory> for LexError {
     }
 }
 
-impl From<AllocError> for Memory {
-    fn from(_error: AllocError) -> Memory {
-        Memory
-    }
-}
+impl<T: Drop> From<AllocFailed<T>> for LexError {
+    ghost from_gives = { λ _ e. e ≡ errors.Memory };
 
-impl<T: Drop> From<AllocFailed<T>> for Memory {
-    fn from(_error: AllocFailed<T>) -> Memory {
-        Memory
+    fn from(_error: AllocFailed<T>) -> LexError {
+        LexError::Memory
     }
 }

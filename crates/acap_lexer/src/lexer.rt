@@ -1,6 +1,6 @@
 //! A stream of octets, taken in pieces and answered command by command.
 
-ghost use Rattle.std.specs.Prelude.{◌≡◌, ◌++◌, ◌+◌, ◌-◌, ◌≤◌, [], min, length, take, drop, IfOk, OnErr};
+ghost use Rattle.std.specs.Prelude.{◌≡◌, ◌+◌, ◌-◌, ◌≤◌, [], min, length, drop, IfOk, OnErr};
 ghost use Rattle.acap_lexer.specs.Held.{next_of, fatal_of};
 ghost use Rattle.acap_lexer.specs.Holding.{held_limit, with_taken};
 
@@ -148,7 +148,7 @@ impl Lexer {
         ensures { self.new ≡ self.old }
     {
         if self.scan.draft.is_empty() {
-            self.scan.draft = tokens.emptied(self.alloc);
+            self.scan.draft = tokens.clear(self.alloc);
         }
     }
 }

@@ -4,7 +4,7 @@
 
 mod advance;
 mod announced;
-mod asked;
+mod answered;
 mod coming;
 mod draft;
 mod due;

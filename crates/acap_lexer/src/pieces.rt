@@ -2,9 +2,9 @@
 
 ghost use Rattle.std.specs.Prelude.{◌≡◌, ◌<◌, length, IfOk, None};
 ghost use Rattle.acap_lexer.specs.Held.{answers_of};
-ghost use Rattle.acap_lexer.specs.Owing.{AsksFor, LeavesAsked, LeavesFed, IsReady, how_whole, joined};
+ghost use Rattle.acap_lexer.specs.Owing.{AsksFor, LeavesAsked, LeavesFed, IsReady, how_whole, octets_of};
 
-use crate::asked::Asked;
+use crate::answered::Answered;
 use crate::fault::Memory;
 use crate::lexed::Lexed;
 use crate::lexer::Lexer;
@@ -12,23 +12,23 @@ use crate::mode::Mode;
 use std::alloc::Global;
 
 /// Whether nothing is read behind the item.
-fn how_whole(item: &Lexed) -> Asked
+fn how_whole(item: &Lexed) -> Answered
     ensures { result ≡ how_whole item.now }
 {
     match item {
-        Lexed::Fatal(_) => Asked::Closed,
-        _ => Asked::Whole,
+        Lexed::Fatal(_) => Answered::Closed,
+        _ => Answered::Whole,
     }
 }
 
 /// Asks for a command in this mode, and adds what is answered.
-fn ask(lexer: &mut Lexer, mode: Mode, said: &mut Vec<Lexed>) -> Result<Asked, Memory>
+fn ask(lexer: &mut Lexer, mode: Mode, said: &mut Vec<Lexed>) -> Result<Answered, Memory>
     requires { lexer.old.fatal ≡ None }
     ensures { IfOk result (λ asked. AsksFor mode lexer.old said.old.items lexer.new said.new.items asked) }
 {
     'continuations: loop {
         match lexer.next(mode)? {
-            Lexed::More => return Ok(Asked::NotYet),
+            Lexed::More => return Ok(Answered::NotYet),
             Lexed::Plus => said.push(Lexed::Plus)?,
             item => {
                 let asked = how_whole(&item);
@@ -51,9 +51,9 @@ fn ask_all<'m>(
     let mut left = modes;
     'commands: while let Some((mode, later)) = left.split_first() {
         match ask(lexer, *mode, said)? {
-            Asked::NotYet => return Ok(left),
-            Asked::Whole => left = later,
-            Asked::Closed => return Ok(&[]),
+            Answered::NotYet => return Ok(left),
+            Answered::Whole => left = later,
+            Answered::Closed => return Ok(&[]),
         }
     }
     Ok(left)
@@ -88,7 +88,7 @@ fn feed<'m>(
 /// The answers of a stream that comes in these pieces, its commands being asked for in these modes. They are
 /// those of the octets joined, however they were divided (RFC 2244, section 2.2).
 pub fn answers(alloc: Global, modes: &[Mode], pieces: &[&[u8]]) -> Result<Vec<Lexed>, Memory>
-    ensures { IfOk result (λ said. said.items ≡ answers_of modes.now (joined pieces.now)) }
+    ensures { IfOk result (λ said. said.items ≡ answers_of modes.now (octets_of pieces.now)) }
 {
     let mut lexer = Lexer::new(alloc);
     let mut said = Vec::new(alloc);

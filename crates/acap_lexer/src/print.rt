@@ -4,7 +4,8 @@ ghost use Rattle.std.specs.Prelude.{◌≡◌, ◌++◌, ◌∷◌, [], OnOk, On
 ghost use Rattle.std.specs.List.{list_all};
 ghost use Rattle.acap_lexer.specs.Octets.{is_escaped as is_escaped_octet, is_plain as is_plain_octet, quote};
 ghost use Rattle.std.specs.Str.{is_utf8};
-ghost use Rattle.acap_lexer.specs.Printing.{escaped, is_printable, may_quote, quoted, literal, printed, Grows};
+ghost use Rattle.acap_lexer.specs.Printing.{escaped_form, is_printable, may_quote, quoted_form};
+ghost use Rattle.acap_lexer.specs.Printing.{literal, printed_form, Grows};
 ghost use Rattle.acap_lexer.specs.Escapes.{SplitsAtEscape};
 
 use crate::fault::Memory;
@@ -26,7 +27,7 @@ fn escapes(text: &[u8]) -> usize
 /// Whether the escaped form is short enough. A text of half that length is, whatever its octets.
 #[tactic(auto, using(crate::proofs::PrintedLength::short_rules))]
 fn is_short(text: &[u8]) -> bool
-    ensures { result ≡ nat_le (length (escaped text.now)) 1024 }
+    ensures { result ≡ nat_le (length (escaped_form text.now)) 1024 }
 {
     if text.len() <= QUOTED_LIMIT / 2 {
         return true;
@@ -74,7 +75,7 @@ fn split_at_escape(text: &[u8]) -> Option<(&[u8], u8, &[u8])>
 }
 
 fn append_escaped(text: &[u8], out: &mut Vec<u8>) -> Result<(), Memory>
-    ensures ok { OnOk result (out.new.items ≡ out.old.items ++ escaped text.now) }
+    ensures ok { OnOk result (out.new.items ≡ out.old.items ++ escaped_form text.now) }
     ensures grows { Grows out.old.items out.new.items }
 {
     let mut left = text;
@@ -88,9 +89,9 @@ fn append_escaped(text: &[u8], out: &mut Vec<u8>) -> Result<(), Memory>
     Ok(())
 }
 
-#[tactic(auto, unfolding(crate::specs::Printing::quoted))]
+#[tactic(auto, unfolding(crate::specs::Printing::quoted_form))]
 fn append_quoted(text: &[u8], out: &mut Vec<u8>) -> Result<(), Memory>
-    ensures ok { OnOk result (out.new.items ≡ out.old.items ++ quoted text.now) }
+    ensures ok { OnOk result (out.new.items ≡ out.old.items ++ quoted_form text.now) }
     ensures grows { Grows out.old.items out.new.items }
 {
     out.reserve(text.len() + 2)?;
@@ -113,9 +114,9 @@ fn append_literal(text: &[u8], out: &mut Vec<u8>) -> Result<(), Memory>
     Ok(())
 }
 
-#[tactic(auto, unfolding(crate::specs::Printing::printed))]
+#[tactic(auto, unfolding(crate::specs::Printing::printed_form))]
 fn append_string(text: &[u8], out: &mut Vec<u8>) -> Result<(), Memory>
-    ensures ok { OnOk result (out.new.items ≡ out.old.items ++ printed text.now) }
+    ensures ok { OnOk result (out.new.items ≡ out.old.items ++ printed_form text.now) }
     ensures grows { Grows out.old.items out.new.items }
 {
     if is_plain_text(text) {
@@ -136,7 +137,7 @@ fn all_plain(text: &[u8]) -> bool
 /// Whether a text is known to stand between quotes as it is.
 #[tactic(auto, using(crate::proofs::PlainTexts::plain_form))]
 fn is_plain_text(text: &[u8]) -> bool
-    ensures { IsTrue result → printed text.now ≡ quote ∷ [] ++ text.now ++ quote ∷ [] }
+    ensures { IsTrue result → printed_form text.now ≡ quote ∷ [] ++ text.now ++ quote ∷ [] }
 {
     text.len() <= SCANNED && all_plain(text)
 }
@@ -154,7 +155,7 @@ fn append_plain(text: &[u8], out: &mut Vec<u8>) -> Result<(), Memory>
 
 /// Adds the printed form of the string: the whole of it, or nothing.
 pub fn print_string(text: &[u8], out: &mut Vec<u8>) -> Result<(), Memory>
-    ensures ok { OnOk result (out.new.items ≡ out.old.items ++ printed text.now) }
+    ensures ok { OnOk result (out.new.items ≡ out.old.items ++ printed_form text.now) }
     ensures err { OnErr result (out.new.items ≡ out.old.items) }
 {
     let len = out.len();

@@ -1,9 +1,9 @@
 //! The tokens of a part, one by one.
 
-ghost use Rattle.std.specs.Prelude.{◌≡◌, ◌≤◌, ◌<◌, ◌-◌, [], length, take, slice_index, IfOk};
+ghost use Rattle.std.specs.Prelude.{◌≡◌, ◌≤◌, ◌<◌, ◌-◌, length, IfOk};
 ghost use Rattle.std.specs.List.{prefix_len};
 ghost use Rattle.acap_lexer.specs.Octets.{is_word as is_word_octet, is_tag as is_tag_octet};
-ghost use Rattle.acap_lexer.specs.Part.{pushed};
+ghost use Rattle.acap_lexer.specs.Part.{with_token};
 ghost use Rattle.acap_lexer.specs.Places.{LiesIn, Splits};
 ghost use Rattle.acap_lexer.specs.Printing.{Grows};
 ghost use Rattle.acap_lexer.specs.Reading.{Gives, GivesPlain, stray, token_at, may_touch, gap_behind, gap_at, ends_tag, tag_at};
@@ -79,7 +79,7 @@ pub(crate) fn push_token<'a>(
     requires within { length text.now ≤ end }
     requires copied { LiesIn draft.old.text behind text.now }
     ensures gives { Gives (λ left. (draft.new.tokens, left.now)) result
-        (pushed draft.old.tokens end text.now (token_at text.now)) }
+        (with_token draft.old.tokens end text.now (token_at text.now)) }
     ensures grows { Grows draft.old.tokens draft.new.tokens }
     ensures text { Grows draft.old.text draft.new.text }
     ensures within { IfOk result (λ left. length left.now ≤ length text.now) }

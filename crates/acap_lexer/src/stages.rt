@@ -1,6 +1,6 @@
 //! The stages of a command, one by one.
 
-ghost use Rattle.std.specs.Prelude.{◌≡◌, ◌≤◌, ◌<◌, ◌+◌, ◌^◌, List, ℕ, length, IfOk};
+ghost use Rattle.std.specs.Prelude.{◌≡◌, ◌≤◌, ◌<◌, ◌+◌, ◌^◌, length, IfOk};
 ghost use Rattle.acap_lexer.specs.declared.mode.Mode.TheVariants as modes;
 ghost use Rattle.acap_lexer.specs.Part.{part_within, tag_of};
 ghost use Rattle.acap_lexer.specs.Places.{LiesIn};
@@ -79,7 +79,7 @@ fn read_rest(
 }
 
 /// Reads a whole part, without its CR LF.
-#[tactic(auto, unfolding(crate::specs::Stream::said))]
+#[tactic(auto, unfolding(crate::specs::Stream::step_of_part))]
 fn read_whole(alloc: Global, scan: &mut Scan, part: &[u8]) -> Result<StageOutcome, Memory>
     requires end { scan.old.octets + length part.now + 2 < 2 ^ 63 }
     requires waits { scan.old.waits ≤ scan.old.octets }

@@ -1,6 +1,6 @@
 //! Quoted strings.
 
-ghost use Rattle.std.specs.Prelude.{◌≡◌, ◌≤◌, ◌+◌, ◌++◌, length, map, IfOk, IfSome};
+ghost use Rattle.std.specs.Prelude.{◌≡◌, ◌≤◌, ◌+◌, length, map, IfOk, IfSome};
 ghost use Rattle.std.specs.List.{prefix_len};
 ghost use Rattle.std.specs.Simd.Lanes.{mask_l};
 ghost use Rattle.acap_lexer.specs.Octets.{is_quotable as is_quotable_octet, is_special};
@@ -83,7 +83,7 @@ fn run_at(text: &[u8]) -> Result<(Option<&[u8]>, &[u8]), LexError>
         return Ok((None, after));
     }
     if *c == b'\\' {
-        return escaped_at(after);
+        return escape_at(after);
     }
     if !is_quotable(*c) {
         return Err(BAD_TOKEN);
@@ -95,7 +95,7 @@ fn run_at(text: &[u8]) -> Result<(Option<&[u8]>, &[u8]), LexError>
 /// The octet that a backslash escapes, together with those behind it that stand for themselves, so that all are copied
 /// at once, and what is left.
 #[tactic(auto, unfolding(crate::specs::Reading::quoted_at))]
-fn escaped_at(text: &[u8]) -> Result<(Option<&[u8]>, &[u8]), LexError>
+fn escape_at(text: &[u8]) -> Result<(Option<&[u8]>, &[u8]), LexError>
     ensures { TakesEscaped text.now result }
 {
     let Some((c, after)) = text.split_first() else {

@@ -5,7 +5,7 @@ ghost use Rattle.acap_lexer.specs.Places.{tokens_in, AreWithin};
 
 use crate::draft::Draft;
 use crate::kind::Kind;
-use crate::place::Place;
+use crate::place::TokenPlace;
 use std::alloc::Global;
 use std::marker::Model;
 use std::ops::Range;
@@ -15,7 +15,7 @@ use std::ops::Range;
 #[derive(Drop)]
 pub struct Tokens {
     text: Vec<u8>,
-    places: Vec<Place>,
+    places: Vec<TokenPlace>,
 }
 
 impl Model for Tokens {
@@ -32,7 +32,7 @@ impl Model for Tokens {
 
 impl Tokens {
     /// The tokens that lie in a text.
-    pub(crate) fn of_places(text: Vec<u8>, places: Vec<Place>) -> Tokens
+    pub(crate) fn of_places(text: Vec<u8>, places: Vec<TokenPlace>) -> Tokens
         requires { AreWithin text.items places.items }
         ensures { result ≡ tokens_in text.items places.items }
     {
@@ -40,7 +40,7 @@ impl Tokens {
     }
 
     /// No token yet, in their memory, unless that is more than is kept.
-    pub(crate) fn emptied(self, alloc: Global) -> Draft
+    pub(crate) fn clear(self, alloc: Global) -> Draft
         ensures { result ≡ record { text = []; tokens = [] } }
     {
         Draft::within(alloc, self.text, self.places)

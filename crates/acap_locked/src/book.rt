@@ -1,5 +1,5 @@
 //! The machine, and how it came to be.
-ghost use Rattle.std.specs.Prelude.{◌≡◌, ◌≤◌, ◌<◌, ◌+◌, IfOk, IfErr, OnErr, OnOk, length, sum};
+ghost use Rattle.std.specs.Prelude.{◌≡◌, ◌<◌, ◌+◌, IfOk, IfErr, OnErr, OnOk, length, sum};
 ghost use Rattle.acap_locked.specs.Calls.{IsCalled, IsRefused, IsServed};
 ghost use Rattle.acap_locked.specs.Epochs.{Turns};
 ghost use Rattle.acap_locked.specs.History.{IsLegal};

@@ -1,6 +1,5 @@
 //! Why a book is not closed.
 use acap_entries::{Memory, Seat};
-use std::alloc::AllocError;
 
 /// Why a book is not closed; it and the passes are gone.
 #[derive(Clone, Copy, PartialEq, Eq)]
@@ -20,17 +19,6 @@ impl From<Memory> for CloseFault {
     ghost from_gives = { λ memory made. made ≡ fault.Memory };
 
     fn from(_memory: Memory) -> CloseFault {
-        CloseFault::Memory
-    }
-}
-
-impl From<AllocError> for CloseFault {
-    ghost use Rattle.std.specs.Prelude.{◌≡◌};
-    ghost use Rattle.acap_locked.specs.declared.close_fault.CloseFault.TheVariants as fault;
-
-    ghost from_gives = { λ memory made. made ≡ fault.Memory };
-
-    fn from(_memory: AllocError) -> CloseFault {
         CloseFault::Memory
     }
 }

@@ -7,7 +7,7 @@ use acap_entries::Moment;
 
 /// One call of a pass.
 #[derive(Drop)]
-pub struct Item {
+pub struct PassItem {
     /// The number of the epoch in which it was made, from 0.
     pub epoch: u64,
     /// Its place in the history of that epoch, from 0.
@@ -16,7 +16,7 @@ pub struct Item {
     pub exchange: Exchange,
 }
 
-impl Item {
+impl PassItem {
     /// The event.
     pub fn event(&self) -> &Event
         ensures { result.now ≡ self.now.exchange.event }

@@ -6,7 +6,7 @@ use Rattle.std.specs.Str.{bytes_eq}
 use Rattle.std.proofs.lemmas.Bool.Decides.{same_from_decides}
 use Rattle.std.proofs.lemmas.Slice.Eq.{bytes_eq-Decides}
 use Rattle.std.proofs.lemmas.List.Quantifiers.{position-Some}
-use Rattle.acap_login.specs.Login.{User, Fits, IsAccepted, IsRefused, accepted, answer_of, digest_of, space, user_at}
+use Rattle.acap_login.specs.Login.{User, Fits, IsAccepted, IsRefused, answering_user, answer_of, digest_of, space, user_at}
 use Rattle.acap_login.proofs.CutLemmas.{printed, count, parts_apart}
 use Rattle.acap_login.proofs.Places.{position_at, position_map, position_nowhere, nowhere}
 
@@ -30,8 +30,8 @@ by_test false h = refl
 misfits : (challenge answer : List ℕ) (user : User) → (¬ Fits challenge answer user) → test challenge answer user ≡ false
 misfits challenge answer user h = by_test (test challenge answer user) (λ e. h (passes challenge answer user e))
 
-pub accepted_is : (users : List User) (challenge answer : List ℕ) (place : ℕ) → (accepted users challenge answer ≡ Some place) ↔ IsAccepted users challenge answer place
-unfolding accepted
+pub accepted_is : (users : List User) (challenge answer : List ℕ) (place : ℕ) → (answering_user users challenge answer ≡ Some place) ↔ IsAccepted users challenge answer place
+unfolding answering_user
 accepted_is users challenge answer place = (
   λ h. let found = position-Some (test challenge answer) users place ([], []) h in record {
     within = found.0;
@@ -41,16 +41,16 @@ accepted_is users challenge answer place = (
   λ a. position_at (test challenge answer) users place ([], []) a.within (fits challenge answer (user_at users place) a.fits) (λ k lt. misfits challenge answer (user_at users k) (a.first k lt)),
 )
 
-pub refused_is : (users : List User) (challenge answer : List ℕ) → (accepted users challenge answer ≡ None) ↔ IsRefused users challenge answer
-unfolding accepted
+pub refused_is : (users : List User) (challenge answer : List ℕ) → (answering_user users challenge answer ≡ None) ↔ IsRefused users challenge answer
+unfolding answering_user
 refused_is users challenge answer = (
   λ h. record { nobody = λ k lt. fails challenge answer (user_at users k) (nowhere (test challenge answer) users ([], []) h k lt) },
   λ r. position_nowhere (test challenge answer) users ([], []) (λ k lt. misfits challenge answer (user_at users k) (r.nobody k lt)),
 )
 
 -- what isn't cut before 32 octets fits nobody
-pub uncut : (users : List User) (challenge answer : List ℕ) → ((name digits : List ℕ) → length digits ≡ 32 → ¬ (answer ≡ name ++ space ∷ digits)) → accepted users challenge answer ≡ None
-unfolding accepted
+pub uncut : (users : List User) (challenge answer : List ℕ) → ((name digits : List ℕ) → length digits ≡ 32 → ¬ (answer ≡ name ++ space ∷ digits)) → answering_user users challenge answer ≡ None
+unfolding answering_user
 uncut users challenge answer never =
     position_nowhere (test challenge answer) users ([], []) (λ k lt. misfits challenge answer (user_at users k) (λ f. never (user_at users k).0 (digest_of (user_at users k).1 challenge) (count (user_at users k).1 challenge) f.whole))
 
@@ -78,6 +78,6 @@ apart challenge name digits known secret same_name same_digits long e f =
     ) whole
 
 -- the first of what stands for users
-pub placed : {X : Type 0} (f : X → User) (entries : List X) (challenge answer : List ℕ) (found : Option ℕ) → found ≡ position (λ entry. bytes_eq answer (answer_of challenge (f entry))) entries → found ≡ accepted (map f entries) challenge answer
-unfolding accepted
+pub placed : {X : Type 0} (f : X → User) (entries : List X) (challenge answer : List ℕ) (found : Option ℕ) → found ≡ position (λ entry. bytes_eq answer (answer_of challenge (f entry))) entries → found ≡ answering_user (map f entries) challenge answer
+unfolding answering_user
 placed f entries challenge answer found e = e ∙ sym (position_map (test challenge answer) f entries)

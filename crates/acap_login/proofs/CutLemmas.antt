@@ -6,7 +6,7 @@ use Rattle.md5.specs.Md5.{md5}
 use Rattle.md5.proofs.StandardFacts.{length-md5}
 use Rattle.hex.specs.Hex.{encode_with, lower_digits}
 use Rattle.hex.proofs.HexLemmas.{length-encode_with}
-use Rattle.acap_login.specs.Hmac.{hmac, keyed}
+use Rattle.acap_login.specs.Hmac.{hmac, key_block}
 use Rattle.acap_login.specs.Login.{Fits, User, digest_of, answer_of, is_space, space}
 use Rattle.acap_login.specs.Laws.{CutLaw, DigestLaw}
 
@@ -32,7 +32,7 @@ pub count : (secret challenge : List ℕ) → length (digest_of secret challenge
 unfolding digest_of hmac
 count secret challenge =
     let digits = length-encode_with lower_digits (hmac secret challenge) in
-    let bytes = length-md5 (keyed 0x5C secret ++ md5 (keyed 0x36 secret ++ challenge)) in
+    let bytes = length-md5 (key_block 0x5C secret ++ md5 (key_block 0x36 secret ++ challenge)) in
     omega (arith, digits, bytes)
 
 pub digest_law : DigestLaw

@@ -1,7 +1,7 @@
 -- What holds of the definitions, and examples that are computed from them.
 use Rattle.std.specs.Prelude.{◌≡◌, ◌↔◌, ◌<◌, ◌^◌, ℕ, false, List, [], ◌∷◌, length, codes, replicate, Some, None}
 use Rattle.std.specs.List.{list_any, range_with_len}
-use Rattle.acap_login.specs.Login.{User, IsCut, Fits, challenge_of, digest_of, answer_of, accepted, is_space}
+use Rattle.acap_login.specs.Login.{User, IsCut, Fits, challenge_of, digest_of, answer_of, answering_user, is_space}
 
 -- a text is cut at its last SP in one way at most; an answer fits a user exactly if it is what the user answers
 pub record CutLaw : Type 0 where
@@ -21,15 +21,15 @@ pub record ChallengeLaw : Type 0 where
   pub one_host : (n s : ℕ) (h : List ℕ) (n' s' : ℕ) (h' : List ℕ) → n < 2 ^ 64 → n' < 2 ^ 64 → s < 2 ^ 64 → s' < 2 ^ 64 → challenge_of n s h ≡ challenge_of n' s' h' → h ≡ h'
 
 -- the challenge of RFC 2195 section 2, its user's secret, and the digest there
-abbrev pub asked : List ℕ
-asked = codes "<1896.697170952@postoffice.reston.mci.net>"
+abbrev pub rfc_challenge : List ℕ
+rfc_challenge = codes "<1896.697170952@postoffice.reston.mci.net>"
 
 abbrev pub secret : List ℕ
 secret = codes "tanstaaftanstaaf"
 
 pub record ExchangeExample : Type 0 where
-  pub challenge : challenge_of 1896 697170952 (codes "postoffice.reston.mci.net") ≡ asked
-  pub digest : digest_of secret asked ≡ codes "b913a602c7eda7a495b4e6e7334d3890"
+  pub challenge : challenge_of 1896 697170952 (codes "postoffice.reston.mci.net") ≡ rfc_challenge
+  pub digest : digest_of secret rfc_challenge ≡ codes "b913a602c7eda7a495b4e6e7334d3890"
   pub zeros : challenge_of 0 0 [] ≡ codes "<0.0@>"
 
 -- the test cases of RFC 2202 section 2, the last two with a key that is longer than a block
@@ -44,10 +44,10 @@ pub record HashExamples : Type 0 where
 
 -- secrets of no octets, of a block, of an octet more, and of 1,000 octets
 pub record SecretExamples : Type 0 where
-  pub empty : digest_of [] asked ≡ codes "a00b54b824afa19ec2de0f73cb2a04c2"
-  pub block : digest_of (replicate 64 97) asked ≡ codes "baa4d037a60cc4166d351cea7523c406"
-  pub longer : digest_of (replicate 65 97) asked ≡ codes "82587b3d56a5458d7442afdfb7181a77"
-  pub long : digest_of (replicate 1000 97) asked ≡ codes "0a850ec34194d1b87078dc287e344eca"
+  pub empty : digest_of [] rfc_challenge ≡ codes "a00b54b824afa19ec2de0f73cb2a04c2"
+  pub block : digest_of (replicate 64 97) rfc_challenge ≡ codes "baa4d037a60cc4166d351cea7523c406"
+  pub longer : digest_of (replicate 65 97) rfc_challenge ≡ codes "82587b3d56a5458d7442afdfb7181a77"
+  pub long : digest_of (replicate 1000 97) rfc_challenge ≡ codes "0a850ec34194d1b87078dc287e344eca"
 
 -- users: one with that secret, one of the same name with another, one with SP in the name, one without a name
 abbrev pub tim : User
@@ -56,32 +56,32 @@ tim = (codes "tim", secret)
 abbrev pub other_tim : User
 other_tim = (codes "tim", codes "other")
 
-abbrev pub spaced : User
-spaced = (codes "tim b", secret)
+abbrev pub user_with_space : User
+user_with_space = (codes "tim b", secret)
 
 abbrev pub nameless : User
 nameless = ([], secret)
 
 -- answers that are accepted: for the first user whose name and secret they have
 pub record AcceptedExamples : Type 0 where
-  pub alone : accepted (tim ∷ []) asked (codes "tim b913a602c7eda7a495b4e6e7334d3890") ≡ Some 0
-  pub other_secret : accepted (other_tim ∷ tim ∷ []) asked (codes "tim 128c3ed34fb58bde905f34df2e9968fe") ≡ Some 0
-  pub first_that_fits : accepted (other_tim ∷ tim ∷ tim ∷ []) asked (codes "tim b913a602c7eda7a495b4e6e7334d3890") ≡ Some 1
-  pub space_in_name : accepted (tim ∷ spaced ∷ []) asked (codes "tim b b913a602c7eda7a495b4e6e7334d3890") ≡ Some 1
-  pub empty_name : accepted (tim ∷ nameless ∷ []) asked (codes " b913a602c7eda7a495b4e6e7334d3890") ≡ Some 1
+  pub alone : answering_user (tim ∷ []) rfc_challenge (codes "tim b913a602c7eda7a495b4e6e7334d3890") ≡ Some 0
+  pub other_secret : answering_user (other_tim ∷ tim ∷ []) rfc_challenge (codes "tim 128c3ed34fb58bde905f34df2e9968fe") ≡ Some 0
+  pub first_that_fits : answering_user (other_tim ∷ tim ∷ tim ∷ []) rfc_challenge (codes "tim b913a602c7eda7a495b4e6e7334d3890") ≡ Some 1
+  pub space_in_name : answering_user (tim ∷ user_with_space ∷ []) rfc_challenge (codes "tim b b913a602c7eda7a495b4e6e7334d3890") ≡ Some 1
+  pub empty_name : answering_user (tim ∷ nameless ∷ []) rfc_challenge (codes " b913a602c7eda7a495b4e6e7334d3890") ≡ Some 1
 
 -- answers that are accepted for nobody
 pub record RefusedExamples : Type 0 where
-  pub no_users : accepted [] asked (codes "tim b913a602c7eda7a495b4e6e7334d3890") ≡ None
-  pub other_secret : accepted (tim ∷ []) asked (codes "tim 128c3ed34fb58bde905f34df2e9968fe") ≡ None
-  pub other_challenge : accepted (tim ∷ []) asked (codes "tim c7a6dbd29b830a499f2e9faf2ee4ce81") ≡ None
-  pub upper_case : accepted (tim ∷ []) asked (codes "tim B913A602C7EDA7A495B4E6E7334D3890") ≡ None
-  pub digits_31 : accepted (tim ∷ []) asked (codes "tim b913a602c7eda7a495b4e6e7334d389") ≡ None
-  pub digits_33 : accepted (tim ∷ []) asked (codes "tim b913a602c7eda7a495b4e6e7334d38900") ≡ None
-  pub two_spaces : accepted (tim ∷ []) asked (codes "tim  b913a602c7eda7a495b4e6e7334d3890") ≡ None
-  pub no_space : accepted (tim ∷ nameless ∷ []) asked (codes "timb913a602c7eda7a495b4e6e7334d3890") ≡ None
-  pub digits_alone : accepted (tim ∷ nameless ∷ []) asked (codes "b913a602c7eda7a495b4e6e7334d3890") ≡ None
-  pub shorter_name : accepted (tim ∷ []) asked (codes "ti b913a602c7eda7a495b4e6e7334d3890") ≡ None
-  pub longer_name : accepted (tim ∷ []) asked (codes "tim b b913a602c7eda7a495b4e6e7334d3890") ≡ None
-  pub other_case : accepted (tim ∷ []) asked (codes "Tim b913a602c7eda7a495b4e6e7334d3890") ≡ None
-  pub nothing : accepted (tim ∷ nameless ∷ []) asked [] ≡ None
+  pub no_users : answering_user [] rfc_challenge (codes "tim b913a602c7eda7a495b4e6e7334d3890") ≡ None
+  pub other_secret : answering_user (tim ∷ []) rfc_challenge (codes "tim 128c3ed34fb58bde905f34df2e9968fe") ≡ None
+  pub other_challenge : answering_user (tim ∷ []) rfc_challenge (codes "tim c7a6dbd29b830a499f2e9faf2ee4ce81") ≡ None
+  pub upper_case : answering_user (tim ∷ []) rfc_challenge (codes "tim B913A602C7EDA7A495B4E6E7334D3890") ≡ None
+  pub digits_31 : answering_user (tim ∷ []) rfc_challenge (codes "tim b913a602c7eda7a495b4e6e7334d389") ≡ None
+  pub digits_33 : answering_user (tim ∷ []) rfc_challenge (codes "tim b913a602c7eda7a495b4e6e7334d38900") ≡ None
+  pub two_spaces : answering_user (tim ∷ []) rfc_challenge (codes "tim  b913a602c7eda7a495b4e6e7334d3890") ≡ None
+  pub no_space : answering_user (tim ∷ nameless ∷ []) rfc_challenge (codes "timb913a602c7eda7a495b4e6e7334d3890") ≡ None
+  pub digits_alone : answering_user (tim ∷ nameless ∷ []) rfc_challenge (codes "b913a602c7eda7a495b4e6e7334d3890") ≡ None
+  pub shorter_name : answering_user (tim ∷ []) rfc_challenge (codes "ti b913a602c7eda7a495b4e6e7334d3890") ≡ None
+  pub longer_name : answering_user (tim ∷ []) rfc_challenge (codes "tim b b913a602c7eda7a495b4e6e7334d3890") ≡ None
+  pub other_case : answering_user (tim ∷ []) rfc_challenge (codes "Tim b913a602c7eda7a495b4e6e7334d3890") ≡ None
+  pub nothing : answering_user (tim ∷ nameless ∷ []) rfc_challenge [] ≡ None

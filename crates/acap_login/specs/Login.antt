@@ -55,5 +55,5 @@ pub record IsRefused (users : List User) (challenge answer : List ℕ) : Type 0 
 abbrev pub answer_of : List ℕ → User → List ℕ
 answer_of challenge user = user.0 ++ space ∷ digest_of user.1 challenge
 
-unfoldable pub accepted : List User → List ℕ → List ℕ → Option ℕ
-accepted users challenge answer = position (λ user. bytes_eq answer (answer_of challenge user)) users
+unfoldable pub answering_user : List User → List ℕ → List ℕ → Option ℕ
+answering_user users challenge answer = position (λ user. bytes_eq answer (answer_of challenge user)) users

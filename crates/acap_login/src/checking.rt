@@ -3,7 +3,7 @@ ghost use Rattle.std.specs.Prelude.{◌≡◌, ◌↔◌, ◌∷◌, ◌++◌, S
 ghost use Rattle.std.specs.List.{position};
 ghost use Rattle.std.specs.Str.{bytes_eq};
 ghost use Rattle.acap_login.specs.Checking.{HasNoParts, is_answer_of};
-ghost use Rattle.acap_login.specs.Login.{IsAccepted, IsRefused, accepted, space};
+ghost use Rattle.acap_login.specs.Login.{IsAccepted, IsRefused, answering_user, space};
 
 use crate::hmac::digest;
 use crate::users::Users;
@@ -60,7 +60,7 @@ fn find(
 /// stands before the answer's last SP, and the 32 lower-case digits of the user's secret stand behind it. Of a user with
 /// that name all 32 digits are compared, wherever they first differ.
 pub fn check(users: &Users, challenge: &[u8], answer: &[u8]) -> Option<usize>
-    ensures value { result ≡ accepted users.now challenge.now answer.now }
+    ensures value { result ≡ answering_user users.now challenge.now answer.now }
     ensures some { (place : _) → (result ≡ Some place) ↔ IsAccepted users.now challenge.now answer.now place }
     ensures none { (result ≡ None) ↔ IsRefused users.now challenge.now answer.now }
 {

@@ -1,6 +1,6 @@
 //! HMAC with MD5 (RFC 2104, RFC 1321), and its hex digits. No call here takes memory.
 ghost use Rattle.std.specs.Prelude.{◌≡◌, ◌≤◌, length, map, bit_xor};
-ghost use Rattle.acap_login.specs.Hmac.{shortened, filled, hmac};
+ghost use Rattle.acap_login.specs.Hmac.{short_key, padded_key, hmac};
 ghost use Rattle.acap_login.specs.Login.{digest_of};
 
 use md5::{Digest, Md5};
@@ -15,9 +15,9 @@ const INNER: u8 = 0x36;
 const OUTER: u8 = 0x5C;
 
 // A key of at most a block, with zeros behind it.
-fn padded(key: &[u8]) -> [u8; BLOCK]
+fn pad(key: &[u8]) -> [u8; BLOCK]
     requires { length key.now ≤ 64 }
-    ensures { result ≡ filled key.now }
+    ensures { result ≡ padded_key key.now }
 {
     let mut block = [0; BLOCK];
     block[..key.len()].copy_from_slice(key);
@@ -26,18 +26,18 @@ fn padded(key: &[u8]) -> [u8; BLOCK]
 
 // The block of a key, which is hashed if it is longer.
 fn block_of(key: &[u8]) -> [u8; BLOCK]
-    ensures { result ≡ filled (shortened key.now) }
+    ensures { result ≡ padded_key (short_key key.now) }
 {
     if key.len() > BLOCK {
         let hash: [u8; 16] = Md5::digest(key);
-        padded(&hash)
+        pad(&hash)
     } else {
-        padded(key)
+        pad(key)
     }
 }
 
 // Each octet of a block xor that octet.
-fn mixed(octet: u8, mut block: [u8; BLOCK]) -> [u8; BLOCK]
+fn mix(octet: u8, mut block: [u8; BLOCK]) -> [u8; BLOCK]
     ensures { result ≡ map (λ x. bit_xor x octet) block }
 {
     for x in &mut block {
@@ -46,15 +46,15 @@ fn mixed(octet: u8, mut block: [u8; BLOCK]) -> [u8; BLOCK]
     block
 }
 
-#[tactic(auto, unfolding(crate::specs::Hmac::hmac, crate::specs::Hmac::keyed))]
+#[tactic(auto, unfolding(crate::specs::Hmac::hmac, crate::specs::Hmac::key_block))]
 fn hmac_of(key: &[u8], message: &[u8]) -> [u8; 16]
     ensures { result ≡ hmac key.now message.now }
 {
     let block = block_of(key);
-    let inner: [u8; 16] = Md5::new_with_prefix(mixed(INNER, block))
+    let inner: [u8; 16] = Md5::new_with_prefix(mix(INNER, block))
         .chain_update(message)
         .finalize();
-    Md5::new_with_prefix(mixed(OUTER, block))
+    Md5::new_with_prefix(mix(OUTER, block))
         .chain_update(inner)
         .finalize()
 }

@@ -109,21 +109,21 @@ fn count<L: Ledger>(
     }
 }
 
-fn found_by(alloc: Global, tree: &Tree, query: &Query) -> usize {
+fn find_by(alloc: Global, tree: &Tree, query: &Query) -> usize {
     match UserName::read(alloc, b"joe") {
         Ok(joe) => count::<Brand>(alloc, tree, &joe, query, Blank::new(1)),
         Err(_) => 0,
     }
 }
 
-fn found(alloc: Global, tree: &Tree) -> usize {
+fn find(alloc: Global, tree: &Tree) -> usize {
     match query(alloc) {
-        Ok(query) => found_by(alloc, tree, &query),
+        Ok(query) => find_by(alloc, tree, &query),
         Err(_) => 0,
     }
 }
 
 #[test]
 fn seeks_all(rt: HostRuntime) {
-    assert!(rt; store(rt.alloc()).is_ok_and(|tree| found(rt.alloc(), &tree) == 1));
+    assert!(rt; store(rt.alloc()).is_ok_and(|tree| find(rt.alloc(), &tree) == 1));
 }

@@ -25,12 +25,12 @@ use Rattle.acap_commands.specs.declared.target.Target.{Target}
 use Rattle.acap_commands.specs.declared.target.Target.TheVariants as target
 use Rattle.acap_commands.specs.declared.verb.Verb.{Verb}
 use Rattle.acap_commands.specs.declared.verb.Verb.TheVariants as verb
-use Rattle.acap_machine.specs.Client.{View, is_told_whole, made_over, makes_named, makes, begun_with, noticed, client_after, whole_after, tells, live_kept, live_in, live_at, IsHeld, fresh_for, HeldLaw, SeenLaw}
+use Rattle.acap_machine.specs.Client.{View, is_told_whole, made_over, makes_named, makes, begun_with, client_after_tolds, client_after, whole_after, tells, live_kept, live_in, live_at, IsHeld, fresh_for, HeldLaw, SeenLaw}
 use Rattle.acap_machine.specs.Following.{IsCurrentMachine}
 use Rattle.acap_machine.specs.Laws.{IsChange, OthersStay}
 use Rattle.acap_machine.specs.Machine.{Machine, user_at}
 use Rattle.acap_machine.specs.Searching.{number_told, rows_told, found_of, found_unless, refused_as, view_refused_as, seated_or, kept_if, found_or, searched_over, searched_in, searched_within, searched_from}
-use Rattle.acap_machine.specs.Serving.{served, written_or, names_or, updated_or}
+use Rattle.acap_machine.specs.Serving.{answer_to, written_or, names_or, updated_or}
 use Rattle.acap_machine.specs.Stepping.{step_of, drained_at}
 use Rattle.acap_machine.proofs.ClientSteps.{Sits, sits, own_contexts, put_contexts, put_fresh, changed_live, updated_held, updated_shown, drained_held, drained_shown}
 use Rattle.acap_machine.proofs.SeatLemmas.{opened_is, freed_is}
@@ -48,9 +48,9 @@ use Rattle.acap_search.specs.declared.refusal.SearchRefusal.{SearchRefusal}
 use Rattle.acap_views.specs.Contexts.{Context, Contexts, context_of, kept_of}
 use Rattle.acap_views.specs.Current.{IsCurrentOccupant, rows}
 use Rattle.acap_views.specs.Maps.{each_kept}
-use Rattle.acap_views.specs.Opening.{opened, freed_by}
-use Rattle.acap_views.specs.Seats.{Occupant, Seated, contexts_at, with_contexts, entered, left}
-use Rattle.acap_views.specs.Ranging.{Ranged, ranged}
+use Rattle.acap_views.specs.Opening.{with_context, freed_by}
+use Rattle.acap_views.specs.Seats.{Occupant, Seated, contexts_at, with_contexts, with_user, without_user}
+use Rattle.acap_views.specs.Ranging.{Ranged, range_at}
 use Rattle.acap_views.specs.Telling.{told_of, unless_faulty, fault_of, told_in_turn, after_updates, after_drain, drain_told}
 use Rattle.acap_views.specs.declared.refusal.ViewRefusal.{ViewRefusal}
 
@@ -145,7 +145,7 @@ module _ (m : Machine) (seat : ℕ) (user : List ℕ) (at : user_at m seat ≡ S
   -- one that makes a context
   made : (search : Search) (make : MakeContext) (sought : Sought) (matches : List Match) (seats : Seated) → makes name search ≡ octets_eq name make.name → search.modifiers.make_context ≡ Some make
       → sought.returns ≡ search.modifiers.returns
-      → opened m.seats seat make sought matches m.store.last ≡ Ok seats
+      → with_context m.seats seat make sought matches m.store.last ≡ Ok seats
       → Follows seat name whole held (event.Command (command.Search search)) (said.Searched (found_of m.store.last sought search.modifiers.limit matches)) (record m { seats = seats })
   made search make sought matches seats named is returns e =
       let found = found_of m.store.last sought search.modifiers.limit matches in
@@ -171,7 +171,7 @@ module _ (m : Machine) (seat : ℕ) (user : List ℕ) (at : user_at m seat ≡ S
 
   opens : (search : Search) (make : MakeContext) (sought : Sought) (matches : List Match) (r : Result Seated ViewRefusal) → makes name search ≡ octets_eq name make.name → search.modifiers.make_context ≡ Some make
       → sought.returns ≡ search.modifiers.returns
-      → opened m.seats seat make sought matches m.store.last ≡ r
+      → with_context m.seats seat make sought matches m.store.last ≡ r
       → Does (event.Command (command.Search search)) (seated_or m (said.Searched (found_of m.store.last sought search.modifiers.limit matches)) r)
   opens search make sought matches (Ok seats) named is returns e = made search make sought matches seats named is returns e
   opens search make sought matches (Err why) named is returns e = quiet _ (view_refused_as why)
@@ -181,7 +181,7 @@ module _ (m : Machine) (seat : ℕ) (user : List ℕ) (at : user_at m seat ≡ S
       → Does (event.Command (command.Search search)) (kept_if m seat make sought search.modifiers.limit matches)
   keeps search dataset sought matches None aims is returns = unmade search _ (λ i. makes_named name (made_over (aims i) (is i)))
   keeps search dataset sought matches (Some make) aims is returns =
-      opens search make sought matches (opened m.seats seat make sought matches m.store.last) (λ i. makes_named name (made_over (aims i) (is i))) is returns refl
+      opens search make sought matches (with_context m.seats seat make sought matches m.store.last) (λ i. makes_named name (made_over (aims i) (is i))) is returns refl
 
   over : (search : Search) (dataset : List ℕ) (why : Option SearchRefusal) → search.target ≡ target.Dataset dataset
       → Does (event.Command (command.Search search)) (found_or m seat (asked_of user dataset search.modifiers search.key) why (matches_of m.store.records m.realm user (asked_of user dataset search.modifiers search.key).query.sought))
@@ -191,7 +191,7 @@ module _ (m : Machine) (seat : ℕ) (user : List ℕ) (at : user_at m seat ≡ S
   searches : (search : Search) (t : Target) → search.target ≡ t → Does (event.Command (command.Search search)) (searched_in m seat user t search.modifiers search.key)
   unfolding searched_over
   searches search (target.Dataset dataset) aims = over search dataset _ aims
-  searches search (target.Context of) aims = within search (ranged m.seats seat of) (ap (λ t. makes_named name (made_over t search.modifiers.make_context)) aims)
+  searches search (target.Context of) aims = within search (range_at m.seats seat of) (ap (λ t. makes_named name (made_over t search.modifiers.make_context)) aims)
 
   frees : (e : Event) (of : List ℕ) (r : Result Seated ViewRefusal) → freed_by m.seats seat of ≡ r → Does e (seated_or m (said.Done verb.FreeContext) r)
   frees e of (Ok seats) f =
@@ -224,7 +224,7 @@ module _ (m : Machine) (seat : ℕ) (user : List ℕ) (at : user_at m seat ≡ S
       subst (λ (p : List Told × Seated). Follows seat name whole held (event.Command (command.UpdateContext names)) (said.Updated p.0) (record m { seats = p.1 })) is
       (record {
         held_now = λ x l w.
-            ap (λ (cs : Contexts). noticed name (told_in_turn cs names m.store.last) held) contexts
+            ap (λ (cs : Contexts). client_after_tolds name (told_in_turn cs names m.store.last) held) contexts
             ∙ updated_held m.store m.realm own.occupant occupied name names m.store.last whole held at_first x (sym live ∙ l) w;
         told = λ t x l.
             put_fresh m seat own (after_updates (contexts_at m.seats seat) names m.store.last) x.0
@@ -243,7 +243,7 @@ module _ (m : Machine) (seat : ℕ) (user : List ℕ) (at : user_at m seat ≡ S
       ∙ ap (λ (cs : Contexts). each_kept after_drain cs) contexts) in
       record {
         held_now = λ x l w.
-            ap (λ (cs : Contexts). noticed name (flat_map (λ c. drain_told c.0 c.1.kept) (table.entries cs)) held) contexts
+            ap (λ (cs : Contexts). client_after_tolds name (flat_map (λ c. drain_told c.0 c.1.kept) (table.entries cs)) held) contexts
             ∙ drained_held m.store m.realm own.occupant occupied name whole held at_first x (sym live ∙ l) w;
         told = λ t x l.
             put_fresh m seat own (each_kept after_drain (contexts_at m.seats seat)) x.0
@@ -263,8 +263,8 @@ module _ (m : Machine) (seat : ℕ) (user : List ℕ) (at : user_at m seat ≡ S
   named c (Ok names) = silent c (said.Deleted names) refl refl refl
   named c (Err refusal) = quiet _ refusal
 
-  answers : (c : Command) (clock : ℤ) → Does (event.Command c) (served m seat user c clock)
-  unfolding served
+  answers : (c : Command) (clock : ℤ) → Does (event.Command c) (answer_to m seat user c clock)
+  unfolding answer_to
   answers command.Noop clock = silent command.Noop (said.Done verb.Noop) refl refl refl
   answers command.Logout clock = silent command.Logout said.GoodBye refl refl refl
   answers (command.Authenticate mechanism) clock = quiet _ _
@@ -284,13 +284,13 @@ nothing_at : (m : Machine) (seat : ℕ) (name : List ℕ) (whole : Bool) (held :
 nothing_at m seat name whole held e x l w =
     absurd (let none : None ≡ Some x = sym (ap (λ (cs : Contexts). option_and_then live_in (table.get cs name)) e ∙ ap (option_and_then live_in) (get-empty octets_cmp name)) ∙ l in cc)
 
-entered_empty : (seats : Seated) (seat : ℕ) (user : List ℕ) → contexts_at (entered seats seat user) seat ≡ table.empty
+entered_empty : (seats : Seated) (seat : ℕ) (user : List ℕ) → contexts_at (with_user seats seat user) seat ≡ table.empty
 entered_empty seats seat user =
     let occupant : Occupant = record { user = user; contexts = table.empty } in
     ap (λ o. option_map_or (λ (p : Occupant). p.contexts) o table.empty)
     (get-insert nat_cmp_total seats seat occupant seat ∙ ap (λ b. cond b (Some occupant) (table.get seats seat)) (unsigned_tied seat seat ∙ eq-eqb seat seat refl))
 
-left_empty : (seats : Seated) (seat : ℕ) → contexts_at (left seats seat) seat ≡ table.empty
+left_empty : (seats : Seated) (seat : ℕ) → contexts_at (without_user seats seat) seat ≡ table.empty
 left_empty seats seat =
     ap (λ o. option_map_or (λ (p : Occupant). p.contexts) o table.empty)
     (get-remove nat_cmp_total seats seat seat ∙ ap (λ b. cond b None (table.get seats seat)) (unsigned_tied seat seat ∙ eq-eqb seat seat refl))
@@ -299,14 +299,14 @@ by_step : (m : Machine) (seat : ℕ) (e : Event) (clock : ℤ) (reply : Reply) (
     → IsHeld (live_at m seat name) whole held → Follows seat name whole held e reply.said new
 by_step m seat (event.Enter user) clock reply new name whole held f is h =
     seated_keeps (λ r n. Follows seat name whole held (event.Enter user) r.said n) m seat user (user_at m seat) reply new
-    (record { held_now = nothing_at (record m { seats = entered m.seats seat user }) seat name whole held (entered_empty m.seats seat user); told = λ t. absurd cc }) f
+    (record { held_now = nothing_at (record m { seats = with_user m.seats seat user }) seat name whole held (entered_empty m.seats seat user); told = λ t. absurd cc }) f
 by_step m seat (event.Command c) clock reply new name whole held f is h =
     by_keeps (λ r n. Follows seat name whole held (event.Command c) r.said n) (user_at m seat) _ reply new (λ user at. answers m seat user at is name whole held h c clock) f
 by_step m seat event.Drain clock reply new name whole held f is h =
     by_keeps (λ r n. Follows seat name whole held event.Drain r.said n) (user_at m seat) _ reply new (λ user at. drains m seat user at is name whole held h event.Drain) f
 by_step m seat event.Leave clock reply new name whole held f is h =
     by_keeps (λ r n. Follows seat name whole held event.Leave r.said n) (user_at m seat) _ reply new
-    (λ user at. record { held_now = nothing_at (record m { seats = left m.seats seat }) seat name whole held (left_empty m.seats seat); told = λ t. absurd cc }) f
+    (λ user at. record { held_now = nothing_at (record m { seats = without_user m.seats seat }) seat name whole held (left_empty m.seats seat); told = λ t. absurd cc }) f
 
 left_none : (m : Machine) (seat : ℕ) (clock : ℤ) (reply : Reply) (new : Machine) (name : List ℕ) → step_of m seat event.Leave clock ≡ Ok (reply, new) → live_at new seat name ≡ None
 left_none m seat clock reply new name f =

@@ -9,7 +9,7 @@ use Rattle.acap_entries.specs.Orders.{octets_eq}
 use Rattle.acap_entries.specs.Store.{Store}
 use Rattle.acap_entries.specs.declared.change.Change.{Change}
 use Rattle.acap_machine.specs.Changing.{changed_by}
-use Rattle.acap_machine.specs.Client.{View, noticed, live_kept, live_in, live_at, IsHeld, fresh_for}
+use Rattle.acap_machine.specs.Client.{View, client_after_tolds, live_kept, live_in, live_at, IsHeld, fresh_for}
 use Rattle.acap_machine.specs.Machine.{Machine, user_at}
 use Rattle.acap_moves.specs.Hits.{is_among}
 use Rattle.acap_moves.proofs.Splits.{same_name}
@@ -121,7 +121,7 @@ from_marks old new x same e = was_live old x (sym same ∙ ap marks e)
 
 -- ---- a client that is told all
 
-no_more : (held : Option Holding) (name : List ℕ) (tolds : List Told) → notices_for name tolds ≡ [] → noticed name tolds held ≡ held
+no_more : (held : Option Holding) (name : List ℕ) (tolds : List Told) → notices_for name tolds ≡ [] → client_after_tolds name tolds held ≡ held
 no_more None name tolds e = refl
 no_more (Some h) name tolds e = ap (λ ns. holding_after_all h ns) e
 
@@ -143,12 +143,12 @@ module _ (store : Store) (realm : Realm) (occupant : Occupant) (current : IsCurr
       → x.1.1 ≡ found_now x.0
       → ((context : Context) (shown now : List Match) (pending : List Notice) → old ≡ Some context → context.kept ≡ Live shown now pending
       → holding_after_all (holding context.enumerated (rows shown)) (notices_for name tolds) ≡ Some (holding context.enumerated (rows (found_now context.sought))))
-      → noticed name tolds held ≡ Some (holding x.1.0 (rows x.1.1))
+      → client_after_tolds name tolds held ≡ Some (holding x.1.0 (rows x.1.1))
   led old x tolds whole held h w was shown leads =
       let l = live_is old was.before was.live in
       let sought = l.sought ∙ was.sought in
       let positions = l.positions ∙ was.positions in
-      ap (noticed name tolds) (h was.before was.live w ∙ ap (λ b. Some (holding b (rows was.before.1.1))) (sym l.positions))
+      ap (client_after_tolds name tolds) (h was.before was.live w ∙ ap (λ b. Some (holding b (rows was.before.1.1))) (sym l.positions))
       ∙ (leads l.context was.before.1.1 l.now l.pending l.there l.kept
       ∙ (λ i. Some (holding (positions i) (rows ((ap found_now sought ∙ sym shown) i)))))
 
@@ -160,9 +160,9 @@ module _ (store : Store) (realm : Realm) (occupant : Occupant) (current : IsCurr
       (λ context there. (shown_law.told store realm occupant names name last context current (from_among names name t) there).0) e
 
   pub updated_held : (names : List (List ℕ)) (last : ℤ) (whole : Bool) (held : Option Holding) → IsHeld (live_of (table.get occupant.contexts name)) whole held
-      → IsHeld (live_of (table.get (after_updates occupant.contexts names last) name)) whole (noticed name (told_in_turn occupant.contexts names last) held)
+      → IsHeld (live_of (table.get (after_updates occupant.contexts names last) name)) whole (client_after_tolds name (told_in_turn occupant.contexts names last) held)
   updated_held names last whole held h =
-      elim (is_among name names) as (λ b. is_among name names ≡ b → IsHeld (live_of (table.get (after_updates occupant.contexts names last) name)) whole (noticed name (told_in_turn occupant.contexts names last) held)) [
+      elim (is_among name names) as (λ b. is_among name names ≡ b → IsHeld (live_of (table.get (after_updates occupant.contexts names last) name)) whole (client_after_tolds name (told_in_turn occupant.contexts names last) held)) [
         | true ↦ λ t x e w.
             led (table.get occupant.contexts name) x (told_in_turn occupant.contexts names last) whole held h w
             (from_marks (live_of (table.get occupant.contexts name)) (live_of (table.get (after_updates occupant.contexts names last) name)) x (updates_marks occupant.contexts names name last) e)
@@ -181,7 +181,7 @@ module _ (store : Store) (realm : Realm) (occupant : Occupant) (current : IsCurr
       told_shown (table.get (each_kept after_drain occupant.contexts) name) x (λ context there. shown_law.drained store realm occupant name context current there) e
 
   pub drained_held : (whole : Bool) (held : Option Holding) → IsHeld (live_of (table.get occupant.contexts name)) whole held
-      → IsHeld (live_of (table.get (each_kept after_drain occupant.contexts) name)) whole (noticed name (flat_map (λ e. drain_told e.0 e.1.kept) (table.entries occupant.contexts)) held)
+      → IsHeld (live_of (table.get (each_kept after_drain occupant.contexts) name)) whole (client_after_tolds name (flat_map (λ e. drain_told e.0 e.1.kept) (table.entries occupant.contexts)) held)
   drained_held whole held h x e w =
       led (table.get occupant.contexts name) x (flat_map (λ e. drain_told e.0 e.1.kept) (table.entries occupant.contexts)) whole held h w
       (from_marks (live_of (table.get occupant.contexts name)) (live_of (table.get (each_kept after_drain occupant.contexts) name)) x (drain_marks occupant.contexts name) e)

@@ -2,14 +2,14 @@
 use Rattle.std.proofs.Common.{◌≡◌, true, refl}
 use Rattle.acap_machine.specs.Completing.{completes, CompletingLaw}
 use Rattle.acap_machine.specs.Machine.{user_at}
-use Rattle.acap_machine.specs.Serving.{served}
-use Rattle.acap_machine.specs.Stepping.{replied}
+use Rattle.acap_machine.specs.Serving.{answer_to}
+use Rattle.acap_machine.specs.Stepping.{reply_of}
 use Rattle.acap_machine.proofs.ServedLemmas.{served_keeps}
 use Rattle.acap_machine.proofs.StepLaws.{by_keeps}
 
 pub completing : CompletingLaw
 completing m seat c clock reply new e =
-    by_keeps (λ r n. completes r.said ≡ true) (user_at m seat) (λ user. replied (served m seat user c clock)) reply new
+    by_keeps (λ r n. completes r.said ≡ true) (user_at m seat) (λ user. reply_of (answer_to m seat user c clock)) reply new
     (λ user at. served_keeps (λ w n. completes w ≡ true) m seat user c clock (record {
       words = λ w good. good;
       changes = λ done write change w e. refl;

@@ -6,7 +6,7 @@ use Rattle.acap_entries.specs.Names.{components, is_component, is_identity, is_u
 use Rattle.acap_entries.specs.Homes.{is_home, for_user}
 use Rattle.acap_machine.specs.Examples.{FoundExamples, ServingExamples, SeatLaw}
 use Rattle.acap_machine.specs.Searching.{searched_over}
-use Rattle.acap_machine.specs.Serving.{served}
+use Rattle.acap_machine.specs.Serving.{answer_to}
 use Rattle.acap_rights.specs.Deciding.{implicit_rights}
 use Rattle.acap_rights.specs.Homes.{is_owner, home_of}
 use Rattle.acap_rights.specs.Realms.{is_administrator}
@@ -22,7 +22,7 @@ found_examples = record {
 }
 
 pub serving_examples : ServingExamples
-unfolding served searched_over implicit_rights is_owner home_of is_administrator for_user is_home components is_component is_identity is_user_name is_utf8 chars encode_utf8
+unfolding answer_to searched_over implicit_rights is_owner home_of is_administrator for_user is_home components is_component is_identity is_user_name is_utf8 chars encode_utf8
 serving_examples = record {
   noop = λ m seat user clock. refl;
   logout = λ m seat user clock. refl;

@@ -31,17 +31,17 @@ use Rattle.acap_machine.proofs.StepLaws.{KeepsStep, step_keeps}
 use Rattle.acap_search.specs.Fresh.{refusal_of}
 use Rattle.acap_search.specs.declared.query.Query.{Query}
 use Rattle.acap_store.specs.DatasetLaws.{SoundLaw, paths_named}
-use Rattle.acap_store.specs.Planning.{planned}
+use Rattle.acap_store.specs.Planning.{plan}
 use Rattle.acap_store.specs.declared.write.Write.{Write}
 use Rattle.acap_views.specs.Changing.{IsSoundStep}
 use Rattle.acap_views.specs.Current.{IsCurrent}
 use Rattle.acap_views.specs.Laws as views
-use Rattle.acap_views.specs.Seats.{Occupant, Seated, IsAt, entered, left}
+use Rattle.acap_views.specs.Seats.{Occupant, Seated, IsAt, with_user, without_user}
 
 -- ---- a change that a command makes leads from a sound store to a sound store
 
 pub sound_step : (law : SoundLaw) (m : Machine) (user : List ℕ) (write : Write) (clock : ℤ) (change : Change) → IsSoundStore m.store.records
-    → is_user_name user ≡ true → list_all is_well_formed (paths_named write) ≡ true → planned m.store m.realm user write clock ≡ Ok change
+    → is_user_name user ≡ true → list_all is_well_formed (paths_named write) ≡ true → plan m.store m.realm user write clock ≡ Ok change
     → IsSoundStep m.store (store_after change m.store)
 sound_step law m user write clock change sound name formed e = record {
   old_sound = sound;
@@ -88,7 +88,7 @@ module _ (views_law : views.CurrentLaw) (store_law : SoundLaw) where
   named_write (Some w) write e f = let same : w ≡ write = cc in subst (λ x. list_all is_well_formed (paths_named x) ≡ true) same f
 
   changed_stays : (m : Machine) (user : List ℕ) (write : Write) (clock : ℤ) (change : Change) → IsCurrentMachine m → is_user_name user ≡ true
-      → list_all is_well_formed (paths_named write) ≡ true → planned m.store m.realm user write clock ≡ Ok change → IsCurrentMachine (changed_by change m)
+      → list_all is_well_formed (paths_named write) ≡ true → plan m.store m.realm user write clock ≡ Ok change → IsCurrentMachine (changed_by change m)
   changed_stays m user write clock change is name formed e =
       let step = sound_step store_law m user write clock change is.sound.store name formed e in
       record {
@@ -112,7 +112,7 @@ module _ (views_law : views.CurrentLaw) (store_law : SoundLaw) where
   }
 
   entered_names : (m : Machine) (seat : ℕ) (user : List ℕ) → IsCurrentMachine m → is_user_name user ≡ true → (other : ℕ) (name : List ℕ) (b : Bool) → (other == seat) ≡ b
-      → user_at (record m { seats = entered m.seats seat user }) other ≡ Some name → is_user_name name ≡ true
+      → user_at (record m { seats = with_user m.seats seat user }) other ≡ Some name → is_user_name name ≡ true
   entered_names m seat user is named other name true apart e =
       let got = get-insert nat_cmp_total m.seats seat (record { user = user; contexts = table.empty }) other
       ∙ ap (λ b. cond b (Some (record { user = user; contexts = table.empty })) (get m.seats other)) (unsigned_tied other seat ∙ apart) in
@@ -122,7 +122,7 @@ module _ (views_law : views.CurrentLaw) (store_law : SoundLaw) where
       is.names other name (sym (ap (option_map (λ (o : Occupant). o.user)) (entered_else m.seats seat user other apart)) ∙ e)
 
   left_names : (m : Machine) (seat : ℕ) → IsCurrentMachine m → (other : ℕ) (name : List ℕ) (b : Bool) → (other == seat) ≡ b
-      → user_at (record m { seats = left m.seats seat }) other ≡ Some name → is_user_name name ≡ true
+      → user_at (record m { seats = without_user m.seats seat }) other ≡ Some name → is_user_name name ≡ true
   left_names m seat is other name true apart e =
       let got = get-remove nat_cmp_total m.seats seat other ∙ ap (λ b. cond b None (get m.seats other)) (unsigned_tied other seat ∙ apart) in
       absurd (let none : None ≡ Some name = sym (ap (option_map (λ (o : Occupant). o.user)) got) ∙ e in cc)

@@ -9,7 +9,7 @@ use Rattle.acap_machine.specs.Changing.{IsKept, IsSound, IsOpenable}
 use Rattle.acap_machine.specs.Machine.{Machine, Roomed, user_at}
 use Rattle.acap_machine.specs.Readied.{Pending, pending_of, IsReady}
 use Rattle.acap_machine.specs.Searching.{found_of, found_or, found_unless, kept_if, refused_as, is_search_memory, searched_alone, searched_over}
-use Rattle.acap_machine.specs.Stepping.{plain, asked, replied}
+use Rattle.acap_machine.specs.Stepping.{plain, answer_at, reply_of}
 use Rattle.acap_machine.specs.declared.deed.Deed.TheVariants as deed
 use Rattle.acap_machine.proofs.Following.{is_at, there}
 use Rattle.acap_machine.proofs.ReadyLemmas.{ready_for}
@@ -22,7 +22,7 @@ use Rattle.acap_search.specs.declared.query.Query.{Query}
 use Rattle.acap_search.specs.declared.refusal.SearchRefusal.{SearchRefusal}
 use Rattle.acap_search.specs.declared.refusal.SearchRefusal.TheVariants as refusal
 use Rattle.acap_views.specs.Laws as views
-use Rattle.acap_views.specs.Opening.{opened}
+use Rattle.acap_views.specs.Opening.{with_context}
 
 -- ---- where no context is made
 
@@ -37,10 +37,10 @@ over_alone m seat user a e = alone_or m seat a _ _ e
 
 pub alone_ready : (s : Roomed) (seat : ℕ) (user : List ℕ) (a : Asked) (words : Said) (pending : Pending) → user_at s.machine seat ≡ Some user → a.make_context ≡ None
     → words ≡ searched_alone s.machine user a.query a.limit → pending ≡ pending_of seat deed.Nothing (plain words) 0 → IsKept s.machine s.kept.index.0
-    → IsReady s (asked s.machine seat (λ m u. searched_over m seat u a)) pending s
+    → IsReady s (answer_at s.machine seat (λ m u. searched_over m seat u a)) pending s
 alone_ready s seat user a words pending at none words_are pending_is kept =
-    ready_for s s seat (λ u. replied (searched_over s.machine seat u a)) user pending deed.Nothing words at pending_is
-    (ap replied (over_alone s.machine seat user a none) ∙ ap (λ w. (plain w, s.machine)) (sym words_are)) refl refl tt kept
+    ready_for s s seat (λ u. reply_of (searched_over s.machine seat u a)) user pending deed.Nothing words at pending_is
+    (ap reply_of (over_alone s.machine seat user a none) ∙ ap (λ w. (plain w, s.machine)) (sym words_are)) refl refl tt kept
 
 -- ---- where it is refused
 
@@ -60,12 +60,12 @@ over_refused m seat user a r e = ap (λ x. found_or m seat a x (matches_of m.sto
 pub refused_ready : {X : Type 0} (s : Roomed) (seat : ℕ) (user : List ℕ) (a : Asked) (holds : X → List Match → Type 0) (r : SearchRefusal) (words : Said) (pending : Pending)
     → user_at s.machine seat ≡ Some user → IsAnswer s.machine.store.records s.machine.realm user a.query holds (Err r) → is_search_memory r ≡ false
     → words ≡ said.Refused (refused_as a.query.sought.dataset r) → pending ≡ pending_of seat deed.Nothing (plain words) 0 → IsKept s.machine s.kept.index.0
-    → IsReady s (asked s.machine seat (λ m u. searched_over m seat u a)) pending s
+    → IsReady s (answer_at s.machine seat (λ m u. searched_over m seat u a)) pending s
 refused_ready s seat user a holds r words pending at answer other words_are pending_is kept =
     let m = s.machine in
     let e = refused_is m.store.records m.realm user a.query holds r other answer in
-    ready_for s s seat (λ u. replied (searched_over m seat u a)) user pending deed.Nothing words at pending_is
-    (ap replied (over_refused m seat user a r e) ∙ ap (λ w. (plain w, m)) (sym words_are)) refl refl tt kept
+    ready_for s s seat (λ u. reply_of (searched_over m seat u a)) user pending deed.Nothing words at pending_is
+    (ap reply_of (over_refused m seat user a r e) ∙ ap (λ w. (plain w, m)) (sym words_are)) refl refl tt kept
 
 -- ---- where a context is made
 
@@ -78,4 +78,4 @@ pub openable : (law : views.CurrentLaw) (m : Machine) (seat : ℕ) (user : List 
     → refusal_of m.store.records m.realm user query ≡ None → hits ≡ matches_of m.store.records m.realm user query.sought → IsOpenable m seat make query.sought hits
 openable law m seat user make query hits sound at none are new e =
     law.opened m.store m.realm m.seats new seat make query.sought user m.store.last sound.store (there m user query none) (is_at m seat user at)
-    (sym (ap (λ h. opened m.seats seat make query.sought h m.store.last) are) ∙ e) sound.current
+    (sym (ap (λ h. with_context m.seats seat make query.sought h m.store.last) are) ∙ e) sound.current

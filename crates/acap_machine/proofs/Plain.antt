@@ -125,7 +125,7 @@ follows_occupant realm old new o = λ i. record {
       (follows_context realm old new o.user) i;
 }
 
-pub changed_forgotten : (m : Machine) (change : Change) → plain.changed change (forgotten m) ≡ forgotten (changed_by change m)
+pub changed_forgotten : (m : Machine) (change : Change) → plain.after_change change (forgotten m) ≡ forgotten (changed_by change m)
 changed_forgotten m change = λ i. record {
   realm = m.realm;
   store = store_after change m.store;

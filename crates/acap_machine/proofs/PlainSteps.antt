@@ -31,8 +31,8 @@ use Rattle.acap_machine.specs.Plain as plain
 use Rattle.acap_machine.specs.Plain.{PlainMachine, PlainLaw, forgotten, forgotten_context, forgotten_occupant, plain_step, plain_outcome, plain_after, plain_run, new_plain}
 use Rattle.acap_machine.specs.Runs.{run_of, stepped_at, outcome_of, machine_after}
 use Rattle.acap_machine.specs.Searching.{found_of, kept_if, found_or, searched_over, searched_in, searched_within, seated_or}
-use Rattle.acap_machine.specs.Serving.{served, written_or, freed, updated, updated_or}
-use Rattle.acap_machine.specs.Stepping.{step_of, plain as untagged, replied, seated, by_user, drained_at, left_at, asked}
+use Rattle.acap_machine.specs.Serving.{answer_to, written_or, free_answer, update_answer, updated_or}
+use Rattle.acap_machine.specs.Stepping.{step_of, plain as untagged, reply_of, enter_answer, by_user, drained_at, left_at, answer_at}
 use Rattle.acap_machine.specs.declared.step.Step.{Step}
 use Rattle.acap_machine.proofs.Following.{current, after_step}
 use Rattle.acap_machine.proofs.Plain.{forgotten_contexts, forgotten_insert, forgotten_remove, forgotten_empty, forgotten_has, forgotten_full, forgotten_at, forgotten_with, seat_get, with_live, changed_forgotten, fault_forgotten, all_told, all_updated, all_drained, drain_forgotten, made_kept, ranged_forgotten}
@@ -44,7 +44,7 @@ use Rattle.acap_search.specs.declared.query.Asked.{Asked}
 use Rattle.acap_search.specs.declared.query.Sought.{Sought}
 use Rattle.acap_search.specs.declared.refusal.SearchRefusal.{SearchRefusal}
 use Rattle.acap_store.specs.DatasetLaws.{SoundLaw}
-use Rattle.acap_store.specs.Planning.{planned}
+use Rattle.acap_store.specs.Planning.{plan}
 use Rattle.acap_store.specs.declared.write.Write.TheVariants as write
 use Rattle.acap_views.proofs.CurrentLemmas.{AreCurrent}
 use Rattle.acap_views.proofs.ValueLemmas.{insert_value, remove_value, empty_value}
@@ -63,7 +63,7 @@ forgotten_answer answer = (answer.0, forgotten answer.1)
 
 -- ---- commands that write
 
-written_forgotten : (m : Machine) (done : Verb) (r : Result Change Refusal) → plain.written (forgotten m) done r ≡ forgotten_answer (written_or m done r)
+written_forgotten : (m : Machine) (done : Verb) (r : Result Change Refusal) → plain.write_answer (forgotten m) done r ≡ forgotten_answer (written_or m done r)
 written_forgotten m done (Ok change) = λ i. (said.Done done, changed_forgotten m change i)
 written_forgotten m done (Err refusal) = refl
 
@@ -111,7 +111,7 @@ module _ (m : Machine) (seat : ℕ) where
   found_forgotten asked None found = kept_forgotten asked.make_context asked.query.sought asked.limit found
 
   search_forgotten : (user : List ℕ) (t : Target) (modifiers : SearchModifiers) (key : Wanted)
-      → plain.searched (forgotten m) seat user t modifiers key ≡ forgotten_answer (searched_in m seat user t modifiers key)
+      → plain.search_answer (forgotten m) seat user t modifiers key ≡ forgotten_answer (searched_in m seat user t modifiers key)
   unfolding searched_over
   search_forgotten user (target.Dataset dataset) modifiers key =
       let asked = asked_of user dataset modifiers key in
@@ -133,7 +133,7 @@ module _ (m : Machine) (seat : ℕ) where
   freed_forgotten : (name : List ℕ)
       → cond (table.contains_key (plain.contexts_at (forgotten m).seats seat) name)
       (said.Done verb.FreeContext, plain.with_contexts (forgotten m) seat (table.remove (plain.contexts_at (forgotten m).seats seat) name)) (said.Refused refusals.NoContext, forgotten m)
-      ≡ forgotten_answer (freed m seat name)
+      ≡ forgotten_answer (free_answer m seat name)
   freed_forgotten name =
       let new = table.remove own name in
       (λ i. cond ((ap (λ (cs : plain.Contexts). table.contains_key cs name) (forgotten_at m seat) ∙ forgotten_has own name) i)
@@ -154,13 +154,13 @@ module _ (m : Machine) (seat : ℕ) where
   )
 
   updated_forgotten : (user : List ℕ) (names : List (List ℕ)) → AreCurrent m.store m.realm user own
-      → plain.updated_or (forgotten m) seat user names (plain.fault_of (plain.contexts_at (forgotten m).seats seat) names) ≡ forgotten_answer (updated m seat names)
+      → plain.updated_or (forgotten m) seat user names (plain.fault_of (plain.contexts_at (forgotten m).seats seat) names) ≡ forgotten_answer (update_answer m seat names)
   updated_forgotten user names all =
       ap (plain.updated_or (forgotten m) seat user names)
       (ap (λ (cs : plain.Contexts). plain.fault_of cs names) (forgotten_at m seat) ∙ fault_forgotten own names)
       ∙ updated_if user names (fault_of own names) all
 
-  drained_forgotten : (user : List ℕ) → AreCurrent m.store m.realm user own → plain.drained (forgotten m) seat user ≡ forgotten_answer (drained_at m seat)
+  drained_forgotten : (user : List ℕ) → AreCurrent m.store m.realm user own → plain.drain_answer (forgotten m) seat user ≡ forgotten_answer (drained_at m seat)
   drained_forgotten user all = λ i. (
     untagged (said.Drained
         ((ap (λ (cs : plain.Contexts). flat_map (λ (e : List ℕ × plain.Context). plain.drain_tolds e.0 e.1.kept) (table.entries cs)) (forgotten_at m seat) ∙ drain_forgotten own) i)),
@@ -171,17 +171,17 @@ module _ (m : Machine) (seat : ℕ) where
   -- ---- every command
 
   served_forgotten : (user : List ℕ) (c : Command) (clock : ℤ) → AreCurrent m.store m.realm user own
-      → plain.served (forgotten m) seat user c clock ≡ forgotten_answer (served m seat user c clock)
-  unfolding served plain.served
+      → plain.answer_to (forgotten m) seat user c clock ≡ forgotten_answer (answer_to m seat user c clock)
+  unfolding answer_to plain.answer_to
   served_forgotten user command.Noop clock all = refl
   served_forgotten user command.Logout clock all = refl
   served_forgotten user (command.Authenticate mechanism) clock all = refl
-  served_forgotten user (command.Store entries) clock all = written_forgotten m verb.Store (planned m.store m.realm user (write.Store entries) clock)
+  served_forgotten user (command.Store entries) clock all = written_forgotten m verb.Store (plan m.store m.realm user (write.Store entries) clock)
   served_forgotten user (command.Search search) clock all = search_forgotten user search.target search.modifiers search.key
   served_forgotten user (command.SetAcl object identifier letters) clock all =
-      written_forgotten m verb.SetAcl (planned m.store m.realm user (write.SetAcl object identifier letters) clock)
+      written_forgotten m verb.SetAcl (plan m.store m.realm user (write.SetAcl object identifier letters) clock)
   served_forgotten user (command.DeleteAcl object identifier) clock all =
-      written_forgotten m verb.DeleteAcl (planned m.store m.realm user (write.DeleteAcl object identifier) clock)
+      written_forgotten m verb.DeleteAcl (plan m.store m.realm user (write.DeleteAcl object identifier) clock)
   served_forgotten user (command.MyRights object) clock all = refl
   served_forgotten user (command.ListRights object identifier) clock all = refl
   served_forgotten user (command.DeletedSince dataset since) clock all = refl
@@ -195,7 +195,7 @@ module _ (m : Machine) (seat : ℕ) where
   forgotten_step (Err fault) = Err fault
 
   entered_if : (user : List ℕ) (x : Option Occupant)
-      → plain.seated (forgotten m) seat user (option_map forgotten_occupant x) ≡ forgotten_step (seated m seat user (option_map (λ (o : Occupant). o.user) x))
+      → plain.enter_answer (forgotten m) seat user (option_map forgotten_occupant x) ≡ forgotten_step (enter_answer m seat user (option_map (λ (o : Occupant). o.user) x))
   entered_if user None = λ i. Ok (
     untagged said.Greeting,
     record {
@@ -207,8 +207,8 @@ module _ (m : Machine) (seat : ℕ) where
   )
   entered_if user (Some other) = refl
 
-  entered_forgotten : (user : List ℕ) → plain.seated (forgotten m) seat user (table.get (forgotten m).seats seat) ≡ forgotten_step (seated m seat user (user_at m seat))
-  entered_forgotten user = ap (plain.seated (forgotten m) seat user) (seat_get m seat) ∙ entered_if user (table.get m.seats seat)
+  entered_forgotten : (user : List ℕ) → plain.enter_answer (forgotten m) seat user (table.get (forgotten m).seats seat) ≡ forgotten_step (enter_answer m seat user (user_at m seat))
+  entered_forgotten user = ap (plain.enter_answer (forgotten m) seat user) (seat_get m seat) ∙ entered_if user (table.get m.seats seat)
 
   by_user_if : (x : Option Occupant) (does : List ℕ → Reply × PlainMachine) (acts : List ℕ → Reply × Machine)
       → ((user : List ℕ) → option_map (λ (o : Occupant). o.user) x ≡ Some user → does user ≡ forgotten_answer (acts user))
@@ -245,8 +245,8 @@ module _ (m : Machine) (seat : ℕ) where
   pub step_forgotten : (e : Event) (clock : ℤ) → IsCurrentMachine m → plain_step (forgotten m) seat e clock ≡ forgotten_step (step_of m seat e clock)
   step_forgotten (event.Enter user) clock is = entered_forgotten user
   step_forgotten (event.Command c) clock is =
-      by_user_forgotten _ (λ user. replied (served m seat user c clock))
-      (λ user at. ap (λ (answer : Said × PlainMachine). plain.replied answer) (served_forgotten user c clock (current_at user is at)))
+      by_user_forgotten _ (λ user. reply_of (answer_to m seat user c clock))
+      (λ user at. ap (λ (answer : Said × PlainMachine). plain.reply_of answer) (served_forgotten user c clock (current_at user is at)))
   step_forgotten event.Drain clock is = by_user_forgotten _ (λ user. drained_at m seat) (λ user at. drained_forgotten user (current_at user is at))
   step_forgotten event.Leave clock is = by_user_forgotten _ (λ user. left_at m seat) (λ user at. left_forgotten)
 

@@ -12,15 +12,15 @@ use Rattle.acap_commands.specs.declared.said.Said.{Said}
 use Rattle.acap_commands.specs.declared.said.Said.TheVariants as said
 use Rattle.acap_commands.specs.declared.verb.Verb.{Verb}
 use Rattle.acap_commands.specs.declared.verb.Verb.TheVariants as verb
-use Rattle.acap_inherit.specs.Index.{IsIndexOf, settled}
+use Rattle.acap_inherit.specs.Index.{IsIndexOf, index_with}
 use Rattle.acap_inherit.specs.Leaving.{IsPrepared}
 use Rattle.acap_inherit.specs.declared.link.Link.{Link}
 use Rattle.acap_machine.specs.Changing.{IsKept, changed_by}
 use Rattle.acap_machine.specs.Machine.{Machine, Roomed, machine_with, new_machine, user_at}
-use Rattle.acap_machine.specs.Readied.{Pending, pending_of, performed, links_after, HasRoom, IsReadied, IsReady, IsReadyOf}
+use Rattle.acap_machine.specs.Readied.{Pending, pending_of, after_deed, links_after, HasRoom, IsReadied, IsReady, IsReadyOf}
 use Rattle.acap_machine.specs.Searching.{seated_or}
-use Rattle.acap_machine.specs.Serving.{freed, updated, updated_or}
-use Rattle.acap_machine.specs.Stepping.{plain, by_user, asked, replied}
+use Rattle.acap_machine.specs.Serving.{free_answer, update_answer, updated_or}
+use Rattle.acap_machine.specs.Stepping.{plain, by_user, answer_at, reply_of}
 use Rattle.acap_machine.specs.declared.deed.Deed.{Deed}
 use Rattle.acap_machine.specs.declared.deed.Deed.TheVariants as deed
 use Rattle.acap_machine.proofs.SeatLemmas.{freed_is, told_is}
@@ -33,8 +33,8 @@ use Rattle.acap_views.specs.Keeping.{RoomySeats, seats_in}
 use Rattle.acap_views.specs.Laws as views
 use Rattle.acap_views.specs.Opening.{freed_by}
 use Rattle.acap_views.specs.Preparing.{Prepared, IsPreparedFor, with_delta}
-use Rattle.acap_views.specs.Seats.{Seated, entered, left, contexts_at, with_contexts}
-use Rattle.acap_views.specs.Telling.{told_of, after_updates, drained, unless_faulty, fault_of}
+use Rattle.acap_views.specs.Seats.{Seated, with_user, without_user, contexts_at, with_contexts}
+use Rattle.acap_views.specs.Telling.{told_of, after_updates, drain_of, unless_faulty, fault_of}
 use Rattle.acap_views.specs.Answering.{update_tells}
 use Rattle.acap_views.specs.declared.refusal.ViewRefusal.{ViewRefusal}
 
@@ -42,13 +42,13 @@ with_seats : (m : Machine) (links : List Link) (seats : Seated) → IsKept m lin
 with_seats m links seats is current = record { sound = record { store = is.sound.store; current = current }; index = is.index }
 
 module _ (law : views.CurrentLaw) where
-  pub enters : (m : Machine) (links : List Link) (seat : ℕ) (user : List ℕ) → IsKept m links → IsKept (record m { seats = entered m.seats seat user }) links
+  pub enters : (m : Machine) (links : List Link) (seat : ℕ) (user : List ℕ) → IsKept m links → IsKept (record m { seats = with_user m.seats seat user }) links
   enters m links seat user is = with_seats m links _ is (law.entered m.store m.realm m.seats seat user is.sound.current)
 
-  pub leaves : (m : Machine) (links : List Link) (seat : ℕ) → IsKept m links → IsKept (record m { seats = left m.seats seat }) links
+  pub leaves : (m : Machine) (links : List Link) (seat : ℕ) → IsKept m links → IsKept (record m { seats = without_user m.seats seat }) links
   leaves m links seat is = with_seats m links _ is (law.left m.store m.realm m.seats seat is.sound.current)
 
-  pub drains : (m : Machine) (links : List Link) (seat : ℕ) → IsKept m links → IsKept (record m { seats = (drained m.seats seat).1 }) links
+  pub drains : (m : Machine) (links : List Link) (seat : ℕ) → IsKept m links → IsKept (record m { seats = (drain_of m.seats seat).1 }) links
   drains m links seat is = with_seats m links _ is (law.drained m.store m.realm m.seats seat is.sound.current)
 
   pub frees : (m : Machine) (links : List Link) (seat : ℕ) (name : List ℕ) (new : Seated) → freed_by m.seats seat name ≡ Ok new → IsKept m links
@@ -68,7 +68,7 @@ module _ (law : views.CurrentLaw) where
 
   pub changes : (m : Machine) (links : List Link) (change : Change) (prepared : List Link × List Link) (delta : Prepared) → IsKept m links
       → IsSoundStep m.store (store_after change m.store) → IsPrepared change m.store links prepared → IsPreparedFor change m.store m.realm m.seats delta
-      → IsKept (record m { store = store_after change m.store; seats = with_delta delta m.seats }) (settled prepared links)
+      → IsKept (record m { store = store_after change m.store; seats = with_delta delta m.seats }) (index_with prepared links)
   changes m links change prepared delta is step index made = record {
     sound = record {
       store = step.new_sound;
@@ -84,12 +84,12 @@ performs m change delta made = ap (λ s. record m { store = store_after change m
 
 -- ---- a change is put in place
 
-same_deed : (d e : Deed) (seat : ℕ) (m : Machine) → d ≡ e → performed d seat m ≡ performed e seat m
-same_deed d e seat m is = ap (λ x. performed x seat m) is
+same_deed : (d e : Deed) (seat : ℕ) (m : Machine) → d ≡ e → after_deed d seat m ≡ after_deed e seat m
+same_deed d e seat m is = ap (λ x. after_deed x seat m) is
 
 pub committed : (d : Deed) (change : Change) (prepared : List Link × List Link) (delta : Prepared) (seat : ℕ) (m : Machine) (realm : Realm) (old new : Store) (was views : RoomySeats)
     → machine_with realm old was ≡ m → d ≡ deed.Changes change prepared delta → IsStoreAfter change old new → seats_in views ≡ with_delta delta (seats_in was)
-    → machine_with realm new views ≡ performed d seat m
+    → machine_with realm new views ≡ after_deed d seat m
 committed d change prepared delta seat m realm old new was views m_is d_is after told =
     let store_is = is_value_after change old new after in
     (λ i. record { realm = realm; store = store_is i; seats = told i })
@@ -97,7 +97,7 @@ committed d change prepared delta seat m realm old new was views m_is d_is after
     ∙ sym (same_deed d (deed.Changes change prepared delta) seat m d_is)
 
 pub kept_committed : (d : Deed) (change : Change) (prepared : List Link × List Link) (delta : Prepared) (links index : List Link) (m n : Machine)
-    → d ≡ deed.Changes change prepared delta → n ≡ m → index ≡ settled prepared links → IsKept m (links_after d links) → IsKept n index
+    → d ≡ deed.Changes change prepared delta → n ≡ m → index ≡ index_with prepared links → IsKept m (links_after d links) → IsKept n index
 kept_committed d change prepared delta links index m n d_is m_is index_is is =
     let links_are : links_after d links ≡ index = ap (λ x. links_after x links) d_is ∙ sym index_is in
     subst (λ x. IsKept x index) (sym m_is) (subst (λ l. IsKept m l) links_are is)
@@ -113,21 +113,21 @@ begins law store_law realm store kept links store_is seats_are index =
 -- ---- what is made ready of who has a seat
 
 pub ready_from : (old new : Roomed) (stepped : Result (Reply × Machine) Fault) (seat : ℕ) (pending : Pending) (d : Deed) (words : Said) (work : ℕ) → pending ≡ pending_of seat d (plain words) work
-    → stepped ≡ Ok (plain words, performed d seat old.machine) → new.machine ≡ old.machine → new.kept.index.0 ≡ old.kept.index.0 → HasRoom d seat new.kept
-    → IsKept (performed d seat old.machine) (links_after d old.kept.index.0) → IsReady old stepped pending new
+    → stepped ≡ Ok (plain words, after_deed d seat old.machine) → new.machine ≡ old.machine → new.kept.index.0 ≡ old.kept.index.0 → HasRoom d seat new.kept
+    → IsKept (after_deed d seat old.machine) (links_after d old.kept.index.0) → IsReady old stepped pending new
 ready_from old new stepped seat pending d words work pending_is step m_is links_are room kept =
     let readied : IsReadied (pending_of seat d (plain words) work) new = record {
       room = room;
-      sound = subst (λ m. IsKept (performed d seat m) (links_after d new.kept.index.0)) (sym m_is)
-          (subst (λ l. IsKept (performed d seat old.machine) (links_after d l)) (sym links_are) kept);
+      sound = subst (λ m. IsKept (after_deed d seat m) (links_after d new.kept.index.0)) (sym m_is)
+          (subst (λ l. IsKept (after_deed d seat old.machine) (links_after d l)) (sym links_are) kept);
     } in
     let ready : IsReady old stepped (pending_of seat d (plain words) work) new = record { step = step; readied = readied } in
     subst (λ p. IsReady old stepped p new) (sym pending_is) ready
 
 pub ready_for : (old new : Roomed) (seat : ℕ) (does : List ℕ → Reply × Machine) (user : List ℕ) (pending : Pending) (d : Deed) (words : Said) → user_at old.machine seat ≡ Some user
-    → pending ≡ pending_of seat d (plain words) 0 → does user ≡ (plain words, performed d seat old.machine)
+    → pending ≡ pending_of seat d (plain words) 0 → does user ≡ (plain words, after_deed d seat old.machine)
     → new.machine ≡ old.machine → new.kept.index.0 ≡ old.kept.index.0 → HasRoom d seat new.kept
-    → IsKept (performed d seat old.machine) (links_after d old.kept.index.0) → IsReady old (by_user (user_at old.machine seat) does) pending new
+    → IsKept (after_deed d seat old.machine) (links_after d old.kept.index.0) → IsReady old (by_user (user_at old.machine seat) does) pending new
 ready_for old new seat does user pending d words at pending_is did m_is links_are room kept =
     ready_from old new _ seat pending d words 0 pending_is (ap (λ u. by_user u does) at ∙ ap (λ r. Ok r) did) m_is links_are room kept
 
@@ -152,14 +152,14 @@ is_freed seats seat name e = rw e refl
 pub updates : (law : views.CurrentLaw) (s : Roomed) (seat : ℕ) (user : List ℕ) (names given : List (List ℕ)) (last : ℤ) (seats : Seated) (tolds : List Told) (pending : Pending)
     → user_at s.machine seat ≡ Some user → seats ≡ s.machine.seats → given ≡ names → last ≡ s.machine.store.last → update_tells (contexts_at seats seat) given last ≡ Ok tolds
     → pending ≡ pending_of seat (deed.Tells names last) (plain (said.Updated tolds)) 0 → IsKept s.machine s.kept.index.0
-    → IsReady s (asked s.machine seat (λ m u. updated m seat names)) pending s
+    → IsReady s (answer_at s.machine seat (λ m u. update_answer m seat names)) pending s
 updates law s seat user names given last seats tolds pending at seats_are given_is last_is e pending_is kept =
     let m = s.machine in
     let told_is : told_of m.seats seat names m.store.last ≡ Ok (tolds, with_contexts m.seats seat (after_updates (contexts_at m.seats seat) names m.store.last)) =
     update_told m.seats seat names m.store.last tolds (sym (λ i. update_tells (contexts_at (seats_are i) seat) (given_is i) (last_is i)) ∙ e) in
-    ready_for s s seat (λ u. replied (updated m seat names)) user pending (deed.Tells names m.store.last) (said.Updated tolds) at
+    ready_for s s seat (λ u. reply_of (update_answer m seat names)) user pending (deed.Tells names m.store.last) (said.Updated tolds) at
     (pending_is ∙ ap (λ l. pending_of seat (deed.Tells names l) (plain (said.Updated tolds)) 0) last_is)
-    (ap replied (updated_is m tolds (with_contexts m.seats seat (after_updates (contexts_at m.seats seat) names m.store.last)) (told_of m.seats seat names m.store.last) told_is))
+    (ap reply_of (updated_is m tolds (with_contexts m.seats seat (after_updates (contexts_at m.seats seat) names m.store.last)) (told_of m.seats seat names m.store.last) told_is))
     refl refl tt (tells law m s.kept.index.0 seat names m.store.last tolds _ told_is kept)
 
 -- ---- a change of the store
@@ -173,7 +173,7 @@ pub change_ready : (law : views.CurrentLaw) (old new : Roomed) (seat : ℕ) (don
     → IsPrepared change old.machine.store old.kept.index.0 prepared → IsPreparedFor change old.machine.store old.machine.realm old.machine.seats delta
     → reply ≡ plain (said.Done done) → new.machine ≡ old.machine → new.kept.index.0 ≡ old.kept.index.0
     → HasRoom (deed.Changes change prepared delta) seat new.kept
-    → IsReady old (Ok (replied (said.Done done, changed_by change old.machine))) (pending_of seat (deed.Changes change prepared delta) reply work) new
+    → IsReady old (Ok (reply_of (said.Done done, changed_by change old.machine))) (pending_of seat (deed.Changes change prepared delta) reply work) new
 change_ready law old new seat done change prepared delta reply work kept step index made reply_is m_is links_are room =
     ready_from old new _ seat _ (deed.Changes change prepared delta) (said.Done done) work (ap (λ r. pending_of seat (deed.Changes change prepared delta) r work) reply_is)
     (ap (λ n. Ok (plain (said.Done done), n)) (sym (performs old.machine change delta made)))
@@ -185,9 +185,9 @@ no_memory old stepped r f new e is = subst (λ x. IsReadyOf x old stepped new) (
 pub frees_ready : (law : views.CurrentLaw) (s : Roomed) (seat : ℕ) (user name : List ℕ) (pending : Pending) → user_at s.machine seat ≡ Some user
     → table.contains_key (contexts_at s.machine.seats seat) name ≡ true → table.contains_key (contexts_at (seats_in s.kept.views) seat) name ≡ true
     → pending ≡ pending_of seat (deed.Frees name) (plain (said.Done verb.FreeContext)) 0 → IsKept s.machine s.kept.index.0
-    → IsReady s (asked s.machine seat (λ m u. freed m seat name)) pending s
+    → IsReady s (answer_at s.machine seat (λ m u. free_answer m seat name)) pending s
 frees_ready law s seat user name pending at there room pending_is kept =
     let freed_is = is_freed s.machine.seats seat name there in
-    ready_for s s seat (λ u. replied (freed s.machine seat name)) user pending (deed.Frees name) (said.Done verb.FreeContext) at pending_is
-    (ap (λ r. replied (seated_or s.machine (said.Done verb.FreeContext) r)) freed_is) refl refl room
+    ready_for s s seat (λ u. reply_of (free_answer s.machine seat name)) user pending (deed.Frees name) (said.Done verb.FreeContext) at pending_is
+    (ap (λ r. reply_of (seated_or s.machine (said.Done verb.FreeContext) r)) freed_is) refl refl room
     (frees law s.machine s.kept.index.0 seat name _ freed_is kept)

@@ -19,19 +19,19 @@ use Rattle.acap_search.specs.declared.query.Sought.{Sought}
 use Rattle.acap_views.proofs.ShownLemmas.{seats_law, changed_law}
 use Rattle.acap_views.specs.Changing.{changed_occupant}
 use Rattle.acap_views.specs.Contexts.{Contexts, context_of}
-use Rattle.acap_views.specs.Opening.{opened, freed_by, is_full}
-use Rattle.acap_views.specs.Seats.{Seated, Occupant, entered, left, contexts_at, with_contexts}
-use Rattle.acap_views.specs.Telling.{told_of, unless_faulty, drained, fault_of, told_in_turn, after_updates}
+use Rattle.acap_views.specs.Opening.{with_context, freed_by, is_full}
+use Rattle.acap_views.specs.Seats.{Seated, Occupant, with_user, without_user, contexts_at, with_contexts}
+use Rattle.acap_views.specs.Telling.{told_of, unless_faulty, drain_of, fault_of, told_in_turn, after_updates}
 use Rattle.acap_views.specs.declared.refusal.ViewRefusal.{ViewRefusal}
 
 -- ---- at another seat
 
-pub entered_else : (seats : Seated) (seat : ℕ) (user : List ℕ) (other : ℕ) → (other == seat) ≡ false → get (entered seats seat user) other ≡ get seats other
+pub entered_else : (seats : Seated) (seat : ℕ) (user : List ℕ) (other : ℕ) → (other == seat) ≡ false → get (with_user seats seat user) other ≡ get seats other
 entered_else seats seat user other apart =
     get-insert nat_cmp_total seats seat (record { user = user; contexts = table.empty }) other
     ∙ ap (λ b. cond b (Some (record { user = user; contexts = table.empty })) (get seats other)) (unsigned_tied other seat ∙ apart)
 
-pub left_else : (seats : Seated) (seat other : ℕ) → (other == seat) ≡ false → get (left seats seat) other ≡ get seats other
+pub left_else : (seats : Seated) (seat other : ℕ) → (other == seat) ≡ false → get (without_user seats seat) other ≡ get seats other
 left_else seats seat other apart =
     get-remove nat_cmp_total seats seat other ∙ ap (λ b. cond b None (get seats other)) (unsigned_tied other seat ∙ apart)
 
@@ -52,7 +52,7 @@ unless_ok (Some refusal) x y e = cc
 else_with : (seats new : Seated) (seat : ℕ) (contexts : Contexts) → with_contexts seats seat contexts ≡ new → (other : ℕ) → (other == seat) ≡ false → get new other ≡ get seats other
 else_with seats new seat contexts e other apart = ap (λ s. get s other) (sym e) ∙ seats_law.others seats seat other contexts apart
 
-pub opened_is : (seats new : Seated) (seat : ℕ) (make : MakeContext) (sought : Sought) (found : List Match) (last : ℤ) → opened seats seat make sought found last ≡ Ok new
+pub opened_is : (seats new : Seated) (seat : ℕ) (make : MakeContext) (sought : Sought) (found : List Match) (last : ℤ) → with_context seats seat make sought found last ≡ Ok new
     → with_contexts seats seat (table.insert (contexts_at seats seat) make.name (context_of make sought found last)) ≡ new
 opened_is seats new seat make sought found last e = if_ok (is_full (contexts_at seats seat) make.name) _ new _ e
 
@@ -67,7 +67,7 @@ told_is seats seat names last told new e =
     ap (λ (p : List Told × Seated). p.1) (unless_ok (fault_of (contexts_at seats seat) names) made is e)
 
 pub opened_else : (seats new : Seated) (seat : ℕ) (make : MakeContext) (sought : Sought) (found : List Match) (last : ℤ)
-    → opened seats seat make sought found last ≡ Ok new → (other : ℕ) → (other == seat) ≡ false → get new other ≡ get seats other
+    → with_context seats seat make sought found last ≡ Ok new → (other : ℕ) → (other == seat) ≡ false → get new other ≡ get seats other
 opened_else seats new seat make sought found last e = else_with seats new seat _ (opened_is seats new seat make sought found last e)
 
 pub freed_else : (seats new : Seated) (seat : ℕ) (name : List ℕ) → freed_by seats seat name ≡ Ok new → (other : ℕ) → (other == seat) ≡ false → get new other ≡ get seats other
@@ -77,7 +77,7 @@ pub told_else : (seats : Seated) (seat : ℕ) (names : List (List ℕ)) (last : 
     → told_of seats seat names last ≡ Ok (told, new) → (other : ℕ) → (other == seat) ≡ false → get new other ≡ get seats other
 told_else seats seat names last told new e = else_with seats new seat _ (told_is seats seat names last told new e)
 
-pub drained_else : (seats : Seated) (seat other : ℕ) → (other == seat) ≡ false → get (drained seats seat).1 other ≡ get seats other
+pub drained_else : (seats : Seated) (seat other : ℕ) → (other == seat) ≡ false → get (drain_of seats seat).1 other ≡ get seats other
 drained_else seats seat other apart = seats_law.others seats seat other _ apart
 
 -- ---- nobody comes or goes where contexts are changed at a seat
@@ -101,7 +101,7 @@ from_with : (seats new : Seated) (seat : ℕ) (contexts : Contexts) → with_con
 from_with seats new seat contexts e other = ap (λ s. users s other) (sym e) ∙ with_users seats seat contexts other
 
 pub opened_users : (seats new : Seated) (seat : ℕ) (make : MakeContext) (sought : Sought) (found : List Match) (last : ℤ)
-    → opened seats seat make sought found last ≡ Ok new → (other : ℕ) → users new other ≡ users seats other
+    → with_context seats seat make sought found last ≡ Ok new → (other : ℕ) → users new other ≡ users seats other
 opened_users seats new seat make sought found last e = from_with seats new seat _ (opened_is seats new seat make sought found last e)
 
 pub freed_users : (seats new : Seated) (seat : ℕ) (name : List ℕ) → freed_by seats seat name ≡ Ok new → (other : ℕ) → users new other ≡ users seats other
@@ -111,7 +111,7 @@ pub told_users : (seats : Seated) (seat : ℕ) (names : List (List ℕ)) (last :
     → told_of seats seat names last ≡ Ok (told, new) → (other : ℕ) → users new other ≡ users seats other
 told_users seats seat names last told new e = from_with seats new seat _ (told_is seats seat names last told new e)
 
-pub drained_users : (seats : Seated) (seat other : ℕ) → users (drained seats seat).1 other ≡ users seats other
+pub drained_users : (seats : Seated) (seat other : ℕ) → users (drain_of seats seat).1 other ≡ users seats other
 drained_users seats seat other = with_users seats seat _ other
 
 -- ---- a change of the store leaves each user the seat
@@ -139,16 +139,16 @@ nobody_there : (x : Option Occupant) → option_map (λ o. o.user) x ≡ None �
 nobody_there None e = refl
 nobody_there (Some occupant) e = cc
 
-pub entered_user : (m : Machine) (seat : ℕ) (user : List ℕ) → user_at (record m { seats = entered m.seats seat user }) seat ≡ Some user
+pub entered_user : (m : Machine) (seat : ℕ) (user : List ℕ) → user_at (record m { seats = with_user m.seats seat user }) seat ≡ Some user
 entered_user m seat user =
     let occupant : Occupant = record { user = user; contexts = table.empty } in
     ap (option_map (λ (o : Occupant). o.user))
     (get-insert nat_cmp_total m.seats seat occupant seat ∙ ap (λ b. cond b (Some occupant) (get m.seats seat)) (unsigned_tied seat seat ∙ eq-eqb seat seat refl))
 
-pub left_again : (m : Machine) (seat : ℕ) (user : List ℕ) → user_at m seat ≡ None → record m { seats = left (entered m.seats seat user) seat } ≡ m
+pub left_again : (m : Machine) (seat : ℕ) (user : List ℕ) → user_at m seat ≡ None → record m { seats = without_user (with_user m.seats seat user) seat } ≡ m
 left_again m seat user e = ap (λ s. record m { seats = s }) (same_seats m.seats seat (record { user = user; contexts = table.empty }) (nobody_there (get m.seats seat) e))
 
-pub left_user : (m : Machine) (seat : ℕ) → user_at (record m { seats = left m.seats seat }) seat ≡ None
+pub left_user : (m : Machine) (seat : ℕ) → user_at (record m { seats = without_user m.seats seat }) seat ≡ None
 left_user m seat =
     ap (option_map (λ (o : Occupant). o.user))
     (get-remove nat_cmp_total m.seats seat seat ∙ ap (λ b. cond b None (get m.seats seat)) (unsigned_tied seat seat ∙ eq-eqb seat seat refl))

@@ -28,7 +28,7 @@ use Rattle.acap_machine.specs.Changing.{changed_by}
 use Rattle.acap_machine.specs.Completing.{is_answer, completes}
 use Rattle.acap_machine.specs.Machine.{Machine}
 use Rattle.acap_machine.specs.Searching.{found_of, found_unless, refused_as, view_refused_as, seated_or, kept_if, found_or, searched_over, searched_in, searched_within, searched_from}
-use Rattle.acap_machine.specs.Serving.{served, write_of, written, written_or, names_or, updated_or}
+use Rattle.acap_machine.specs.Serving.{answer_to, write_of, write_answer, written_or, names_or, updated_or}
 use Rattle.acap_notices.specs.declared.told.Told.{Told}
 use Rattle.acap_rights.specs.declared.realm.Realm.{Realm}
 use Rattle.acap_search.specs.Asking.{asked_of}
@@ -42,13 +42,13 @@ use Rattle.acap_store.specs.Invalid.{first_invalid, invalid, is_invalid}
 use Rattle.acap_store.specs.Limits.{gives_large, is_too_much}
 use Rattle.acap_store.specs.Meaning.{meaning}
 use Rattle.acap_store.specs.Permission.{denied_in, object_name_of, permission}
-use Rattle.acap_store.specs.Planning.{planned, planned_for, refusals_of, change_of, unless_refused, written_at}
+use Rattle.acap_store.specs.Planning.{plan, planned_for, refusals_of, change_of, unless_refused, written_at}
 use Rattle.acap_store.specs.Refusing.{first_of, has_changed, has_twice, lacks_dataset, modified, no_exist, refused_if}
 use Rattle.acap_store.specs.Writing.{written_for}
 use Rattle.acap_store.specs.declared.write.Write.{Write}
 use Rattle.acap_store.specs.declared.write.Write.TheVariants as write
-use Rattle.acap_views.specs.Opening.{opened, freed_by}
-use Rattle.acap_views.specs.Ranging.{Ranged, ranged}
+use Rattle.acap_views.specs.Opening.{with_context, freed_by}
+use Rattle.acap_views.specs.Ranging.{Ranged, range_at}
 use Rattle.acap_views.specs.Seats.{Seated}
 use Rattle.acap_views.specs.Telling.{told_of}
 use Rattle.acap_views.specs.declared.refusal.ViewRefusal.{ViewRefusal}
@@ -99,10 +99,10 @@ refusals_good s realm user write now =
 
 pub record Keeps (P : Said → Machine → Type 0) (m : Machine) (seat : ℕ) (user : List ℕ) (c : Command) (clock : ℤ) : Type 0 where
   pub words : (w : Said) → completes w ≡ true → P w m
-  pub changes : (done : Verb) (write : Write) (change : Change) → write_of c ≡ Some write → planned m.store m.realm user write clock ≡ Ok change
+  pub changes : (done : Verb) (write : Write) (change : Change) → write_of c ≡ Some write → plan m.store m.realm user write clock ≡ Ok change
       → P (said.Done done) (changed_by change m)
   pub makes : (make : MakeContext) (query : Query) (found : SearchReply) (seats : Seated) → refusal_of m.store.records m.realm user query ≡ None
-      → opened m.seats seat make query.sought (matches_of m.store.records m.realm user query.sought) m.store.last ≡ Ok seats
+      → with_context m.seats seat make query.sought (matches_of m.store.records m.realm user query.sought) m.store.last ≡ Ok seats
       → P (said.Searched found) (record m { seats = seats })
   pub frees : (name : List ℕ) (seats : Seated) → freed_by m.seats seat name ≡ Ok seats → P (said.Done verb.FreeContext) (record m { seats = seats })
   pub updates : (names : List (List ℕ)) (told : List Told) (seats : Seated) → told_of m.seats seat names m.store.last ≡ Ok (told, seats)
@@ -153,23 +153,23 @@ unless_good : (change : Change) (refusal : Option Refusal) → Good refusal → 
 unless_good change None good = tt
 unless_good change (Some refusal) good = good
 
-plan_good : (s : Store) (realm : Realm) (user : List ℕ) (write : Write) (clock : ℤ) → GoodPlan (planned s realm user write clock)
+plan_good : (s : Store) (realm : Realm) (user : List ℕ) (write : Write) (clock : ℤ) → GoodPlan (plan s realm user write clock)
 unfolding planned_for
 plan_good s realm user write clock =
     let meant = meaning s.records user write in
     unless_good (change_of s user meant.entries (written_at s clock)) (first_of (refusals_of s realm user meant clock)) (refusals_good s realm user write clock)
 
 module _ (P : Said → Machine → Type 0) (m : Machine) (seat : ℕ) (user : List ℕ) (c : Command) (clock : ℤ) (k : Keeps P m seat user c clock) where
-  written_keeps : (done : Verb) (write : Write) → write_of c ≡ Some write → (r : Result Change Refusal) → planned m.store m.realm user write clock ≡ r → GoodPlan r
+  written_keeps : (done : Verb) (write : Write) → write_of c ≡ Some write → (r : Result Change Refusal) → plan m.store m.realm user write clock ≡ r → GoodPlan r
       → P (written_or m done r).0 (written_or m done r).1
   written_keeps done write w (Ok change) e good = k.changes done write change w e
   written_keeps done write w (Err refusal) e good = k.words (said.Refused refusal) good
 
-  writes : (done : Verb) (write : Write) → write_of c ≡ Some write → P (written m user done write clock).0 (written m user done write clock).1
-  writes done write w = written_keeps done write w (planned m.store m.realm user write clock) refl (plan_good m.store m.realm user write clock)
+  writes : (done : Verb) (write : Write) → write_of c ≡ Some write → P (write_answer m user done write clock).0 (write_answer m user done write clock).1
+  writes done write w = written_keeps done write w (plan m.store m.realm user write clock) refl (plan_good m.store m.realm user write clock)
 
   kept_keeps : (make : MakeContext) (query : Query) (limit : Option Limit) → refusal_of m.store.records m.realm user query ≡ None → (r : Result Seated ViewRefusal)
-      → opened m.seats seat make query.sought (matches_of m.store.records m.realm user query.sought) m.store.last ≡ r
+      → with_context m.seats seat make query.sought (matches_of m.store.records m.realm user query.sought) m.store.last ≡ r
       → P (seated_or m (said.Searched (found_of m.store.last query.sought limit (matches_of m.store.records m.realm user query.sought))) r).0
       (seated_or m (said.Searched (found_of m.store.last query.sought limit (matches_of m.store.records m.realm user query.sought))) r).1
   kept_keeps make query limit none (Ok seats) e = k.makes make query _ seats none e
@@ -179,7 +179,7 @@ module _ (P : Said → Machine → Type 0) (m : Machine) (seat : ℕ) (user : Li
       → P (kept_if m seat make query.sought limit (matches_of m.store.records m.realm user query.sought)).0
       (kept_if m seat make query.sought limit (matches_of m.store.records m.realm user query.sought)).1
   if_kept None query limit none = k.words _ refl
-  if_kept (Some make) query limit none = kept_keeps make query limit none (opened m.seats seat make query.sought (matches_of m.store.records m.realm user query.sought) m.store.last) refl
+  if_kept (Some make) query limit none = kept_keeps make query limit none (with_context m.seats seat make query.sought (matches_of m.store.records m.realm user query.sought) m.store.last) refl
 
   found_keeps : (asked : Asked) (r : Option SearchRefusal) → refusal_of m.store.records m.realm user asked.query ≡ r
       → P (found_or m seat asked r (matches_of m.store.records m.realm user asked.query.sought)).0
@@ -193,7 +193,7 @@ module _ (P : Said → Machine → Type 0) (m : Machine) (seat : ℕ) (user : Li
 
   search_keeps : (t : Target) (modifiers : SearchModifiers) (key : Wanted) → P (searched_in m seat user t modifiers key).0 (searched_in m seat user t modifiers key).1
   search_keeps (target.Dataset dataset) modifiers key = over_keeps (asked_of user dataset modifiers key)
-  search_keeps (target.Context name) modifiers key = k.words _ (within_good m.store m.realm user (ranged m.seats seat name) modifiers key)
+  search_keeps (target.Context name) modifiers key = k.words _ (within_good m.store m.realm user (range_at m.seats seat name) modifiers key)
 
   freed_keeps : (name : List ℕ) (r : Result Seated ViewRefusal) → freed_by m.seats seat name ≡ r
       → P (seated_or m (said.Done verb.FreeContext) r).0 (seated_or m (said.Done verb.FreeContext) r).1
@@ -206,8 +206,8 @@ module _ (P : Said → Machine → Type 0) (m : Machine) (seat : ℕ) (user : Li
   updated_keeps names (Err why) e = k.words (said.Refused (view_refused_as why)) (view_good why)
 
 pub served_keeps : (P : Said → Machine → Type 0) (m : Machine) (seat : ℕ) (user : List ℕ) (c : Command) (clock : ℤ) → Keeps P m seat user c clock
-    → P (served m seat user c clock).0 (served m seat user c clock).1
-unfolding served
+    → P (answer_to m seat user c clock).0 (answer_to m seat user c clock).1
+unfolding answer_to
 served_keeps P m seat user command.Noop clock k = k.words _ refl
 served_keeps P m seat user command.Logout clock k = k.words _ refl
 served_keeps P m seat user (command.Authenticate mechanism) clock k = k.words _ refl

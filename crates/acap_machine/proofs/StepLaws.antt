@@ -7,19 +7,19 @@ use Rattle.acap_commands.specs.declared.reply.Reply.{Reply}
 use Rattle.acap_commands.specs.declared.said.Said.TheVariants as said
 use Rattle.acap_machine.specs.Laws.{RefusedLaw, OthersLaw, ChangeLaw, IsChange, OthersStay}
 use Rattle.acap_machine.specs.Machine.{Machine, user_at}
-use Rattle.acap_machine.specs.Serving.{served}
-use Rattle.acap_machine.specs.Stepping.{step_of, plain, replied, seated, by_user, drained_at, left_at}
+use Rattle.acap_machine.specs.Serving.{answer_to}
+use Rattle.acap_machine.specs.Stepping.{step_of, plain, reply_of, enter_answer, by_user, drained_at, left_at}
 use Rattle.acap_machine.proofs.ServedLemmas.{Keeps, served_keeps}
 use Rattle.acap_machine.proofs.SeatLemmas.{entered_else, left_else, opened_else, freed_else, told_else, drained_else, opened_users, freed_users, told_users, drained_users, changed_users}
 use Rattle.acap_store.proofs.StoreLaws.{later_law}
-use Rattle.acap_views.specs.Seats.{entered}
+use Rattle.acap_views.specs.Seats.{with_user}
 
 -- ---- what holds of each thing that a step may do holds of the step
 
 pub seated_keeps : (P : Reply → Machine → Type 0) (m : Machine) (seat : ℕ) (user : List ℕ) (at : Option (List ℕ)) (reply : Reply) (new : Machine) →
-    P (plain said.Greeting) (record m { seats = entered m.seats seat user }) → seated m seat user at ≡ Ok (reply, new) → P reply new
+    P (plain said.Greeting) (record m { seats = with_user m.seats seat user }) → enter_answer m seat user at ≡ Ok (reply, new) → P reply new
 seated_keeps P m seat user None reply new p e =
-    let entered_is : Reply × Machine = (plain said.Greeting, record m { seats = entered m.seats seat user }) in
+    let entered_is : Reply × Machine = (plain said.Greeting, record m { seats = with_user m.seats seat user }) in
     let told : Reply × Machine = (reply, new) in
     let same : entered_is ≡ told = cc in
     subst (λ (r : Reply × Machine). P r.0 r.1) same p
@@ -38,7 +38,7 @@ pub by_keeps : (P : Reply → Machine → Type 0) (at : Option (List ℕ)) (does
 by_keeps P at does reply new p e = by_keeps_of P at at does reply new refl p e
 
 pub record KeepsStep (P : Reply → Machine → Type 0) (m : Machine) (seat : ℕ) (e : Event) (clock : ℤ) : Type 0 where
-  pub enters : (user : List ℕ) → e ≡ event.Enter user → P (plain said.Greeting) (record m { seats = entered m.seats seat user })
+  pub enters : (user : List ℕ) → e ≡ event.Enter user → P (plain said.Greeting) (record m { seats = with_user m.seats seat user })
   pub answers : (user : List ℕ) (c : Command) → user_at m seat ≡ Some user → e ≡ event.Command c → Keeps (λ w n. P (plain w) n) m seat user c clock
   pub drains : P (drained_at m seat).0 (drained_at m seat).1
   pub leaves : P (left_at m seat).0 (left_at m seat).1
@@ -47,7 +47,7 @@ pub step_keeps : (P : Reply → Machine → Type 0) (m : Machine) (seat : ℕ) (
     KeepsStep P m seat e clock → step_of m seat e clock ≡ Ok (reply, new) → P reply new
 step_keeps P m seat (event.Enter user) clock reply new kept e = seated_keeps P m seat user (user_at m seat) reply new (kept.enters user refl) e
 step_keeps P m seat (event.Command c) clock reply new kept e =
-    by_keeps P (user_at m seat) (λ user. replied (served m seat user c clock)) reply new
+    by_keeps P (user_at m seat) (λ user. reply_of (answer_to m seat user c clock)) reply new
     (λ user at. served_keeps (λ w n. P (plain w) n) m seat user c clock (kept.answers user c at refl)) e
 step_keeps P m seat event.Drain clock reply new kept e = by_keeps P (user_at m seat) (λ user. drained_at m seat) reply new (λ user at. kept.drains) e
 step_keeps P m seat event.Leave clock reply new kept e = by_keeps P (user_at m seat) (λ user. left_at m seat) reply new (λ user at. kept.leaves) e
@@ -82,7 +82,7 @@ users_kept m seat user c clock other = record {
 }
 
 -- by a command or a drain nobody comes or goes
-pub stay_served : (m : Machine) (seat : ℕ) (user : List ℕ) (c : Command) (clock : ℤ) (other : ℕ) → user_at (served m seat user c clock).1 other ≡ user_at m other
+pub stay_served : (m : Machine) (seat : ℕ) (user : List ℕ) (c : Command) (clock : ℤ) (other : ℕ) → user_at (answer_to m seat user c clock).1 other ≡ user_at m other
 stay_served m seat user c clock other = served_keeps (λ w n. user_at n other ≡ user_at m other) m seat user c clock (users_kept m seat user c clock other)
 
 pub stay_drained : (m : Machine) (seat other : ℕ) → user_at (drained_at m seat).1 other ≡ user_at m other

@@ -9,16 +9,16 @@ use Rattle.acap_inherit.specs.declared.link.Link.{Link}
 use Rattle.acap_machine.specs.Machine.{Machine}
 use Rattle.acap_search.specs.Matches.{Match}
 use Rattle.acap_search.specs.declared.query.Sought.{Sought}
-use Rattle.acap_views.specs.Changing.{changed}
+use Rattle.acap_views.specs.Changing.{changed_seats}
 use Rattle.acap_views.specs.Current.{IsCurrent}
-use Rattle.acap_views.specs.Opening.{opened}
+use Rattle.acap_views.specs.Opening.{with_context}
 use Rattle.acap_views.specs.Seats.{Seated}
 
 -- the store is the one after the change, and each live context of every seat follows it in its user's eyes
 abbrev pub changed_by : Change → Machine → Machine
 changed_by change m = record m {
   store = store_after change m.store;
-  seats = changed m.realm m.store (store_after change m.store) m.seats;
+  seats = changed_seats m.realm m.store (store_after change m.store) m.seats;
 }
 
 -- the store is sound, and each live context keeps the list that a search finds now, to which the notices that wait lead
@@ -34,4 +34,4 @@ pub record IsKept (m : Machine) (links : List Link) : Type 0 where
 -- the context that a search makes which found these matches: where there is a place for it, all live contexts are current with it
 abbrev pub IsOpenable : Machine → ℕ → MakeContext → Sought → List Match → Type 0
 IsOpenable m seat make sought found =
-    (new : Seated) → opened m.seats seat make sought found m.store.last ≡ Ok new → IsCurrent m.store m.realm new
+    (new : Seated) → with_context m.seats seat make sought found m.store.last ≡ Ok new → IsCurrent m.store m.realm new

@@ -62,8 +62,8 @@ abbrev pub searched_on : List ℕ → Search → SearchReply → Client → Clie
 searched_on name search found held = if makes name search then begun_with search found search.modifiers.make_context else held
 
 -- of what an UPDATECONTEXT or a drain tells, the notices of that context, one after the other; one that misfits ends it
-abbrev pub noticed : List ℕ → List Told → Client → Client
-noticed name tolds held = option_and_then (λ h. holding_after_all h (notices_for name tolds)) held
+abbrev pub client_after_tolds : List ℕ → List Told → Client → Client
+client_after_tolds name tolds held = option_and_then (λ h. holding_after_all h (notices_for name tolds)) held
 
 abbrev pub answered_on : List ℕ → Event → SearchReply → Client → Client
 answered_on name (event.Command (command.Search search)) found held = searched_on name search found held
@@ -72,8 +72,8 @@ answered_on name other found held = held
 -- what the client holds of the context of a name after an event of its seat and what was said to it
 abbrev pub client_after : List ℕ → Event → Said → Client → Client
 client_after name e (said.Searched found) held = answered_on name e found held
-client_after name e (said.Updated tolds) held = noticed name tolds held
-client_after name e (said.Drained tolds) held = noticed name tolds held
+client_after name e (said.Updated tolds) held = client_after_tolds name tolds held
+client_after name e (said.Drained tolds) held = client_after_tolds name tolds held
 client_after name e other held = held
 
 -- whether the list of the SEARCH that made the context last was told whole; of misfits nothing is said

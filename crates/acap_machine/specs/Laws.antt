@@ -12,7 +12,7 @@ use Rattle.acap_machine.specs.Changing.{changed_by}
 use Rattle.acap_machine.specs.Machine.{Machine, user_at}
 use Rattle.acap_machine.specs.Serving.{write_of}
 use Rattle.acap_machine.specs.Stepping.{step_of}
-use Rattle.acap_store.specs.Planning.{planned}
+use Rattle.acap_store.specs.Planning.{plan}
 use Rattle.acap_store.specs.declared.write.Write.{Write}
 
 -- a refused event leaves the machine as it was, whichever event it is
@@ -30,7 +30,7 @@ pub record IsChange (m : Machine) (seat : ℕ) (e : Event) (clock : ℤ) (new : 
   pub event_is : e ≡ event.Command asks
   pub writes : write_of asks ≡ Some write
   pub seated : user_at m seat ≡ Some user
-  pub planned_as : planned m.store m.realm user write clock ≡ Ok change
+  pub planned_as : plan m.store m.realm user write clock ≡ Ok change
   pub made : new ≡ changed_by change m
   pub later : int_lt m.store.last new.store.last ≡ true
 

@@ -39,7 +39,7 @@ use Rattle.acap_notices.specs.declared.notice.Notice.{Notice}
 use Rattle.acap_notices.specs.declared.told.Told.{Told}
 use Rattle.acap_notices.specs.declared.told.Told.TheVariants as told
 use Rattle.acap_rights.specs.Deciding.{dataset_in, rights_of, implicit_rights}
-use Rattle.acap_rights.specs.Rights.{letters_of, listed}
+use Rattle.acap_rights.specs.Rights.{letters_of, rights_list}
 use Rattle.acap_rights.specs.declared.realm.Realm.{Realm}
 use Rattle.acap_search.specs.Asking.{asked_of}
 use Rattle.acap_search.specs.Fresh.{matches_of, refusal_of}
@@ -49,7 +49,7 @@ use Rattle.acap_search.specs.declared.query.Sought.{Sought}
 use Rattle.acap_search.specs.declared.refusal.SearchRefusal.{SearchRefusal}
 use Rattle.acap_store.specs.Deleting.{deleted_since}
 use Rattle.acap_store.specs.Meaning.{target_for}
-use Rattle.acap_store.specs.Planning.{planned}
+use Rattle.acap_store.specs.Planning.{plan}
 use Rattle.acap_store.specs.declared.write.Write.TheVariants as write
 use Rattle.acap_views.specs.Changing.{sight_for}
 use Rattle.acap_views.specs.Contexts as live
@@ -117,8 +117,8 @@ follows_in realm old new user c = record c {
 abbrev pub follows_for : Realm → Store → Store → Occupant → Occupant
 follows_for realm old new o = record o { contexts = each_value (follows_in realm old new o.user) o.contexts }
 
-abbrev pub changed : Change → PlainMachine → PlainMachine
-changed change m = record m {
+abbrev pub after_change : Change → PlainMachine → PlainMachine
+after_change change m = record m {
   store = store_after change m.store;
   seats = each_value (follows_for m.realm m.store (store_after change m.store)) m.seats;
 }
@@ -181,8 +181,8 @@ drained_kept m user c (Snapshot shown) = Some c
 drained_kept m user c (Notified shown pending) = Some (told_all m user c)
 drained_kept m user c Freed = None
 
-abbrev pub drained : PlainMachine → ℕ → List ℕ → Reply × PlainMachine
-drained m seat user = (
+abbrev pub drain_answer : PlainMachine → ℕ → List ℕ → Reply × PlainMachine
+drain_answer m seat user = (
   plain (said.Drained (flat_map (λ e. drain_tolds e.0 e.1.kept) (table.entries (contexts_at m.seats seat)))),
   with_contexts m seat (each_kept (λ c. drained_kept m user c c.kept) (contexts_at m.seats seat)),
 )
@@ -223,55 +223,55 @@ abbrev pub ranged_of : Option Context → Result Ranged ViewRefusal
 ranged_of None = Err view.NoContext
 ranged_of (Some c) = ranged_in c c.kept
 
-abbrev pub searched : PlainMachine → ℕ → List ℕ → Target → SearchModifiers → Wanted → Said × PlainMachine
-searched m seat user (target.Dataset dataset) modifiers key =
+abbrev pub search_answer : PlainMachine → ℕ → List ℕ → Target → SearchModifiers → Wanted → Said × PlainMachine
+search_answer m seat user (target.Dataset dataset) modifiers key =
     let asked = asked_of user dataset modifiers key in
     found_or m seat asked (refusal_of m.store.records m.realm user asked.query) (matches_of m.store.records m.realm user asked.query.sought)
-searched m seat user (target.Context name) modifiers key =
+search_answer m seat user (target.Context name) modifiers key =
     (searched_within m.store m.realm user (ranged_of (table.get (contexts_at m.seats seat) name)) modifiers key, m)
 
 -- ---- commands, and events
 
-abbrev pub written : PlainMachine → Verb → Result Change Refusal → Said × PlainMachine
-written m done (Ok change) = (said.Done done, changed change m)
-written m done (Err refusal) = (said.Refused refusal, m)
+abbrev pub write_answer : PlainMachine → Verb → Result Change Refusal → Said × PlainMachine
+write_answer m done (Ok change) = (said.Done done, after_change change m)
+write_answer m done (Err refusal) = (said.Refused refusal, m)
 
-unfoldable pub served : PlainMachine → ℕ → List ℕ → Command → ℤ → Said × PlainMachine
-served m seat user command.Noop clock = (said.Done verb.Noop, m)
-served m seat user command.Logout clock = (said.GoodBye, m)
-served m seat user (command.Authenticate mechanism) clock = (said.Refused refusals.LoggedIn, m)
-served m seat user (command.Store entries) clock = written m verb.Store (planned m.store m.realm user (write.Store entries) clock)
-served m seat user (command.Search search) clock = searched m seat user search.target search.modifiers search.key
-served m seat user (command.SetAcl object identifier letters) clock =
-    written m verb.SetAcl (planned m.store m.realm user (write.SetAcl object identifier letters) clock)
-served m seat user (command.DeleteAcl object identifier) clock =
-    written m verb.DeleteAcl (planned m.store m.realm user (write.DeleteAcl object identifier) clock)
-served m seat user (command.MyRights object) clock =
+unfoldable pub answer_to : PlainMachine → ℕ → List ℕ → Command → ℤ → Said × PlainMachine
+answer_to m seat user command.Noop clock = (said.Done verb.Noop, m)
+answer_to m seat user command.Logout clock = (said.GoodBye, m)
+answer_to m seat user (command.Authenticate mechanism) clock = (said.Refused refusals.LoggedIn, m)
+answer_to m seat user (command.Store entries) clock = write_answer m verb.Store (plan m.store m.realm user (write.Store entries) clock)
+answer_to m seat user (command.Search search) clock = search_answer m seat user search.target search.modifiers search.key
+answer_to m seat user (command.SetAcl object identifier letters) clock =
+    write_answer m verb.SetAcl (plan m.store m.realm user (write.SetAcl object identifier letters) clock)
+answer_to m seat user (command.DeleteAcl object identifier) clock =
+    write_answer m verb.DeleteAcl (plan m.store m.realm user (write.DeleteAcl object identifier) clock)
+answer_to m seat user (command.MyRights object) clock =
     (said.Rights (letters_of (rights_of m.store.records m.realm user (target_for user object))), m)
-served m seat user (command.ListRights object identifier) clock =
-    (said.RightsList (listed (implicit_rights m.realm identifier (dataset_in (target_for user object)))), m)
-served m seat user (command.DeletedSince dataset since) clock = (names_or (deleted_since m.store m.realm user dataset since), m)
-served m seat user (command.FreeContext name) clock =
+answer_to m seat user (command.ListRights object identifier) clock =
+    (said.RightsList (rights_list (implicit_rights m.realm identifier (dataset_in (target_for user object)))), m)
+answer_to m seat user (command.DeletedSince dataset since) clock = (names_or (deleted_since m.store m.realm user dataset since), m)
+answer_to m seat user (command.FreeContext name) clock =
     if table.contains_key (contexts_at m.seats seat) name
     then (said.Done verb.FreeContext, with_contexts m seat (table.remove (contexts_at m.seats seat) name))
     else (said.Refused refusals.NoContext, m)
-served m seat user (command.UpdateContext names) clock = updated_or m seat user names (fault_of (contexts_at m.seats seat) names)
+answer_to m seat user (command.UpdateContext names) clock = updated_or m seat user names (fault_of (contexts_at m.seats seat) names)
 
-abbrev pub replied : Said × PlainMachine → Reply × PlainMachine
-replied answer = (plain answer.0, answer.1)
+abbrev pub reply_of : Said × PlainMachine → Reply × PlainMachine
+reply_of answer = (plain answer.0, answer.1)
 
-abbrev pub seated : PlainMachine → ℕ → List ℕ → Option Occupant → Result (Reply × PlainMachine) Fault
-seated m seat user None =
+abbrev pub enter_answer : PlainMachine → ℕ → List ℕ → Option Occupant → Result (Reply × PlainMachine) Fault
+enter_answer m seat user None =
     Ok (plain said.Greeting, record m { seats = table.insert m.seats seat (record { user = user; contexts = table.empty }) })
-seated m seat user (Some other) = Err fault.AlreadyEntered
+enter_answer m seat user (Some other) = Err fault.AlreadyEntered
 
 abbrev pub by_user : Option Occupant → (List ℕ → Reply × PlainMachine) → Result (Reply × PlainMachine) Fault
 by_user occupant does = option_map_or (λ o. Ok (does o.user)) occupant (Err fault.NotEntered)
 
 abbrev pub plain_step : PlainMachine → ℕ → Event → ℤ → Result (Reply × PlainMachine) Fault
-plain_step m seat (event.Enter user) clock = seated m seat user (table.get m.seats seat)
-plain_step m seat (event.Command c) clock = by_user (table.get m.seats seat) (λ user. replied (served m seat user c clock))
-plain_step m seat event.Drain clock = by_user (table.get m.seats seat) (λ user. drained m seat user)
+plain_step m seat (event.Enter user) clock = enter_answer m seat user (table.get m.seats seat)
+plain_step m seat (event.Command c) clock = by_user (table.get m.seats seat) (λ user. reply_of (answer_to m seat user c clock))
+plain_step m seat event.Drain clock = by_user (table.get m.seats seat) (λ user. drain_answer m seat user)
 plain_step m seat event.Leave clock = by_user (table.get m.seats seat) (λ user. (plain said.Left, record m { seats = table.remove m.seats seat }))
 
 -- ---- whole runs

@@ -9,7 +9,7 @@ use Rattle.acap_commands.specs.contracts.reply.Reply as reply
 use Rattle.acap_commands.specs.declared.event.Event.{Event}
 use Rattle.acap_commands.specs.declared.fault.Fault.{Fault}
 use Rattle.acap_commands.specs.declared.reply.Reply.{Reply}
-use Rattle.acap_inherit.specs.Index.{settled}
+use Rattle.acap_inherit.specs.Index.{index_with}
 use Rattle.acap_inherit.specs.Leaving.{IsPrepared}
 use Rattle.acap_inherit.specs.declared.link.Link.{Link}
 use Rattle.acap_machine.specs.Changing.{IsKept}
@@ -22,8 +22,8 @@ use Rattle.acap_views.specs.Answering.{HasPlace, with_context}
 use Rattle.acap_views.specs.Followed as views
 use Rattle.acap_views.specs.Keeping.{seats_in}
 use Rattle.acap_views.specs.Preparing.{IsPreparedFor, Prepared, with_delta}
-use Rattle.acap_views.specs.Seats.{contexts_at, with_contexts, entered, left}
-use Rattle.acap_views.specs.Telling.{after_updates, drained}
+use Rattle.acap_views.specs.Seats.{contexts_at, with_contexts, with_user, without_user}
+use Rattle.acap_views.specs.Telling.{after_updates, drain_of}
 
 -- the seat, what is put in place there, what is said, and how many touched entries were looked at
 pub record Pending : Type 0 where
@@ -36,22 +36,22 @@ abbrev pub pending_of : ℕ → Deed → Reply → ℕ → Pending
 pending_of seat deed reply work = record { seat = seat; deed = deed; reply = reply; work = work }
 
 -- what putting it in place makes of a machine
-abbrev pub performed : Deed → ℕ → Machine → Machine
-performed deed.Nothing seat m = m
-performed (deed.Enters user) seat m = record m { seats = entered m.seats seat user }
-performed (deed.Changes change links delta) seat m = record m { store = store_after change m.store; seats = with_delta delta m.seats }
-performed (deed.Makes new) seat m = record m { seats = with_context m.seats seat new }
-performed (deed.Frees name) seat m = record m { seats = with_contexts m.seats seat (table.remove (contexts_at m.seats seat) name) }
-performed (deed.Tells names last) seat m =
+abbrev pub after_deed : Deed → ℕ → Machine → Machine
+after_deed deed.Nothing seat m = m
+after_deed (deed.Enters user) seat m = record m { seats = with_user m.seats seat user }
+after_deed (deed.Changes change links delta) seat m = record m { store = store_after change m.store; seats = with_delta delta m.seats }
+after_deed (deed.Makes new) seat m = record m { seats = with_context m.seats seat new }
+after_deed (deed.Frees name) seat m = record m { seats = with_contexts m.seats seat (table.remove (contexts_at m.seats seat) name) }
+after_deed (deed.Tells names last) seat m =
     record m { seats = with_contexts m.seats seat (after_updates (contexts_at m.seats seat) names last) }
-performed deed.Drains seat m = record m { seats = (drained m.seats seat).1 }
-performed deed.Leaves seat m = record m { seats = left m.seats seat }
+after_deed deed.Drains seat m = record m { seats = (drain_of m.seats seat).1 }
+after_deed deed.Leaves seat m = record m { seats = without_user m.seats seat }
 
 -- what it makes of the index of heirs
 abbrev pub links_after : Deed → List Link → List Link
 links_after deed.Nothing links = links
 links_after (deed.Enters user) links = links
-links_after (deed.Changes change prepared delta) links = settled prepared links
+links_after (deed.Changes change prepared delta) links = index_with prepared links
 links_after (deed.Makes new) links = links
 links_after (deed.Frees name) links = links
 links_after (deed.Tells names last) links = links
@@ -72,7 +72,7 @@ HasRoom deed.Leaves seat kept = Unit {0}
 
 -- once it is in place, what the machine keeps beside its store and seats is true of them
 abbrev pub StaysKept : Deed → ℕ → Roomed → Type 0
-StaysKept deed seat state = IsKept (performed deed seat state.machine) (links_after deed state.kept.index.0)
+StaysKept deed seat state = IsKept (after_deed deed seat state.machine) (links_after deed state.kept.index.0)
 
 -- the state is one for which it was made ready: there is room, and what is so of machines between two events is so afterwards
 pub record IsReadied (pending : Pending) (state : Roomed) : Type 0 where
@@ -81,7 +81,7 @@ pub record IsReadied (pending : Pending) (state : Roomed) : Type 0 where
 
 -- it was made ready of a step: that is what the step says and leaves, and the state is one for which it is ready
 pub record IsReady (old : Roomed) (stepped : Result (Reply × Machine) Fault) (pending : Pending) (new : Roomed) : Type 0 where
-  pub step : stepped ≡ Ok (pending.reply, performed pending.deed pending.seat old.machine)
+  pub step : stepped ≡ Ok (pending.reply, after_deed pending.deed pending.seat old.machine)
   pub readied : IsReadied pending new
 
 -- what is made ready of a step, or the fault in which it ends

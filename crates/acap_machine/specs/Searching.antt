@@ -27,8 +27,8 @@ use Rattle.acap_search.specs.declared.query.Query.{Query}
 use Rattle.acap_search.specs.declared.query.Sought.{Sought}
 use Rattle.acap_search.specs.declared.refusal.SearchRefusal.{SearchRefusal}
 use Rattle.acap_search.specs.declared.refusal.SearchRefusal.TheVariants as refusal
-use Rattle.acap_views.specs.Opening.{opened}
-use Rattle.acap_views.specs.Ranging.{Ranged, ranged}
+use Rattle.acap_views.specs.Opening.{with_context}
+use Rattle.acap_views.specs.Ranging.{Ranged, range_at}
 use Rattle.acap_views.specs.Seats.{Seated}
 use Rattle.acap_views.specs.declared.refusal.ViewRefusal.{ViewRefusal}
 use Rattle.acap_views.specs.declared.refusal.ViewRefusal.TheVariants as view
@@ -109,13 +109,13 @@ seated_or m words (Ok seats) = (words, record m { seats = seats })
 seated_or m words (Err why) = (said.Refused (view_refused_as why), m)
 
 -- MAKECONTEXT keeps all matches, whatever LIMIT tells of them; where there is no place for it nothing is told
-abbrev pub kept : Machine → ℕ → MakeContext → Sought → Option Limit → List Match → Said × Machine
-kept m seat make sought limit matches =
-    seated_or m (said.Searched (found_of m.store.last sought limit matches)) (opened m.seats seat make sought matches m.store.last)
+abbrev pub context_answer : Machine → ℕ → MakeContext → Sought → Option Limit → List Match → Said × Machine
+context_answer m seat make sought limit matches =
+    seated_or m (said.Searched (found_of m.store.last sought limit matches)) (with_context m.seats seat make sought matches m.store.last)
 
 abbrev pub kept_if : Machine → ℕ → Option MakeContext → Sought → Option Limit → List Match → Said × Machine
 kept_if m seat None sought limit matches = (said.Searched (found_of m.store.last sought limit matches), m)
-kept_if m seat (Some make) sought limit matches = kept m seat make sought limit matches
+kept_if m seat (Some make) sought limit matches = context_answer m seat make sought limit matches
 
 abbrev pub found_or : Machine → ℕ → Asked → Option SearchRefusal → List Match → Said × Machine
 found_or m seat asked (Some refusal) matches = (said.Refused (refused_as asked.query.sought.dataset refusal), m)
@@ -164,7 +164,7 @@ searched_within s realm user (Err why) modifiers key = said.Refused (view_refuse
 
 abbrev pub searched_in : Machine → ℕ → List ℕ → Target → SearchModifiers → Wanted → Said × Machine
 searched_in m seat user (target.Dataset dataset) modifiers key = searched_over m seat user (asked_of user dataset modifiers key)
-searched_in m seat user (target.Context name) modifiers key = (searched_within m.store m.realm user (ranged m.seats seat name) modifiers key, m)
+searched_in m seat user (target.Context name) modifiers key = (searched_within m.store m.realm user (range_at m.seats seat name) modifiers key, m)
 
-abbrev pub searched : Machine → ℕ → List ℕ → Search → Said × Machine
-searched m seat user search = searched_in m seat user search.target search.modifiers search.key
+abbrev pub search_answer : Machine → ℕ → List ℕ → Search → Said × Machine
+search_answer m seat user search = searched_in m seat user search.target search.modifiers search.key

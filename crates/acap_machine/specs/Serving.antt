@@ -12,13 +12,13 @@ use Rattle.acap_commands.specs.declared.verb.Verb.{Verb}
 use Rattle.acap_commands.specs.declared.verb.Verb.TheVariants as verb
 use Rattle.acap_machine.specs.Changing.{changed_by}
 use Rattle.acap_machine.specs.Machine.{Machine}
-use Rattle.acap_machine.specs.Searching.{searched, seated_or, view_refused_as}
+use Rattle.acap_machine.specs.Searching.{search_answer, seated_or, view_refused_as}
 use Rattle.acap_notices.specs.declared.told.Told.{Told}
 use Rattle.acap_rights.specs.Deciding.{dataset_in, rights_of, implicit_rights}
-use Rattle.acap_rights.specs.Rights.{letters_of, listed}
+use Rattle.acap_rights.specs.Rights.{letters_of, rights_list}
 use Rattle.acap_store.specs.Deleting.{deleted_since}
 use Rattle.acap_store.specs.Meaning.{target_for}
-use Rattle.acap_store.specs.Planning.{planned}
+use Rattle.acap_store.specs.Planning.{plan}
 use Rattle.acap_store.specs.declared.write.Write.{Write}
 use Rattle.acap_store.specs.declared.write.Write.TheVariants as write
 use Rattle.acap_views.specs.Opening.{freed_by}
@@ -32,8 +32,8 @@ abbrev pub written_or : Machine → Verb → Result Change Refusal → Said × M
 written_or m done (Ok change) = (said.Done done, changed_by change m)
 written_or m done (Err refusal) = (said.Refused refusal, m)
 
-abbrev pub written : Machine → List ℕ → Verb → Write → ℤ → Said × Machine
-written m user done write clock = written_or m done (planned m.store m.realm user write clock)
+abbrev pub write_answer : Machine → List ℕ → Verb → Write → ℤ → Said × Machine
+write_answer m user done write clock = written_or m done (plan m.store m.realm user write clock)
 
 -- ---- MYRIGHTS and LISTRIGHTS, of any object, be it there or not
 
@@ -43,7 +43,7 @@ rights_told m user object = (said.Rights (letters_of (rights_of m.store.records 
 -- what the identifier always has there, and then each other right apart: no list is looked at
 abbrev pub rights_listed : Machine → List ℕ → ObjectName → List ℕ → Said × Machine
 rights_listed m user object identifier =
-    (said.RightsList (listed (implicit_rights m.realm identifier (dataset_in (target_for user object)))), m)
+    (said.RightsList (rights_list (implicit_rights m.realm identifier (dataset_in (target_for user object)))), m)
 
 -- ---- DELETEDSINCE
 
@@ -51,40 +51,40 @@ abbrev pub names_or : Result (List (List ℕ)) Refusal → Said
 names_or (Ok names) = said.Deleted names
 names_or (Err refusal) = said.Refused refusal
 
-abbrev pub deleted : Machine → List ℕ → List ℕ → ℤ → Said × Machine
-deleted m user dataset since = (names_or (deleted_since m.store m.realm user dataset since), m)
+abbrev pub deletions_answer : Machine → List ℕ → List ℕ → ℤ → Said × Machine
+deletions_answer m user dataset since = (names_or (deleted_since m.store m.realm user dataset since), m)
 
 -- ---- FREECONTEXT and UPDATECONTEXT
 
-abbrev pub freed : Machine → ℕ → List ℕ → Said × Machine
-freed m seat name = seated_or m (said.Done verb.FreeContext) (freed_by m.seats seat name)
+abbrev pub free_answer : Machine → ℕ → List ℕ → Said × Machine
+free_answer m seat name = seated_or m (said.Done verb.FreeContext) (freed_by m.seats seat name)
 
 abbrev pub updated_or : Machine → Result (List Told × Seated) ViewRefusal → Said × Machine
 updated_or m (Ok told) = (said.Updated told.0, record m { seats = told.1 })
 updated_or m (Err why) = (said.Refused (view_refused_as why), m)
 
 -- the store's last moment is told of each context
-abbrev pub updated : Machine → ℕ → List (List ℕ) → Said × Machine
-updated m seat names = updated_or m (told_of m.seats seat names m.store.last)
+abbrev pub update_answer : Machine → ℕ → List (List ℕ) → Said × Machine
+update_answer m seat names = updated_or m (told_of m.seats seat names m.store.last)
 
 -- ---- every command. NOOP, LOGOUT and AUTHENTICATE concern the session alone, which answers them without the machine; to the
 -- user of a seat the machine would say this
 
-unfoldable pub served : Machine → ℕ → List ℕ → Command → ℤ → Said × Machine
-served m seat user command.Noop clock = (said.Done verb.Noop, m)
-served m seat user command.Logout clock = (said.GoodBye, m)
-served m seat user (command.Authenticate mechanism) clock = (said.Refused refusals.LoggedIn, m)
-served m seat user (command.Store entries) clock = written m user verb.Store (write.Store entries) clock
-served m seat user (command.Search search) clock = searched m seat user search
-served m seat user (command.SetAcl object identifier letters) clock =
-    written m user verb.SetAcl (write.SetAcl object identifier letters) clock
-served m seat user (command.DeleteAcl object identifier) clock =
-    written m user verb.DeleteAcl (write.DeleteAcl object identifier) clock
-served m seat user (command.MyRights object) clock = rights_told m user object
-served m seat user (command.ListRights object identifier) clock = rights_listed m user object identifier
-served m seat user (command.DeletedSince dataset since) clock = deleted m user dataset since
-served m seat user (command.FreeContext name) clock = freed m seat name
-served m seat user (command.UpdateContext names) clock = updated m seat names
+unfoldable pub answer_to : Machine → ℕ → List ℕ → Command → ℤ → Said × Machine
+answer_to m seat user command.Noop clock = (said.Done verb.Noop, m)
+answer_to m seat user command.Logout clock = (said.GoodBye, m)
+answer_to m seat user (command.Authenticate mechanism) clock = (said.Refused refusals.LoggedIn, m)
+answer_to m seat user (command.Store entries) clock = write_answer m user verb.Store (write.Store entries) clock
+answer_to m seat user (command.Search search) clock = search_answer m seat user search
+answer_to m seat user (command.SetAcl object identifier letters) clock =
+    write_answer m user verb.SetAcl (write.SetAcl object identifier letters) clock
+answer_to m seat user (command.DeleteAcl object identifier) clock =
+    write_answer m user verb.DeleteAcl (write.DeleteAcl object identifier) clock
+answer_to m seat user (command.MyRights object) clock = rights_told m user object
+answer_to m seat user (command.ListRights object identifier) clock = rights_listed m user object identifier
+answer_to m seat user (command.DeletedSince dataset since) clock = deletions_answer m user dataset since
+answer_to m seat user (command.FreeContext name) clock = free_answer m seat name
+answer_to m seat user (command.UpdateContext names) clock = update_answer m seat names
 
 -- the change of the store that a command asks for, as it was sent
 abbrev pub write_of : Command → Option Write

@@ -10,40 +10,40 @@ use Rattle.acap_commands.specs.declared.event.Event.TheVariants as event
 use Rattle.acap_commands.specs.declared.fault.Fault.{Fault}
 use Rattle.acap_commands.specs.declared.fault.Fault.TheVariants as fault
 use Rattle.acap_machine.specs.Machine.{Machine, user_at}
-use Rattle.acap_machine.specs.Serving.{served}
-use Rattle.acap_views.specs.Seats.{entered, left}
-use Rattle.acap_views.specs.Telling.{drained}
+use Rattle.acap_machine.specs.Serving.{answer_to}
+use Rattle.acap_views.specs.Seats.{with_user, without_user}
+use Rattle.acap_views.specs.Telling.{drain_of}
 
 -- what is said, without a tag
 abbrev pub plain : Said → Reply
 plain words = record { tag = None; said = words }
 
-abbrev pub replied : Said × Machine → Reply × Machine
-replied answer = (plain answer.0, answer.1)
+abbrev pub reply_of : Said × Machine → Reply × Machine
+reply_of answer = (plain answer.0, answer.1)
 
 -- a user takes a seat that is free, and has no context there
-abbrev pub seated : Machine → ℕ → List ℕ → Option (List ℕ) → Result (Reply × Machine) Fault
-seated m seat user None = Ok (plain said.Greeting, record m { seats = entered m.seats seat user })
-seated m seat user (Some other) = Err fault.AlreadyEntered
+abbrev pub enter_answer : Machine → ℕ → List ℕ → Option (List ℕ) → Result (Reply × Machine) Fault
+enter_answer m seat user None = Ok (plain said.Greeting, record m { seats = with_user m.seats seat user })
+enter_answer m seat user (Some other) = Err fault.AlreadyEntered
 
 -- all that waits at a seat is told, and its live contexts show their present lists
 abbrev pub drained_at : Machine → ℕ → Reply × Machine
-drained_at m seat = (plain (said.Drained (drained m.seats seat).0), record m { seats = (drained m.seats seat).1 })
+drained_at m seat = (plain (said.Drained (drain_of m.seats seat).0), record m { seats = (drain_of m.seats seat).1 })
 
 -- who leaves takes all contexts along
 abbrev pub left_at : Machine → ℕ → Reply × Machine
-left_at m seat = (plain said.Left, record m { seats = left m.seats seat })
+left_at m seat = (plain said.Left, record m { seats = without_user m.seats seat })
 
 -- every other event is a user's who has the seat
 abbrev pub by_user : Option (List ℕ) → (List ℕ → Reply × Machine) → Result (Reply × Machine) Fault
 by_user user does = option_map_or (λ name. Ok (does name)) user (Err fault.NotEntered)
 
-abbrev pub asked : Machine → ℕ → (Machine → List ℕ → Said × Machine) → Result (Reply × Machine) Fault
-asked m seat does = by_user (user_at m seat) (λ user. replied (does m user))
+abbrev pub answer_at : Machine → ℕ → (Machine → List ℕ → Said × Machine) → Result (Reply × Machine) Fault
+answer_at m seat does = by_user (user_at m seat) (λ user. reply_of (does m user))
 
 abbrev pub step_of : Machine → ℕ → Event → ℤ → Result (Reply × Machine) Fault
-step_of m seat (event.Enter user) clock = seated m seat user (user_at m seat)
-step_of m seat (event.Command command) clock = asked m seat (λ n user. served n seat user command clock)
+step_of m seat (event.Enter user) clock = enter_answer m seat user (user_at m seat)
+step_of m seat (event.Command command) clock = answer_at m seat (λ n user. answer_to n seat user command clock)
 step_of m seat event.Drain clock = by_user (user_at m seat) (λ user. drained_at m seat)
 step_of m seat event.Leave clock = by_user (user_at m seat) (λ user. left_at m seat)
 

@@ -9,7 +9,7 @@ use Rattle.acap_commands.specs.declared.event.Event.TheVariants as event
 use Rattle.acap_commands.specs.declared.refusal.Refusal.{Refusal}
 use Rattle.acap_machine.specs.Machine.{Machine, user_at}
 use Rattle.acap_machine.specs.Serving.{write_of}
-use Rattle.acap_store.specs.Planning.{planned}
+use Rattle.acap_store.specs.Planning.{plan}
 use Rattle.acap_store.specs.declared.write.Write.{Write}
 use Rattle.acap_views.specs.Preparing.{touched_for_all}
 
@@ -23,7 +23,7 @@ touched_or m (Ok change) = touched_by m change
 touched_or m (Err refusal) = 0
 
 abbrev pub work_at : Machine → ℕ → Write → ℤ → ℕ
-work_at m seat write clock = option_map_or (λ user. touched_or m (planned m.store m.realm user write clock)) (user_at m seat) 0
+work_at m seat write clock = option_map_or (λ user. touched_or m (plan m.store m.realm user write clock)) (user_at m seat) 0
 
 -- no other event touches anything
 abbrev pub work_of : Machine → ℕ → Event → ℤ → ℕ

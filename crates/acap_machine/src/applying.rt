@@ -1,6 +1,6 @@
 //! What was made ready is put in place.
 ghost use Rattle.std.specs.Prelude.{◌≡◌};
-ghost use Rattle.acap_machine.specs.Readied.{IsReadied, HasRoom, StaysKept, performed};
+ghost use Rattle.acap_machine.specs.Readied.{IsReadied, HasRoom, StaysKept, after_deed};
 
 use crate::deed::Deed;
 use crate::ready::Ready;
@@ -13,7 +13,7 @@ impl State {
     /// and cannot fail.
     pub fn apply(&mut self, ready: Ready) -> Reply
         requires { IsReadied ready self.old }
-        ensures machine { self.new.machine ≡ performed ready.deed ready.seat self.old.machine }
+        ensures machine { self.new.machine ≡ after_deed ready.deed ready.seat self.old.machine }
         ensures reply { result ≡ ready.reply }
         ensures work { self.new.work ≡ ready.work }
     {
@@ -32,7 +32,7 @@ impl State {
     fn perform(&mut self, seat: Seat, deed: Deed)
         requires room { HasRoom deed seat self.old.kept }
         requires sound { StaysKept deed seat self.old }
-        ensures { self.new.machine ≡ performed deed seat self.old.machine }
+        ensures { self.new.machine ≡ after_deed deed seat self.old.machine }
     {
         match deed {
             Deed::Nothing => {}

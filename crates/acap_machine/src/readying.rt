@@ -1,6 +1,5 @@
 //! Events are made ready: what is said, all that is to be put in place, and room for it.
-ghost use Rattle.std.specs.Prelude.{◌≡◌, ◌≤◌, false, true, IfOk, IfErr, IsOk, IsSome};
-ghost use Rattle.acap_commands.specs.declared.command.Command.TheVariants as commands;
+ghost use Rattle.std.specs.Prelude.{◌≡◌, ◌≤◌, false, IfOk, IsOk, IsSome};
 ghost use Rattle.acap_commands.specs.declared.event.Event.TheVariants as events;
 ghost use Rattle.acap_machine.specs.Machine.{user_at};
 ghost use Rattle.acap_machine.specs.Readied.{IsReadyFor, IsWork};
@@ -102,7 +101,7 @@ impl State {
     }
 
     // The user of a seat gives a command.
-    #[tactic(auto, unfolding(crate::specs::Serving::served))]
+    #[tactic(auto, unfolding(crate::specs::Serving::answer_to))]
     fn ready_command<L: Ledger>(
         &mut self,
         seat: Seat,
@@ -138,7 +137,7 @@ impl State {
             Command::ListRights(object, identifier) => {
                 self.ready_list(seat, object.into_value(), identifier.as_slice())
             }
-            Command::DeletedSince(dataset, since) => self.ready_deleted(seat, &dataset, since),
+            Command::DeletedSince(dataset, since) => self.ready_deletions(seat, &dataset, since),
             Command::FreeContext(name) => self.ready_free(seat, name),
             Command::UpdateContext(names) => self.ready_update(seat, names),
         }

@@ -3,8 +3,6 @@ ghost use Rattle.std.specs.Prelude.{◌≡◌, false, IfOk, OnOk};
 ghost use Rattle.acap_commands.specs.Answers.{is_memory};
 ghost use Rattle.acap_commands.specs.declared.said.Said.TheVariants as saying;
 ghost use Rattle.acap_machine.specs.Searching as rule;
-ghost use Rattle.acap_search.specs.declared.refusal.SearchRefusal.TheVariants as searches;
-ghost use Rattle.acap_views.specs.declared.refusal.ViewRefusal.TheVariants as views;
 
 use acap_commands::{Refusal, Said};
 use acap_entries::{Dataset, Memory};

@@ -1,15 +1,14 @@
 //! SEARCH over datasets and over contexts.
-ghost use Rattle.std.specs.Prelude.{◌≡◌, ◌≤◌, Some, Ok, IfOk, IsSome, option_map, length, map as each};
+ghost use Rattle.std.specs.Prelude.{◌≡◌, ◌≤◌, Some, Ok, IfOk, IsSome, option_map, map as each};
 ghost use Rattle.std.specs.FinMap as table;
 ghost use Rattle.acap_entries.specs.Ranks.{Ascending};
 ghost use Rattle.acap_machine.specs.Changing.{IsOpenable};
 ghost use Rattle.acap_machine.specs.Readied.{IsReadyOf};
 ghost use Rattle.acap_machine.specs.Searching as rule;
-ghost use Rattle.acap_machine.specs.Stepping.{asked as asking, replied};
+ghost use Rattle.acap_machine.specs.Stepping.{answer_at as asking, reply_of};
 ghost use Rattle.acap_search.specs.Cutting.{IsExcerpt};
-ghost use Rattle.acap_search.specs.Fresh.{matches_of, refusal_of};
 ghost use Rattle.acap_search.specs.Matches.{match_cmp};
-ghost use Rattle.acap_views.specs.Ranging.{ranged};
+ghost use Rattle.acap_views.specs.Ranging.{range_at};
 ghost use Rattle.acap_views.specs.Started.{as_ranged};
 
 use crate::deed::Deed;
@@ -22,7 +21,8 @@ use acap_commands::{
 };
 use acap_entries::{ContextName, Copying, Memory, Moment, Seat, Steps, UserName};
 use acap_search::{
-    Asked, Excerpt, Hit, Hits, Query, Sought, cut_by, first_rows, fresh, hit_law, tell, within,
+    Asked, Excerpt, Hit, Hits, Query, Showing, Sought, cut_by, first_rows, fresh, hit_law, tell,
+    within,
 };
 use acap_views::{RangedContext, is_full};
 use std::alloc::Global;
@@ -46,7 +46,7 @@ fn total_told(total: Option<usize>) -> Option<u32>
 }
 
 // What a reply has of what is told of the matches.
-fn found_with(alloc: Global, last: Moment, sought: &Sought, excerpt: Excerpt) -> SearchReply
+fn reply_with(alloc: Global, last: Moment, sought: &Sought, excerpt: Excerpt) -> SearchReply
     ensures { result ≡ rule.found_with last sought.now excerpt.rows excerpt.total }
 {
     let total = total_told(excerpt.total);
@@ -78,7 +78,7 @@ fn excerpt_of(alloc: Global, hits: Hits, limit: Option<Limit>) -> Result<Excerpt
 }
 
 // What is told of each of these hits, copied.
-fn rows_copied(alloc: Global, hits: &[Hit]) -> Result<Rows, Memory>
+fn copy_rows(alloc: Global, hits: &[Hit]) -> Result<Rows, Memory>
     ensures { IfOk result (λ rows. rows ≡ each (λ hit. hit.row) hits.now) }
 {
     let mut rows = Vec::with_capacity(alloc, hits.len())?;
@@ -90,7 +90,7 @@ fn rows_copied(alloc: Global, hits: &[Hit]) -> Result<Rows, Memory>
 
 // What a reply has of these hits, which stay for a context. Without RETURN no row is told, and none copied.
 #[tactic(auto, using(crate::proofs::FoundLemmas::copied_is))]
-fn found_of(
+fn reply_of(
     alloc: Global,
     last: Moment,
     sought: &Sought,
@@ -105,12 +105,12 @@ fn found_of(
     } else {
         0
     };
-    let rows = rows_copied(alloc, &hits.as_slice()[..told.min(hits.len())])?;
+    let rows = copy_rows(alloc, &hits.as_slice()[..told.min(hits.len())])?;
     let excerpt = Excerpt {
         rows,
         total: cut.total,
     };
-    Ok(found_with(alloc, last, sought, excerpt))
+    Ok(reply_with(alloc, last, sought, excerpt))
 }
 
 // The query of a search over a context that another one made.
@@ -144,7 +144,7 @@ impl State {
         steps: &mut Steps<L>,
     ) -> Result<Ready, Fault>
         ensures answer { IsReadyOf result self.old
-            (asking self.old.machine seat (λ m u. rule.searched m seat u search)) self.new }
+            (asking self.old.machine seat (λ m u. rule.search_answer m seat u search)) self.new }
         ensures same { self.new.machine ≡ self.old.machine }
         ensures last { self.new.work ≡ self.old.work }
         ensures none { IfOk result (λ r. r.work ≡ 0) }
@@ -182,7 +182,7 @@ impl State {
     ) -> Result<Said, Memory>
         ensures words { IfOk result (λ words. words ≡ rule.searched_within
             self.now.machine.store self.now.machine.realm user.now
-            (ranged self.now.machine.seats seat name.now) modifiers key) }
+            (range_at self.now.machine.seats seat name.now) modifiers key) }
         ensures count { steps.old ≤ steps.new }
     {
         match self.views.range(seat, name) {
@@ -221,15 +221,17 @@ impl State {
             &self.realm,
             user,
             &query,
-            shown.as_slice(),
-            told,
-            enumerated,
+            Showing {
+                hits: shown.as_slice(),
+                told,
+                enumerated,
+            },
             steps,
         ) {
             Ok(hits) => {
                 let excerpt = excerpt_of(self.alloc, hits, limit)?;
                 let last = self.tree.last();
-                Ok(Said::Searched(found_with(self.alloc, last, &query.sought, excerpt)))
+                Ok(Said::Searched(reply_with(self.alloc, last, &query.sought, excerpt)))
             }
             Err(refusal) => {
                 let sought = query.sought;
@@ -262,7 +264,7 @@ impl State {
         ) {
             Ok(excerpt) => {
                 let last = self.tree.last();
-                Ok(Said::Searched(found_with(self.alloc, last, &query.sought, excerpt)))
+                Ok(Said::Searched(reply_with(self.alloc, last, &query.sought, excerpt)))
             }
             Err(refusal) => {
                 let sought = query.sought;
@@ -300,7 +302,7 @@ impl State {
             return Ok(Ready::new(seat, Deed::Nothing, words));
         };
         match fresh(state.alloc, &state.tree, &state.realm, user, &query, steps) {
-            Ok(hits) => self.ready_made(seat, make, query.sought, limit, hits),
+            Ok(hits) => self.ready_context(seat, make, query.sought, limit, hits),
             Err(refusal) => {
                 let sought = query.sought;
                 let words = refuse_search(sought.dataset, refusal)?;
@@ -310,7 +312,7 @@ impl State {
     }
 
     // The context that a search makes which found these hits.
-    fn ready_made(
+    fn ready_context(
         &mut self,
         seat: Seat,
         make: MakeContext,
@@ -322,7 +324,7 @@ impl State {
         requires order { Ascending match_cmp hits }
         requires current { IsOpenable self.old.machine seat make sought hits }
         ensures answer { IsReadyOf result self.old
-            (Ok (replied (rule.kept self.old.machine seat make sought limit hits))) self.new }
+            (Ok (reply_of (rule.context_answer self.old.machine seat make sought limit hits))) self.new }
         ensures same { self.new.machine ≡ self.old.machine }
         ensures last { self.new.work ≡ self.old.work }
         ensures none { IfOk result (λ r. r.work ≡ 0) }
@@ -333,7 +335,7 @@ impl State {
             return Ok(Ready::new(seat, Deed::Nothing, words));
         }
         let last = self.tree.last();
-        let found = found_of(self.alloc, last, &sought, limit, &hits)?;
+        let found = reply_of(self.alloc, last, &sought, limit, &hits)?;
         match self.views.make_context(seat, make, sought, hits, last) {
             Ok(new) => Ok(Ready::new(seat, Deed::Makes(new), Said::Searched(found))),
             Err(why) => Ok(Ready::new(seat, Deed::Nothing, refuse_view(why)?)),

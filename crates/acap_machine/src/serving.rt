@@ -2,7 +2,7 @@
 ghost use Rattle.std.specs.Prelude.{◌≡◌, IfOk};
 ghost use Rattle.acap_machine.specs.Readied.{IsReadyOf};
 ghost use Rattle.acap_machine.specs.Serving as rule;
-ghost use Rattle.acap_machine.specs.Stepping.{asked};
+ghost use Rattle.acap_machine.specs.Stepping.{answer_at};
 
 use crate::deed::Deed;
 use crate::ready::Ready;
@@ -18,7 +18,7 @@ impl State {
     /// Words for who has a seat, whatever the machine.
     pub(crate) fn ready_words(&self, seat: Seat, words: Said) -> Result<Ready, Fault>
         ensures answer { IsReadyOf result self.now
-            (asked self.now.machine seat (λ m u. (words, m))) self.now }
+            (answer_at self.now.machine seat (λ m u. (words, m))) self.now }
         ensures none { IfOk result (λ r. r.work ≡ 0) }
     {
         self.kept_law();
@@ -29,7 +29,7 @@ impl State {
     /// A MYRIGHTS (RFC 2244 section 6.7).
     pub(crate) fn ready_rights(&self, seat: Seat, object: ObjectName) -> Result<Ready, Fault>
         ensures answer { IsReadyOf result self.now
-            (asked self.now.machine seat (λ m u. rule.rights_told m u object)) self.now }
+            (answer_at self.now.machine seat (λ m u. rule.rights_told m u object)) self.now }
         ensures none { IfOk result (λ r. r.work ≡ 0) }
     {
         self.kept_law();
@@ -48,26 +48,26 @@ impl State {
         identifier: &[u8],
     ) -> Result<Ready, Fault>
         ensures answer { IsReadyOf result self.now
-            (asked self.now.machine seat (λ m u. rule.rights_listed m u object identifier.now)) self.now }
+            (answer_at self.now.machine seat (λ m u. rule.rights_listed m u object identifier.now)) self.now }
         ensures none { IfOk result (λ r. r.work ≡ 0) }
     {
         self.kept_law();
         let user = self.user(seat)?;
         let meant = object_for(user, object)?;
         let rights = implicit_rights(&self.realm, identifier, lent_object(&meant).dataset());
-        let list = rights.listed(self.alloc)?;
+        let list = rights.list(self.alloc)?;
         Ok(Ready::new(seat, Deed::Nothing, Said::RightsList(list)))
     }
 
     /// A DELETEDSINCE (RFC 2244 section 6.6.2).
-    pub(crate) fn ready_deleted(
+    pub(crate) fn ready_deletions(
         &self,
         seat: Seat,
         dataset: &Dataset,
         since: Moment,
     ) -> Result<Ready, Fault>
         ensures answer { IsReadyOf result self.now
-            (asked self.now.machine seat (λ m u. rule.deleted m u dataset.now since)) self.now }
+            (answer_at self.now.machine seat (λ m u. rule.deletions_answer m u dataset.now since)) self.now }
         ensures none { IfOk result (λ r. r.work ≡ 0) }
     {
         self.kept_law();
@@ -82,7 +82,7 @@ impl State {
     /// A FREECONTEXT (RFC 2244 section 6.5). Takes no memory.
     pub(crate) fn ready_free(&self, seat: Seat, name: ContextName) -> Result<Ready, Fault>
         ensures answer { IsReadyOf result self.now
-            (asked self.now.machine seat (λ m u. rule.freed m seat name)) self.now }
+            (answer_at self.now.machine seat (λ m u. rule.free_answer m seat name)) self.now }
         ensures none { IfOk result (λ r. r.work ≡ 0) }
     {
         self.kept_law();
@@ -96,7 +96,7 @@ impl State {
     /// An UPDATECONTEXT (RFC 2244 section 6.5).
     pub(crate) fn ready_update(&self, seat: Seat, names: ContextNames) -> Result<Ready, Fault>
         ensures answer { IsReadyOf result self.now
-            (asked self.now.machine seat (λ m u. rule.updated m seat names)) self.now }
+            (answer_at self.now.machine seat (λ m u. rule.update_answer m seat names)) self.now }
         ensures none { IfOk result (λ r. r.work ≡ 0) }
     {
         self.kept_law();

@@ -1,6 +1,5 @@
 //! The machine in memory.
-ghost use Rattle.std.specs.Prelude.{◌≡◌, ◌≤◌, ◌+◌, false, IfOk, IfErr, OnErr, IsOk, IsSome, Ok, Err, option_map};
-ghost use Rattle.std.specs.Option.{option_copied};
+ghost use Rattle.std.specs.Prelude.{◌≡◌, ◌≤◌, ◌+◌, false, IfOk, IfErr, OnErr, IsOk, IsSome, Ok, Err};
 ghost use Rattle.acap_machine.specs.Changing.{IsKept};
 ghost use Rattle.acap_machine.specs.Machine.{new_machine, user_at};
 ghost use Rattle.acap_views.specs.Laws.{CurrentLaw};

@@ -1,14 +1,13 @@
 //! Commands that write: STORE, SETACL and DELETEACL.
-ghost use Rattle.std.specs.Prelude.{◌≡◌, ◌≤◌, ◌+◌, true, IfOk, Ok, map as each};
+ghost use Rattle.std.specs.Prelude.{◌≡◌, ◌+◌, true, IfOk, Ok, map as each};
 ghost use Rattle.std.specs.List.{list_all};
 ghost use Rattle.acap_entries.specs.Changes.{store_after};
 ghost use Rattle.acap_entries.specs.FullPaths.{is_well_formed};
 ghost use Rattle.acap_commands.specs.declared.said.Said.TheVariants as saying;
 ghost use Rattle.acap_machine.specs.Changing.{changed_by};
-ghost use Rattle.acap_machine.specs.Machine.{user_at};
 ghost use Rattle.acap_machine.specs.Readied.{AreViewsReady, IsIndexReady, IsReadyOf, IsWork};
 ghost use Rattle.acap_machine.specs.Serving as rule;
-ghost use Rattle.acap_machine.specs.Stepping.{asked, replied};
+ghost use Rattle.acap_machine.specs.Stepping.{answer_at, reply_of};
 ghost use Rattle.acap_machine.specs.Work.{touched_by, work_at};
 ghost use Rattle.acap_search.specs.Counting.{IsCounted};
 ghost use Rattle.acap_store.specs.DatasetLaws.{paths_named};
@@ -96,7 +95,7 @@ impl State {
     ) -> Result<Ready, Fault>
         requires sound { IsSoundStep self.old.machine.store (store_after change self.old.machine.store) }
         ensures answer { IsReadyOf result self.old
-            (Ok (replied (saying.Done verb, changed_by change self.old.machine))) self.new }
+            (Ok (reply_of (saying.Done verb, changed_by change self.old.machine))) self.new }
         ensures same { self.new.machine ≡ self.old.machine }
         ensures last { self.new.work ≡ self.old.work }
         ensures work { IsWork result steps.old steps.new (touched_by self.old.machine change) }
@@ -125,7 +124,7 @@ impl State {
         steps: &mut Steps<L>,
     ) -> Result<Ready, Fault>
         ensures answer { IsReadyOf result self.old
-            (asked self.old.machine seat (λ m u. rule.written m u verb write clock)) self.new }
+            (answer_at self.old.machine seat (λ m u. rule.write_answer m u verb write clock)) self.new }
         ensures same { self.new.machine ≡ self.old.machine }
         ensures last { self.new.work ≡ self.old.work }
         ensures work { IsWork result steps.old steps.new (work_at self.old.machine seat write clock) }

@@ -7,7 +7,7 @@ use Rattle.acap_notices.specs.declared.notice.Notice.{Notice}
 use Rattle.acap_notices.specs.Holding.{Holding, holding, holding_after_all}
 use Rattle.acap_notices.proofs.RuleLemmas.{joined}
 use Rattle.acap_moves.specs.Hits.{Name, Shape, IsLawful, is_among, IsDistinct, put_some, fresh, rows, IsOfNames}
-use Rattle.acap_moves.specs.Notices.{notice_at, moved, stepwise, Covers}
+use Rattle.acap_moves.specs.Notices.{notice_at, with_new_hit, stepwise, Covers}
 use Rattle.acap_moves.proofs.Splits.{hidden, if_among, split, split_moved, moved_of, fresh_same}
 use Rattle.acap_moves.proofs.ListSteps.{Absent, absent_put, listed_step}
 use Rattle.acap_moves.proofs.MapSteps.{mapped_step}
@@ -46,7 +46,7 @@ module _ {H : Type 0} (v : Shape H) (l : IsLawful v) where
 
   -- one name alone
   one_name : (enumerated : Bool) (old new : Name → Option H) (ps : List Name) (c : Name) → IsDistinct ps → IsOfNames v old → IsOfNames v new →
-      holding_after_all (holding enumerated (rows v (fresh v old ps))) (notice_at v enumerated c (fresh v old ps) (fresh v (moved c new old) ps)) ≡ Some (holding enumerated (rows v (fresh v (moved c new old) ps)))
+      holding_after_all (holding enumerated (rows v (fresh v old ps))) (notice_at v enumerated c (fresh v old ps) (fresh v (with_new_hit c new old) ps)) ≡ Some (holding enumerated (rows v (fresh v (with_new_hit c new old) ps)))
   one_name enumerated old new ps c d f g =
       rw (split v l c old ps d f, split_moved v l c old new ps d f g)
       (either_step enumerated c (if_among c ps (old c)) (if_among c ps (new c)) (fresh v (hidden c old) ps) (absent_fresh v c old ps f) (of_name_among v c ps old f) (of_name_among v c ps new g))
@@ -55,8 +55,8 @@ module _ {H : Type 0} (v : Shape H) (l : IsLawful v) where
   unfolding is_among
   covers_none old new ps k = fresh_same v l old new ps (λ q m. k.same_elsewhere q m refl)
 
-  pub covers_rest : (old new : Name → Option H) (ps : List Name) (c : Name) (cs : List Name) → Covers old new ps (c ∷ cs) → Covers (moved c new old) new ps cs
-  unfolding is_among moved
+  pub covers_rest : (old new : Name → Option H) (ps : List Name) (c : Name) (cs : List Name) → Covers old new ps (c ∷ cs) → Covers (with_new_hit c new old) new ps cs
+  unfolding is_among with_new_hit
   covers_rest old new ps c cs k = record {
     same_elsewhere = λ q m n.
         elim (octets_eq c q) as (λ b. octets_eq c q ≡ b → cond b (new q) (old q) ≡ new q) [
@@ -70,5 +70,5 @@ module _ {H : Type 0} (v : Shape H) (l : IsLawful v) where
   unfolding stepwise
   stepwise_law enumerated old new ps [] d f g k = ap (λ es. Some (holding enumerated (rows v es))) (covers_none old new ps k)
   stepwise_law enumerated old new ps (c ∷ cs) d f g k =
-      applied_then _ _ _ (notice_at v enumerated c (fresh v old ps) (fresh v (moved c new old) ps)) (stepwise v enumerated (moved c new old) new ps cs)
-      (one_name enumerated old new ps c d f g) (stepwise_law enumerated (moved c new old) new ps cs d (moved_of v l c old new f g) g (covers_rest old new ps c cs k))
+      applied_then _ _ _ (notice_at v enumerated c (fresh v old ps) (fresh v (with_new_hit c new old) ps)) (stepwise v enumerated (with_new_hit c new old) new ps cs)
+      (one_name enumerated old new ps c d f g) (stepwise_law enumerated (with_new_hit c new old) new ps cs d (moved_of v l c old new f g) g (covers_rest old new ps c cs k))

@@ -5,7 +5,7 @@ use Rattle.std.specs.Cmp.Lexicographic.{nat_list_eq_equiv}
 use Rattle.acap_entries.specs.Orders.{octets_eq}
 use Rattle.acap_notices.specs.Holding.{holding, holding_after_all}
 use Rattle.acap_moves.specs.Hits.{Name, Shape, is_among, fresh, rows}
-use Rattle.acap_moves.specs.Notices.{notice_at, mixed, moved, notices_from, stepwise, MixedLaw, NoticeListLaw}
+use Rattle.acap_moves.specs.Notices.{notice_at, hits_between, with_new_hit, notices_from, stepwise, MixedLaw, NoticeListLaw}
 use Rattle.acap_moves.proofs.Law.{stepwise_law}
 
 turned : (a b c : Bool) → (a || (b || c)) ≡ (b || (a || c))
@@ -27,8 +27,8 @@ one_less (x ∷ xs) zero c rest = λ e. cc e
 one_less (x ∷ xs) (suc k) c rest = λ e. one_less xs k c rest e
 
 module _ {H : Type 0} (old new : Name → Option H) (changed : List Name) where
-  next_hit : (k : ℕ) (c : Name) (rest : List Name) → drop k changed ≡ c ∷ rest → (q : Name) → moved c new (mixed k changed old new) q ≡ mixed (suc k) changed old new q
-  unfolding moved
+  next_hit : (k : ℕ) (c : Name) (rest : List Name) → drop k changed ≡ c ∷ rest → (q : Name) → with_new_hit c new (hits_between k changed old new) q ≡ hits_between (suc k) changed old new q
+  unfolding with_new_hit
   next_hit k c rest e q =
       elim (octets_eq c q) as (λ b. octets_eq c q ≡ b → cond b (new q) (cond (is_among q (take k changed)) (new q) (old q)) ≡ cond (octets_eq q c || is_among q (take k changed)) (new q) (old q)) [
         | true ↦ λ b. ap (λ t. cond (t || is_among q (take k changed)) (new q) (old q)) (sym (nat_list_eq_equiv.symm q c ∙ b))
@@ -36,24 +36,24 @@ module _ {H : Type 0} (old new : Name → Option H) (changed : List Name) where
       ] refl
       ∙ ap (λ t. cond t (new q) (old q)) (sym (one_more q changed k c rest e))
 
-  next_hits : (k : ℕ) (c : Name) (rest : List Name) → drop k changed ≡ c ∷ rest → moved c new (mixed k changed old new) ≡ mixed (suc k) changed old new
+  next_hits : (k : ℕ) (c : Name) (rest : List Name) → drop k changed ≡ c ∷ rest → with_new_hit c new (hits_between k changed old new) ≡ hits_between (suc k) changed old new
   next_hits k c rest e = λ i q. next_hit k c rest e q i
 
-  first_hit : (q : Name) → mixed 0 changed old new q ≡ old q
+  first_hit : (q : Name) → hits_between 0 changed old new q ≡ old q
   unfolding is_among
   first_hit q = elim changed as (λ cs. cond (is_among q (take 0 cs)) (new q) (old q) ≡ old q) [ [] ↦ refl | (c ∷ cs) ↦ refl ]
 
-  first_hits : mixed 0 changed old new ≡ old
+  first_hits : hits_between 0 changed old new ≡ old
   first_hits = λ i q. first_hit q i
 
   steps : (v : Shape H) (enumerated : Bool) (names : List Name) (k : ℕ) (rest : List Name) → drop k changed ≡ rest →
-      notices_from v k enumerated changed old new names rest ≡ stepwise v enumerated (mixed k changed old new) new names rest
+      notices_from v k enumerated changed old new names rest ≡ stepwise v enumerated (hits_between k changed old new) new names rest
   unfolding notices_from stepwise
   steps v enumerated names k [] e = refl
   steps v enumerated names k (c ∷ rest) e =
-      ap (λ ns. notice_at v enumerated c (fresh v (mixed k changed old new) names) (fresh v (mixed (suc k) changed old new) names) ++ ns)
+      ap (λ ns. notice_at v enumerated c (fresh v (hits_between k changed old new) names) (fresh v (hits_between (suc k) changed old new) names) ++ ns)
       (steps v enumerated names (suc k) rest (one_less changed k c rest e))
-      ∙ ap (λ u. notice_at v enumerated c (fresh v (mixed k changed old new) names) (fresh v u names) ++ stepwise v enumerated u new names rest) (sym (next_hits k c rest e))
+      ∙ ap (λ u. notice_at v enumerated c (fresh v (hits_between k changed old new) names) (fresh v u names) ++ stepwise v enumerated u new names rest) (sym (next_hits k c rest e))
 
 dropped_none : (cs : List Name) → drop 0 cs ≡ cs
 dropped_none [] = refl

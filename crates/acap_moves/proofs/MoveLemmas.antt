@@ -6,7 +6,7 @@ use Rattle.std.specs.Option.{option_map}
 use Rattle.std.specs.FinMap.Entries.{by_order}
 use Rattle.acap_entries.specs.Orders.{octets_eq}
 use Rattle.acap_moves.specs.Hits.{Name, Shape, IsLawful, is_among, IsDistinct, put, put_some, fresh, rank, found, IsOfNames, Supports}
-use Rattle.acap_moves.specs.Notices.{notice_at, moved, stepwise, Covers}
+use Rattle.acap_moves.specs.Notices.{notice_at, with_new_hit, stepwise, Covers}
 use Rattle.acap_moves.specs.Moves.{Move, without, put_back, all_undone, moves_to, taken, after_move, after_moves, moves_notices, undo_of, undone, undos, MovesLaw, UndoLaw}
 use Rattle.acap_moves.proofs.Splits.{hidden, if_among, split, split_moved, moved_of, itself}
 use Rattle.acap_moves.proofs.ListSteps.{Absent}
@@ -78,7 +78,7 @@ module _ {H : Type 0} (v : Shape H) where
   module _ (l : IsLawful v) where
     -- one move of a list
     move_fresh : (p : Name) (t u : Name → Option H) (ps : List Name) → IsDistinct ps → IsOfNames v t → IsOfNames v u → Supports u ps →
-        after_move v (p, u p) (fresh v t ps) ≡ fresh v (moved p u t) ps
+        after_move v (p, u p) (fresh v t ps) ≡ fresh v (with_new_hit p u t) ps
     unfolding after_move
     move_fresh p t u ps d f g s =
         ap (λ es. put_some v (u p) (taken v p es)) (split v l p t ps d f)
@@ -91,7 +91,7 @@ module _ {H : Type 0} (v : Shape H) where
     moves_fresh t u ps [] d f g s k = covers_none v l t u ps k
     moves_fresh t u ps (c ∷ cs) d f g s k =
         ap (after_moves v (moves_to u cs)) (move_fresh c t u ps d f g s)
-        ∙ moves_fresh (moved c u t) u ps cs d (moved_of v l c t u f g) g s (covers_rest v l t u ps c cs k)
+        ∙ moves_fresh (with_new_hit c u t) u ps cs d (moved_of v l c t u f g) g s (covers_rest v l t u ps c cs k)
 
     moves_told : (enumerated : Bool) (t u : Name → Option H) (ps cs : List Name) → IsDistinct ps → IsOfNames v t → IsOfNames v u → Supports u ps →
         moves_notices v enumerated (moves_to u cs) (fresh v t ps) ≡ stepwise v enumerated t u ps cs
@@ -99,7 +99,7 @@ module _ {H : Type 0} (v : Shape H) where
     moves_told enumerated t u ps [] d f g s = refl
     moves_told enumerated t u ps (c ∷ cs) d f g s =
         ap (λ es. notice_at v enumerated c (fresh v t ps) es ++ moves_notices v enumerated (moves_to u cs) es) (move_fresh c t u ps d f g s)
-        ∙ ap (λ ns. notice_at v enumerated c (fresh v t ps) (fresh v (moved c u t) ps) ++ ns) (moves_told enumerated (moved c u t) u ps cs d (moved_of v l c t u f g) g s)
+        ∙ ap (λ ns. notice_at v enumerated c (fresh v t ps) (fresh v (with_new_hit c u t) ps) ++ ns) (moves_told enumerated (with_new_hit c u t) u ps cs d (moved_of v l c t u f g) g s)
 
 pub undo : {H : Type 0} → UndoLaw H
 undo v moves hits = moves_undone v moves hits

@@ -3,7 +3,7 @@ use Rattle.std.proofs.Common.{◌≡◌, true, false, ◌||◌, List, [], ◌∷
 use Rattle.std.specs.Cmp.Lexicographic.{bytes_decides}
 use Rattle.acap_entries.specs.Orders.{octets_eq}
 use Rattle.acap_moves.specs.Hits.{Name, Shape, IsLawful, is_among, IsDistinct, put_some, fresh, IsOfNames}
-use Rattle.acap_moves.specs.Notices.{moved}
+use Rattle.acap_moves.specs.Notices.{with_new_hit}
 use Rattle.acap_moves.proofs.Putting.{put_swap}
 
 pub same_name : (p q : Name) → octets_eq p q ≡ true → p ≡ q
@@ -64,12 +64,12 @@ module _ {H : Type 0} where
   unfolding if_among is_among
   if_among_none p x = refl
 
-  pub moved_own : (p : Name) (t u : Name → Option H) → moved p u t p ≡ u p
-  unfolding moved
+  pub moved_own : (p : Name) (t u : Name → Option H) → with_new_hit p u t p ≡ u p
+  unfolding with_new_hit
   moved_own p t u = rw (itself p p refl) refl
 
-  hidden_moved : (p q : Name) (t u : Name → Option H) → hidden p (moved p u t) q ≡ hidden p t q
-  unfolding moved hidden
+  hidden_moved : (p q : Name) (t u : Name → Option H) → hidden p (with_new_hit p u t) q ≡ hidden p t q
+  unfolding with_new_hit hidden
   hidden_moved p q t u = elim (octets_eq p q) as (λ b. cond b None (cond b (u q) (t q)) ≡ cond b None (t q)) [ true ↦ refl | false ↦ refl ]
 
 module _ {H : Type 0} (v : Shape H) where
@@ -123,13 +123,13 @@ module _ {H : Type 0} (v : Shape H) where
             ∙ ap (put_some v (if_among p ps (t p))) (fresh_cons (hidden p t) q ps ∙ ap (λ o. put_some v o (fresh v (hidden p t) ps)) (hidden_other p q t e)))
       ] refl
 
-  pub moved_of : IsLawful v → (p : Name) (t u : Name → Option H) → IsOfNames v t → IsOfNames v u → IsOfNames v (moved p u t)
-  unfolding moved
+  pub moved_of : IsLawful v → (p : Name) (t u : Name → Option H) → IsOfNames v t → IsOfNames v u → IsOfNames v (with_new_hit p u t)
+  unfolding with_new_hit
   moved_of l p t u f g = record { of_name = λ q h. elim (octets_eq p q) as (λ b. cond b (u q) (t q) ≡ Some h → v.name h ≡ q) [ true ↦ λ e. g.of_name q h e | false ↦ λ e. f.of_name q h e ] }
 
   -- and with another hit at the name, of the same others
-  pub split_moved : IsLawful v → (p : Name) (t u : Name → Option H) (ps : List Name) → IsDistinct ps → IsOfNames v t → IsOfNames v u → fresh v (moved p u t) ps ≡ put_some v (if_among p ps (u p)) (fresh v (hidden p t) ps)
+  pub split_moved : IsLawful v → (p : Name) (t u : Name → Option H) (ps : List Name) → IsDistinct ps → IsOfNames v t → IsOfNames v u → fresh v (with_new_hit p u t) ps ≡ put_some v (if_among p ps (u p)) (fresh v (hidden p t) ps)
   split_moved l p t u ps d f g =
-      split l p (moved p u t) ps d (moved_of l p t u f g)
-      ∙ ap (λ o. put_some v (if_among p ps o) (fresh v (hidden p (moved p u t)) ps)) (moved_own p t u)
+      split l p (with_new_hit p u t) ps d (moved_of l p t u f g)
+      ∙ ap (λ o. put_some v (if_among p ps o) (fresh v (hidden p (with_new_hit p u t)) ps)) (moved_own p t u)
       ∙ ap (put_some v (if_among p ps (u p))) (fresh_same l _ _ ps (λ q m. hidden_moved p q t u))

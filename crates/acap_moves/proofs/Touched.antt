@@ -7,7 +7,7 @@ use Rattle.std.specs.List.{filter}
 use Rattle.acap_entries.specs.Orders.{octets_cmp, octets_eq}
 use Rattle.acap_entries.proofs.Equalities.{row_exact}
 use Rattle.acap_moves.specs.Hits.{Name, Shape, is_among, IsBelow, IsAscending, fresh, spot}
-use Rattle.acap_moves.specs.Notices.{notice_at, listed_notice, plain_notice, moved, stepwise}
+use Rattle.acap_moves.specs.Notices.{notice_at, listed_notice, plain_notice, with_new_hit, stepwise}
 use Rattle.acap_moves.proofs.Splits.{same_name, itself}
 use borrow.Author.Tests.{eq-eqb}
 
@@ -94,15 +94,15 @@ module _ {H : Type 0} (v : Shape H) where
   no_notice true p es = elim (spot v p es) as (λ o. listed_notice v p o o ≡ []) [ None ↦ refl | (Some a) ↦ rw (eq-eqb a.0 a.0 refl, (row_exact (v.row a.1) (v.row a.1)).1 refl) refl ]
   no_notice false p es = elim (spot v p es) as (λ o. plain_notice v p o o ≡ []) [ None ↦ refl | (Some a) ↦ rw ((row_exact (v.row a.1) (v.row a.1)).1 refl) refl ]
 
-  moved_same : (c : Name) (new t : Name → Option H) → t c ≡ new c → moved c new t ≡ t
-  unfolding moved
+  moved_same : (c : Name) (new t : Name → Option H) → t c ≡ new c → with_new_hit c new t ≡ t
+  unfolding with_new_hit
   moved_same c new t e = λ i q. (elim (octets_eq c q) as (λ b. octets_eq c q ≡ b → cond b (new q) (t q) ≡ t q) [
     | true ↦ λ b. let same : c ≡ q = same_name c q b in subst (λ r. new r ≡ t r) same (sym e)
     | false ↦ λ b. refl
   ] refl) i
 
-  kept : (differs : Name → Bool) (c : Name) (new t : Name → Option H) → ((p : Name) → differs p ≡ false → t p ≡ new p) → (p : Name) → differs p ≡ false → moved c new t p ≡ new p
-  unfolding moved
+  kept : (differs : Name → Bool) (c : Name) (new t : Name → Option H) → ((p : Name) → differs p ≡ false → t p ≡ new p) → (p : Name) → differs p ≡ false → with_new_hit c new t p ≡ new p
+  unfolding with_new_hit
   kept differs c new t k p n = elim (octets_eq c p) as (λ b. cond b (new p) (t p) ≡ new p) [ true ↦ refl | false ↦ k p n ]
 
   touched_filter : (enumerated : Bool) (t new : Name → Option H) (names touched : List Name) (differs : Name → Bool) → ((p : Name) → differs p ≡ false → t p ≡ new p) →
@@ -111,7 +111,7 @@ module _ {H : Type 0} (v : Shape H) where
   touched_filter enumerated t new names [] differs k = refl
   touched_filter enumerated t new names (c ∷ cs) differs k =
       elim (differs c) as (λ b. differs c ≡ b → stepwise v enumerated t new names (c ∷ cs) ≡ stepwise v enumerated t new names (cond b (c ∷ filter differs cs) (filter differs cs))) [
-        | true ↦ λ b. ap (λ ns. notice_at v enumerated c (fresh v t names) (fresh v (moved c new t) names) ++ ns) (touched_filter enumerated (moved c new t) new names cs differs (kept differs c new t k))
+        | true ↦ λ b. ap (λ ns. notice_at v enumerated c (fresh v t names) (fresh v (with_new_hit c new t) names) ++ ns) (touched_filter enumerated (with_new_hit c new t) new names cs differs (kept differs c new t k))
         | false ↦ λ b.
             let still = moved_same c new t (k c b) in
             ap (λ u. notice_at v enumerated c (fresh v t names) (fresh v u names) ++ stepwise v enumerated u new names cs) still

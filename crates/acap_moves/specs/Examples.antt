@@ -13,14 +13,14 @@ pub record Ranked : Type 0 where
   pub rank : ℕ
   pub name : Name
 
-abbrev pub named : Name → Row
-named name = record { name = name; items = [] }
+abbrev pub bare_row : Name → Row
+bare_row name = record { name = name; items = [] }
 
 abbrev pub by_rank : Shape Ranked
 by_rank = record {
   order = λ a b. ordering_then (nat_cmp a.rank b.rank) (octets_cmp a.name b.name);
   name = λ h. h.name;
-  row = λ h. named h.name;
+  row = λ h. bare_row h.name;
 }
 
 -- the hit of a name, by its rank
@@ -35,15 +35,15 @@ abbrev pub all_names : List Name
 all_names = codes "a" ∷ codes "b" ∷ codes "bb" ∷ codes "c" ∷ codes "d" ∷ []
 
 -- from ranks 1, 2, 3, 4 of a, b, c, d to these ranks, by these changed names
-abbrev pub told : Bool → List (Name × ℕ) → List Name → List Notice
-told enumerated after changed = notices by_rank enumerated (hits abcd) (hits after) all_names changed
+abbrev pub notices_after : Bool → List (Name × ℕ) → List Name → List Notice
+notices_after enumerated after changed = notices by_rank enumerated (hits abcd) (hits after) all_names changed
 
 -- a has 9, bb comes with 3, c is gone, d has 0
 abbrev pub one_store : List (Name × ℕ)
 one_store = (codes "a", 9) ∷ (codes "b", 2) ∷ (codes "bb", 3) ∷ (codes "d", 0) ∷ []
 
-abbrev pub stored : List Name
-stored = codes "a" ∷ codes "bb" ∷ codes "c" ∷ codes "d" ∷ []
+abbrev pub four_names : List Name
+four_names = codes "a" ∷ codes "bb" ∷ codes "c" ∷ codes "d" ∷ []
 
 -- b has 3 in place of 2, and still stands between a and c
 abbrev pub other_rank : List (Name × ℕ)
@@ -54,8 +54,8 @@ abbrev pub other_place : List (Name × ℕ)
 other_place = (codes "a", 1) ∷ (codes "b", 2) ∷ (codes "c", 3) ∷ (codes "d", 0) ∷ []
 
 pub record MoveExamples : Type 0 where
-  pub with_positions : told true one_store stored ≡ Change 1 4 (named (codes "a")) ∷ AddTo 2 (named (codes "bb")) ∷ RemoveFrom (codes "c") 3 ∷ Change 3 1 (named (codes "d")) ∷ []
-  pub without_positions : told false one_store stored ≡ AddTo 0 (named (codes "bb")) ∷ RemoveFrom (codes "c") 0 ∷ []
-  pub rank_alone : (enumerated : Bool) → told enumerated other_rank (codes "b" ∷ []) ≡ []
-  pub place_told : told true other_place (codes "d" ∷ []) ≡ Change 4 1 (named (codes "d")) ∷ []
-  pub place_alone : told false other_place (codes "d" ∷ []) ≡ []
+  pub with_positions : notices_after true one_store four_names ≡ Change 1 4 (bare_row (codes "a")) ∷ AddTo 2 (bare_row (codes "bb")) ∷ RemoveFrom (codes "c") 3 ∷ Change 3 1 (bare_row (codes "d")) ∷ []
+  pub without_positions : notices_after false one_store four_names ≡ AddTo 0 (bare_row (codes "bb")) ∷ RemoveFrom (codes "c") 0 ∷ []
+  pub rank_alone : (enumerated : Bool) → notices_after enumerated other_rank (codes "b" ∷ []) ≡ []
+  pub place_told : notices_after true other_place (codes "d" ∷ []) ≡ Change 4 1 (bare_row (codes "d")) ∷ []
+  pub place_alone : notices_after false other_place (codes "d" ∷ []) ≡ []

@@ -13,12 +13,12 @@ abbrev pub same_row : Row → Row → Bool
 same_row = row.ghosts.eq
 
 -- the new hits of the first k changed names, and the old ones of all others
-abbrev pub mixed : {H : Type 0} → ℕ → List Name → (Name → Option H) → (Name → Option H) → Name → Option H
-mixed k changed old new name = if is_among name (take k changed) then new name else old name
+abbrev pub hits_between : {H : Type 0} → ℕ → List Name → (Name → Option H) → (Name → Option H) → Name → Option H
+hits_between k changed old new name = if is_among name (take k changed) then new name else old name
 
 -- the old hits, but the new one of one name
-unfoldable pub moved : {H : Type 0} → Name → (Name → Option H) → (Name → Option H) → Name → Option H
-moved name new old other = if octets_eq name other then new other else old other
+unfoldable pub with_new_hit : {H : Type 0} → Name → (Name → Option H) → (Name → Option H) → Name → Option H
+with_new_hit name new old other = if octets_eq name other then new other else old other
 
 -- a name that isn't among the changed ones keeps its hit
 pub record Covers {H : Type 0} (old new : Name → Option H) (names changed : List Name) : Type 0 where
@@ -50,7 +50,7 @@ module _ {H : Type 0} (v : Shape H) where
   notice_at enumerated name before after = notice_between enumerated name (spot v name before) (spot v name after)
 
   abbrev pub mixed_list : ℕ → List Name → (Name → Option H) → (Name → Option H) → List Name → List H
-  mixed_list k changed old new names = fresh v (mixed k changed old new) names
+  mixed_list k changed old new names = fresh v (hits_between k changed old new) names
 
   -- of the changed names behind the first k
   unfoldable pub notices_from : ℕ → Bool → List Name → (Name → Option H) → (Name → Option H) → List Name → List Name → List Notice
@@ -67,8 +67,8 @@ module _ {H : Type 0} (v : Shape H) where
   unfoldable pub stepwise : Bool → (Name → Option H) → (Name → Option H) → List Name → List Name → List Notice
   stepwise enumerated old new names [] = []
   stepwise enumerated old new names (name ∷ rest) =
-      notice_at enumerated name (fresh v old names) (fresh v (moved name new old) names)
-      ++ stepwise enumerated (moved name new old) new names rest
+      notice_at enumerated name (fresh v old names) (fresh v (with_new_hit name new old) names)
+      ++ stepwise enumerated (with_new_hit name new old) new names rest
 
 -- the mixed lists, written out, are the lists made step by step
 abbrev pub MixedLaw : (H : Type 0) → Type 0

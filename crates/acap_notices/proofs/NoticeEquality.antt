@@ -1,8 +1,8 @@
 -- Equality of notices, and of what is told, is exact.
-use Rattle.std.proofs.Common.{◌≡◌, List}
+use Rattle.std.proofs.Common.{◌≡◌}
 use Rattle.std.specs.Bool.{Decides}
 use Rattle.std.specs.Cmp.{unsigned_Decides, signed_Decides}
-use Rattle.std.specs.Cmp.Lexicographic.{pointwise, pointwise_decides, bytes_decides}
+use Rattle.std.specs.Cmp.Lexicographic.{bytes_decides}
 use Rattle.acap_entries.proofs.Equalities.{along, pair_exact, row_exact}
 use Rattle.acap_notices.specs.declared.notice.Notice.{Notice}
 use Rattle.acap_notices.specs.declared.notice.Notice.TheVariants.{AddTo, RemoveFrom, Change}
@@ -25,9 +25,6 @@ notice_exact (Change p t r) (RemoveFrom m q) = (λ e. cc, λ e. cc)
 notice_exact (Change p t r) (Change q u s) =
     along _ (p, (t, r)) (q, (u, s)) (λ t. Change t.0 t.1.0 t.1.1) (pair_exact unsigned_Decides (pair_exact unsigned_Decides row_exact) (p, (t, r)) (q, (u, s)))
     (λ e. let x : p ≡ q = cc in let y : t ≡ u = cc in let z : r ≡ s = cc in λ i. (x i, (y i, z i)))
-
-pub notices_exact : (a b : List Notice) → Decides (pointwise notice.ghosts.eq a b) (a ≡ b)
-notices_exact = pointwise_decides notice_exact
 
 pub told_exact : (a b : Told) → Decides (told.ghosts.eq a b) (a ≡ b)
 told_exact (Note c n) (Note d m) =

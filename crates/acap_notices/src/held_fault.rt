@@ -3,7 +3,7 @@ ghost use Rattle.acap_notices.specs.declared.held_fault.HeldFault.TheVariants as
 ghost use Rattle.std.specs.Prelude.{◌≡◌};
 
 use acap_entries::Memory;
-use std::alloc::{AllocError, AllocFailed};
+use std::alloc::AllocFailed;
 
 /// Why a notice wasn't applied.
 #[derive(Clone, Copy, PartialEq, Eq)]
@@ -18,14 +18,6 @@ impl From<Memory> for HeldFault {
     ghost from_gives = { λ _ e. e ≡ fault.Memory };
 
     fn from(_error: Memory) -> HeldFault {
-        HeldFault::Memory
-    }
-}
-
-impl From<AllocError> for HeldFault {
-    ghost from_gives = { λ _ e. e ≡ fault.Memory };
-
-    fn from(_error: AllocError) -> HeldFault {
         HeldFault::Memory
     }
 }

@@ -1,11 +1,10 @@
 //! A change of one entry in the list of a live search.
-ghost use Rattle.std.specs.Prelude.{◌≡◌, ◌↔◌, IsTrue};
 
 use acap_entries::{Copying, Memory, Row, Value};
 
 /// A change of one entry in the list of a live search. The entry is told by its name as it is printed, which is its row's. Positions
 /// are counted from 1, and are 0 where the context isn't enumerated (RFC 2244 section 6.5).
-#[derive(PartialEq, Eq, Drop)]
+#[derive(Clone, PartialEq, Eq, Drop)]
 pub enum Notice {
     /// An entry has come in.
     AddTo {
@@ -32,31 +31,8 @@ pub enum Notice {
     },
 }
 
-impl Notice {
-    /// Whether two of them are equal, as `==` says it. Takes no memory.
-    pub fn equals(&self, other: &Notice) -> bool
-        ensures { IsTrue result ↔ (self.now ≡ other.now) }
-    {
-        *self == *other
-    }
-}
-
 impl Copying for Notice {
     fn copy(&self) -> Result<Notice, Memory> {
-        match self {
-            Notice::AddTo { position, row } => Ok(Notice::AddTo {
-                position: *position,
-                row: row.copy()?,
-            }),
-            Notice::RemoveFrom { entry, position } => Ok(Notice::RemoveFrom {
-                entry: entry.copy()?,
-                position: *position,
-            }),
-            Notice::Change { from, to, row } => Ok(Notice::Change {
-                from: *from,
-                to: *to,
-                row: row.copy()?,
-            }),
-        }
+        self.clone()
     }
 }

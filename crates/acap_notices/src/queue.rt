@@ -1,12 +1,7 @@
 //! The notices that wait for a client.
 ghost use Rattle.std.specs.Prelude.{◌≡◌, ◌↔◌, ◌≤◌, ◌+◌, ◌==◌, [], ◌∷◌, ◌++◌, length};
-ghost use Rattle.std.specs.Prelude.{Err, OnOk, OnErr, IfOk, IsTrue};
-ghost use Rattle.std.specs.Cmp.{on_per, on_equiv};
-ghost use Rattle.std.specs.Cmp.Lexicographic.{pointwise, lists_per, lists_equiv};
+ghost use Rattle.std.specs.Prelude.{Err, OnOk, OnErr, IfOk};
 ghost use Rattle.acap_notices.specs.Waiting.{HasRoom};
-ghost use Rattle.acap_notices.specs.contracts.notice.NoticePartialEq.TheImpl as notice;
-ghost use Rattle.acap_notices.specs.contracts.notice.NoticePartialEq.TheImpl.Laws as partial;
-ghost use Rattle.acap_notices.specs.contracts.notice.NoticeEq.TheImpl.Laws as total;
 
 use crate::notice::Notice;
 use crate::queue_fault::QueueFault;
@@ -58,13 +53,6 @@ impl Queue {
         self.notices.len()
     }
 
-    /// Whether none waits.
-    pub fn is_empty(&self) -> bool
-        ensures { result ≡ (length self.now.notices == 0) }
-    {
-        self.notices.is_empty()
-    }
-
     /// The notices that wait, the oldest first.
     pub fn as_slice(&self) -> &[Notice]
         ensures { result.now ≡ self.now.notices }
@@ -111,13 +99,6 @@ impl Queue {
         Sequence::from_vec(std::mem::replace(&mut self.notices, none))
     }
 
-    /// Whether the same notices wait in two of them, as `==` says it. Takes no memory.
-    pub fn equals(&self, other: &Queue) -> bool
-        ensures { IsTrue result ↔ (self.now.notices ≡ other.now.notices) }
-    {
-        *self == *other
-    }
-
     /// One in which the same notices wait. Fails only for want of memory.
     pub fn copy(&self) -> Result<Queue, Memory>
         ensures { IfOk result (λ made. made.notices ≡ self.now.notices) }
@@ -125,18 +106,4 @@ impl Queue {
         let notices = copy_all(&self.notices)?;
         Ok(Queue { notices })
     }
-}
-
-impl PartialEq for Queue {
-    ghost eq = { λ a b. pointwise notice.ghosts.eq a.notices b.notices };
-
-    ghost laws = { on_per (λ w. w.notices) (lists_per partial.laws-law) };
-
-    fn eq(&self, other: &Queue) -> bool {
-        self.notices.as_slice() == other.notices.as_slice()
-    }
-}
-
-impl Eq for Queue {
-    ghost laws = { on_equiv (λ w. w.notices) (lists_equiv total.laws-law) };
 }

@@ -11,7 +11,7 @@ use Rattle.acap_order.specs.declared.comparator.Collation.TheVariants.{Octet, As
 use Rattle.acap_order.specs.declared.comparator.Direction.{Direction}
 use Rattle.acap_order.specs.declared.comparator.Direction.TheVariants.{Ascending, Descending}
 use Rattle.acap_order.specs.declared.comparator.Comparator.{Comparator}
-use Rattle.acap_order.specs.Ranks.{Rank, Octets, Number, rank_of, rank_cmp, upper_case, leading_number, number_cmp, directed, comparator_cmp, comparator_eq}
+use Rattle.acap_order.specs.Ranks.{Rank, Octets, Number, rank_of, rank_cmp, upper_case, leading_number, number_cmp, in_direction, comparator_cmp, comparator_eq}
 use Rattle.acap_order.specs.Laws.{EqualityLaw}
 
 -- numbers, and no number after them, are in a total order
@@ -44,7 +44,7 @@ collated_total Octet = nat_list_cmp_total
 collated_total AsciiCasemap = on_total upper_case nat_list_cmp_total
 collated_total AsciiNumeric = on_total leading_number number_total
 
-directed_total : {K : Type 0} {R : K → K → Ordering} (direction : Direction) → IsTotalOrder R → IsTotalOrder (λ a b. directed direction (R a b))
+directed_total : {K : Type 0} {R : K → K → Ordering} (direction : Direction) → IsTotalOrder R → IsTotalOrder (λ a b. in_direction direction (R a b))
 directed_total Ascending total = total
 directed_total {K} {R} Descending total = subst (λ (S : K → K → Ordering). IsTotalOrder S) (λ i a b. total.antisymm b a i) (back_total total)
 
@@ -52,7 +52,7 @@ pub comparator_total : (comparator : Comparator) → IsTotalOrder (comparator_cm
 comparator_total comparator = directed_total comparator.direction (collated_total comparator.collation)
 
 -- two strings are equal exactly if their ranks are one
-is_eq-directed : (direction : Direction) (order : Ordering) → is_eq (directed direction order) ≡ is_eq order
+is_eq-directed : (direction : Direction) (order : Ordering) → is_eq (in_direction direction order) ≡ is_eq order
 is_eq-directed Ascending order = refl
 is_eq-directed Descending Less = refl
 is_eq-directed Descending Equal = refl

@@ -69,14 +69,14 @@ rank_cmp (Octets a) (Number b) = Less
 rank_cmp (Number a) (Octets b) = Greater
 
 -- an order as it is, or reversed, as the sign `-` of section 3.4 does
-abbrev pub directed : Direction → Ordering → Ordering
-directed Ascending order = order
-directed Descending order = ordering_reverse order
+abbrev pub in_direction : Direction → Ordering → Ordering
+in_direction Ascending order = order
+in_direction Descending order = ordering_reverse order
 
 -- how a comparator orders two strings: as their ranks, in its direction
 abbrev pub comparator_cmp : Comparator → List ℕ → List ℕ → Ordering
 comparator_cmp comparator a b =
-    directed comparator.direction (rank_cmp (rank_of comparator.collation a) (rank_of comparator.collation b))
+    in_direction comparator.direction (rank_cmp (rank_of comparator.collation a) (rank_of comparator.collation b))
 
 -- whether two strings are equal to a comparator: neither is before the other
 abbrev pub comparator_eq : Comparator → List ℕ → List ℕ → Bool

@@ -16,8 +16,8 @@ abbrev pub descending : Collation → Comparator
 descending collation = record { collation = collation; direction = Descending }
 
 -- what a table has beside a text, which may be in any case
-abbrev pub named : {X : Type 0} → List (List ℕ × X) → List ℕ → Option X
-named table text = option_map (λ row. row.1) (find (λ row. bytes_eq (str_to_ascii_lowercase text) row.0) table)
+abbrev pub beside : {X : Type 0} → List (List ℕ × X) → List ℕ → Option X
+beside table text = option_map (λ row. row.1) (find (λ row. bytes_eq (str_to_ascii_lowercase text) row.0) table)
 
 -- the collations by name
 abbrev pub collations : List (List ℕ × Collation)
@@ -25,7 +25,7 @@ collations =
     (codes "i;octet", Octet) ∷ (codes "i;ascii-casemap", AsciiCasemap) ∷ (codes "i;ascii-numeric", AsciiNumeric) ∷ []
 
 abbrev pub collation_of : List ℕ → Option Collation
-collation_of name = named collations name
+collation_of name = beside collations name
 
 -- a collation in a direction, if there is one
 abbrev pub directed_as : Direction → Option Collation → Option Comparator
@@ -47,4 +47,4 @@ comparators =
 
 -- the comparator that a text names, if any
 abbrev pub comparator_of : List ℕ → Option Comparator
-comparator_of text = named comparators text
+comparator_of text = beside comparators text

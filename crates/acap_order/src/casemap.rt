@@ -108,13 +108,13 @@ fn contains_by_copy<const N: usize>(text: &[u8], pattern: &[u8]) -> bool
     let mut text_room = [0; N];
     let mut pattern_room = [0; N];
     octets::contains(
-        copied(text, &mut text_room),
-        copied(pattern, &mut pattern_room),
+        copy_upper(text, &mut text_room),
+        copy_upper(pattern, &mut pattern_room),
     )
 }
 
 /// The text in upper case, written to the front of the room.
-fn copied<'a>(text: &[u8], room: &'a mut [u8]) -> &'a [u8]
+fn copy_upper<'a>(text: &[u8], room: &'a mut [u8]) -> &'a [u8]
     requires { length text.now ≤ length room.old }
     ensures { result.now ≡ upper_case text.now }
 {

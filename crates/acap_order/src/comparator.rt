@@ -64,14 +64,14 @@ impl Comparator {
         ensures { result ≡ comparator_of text.now }
     {
         match text.split_first() {
-            Some((b'+', name)) => Comparator::named(name, Direction::Ascending),
-            Some((b'-', name)) => Comparator::named(name, Direction::Descending),
-            _ => Comparator::named(text, Direction::Ascending),
+            Some((b'+', name)) => Comparator::of_name(name, Direction::Ascending),
+            Some((b'-', name)) => Comparator::of_name(name, Direction::Descending),
+            _ => Comparator::of_name(text, Direction::Ascending),
         }
     }
 
     /// The comparator of a collation's name, without sign, and a direction.
-    fn named(name: &[u8], direction: Direction) -> Option<Comparator>
+    fn of_name(name: &[u8], direction: Direction) -> Option<Comparator>
         ensures { result ≡ directed_as direction (collation_of name.now) }
     {
         let collation = Collation::read(name)?;

@@ -1,5 +1,5 @@
 //! PREFIX and SUBSTRING of octets as they are.
-ghost use Rattle.std.specs.Prelude.{◌≡◌, ◌↔◌, IsTrue, nat_eq};
+ghost use Rattle.std.specs.Prelude.{◌≡◌, nat_eq};
 ghost use Rattle.std.specs.List.{starts_with};
 ghost use Rattle.acap_order.specs.Matching.{stands};
 

@@ -13,7 +13,7 @@ use Rattle.acap_entries.specs.Store.{Stored}
 use Rattle.acap_rights.specs.Deciding.{Target, dataset_in, deciding_list, implicit_rights, rights_of}
 use Rattle.acap_rights.specs.Homes.{home_of, is_owner, third_of}
 use Rattle.acap_rights.specs.Laws.{WhomLaw, NegativeLaw, OrderLaw, AdministratorLaw, OwnerLaw, common}
-use Rattle.acap_rights.specs.Pairs.{string_of, Pair, pair_of, says, gives, takes, given, taken, rights_in, is_identifier, is_letter}
+use Rattle.acap_rights.specs.Pairs.{string_of, Pair, pair_of, says, gives, takes, rights_given, rights_taken, rights_in, is_identifier, is_letter}
 use Rattle.acap_rights.specs.Realms.{names, names_in_group, is_administrator}
 use Rattle.acap_rights.specs.Rights.{rights_by, no_rights, all_rights, less, union}
 use Rattle.acap_rights.specs.declared.realm.Realm.{Realm}
@@ -29,8 +29,8 @@ by_letter f g h = λ i. record { x = h 120 i; r = h 114 i; w = h 119 i; i = h 10
 pub order_law : OrderLaw
 unfolding rights_in
 order_law realm user acl other h =
-    let given_same : given realm user acl ≡ given realm user other = by_letter _ _ (λ letter. list_any-IsPermutation (says (gives realm user letter)) acl other h) in
-    let taken_same : taken realm user acl ≡ taken realm user other = by_letter _ _ (λ letter. list_any-IsPermutation (says (takes realm user letter)) acl other h) in
+    let given_same : rights_given realm user acl ≡ rights_given realm user other = by_letter _ _ (λ letter. list_any-IsPermutation (says (gives realm user letter)) acl other h) in
+    let taken_same : rights_taken realm user acl ≡ rights_taken realm user other = by_letter _ _ (λ letter. list_any-IsPermutation (says (takes realm user letter)) acl other h) in
     λ i. less (given_same i) (taken_same i)
 
 -- ---- what is taken
@@ -45,7 +45,7 @@ blocked g test front back text = elim (test text) as (λ b. test text ≡ b → 
   | false ↦ λ h. elim (g && not (list_any test (front ++ text ∷ back))) as (λ b. (b && false) ≡ false) [ true ↦ refl | false ↦ refl ]
 ] refl
 
-pub taken_here : (realm : Realm) (user : List ℕ) (front back : List (List ℕ)) (text : List ℕ) → common (rights_in realm user (front ++ text ∷ back)) (taken realm user (text ∷ [])) ≡ no_rights
+pub taken_here : (realm : Realm) (user : List ℕ) (front back : List (List ℕ)) (text : List ℕ) → common (rights_in realm user (front ++ text ∷ back)) (rights_taken realm user (text ∷ [])) ≡ no_rights
 unfolding rights_in
 taken_here realm user front back text =
     let all = front ++ text ∷ back in
@@ -68,10 +68,10 @@ taken_there p q t h = λ i. record {
   a = kept_off p.a q.a t.a (ap (λ (s : Rights). s.a) h) i;
 }
 
-on_object : (records : Stored) (realm : Realm) (user : List ℕ) (target : Target) (front back : List (List ℕ)) (text : List ℕ) → deciding_list records target ≡ front ++ text ∷ back → common (less (rights_of records realm user target) (implicit_rights realm user (dataset_in target))) (taken realm user (text ∷ [])) ≡ no_rights
+on_object : (records : Stored) (realm : Realm) (user : List ℕ) (target : Target) (front back : List (List ℕ)) (text : List ℕ) → deciding_list records target ≡ front ++ text ∷ back → common (less (rights_of records realm user target) (implicit_rights realm user (dataset_in target))) (rights_taken realm user (text ∷ [])) ≡ no_rights
 unfolding rights_of
 on_object records realm user target front back text h =
-    rw h (taken_there (rights_in realm user (front ++ text ∷ back)) (implicit_rights realm user (dataset_in target)) (taken realm user (text ∷ [])) (taken_here realm user front back text))
+    rw h (taken_there (rights_in realm user (front ++ text ∷ back)) (implicit_rights realm user (dataset_in target)) (rights_taken realm user (text ∷ [])) (taken_here realm user front back text))
 
 pub negative_law : NegativeLaw
 negative_law = record { in_list = taken_here; on_object = on_object }
@@ -203,16 +203,16 @@ signed_identifier (x ∷ name) h =
     rw (some, free) refl
 
 -- what a list of one string gives, and what it takes
-given_one : (realm : Realm) (user identifier letters : List ℕ) (by : ℕ → Bool) → is_identifier identifier ≡ true → list_all is_letter letters ≡ true → ((letter : ℕ) → gives realm user letter (record { identifier = identifier; letters = letters }) ≡ by letter) → given realm user (string_of identifier letters ∷ []) ≡ rights_by by
+given_one : (realm : Realm) (user identifier letters : List ℕ) (by : ℕ → Bool) → is_identifier identifier ≡ true → list_all is_letter letters ≡ true → ((letter : ℕ) → gives realm user letter (record { identifier = identifier; letters = letters }) ≡ by letter) → rights_given realm user (string_of identifier letters ∷ []) ≡ rights_by by
 given_one realm user identifier letters by h k each = by_letter (λ letter. list_any (says (gives realm user letter)) (string_of identifier letters ∷ [])) by (λ letter. one_says (gives realm user letter) identifier letters h k ∙ each letter)
 
-pub taken_one : (realm : Realm) (user identifier letters : List ℕ) (by : ℕ → Bool) → is_identifier identifier ≡ true → list_all is_letter letters ≡ true → ((letter : ℕ) → takes realm user letter (record { identifier = identifier; letters = letters }) ≡ by letter) → taken realm user (string_of identifier letters ∷ []) ≡ rights_by by
+pub taken_one : (realm : Realm) (user identifier letters : List ℕ) (by : ℕ → Bool) → is_identifier identifier ≡ true → list_all is_letter letters ≡ true → ((letter : ℕ) → takes realm user letter (record { identifier = identifier; letters = letters }) ≡ by letter) → rights_taken realm user (string_of identifier letters ∷ []) ≡ rights_by by
 taken_one realm user identifier letters by h k each = by_letter (λ letter. list_any (says (takes realm user letter)) (string_of identifier letters ∷ [])) by (λ letter. one_says (takes realm user letter) identifier letters h k ∙ each letter)
 
-pub given_none : (realm : Realm) (user identifier letters : List ℕ) → ((letter : ℕ) → gives realm user letter (record { identifier = identifier; letters = letters }) ≡ false) → given realm user (string_of identifier letters ∷ []) ≡ no_rights
+pub given_none : (realm : Realm) (user identifier letters : List ℕ) → ((letter : ℕ) → gives realm user letter (record { identifier = identifier; letters = letters }) ≡ false) → rights_given realm user (string_of identifier letters ∷ []) ≡ no_rights
 given_none realm user identifier letters each = by_letter (λ letter. list_any (says (gives realm user letter)) (string_of identifier letters ∷ [])) (λ letter. false) (λ letter. none_says (gives realm user letter) identifier letters (each letter))
 
-pub taken_none : (realm : Realm) (user identifier letters : List ℕ) → ((letter : ℕ) → takes realm user letter (record { identifier = identifier; letters = letters }) ≡ false) → taken realm user (string_of identifier letters ∷ []) ≡ no_rights
+pub taken_none : (realm : Realm) (user identifier letters : List ℕ) → ((letter : ℕ) → takes realm user letter (record { identifier = identifier; letters = letters }) ≡ false) → rights_taken realm user (string_of identifier letters ∷ []) ≡ no_rights
 taken_none realm user identifier letters each = by_letter (λ letter. list_any (says (takes realm user letter)) (string_of identifier letters ∷ [])) (λ letter. false) (λ letter. none_says (takes realm user letter) identifier letters (each letter))
 
 all_identifier : is_identifier (codes "anyone") ≡ true

@@ -7,7 +7,7 @@ use Rattle.acap_rights.specs.Edits.{without, with_pair}
 use Rattle.acap_rights.specs.Homes.{home_of, is_owner, default_list}
 use Rattle.acap_rights.specs.Keeping.{target_of_list}
 use Rattle.acap_rights.specs.Pairs.{pair_of, is_acl, rights_in}
-use Rattle.acap_rights.specs.Rights.{letters_of, listed}
+use Rattle.acap_rights.specs.Rights.{letters_of, rights_list}
 use Rattle.acap_rights.specs.declared.realm.Realm.{Realm}
 
 -- a realm with one administrator, and a user who is none
@@ -66,23 +66,23 @@ pub record RightsExamples : Type 0 where
   pub of_nobody : letters_of (implicit_rights realm joe (codes "/option/site/")) ≡ []
   pub of_anyone : letters_of (implicit_rights realm (codes "anyone") (codes "/option/user/joe/")) ≡ []
   pub of_negative : letters_of (implicit_rights realm (codes "-joe") (codes "/option/user/joe/")) ≡ []
-  pub listed_owner : listed (implicit_rights realm joe (codes "/option/user/joe/")) ≡ codes "ra" ∷ codes "x" ∷ codes "w" ∷ codes "i" ∷ []
-  pub listed_other : listed (implicit_rights realm (codes "b") (codes "/option/user/joe/")) ≡ [] ∷ codes "x" ∷ codes "r" ∷ codes "w" ∷ codes "i" ∷ codes "a" ∷ []
-  pub listed_administrator : listed (implicit_rights realm (codes "root") (codes "/option/")) ≡ codes "xrwia" ∷ []
+  pub listed_owner : rights_list (implicit_rights realm joe (codes "/option/user/joe/")) ≡ codes "ra" ∷ codes "x" ∷ codes "w" ∷ codes "i" ∷ []
+  pub listed_other : rights_list (implicit_rights realm (codes "b") (codes "/option/user/joe/")) ≡ [] ∷ codes "x" ∷ codes "r" ∷ codes "w" ∷ codes "i" ∷ codes "a" ∷ []
+  pub listed_administrator : rights_list (implicit_rights realm (codes "root") (codes "/option/")) ≡ codes "xrwia" ∷ []
 
 -- groups: joe is in `staff` and, by the second of that name, twice, and in `ops`; ann is in `ops` alone
-abbrev pub grouped : Realm
-grouped = record {
+abbrev pub group_realm : Realm
+group_realm = record {
   administrators = codes "root" ∷ [];
   groups = record { name = codes "staff"; members = joe ∷ [] } ∷ record { name = codes "ops"; members = codes "ann" ∷ joe ∷ [] }
       ∷ record { name = codes "staff"; members = joe ∷ codes "bob" ∷ [] } ∷ record { name = codes "nobody"; members = [] } ∷ [];
 }
 
 abbrev pub implicit_letters : List ℕ → List ℕ → List ℕ
-implicit_letters identifier dataset = letters_of (implicit_rights grouped identifier dataset)
+implicit_letters identifier dataset = letters_of (implicit_rights group_realm identifier dataset)
 
 abbrev pub to : List ℕ → List (List ℕ) → List ℕ
-to user acl = letters_of (rights_in grouped user acl)
+to user acl = letters_of (rights_in group_realm user acl)
 
 -- what lists give to who is in groups
 pub record GroupExamples : Type 0 where
@@ -102,7 +102,7 @@ pub record GroupExamples : Type 0 where
   pub of_owners : implicit_letters (codes "group:joe") (codes "/option/user/joe/") ≡ []
   pub of_homes : is_owner (codes "group:x") (codes "/option/user/group:x/") ≡ false
   pub default_of_homes : default_list (codes "/option/user/group:x/") ≡ []
-  pub listed : listed (implicit_rights grouped (codes "group:staff") (codes "/option/user/joe/")) ≡ [] ∷ codes "x" ∷ codes "r" ∷ codes "w" ∷ codes "i" ∷ codes "a" ∷ []
+  pub listed : rights_list (implicit_rights group_realm (codes "group:staff") (codes "/option/user/joe/")) ≡ [] ∷ codes "x" ∷ codes "r" ∷ codes "w" ∷ codes "i" ∷ codes "a" ∷ []
 
 -- whose datasets are whose, and the default lists
 pub record HomeExamples : Type 0 where

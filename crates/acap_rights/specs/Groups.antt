@@ -4,7 +4,7 @@ use Rattle.std.specs.List.{flat_map, list_all, starts_with}
 use Rattle.acap_entries.specs.Names.{minus, begins_with, group_prefix, is_user_name}
 use Rattle.acap_entries.specs.Orders.{octets_eq}
 use Rattle.acap_rights.specs.Laws.{rights_of_letters, common}
-use Rattle.acap_rights.specs.Pairs.{Pair, string_of, pair_of, is_letter, given, taken, rights_in}
+use Rattle.acap_rights.specs.Pairs.{Pair, string_of, pair_of, is_letter, rights_given, rights_taken, rights_in}
 use Rattle.acap_rights.specs.Realms.{names_in_group}
 use Rattle.acap_rights.specs.Rights.{no_rights}
 use Rattle.acap_rights.specs.declared.group.Group.{Group}
@@ -19,8 +19,8 @@ abbrev pub members_of : Realm → List ℕ → List (List ℕ)
 members_of realm name = flat_map (λ group. if octets_eq name group.name then group.members else []) realm.groups
 
 -- an identifier without its `-`, and a name with the `-` that an identifier has
-abbrev pub unsigned : List ℕ → List ℕ
-unsigned identifier = if begins_with minus identifier then drop 1 identifier else identifier
+abbrev pub without_sign : List ℕ → List ℕ
+without_sign identifier = if begins_with minus identifier then drop 1 identifier else identifier
 
 abbrev pub signed_as : List ℕ → List ℕ → List ℕ
 signed_as identifier name = if begins_with minus identifier then minus ∷ name else name
@@ -29,8 +29,8 @@ signed_as identifier name = if begins_with minus identifier then minus ∷ name 
 abbrev pub pair_written_out : Realm → List ℕ → Option Pair → List (List ℕ)
 pair_written_out realm text None = text ∷ []
 pair_written_out realm text (Some pair) =
-    if starts_with nat_eq (unsigned pair.identifier) group_prefix
-    then map (λ member. string_of (signed_as pair.identifier member) pair.letters) (members_of realm (drop 6 (unsigned pair.identifier)))
+    if starts_with nat_eq (without_sign pair.identifier) group_prefix
+    then map (λ member. string_of (signed_as pair.identifier member) pair.letters) (members_of realm (drop 6 (without_sign pair.identifier)))
     else text ∷ []
 
 abbrev pub written_out : Realm → List (List ℕ) → List (List ℕ)
@@ -50,4 +50,4 @@ pub record GroupLaw : Type 0 where
       → common (rights_in realm user (front ++ string_of (minus ∷ group_prefix ++ name) letters ∷ back)) (rights_of_letters letters) ≡ no_rights
   -- a group's string gives and takes nothing where the user is in no group of the name
   pub others : (realm : Realm) (user name letters : List ℕ) → is_user_name user ≡ true → names_in_group realm user (group_prefix ++ name) ≡ false
-      → (given realm user (string_of (group_prefix ++ name) letters ∷ []) ≡ no_rights) × (taken realm user (string_of (minus ∷ group_prefix ++ name) letters ∷ []) ≡ no_rights)
+      → (rights_given realm user (string_of (group_prefix ++ name) letters ∷ []) ≡ no_rights) × (rights_taken realm user (string_of (minus ∷ group_prefix ++ name) letters ∷ []) ≡ no_rights)

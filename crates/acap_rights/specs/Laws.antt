@@ -14,7 +14,7 @@ use Rattle.acap_rights.specs.Deciding.{Target, OfDataset, OfAttribute, OfEntry, 
 use Rattle.acap_rights.specs.Edits.{is_about, without, with_pair}
 use Rattle.acap_rights.specs.Homes.{home_of, is_owner, default_list}
 use Rattle.acap_rights.specs.Keeping.{target_of_list}
-use Rattle.acap_rights.specs.Pairs.{Pair, IsPair, string_of, pair_of, is_letter, is_acl, given, taken, rights_in}
+use Rattle.acap_rights.specs.Pairs.{Pair, IsPair, string_of, pair_of, is_letter, is_acl, rights_given, rights_taken, rights_in}
 use Rattle.acap_rights.specs.Realms.{names_in_group, is_administrator}
 use Rattle.acap_rights.specs.Rights.{rights_by, no_rights, all_rights, less}
 use Rattle.acap_rights.specs.declared.realm.Realm.{Realm}
@@ -31,21 +31,21 @@ rights_of_letters letters = rights_by (λ letter. has letter letters)
 -- take them away; those of others do neither
 pub record WhomLaw : Type 0 where
   pub own : (realm : Realm) (user letters : List ℕ) → is_user_name user ≡ true → list_all is_letter letters ≡ true
-      → given realm user (string_of user letters ∷ []) ≡ rights_of_letters letters
+      → rights_given realm user (string_of user letters ∷ []) ≡ rights_of_letters letters
   pub shared : (realm : Realm) (user letters : List ℕ) → list_all is_letter letters ≡ true
-      → given realm user (string_of (codes "anyone") letters ∷ []) ≡ rights_of_letters letters
+      → rights_given realm user (string_of (codes "anyone") letters ∷ []) ≡ rights_of_letters letters
   pub own_taken : (realm : Realm) (user letters : List ℕ) → is_user_name user ≡ true → list_all is_letter letters ≡ true
-      → taken realm user (string_of (minus ∷ user) letters ∷ []) ≡ rights_of_letters letters
+      → rights_taken realm user (string_of (minus ∷ user) letters ∷ []) ≡ rights_of_letters letters
   pub shared_taken : (realm : Realm) (user letters : List ℕ) → list_all is_letter letters ≡ true
-      → taken realm user (string_of (codes "-anyone") letters ∷ []) ≡ rights_of_letters letters
+      → rights_taken realm user (string_of (codes "-anyone") letters ∷ []) ≡ rights_of_letters letters
   pub of_group : (realm : Realm) (user name letters : List ℕ) → is_user_name name ≡ true → names_in_group realm user (group_prefix ++ name) ≡ true
-      → list_all is_letter letters ≡ true → given realm user (string_of (group_prefix ++ name) letters ∷ []) ≡ rights_of_letters letters
+      → list_all is_letter letters ≡ true → rights_given realm user (string_of (group_prefix ++ name) letters ∷ []) ≡ rights_of_letters letters
   pub of_group_taken : (realm : Realm) (user name letters : List ℕ) → is_user_name name ≡ true → names_in_group realm user (group_prefix ++ name) ≡ true
-      → list_all is_letter letters ≡ true → taken realm user (string_of (minus ∷ group_prefix ++ name) letters ∷ []) ≡ rights_of_letters letters
+      → list_all is_letter letters ≡ true → rights_taken realm user (string_of (minus ∷ group_prefix ++ name) letters ∷ []) ≡ rights_of_letters letters
   pub of_another : (realm : Realm) (user identifier letters : List ℕ) → identifier ≢ user → identifier ≢ codes "anyone" → names_in_group realm user identifier ≡ false
-      → given realm user (string_of identifier letters ∷ []) ≡ no_rights
+      → rights_given realm user (string_of identifier letters ∷ []) ≡ no_rights
   pub taken_from_another : (realm : Realm) (user identifier letters : List ℕ) → identifier ≢ user → identifier ≢ codes "anyone" → names_in_group realm user identifier ≡ false
-      → taken realm user (string_of (minus ∷ identifier) letters ∷ []) ≡ no_rights
+      → rights_taken realm user (string_of (minus ∷ identifier) letters ∷ []) ≡ no_rights
 
 -- the rights that stand in both
 abbrev pub common : Rights → Rights → Rights
@@ -54,10 +54,10 @@ common p q = record { x = p.x && q.x; r = p.r && q.r; w = p.w && q.w; i = p.i &&
 -- what a string takes from a user is not given, whatever stands before and behind it, unless it is implicit
 pub record NegativeLaw : Type 0 where
   pub in_list : (realm : Realm) (user : List ℕ) (front back : List (List ℕ)) (text : List ℕ)
-      → common (rights_in realm user (front ++ text ∷ back)) (taken realm user (text ∷ [])) ≡ no_rights
+      → common (rights_in realm user (front ++ text ∷ back)) (rights_taken realm user (text ∷ [])) ≡ no_rights
   pub on_object : (records : Stored) (realm : Realm) (user : List ℕ) (target : Target) (front back : List (List ℕ)) (text : List ℕ)
       → deciding_list records target ≡ front ++ text ∷ back
-      → common (less (rights_of records realm user target) (implicit_rights realm user (dataset_in target))) (taken realm user (text ∷ [])) ≡ no_rights
+      → common (less (rights_of records realm user target) (implicit_rights realm user (dataset_in target))) (rights_taken realm user (text ∷ [])) ≡ no_rights
 
 -- the order of the strings makes no difference
 abbrev pub OrderLaw : Type 0

@@ -83,12 +83,12 @@ abbrev pub taken_by : Realm → List ℕ → List ℕ → Rights
 taken_by realm user text = rights_by (λ letter. says (takes realm user letter) text)
 
 -- all that the pairs of a list give to a user, and all that they take away
-abbrev pub given : Realm → List ℕ → List (List ℕ) → Rights
-given realm user acl = rights_by (λ letter. list_any (says (gives realm user letter)) acl)
+abbrev pub rights_given : Realm → List ℕ → List (List ℕ) → Rights
+rights_given realm user acl = rights_by (λ letter. list_any (says (gives realm user letter)) acl)
 
-abbrev pub taken : Realm → List ℕ → List (List ℕ) → Rights
-taken realm user acl = rights_by (λ letter. list_any (says (takes realm user letter)) acl)
+abbrev pub rights_taken : Realm → List ℕ → List (List ℕ) → Rights
+rights_taken realm user acl = rights_by (λ letter. list_any (says (takes realm user letter)) acl)
 
 -- the rights of a user by a list
 unfoldable pub rights_in : Realm → List ℕ → List (List ℕ) → Rights
-rights_in realm user acl = less (given realm user acl) (taken realm user acl)
+rights_in realm user acl = less (rights_given realm user acl) (rights_taken realm user acl)

@@ -29,5 +29,5 @@ letters_of p =
 
 -- what is listed of rights that an identifier always has: these in one string, and then each other right in a string of
 -- its own [section 6.7]
-abbrev pub listed : Rights → List (List ℕ)
-listed always = letters_of always ∷ map (λ letter. letter ∷ []) (letters_of (less all_rights always))
+abbrev pub rights_list : Rights → List (List ℕ)
+rights_list always = letters_of always ∷ map (λ letter. letter ∷ []) (letters_of (less all_rights always))

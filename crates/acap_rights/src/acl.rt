@@ -13,7 +13,7 @@ use std::alloc::Global;
 use std::marker::Model;
 
 /// An access control list (RFC 2244 section 3.5), as the strings that were sent.
-#[derive(PartialEq, Eq, Drop)]
+#[derive(Clone, PartialEq, Eq, Drop)]
 pub struct Acl {
     strings: Values,
 }
@@ -90,19 +90,11 @@ impl Acl {
             strings: Values::from_vec(strings),
         }
     }
-
-    /// Whether two of them are equal, as `==` says it. Takes no memory.
-    pub fn equals(&self, other: &Acl) -> bool
-        ensures { IsTrue result ↔ (self.now ≡ other.now) }
-    {
-        *self == *other
-    }
 }
 
 impl Copying for Acl {
     fn copy(&self) -> Result<Acl, Memory> {
-        let strings = self.strings.copy()?;
-        Ok(Acl { strings })
+        self.clone()
     }
 }
 

@@ -1,7 +1,6 @@
 //! Which list decides at an object.
-ghost use Rattle.std.specs.Prelude.{◌≡◌, ◌++◌, codes, IfOk};
-ghost use Rattle.std.specs.Option.{option_copied, option_and_then, option_or};
-ghost use Rattle.std.specs.FinMap as map;
+ghost use Rattle.std.specs.Prelude.{◌≡◌, IfOk};
+ghost use Rattle.std.specs.Option.{option_copied, option_and_then};
 ghost use Rattle.acap_rights.specs.Deciding as rule;
 
 use crate::acl::Acl;

@@ -29,7 +29,7 @@ fn by_letters(letters: &[u8]) -> Rights
 }
 
 // What a string of a list gives to the user, and what it takes away.
-fn granted(realm: &Realm, user: &[u8], text: &[u8]) -> (Rights, Rights)
+fn grant(realm: &Realm, user: &[u8], text: &[u8]) -> (Rights, Rights)
     ensures given { result.0 ≡ rule.given_by realm.now user.now text.now }
     ensures taken { result.1 ≡ rule.taken_by realm.now user.now text.now }
 {
@@ -47,14 +47,14 @@ fn granted(realm: &Realm, user: &[u8], text: &[u8]) -> (Rights, Rights)
 }
 
 // All that the pairs of a list give to the user, and all that they take away.
-fn gathered(realm: &Realm, user: &[u8], acl: &[Value]) -> (Rights, Rights)
-    ensures given { result.0 ≡ rule.given realm.now user.now acl.now }
-    ensures taken { result.1 ≡ rule.taken realm.now user.now acl.now }
+fn gather(realm: &Realm, user: &[u8], acl: &[Value]) -> (Rights, Rights)
+    ensures given { result.0 ≡ rule.rights_given realm.now user.now acl.now }
+    ensures taken { result.1 ≡ rule.rights_taken realm.now user.now acl.now }
 {
     let mut given = Rights::none();
     let mut taken = Rights::none();
     for text in acl {
-        let (more, away) = granted(realm, user, text.as_slice());
+        let (more, away) = grant(realm, user, text.as_slice());
         given = given.union(more);
         taken = taken.union(away);
     }
@@ -66,7 +66,7 @@ fn gathered(realm: &Realm, user: &[u8], acl: &[Value]) -> (Rights, Rights)
 fn rights_in(realm: &Realm, user: &[u8], acl: &[Value]) -> Rights
     ensures { result ≡ rule.rights_in realm.now user.now acl.now }
 {
-    let (given, taken) = gathered(realm, user, acl);
+    let (given, taken) = gather(realm, user, acl);
     given.less(taken)
 }
 

@@ -5,7 +5,7 @@ ghost use Rattle.acap_rights.specs.Realms as rule;
 use acap_entries::{Copying, Memory, Sequence, UserName};
 
 /// A group of users. An access list names its members as `group:NAME` (RFC 2244 section 3.5).
-#[derive(PartialEq, Eq, Drop)]
+#[derive(Clone, PartialEq, Eq, Drop)]
 pub struct Group {
     /// Its name, which has the form of a user's.
     pub name: UserName,
@@ -30,8 +30,6 @@ impl Group {
 
 impl Copying for Group {
     fn copy(&self) -> Result<Group, Memory> {
-        let name = self.name.copy()?;
-        let members = self.members.copy()?;
-        Ok(Group { name, members })
+        self.clone()
     }
 }

@@ -1,5 +1,5 @@
 //! What the strings of lists say (RFC 2244 sections 3.5 and 8). No call here takes memory.
-ghost use Rattle.std.specs.Prelude.{◌≡◌, if◌then◌else◌, option_map};
+ghost use Rattle.std.specs.Prelude.{◌≡◌, option_map};
 ghost use Rattle.std.specs.List.{list_all};
 ghost use Rattle.std.specs.Option.{is_some};
 ghost use Rattle.acap_rights.specs.Pairs as rule;

@@ -1,7 +1,5 @@
 //! Who is who.
-ghost use Rattle.std.specs.Prelude.{◌≡◌, ◌↔◌, ◌&&◌, IsTrue};
-ghost use Rattle.std.specs.List.{list_any};
-ghost use Rattle.acap_entries.specs.Orders.{octets_eq};
+ghost use Rattle.std.specs.Prelude.{◌≡◌, ◌&&◌};
 ghost use Rattle.acap_rights.specs.Realms as rule;
 
 use crate::group::{Group, Groups};
@@ -9,7 +7,7 @@ use acap_entries::{Copying, Memory, Sequence, UserName};
 
 /// Who is who among the users: the administrators, who have all rights, and the groups that access lists may name
 /// (RFC 2244 section 3.5).
-#[derive(PartialEq, Eq, Drop)]
+#[derive(Clone, PartialEq, Eq, Drop)]
 pub struct Realm {
     /// The administrators.
     pub administrators: Sequence<UserName>,
@@ -66,22 +64,10 @@ impl Realm {
             .iter()
             .any(|name| name.as_slice() == user)
     }
-
-    /// Whether two of them are equal, as `==` says it. Takes no memory.
-    pub fn equals(&self, other: &Realm) -> bool
-        ensures { IsTrue result ↔ (self.now ≡ other.now) }
-    {
-        *self == *other
-    }
 }
 
 impl Copying for Realm {
     fn copy(&self) -> Result<Realm, Memory> {
-        let administrators = self.administrators.copy()?;
-        let groups = self.groups.copy()?;
-        Ok(Realm {
-            administrators,
-            groups,
-        })
+        self.clone()
     }
 }

@@ -1,5 +1,5 @@
 //! The five rights.
-ghost use Rattle.std.specs.Prelude.{◌≡◌, ◌++◌, ◌∷◌, [], if◌then◌else◌, IfOk, OnOk, map};
+ghost use Rattle.std.specs.Prelude.{◌≡◌, ◌++◌, ◌∷◌, [], if◌then◌else◌, IfOk, OnOk};
 ghost use Rattle.acap_rights.specs.Rights as rule;
 
 use acap_entries::{Memory, Value, Values};
@@ -102,8 +102,8 @@ impl Rights {
 
     /// What LISTRIGHTS tells of an identifier that always has these (RFC 2244 section 6.7): their letters in one string, and
     /// then each other right in a string of its own. Fails only for want of memory.
-    pub fn listed(self, alloc: Global) -> Result<Values, Memory>
-        ensures { IfOk result (λ list. list ≡ rule.listed self) }
+    pub fn list(self, alloc: Global) -> Result<Values, Memory>
+        ensures { IfOk result (λ list. list ≡ rule.rights_list self) }
     {
         let mut list = Values::new(alloc);
         list.push(self.letters(alloc)?)?;

@@ -33,7 +33,7 @@ impl SharedRights {
 }
 
 // Of which attribute an attribute of a management entry is the list.
-fn named_by(attribute: &[u8]) -> Option<&[u8]>
+fn attribute_of(attribute: &[u8]) -> Option<&[u8]>
     ensures { option_copied result ≡ rule.named_by attribute.now }
 {
     if !attribute.starts_with(b"dataset.acl.") {
@@ -45,7 +45,7 @@ fn named_by(attribute: &[u8]) -> Option<&[u8]>
 
 // The rights by each list of an attribute in a management entry.
 #[tactic(auto, unfolding(crate::specs::Sharing::listed_in))]
-fn listed_in(
+fn list_rights(
     alloc: Global,
     realm: &Realm,
     user: &UserName,
@@ -60,7 +60,7 @@ fn listed_in(
         return Ok(listed);
     };
     for (attribute, cell) in record.cells.entries() {
-        if let Some(named) = named_by(attribute.as_slice())
+        if let Some(named) = attribute_of(attribute.as_slice())
             && let Some(list) = list_in(Some(cell))
         {
             let rights = rights_by(realm, user, dataset, Some(list));
@@ -83,7 +83,7 @@ pub fn shared_rights<R: Records>(
         rule.AreShared (R.store records.now).records realm.now user.now dataset.now shared) }
 {
     let management = records.find(dataset, b"");
-    let listed = listed_in(alloc, realm, user, dataset, management)?;
+    let listed = list_rights(alloc, realm, user, dataset, management)?;
     let others = rights_by(realm, user, dataset, dataset_list(management));
     Ok(SharedRights { listed, others })
 }

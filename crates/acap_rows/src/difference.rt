@@ -1,6 +1,7 @@
 //! The first line in which what is wanted and what was got differ.
 
-use std::alloc::{AllocError, Global};
+use acap_entries::Memory;
+use std::alloc::Global;
 
 /// So many octets of a line are printed before the first that differs, and so many from there on.
 const SHOWN: usize = 60;
@@ -30,7 +31,7 @@ fn line_start(text: &[u8], place: usize) -> usize {
 }
 
 // Adds an octet as a row file has it.
-fn add_printed(octet: u8, out: &mut String) -> Result<(), AllocError> {
+fn add_printed(octet: u8, out: &mut String) -> Result<(), Memory> {
     match octet {
         b'\\' => out.push_str("\\\\"),
         b'\n' => out.push_str("\\n"),
@@ -45,12 +46,7 @@ fn add_printed(octet: u8, out: &mut String) -> Result<(), AllocError> {
 }
 
 // The line from a place on, as a row file has it, up to 60 octets behind another place.
-fn print_line(
-    alloc: Global,
-    text: &[u8],
-    start: usize,
-    place: usize,
-) -> Result<String, AllocError> {
+fn print_line(alloc: Global, text: &[u8], start: usize, place: usize) -> Result<String, Memory> {
     let behind = text.get(start..).unwrap_or(b"");
     let most = place.saturating_sub(start).saturating_add(SHOWN);
     let end = match behind.iter().position(|octet| *octet == b'\n') {
@@ -66,7 +62,7 @@ fn print_line(
 }
 
 /// The first line in which two texts differ.
-pub(crate) fn first_lines(alloc: Global, wanted: &[u8], got: &[u8]) -> Result<Lines, AllocError> {
+pub(crate) fn first_lines(alloc: Global, wanted: &[u8], got: &[u8]) -> Result<Lines, Memory> {
     let place = same_length(wanted, got);
     let start = line_start(wanted, place);
     Ok(Lines {

@@ -10,7 +10,7 @@ mod pieces;
 mod row_file;
 mod running;
 
-use crate::row_file::{Row, read_rows};
+use crate::row_file::{FileRow, read_rows};
 use crate::running::first_wrong;
 use acap_entries::Steps;
 use std::marker::Brand;
@@ -45,7 +45,7 @@ impl Tally {
 fn run_row<L: Ledger>(
     rt: &HostRuntime,
     file: &str,
-    row: &Row,
+    row: &FileRow,
     tally: &mut Tally,
     steps: &mut Steps<L>,
 ) -> io::Result<()> {

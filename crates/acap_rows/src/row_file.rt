@@ -5,7 +5,7 @@ use std::alloc::Global;
 
 /// What becomes of what a row sends.
 #[derive(Clone, Copy)]
-pub(crate) enum Kind<'a> {
+pub(crate) enum RowKind<'a> {
     /// It is what a session of that user reads.
     Session(&'a str),
     /// It is a script.
@@ -14,21 +14,21 @@ pub(crate) enum Kind<'a> {
     Call(&'a str),
 }
 
-impl<'a> Kind<'a> {
+impl<'a> RowKind<'a> {
     // What stands behind each line that is sent or answered.
     fn line_end(self) -> &'static [u8] {
         match self {
-            Kind::Session(_) => b"\r\n",
-            Kind::Script | Kind::Call(_) => b"\n",
+            RowKind::Session(_) => b"\r\n",
+            RowKind::Script | RowKind::Call(_) => b"\n",
         }
     }
 }
 
 /// A row: what is sent, and what is answered.
 #[derive(Drop)]
-pub(crate) struct Row<'a> {
+pub(crate) struct FileRow<'a> {
     pub(crate) name: &'a str,
-    pub(crate) kind: Kind<'a>,
+    pub(crate) kind: RowKind<'a>,
     pub(crate) sent: Vec<u8>,
     pub(crate) wanted: Vec<u8>,
 }
@@ -36,8 +36,8 @@ pub(crate) struct Row<'a> {
 // What has been read of a row file: the rows, and the kind of those to come if that has been said.
 #[derive(Drop)]
 struct Reading<'a> {
-    kind: Option<Kind<'a>>,
-    rows: Vec<Row<'a>>,
+    kind: Option<RowKind<'a>>,
+    rows: Vec<FileRow<'a>>,
 }
 
 // The text behind a mark of one character, and behind a space, if one follows.
@@ -49,7 +49,7 @@ fn behind_mark<'a>(line: &'a str, mark: char) -> Option<&'a [u8]> {
 impl<'a> Reading<'a> {
     // Begins a row of that name.
     fn begin(&mut self, alloc: Global, name: &'a str) -> Option<()> {
-        let row = Row {
+        let row = FileRow {
             name,
             kind: self.kind?,
             sent: Vec::new(alloc),
@@ -77,15 +77,15 @@ impl<'a> Reading<'a> {
             return self.begin(alloc, name);
         }
         if let Some(user) = line.strip_prefix("session ") {
-            self.kind = Some(Kind::Session(user));
+            self.kind = Some(RowKind::Session(user));
             return Some(());
         }
         if line == "script" {
-            self.kind = Some(Kind::Script);
+            self.kind = Some(RowKind::Script);
             return Some(());
         }
         if line == "call" || line.starts_with("call ") {
-            self.kind = Some(Kind::Call(line.strip_prefix("call")?));
+            self.kind = Some(RowKind::Call(line.strip_prefix("call")?));
             return Some(());
         }
         self.read_text(line)
@@ -93,7 +93,7 @@ impl<'a> Reading<'a> {
 }
 
 /// The rows of a row file, or the number of the first line that can't be read.
-pub(crate) fn read_rows<'a>(alloc: Global, text: &'a str) -> Result<Vec<Row<'a>>, usize> {
+pub(crate) fn read_rows<'a>(alloc: Global, text: &'a str) -> Result<Vec<FileRow<'a>>, usize> {
     let mut reading = Reading {
         kind: None,
         rows: Vec::new(alloc),

@@ -2,11 +2,11 @@
 
 use crate::difference::{Lines, first_lines};
 use crate::pieces::{PieceSizes, Pieces};
-use crate::row_file::{Kind, Row};
+use crate::row_file::{FileRow, RowKind};
 use acap_calls::{Fault, run_call};
-use acap_entries::{Steps, UserName};
+use acap_entries::{Memory, Steps, UserName};
 use acap_session::{ScriptFault, run_pipe, run_script};
-use std::alloc::{AllocError, Global};
+use std::alloc::Global;
 use std::sync::ledger::Ledger;
 
 /// What a session says first.
@@ -35,7 +35,7 @@ fn run_session<L: Ledger>(
     sent: &[u8],
     sizes: PieceSizes,
     steps: &mut Steps<L>,
-) -> Result<Vec<u8>, AllocError> {
+) -> Result<Vec<u8>, Memory> {
     let mut text = Vec::new(alloc);
     let reader = &mut Pieces { left: sent, sizes };
     let done = match UserName::read(alloc, user.as_bytes()) {
@@ -49,7 +49,7 @@ fn run_session<L: Ledger>(
 }
 
 // Adds what the program says of a script that ends by a fault.
-fn add_fault(fault: ScriptFault, text: &mut Vec<u8>) -> Result<(), AllocError> {
+fn add_fault(fault: ScriptFault, text: &mut Vec<u8>) -> Result<(), Memory> {
     match fault {
         ScriptFault::Line(number) => {
             let line = format!(in *text.allocator(); "acapd: bad script line {number}\n")?;
@@ -67,7 +67,7 @@ fn play_script<L: Ledger>(
     script: &[u8],
     sizes: PieceSizes,
     steps: &mut Steps<L>,
-) -> Result<Vec<u8>, AllocError> {
+) -> Result<Vec<u8>, Memory> {
     let mut text = Vec::new(alloc);
     let left = script;
     let reader = &mut Pieces { left, sizes };
@@ -79,7 +79,7 @@ fn play_script<L: Ledger>(
 }
 
 // The words of a call, each with a space before it.
-fn words_of(alloc: Global, text: &str) -> Result<Vec<String>, AllocError> {
+fn words_of(alloc: Global, text: &str) -> Result<Vec<String>, Memory> {
     let mut words = Vec::new(alloc);
     for word in text.split(' ').skip(1) {
         words.push(String::from_str(alloc, word)?)?;
@@ -94,7 +94,7 @@ fn make_call<L: Ledger>(
     sent: &[u8],
     sizes: PieceSizes,
     steps: &mut Steps<L>,
-) -> Result<Vec<u8>, AllocError> {
+) -> Result<Vec<u8>, Memory> {
     let words = Ok(words_of(alloc, words)?);
     let mut text = Vec::new(alloc);
     let mut told = Vec::new(alloc);
@@ -121,22 +121,22 @@ fn make_call<L: Ledger>(
 // What is written for what a row sends, cut so.
 fn send_row<L: Ledger>(
     alloc: Global,
-    row: &Row,
+    row: &FileRow,
     sizes: PieceSizes,
     steps: &mut Steps<L>,
-) -> Result<Vec<u8>, AllocError> {
+) -> Result<Vec<u8>, Memory> {
     match row.kind {
-        Kind::Session(user) => run_session(alloc, user, row.sent.as_slice(), sizes, steps),
-        Kind::Script => play_script(alloc, row.sent.as_slice(), sizes, steps),
-        Kind::Call(words) => make_call(alloc, words, row.sent.as_slice(), sizes, steps),
+        RowKind::Session(user) => run_session(alloc, user, row.sent.as_slice(), sizes, steps),
+        RowKind::Script => play_script(alloc, row.sent.as_slice(), sizes, steps),
+        RowKind::Call(words) => make_call(alloc, words, row.sent.as_slice(), sizes, steps),
     }
 }
 
 // All that a row wants: a session's greeting goes before what its row says.
-fn wanted_of(alloc: Global, row: &Row) -> Result<Vec<u8>, AllocError> {
+fn expect(alloc: Global, row: &FileRow) -> Result<Vec<u8>, Memory> {
     let mut wanted = match row.kind {
-        Kind::Session(_) => Vec::from_slice(alloc, GREETING)?,
-        Kind::Script | Kind::Call(_) => Vec::new(alloc),
+        RowKind::Session(_) => Vec::from_slice(alloc, GREETING)?,
+        RowKind::Script | RowKind::Call(_) => Vec::new(alloc),
     };
     wanted.extend_from_slice(row.wanted.as_slice())?;
     Ok(wanted)
@@ -145,11 +145,11 @@ fn wanted_of(alloc: Global, row: &Row) -> Result<Vec<u8>, AllocError> {
 // How a row is wrong that is cut into such pieces, if it is.
 fn wrong_at<L: Ledger>(
     alloc: Global,
-    row: &Row,
+    row: &FileRow,
     wanted: &[u8],
     sizes: PieceSizes,
     steps: &mut Steps<L>,
-) -> Result<Option<Wrong>, AllocError> {
+) -> Result<Option<Wrong>, Memory> {
     let got = send_row(alloc, row, sizes, steps)?;
     if got.as_slice() == wanted {
         return Ok(None);
@@ -161,10 +161,10 @@ fn wrong_at<L: Ledger>(
 /// How a row is wrong, if it is: whole, octet by octet, or, where it isn't long, cut in two after any octet.
 pub(crate) fn first_wrong<L: Ledger>(
     alloc: Global,
-    row: &Row,
+    row: &FileRow,
     steps: &mut Steps<L>,
-) -> Result<Option<Wrong>, AllocError> {
-    let wanted = wanted_of(alloc, row)?;
+) -> Result<Option<Wrong>, Memory> {
+    let wanted = expect(alloc, row)?;
     for sizes in [PieceSizes::WHOLE, PieceSizes::SINGLE] {
         if let Some(wrong) = wrong_at(alloc, row, wanted.as_slice(), sizes, steps)? {
             return Ok(Some(wrong));

@@ -19,8 +19,8 @@ abbrev pub is_space : ℕ → Bool
 is_space octet = octet == 32
 
 -- what stands before the first SP of a text, and what behind it
-abbrev pub cut : List ℕ → Option (List ℕ × List ℕ)
-cut text = option_map (λ place. (take place text, drop (place + 1) text)) (position is_space text)
+abbrev pub parts_of : List ℕ → Option (List ℕ × List ℕ)
+parts_of text = option_map (λ place. (take place text, drop (place + 1) text)) (position is_space text)
 
 -- a user's name
 abbrev pub name_in : List ℕ → Option (List ℕ)
@@ -92,28 +92,28 @@ both made (Some a) None = None
 both made None b = None
 
 -- a part and the rest of a line
-abbrev pub parted : (List ℕ → List ℕ → Option ScriptLine) → List ℕ → Option ScriptLine
-parted made text = option_and_then (λ parts. made parts.0 parts.1) (cut text)
+abbrev pub by_parts : (List ℕ → List ℕ → Option ScriptLine) → List ℕ → Option ScriptLine
+by_parts made text = option_and_then (λ parts. made parts.0 parts.1) (parts_of text)
 
 -- `user NAME SECRET`, `group NAME USER`, `enter K NAME`, `send K TEXT`, `raw K HEX`, `piece K HEX`, behind the word and its SP; what is the
 -- rest of a line may be empty
 abbrev pub user_line : List ℕ → Option ScriptLine
-user_line text = parted (λ name secret. both line.User (name_in name) (Some secret)) text
+user_line text = by_parts (λ name secret. both line.User (name_in name) (Some secret)) text
 
 abbrev pub group_line : List ℕ → Option ScriptLine
-group_line text = parted (λ name member. both line.Group (name_in name) (name_in member)) text
+group_line text = by_parts (λ name member. both line.Group (name_in name) (name_in member)) text
 
 abbrev pub enter_line : List ℕ → Option ScriptLine
-enter_line text = parted (λ seat name. both (λ k user. line.At k (act.Enter user)) (seat_in seat) (name_in name)) text
+enter_line text = by_parts (λ seat name. both (λ k user. line.At k (act.Enter user)) (seat_in seat) (name_in name)) text
 
 abbrev pub send_line : List ℕ → Option ScriptLine
-send_line text = parted (λ seat sent. both (λ k sent. line.At k (act.Send sent)) (seat_in seat) (Some sent)) text
+send_line text = by_parts (λ seat sent. both (λ k sent. line.At k (act.Send sent)) (seat_in seat) (Some sent)) text
 
 abbrev pub raw_line : List ℕ → Option ScriptLine
-raw_line text = parted (λ seat digits. both (λ k octets. line.At k (act.Raw octets)) (seat_in seat) (octets_in digits)) text
+raw_line text = by_parts (λ seat digits. both (λ k octets. line.At k (act.Raw octets)) (seat_in seat) (octets_in digits)) text
 
 abbrev pub piece_line : List ℕ → Option ScriptLine
-piece_line text = parted (λ seat digits. both (λ k octets. line.At k (act.Piece octets)) (seat_in seat) (octets_in digits)) text
+piece_line text = by_parts (λ seat digits. both (λ k octets. line.At k (act.Piece octets)) (seat_in seat) (octets_in digits)) text
 
 -- by the word
 abbrev pub line_by : ScriptWord → List ℕ → Option ScriptLine
@@ -141,7 +141,7 @@ is_passed (c ∷ text) = c == 35
 unfoldable pub line_of : List ℕ → Option ScriptLine
 line_of text =
     if is_passed text then Some line.Pass
-    else option_and_then (λ parts. option_and_then (λ w. line_by w parts.1) (word_of parts.0)) (cut text)
+    else option_and_then (λ parts. option_and_then (λ w. line_by w parts.1) (word_of parts.0)) (parts_of text)
 
 -- ---- words of the contracts
 

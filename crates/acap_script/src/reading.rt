@@ -24,7 +24,7 @@ fn place_of(text: &[u8]) -> Option<usize>
 
 // What stands before the first SP, and what behind it.
 fn cut_word(text: &[u8]) -> Option<(&[u8], &[u8])>
-    ensures { option_map (λ parts. (parts.0.now, parts.1.now)) result ≡ rule.cut text.now }
+    ensures { option_map (λ parts. (parts.0.now, parts.1.now)) result ≡ rule.parts_of text.now }
 {
     let (before, _) = text.split_at(place_of(text)?);
     let (_, behind) = text.split_at(before.len() + 1);

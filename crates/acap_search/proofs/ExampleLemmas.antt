@@ -8,7 +8,7 @@ use Rattle.acap_entries.specs.Orders.{octets_cmp}
 use Rattle.std.specs.Option.{option_and_then}
 use Rattle.acap_entries.specs.Store.{Stored}
 use Rattle.acap_entries.specs.declared.cell.Cell.TheVariants.{Nil, Single}
-use Rattle.acap_inherit.specs.Resolving.{resolved}
+use Rattle.acap_inherit.specs.Resolving.{lookup}
 use Rattle.acap_rights.specs.Deciding.{OfEntry, rights_of}
 use Rattle.acap_rights.specs.declared.realm.Realm.{Realm}
 use Rattle.acap_rights.specs.declared.rights.Rights.{Rights}
@@ -19,7 +19,7 @@ use Rattle.acap_search.specs.Scopes.{is_component_name, beneath}
 use Rattle.acap_search.specs.declared.refusal.SearchRefusal.{SearchRefusal}
 use Rattle.acap_search.specs.declared.refusal.SearchRefusal.TheVariants as refusal
 use Rattle.acap_search.specs.Rows.{data_of, stars_of}
-use Rattle.acap_search.specs.Examples.{KeyExamples, OrderExamples, ScopeExamples, LimitExamples, SightExamples, RowExamples, IsLent, IsAnswered, only, b, d, e, x, reading, testing, listed, beginning}
+use Rattle.acap_search.specs.Examples.{KeyExamples, OrderExamples, ScopeExamples, LimitExamples, SightExamples, RowExamples, IsLent, IsAnswered, only, b, d, e, x, reading, testing, list_match, beginning}
 
 pub key_examples : KeyExamples
 key_examples = record {
@@ -138,7 +138,7 @@ limit_examples = record {
 
 -- what is answered about the attribute, by the rights on it in both datasets
 at_level : (may : Rights → Bool) (records : Stored) (realm : Realm) (user : List ℕ) (list : Option (List (List ℕ))) (in_d in_b : Rights) → IsLent records realm user list in_d in_b
-    → cell_at may (rights_of records realm user (OfEntry d x e)) (λ dataset. rights_of records realm user (OfEntry dataset x e)) (resolved records (d ∷ b ∷ []) e x)
+    → cell_at may (rights_of records realm user (OfEntry d x e)) (λ dataset. rights_of records realm user (OfEntry dataset x e)) (lookup records (d ∷ b ∷ []) e x)
     ≡ cond (may in_d && may in_b) (Single (codes "1")) Nil
 at_level may records realm user list in_d in_b h =
     (λ i. cell_at may (h.here i) (λ dataset. rights_of records realm user (OfEntry dataset x e)) (h.value i))
@@ -211,6 +211,6 @@ row_examples = record {
   untold = refl;
   star = λ stars h. rw h refl;
   star_of_nothing = λ stars h. rw h refl;
-  star_read = ap (λ entries. Some (listed (each (data_of (reading (Single (codes "1")) (Single (codes "2"))) beginning.metadata) (each (λ p. p.0) entries)))) one_star;
-  star_tested = ap (λ entries. Some (listed (each (data_of (testing (Single (codes "1")) (Single (codes "2"))) beginning.metadata) (each (λ p. p.0) entries)))) no_star;
+  star_read = ap (λ entries. Some (list_match (each (data_of (reading (Single (codes "1")) (Single (codes "2"))) beginning.metadata) (each (λ p. p.0) entries)))) one_star;
+  star_tested = ap (λ entries. Some (list_match (each (data_of (testing (Single (codes "1")) (Single (codes "2"))) beginning.metadata) (each (λ p. p.0) entries)))) no_star;
 }

@@ -5,14 +5,14 @@ use Rattle.std.specs.Borrow.{Bor}
 use Rattle.acap_entries.specs.Store.{Stored}
 use Rattle.acap_entries.specs.declared.path.Path.{Path}
 use Rattle.acap_entries.specs.declared.record.Record.{Record}
-use Rattle.acap_search.specs.Grounds.{listed}
+use Rattle.acap_search.specs.Grounds.{all_records}
 use Rattle.acap_search.specs.Matches.{Match}
 use Rattle.acap_search.specs.Near.{AreKept}
 use Rattle.acap_search.specs.Within.{numbered_from}
 
 -- those behind the first
 pub others_kept : (records : Stored) (dataset : List ℕ) (next : Option (Bor Path × Bor Record)) (others : List (Path × Record))
-    → AreKept records dataset (listed next others) → AreKept records dataset others
+    → AreKept records dataset (all_records next others) → AreKept records dataset others
 others_kept records dataset None others h = h
 others_kept records dataset (Some e) others h = h.1
 

@@ -9,7 +9,7 @@ use Rattle.acap_commands.specs.declared.test.Test.TheVariants as test
 use Rattle.acap_entries.specs.Store.{Stored}
 use Rattle.acap_entries.specs.declared.path.Path.{Path}
 use Rattle.acap_rights.specs.declared.realm.Realm.{Realm}
-use Rattle.acap_search.specs.ContextLaws.{WithinLaw, unplaced, unsorted}
+use Rattle.acap_search.specs.ContextLaws.{WithinLaw, without_places, with_no_sort}
 use Rattle.acap_search.specs.Fresh.{Sight, sight_of, is_among, tuple_of, is_range, has_range, matches_of}
 use Rattle.acap_search.specs.Keys.{passes, holds}
 use Rattle.acap_search.specs.Matches.{Match, match_lt, ordered_by}
@@ -89,10 +89,10 @@ module _ (records : Stored) (realm : Realm) (user : List ℕ) (sought : Sought) 
         ),
       )
 
-  without_sort : filter_map (tuple_within sight (unsorted sought)) (numbered_from 1 (each (λ (m : Match). m.path) found)) ≡ each unplaced found
+  without_sort : filter_map (tuple_within sight (with_no_sort sought)) (numbered_from 1 (each (λ (m : Match). m.path) found)) ≡ each without_places found
   without_sort =
-      each_of (tuple_within sight (unsorted sought)) unplaced found
-      (λ m k n. let r = again (unsorted sought) refl m k (position_of n) in r.1.1 ∙ ap (λ m. Some (unplaced m)) (sym r.1.0)) 1
+      each_of (tuple_within sight (with_no_sort sought)) without_places found
+      (λ m k n. let r = again (with_no_sort sought) refl m k (position_of n) in r.1.1 ∙ ap (λ m. Some (without_places m)) (sym r.1.0)) 1
 
   with_sort : filter_map (tuple_within sight sought) (numbered_from 1 (each (λ (m : Match). m.path) found)) ≡ found
   with_sort =

@@ -18,9 +18,9 @@ use Rattle.acap_entries.specs.declared.cell.Cell.{Cell}
 use Rattle.acap_entries.specs.declared.cell.Cell.TheVariants.{Nil, Single, Multi}
 use Rattle.acap_entries.specs.declared.path.Path.{Path}
 use Rattle.acap_entries.specs.declared.record.Record.{Record}
-use Rattle.acap_inherit.specs.EntryNames.{set_of, merged, names_in, names_on}
+use Rattle.acap_inherit.specs.EntryNames.{set_of, union_of, names_in, names_on}
 use Rattle.acap_inherit.specs.Records.{record_at, cell_in, ends_inheritance}
-use Rattle.acap_inherit.specs.Resolving.{lying, by_cell, by_record, by_presence, greatest, until_end, entry_on, value_on, modtime_on, stamped, members_for, members_of, resolved}
+use Rattle.acap_inherit.specs.Resolving.{lying, by_cell, by_record, by_presence, greatest, until_end, entry_on, value_on, modtime_on, stamp_value, members_for, members_of, lookup}
 use Rattle.acap_rights.specs.Deciding.{OfEntry, own_list}
 use Rattle.acap_rights.proofs.SharingLemmas.{shared_law}
 use Rattle.acap_rights.specs.Sharing.{shared_on}
@@ -73,12 +73,12 @@ module _ (records : Stored) (dataset name : List ℕ) (entry : Record) (kept : r
   members : (attribute : List ℕ) → members_of (dataset ∷ []) name attribute ≡ dataset ∷ []
   members attribute = ap (λ all. cond (octets_eq attribute (codes "subdataset")) (dataset ∷ []) all) member ∙ either (octets_eq attribute (codes "subdataset")) (dataset ∷ [])
 
-  pub own_resolved : (attribute : List ℕ) → resolved records (dataset ∷ []) name attribute ≡ lying (own_value entry name attribute) dataset
-  unfolding resolved
+  pub own_resolved : (attribute : List ℕ) → lookup records (dataset ∷ []) name attribute ≡ lying (own_value entry name attribute) dataset
+  unfolding lookup
   own_resolved attribute =
       let is_entry = octets_eq attribute (codes "entry") in
       let is_moment = octets_eq attribute (codes "modtime") in
-      (λ i. cond is_entry (own_entry _ member i) (cond is_moment (stamped (dataset ∷ []) (own_moment _ member i)) (own_cell _ attribute (members attribute) i)))
+      (λ i. cond is_entry (own_entry _ member i) (cond is_moment (stamp_value (dataset ∷ []) (own_moment _ member i)) (own_cell _ attribute (members attribute) i)))
       ∙ elim is_entry as (λ a. cond a (lying (cond entry.present (Single name) Nil) dataset) (cond is_moment (lying (Single (stamp_of entry.modtime)) dataset) (lying (unwrap_or (cell_in entry attribute) Nil) dataset))
       ≡ lying (cond a (cond entry.present (Single name) Nil) (cond is_moment (Single (stamp_of entry.modtime)) (unwrap_or (cell_in entry attribute) Nil))) dataset) [
         | true ↦ refl
@@ -119,12 +119,12 @@ module _ (spot : Spotted) (entry : Record) (shared : SharedRights) (plain : IsPl
       let own : own_list spot.by.records (OfEntry spot.by.dataset attribute spot.name) ≡ None = ap (option_and_then (λ entry. map.get entry.acls attribute)) kept ∙ none in
       shared_law spot.by.records spot.by.realm spot.by.user spot.by.dataset attribute spot.name own ∙ plain.1 attribute
 
-  found : resolved spot.by.records spot.by.chain spot.name attribute ≡ lying value spot.by.dataset
+  found : lookup spot.by.records spot.by.chain spot.name attribute ≡ lying value spot.by.dataset
   found =
-      ap (λ chain. resolved spot.by.records chain spot.name attribute) plain.0
+      ap (λ chain. lookup spot.by.records chain spot.name attribute) plain.0
       ∙ own_resolved spot.by.records spot.by.dataset spot.name entry kept attribute
 
-  near_cell : (may : Rights → Bool) → cell_at may (rights_at spot.by.dataset) rights_at (resolved spot.by.records spot.by.chain spot.name attribute) ≡ cond (may rights) value Nil
+  near_cell : (may : Rights → Bool) → cell_at may (rights_at spot.by.dataset) rights_at (lookup spot.by.records spot.by.chain spot.name attribute) ≡ cond (may rights) value Nil
   near_cell may =
       ap (cell_at may (rights_at spot.by.dataset) rights_at) found
       ∙ (cell_lying may rights_at spot.by.dataset value ∙ ap (λ rights. cond (may rights) value Nil) near_rights)
@@ -215,7 +215,7 @@ keys_of names s =
 
 -- the names along a chain that is one dataset alone
 pub names_alone : (records : Stored) (dataset : List ℕ) (chain : List (List ℕ)) → chain ≡ dataset ∷ [] → names_on records chain ≡ each (λ e. e.0.name) (filter (lies_in dataset) (map.entries records))
-unfolding merged
+unfolding union_of
 names_alone records dataset chain e =
     ap (names_on records) e
     ∙ (ap (λ names. map.keys (set_of names)) (append-nil (names_in records dataset))

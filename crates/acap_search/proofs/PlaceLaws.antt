@@ -1,18 +1,18 @@
--- Places for SORT are in the order of comparators.
+-- SortPlaces for SORT are in the order of comparators.
 use Rattle.std.proofs.Common.{◌≡◌, ℕ, suc, false, ◌==◌, List, [], ◌∷◌, length, refl, sym, ap, ◌∙◌, arith}
 use Rattle.std.proofs.lemmas.Bool.Decides.{nat_tests}
 use Rattle.std.specs.Char.{is_ascii_digit}
 use Rattle.std.specs.List.{take_while}
 use Rattle.std.specs.declared.cmp.Ordering.TheVariants.{Less}
 use Rattle.acap_order.proofs.NumberLemmas.{leading_number-cmp}
-use Rattle.acap_order.specs.Ranks.{rank_of, number_cmp, spelled_number, directed, rank_cmp as order_cmp}
+use Rattle.acap_order.specs.Ranks.{rank_of, number_cmp, spelled_number, in_direction, rank_cmp as order_cmp}
 use Rattle.acap_order.specs.declared.comparator.Collation.{Collation}
 use Rattle.acap_order.specs.declared.comparator.Collation.TheVariants.{Octet, AsciiCasemap, AsciiNumeric}
 use Rattle.acap_order.specs.declared.comparator.Direction.{Direction}
 use Rattle.acap_order.specs.declared.comparator.Direction.TheVariants.{Ascending, Descending}
 use Rattle.acap_search.specs.Laws.{PlaceLaw}
-use Rattle.acap_search.specs.Places.{number_rank, rank_in, placed, rank_cmp, place_cmp}
-use Rattle.acap_search.specs.declared.rank.Place.TheVariants.{Behind}
+use Rattle.acap_search.specs.Places.{number_rank, rank_in, directed_place, rank_cmp, place_cmp}
+use Rattle.acap_search.specs.declared.rank.SortPlace.TheVariants.{Behind}
 use Rattle.acap_search.specs.declared.rank.Rank.{Rank}
 use Rattle.acap_search.proofs.OrderLemmas.{rank_total, match_total}
 
@@ -32,17 +32,17 @@ ranks Octet a b = refl
 ranks AsciiCasemap a b = refl
 ranks AsciiNumeric a b = numbers a b (take_while is_ascii_digit a) (take_while is_ascii_digit b) refl refl
 
-turned : (direction : Direction) (a b : Rank) → place_cmp (placed direction a) (placed direction b) ≡ directed direction (rank_cmp a b)
+turned : (direction : Direction) (a b : Rank) → place_cmp (directed_place direction a) (directed_place direction b) ≡ in_direction direction (rank_cmp a b)
 turned Ascending a b = refl
 turned Descending a b = rank_total.antisymm b a
 
-first : (direction : Direction) (a : Rank) → place_cmp (placed direction a) Behind ≡ Less
+first : (direction : Direction) (a : Rank) → place_cmp (directed_place direction a) Behind ≡ Less
 first Ascending a = refl
 first Descending a = refl
 
 pub place_law : PlaceLaw
 place_law = record {
-  strings = λ comparator a b. turned comparator.direction (rank_in comparator.collation a) (rank_in comparator.collation b) ∙ ap (directed comparator.direction) (ranks comparator.collation a b);
+  strings = λ comparator a b. turned comparator.direction (rank_in comparator.collation a) (rank_in comparator.collation b) ∙ ap (in_direction comparator.direction) (ranks comparator.collation a b);
   others = λ comparator a. first comparator.direction (rank_in comparator.collation a);
   nil = λ comparator. refl;
   list = λ comparator texts. refl;

@@ -13,7 +13,7 @@ use Rattle.acap_inherit.specs.Chains.{chain_of}
 use Rattle.acap_inherit.specs.EntryNames.{names_on}
 use Rattle.acap_inherit.specs.Laws.{NothingLaw, NamesLaw}
 use Rattle.acap_inherit.specs.Records.{record_at}
-use Rattle.acap_inherit.specs.Resolving.{Resolution, resolved}
+use Rattle.acap_inherit.specs.Resolving.{Resolution, lookup}
 use Rattle.acap_rights.specs.declared.realm.Realm.{Realm}
 use Rattle.acap_search.specs.Fresh.{Sight, answers_on, paths_in, paths_of, full_path_lt, sight_of, is_among, tuple_of}
 use Rattle.acap_search.specs.Laws.{SeenLaw, TupleLaw}
@@ -147,7 +147,7 @@ module _ (nothing : NothingLaw) (names : NamesLaw) (records : Stored) (realm : R
 
   pub unseen : (path : Path) → ((d : List ℕ) → Contains (chain_at path) d → record_at records d path.name ≡ None) → is_seen (answers_on records realm user scope.no_inherit path) ≡ false
   unseen path h =
-      let e : resolved records (chain_at path) path.name (codes "entry") ≡ None = ((nothing.entry records (chain_at path) path.name h).2) (codes "entry") in
+      let e : lookup records (chain_at path) path.name (codes "entry") ≡ None = ((nothing.entry records (chain_at path) path.name h).2) (codes "entry") in
       ap (λ (found : Resolution). not (is_nil (cell_at may_read (rights_on records realm user (codes "entry") path.name path.dataset) (λ d. rights_on records realm user (codes "entry") path.name d) found))) e
 
   pub named : (path : Path) → is_seen (answers_on records realm user scope.no_inherit path) ≡ true → list_any (octets_eq path.name) (names_on records (chain_at path)) ≡ true

@@ -16,7 +16,7 @@ use Rattle.acap_entries.specs.declared.cell.Cell.{Cell}
 use Rattle.acap_entries.specs.declared.cell.Cell.TheVariants.{Nil}
 use Rattle.acap_entries.specs.declared.record.Record.{Record}
 use Rattle.acap_inherit.specs.Records.{record_at, cell_in}
-use Rattle.acap_inherit.specs.Resolving.{resolved}
+use Rattle.acap_inherit.specs.Resolving.{lookup}
 use Rattle.acap_inherit.specs.Laws.{NothingLaw}
 use Rattle.acap_rights.specs.declared.realm.Realm.{Realm}
 use Rattle.acap_search.specs.Rows.{Names, put_star, stars_from, stars_of, attributes_in, attributes_on, attributes_at}
@@ -111,7 +111,7 @@ not_on records name attribute (d ∷ ds) h dataset (suc i, lt, e) =
     let two = or_parts _ _ (sym (list_any-append (eq_by_cmp octets_cmp attribute) (attributes_in (record_at records d name)) (attributes_on records name ds)) ∙ h) in
     not_on records name attribute ds two.1 dataset (i, less, e)
 
-resolved_none : NothingLaw → (records : Stored) (chain : List (List ℕ)) (name attribute : List ℕ) → list_any (eq_by_cmp octets_cmp attribute) (attributes_at records name chain) ≡ false → resolved records chain name attribute ≡ None
+resolved_none : NothingLaw → (records : Stored) (chain : List (List ℕ)) (name attribute : List ℕ) → list_any (eq_by_cmp octets_cmp attribute) (attributes_at records name chain) ≡ false → lookup records chain name attribute ≡ None
 resolved_none nothing records chain name attribute h =
     let first = or_parts _ _ h in
     let second = or_parts _ _ first.1 in

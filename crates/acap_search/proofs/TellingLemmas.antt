@@ -20,7 +20,7 @@ use Rattle.acap_search.specs.Matches.{Match, match_lt, sorted_by}
 use Rattle.acap_search.specs.Places.{places_cmp, places_in}
 use Rattle.acap_search.specs.Scopes.{beneath}
 use Rattle.acap_search.specs.Sight.{answers_at}
-use Rattle.acap_search.specs.Views.{spotted, found_at}
+use Rattle.acap_search.specs.Views.{spot_in, found_at}
 use Rattle.acap_search.specs.Walks.{Quest, quest_of, view_in, hits_in, hits_over, matches_by}
 use Rattle.acap_search.specs.declared.query.Sought.{Sought}
 use Rattle.acap_search.proofs.OrderLemmas.{match_weak}
@@ -77,7 +77,7 @@ module _ (records : Stored) (realm : Realm) (user : List ℕ) (sought : Sought) 
   chain = chain_of records sought.dataset sought.no_inherit
 
   abbrev found : List ℕ → Option Match
-  found name = found_at sought None (spotted (view_in quest sought.dataset) name)
+  found name = found_at sought None (spot_in (view_in quest sought.dataset) name)
 
   made_at : (seen wanted : Bool) (name : List ℕ) (m : Match) → IsAt sought.dataset found name m → AreAt sought.dataset found name (cond seen (cond wanted (Some m) None) None)
   made_at true true name m p = p

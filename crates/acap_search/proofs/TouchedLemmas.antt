@@ -13,7 +13,7 @@ use Rattle.acap_entries.specs.declared.path.Path.{Path}
 use Rattle.acap_inherit.specs.Chains.{chain_of, chain_within}
 use Rattle.acap_inherit.specs.Laws.{NothingLaw, NamesLaw}
 use Rattle.acap_inherit.specs.Records.{record_at}
-use Rattle.acap_inherit.specs.Resolving.{Resolution, resolved}
+use Rattle.acap_inherit.specs.Resolving.{Resolution, lookup}
 use Rattle.acap_inherit.specs.Touched.{has_record_on, is_touched}
 use Rattle.acap_inherit.specs.TouchedLaws.{IsStep, IsReadAlike, IsNowhere, IsAnsweredAlike, UnreadLaw}
 use Rattle.acap_inherit.proofs.UnreadLaws.{chain_alone, empty_there, none_along, within_chain, none_at}
@@ -102,26 +102,26 @@ module _ (nothing : NothingLaw) (old new : Stored) (realm : Realm) (user : List 
   rights_here : (a : List ℕ) → rights_on old realm user a p.name p.dataset ≡ rights_on new realm user a p.name p.dataset
   rights_here a = rights_there a p.dataset (first_in old p.dataset b)
 
-  held_same : (may : Rights → Bool) (a : List ℕ) (found : Resolution) → resolved old before p.name a ≡ found
+  held_same : (may : Rights → Bool) (a : List ℕ) (found : Resolution) → lookup old before p.name a ≡ found
       → is_held may (rights_on old realm user a p.name p.dataset) (rights_on old realm user a p.name) found ≡ is_held may (rights_on new realm user a p.name p.dataset) (rights_on new realm user a p.name) found
   held_same may a None e = ap may (rights_here a)
   held_same may a (Some found) e =
       let lies : rights_on old realm user a p.name found.1 ≡ rights_on new realm user a p.name found.1 = rights_there a found.1 (nothing.within old before p.name a found.0 found.1 e) in
       λ i. may (rights_here a i) && may (lies i)
 
-  cell_same : (may : Rights → Bool) (a : List ℕ) (found : Resolution) → resolved old before p.name a ≡ found
+  cell_same : (may : Rights → Bool) (a : List ℕ) (found : Resolution) → lookup old before p.name a ≡ found
       → cell_at may (rights_on old realm user a p.name p.dataset) (rights_on old realm user a p.name) found ≡ cell_at may (rights_on new realm user a p.name p.dataset) (rights_on new realm user a p.name) found
   cell_same may a None e = refl
   cell_same may a (Some found) e = ap (λ held. cond held found.0 Nil) (held_same may a (Some found) e)
 
   level : (may : Rights → Bool) (a : List ℕ)
-      → cell_at may (rights_on old realm user a p.name p.dataset) (rights_on old realm user a p.name) (resolved old before p.name a)
-      ≡ cell_at may (rights_on new realm user a p.name p.dataset) (rights_on new realm user a p.name) (resolved new after p.name a)
-  level may a = cell_same may a (resolved old before p.name a) refl ∙ ap (cell_at may (rights_on new realm user a p.name p.dataset) (rights_on new realm user a p.name)) (answered.attribute b a)
+      → cell_at may (rights_on old realm user a p.name p.dataset) (rights_on old realm user a p.name) (lookup old before p.name a)
+      ≡ cell_at may (rights_on new realm user a p.name p.dataset) (rights_on new realm user a p.name) (lookup new after p.name a)
+  level may a = cell_same may a (lookup old before p.name a) refl ∙ ap (cell_at may (rights_on new realm user a p.name p.dataset) (rights_on new realm user a p.name)) (answered.attribute b a)
 
   readable : (a : List ℕ) → is_readable old realm user p.dataset before p.name a ≡ is_readable new realm user p.dataset after p.name a
   readable a =
-      held_same may_read a (resolved old before p.name a) refl
+      held_same may_read a (lookup old before p.name a) refl
       ∙ ap (is_held may_read (rights_on new realm user a p.name p.dataset) (rights_on new realm user a p.name)) (answered.attribute b a)
 
   answers_same : IsSameAnswers (answers_on old realm user b p) (answers_on new realm user b p)

@@ -23,7 +23,7 @@ use Rattle.acap_inherit.specs.Chains.{chain_of}
 use Rattle.acap_inherit.specs.EntryNames.{names_on}
 use Rattle.acap_inherit.specs.Laws.{ReadingLaw}
 use Rattle.acap_inherit.specs.Records.{record_at, cell_in, ends_inheritance}
-use Rattle.acap_inherit.specs.Resolving.{Resolution, lying, by_cell, by_record, by_presence, value_on, entry_on, modtime_on, records_along, until_end, greatest, stamped, members_for, members_of, resolved}
+use Rattle.acap_inherit.specs.Resolving.{Resolution, lying, by_cell, by_record, by_presence, value_on, entry_on, modtime_on, records_along, until_end, greatest, stamp_value, members_for, members_of, lookup}
 use Rattle.acap_rights.specs.Deciding.{kept_list, attribute_list_name, dataset_list_name, list_in, deciding_list, implicit_rights, rights_of}
 use Rattle.acap_rights.specs.Homes.{default_list}
 use Rattle.acap_rights.specs.Pairs.{rights_in}
@@ -159,15 +159,15 @@ module _ (old new : Stored) (path : Path) (attribute : List ℕ) (apart : IsOneC
 
   resolved_alike : {X : Type 0} (chain : List (List ℕ)) (name a : List ℕ) (H : Resolution → X)
       → (name ≡ path.name → a ≡ attribute → H (Some (apart.cell, path.dataset)) ≡ H (Some (apart.other, path.dataset)))
-      → H (resolved old chain name a) ≡ H (resolved new chain name a)
-  unfolding resolved
+      → H (lookup old chain name a) ≡ H (lookup new chain name a)
+  unfolding lookup
   resolved_alike chain name a H h =
-      elim (octets_eq a (codes "entry")) as (λ b. H (cond b (entry_on old (members_for chain name) name) (cond (octets_eq a (codes "modtime")) (stamped chain (modtime_on old (members_for chain name) name)) (value_on old (members_of chain name a) name a)))
-      ≡ H (cond b (entry_on new (members_for chain name) name) (cond (octets_eq a (codes "modtime")) (stamped chain (modtime_on new (members_for chain name) name)) (value_on new (members_of chain name a) name a)))) [
+      elim (octets_eq a (codes "entry")) as (λ b. H (cond b (entry_on old (members_for chain name) name) (cond (octets_eq a (codes "modtime")) (stamp_value chain (modtime_on old (members_for chain name) name)) (value_on old (members_of chain name a) name a)))
+      ≡ H (cond b (entry_on new (members_for chain name) name) (cond (octets_eq a (codes "modtime")) (stamp_value chain (modtime_on new (members_for chain name) name)) (value_on new (members_of chain name a) name a)))) [
         | true ↦ ap H (entry_alike (members_for chain name) name)
-        | false ↦ elim (octets_eq a (codes "modtime")) as (λ b. H (cond b (stamped chain (modtime_on old (members_for chain name) name)) (value_on old (members_of chain name a) name a))
-            ≡ H (cond b (stamped chain (modtime_on new (members_for chain name) name)) (value_on new (members_of chain name a) name a))) [
-              | true ↦ ap (λ moments. H (stamped chain (greatest moments))) (moments_alike (members_for chain name) name)
+        | false ↦ elim (octets_eq a (codes "modtime")) as (λ b. H (cond b (stamp_value chain (modtime_on old (members_for chain name) name)) (value_on old (members_of chain name a) name a))
+            ≡ H (cond b (stamp_value chain (modtime_on new (members_for chain name) name)) (value_on new (members_of chain name a) name a))) [
+              | true ↦ ap (λ moments. H (stamp_value chain (greatest moments))) (moments_alike (members_for chain name) name)
               | false ↦ value_alike name a (members_of chain name a) H h
             ]
       ]
@@ -265,16 +265,16 @@ module _ (old new : Stored) (path : Path) (attribute : List ℕ) (apart : IsOneC
     unreadable = (or_parts _ _ untestable).1
 
     level_alike : (may : Rights → Bool) → may (rights_on new realm user attribute path.name path.dataset) ≡ false → (dataset : List ℕ) (chain : List (List ℕ)) (name a : List ℕ)
-        → cell_at may (rights_on old realm user a name dataset) (rights_on old realm user a name) (resolved old chain name a)
-        ≡ cell_at may (rights_on new realm user a name dataset) (rights_on new realm user a name) (resolved new chain name a)
+        → cell_at may (rights_on old realm user a name dataset) (rights_on old realm user a name) (lookup old chain name a)
+        ≡ cell_at may (rights_on new realm user a name dataset) (rights_on new realm user a name) (lookup new chain name a)
     level_alike may none dataset chain name a =
-        (λ i. cell_at may (rights_alike realm user a name dataset i) (λ d. rights_alike realm user a name d i) (resolved old chain name a))
+        (λ i. cell_at may (rights_alike realm user a name dataset i) (λ d. rights_alike realm user a name d i) (lookup old chain name a))
         ∙ resolved_alike chain name a (cell_at may (rights_on new realm user a name dataset) (rights_on new realm user a name))
         (λ e f. hidden (may (rights_on new realm user a name dataset)) (may (rights_on new realm user a name path.dataset)) apart.cell apart.other ((λ i. may (rights_on new realm user (f i) (e i) path.dataset)) ∙ none))
 
     readable_alike : (dataset : List ℕ) (chain : List (List ℕ)) (name a : List ℕ) → is_readable old realm user dataset chain name a ≡ is_readable new realm user dataset chain name a
     readable_alike dataset chain name a =
-        (λ i. is_held may_read (rights_alike realm user a name dataset i) (λ d. rights_alike realm user a name d i) (resolved old chain name a))
+        (λ i. is_held may_read (rights_alike realm user a name dataset i) (λ d. rights_alike realm user a name d i) (lookup old chain name a))
         ∙ resolved_alike chain name a (is_held may_read (rights_on new realm user a name dataset) (rights_on new realm user a name)) (λ e f. refl)
 
     answers_alike : (dataset : List ℕ) (chain : List (List ℕ)) (name : List ℕ) → answers_at old realm user dataset chain name ≡ answers_at new realm user dataset chain name

@@ -11,7 +11,7 @@ use Rattle.acap_search.specs.Rows.{stars_of}
 use Rattle.acap_search.specs.Scopes.{scope_of, datasets_of}
 use Rattle.acap_search.specs.Sight.{is_seen}
 use Rattle.acap_search.specs.Tuples.{tuple_for}
-use Rattle.acap_search.specs.Views.{found_at, spotted}
+use Rattle.acap_search.specs.Views.{found_at, spot_in}
 use Rattle.acap_search.specs.Walks.{Quest, view_in, sight_by}
 use Rattle.acap_search.specs.Within.{Context, tuple_at, has_old, lacks_positions, matches_within, refusal_within}
 use Rattle.acap_search.specs.declared.query.Query.{Query}
@@ -36,7 +36,7 @@ module _ (nothing : NothingLaw) (names : NamesLaw) (quest : Quest) (place : Opti
       ] refl
 
   pub looked_in : Contains (datasets_of quest.records (scope_of quest.sought)) path.dataset
-      → found_at quest.sought place (spotted (view_in quest path.dataset) path.name) ≡ tuple_at (sight_by quest) quest.sought place path
+      → found_at quest.sought place (spot_in (view_in quest path.dataset) path.name) ≡ tuple_at (sight_by quest) quest.sought place path
   looked_in h =
       elim (is_seen (answers_on quest.records quest.realm quest.user quest.sought.no_inherit path)) as
       (λ b. is_seen (answers_on quest.records quest.realm quest.user quest.sought.no_inherit path) ≡ b → cond b made None ≡ tuple_at (sight_by quest) quest.sought place path) [

@@ -55,8 +55,8 @@ by_x wanted = record sorting { key = wanted }
 abbrev pub deep : Wanted → Sought
 deep wanted = record sorting { depth = Some 2; key = wanted; sort = None }
 
-abbrev pub told : List Match → List (List ℕ)
-told = each (λ found. found.row.name)
+abbrev pub told_names : List Match → List (List ℕ)
+told_names = each (λ found. found.row.name)
 
 abbrev pub range : ℕ → ℕ → Wanted
 range first last = One (test.Range first last (pos 9))
@@ -70,27 +70,27 @@ all = One test.All
 
 pub record ContextExamples : Type 0 where
   -- an entry that went leaves the positions of the others, and so does one that isn't seen any more
-  pub all_of_them : told (matches_in (seeing read_by (a ∷ c ∷ [])) (plain all) (entries (a ∷ b ∷ c ∷ []))) ≡ a ∷ c ∷ []
-  pub third : told (matches_in (seeing read_by (a ∷ c ∷ [])) (plain (range 3 3)) (entries (a ∷ b ∷ c ∷ []))) ≡ c ∷ []
-  pub second : told (matches_in (seeing read_by (a ∷ c ∷ [])) (plain (range 2 2)) (entries (a ∷ b ∷ c ∷ []))) ≡ []
+  pub all_of_them : told_names (matches_in (seeing read_by (a ∷ c ∷ [])) (plain all) (entries (a ∷ b ∷ c ∷ []))) ≡ a ∷ c ∷ []
+  pub third : told_names (matches_in (seeing read_by (a ∷ c ∷ [])) (plain (range 3 3)) (entries (a ∷ b ∷ c ∷ []))) ≡ c ∷ []
+  pub second : told_names (matches_in (seeing read_by (a ∷ c ∷ [])) (plain (range 2 2)) (entries (a ∷ b ∷ c ∷ []))) ≡ []
   -- what is seen and isn't listed is not found
-  pub unlisted : told (matches_in (seeing read_by (a ∷ b ∷ c ∷ [])) (plain all) (entries (c ∷ a ∷ []))) ≡ c ∷ a ∷ []
+  pub unlisted : told_names (matches_in (seeing read_by (a ∷ b ∷ c ∷ [])) (plain all) (entries (c ∷ a ∷ []))) ≡ c ∷ a ∷ []
   -- positions
-  pub under_not : told (matches_in (seeing read_by (a ∷ b ∷ c ∷ [])) (plain (Not (range 2 2))) (entries (a ∷ b ∷ c ∷ []))) ≡ a ∷ c ∷ []
-  pub zero : told (matches_in (seeing read_by (a ∷ b ∷ c ∷ [])) (plain (range 0 0)) (entries (a ∷ b ∷ c ∷ []))) ≡ []
-  pub from_zero : told (matches_in (seeing read_by (a ∷ b ∷ c ∷ [])) (plain (range 0 1)) (entries (a ∷ b ∷ c ∷ []))) ≡ a ∷ []
-  pub turned_round : told (matches_in (seeing read_by (a ∷ b ∷ c ∷ [])) (plain (range 3 2)) (entries (a ∷ b ∷ c ∷ []))) ≡ []
-  pub to_the_last : told (matches_in (seeing read_by (a ∷ b ∷ c ∷ [])) (plain (range 2 4_294_967_295)) (entries (a ∷ b ∷ c ∷ []))) ≡ b ∷ c ∷ []
+  pub under_not : told_names (matches_in (seeing read_by (a ∷ b ∷ c ∷ [])) (plain (Not (range 2 2))) (entries (a ∷ b ∷ c ∷ []))) ≡ a ∷ c ∷ []
+  pub zero : told_names (matches_in (seeing read_by (a ∷ b ∷ c ∷ [])) (plain (range 0 0)) (entries (a ∷ b ∷ c ∷ []))) ≡ []
+  pub from_zero : told_names (matches_in (seeing read_by (a ∷ b ∷ c ∷ [])) (plain (range 0 1)) (entries (a ∷ b ∷ c ∷ []))) ≡ a ∷ []
+  pub turned_round : told_names (matches_in (seeing read_by (a ∷ b ∷ c ∷ [])) (plain (range 3 2)) (entries (a ∷ b ∷ c ∷ []))) ≡ []
+  pub to_the_last : told_names (matches_in (seeing read_by (a ∷ b ∷ c ∷ [])) (plain (range 2 4_294_967_295)) (entries (a ∷ b ∷ c ∷ []))) ≡ b ∷ c ∷ []
   pub last_position : position_of 4_294_967_295 ≡ Some 4_294_967_295
   pub no_position : position_of 4_294_967_296 ≡ None
   -- a value that may only be tested is found by EQUAL of octets, and by nothing else
-  pub tested : told (matches_in (seeing tested_by (a ∷ b ∷ [])) (plain (key relation.Equal Octet (codes "2"))) (entries (b ∷ a ∷ []))) ≡ a ∷ []
-  pub not_tested : told (matches_in (seeing tested_by (a ∷ b ∷ [])) (plain (key relation.Equal AsciiCasemap (codes "2"))) (entries (b ∷ a ∷ []))) ≡ []
+  pub tested : told_names (matches_in (seeing tested_by (a ∷ b ∷ [])) (plain (key relation.Equal Octet (codes "2"))) (entries (b ∷ a ∷ []))) ≡ a ∷ []
+  pub not_tested : told_names (matches_in (seeing tested_by (a ∷ b ∷ [])) (plain (key relation.Equal AsciiCasemap (codes "2"))) (entries (b ∷ a ∷ []))) ≡ []
   -- in the order of the context, and by SORT, where those that tie come by their paths
-  pub unsorted : told (matches_in (seeing read_by (a ∷ b ∷ c ∷ [])) (plain all) (entries (c ∷ a ∷ b ∷ []))) ≡ c ∷ a ∷ b ∷ []
-  pub sorted : told (matches_in (seeing read_by (a ∷ b ∷ c ∷ [])) (by_x all) (entries (c ∷ a ∷ b ∷ []))) ≡ b ∷ c ∷ a ∷ []
+  pub unsorted : told_names (matches_in (seeing read_by (a ∷ b ∷ c ∷ [])) (plain all) (entries (c ∷ a ∷ b ∷ []))) ≡ c ∷ a ∷ b ∷ []
+  pub sorted : told_names (matches_in (seeing read_by (a ∷ b ∷ c ∷ [])) (by_x all) (entries (c ∷ a ∷ b ∷ []))) ≡ b ∷ c ∷ a ∷ []
   -- the context's DEPTH decides under which names entries are told
-  pub full_names : told (matches_in (seeing read_by (a ∷ b ∷ [])) (deep all) (entries (b ∷ a ∷ []))) ≡ codes "/d/b" ∷ codes "/d/a" ∷ []
+  pub full_names : told_names (matches_in (seeing read_by (a ∷ b ∷ [])) (deep all) (entries (b ∷ a ∷ []))) ≡ codes "/d/b" ∷ codes "/d/a" ∷ []
   -- a time is old where it is before the moment that was told, wherever it stands in the key, and each of several times counts
   pub same_time : has_old (pos 9) (range_at (pos 9)) ≡ false
   pub later_time : has_old (pos 9) (range_at (pos 10)) ≡ false

@@ -31,11 +31,11 @@ pub record HitLaw : Type 0 where
       → (found : Match) → Contains (matches_of records realm user sought) found → found.row.name ≡ name_by sought.depth sought.dataset (full_path found.path)
 
 -- a match as a search without SORT makes it
-abbrev pub unplaced : Match → Match
-unplaced found = record { path = found.path; places = []; row = found.row }
+abbrev pub without_places : Match → Match
+without_places found = record { path = found.path; places = []; row = found.row }
 
-abbrev pub unsorted : Sought → Sought
-unsorted sought = record sought { sort = None }
+abbrev pub with_no_sort : Sought → Sought
+with_no_sort sought = record sought { sort = None }
 
 -- the paths that a context shows whose search was just made
 abbrev pub shown_by : Stored → Realm → List ℕ → Sought → List Path
@@ -45,6 +45,6 @@ shown_by records realm user sought = each (λ found. found.path) (matches_of rec
 -- and with the same SORT. Such a key has no RANGE, since over a dataset there are no positions
 pub record WithinLaw : Type 0 where
   pub plain : (records : Stored) (realm : Realm) (user : List ℕ) (sought : Sought) → has_range sought.key ≡ false
-      → matches_within records realm user (unsorted sought) (shown_by records realm user sought) ≡ each unplaced (matches_of records realm user sought)
+      → matches_within records realm user (with_no_sort sought) (shown_by records realm user sought) ≡ each without_places (matches_of records realm user sought)
   pub ordered : (records : Stored) (realm : Realm) (user : List ℕ) (sought : Sought) → has_range sought.key ≡ false
       → matches_within records realm user sought (shown_by records realm user sought) ≡ matches_of records realm user sought

@@ -31,7 +31,7 @@ use Rattle.acap_order.specs.declared.comparator.Comparator.{Comparator}
 use Rattle.acap_inherit.specs.Chains.{chain_of}
 use Rattle.acap_inherit.specs.EntryNames.{names_on}
 use Rattle.acap_inherit.specs.Records.{record_at}
-use Rattle.acap_inherit.specs.Resolving.{Resolution, resolved}
+use Rattle.acap_inherit.specs.Resolving.{Resolution, lookup}
 use Rattle.acap_rights.specs.Deciding.{OfEntry, rights_of}
 use Rattle.acap_rights.specs.declared.realm.Realm.{Realm}
 use Rattle.acap_rights.specs.Rights.{no_rights, all_rights}
@@ -50,8 +50,8 @@ use Rattle.acap_search.specs.declared.query.Asked.{Asked}
 use Rattle.acap_search.specs.declared.query.Query.{Query}
 use Rattle.acap_search.specs.declared.query.Sought.{Sought}
 use Rattle.acap_search.specs.declared.refusal.SearchRefusal.TheVariants as refusal
-use Rattle.acap_search.specs.declared.rank.Place.TheVariants.{Behind}
-use Rattle.acap_search.specs.declared.rank.Place.{Place}
+use Rattle.acap_search.specs.declared.rank.SortPlace.TheVariants.{Behind}
+use Rattle.acap_search.specs.declared.rank.SortPlace.{SortPlace}
 
 -- ---- keys
 
@@ -135,7 +135,7 @@ pub record KeyExamples : Type 0 where
 
 -- ---- orders
 
-abbrev pub sorted_places : Comparator → List Cell → List Place
+abbrev pub sorted_places : Comparator → List Cell → List SortPlace
 sorted_places comparator values = sorted_from (λ a b. is_lt (place_cmp a b)) (each (place_in comparator) values)
 
 abbrev pub path_of : List ℕ → List ℕ → Path
@@ -194,8 +194,8 @@ abbrev pub cut : ℕ → Option ℕ → Cut
 cut told total = record { told = told; total = total }
 
 -- all modifiers of a SEARCH
-abbrev pub modified : SearchModifiers
-modified = record {
+abbrev pub all_modifiers : SearchModifiers
+all_modifiers = record {
   depth = Some 2;
   hard_limit = Some 5;
   limit = limit 3 1;
@@ -253,7 +253,7 @@ pub record ScopeExamples : Type 0 where
   pub names_not_inherited : (records : Stored) → paths_in records (scope_of not_inheriting).no_inherit d ≡ each (path_of d) (names_on records (d ∷ []))
   pub names_inherited : (records : Stored) → paths_in records (scope_of sorting).no_inherit d ≡ each (path_of d) (names_on records (chain_of records d false))
   -- what a SEARCH asks for is all that it says, and `~` is the user's
-  pub asked : asked_of (codes "joe") (codes "/option/~/") modified (One test.All) ≡ asked_with_all
+  pub asked : asked_of (codes "joe") (codes "/option/~/") all_modifiers (One test.All) ≡ asked_with_all
 
 pub record LimitExamples : Type 0 where
   pub unlimited : cut_of None 3 ≡ cut 3 None
@@ -293,7 +293,7 @@ lying_there = Some (Single (codes "1"), b)
 -- an entry of the dataset /d/ has the attribute x from the dataset /b/, where x also has a list; its own record has this list or none;
 -- and these are a user's rights on it in either dataset
 pub record IsLent (records : Stored) (realm : Realm) (user : List ℕ) (list : Option (List (List ℕ))) (in_d in_b : Rights) : Type 0 where
-  pub value : resolved records (d ∷ b ∷ []) e x ≡ lying_there
+  pub value : lookup records (d ∷ b ∷ []) e x ≡ lying_there
   pub own : (own_record : Record) × (record_at records d e ≡ Some own_record) × (map.get own_record.acls x ≡ list)
   pub base : (base_record : Record) × (record_at records b e ≡ Some base_record) × (theirs : List (List ℕ)) × (map.get base_record.acls x ≡ Some theirs)
   pub here : rights_of records realm user (OfEntry d x e) ≡ in_d
@@ -306,18 +306,18 @@ pub record IsAnswered (records : Stored) (realm : Realm) (user : List ℕ) (valu
   pub acl : (answers_at records realm user d (d ∷ b ∷ []) e).acl x ≡ list
   pub rights : (answers_at records realm user d (d ∷ b ∷ []) e).rights x ≡ held
 
-abbrev pub unnamed : Answers
-unnamed = record { read = λ attribute. Nil; test = λ attribute. Single (codes "e"); acl = λ attribute. None; rights = λ attribute. all_rights }
+abbrev pub unseen_name : Answers
+unseen_name = record { read = λ attribute. Nil; test = λ attribute. Single (codes "e"); acl = λ attribute. None; rights = λ attribute. all_rights }
 
 -- an entry whose attributes are read like this
 abbrev pub naming : (List ℕ → Cell) → Answers
-naming read = record unnamed { read = read }
+naming read = record unseen_name { read = read }
 
 abbrev pub no_stars : List ℕ → Names
 no_stars front = map.empty
 
-abbrev pub matched : Answers → Match
-matched answers = match_of sorting (path_of (codes "/d/") (codes "e")) answers no_stars
+abbrev pub match_for : Answers → Match
+match_for answers = match_of sorting (path_of (codes "/d/") (codes "e")) answers no_stars
 
 -- two entries of which the first in the order of paths has the greater x
 abbrev pub two_seen : Sight
@@ -344,7 +344,7 @@ pub record SightExamples : Type 0 where
   pub nil_here : is_held may_read (only false true) (λ dataset. only false false) None ≡ true
   pub nil_unread : is_held may_read (only true false) (λ dataset. only true true) None ≡ false
   -- an entry whose name may be tested alone is not seen
-  pub unseen : is_seen unnamed ≡ false
+  pub unseen : is_seen unseen_name ≡ false
   -- nor one of which all is read but its name, and one of which its name alone is read is seen
   pub unseen_unnamed : is_seen (naming (λ attribute. if octets_eq attribute (codes "entry") then Nil else Single (codes "1"))) ≡ false
   pub seen_named : is_seen (naming (λ attribute. if octets_eq attribute (codes "entry") then Single e else Nil)) ≡ true
@@ -362,13 +362,13 @@ pub record SightExamples : Type 0 where
   pub lent_nothing_there : (records : Stored) (realm : Realm) (user : List ℕ) (list : List (List ℕ)) → IsLent records realm user (Some list) (only true true) (only false false)
       → IsAnswered records realm user Nil Nil None (only true true)
   -- what may not be read has no place among strings
-  pub placed_read : (matched (reading (Single (codes "1")) Nil)).places ≡ place_in (ascending Octet) (Single (codes "1")) ∷ []
-  pub placed_unread : (matched (testing (Single (codes "1")) Nil)).places ≡ Behind ∷ []
+  pub placed_read : (match_for (reading (Single (codes "1")) Nil)).places ≡ place_in (ascending Octet) (Single (codes "1")) ∷ []
+  pub placed_unread : (match_for (testing (Single (codes "1")) Nil)).places ≡ Behind ∷ []
   -- each item of SORT has a place
   pub two_places : (match_of by_both (path_of d e) (reading (Single (codes "1")) (Single (codes "2"))) no_stars).places
       ≡ place_in (ascending Octet) (Single (codes "1")) ∷ place_in (descending Octet) (Single (codes "2")) ∷ []
   -- what the key doesn't want is not found
-  pub not_wanted : tuple_for (record sorting { key = Not (One test.All) }) None (path_of d e) unnamed no_stars ≡ None
+  pub not_wanted : tuple_for (record sorting { key = Not (One test.All) }) None (path_of d e) unseen_name no_stars ≡ None
   -- matches are in the order of their places
   pub by_place : each (λ found. found.path) (fresh_of two_seen sorting) ≡ path_of d (codes "b") ∷ path_of d (codes "a") ∷ []
   -- without SORT they stay in that of their paths
@@ -378,8 +378,8 @@ pub record SightExamples : Type 0 where
   -- matches with equal places are in the order of their full paths
   pub by_path : match_cmp (match_at (codes "/d/a/") (codes "x")) (match_at (codes "/d/") (codes "b")) ≡ Less
 
-abbrev pub told : List Metadata → Cell → Item
-told metadata value = item_of (reading value Nil) no_stars (name.Named x) metadata
+abbrev pub told_item : List Metadata → Cell → Item
+told_item metadata value = item_of (reading value Nil) no_stars (name.Named x) metadata
 
 -- what is told where x may be tested alone
 abbrev pub told_tested : List Metadata → Cell → Item
@@ -396,20 +396,20 @@ listing = record (deep (Some 1)) { sort = None; returns = Some (beginning ∷ []
 abbrev pub in_sight : Answers → Sight
 in_sight answers = record { paths = path_of d e ∷ []; answers = λ path. answers; attributes = λ path. x ∷ y ∷ [] }
 
-abbrev pub listed : List (List Cell) → Match
-listed attributes = record { path = path_of d e; places = []; row = record { name = codes "/d/e"; items = item.PerAttribute attributes ∷ [] } }
+abbrev pub list_match : List (List Cell) → Match
+list_match attributes = record { path = path_of d e; places = []; row = record { name = codes "/d/e"; items = item.PerAttribute attributes ∷ [] } }
 
 pub record RowExamples : Type 0 where
   -- one datum bare, several in a parenthesis
-  pub one : told (metadata.Value ∷ []) (Single (codes "abc")) ≡ item.One (Single (codes "abc"))
-  pub two : told (metadata.Attribute ∷ metadata.Value ∷ []) (Single (codes "abc")) ≡ item.Several (Single x ∷ Single (codes "abc") ∷ [])
-  pub nil : told (metadata.Value ∷ []) Nil ≡ item.One Nil
+  pub one : told_item (metadata.Value ∷ []) (Single (codes "abc")) ≡ item.One (Single (codes "abc"))
+  pub two : told_item (metadata.Attribute ∷ metadata.Value ∷ []) (Single (codes "abc")) ≡ item.Several (Single x ∷ Single (codes "abc") ∷ [])
+  pub nil : told_item (metadata.Value ∷ []) Nil ≡ item.One Nil
   -- NIL has no size, a list those of its strings
-  pub size : told (metadata.Size ∷ []) (Single (codes "abc")) ≡ item.One (Single (digits 3))
-  pub nil_size : told (metadata.Size ∷ []) Nil ≡ item.One Nil
-  pub sizes : told (metadata.Size ∷ []) (Multi (codes "a" ∷ [] ∷ [])) ≡ item.One (Multi (digits 1 ∷ digits 0 ∷ []))
-  pub rights : told (metadata.MyRights ∷ []) Nil ≡ item.One (Single (codes "xrwia"))
-  pub no_list : told (metadata.Acl ∷ []) Nil ≡ item.One Nil
+  pub size : told_item (metadata.Size ∷ []) (Single (codes "abc")) ≡ item.One (Single (digits 3))
+  pub nil_size : told_item (metadata.Size ∷ []) Nil ≡ item.One Nil
+  pub sizes : told_item (metadata.Size ∷ []) (Multi (codes "a" ∷ [] ∷ [])) ≡ item.One (Multi (digits 1 ∷ digits 0 ∷ []))
+  pub rights : told_item (metadata.MyRights ∷ []) Nil ≡ item.One (Single (codes "xrwia"))
+  pub no_list : told_item (metadata.Acl ∷ []) Nil ≡ item.One Nil
   pub list : (list : List (List ℕ)) → item_of (record (reading Nil Nil) { acl = λ attribute. Some list }) no_stars (name.Named x) (metadata.Acl ∷ []) ≡ item.One (Multi list)
   pub without_rights : told_tested (metadata.MyRights ∷ []) (Single (codes "abc")) ≡ item.One (Single [])
   -- what may be tested alone is told as NIL
@@ -420,5 +420,5 @@ pub record RowExamples : Type 0 where
       ≡ item.PerAttribute ((Single x ∷ Single (codes "1") ∷ []) ∷ (Single (codes "xy") ∷ Nil ∷ []) ∷ [])
   pub star_of_nothing : (stars : List ℕ → Names) → map.keys (stars (codes "x")) ≡ [] → item_of (reading Nil Nil) stars (name.Beginning (codes "x")) (metadata.Value ∷ []) ≡ item.PerAttribute []
   -- it lists what is read, and not what may be tested alone; and an entry is told under its full path with DEPTH
-  pub star_read : tuple_of (in_sight (reading (Single (codes "1")) (Single (codes "2")))) listing (path_of d e) ≡ Some (listed ((Single x ∷ Single (codes "1") ∷ []) ∷ []))
-  pub star_tested : tuple_of (in_sight (testing (Single (codes "1")) (Single (codes "2")))) listing (path_of d e) ≡ Some (listed [])
+  pub star_read : tuple_of (in_sight (reading (Single (codes "1")) (Single (codes "2")))) listing (path_of d e) ≡ Some (list_match ((Single x ∷ Single (codes "1") ∷ []) ∷ []))
+  pub star_tested : tuple_of (in_sight (testing (Single (codes "1")) (Single (codes "2")))) listing (path_of d e) ≡ Some (list_match [])

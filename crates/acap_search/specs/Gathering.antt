@@ -12,13 +12,13 @@ none_yet true = Rows []
 none_yet false = Findings []
 
 -- with some matches more
-abbrev pub gathered : Gathered → List Match → Gathered
-gathered (Findings found) more = Findings (found ++ more)
-gathered (Rows rows) more = Rows (rows ++ each (λ found. found.row) more)
+abbrev pub with_more : Gathered → List Match → Gathered
+with_more (Findings found) more = Findings (found ++ more)
+with_more (Rows rows) more = Rows (rows ++ each (λ found. found.row) more)
 
 -- with one match more, if there is one
 abbrev pub with_one : Gathered → Option Match → Gathered
-with_one found one = gathered found (cons_option one [])
+with_one found one = with_more found (cons_option one [])
 
 -- put in order
 abbrev pub put_in_order : Gathered → Gathered

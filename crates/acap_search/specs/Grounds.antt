@@ -19,9 +19,9 @@ pub record IsGroundOf (quest : Quest) (g : Ground) : Type 0 where
   pub searched : IsTrue g.is_searched ↔ Contains (datasets_by quest) g.view.dataset
 
 -- records with their paths, the first of them apart
-abbrev pub listed : Option (Bor Path × Bor Record) → List (Path × Record) → List (Path × Record)
-listed None others = others
-listed (Some e) others = (e.0.now, e.1.now) ∷ others
+abbrev pub all_records : Option (Bor Path × Bor Record) → List (Path × Record) → List (Path × Record)
+all_records None others = others
+all_records (Some e) others = (e.0.now, e.1.now) ∷ others
 
 -- how grounds are told apart in proofs
 abbrev pub ground_code : Coded Ground

@@ -45,8 +45,8 @@ is_equal relation.Begins = false
 is_equal relation.Contains = false
 
 -- what is tested of an attribute
-abbrev pub tested : Bool → Answers → List ℕ → Cell
-tested by_octets answers attribute = if by_octets then answers.test attribute else answers.read attribute
+abbrev pub tested_cell : Bool → Answers → List ℕ → Cell
+tested_cell by_octets answers attribute = if by_octets then answers.test attribute else answers.read attribute
 
 -- RANGE: from one position to another, both included, where there are positions
 abbrev pub is_within : ℕ → ℕ → Option ℕ → Bool
@@ -55,9 +55,9 @@ is_within first last place = option_map_or (λ position. nat_le first position &
 -- one test of an entry, which has this place in the context that is looked through, or none in a dataset
 abbrev pub passes : Test → Option ℕ → Answers → Bool
 passes test.All place answers = true
-passes (test.IsNil attribute comparator) place answers = is_nil (tested (is_octet comparator.collation) answers attribute)
+passes (test.IsNil attribute comparator) place answers = is_nil (tested_cell (is_octet comparator.collation) answers attribute)
 passes (test.Meets rel attribute comparator wanted) place answers =
-    some_text (stands_so rel comparator wanted) (tested (is_equal rel && is_octet comparator.collation) answers attribute)
+    some_text (stands_so rel comparator wanted) (tested_cell (is_equal rel && is_octet comparator.collation) answers attribute)
 passes (test.Range first last since) place answers = is_within first last place
 
 -- whether an entry is wanted

@@ -21,7 +21,7 @@ use Rattle.acap_search.specs.Scopes.{Scope, scope_of, datasets_of}
 use Rattle.acap_search.specs.Sight.{answers_at, is_nil, is_seen}
 use Rattle.acap_search.specs.Tuples.{seen_tuple}
 use Rattle.acap_search.specs.declared.query.Sought.{Sought}
-use Rattle.acap_search.specs.declared.rank.Place.TheVariants.{Behind}
+use Rattle.acap_search.specs.declared.rank.SortPlace.TheVariants.{Behind}
 
 -- a search finds the same in two stores, in the eyes of two users, where nothing but the four answers about what they see in its scope is
 -- the same: each tuple, and so rows, places and which entries match

@@ -5,7 +5,7 @@ use Rattle.acap_search.specs.declared.footing.Footing.{Footing}
 use Rattle.acap_search.specs.declared.footing.Footing.TheVariants.{Only, Each}
 use Rattle.acap_search.specs.declared.lying.Lying.{Lying}
 use Rattle.acap_search.specs.declared.lying.Lying.TheVariants.{Kept, Made}
-use Rattle.acap_search.specs.declared.rank.Place.{Place}
+use Rattle.acap_search.specs.declared.rank.SortPlace.{SortPlace}
 
 -- at this path
 abbrev pub path_in : Lying → Path
@@ -13,6 +13,6 @@ path_in (Kept path) = path.now
 path_in (Made path) = path
 
 -- at these places
-abbrev pub places_on : Footing → List Place
+abbrev pub places_on : Footing → List SortPlace
 places_on (Only place) = place ∷ []
 places_on (Each places) = places

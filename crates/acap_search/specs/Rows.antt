@@ -48,10 +48,10 @@ unfoldable pub data_of : Answers → List Metadata → List ℕ → List Cell
 data_of answers wanted attribute = each (datum answers attribute) wanted
 
 -- one datum stands bare, several in one parenthesis
-abbrev pub gathered : List Cell → Item
-gathered [] = Several []
-gathered (cell ∷ []) = One cell
-gathered (cell ∷ second ∷ cells) = Several (cell ∷ second ∷ cells)
+abbrev pub item_of_cells : List Cell → Item
+item_of_cells [] = Several []
+item_of_cells (cell ∷ []) = One cell
+item_of_cells (cell ∷ second ∷ cells) = Several (cell ∷ second ∷ cells)
 
 -- a set of names, as the map that has `true` at each of them
 abbrev pub Names : Type 0
@@ -83,7 +83,7 @@ attributes_at records name chain = codes "entry" ∷ codes "modtime" ∷ attribu
 
 -- what one item of RETURN tells
 abbrev pub item_of : Answers → (List ℕ → Names) → ReturnName → List Metadata → Item
-item_of answers stars (name.Named attribute) wanted = gathered (data_of answers wanted attribute)
+item_of answers stars (name.Named attribute) wanted = item_of_cells (data_of answers wanted attribute)
 item_of answers stars (name.Beginning front) wanted = PerAttribute (each (data_of answers wanted) (map.keys (stars front)))
 
 -- what a RETURN tells

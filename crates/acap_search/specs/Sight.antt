@@ -6,7 +6,7 @@ use Rattle.acap_entries.specs.Store.{Stored}
 use Rattle.acap_entries.specs.declared.cell.Cell.{Cell}
 use Rattle.acap_entries.specs.declared.cell.Cell.TheVariants.{Nil, Single, Multi}
 use Rattle.acap_inherit.specs.Records.{record_at}
-use Rattle.acap_inherit.specs.Resolving.{Resolution, resolved}
+use Rattle.acap_inherit.specs.Resolving.{Resolution, lookup}
 use Rattle.acap_rights.specs.Deciding.{OfEntry, rights_of}
 use Rattle.acap_rights.specs.declared.realm.Realm.{Realm}
 use Rattle.acap_rights.specs.declared.rights.Rights.{Rights}
@@ -50,15 +50,15 @@ rights_on records realm user attribute name dataset = rights_of records realm us
 -- whether what an attribute of the entry of a name resolves to is at the level read, be it NIL
 abbrev pub is_readable : Stored → Realm → List ℕ → List ℕ → List (List ℕ) → List ℕ → List ℕ → Bool
 is_readable records realm user dataset chain name attribute =
-    is_held may_read (rights_on records realm user attribute name dataset) (rights_on records realm user attribute name) (resolved records chain name attribute)
+    is_held may_read (rights_on records realm user attribute name dataset) (rights_on records realm user attribute name) (lookup records chain name attribute)
 
 -- the answers about the entry of a name in a dataset that has this chain
 abbrev pub answers_at : Stored → Realm → List ℕ → List ℕ → List (List ℕ) → List ℕ → Answers
 answers_at records realm user dataset chain name =
     let rights_in : List ℕ → List ℕ → Rights = λ attribute. rights_on records realm user attribute name in
     record {
-      read = λ attribute. cell_at may_read (rights_in attribute dataset) (rights_in attribute) (resolved records chain name attribute);
-      test = λ attribute. cell_at may_test (rights_in attribute dataset) (rights_in attribute) (resolved records chain name attribute);
+      read = λ attribute. cell_at may_read (rights_in attribute dataset) (rights_in attribute) (lookup records chain name attribute);
+      test = λ attribute. cell_at may_test (rights_in attribute dataset) (rights_in attribute) (lookup records chain name attribute);
       acl = λ attribute. if is_readable records realm user dataset chain name attribute then own_acl records dataset name attribute else None;
       rights = λ attribute. rights_in attribute dataset;
     }

@@ -22,7 +22,7 @@ use Rattle.acap_search.specs.Rows.{Names, attributes_at, attributes_in, attribut
 use Rattle.acap_search.specs.Sight.{Answers, answers_at, is_readable, own_acl, rights_on}
 use Rattle.acap_search.specs.Tuples.{match_of, seen_tuple}
 use Rattle.acap_search.specs.declared.query.Sought.{Sought}
-use Rattle.acap_search.specs.declared.rank.Place.{Place}
+use Rattle.acap_search.specs.declared.rank.SortPlace.{SortPlace}
 
 -- who looks, at the entries of which dataset, and along which chain
 pub record View : Type 0 where
@@ -37,8 +37,8 @@ pub record Spotted : Type 0 where
   pub by : View
   pub name : List ℕ
 
-abbrev pub spotted : View → List ℕ → Spotted
-spotted view name = record { by = view; name = name }
+abbrev pub spot_in : View → List ℕ → Spotted
+spot_in view name = record { by = view; name = name }
 
 abbrev pub path_of : Spotted → Path
 path_of spot = record { dataset = spot.by.dataset; name = spot.name }
@@ -60,10 +60,10 @@ abbrev pub acl_at : Spotted → List ℕ → Option (List (List ℕ))
 acl_at spot attribute = own_acl spot.by.records spot.by.dataset spot.name attribute
 
 -- where it stands for a SORT
-abbrev pub places_at : Spotted → List SortItem → List Place
+abbrev pub places_at : Spotted → List SortItem → List SortPlace
 places_at spot = places_in (answers_of spot).read
 
-abbrev pub standing_at : Sought → Spotted → List Place
+abbrev pub standing_at : Sought → Spotted → List SortPlace
 standing_at sought spot = places_at spot (unwrap_or sought.sort [])
 
 -- those of some attributes that begin with some octets and have a value that is read, beside what was found

@@ -17,8 +17,8 @@ use Rattle.acap_rights.specs.declared.realm.Realm.{Realm}
 use Rattle.acap_search.specs.Fresh.{Sight, sight_of, matches_of, paths_of}
 use Rattle.acap_search.specs.Matches.{Match}
 use Rattle.acap_search.specs.Scopes.{scope_of, beneath, datasets_of, reached_by}
-use Rattle.acap_search.specs.Views.{View, Spotted, spotted, found_at}
-use Rattle.acap_search.specs.Within.{matches_in, numbered, paths_shown, tuple_at, tuple_within}
+use Rattle.acap_search.specs.Views.{View, spot_in, found_at}
+use Rattle.acap_search.specs.Within.{matches_in, numbered_paths, paths_shown, tuple_at, tuple_within}
 use Rattle.acap_search.specs.contracts.query.Sought as query
 use Rattle.acap_search.specs.declared.query.Sought.{Sought}
 
@@ -48,7 +48,7 @@ view_in quest dataset = record {
 
 -- what is found at some names of a dataset, and at all of them
 abbrev pub hits_at : View → Sought → List (List ℕ) → List Match
-hits_at view sought = filter_map (λ name. found_at sought None (spotted view name))
+hits_at view sought = filter_map (λ name. found_at sought None (spot_in view name))
 
 abbrev pub hits_along : View → Sought → List Match
 hits_along view sought = hits_at view sought (names_on view.records view.chain)
@@ -84,10 +84,6 @@ count_beneath quest depth = sum_by (count_in quest) (beneath quest.records quest
 unfoldable pub count_over : Quest → ℕ
 count_over quest = count_in quest quest.sought.dataset + option_map_or (count_beneath quest) quest.sought.depth 0
 
--- where it looks for an entry, and in which datasets
-abbrev pub spotted_in : Quest → Path → Spotted
-spotted_in quest path = spotted (view_in quest path.dataset) path.name
-
 abbrev pub datasets_by : Quest → List (List ℕ)
 datasets_by quest = datasets_of quest.records (scope_of quest.sought)
 
@@ -96,7 +92,7 @@ abbrev pub tuple_by : Quest → Option ℕ → Path → Option Match
 tuple_by quest = tuple_at (sight_by quest) quest.sought
 
 abbrev pub tuples_by : Quest → List (Bor Match) → List Match
-tuples_by quest shown = filter_map (tuple_within (sight_by quest) quest.sought) (numbered (paths_shown shown))
+tuples_by quest shown = filter_map (tuple_within (sight_by quest) quest.sought) (numbered_paths (paths_shown shown))
 
 abbrev pub matches_among : Quest → List (Bor Match) → List Match
 matches_among quest shown = matches_in (sight_by quest) quest.sought (paths_shown shown)

@@ -17,6 +17,7 @@ use Rattle.acap_search.specs.declared.query.Query.{Query}
 use Rattle.acap_search.specs.declared.query.Sought.{Sought}
 use Rattle.acap_search.specs.declared.refusal.SearchRefusal.{SearchRefusal}
 use Rattle.acap_search.specs.declared.refusal.SearchRefusal.TheVariants as refusal
+use Rattle.acap_search.specs.declared.showing.Showing.{Showing}
 
 -- what is kept of a context that is searched: the paths that it shows, in its order, the moment that was last told of it, and whether
 -- its entries have positions
@@ -32,16 +33,16 @@ context_of paths told enumerated = record { paths = paths; told = told; enumerat
 abbrev pub paths_shown : List (Bor Match) → List Path
 paths_shown shown = each (λ hit. hit.now.path) shown
 
-abbrev pub context_shown : List (Bor Match) → ℤ → Bool → Context
-context_shown shown = context_of (paths_shown shown)
+abbrev pub context_shown : Showing → Context
+context_shown showing = context_of (paths_shown showing.hits.now) showing.told showing.enumerated
 
 -- the paths of a context with their positions, from 1 on. An entry that went keeps the positions of those behind it
 abbrev pub numbered_from : ℕ → List Path → List (ℕ × Path)
 numbered_from first [] = []
 numbered_from first (path ∷ paths) = (first, path) ∷ numbered_from (suc first) paths
 
-abbrev pub numbered : List Path → List (ℕ × Path)
-numbered = numbered_from 1
+abbrev pub numbered_paths : List Path → List (ℕ × Path)
+numbered_paths = numbered_from 1
 
 -- the position that RANGE tells of; none over 4,294,967,295 can be named by it
 abbrev pub position_of : ℕ → Option ℕ
@@ -60,7 +61,7 @@ tuple_within sight sought entry = tuple_at sight sought (position_of entry.0) en
 -- what a search over a context finds: of its paths in their order those that are in sight now and that the key wants, as they are now.
 -- Dataset, DEPTH and NOINHERIT are the context's, and key, SORT and RETURN those of the new search
 abbrev pub matches_in : Sight → Sought → List Path → List Match
-matches_in sight sought paths = ordered_by sought.sort (filter_map (tuple_within sight sought) (numbered paths))
+matches_in sight sought paths = ordered_by sought.sort (filter_map (tuple_within sight sought) (numbered_paths paths))
 
 abbrev pub matches_within : Stored → Realm → List ℕ → Sought → List Path → List Match
 matches_within records realm user sought = matches_in (sight_of records realm user (scope_of sought)) sought

@@ -11,9 +11,10 @@ use crate::ground::Ground;
 use crate::hit::{Hit, Hits};
 use crate::ordering::sort_found;
 use crate::query::Query;
+use crate::quest::Quest;
 use crate::refusal::SearchRefusal;
-use crate::search::Search;
 use crate::searching::{has_range, is_over};
+use crate::showing::Showing;
 use acap_commands::{Key, Node, Test};
 use acap_entries::{Memory, Moment, Path, Steps, Tree, UserName};
 use acap_inherit::{names_law, nothing_law};
@@ -46,9 +47,9 @@ fn position_behind(count: usize) -> Option<u32>
 }
 
 // What is made of an entry at its position, in the dataset where it lies: one step.
-fn found_here<'a, L: Ledger>(
+fn find_here<'a, L: Ledger>(
     alloc: Global,
-    search: &Search<'a>,
+    search: &Quest<'a>,
     here: &mut Ground<'a>,
     path: &'a Path,
     place: Option<u32>,
@@ -63,7 +64,7 @@ fn found_here<'a, L: Ledger>(
     nothing_law();
     names_law();
     if here.is_searched() {
-        here.found(alloc, path, search.sought, place, steps)
+        here.find(alloc, path, search.sought, place, steps)
     } else {
         steps.tick();
         Ok(None)
@@ -73,7 +74,7 @@ fn found_here<'a, L: Ledger>(
 // Adds what is made of an entry of a context, at its position, wherever it lies: one step.
 fn add_found<'a, L: Ledger>(
     alloc: Global,
-    search: &Search<'a>,
+    search: &Quest<'a>,
     here: &mut Ground<'a>,
     path: &'a Path,
     place: Option<u32>,
@@ -87,7 +88,7 @@ fn add_found<'a, L: Ledger>(
         (found.new.items ≡ found.old.items ++ cons_option (walks.tuple_by search.now place path.now) []) }
 {
     here.go_to(alloc, search, &path.dataset)?;
-    if let Some(finding) = found_here(alloc, search, here, path, place, steps)? {
+    if let Some(finding) = find_here(alloc, search, here, path, place, steps)? {
         found.push(finding)?;
     }
     Ok(())
@@ -95,9 +96,9 @@ fn add_found<'a, L: Ledger>(
 
 // What is found among the entries of a context, in its order. Those that lie in one dataset one after the other share what is
 // made for it.
-fn found_among<'a, L: Ledger>(
+fn find_among<'a, L: Ledger>(
     alloc: Global,
-    search: &Search<'a>,
+    search: &Quest<'a>,
     shown: &'a [&'a Hit],
     steps: &mut Steps<L>,
 ) -> Result<Vec<Finding<'a>>, Memory>
@@ -119,16 +120,16 @@ fn found_among<'a, L: Ledger>(
 }
 
 // What is found among them, in the order that is asked for.
-fn found_within<'a, L: Ledger>(
+fn find_within<'a, L: Ledger>(
     alloc: Global,
-    search: &Search<'a>,
+    search: &Quest<'a>,
     shown: &'a [&'a Hit],
     steps: &mut Steps<L>,
 ) -> Result<Vec<Finding<'a>>, Memory>
     ensures found { IfOk result (λ found. found.items ≡ walks.matches_among search.now shown.now) }
     ensures count { IsCounted result steps.old steps.new (length shown.now) }
 {
-    let mut found = found_among(alloc, search, shown, steps)?;
+    let mut found = find_among(alloc, search, shown, steps)?;
     let sought = search.sought;
     if sought.sort.is_some() {
         sort_found(&mut found)?;
@@ -149,28 +150,26 @@ pub fn within<L: Ledger>(
     realm: &Realm,
     user: &UserName,
     query: &Query,
-    shown: &[&Hit],
-    told: Moment,
-    enumerated: bool,
+    context: Showing<'_>,
     steps: &mut Steps<L>,
 ) -> Result<Hits, SearchRefusal>
-    ensures answer { let context = rule.context_shown shown.now told enumerated in
-        rule.IsWithin tree.now.store.records realm.now user.now query.now context result }
-    ensures count { IsCounted result steps.old steps.new (length shown.now) }
+    ensures answer { let kept = rule.context_shown context.entry in
+        rule.IsWithin tree.now.store.records realm.now user.now query.now kept result }
+    ensures count { IsCounted result steps.old steps.new (length context.entry.hits.now) }
 {
-    if !enumerated && has_range(&query.sought.key) {
+    if !context.enumerated && has_range(&query.sought.key) {
         return Err(SearchRefusal::RangeHere);
     }
-    if has_old(&query.sought.key, told) {
+    if has_old(&query.sought.key, context.told) {
         return Err(SearchRefusal::TooOld);
     }
-    let search = Search {
+    let search = Quest {
         tree,
         realm,
         user,
         sought: &query.sought,
     };
-    let found = found_within(alloc, &search, shown, steps)?;
+    let found = find_within(alloc, &search, context.hits, steps)?;
     if is_over(query.hard_limit, found.len()) {
         return Err(SearchRefusal::WayTooMany);
     }

@@ -7,7 +7,7 @@ use crate::finding::Finding;
 use crate::ordering::sort_found;
 use crate::query::Sought;
 use crate::spot::Spot;
-use crate::tuples::{finding_at, told_at};
+use crate::tuples::{finding_at, tell_at};
 use acap_commands::Rows;
 use acap_entries::{Memory, Path, Records, Row, Sequence, Steps};
 use std::alloc::Global;
@@ -56,7 +56,7 @@ impl<'a> Gathered<'a> {
                 }
             }
             Gathered::Rows(rows) => {
-                if let Some(row) = told_at(alloc, spot, sought, steps)? {
+                if let Some(row) = tell_at(alloc, spot, sought, steps)? {
                     rows.push(row)?;
                 }
             }
@@ -75,7 +75,7 @@ impl<'a> Gathered<'a> {
     }
 
     /// Put in order, where it isn't of rows alone. Fails only for want of memory.
-    pub(crate) fn sorted(self) -> Result<Gathered<'a>, Memory>
+    pub(crate) fn sort(self) -> Result<Gathered<'a>, Memory>
         ensures { IfOk result (λ sorted. sorted ≡ rule.put_in_order self.entry) }
     {
         match self {
@@ -100,7 +100,7 @@ impl<'a> Gathered<'a> {
 }
 
 // What is told of the first of what is found.
-fn first_told(alloc: Global, found: Vec<Finding<'_>>, most: usize) -> Result<Rows, Memory>
+fn tell_findings(alloc: Global, found: Vec<Finding<'_>>, most: usize) -> Result<Rows, Memory>
     ensures { IfOk result (λ rows. rows ≡ each (λ hit. hit.row) (take most found.entry.items)) }
 {
     let mut found = found;
@@ -123,11 +123,11 @@ fn first_of(rows: Rows, most: usize) -> Rows
 
 /// What is told of the first of what is gathered. Fails only for want of memory.
 #[tactic(auto, using(crate::proofs::GatheredLemmas::first_rows))]
-pub(crate) fn told_first(alloc: Global, found: Gathered<'_>, most: usize) -> Result<Rows, Memory>
+pub(crate) fn tell_first(alloc: Global, found: Gathered<'_>, most: usize) -> Result<Rows, Memory>
     ensures { IfOk result (λ rows. rows ≡ take most (rule.told_in found.entry)) }
 {
     match found {
-        Gathered::Findings(findings) => first_told(alloc, findings.into_vec(), most),
+        Gathered::Findings(findings) => tell_findings(alloc, findings.into_vec(), most),
         Gathered::Rows(rows) => Ok(first_of(rows, most)),
     }
 }

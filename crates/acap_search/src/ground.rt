@@ -3,9 +3,9 @@ ghost use Rattle.std.specs.Prelude.{◌≡◌, ◌↔◌, ◌+◌, IfOk, IsTrue,
 ghost use Rattle.std.specs.List.{Contains};
 ghost use Rattle.std.specs.Option.{option_copied, ForSome};
 ghost use Rattle.acap_inherit.specs.Records.{record_at};
-ghost use Rattle.acap_search.specs.Grounds.{IsGroundOf, listed};
+ghost use Rattle.acap_search.specs.Grounds.{IsGroundOf, all_records};
 ghost use Rattle.acap_search.specs.Near as near;
-ghost use Rattle.acap_search.specs.Views.{found_at, spotted};
+ghost use Rattle.acap_search.specs.Views.{found_at, spot_in};
 ghost use Rattle.acap_search.specs.Walks as walks;
 
 use crate::finding::Finding;
@@ -14,8 +14,8 @@ use crate::kept::Kept;
 use crate::near::Near;
 use crate::plain::is_alone;
 use crate::query::Sought;
+use crate::quest::Quest;
 use crate::scope::looks_in;
-use crate::search::Search;
 use crate::searching::base_of;
 use crate::spot::Spot;
 use crate::tuples::finding_at;
@@ -43,7 +43,7 @@ pub(crate) struct Ground<'a> {
 impl<'a> Model for Ground<'a> {
     ghost use Rattle.std.specs.Option.{ForSome};
     ghost use Rattle.acap_search.specs.Fronts.{IsFront};
-    ghost use Rattle.acap_search.specs.Grounds.{Ground, ground_code, listed};
+    ghost use Rattle.acap_search.specs.Grounds.{Ground, ground_code, all_records};
     ghost use Rattle.acap_search.specs.Near.{AreKept, IsPlain};
 
     ghost Value = { Ground };
@@ -53,11 +53,11 @@ impl<'a> Model for Ground<'a> {
     ghost view = { λ g. record { view = g.by; is_searched = g.is_searched } };
 
     ghost invariant = { λ g. IsFront g.by.records g.own × IsFront g.by.records g.base × ForSome g.shared (IsPlain g.by)
-        × AreKept g.by.records g.by.dataset (listed g.next g.others) };
+        × AreKept g.by.records g.by.dataset (all_records g.next g.others) };
 }
 
 // The rights that the entries of a dataset share, where it inherits nothing.
-fn shared_by(alloc: Global, by: &Viewer<'_, Tree>) -> Result<Option<SharedRights>, Memory>
+fn share_rights(alloc: Global, by: &Viewer<'_, Tree>) -> Result<Option<SharedRights>, Memory>
     ensures { IfOk result (λ shared. ForSome shared (near.IsPlain by.now)) }
 {
     let dataset = by.dataset.as_slice();
@@ -68,7 +68,7 @@ fn shared_by(alloc: Global, by: &Viewer<'_, Tree>) -> Result<Option<SharedRights
 }
 
 // Whether a dataset is one that is looked through.
-fn is_searched(search: &Search<'_>, dataset: &Dataset) -> bool
+fn is_searched(search: &Quest<'_>, dataset: &Dataset) -> bool
     ensures { IsTrue result ↔ Contains (walks.datasets_by search.now) dataset.now }
 {
     search.tree.form_law();
@@ -84,8 +84,8 @@ fn first_from<'a>(
     others: &mut Listing<'a>,
     name: &EntryName,
 ) -> Option<(&'a Path, &'a Record)>
-    requires { near.AreKept tree.now.store.records dataset.now (listed next others.old) }
-    ensures { near.AreKept tree.now.store.records dataset.now (listed result others.new) }
+    requires { near.AreKept tree.now.store.records dataset.now (all_records next others.old) }
+    ensures { near.AreKept tree.now.store.records dataset.now (all_records result others.new) }
 {
     if let Some((path, _)) = next
         && *name <= path.name
@@ -104,7 +104,7 @@ impl<'a> Ground<'a> {
     /// That of a dataset. Fails only for want of memory.
     pub(crate) fn at(
         alloc: Global,
-        search: &Search<'a>,
+        search: &Quest<'a>,
         dataset: &'a Dataset,
     ) -> Result<Ground<'a>, Memory>
         ensures made { IfOk result (λ made. IsGroundOf search.now made) }
@@ -118,7 +118,7 @@ impl<'a> Ground<'a> {
             dataset,
             chain: chain(search.tree, dataset, sought.no_inherit),
         };
-        let shared = shared_by(alloc, &by)?;
+        let shared = share_rights(alloc, &by)?;
         let own = Front::of(by.records, dataset.as_slice());
         let base = Front::of(by.records, base_of(&by.chain));
         Ok(Ground {
@@ -136,7 +136,7 @@ impl<'a> Ground<'a> {
     pub(crate) fn go_to(
         &mut self,
         alloc: Global,
-        search: &Search<'a>,
+        search: &Quest<'a>,
         dataset: &'a Dataset,
     ) -> Result<(), Memory>
         requires { IsGroundOf search.now self.old }
@@ -174,7 +174,7 @@ impl<'a> Ground<'a> {
     }
 
     // What a search makes of an entry of it whose record is at hand, if there is one: one step.
-    fn found_by<L: Ledger>(
+    fn find_with<L: Ledger>(
         &self,
         alloc: Global,
         path: &'a Path,
@@ -186,7 +186,7 @@ impl<'a> Ground<'a> {
         requires here { self.now.view.dataset ≡ path.now.dataset }
         requires entry { option_copied entry ≡ record_at self.now.view.records self.now.view.dataset path.now.name }
         ensures count { steps.new ≡ steps.old + 1 }
-        ensures made { IfOk result (λ made. made ≡ found_at sought.now place (spotted self.now.view path.now.name)) }
+        ensures made { IfOk result (λ made. made ≡ found_at sought.now place (spot_in self.now.view path.now.name)) }
     {
         if let Some(shared) = &self.shared
             && let Some(entry) = entry
@@ -205,7 +205,7 @@ impl<'a> Ground<'a> {
     }
 
     /// What a search makes of an entry of it: one step.
-    pub(crate) fn found<L: Ledger>(
+    pub(crate) fn find<L: Ledger>(
         &mut self,
         alloc: Global,
         path: &'a Path,
@@ -216,9 +216,9 @@ impl<'a> Ground<'a> {
         requires here { self.old.view.dataset ≡ path.now.dataset }
         ensures same { self.new ≡ self.old }
         ensures count { steps.new ≡ steps.old + 1 }
-        ensures made { IfOk result (λ made. made ≡ found_at sought.now place (spotted self.old.view path.now.name)) }
+        ensures made { IfOk result (λ made. made ≡ found_at sought.now place (spot_in self.old.view path.now.name)) }
     {
         let entry = self.record_of(&path.name);
-        self.found_by(alloc, path, entry, sought, place, steps)
+        self.find_with(alloc, path, entry, sought, place, steps)
     }
 }

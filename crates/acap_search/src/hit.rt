@@ -1,7 +1,7 @@
 //! What a search found.
 ghost use Rattle.std.specs.Prelude.{◌≡◌, ◌↔◌, IsTrue, IfOk, take, map as each};
 
-use crate::rank::Places;
+use crate::rank::SortPlaces;
 use acap_commands::Rows;
 use acap_entries::{Copying, Memory, Path, Row, Sequence};
 use std::alloc::Global;
@@ -9,10 +9,10 @@ use std::marker::Model;
 
 /// An entry that a search found: where it is, where it stands for SORT, and what is told of it (RFC 2244 section 6.4.1). It is
 /// made by a search alone, or copied.
-#[derive(Drop)]
+#[derive(Clone, Drop)]
 pub struct Hit {
     pub(crate) path: Path,
-    pub(crate) places: Places,
+    pub(crate) places: SortPlaces,
     pub(crate) row: Row,
 }
 
@@ -37,7 +37,7 @@ fn is_same_path(path: &Path, other: &Path) -> bool
 }
 
 // Whether the places for each item are equal.
-fn is_same_places(places: &Places, other: &Places) -> bool
+fn is_same_places(places: &SortPlaces, other: &SortPlaces) -> bool
     ensures { IsTrue result ↔ (places.now ≡ other.now) }
 {
     *places == *other
@@ -77,10 +77,7 @@ impl Hit {
 
 impl Copying for Hit {
     fn copy(&self) -> Result<Hit, Memory> {
-        let path = self.path.copy()?;
-        let places = self.places.copy()?;
-        let row = self.row.copy()?;
-        Ok(Hit { path, places, row })
+        self.clone()
     }
 }
 

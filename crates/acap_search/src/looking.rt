@@ -123,7 +123,7 @@ fn look_far<'a, R: Records>(spot: &Spot<'a, R>, attribute: &[u8]) -> Shown<'a>
 }
 
 // A stored value, as it is lent.
-fn lent(cell: &Cell) -> Option<Lent<'_>>
+fn lend(cell: &Cell) -> Option<Lent<'_>>
     ensures { shown.cell_of result ≡ cell.now }
 {
     match cell {
@@ -151,7 +151,7 @@ fn own_value<'a>(entry: &'a Record, name: &'a EntryName, attribute: &[u8]) -> Op
         return None;
     }
     match entry.cells.find(attribute) {
-        Some(cell) => lent(cell),
+        Some(cell) => lend(cell),
         None => None,
     }
 }

@@ -4,7 +4,7 @@ ghost use Rattle.std.specs.List.{list_any};
 ghost use Rattle.acap_search.specs.Keys as rule;
 ghost use Rattle.acap_search.specs.Keys.{some_text};
 ghost use Rattle.acap_search.specs.Shown.{cell_of};
-ghost use Rattle.acap_search.specs.Views.{answers_of, spotted};
+ghost use Rattle.acap_search.specs.Views.{answers_of, spot_in};
 
 use crate::looking::{is_nil, look};
 use crate::spot::Spot;
@@ -74,8 +74,12 @@ fn is_equal(relation: Relation) -> bool
 }
 
 // What is tested of an attribute: where octets are to be equal that which may be tested, else that which may be read.
-fn tested<'a, R: Records>(spot: &Spot<'a, R>, attribute: &[u8], by_octets: bool) -> Option<Lent<'a>>
-    ensures { cell_of result ≡ rule.tested by_octets (answers_of spot.now) attribute.now }
+fn pick_cell<'a, R: Records>(
+    spot: &Spot<'a, R>,
+    attribute: &[u8],
+    by_octets: bool,
+) -> Option<Lent<'a>>
+    ensures { cell_of result ≡ rule.tested_cell by_octets (answers_of spot.now) attribute.now }
 {
     let seen = look(spot, attribute);
     if by_octets { seen.test() } else { seen.read() }
@@ -98,11 +102,11 @@ fn passes<R: Records>(spot: &Spot<'_, R>, test: &Test, place: Option<u32>) -> bo
     match test {
         Test::All => true,
         Test::IsNil(attribute, comparator) => {
-            is_nil(tested(spot, attribute.as_slice(), is_octet(comparator)))
+            is_nil(pick_cell(spot, attribute.as_slice(), is_octet(comparator)))
         }
         Test::Meets(relation, attribute, comparator, wanted) => {
             let by_octets = is_equal(*relation) && is_octet(comparator);
-            let value = tested(spot, attribute.as_slice(), by_octets);
+            let value = pick_cell(spot, attribute.as_slice(), by_octets);
             meets(value, *relation, comparator, wanted.as_slice())
         }
         Test::Range(first, last, _) => is_within(*first, *last, place),
@@ -132,7 +136,7 @@ pub fn matches<'a, R: Records, L: Ledger>(
     steps: &mut Steps<L>,
 ) -> bool
     ensures count { steps.new ≡ steps.old + 1 }
-    ensures wanted { result ≡ rule.holds key.now place (answers_of (spotted by.now name.now)) }
+    ensures wanted { result ≡ rule.holds key.now place (answers_of (spot_in by.now name.now)) }
 {
     steps.tick();
     wants(&Spot::far(by, name), key, place)

@@ -46,7 +46,7 @@ pub(crate) fn near_by<'a, R: Records>(by: &Viewer<'a, R>, name: &'a EntryName) -
 }
 
 // The record of a name in one of two datasets, which are often one.
-fn found_in<'a, R: Records>(
+fn find_in<'a, R: Records>(
     records: &'a R,
     own: &Front<'a>,
     entry: Option<&'a Record>,
@@ -76,7 +76,7 @@ impl<'a, R: Records> Near<'a, R> {
         ensures { result ≡ R.store records.now }
     {
         let entry = records.find(own.dataset, name);
-        let inherited = found_in(records, &own, entry, &base, name);
+        let inherited = find_in(records, &own, entry, &base, name);
         Near {
             records,
             name,

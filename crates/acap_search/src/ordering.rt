@@ -4,7 +4,7 @@ ghost use Rattle.acap_search.specs.Matches as found;
 ghost use Rattle.acap_search.specs.Places as rule;
 
 use crate::finding::Finding;
-use crate::rank::{Place, Rank};
+use crate::rank::{Rank, SortPlace};
 use acap_entries::Memory;
 use std::cmp::Ordering;
 
@@ -29,22 +29,22 @@ fn rank_order(a: &Rank, b: &Rank) -> Ordering
 }
 
 // How places for one item of SORT compare.
-fn place_order(a: &Place, b: &Place) -> Ordering
+fn place_order(a: &SortPlace, b: &SortPlace) -> Ordering
     ensures { result ≡ rule.place_cmp a.now b.now }
 {
     match (a, b) {
-        (Place::Rising(x), Place::Rising(y)) => rank_order(x, y),
-        (Place::Rising(_), _) => Ordering::Less,
-        (Place::Falling(_), Place::Rising(_)) => Ordering::Greater,
-        (Place::Falling(x), Place::Falling(y)) => rank_order(y, x),
-        (Place::Falling(_), Place::Behind) => Ordering::Less,
-        (Place::Behind, Place::Behind) => Ordering::Equal,
-        (Place::Behind, _) => Ordering::Greater,
+        (SortPlace::Rising(x), SortPlace::Rising(y)) => rank_order(x, y),
+        (SortPlace::Rising(_), _) => Ordering::Less,
+        (SortPlace::Falling(_), SortPlace::Rising(_)) => Ordering::Greater,
+        (SortPlace::Falling(x), SortPlace::Falling(y)) => rank_order(y, x),
+        (SortPlace::Falling(_), SortPlace::Behind) => Ordering::Less,
+        (SortPlace::Behind, SortPlace::Behind) => Ordering::Equal,
+        (SortPlace::Behind, _) => Ordering::Greater,
     }
 }
 
 /// How places for all items of SORT compare, the first that differ deciding.
-pub(crate) fn places_order(a: &[Place], b: &[Place]) -> Ordering
+pub(crate) fn places_order(a: &[SortPlace], b: &[SortPlace]) -> Ordering
     ensures { result ≡ rule.places_cmp a.now b.now }
 {
     let mut left = a;

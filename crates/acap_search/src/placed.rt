@@ -9,7 +9,7 @@ ghost use Rattle.acap_search.specs.Matches.{match_cmp, standing_cmp};
 
 use crate::hit::Hit;
 use crate::ordering::places_order;
-use crate::rank::Places;
+use crate::rank::SortPlaces;
 use acap_entries::{Boxed, Copying, Memory, Path, Probe};
 use std::alloc::Global;
 use std::cmp::Ordering;
@@ -17,7 +17,7 @@ use std::marker::Model;
 
 /// A hit in memory of its own. Ordered by where it stands for SORT, and then by its full path in octets (RFC 2244 section 6.4.1),
 /// so that those which differ in what is told of them alone tie.
-#[derive(Drop)]
+#[derive(Clone, Drop)]
 pub struct Placed {
     hit: Boxed<Hit>,
 }
@@ -33,7 +33,7 @@ impl Model for Placed {
 }
 
 // How two places and paths compare: by the places, and then by the full paths in octets.
-fn order(places: &Places, path: &Path, other: &Hit) -> Ordering
+fn order(places: &SortPlaces, path: &Path, other: &Hit) -> Ordering
     ensures { result ≡ standing_cmp places.now path.now other.now }
 {
     match places_order(places.as_slice(), other.places.as_slice()) {
@@ -107,8 +107,7 @@ impl Ord for Placed {
 
 impl Copying for Placed {
     fn copy(&self) -> Result<Placed, Memory> {
-        let hit = self.hit.copy()?;
-        Ok(Placed { hit })
+        self.clone()
     }
 }
 
@@ -116,7 +115,7 @@ impl Copying for Placed {
 #[derive(Drop)]
 pub struct Standing<'a> {
     /// Where it stands for SORT.
-    pub places: &'a Places,
+    pub places: &'a SortPlaces,
     /// Where it is.
     pub path: &'a Path,
 }

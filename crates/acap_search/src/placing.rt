@@ -1,9 +1,9 @@
 //! Where an entry stands, whether it is wanted or not.
 ghost use Rattle.std.specs.Prelude.{◌≡◌, IfOk};
-ghost use Rattle.acap_search.specs.Views.{standing_at, spotted};
+ghost use Rattle.acap_search.specs.Views.{standing_at, spot_in};
 
 use crate::query::Sought;
-use crate::rank::Places;
+use crate::rank::SortPlaces;
 use crate::spot::Spot;
 use crate::tuples::places_by;
 use crate::viewer::Viewer;
@@ -17,8 +17,8 @@ pub fn places_at<'a, R: Records>(
     by: &Viewer<'a, R>,
     name: &'a EntryName,
     sought: &Sought,
-) -> Result<Places, Memory>
-    ensures { IfOk result (λ places. places ≡ standing_at sought.now (spotted by.now name.now)) }
+) -> Result<SortPlaces, Memory>
+    ensures { IfOk result (λ places. places ≡ standing_at sought.now (spot_in by.now name.now)) }
 {
     places_by(alloc, &Spot::far(by, name), sought)
 }

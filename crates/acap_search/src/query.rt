@@ -7,7 +7,7 @@ use acap_entries::{Copying, Dataset, Memory, UserName};
 
 /// What a search over a dataset looks for, and what is told of each match (RFC 2244 section 6.4.1): all that a context keeps of
 /// the SEARCH that made it, and all that the list of its matches depends on.
-#[derive(Drop)]
+#[derive(Clone, Drop)]
 pub struct Sought {
     /// The dataset, in which no component stands for the user.
     pub dataset: Dataset,
@@ -24,7 +24,7 @@ pub struct Sought {
 }
 
 /// A search over a dataset: what it looks for, and when it has found too much (RFC 2244 section 6.4.1).
-#[derive(Drop)]
+#[derive(Clone, Drop)]
 pub struct Query {
     /// What is looked for.
     pub sought: Sought,
@@ -84,26 +84,12 @@ impl Asked {
 
 impl Copying for Sought {
     fn copy(&self) -> Result<Sought, Memory> {
-        let dataset = self.dataset.copy()?;
-        let key = self.key.copy()?;
-        let sort = self.sort.copy()?;
-        let returns = self.returns.copy()?;
-        Ok(Sought {
-            dataset,
-            depth: self.depth,
-            no_inherit: self.no_inherit,
-            key,
-            sort,
-            returns,
-        })
+        self.clone()
     }
 }
 
 impl Copying for Query {
     fn copy(&self) -> Result<Query, Memory> {
-        Ok(Query {
-            sought: self.sought.copy()?,
-            hard_limit: self.hard_limit,
-        })
+        self.clone()
     }
 }

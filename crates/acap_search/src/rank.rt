@@ -1,10 +1,9 @@
 //! Where entries stand for SORT.
-ghost use Rattle.std.specs.Prelude.{◌≡◌, ◌↔◌, IsTrue};
 
 use acap_entries::{Copying, Memory, Sequence, Value};
 
 /// What a string is compared by, made once for an entry and not for each comparison (RFC 2244 section 3.4).
-#[derive(PartialEq, Eq, Drop)]
+#[derive(Clone, PartialEq, Eq, Drop)]
 pub enum Rank {
     /// Its octets, or those in upper case.
     Octets(Value),
@@ -15,8 +14,8 @@ pub enum Rank {
 }
 
 /// Where an entry stands for one item of SORT (RFC 2244 section 6.4.1).
-#[derive(PartialEq, Eq, Drop)]
-pub enum Place {
+#[derive(Clone, PartialEq, Eq, Drop)]
+pub enum SortPlace {
     /// As its string does.
     Rising(Rank),
     /// The other way round, by a comparator with `-`.
@@ -26,24 +25,16 @@ pub enum Place {
 }
 
 /// Where an entry stands for each item of SORT, the first deciding first.
-pub type Places = Sequence<Place>;
+pub type SortPlaces = Sequence<SortPlace>;
 
 impl Copying for Rank {
     fn copy(&self) -> Result<Rank, Memory> {
-        match self {
-            Rank::Octets(octets) => Ok(Rank::Octets(octets.copy()?)),
-            Rank::Number(digits) => Ok(Rank::Number(digits.copy()?)),
-            Rank::NoNumber => Ok(Rank::NoNumber),
-        }
+        self.clone()
     }
 }
 
-impl Copying for Place {
-    fn copy(&self) -> Result<Place, Memory> {
-        match self {
-            Place::Rising(rank) => Ok(Place::Rising(rank.copy()?)),
-            Place::Falling(rank) => Ok(Place::Falling(rank.copy()?)),
-            Place::Behind => Ok(Place::Behind),
-        }
+impl Copying for SortPlace {
+    fn copy(&self) -> Result<SortPlace, Memory> {
+        self.clone()
     }
 }

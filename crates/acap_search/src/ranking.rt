@@ -1,5 +1,5 @@
 //! What strings are compared by, made once for an entry.
-ghost use Rattle.std.specs.Prelude.{◌≡◌, ◌∷◌, [], IfOk, OnOk, map};
+ghost use Rattle.std.specs.Prelude.{◌≡◌, ◌∷◌, [], IfOk};
 ghost use Rattle.std.specs.Char.{is_ascii_digit};
 ghost use Rattle.std.specs.List.{take_while};
 ghost use Rattle.acap_order.specs.Digits.{significant_digits};
@@ -11,7 +11,7 @@ ghost use Rattle.acap_search.specs.Views.{places_at};
 
 use crate::footing::Footing;
 use crate::looking::read;
-use crate::rank::{Place, Places, Rank};
+use crate::rank::{Rank, SortPlace, SortPlaces};
 use crate::spot::Spot;
 use acap_commands::SortItem;
 use acap_entries::{Memory, Octets, Records, Value};
@@ -75,12 +75,12 @@ fn rank_of(alloc: Global, collation: Collation, text: &[u8]) -> Result<Rank, Mem
 }
 
 // In a direction.
-fn placed(direction: Direction, rank: Rank) -> Place
-    ensures { result ≡ rule.placed direction rank }
+fn place_by(direction: Direction, rank: Rank) -> SortPlace
+    ensures { result ≡ rule.directed_place direction rank }
 {
     match direction {
-        Direction::Ascending => Place::Rising(rank),
-        Direction::Descending => Place::Falling(rank),
+        Direction::Ascending => SortPlace::Rising(rank),
+        Direction::Descending => SortPlace::Falling(rank),
     }
 }
 
@@ -89,21 +89,25 @@ fn place_of(
     alloc: Global,
     comparator: &Comparator,
     value: Option<Lent<'_>>,
-) -> Result<Place, Memory>
+) -> Result<SortPlace, Memory>
     ensures { IfOk result (λ place. place ≡ rule.place_in comparator.now (shown.cell_of value.entry)) }
 {
     let text = match &value {
         Some(Lent::Single(text)) => *text,
         Some(Lent::Stamp(digits)) => digits.as_slice(),
-        Some(Lent::Multi(_)) => return Ok(Place::Behind),
-        None => return Ok(Place::Behind),
+        Some(Lent::Multi(_)) => return Ok(SortPlace::Behind),
+        None => return Ok(SortPlace::Behind),
     };
     let rank = rank_of(alloc, comparator.collation, text)?;
-    Ok(placed(comparator.direction, rank))
+    Ok(place_by(comparator.direction, rank))
 }
 
 // Where an entry stands for an item of SORT.
-fn place_at<R: Records>(alloc: Global, spot: &Spot<'_, R>, item: &SortItem) -> Result<Place, Memory>
+fn place_at<R: Records>(
+    alloc: Global,
+    spot: &Spot<'_, R>,
+    item: &SortItem,
+) -> Result<SortPlace, Memory>
     ensures { IfOk result (λ place. place ∷ [] ≡ places_at spot.now (item.now ∷ [])) }
 {
     let seen = read(spot, item.attribute.as_slice());
@@ -115,14 +119,14 @@ pub(crate) fn places_of<R: Records>(
     alloc: Global,
     spot: &Spot<'_, R>,
     sort: &[SortItem],
-) -> Result<Places, Memory>
+) -> Result<SortPlaces, Memory>
     ensures { IfOk result (λ places. places ≡ places_at spot.now sort.now) }
 {
     let mut places = Vec::with_capacity(alloc, sort.len())?;
     for item in sort {
         places.push(place_at(alloc, spot, item)?)?;
     }
-    Ok(Places::from_vec(places))
+    Ok(SortPlaces::from_vec(places))
 }
 
 /// As `places_of`, and for an only item in no memory of its own.

@@ -38,7 +38,7 @@ fn is_component_name(name: &[u8]) -> bool
 }
 
 // The dataset that an entry makes, if it makes one.
-fn made_by(path: &Path, entry: &Record) -> Result<Option<Dataset>, Memory>
+fn find_made(path: &Path, entry: &Record) -> Result<Option<Dataset>, Memory>
     ensures { IfOk result (λ made. made ≡ scopes.made_by (path.now, entry.now)) }
 {
     if makes_dataset(entry) && is_component_name(path.name.as_slice()) {
@@ -49,7 +49,7 @@ fn made_by(path: &Path, entry: &Record) -> Result<Option<Dataset>, Memory>
 }
 
 /// The dataset that an entry beneath the searched one makes, if it is reached. Fails only for want of memory.
-pub(crate) fn reached_by(
+pub(crate) fn find_reached(
     dataset: &Dataset,
     depth: u32,
     path: &Path,
@@ -59,7 +59,7 @@ pub(crate) fn reached_by(
 {
     let further = behind(path.dataset.as_slice(), dataset.as_slice().len());
     if is_reached(depth, levels(further)) {
-        made_by(path, entry)
+        find_made(path, entry)
     } else {
         Ok(None)
     }

@@ -223,7 +223,7 @@ fn named_item<R: Records>(
     attribute: &[u8],
     wanted: &[Metadata],
 ) -> Result<Item, Memory>
-    ensures { IfOk result (λ item. item ≡ rule.gathered (data_at spot.now wanted.now attribute.now)) }
+    ensures { IfOk result (λ item. item ≡ rule.item_of_cells (data_at spot.now wanted.now attribute.now)) }
 {
     match wanted {
         [] => Ok(Item::Several(CellList::new(alloc))),

@@ -34,7 +34,7 @@ impl<'a> Scope<'a> {
     ghost use Rattle.acap_entries.specs.Names.{is_closed_dataset};
 
     // The octets of the searched dataset.
-    fn searched(&self) -> &[u8]
+    fn dataset(&self) -> &[u8]
         ensures value { result.now ≡ self.now.dataset }
         ensures formed { IsTrue (is_closed_dataset self.now.dataset) }
     {
@@ -61,7 +61,7 @@ impl Sought {
 fn is_looked_in<R: Records>(scope: &Scope<'_>, records: &R, dataset: &[u8]) -> bool
     ensures { result ≡ rule.is_looked_in (R.store records.now).records scope.now dataset.now }
 {
-    let searched = scope.searched();
+    let searched = scope.dataset();
     if dataset == searched {
         return true;
     }
@@ -76,6 +76,6 @@ fn is_looked_in<R: Records>(scope: &Scope<'_>, records: &R, dataset: &[u8]) -> b
 pub fn looks_in<R: Records>(scope: &Scope<'_>, records: &R, dataset: &Dataset) -> bool
     ensures { rule.SaysWhether (R.store records.now).records scope.now dataset.now result }
 {
-    let _searched = scope.searched();
+    let _searched = scope.dataset();
     is_looked_in(scope, records, dataset.as_slice())
 }

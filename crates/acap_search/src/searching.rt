@@ -5,9 +5,9 @@ ghost use Rattle.std.specs.FinMap as map;
 ghost use Rattle.acap_search.specs.Counting.{IsCounted, paths_count};
 ghost use Rattle.acap_search.specs.Fresh as rule;
 ghost use Rattle.acap_search.specs.Fresh.{IsAnswer, matches_of};
-ghost use Rattle.acap_search.specs.Gathering.{IsGathered, gathered, none_yet, with_one};
+ghost use Rattle.acap_search.specs.Gathering.{IsGathered, with_more, none_yet, with_one};
 ghost use Rattle.acap_search.specs.Near as near;
-ghost use Rattle.acap_search.specs.Views.{found_at, spotted};
+ghost use Rattle.acap_search.specs.Views.{found_at, spot_in};
 ghost use Rattle.acap_search.specs.Walks as walks;
 
 use crate::finding::hits_of;
@@ -18,9 +18,9 @@ use crate::kept::Kept;
 use crate::near::Near;
 use crate::plain::is_alone;
 use crate::query::{Query, Sought};
-use crate::reaching::reached_by;
+use crate::quest::Quest;
+use crate::reaching::find_reached;
 use crate::refusal::SearchRefusal;
-use crate::search::Search;
 use crate::spot::Spot;
 use crate::viewer::Viewer;
 use acap_commands::{Key, Node, Test};
@@ -67,7 +67,7 @@ fn add_own<'a: 'b, 'b, L: Ledger>(
     requires plain { near.IsPlain by.now shared.now }
     requires all { entries ≡ filter (near.lies_in by.now.dataset) (map.entries by.now.records) }
     ensures count { IsCounted result steps.old steps.new (walks.names_count by.now) }
-    ensures found { OnOk result (found.new ≡ gathered found.old (walks.hits_along by.now sought.now)) }
+    ensures found { OnOk result (found.new ≡ with_more found.old (walks.hits_along by.now sought.now)) }
 {
     for (path, entry) in entries {
         let spot = Spot {
@@ -101,7 +101,7 @@ fn add_near<'a, L: Ledger>(
     requires { near.now.records ≡ by.now.records }
     ensures count { steps.new ≡ steps.old + 1 }
     ensures found { OnOk result
-        (found.new ≡ with_one found.old (found_at sought.now None (spotted by.now name.now))) }
+        (found.new ≡ with_one found.old (found_at sought.now None (spot_in by.now name.now))) }
 {
     let nearer = by.over(near);
     let spot = Spot::far(&nearer, name);
@@ -118,7 +118,7 @@ fn add_far<'a, L: Ledger>(
     steps: &mut Steps<L>,
 ) -> Result<(), Memory>
     ensures count { IsCounted result steps.old steps.new (walks.names_count by.now) }
-    ensures found { OnOk result (found.new ≡ gathered found.old (walks.hits_along by.now sought.now)) }
+    ensures found { OnOk result (found.new ≡ with_more found.old (walks.hits_along by.now sought.now)) }
 {
     let own = Front::of(by.records, by.dataset.as_slice());
     let base = Front::of(by.records, base_of(&by.chain));
@@ -133,13 +133,13 @@ fn add_far<'a, L: Ledger>(
 #[tactic(auto, unfolding(crate::specs::Walks::hits_in, crate::specs::Walks::count_in))]
 fn add_in<'a, L: Ledger>(
     alloc: Global,
-    search: &Search<'a>,
+    search: &Quest<'a>,
     dataset: &Dataset,
     found: &mut Gathered<'a>,
     steps: &mut Steps<L>,
 ) -> Result<(), Memory>
     ensures count { IsCounted result steps.old steps.new (walks.count_in search.now dataset.now) }
-    ensures found { OnOk result (found.new ≡ gathered found.old (walks.hits_in search.now dataset.now)) }
+    ensures found { OnOk result (found.new ≡ with_more found.old (walks.hits_in search.now dataset.now)) }
 {
     let sought = search.sought;
     let by = Viewer {
@@ -161,20 +161,20 @@ fn add_in<'a, L: Ledger>(
 #[tactic(auto, using(crate::proofs::GatheredLemmas::gathered_twice), unfolding(crate::specs::Walks::hits_by, crate::specs::Walks::count_by))]
 fn add_beneath<'a, L: Ledger>(
     alloc: Global,
-    search: &Search<'a>,
+    search: &Quest<'a>,
     depth: u32,
     found: &mut Gathered<'a>,
     steps: &mut Steps<L>,
 ) -> Result<(), Memory>
     ensures count { IsCounted result steps.old steps.new (walks.count_beneath search.now depth) }
-    ensures found { OnOk result (found.new ≡ gathered found.old (walks.hits_beneath search.now depth)) }
+    ensures found { OnOk result (found.new ≡ with_more found.old (walks.hits_beneath search.now depth)) }
 {
     if depth == 1 {
         return Ok(());
     }
     let sought = search.sought;
     for (path, entry) in search.tree.entries_beneath(&sought.dataset) {
-        if let Some(dataset) = reached_by(&sought.dataset, depth, path, entry)? {
+        if let Some(dataset) = find_reached(&sought.dataset, depth, path, entry)? {
             add_in(alloc, search, &dataset, found, steps)?;
         }
     }
@@ -183,15 +183,15 @@ fn add_beneath<'a, L: Ledger>(
 
 // What is found, in the order of the store, or its rows alone.
 #[tactic(auto, using(crate::proofs::GatheredLemmas::gathered_twice), unfolding(crate::specs::Walks::count_over))]
-fn walked<'a, L: Ledger>(
+fn walk<'a, L: Ledger>(
     alloc: Global,
-    search: &Search<'a>,
+    search: &Quest<'a>,
     rows_alone: bool,
     steps: &mut Steps<L>,
 ) -> Result<Gathered<'a>, Memory>
     ensures count { IsCounted result steps.old steps.new (walks.count_over search.now) }
     ensures found { IfOk result
-        (λ found. found ≡ gathered (none_yet rows_alone) (walks.hits_over search.now)) }
+        (λ found. found ≡ with_more (none_yet rows_alone) (walks.hits_over search.now)) }
 {
     let mut found = Gathered::new(alloc, rows_alone);
     let sought = search.sought;
@@ -203,7 +203,7 @@ fn walked<'a, L: Ledger>(
 }
 
 // Whether all comes in order.
-fn is_in_order(search: &Search<'_>) -> bool
+fn is_in_order(search: &Quest<'_>) -> bool
     ensures depth { IsTrue result → search.now.sought.depth ≡ None }
     ensures sort { IsTrue result → search.now.sought.sort ≡ None }
 {
@@ -213,9 +213,9 @@ fn is_in_order(search: &Search<'_>) -> bool
 
 // What is found, in order: without DEPTH and SORT it comes so, and its rows alone may be gathered.
 #[tactic(auto, using(crate::proofs::CountingLemmas::count_over_is))]
-fn found_by<'a, L: Ledger>(
+fn find_by<'a, L: Ledger>(
     alloc: Global,
-    search: &Search<'a>,
+    search: &Quest<'a>,
     rows_alone: bool,
     steps: &mut Steps<L>,
 ) -> Result<Gathered<'a>, Memory>
@@ -224,11 +224,11 @@ fn found_by<'a, L: Ledger>(
 {
     names_law();
     if is_in_order(search) {
-        let found = walked(alloc, search, rows_alone, steps)?;
+        let found = walk(alloc, search, rows_alone, steps)?;
         return Ok(found);
     }
-    let found = walked(alloc, search, false, steps)?;
-    let sorted = found.sorted()?;
+    let found = walk(alloc, search, false, steps)?;
+    let sorted = found.sort()?;
     Ok(sorted)
 }
 
@@ -246,13 +246,13 @@ pub fn seek<L: Ledger>(
     ensures count { IsCounted result steps.old steps.new (paths_count tree.now.store sought.now) }
     ensures found { IfOk result (λ h. h ≡ matches_of tree.now.store.records realm.now user.now sought.now) }
 {
-    let search = Search {
+    let search = Quest {
         tree,
         realm,
         user,
         sought,
     };
-    let found = found_by(alloc, &search, false, steps)?;
+    let found = find_by(alloc, &search, false, steps)?;
     Ok(Hits::from_vec(hits_of(alloc, found.into_findings(alloc))?))
 }
 
@@ -277,13 +277,13 @@ pub(crate) fn answer<'a, L: Ledger>(
     if !tree.dataset_exists(query.sought.dataset.as_slice()) {
         return Err(SearchRefusal::NoExist);
     }
-    let search = Search {
+    let search = Quest {
         tree,
         realm,
         user,
         sought: &query.sought,
     };
-    let found = found_by(alloc, &search, rows_alone, steps)?;
+    let found = find_by(alloc, &search, rows_alone, steps)?;
     if is_over(query.hard_limit, found.count()) {
         return Err(SearchRefusal::WayTooMany);
     }

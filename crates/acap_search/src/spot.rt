@@ -19,24 +19,24 @@ pub(crate) struct Spot<'a, R: Records> {
 
 impl<'a, R: Records> Model for Spot<'a, R> {
     ghost use Rattle.acap_search.specs.Near.{IsNear};
-    ghost use Rattle.acap_search.specs.Views.{Spotted, spotted, spotted_code};
+    ghost use Rattle.acap_search.specs.Views.{Spotted, spot_in, spotted_code};
 
     ghost Value = { Spotted };
 
     ghost coded = { spotted_code };
 
-    ghost view = { λ s. spotted s.by.now s.name.now };
+    ghost view = { λ s. spot_in s.by.now s.name.now };
 
-    ghost invariant = { λ s. IsNear (spotted s.by.now s.name.now) s.kept };
+    ghost invariant = { λ s. IsNear (spot_in s.by.now s.name.now) s.kept };
 }
 
 impl<'a, R: Records> Spot<'a, R> {
     ghost use Rattle.std.specs.Prelude.{◌≡◌};
-    ghost use Rattle.acap_search.specs.Views.{spotted};
+    ghost use Rattle.acap_search.specs.Views.{spot_in};
 
     /// An entry of which nothing is at hand.
     pub(crate) fn far(by: &'a Viewer<'a, R>, name: &'a EntryName) -> Spot<'a, R>
-        ensures { result ≡ spotted by.now name.now }
+        ensures { result ≡ spot_in by.now name.now }
     {
         Spot {
             by,

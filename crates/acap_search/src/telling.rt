@@ -4,7 +4,7 @@ ghost use Rattle.acap_search.specs.Cutting.{IsExcerpt};
 ghost use Rattle.acap_search.specs.Fresh.{IsAnswer};
 
 use crate::cutting::cut_by;
-use crate::gathered::told_first;
+use crate::gathered::tell_first;
 use crate::query::Query;
 use crate::refusal::SearchRefusal;
 use crate::searching::answer;
@@ -40,7 +40,7 @@ pub fn tell<L: Ledger>(
     match answer(alloc, tree, realm, user, query, true, steps) {
         Ok(found) => {
             let cut = cut_by(limit, found.count());
-            match told_first(alloc, found, cut.told) {
+            match tell_first(alloc, found, cut.told) {
                 Ok(rows) => Ok(Excerpt {
                     rows,
                     total: cut.total,

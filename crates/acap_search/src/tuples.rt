@@ -4,7 +4,7 @@ ghost use Rattle.std.specs.Option.{option_map};
 ghost use Rattle.acap_search.specs.Keys.{holds};
 ghost use Rattle.acap_search.specs.Lying.{path_in, places_on};
 ghost use Rattle.acap_search.specs.Sight.{is_seen};
-ghost use Rattle.acap_search.specs.Views.{answers_of, found_at, match_at, path_of, spotted};
+ghost use Rattle.acap_search.specs.Views.{answers_of, found_at, match_at, path_of, spot_in};
 
 use crate::finding::Finding;
 use crate::footing::Footing;
@@ -14,7 +14,7 @@ use crate::lying::Lying;
 use crate::matching::wants;
 use crate::near::near_by;
 use crate::query::Sought;
-use crate::rank::Places;
+use crate::rank::SortPlaces;
 use crate::ranking::{footing_of, places_of};
 use crate::rows::items_of;
 use crate::spot::Spot;
@@ -26,7 +26,7 @@ use std::alloc::Global;
 use std::sync::ledger::Ledger;
 
 // The name of an entry as it is told.
-fn name_told<R: Records>(
+fn tell_name<R: Records>(
     alloc: Global,
     spot: &Spot<'_, R>,
     sought: &Sought,
@@ -49,12 +49,12 @@ pub(crate) fn places_by<R: Records>(
     alloc: Global,
     spot: &Spot<'_, R>,
     sought: &Sought,
-) -> Result<Places, Memory>
+) -> Result<SortPlaces, Memory>
     ensures { IfOk result (λ places. places ≡ (match_at sought.now spot.now).places) }
 {
     match &sought.sort {
         Some(sort) => places_of(alloc, spot, sort.as_slice()),
-        None => Ok(Places::new(alloc)),
+        None => Ok(SortPlaces::new(alloc)),
     }
 }
 
@@ -68,7 +68,7 @@ fn footing_by<R: Records>(
 {
     match &sought.sort {
         Some(sort) => footing_of(alloc, spot, sort.as_slice()),
-        None => Ok(Footing::Each(Places::new(alloc))),
+        None => Ok(Footing::Each(SortPlaces::new(alloc))),
     }
 }
 
@@ -116,16 +116,16 @@ fn is_found<R: Records, L: Ledger>(
 }
 
 // What is told of an entry.
-fn row_told<R: Records>(alloc: Global, spot: &Spot<'_, R>, sought: &Sought) -> Result<Row, Memory>
+fn tell_row<R: Records>(alloc: Global, spot: &Spot<'_, R>, sought: &Sought) -> Result<Row, Memory>
     ensures { IfOk result (λ row. row ≡ (match_at sought.now spot.now).row) }
 {
-    let name = name_told(alloc, spot, sought)?;
+    let name = tell_name(alloc, spot, sought)?;
     let items = items_by(alloc, spot, sought)?;
     Ok(Row { name, items })
 }
 
 /// What is told of an entry that is looked at, where it is found: one step. Fails only for want of memory.
-pub(crate) fn told_at<R: Records, L: Ledger>(
+pub(crate) fn tell_at<R: Records, L: Ledger>(
     alloc: Global,
     spot: &Spot<'_, R>,
     sought: &Sought,
@@ -138,7 +138,7 @@ pub(crate) fn told_at<R: Records, L: Ledger>(
     if !is_found(spot, sought, None, steps) {
         return Ok(None);
     }
-    Ok(Some(row_told(alloc, spot, sought)?))
+    Ok(Some(tell_row(alloc, spot, sought)?))
 }
 
 /// What a search makes of an entry that is looked at: one step. The path is that of its record, where it is at hand.
@@ -159,7 +159,7 @@ pub(crate) fn finding_at<'p, R: Records, L: Ledger>(
     }
     let lying = lying_at(alloc, spot, path)?;
     let footing = footing_by(alloc, spot, sought)?;
-    let row = row_told(alloc, spot, sought)?;
+    let row = tell_row(alloc, spot, sought)?;
     Ok(Some(Finding {
         lying,
         footing,
@@ -179,7 +179,7 @@ pub fn row_of<'a, R: Records, L: Ledger>(
     steps: &mut Steps<L>,
 ) -> Result<Option<Hit>, Memory>
     ensures count { steps.new ≡ steps.old + 1 }
-    ensures made { IfOk result (λ hit. hit ≡ found_at sought.now place (spotted by.now name.now)) }
+    ensures made { IfOk result (λ hit. hit ≡ found_at sought.now place (spot_in by.now name.now)) }
 {
     let near = near_by(by, name);
     let nearer = by.over(&near);

@@ -21,7 +21,7 @@ use Rattle.acap_locked.proofs.CrossingServed.{served_sync}
 use Rattle.acap_serving.specs.contracts.bells.Bells as bells
 use Rattle.acap_serving.specs.contracts.hall.Hall as hall
 use Rattle.acap_serving.specs.contracts.hall.Job as job
-use Rattle.acap_serving.specs.contracts.hall.Place as place
+use Rattle.acap_serving.specs.contracts.hall.SeatPlace as place
 use Rattle.acap_serving.specs.contracts.office.Office as office
 
 bells_sync : IsSync bells.the_row

@@ -5,7 +5,6 @@ ghost use Rattle.acap_serving.specs.Faults.{IsOfListening, IsOfReading};
 use acap_entries::Memory;
 use acap_locked::CloseFault;
 use acap_settings::SettingsFault;
-use std::alloc::AllocError;
 use std::io;
 
 /// Why a server did not serve, or ended otherwise than it should.
@@ -82,17 +81,6 @@ impl From<Memory> for ServeFault {
     ghost from_gives = { λ _ made. made ≡ faults.Memory };
 
     fn from(_memory: Memory) -> ServeFault {
-        ServeFault::Memory
-    }
-}
-
-impl From<AllocError> for ServeFault {
-    ghost use Rattle.std.specs.Prelude.{◌≡◌};
-    ghost use Rattle.acap_serving.specs.declared.fault.ServeFault.TheVariants as faults;
-
-    ghost from_gives = { λ _ made. made ≡ faults.Memory };
-
-    fn from(_memory: AllocError) -> ServeFault {
         ServeFault::Memory
     }
 }

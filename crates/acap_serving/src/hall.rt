@@ -11,7 +11,7 @@ use tokio::sync::mpsc::UnboundedReceiver;
 
 /// What one session after another has at a seat: the pass, and what hears the seat's bell.
 #[derive(Drop)]
-pub(crate) struct Place<S: Site> {
+pub(crate) struct SeatPlace<S: Site> {
     pub(crate) seating: Seating<S>,
     pub(crate) rings: UnboundedReceiver<()>,
 }
@@ -19,7 +19,7 @@ pub(crate) struct Place<S: Site> {
 /// A client's stream, and the place where it is served.
 #[derive(Drop)]
 pub(crate) struct Job<S: Site> {
-    pub(crate) place: Place<S>,
+    pub(crate) place: SeatPlace<S>,
     pub(crate) stream: TcpStream,
 }
 
@@ -27,7 +27,7 @@ pub(crate) struct Job<S: Site> {
 /// one could not. It takes no memory once it is made.
 #[derive(Drop)]
 pub(crate) struct Hall<S: Site> {
-    free: Vec<Option<Place<S>>>,
+    free: Vec<Option<SeatPlace<S>>>,
     ended: u64,
     begun: u64,
     refused: bool,
@@ -47,7 +47,7 @@ impl<S: Site> Hall<S> {
                 pass,
                 owes_leave: false,
             };
-            hall.give(Place { seating, rings });
+            hall.give(SeatPlace { seating, rings });
         }
         Ok(hall)
     }
@@ -64,13 +64,13 @@ impl<S: Site> Hall<S> {
     }
 
     /// Takes the free place of the lowest seat, if one is free.
-    pub(crate) fn take(&mut self) -> Option<Place<S>> {
+    pub(crate) fn take(&mut self) -> Option<SeatPlace<S>> {
         let number = self.free.iter().position(|place| place.is_some())?;
         self.free[number].take()
     }
 
     /// Takes a place back.
-    pub(crate) fn give(&mut self, place: Place<S>)
+    pub(crate) fn give(&mut self, place: SeatPlace<S>)
         ensures { self.new.ended ≡ self.old.ended }
     {
         let number = usize::from(place.seating.pass.seat().number());
@@ -78,7 +78,7 @@ impl<S: Site> Hall<S> {
     }
 
     /// Takes a place back at which a session has ended.
-    pub(crate) fn end(&mut self, place: Place<S>)
+    pub(crate) fn end(&mut self, place: SeatPlace<S>)
         ensures { self.new.ended ≡ up self.old.ended }
     {
         self.give(place);
@@ -125,7 +125,7 @@ impl<S: Site> Hall<S> {
 }
 
 // No place for each of the 64 seats.
-fn vec_of_none<S: Site>(alloc: Global) -> Result<Vec<Option<Place<S>>>, Memory>
+fn vec_of_none<S: Site>(alloc: Global) -> Result<Vec<Option<SeatPlace<S>>>, Memory>
     ensures { IfOk result (λ made. length made.items ≡ 64) }
 {
     let mut free = Vec::with_capacity(alloc, 64)?;

@@ -4,7 +4,7 @@ ghost use Rattle.acap_serving.specs.Devices.{silent_wire};
 
 use crate::bells::Bells;
 use crate::channel_bell::ChannelBell;
-use crate::hall::{Hall, Job, Place};
+use crate::hall::{Hall, Job, SeatPlace};
 use crate::host_source::HostSource;
 use crate::tcp_wire::TcpWire;
 use acap_entries::{Copying, Octets};
@@ -93,12 +93,12 @@ where
 
     // The session of a job, or its place where there can be none.
     #[tactic(auto, using(crate::proofs::Untold::untold))]
-    fn open(&self, job: Job<S>, handle: &Handle) -> Result<Task<'a, R, S, L>, Place<S>> {
+    fn open(&self, job: Job<S>, handle: &Handle) -> Result<Task<'a, R, S, L>, SeatPlace<S>> {
         let Job { place, stream } = job;
         let Some((mut conn, host)) = self.conn(stream, handle) else {
             return Err(place);
         };
-        let Place { seating, rings } = place;
+        let SeatPlace { seating, rings } = place;
         let alloc = self.rt.alloc();
         let now = conn.source.moment();
         match PassDesk::begin(alloc, self.rt, self.served, self.bells, seating, now) {
@@ -111,7 +111,7 @@ where
                 host,
                 self.turns,
             )),
-            Err(seating) => Err(Place { seating, rings }),
+            Err(seating) => Err(SeatPlace { seating, rings }),
         }
     }
 
@@ -141,7 +141,7 @@ where
             bell,
             ..
         } = running;
-        let place = Place {
+        let place = SeatPlace {
             seating: desk.into_seating(),
             rings: bell.into_rings(),
         };

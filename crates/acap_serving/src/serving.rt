@@ -11,13 +11,13 @@ use crate::office::Office;
 use crate::setup::{Door, Setup};
 use crate::start::run_start;
 use crate::work::Working;
-use acap_entries::{Octets, Steps};
+use acap_entries::{Memory, Octets, Steps};
 use acap_locked::{Pass, Report, Served, Site};
 use acap_login::Users;
 use acap_machine::State;
 use acap_rights::Realm;
 use mio::{Events, Interest, Poll, Token, Waker};
-use std::alloc::{AllocError, AllocGlobal, Global};
+use std::alloc::{AllocGlobal, Global};
 use std::fs::Files;
 use std::marker::Brand;
 use std::net::{Net, TcpListener, TcpStream};
@@ -101,13 +101,13 @@ where
 fn channels<S: Site>(
     alloc: Global,
     workers: u32,
-) -> Result<(Vec<UnboundedSender<Job<S>>>, Vec<UnboundedReceiver<Job<S>>>), AllocError> {
+) -> Result<(Vec<UnboundedSender<Job<S>>>, Vec<UnboundedReceiver<Job<S>>>), Memory> {
     let mut senders = Vec::new(alloc);
     let mut receivers = Vec::new(alloc);
     for _ in 0..workers {
         let (sender, receiver) = unbounded_channel(alloc)?;
-        senders.push(sender).map_err(|_| AllocError)?;
-        receivers.push(receiver).map_err(|_| AllocError)?;
+        senders.push(sender).map_err(|_| Memory)?;
+        receivers.push(receiver).map_err(|_| Memory)?;
     }
     Ok((senders, receivers))
 }

@@ -1,5 +1,5 @@
 //! What a server is made of.
-ghost use Rattle.std.specs.Prelude.{◌≡◌, IfErr, IfOk, IsSomeAnd};
+ghost use Rattle.std.specs.Prelude.{IfErr};
 ghost use Rattle.acap_serving.specs.Faults.{IsOfReading, IsOfSetup};
 
 use crate::fault::ServeFault;

@@ -5,7 +5,7 @@ ghost use Rattle.acap_serving.specs.Devices.{silent_wire};
 use crate::bells::Bells;
 use crate::channel_bell::ChannelBell;
 use crate::fault::ServeFault;
-use crate::hall::Place;
+use crate::hall::SeatPlace;
 use crate::host_source::HostSource;
 use crate::start_wire::StartWire;
 use acap_entries::{Copying, Octets, UserName};
@@ -67,11 +67,11 @@ pub(crate) fn run_start<'a, R, S, L>(
     rt: &'a R,
     served: &'a Served<S, L>,
     bells: &'a Bells,
-    place: Place<S>,
+    place: SeatPlace<S>,
     users: &'a Users,
     host: &Octets,
     text: Vec<u8>,
-) -> Result<Place<S>, ServeFault>
+) -> Result<SeatPlace<S>, ServeFault>
 where
     R: Wait + Clock + RandomSource + AllocGlobal,
     S: Site,
@@ -80,13 +80,13 @@ where
     let alloc = rt.alloc();
     let conn = conn_of(rt, text)?;
     let host = host.copy()?;
-    let Place { seating, rings } = place;
+    let SeatPlace { seating, rings } = place;
     let desk = PassDesk::new(alloc, rt, served, bells, seating.pass);
     let bell = ChannelBell::new(rings);
     let task = SessionTask::new(alloc, conn, desk, bell, users, host, TURNS);
     let Over { running, .. } = run_task(rt, task)?;
     let Running { desk, bell, .. } = running;
-    Ok(Place {
+    Ok(SeatPlace {
         seating: desk.into_seating(),
         rings: bell.into_rings(),
     })

@@ -2,7 +2,7 @@
 ghost use Rattle.std.specs.Prelude.{◌≡◌, ◌≤◌, ◌+◌, length};
 ghost use Rattle.acap_serving.specs.Devices.{silent_wire};
 
-use crate::telling::{either, faults_after};
+use crate::telling::faults_after;
 use acap_task::{Wire, WireFault};
 use futures::task::{Context, Poll};
 
@@ -52,7 +52,7 @@ impl Wire for StartWire {
     ) -> Poll<Result<usize, WireFault>> {
         let count = copy_from(&self.text, self.at, buffer);
         self.at += count;
-        self.ended = either(self.ended, count == 0);
+        self.ended = self.ended | (count == 0);
         Poll::Ready(Ok(count))
     }
 

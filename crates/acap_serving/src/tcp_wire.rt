@@ -2,7 +2,7 @@
 ghost use Rattle.std.specs.Prelude.{◌≡◌, None, false};
 ghost use Rattle.acap_serving.specs.Devices.{silent_wire};
 
-use crate::telling::{either, faults_after};
+use crate::telling::faults_after;
 use acap_task::{Wire, WireFault, count_up};
 use futures::task::{Context, Poll};
 use tokio::io::{AsyncRead, AsyncWrite};
@@ -60,7 +60,7 @@ impl Wire for TcpWire {
     ) -> Poll<Result<usize, WireFault>> {
         match AsyncRead::poll_read(&mut self.stream, cx, buffer) {
             Poll::Ready(Ok(count)) => {
-                self.ended = either(self.ended, count == 0);
+                self.ended = self.ended | (count == 0);
                 Poll::Ready(Ok(count))
             }
             Poll::Ready(Err(_)) => {

@@ -1,15 +1,8 @@
 //! What wires tell of a poll.
-ghost use Rattle.std.specs.Prelude.{◌≡◌, ◌||◌, ◌==◌, if◌then◌else◌};
+ghost use Rattle.std.specs.Prelude.{◌≡◌, ◌==◌, if◌then◌else◌};
 ghost use Rattle.acap_task.specs.Told.{up};
 
 use acap_task::count_up;
-
-/// Whether one of two holds.
-pub(crate) fn either(one: bool, other: bool) -> bool
-    ensures { result ≡ one || other }
-{
-    one || other
-}
 
 /// How often a writer has failed, once it has taken so many octets: one that takes none has failed.
 pub(crate) fn faults_after(faults: u64, count: usize) -> u64

@@ -1,5 +1,5 @@
 //! Wires whose sessions wait for one another.
-ghost use Rattle.std.specs.Prelude.{◌≡◌, ◌≤◌, ◌==◌, ◌||◌, if◌then◌else◌, length};
+ghost use Rattle.std.specs.Prelude.{◌≡◌, ◌≤◌, ◌==◌, if◌then◌else◌, length};
 ghost use Rattle.acap_task.specs.Told.{up};
 ghost use Rattle.acap_serving.specs.Devices.{silent_wire};
 
@@ -158,13 +158,6 @@ fn faults_after(faults: u64, count: usize) -> u64
     if count == 0 { count_up(faults) } else { faults }
 }
 
-// Whether one of two holds.
-fn either(one: bool, other: bool) -> bool
-    ensures { result ≡ one || other }
-{
-    one || other
-}
-
 impl Wire for WaitingWire<'_> {
     ghost use Rattle.std.specs.Prelude.{None};
 
@@ -186,7 +179,7 @@ impl Wire for WaitingWire<'_> {
         match self.gate() {
             Gate::Open => {
                 let count = self.take(buffer);
-                self.ended = either(self.ended, count == 0);
+                self.ended = self.ended | (count == 0);
                 Poll::Ready(Ok(count))
             }
             Gate::Waits => {

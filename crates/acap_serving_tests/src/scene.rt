@@ -32,7 +32,7 @@ pub(crate) enum Scene {
 }
 
 // A client that has connected and was greeted.
-fn greeted<R>(rt: &R, at: SocketAddr) -> io::Result<Client>
+fn connect<R>(rt: &R, at: SocketAddr) -> io::Result<Client>
 where
     R: Net<Listener = TcpListener, Stream = TcpStream> + AllocGlobal,
 {
@@ -45,11 +45,11 @@ where
 }
 
 // A client that has logged in.
-fn logged_in<R>(rt: &R, at: SocketAddr, user: &[u8], secret: &[u8]) -> io::Result<Client>
+fn log_in<R>(rt: &R, at: SocketAddr, user: &[u8], secret: &[u8]) -> io::Result<Client>
 where
     R: Net<Listener = TcpListener, Stream = TcpStream> + AllocGlobal,
 {
-    let mut client = greeted(rt, at)?;
+    let mut client = connect(rt, at)?;
     if client.logs_in(user, secret)? {
         Ok(client)
     } else {
@@ -57,12 +57,12 @@ where
     }
 }
 
-fn shared<R>(rt: &R, at: SocketAddr) -> io::Result<bool>
+fn share<R>(rt: &R, at: SocketAddr) -> io::Result<bool>
 where
     R: Net<Listener = TcpListener, Stream = TcpStream> + AllocGlobal,
 {
-    let mut joe = logged_in(rt, at, b"joe", b"secret")?;
-    let mut other = logged_in(rt, at, b"joe", b"secret")?;
+    let mut joe = log_in(rt, at, b"joe", b"secret")?;
+    let mut other = log_in(rt, at, b"joe", b"secret")?;
     let stored = joe.is_told(
         b"A1 STORE (\"/option/~/font\" \"option.value\" \"mono\")\r\n",
         b"A1 OK \"STORE done\"\r\n",
@@ -81,11 +81,11 @@ where
     Ok(stored && found && searched && changed && told)
 }
 
-fn started<R>(rt: &R, at: SocketAddr) -> io::Result<bool>
+fn start<R>(rt: &R, at: SocketAddr) -> io::Result<bool>
 where
     R: Net<Listener = TcpListener, Stream = TcpStream> + AllocGlobal,
 {
-    let mut ann = logged_in(rt, at, b"ann", b"hush")?;
+    let mut ann = log_in(rt, at, b"ann", b"hush")?;
     ann.is_told(
         b"A1 SEARCH \"/option/site/\" RETURN (\"option.value\") EQUAL \"entry\" \"i;octet\" \"motd\"\r\n",
         b"A1 ENTRY \"motd\" \"hello\"\r\n",
@@ -96,7 +96,7 @@ fn slow<R>(rt: &R, at: SocketAddr) -> io::Result<bool>
 where
     R: Net<Listener = TcpListener, Stream = TcpStream> + AllocGlobal,
 {
-    let mut client = greeted(rt, at)?;
+    let mut client = connect(rt, at)?;
     client.send_slowly(b"A1 NOOP\r\n")?;
     if !client.hears(b"A1 OK \"NOOP done\"\r\n")? {
         return Ok(false);
@@ -114,12 +114,12 @@ where
 }
 
 // A greeted client, once there is a place for one: a session that was cut off may not have ended yet.
-fn greeted_at_last<R>(rt: &R, at: SocketAddr) -> io::Result<Client>
+fn connect_at_last<R>(rt: &R, at: SocketAddr) -> io::Result<Client>
 where
     R: Net<Listener = TcpListener, Stream = TcpStream> + AllocGlobal,
 {
     for _ in 0..10_000 {
-        if let Ok(client) = greeted(rt, at) {
+        if let Ok(client) = connect(rt, at) {
             return Ok(client);
         }
     }
@@ -132,7 +132,7 @@ where
 {
     let mut clients = Vec::new(rt.alloc());
     for _ in 0..64 {
-        clients.push(greeted(rt, at)?)?;
+        clients.push(connect(rt, at)?)?;
     }
     let mut refused = Client::connect(rt, rt.alloc(), at)?;
     if refused.rest()? != FULL {
@@ -146,10 +146,10 @@ where
         b"* BYE \"Good bye\"\r\nA1 OK \"LOGOUT done\"\r\n",
     )?;
     let closed = one.rest()?.is_empty();
-    let _one_more = greeted(rt, at)?;
+    let _one_more = connect(rt, at)?;
     let waits = other.is_told(b"A1 NOOP {5}\r\nhel", b"+ \"Ready\"\r\n")?;
     drop(other);
-    let _another = greeted_at_last(rt, at)?;
+    let _another = connect_at_last(rt, at)?;
     Ok(left && closed && waits)
 }
 
@@ -186,7 +186,7 @@ fn rude<R>(rt: &R, at: SocketAddr) -> io::Result<bool>
 where
     R: Net<Listener = TcpListener, Stream = TcpStream> + AllocGlobal,
 {
-    let mut deaf = logged_in(rt, at, b"joe", b"secret")?;
+    let mut deaf = log_in(rt, at, b"joe", b"secret")?;
     if !deaf.is_told(
         b"A1 STORE (\"/option/~/font\" \"option.value\" \"mono\")\r\n",
         b"A1 OK \"STORE done\"\r\n",
@@ -194,9 +194,9 @@ where
         return Ok(false);
     }
     flood(&deaf)?;
-    let mut ann = logged_in(rt, at, b"ann", b"hush")?;
+    let mut ann = log_in(rt, at, b"ann", b"hush")?;
     let first = ann.is_told(b"B1 NOOP\r\n", b"B1 OK \"NOOP done\"\r\n")?;
-    let noisy = greeted(rt, at)?;
+    let noisy = connect(rt, at)?;
     throw(&noisy);
     let second = ann.is_told(b"B2 NOOP\r\n", b"B2 OK \"NOOP done\"\r\n")?;
     Ok(first && second)
@@ -207,7 +207,7 @@ where
     R: Net<Listener = TcpListener, Stream = TcpStream> + AllocGlobal,
 {
     for _ in 0..10 {
-        let mut joe = logged_in(rt, at, b"joe", b"secret")?;
+        let mut joe = log_in(rt, at, b"joe", b"secret")?;
         let stored = joe.is_told(
             b"A1 STORE (\"/option/~/font\" \"option.value\" \"mono\")\r\n",
             b"A1 OK \"STORE done\"\r\n",
@@ -229,8 +229,8 @@ where
     R: Net<Listener = TcpListener, Stream = TcpStream> + AllocGlobal,
 {
     match scene {
-        Scene::Shared => shared(rt, at),
-        Scene::Started => started(rt, at),
+        Scene::Shared => share(rt, at),
+        Scene::Started => start(rt, at),
         Scene::Slow => slow(rt, at),
         Scene::Full => full(rt, at),
         Scene::Rude => rude(rt, at),

@@ -1,16 +1,16 @@
 //! Tests of sessions on several workers.
 ghost use Rattle.std.specs.Prelude.{◌≡◌, ◌<◌, All, IfOk, None};
-ghost use Rattle.acap_serving.specs.Devices.{silent_source, silent_wire};
+ghost use Rattle.acap_serving.specs.Devices.{silent_wire};
 
 use crate::gate::{OneMoment, Stop, WaitingWire};
-use acap_entries::{Octets, Steps, UserName};
+use acap_entries::{Memory, Octets, Steps, UserName};
 use acap_locked::{Pass, Served, Site};
 use acap_login::Users;
 use acap_machine::State;
 use acap_rights::Realm;
 use acap_serving::{Ran, run_sessions};
 use acap_task::{Conn, TaskEnd, Wire};
-use std::alloc::{AllocError, AllocGlobal, Global};
+use std::alloc::{AllocGlobal, Global};
 use std::marker::Brand;
 use std::net::{Net, TcpListener, TcpStream};
 use std::random::RandomSource;
@@ -40,7 +40,7 @@ fn conn_of<'a>(
     alloc: Global,
     user: &[u8],
     wire: WaitingWire<'a>,
-) -> Result<Conn<WaitingWire<'a>, OneMoment>, AllocError>
+) -> Result<Conn<WaitingWire<'a>, OneMoment>, Memory>
     ensures { IfOk result (λ conn. conn.wire ≡ wire.entry) }
 {
     match UserName::read(alloc, user) {
@@ -49,7 +49,7 @@ fn conn_of<'a>(
             user: Some(user),
             source: OneMoment,
         }),
-        Err(_) => Err(AllocError),
+        Err(_) => Err(Memory),
     }
 }
 
@@ -65,7 +65,7 @@ fn events_of<S: Site, L: Ledger>(served: Served<S, L>, passes: Vec<Pass<S>>) -> 
 fn outcome_of<'w, S: Site, L: Ledger>(
     alloc: Global,
     ran: Ran<S, L, WaitingWire<'w>, OneMoment>,
-) -> Result<Option<Outcome>, AllocError> {
+) -> Result<Option<Outcome>, Memory> {
     let Ran {
         served,
         passes,
@@ -73,8 +73,7 @@ fn outcome_of<'w, S: Site, L: Ledger>(
     } = ran;
     let mut told = Vec::with_capacity(alloc, done.len())?;
     for one in done {
-        told.push((one.end, one.wire.output))
-            .map_err(|_| AllocError)?;
+        told.push((one.end, one.wire.output)).map_err(|_| Memory)?;
     }
     Ok(events_of(served, passes).map(|events| Outcome { told, events }))
 }
@@ -87,7 +86,7 @@ fn run_on<'w, R, S, L>(
     counter: Blank,
     conns: Vec<Conn<WaitingWire<'w>, OneMoment>>,
     workers: usize,
-) -> Result<Option<Outcome>, AllocError>
+) -> Result<Option<Outcome>, Memory>
 where
     R: Threads
         + Wait
@@ -111,11 +110,11 @@ where
     let alloc = rt.alloc();
     let steps = Steps::<L>::new(counter);
     let Ok((served, passes)) = Served::<S, L>::new(alloc, blank, state, steps) else {
-        return Err(AllocError);
+        return Err(Memory);
     };
     let users = Users::new(Vec::new(alloc));
     let Ok(host) = Octets::from_slice(alloc, b"localhost") else {
-        return Err(AllocError);
+        return Err(Memory);
     };
     let ran = run_sessions(rt, served, passes, conns, workers, &users, &host, TURNS);
     match ran {
@@ -129,7 +128,7 @@ fn run_all<'w, R>(
     rt: &R,
     conns: Vec<Conn<WaitingWire<'w>, OneMoment>>,
     workers: usize,
-) -> Result<Option<Outcome>, AllocError>
+) -> Result<Option<Outcome>, Memory>
 where
     R: Threads
         + Wait
@@ -210,7 +209,7 @@ fn two_sessions_are_polled_at_one_time(rt: HostRuntime) -> Result<(), Fail> {
 }
 
 // So many STOREs, and what they are answered.
-fn stores(alloc: Global, count: u32) -> Result<(Vec<u8>, Vec<u8>), AllocError> {
+fn stores(alloc: Global, count: u32) -> Result<(Vec<u8>, Vec<u8>), Memory> {
     let mut said = String::new(alloc);
     let mut answered = String::new(alloc);
     for number in 0..count {

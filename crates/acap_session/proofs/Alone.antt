@@ -11,15 +11,15 @@ use Rattle.acap_machine.specs.Machine.{Machine}
 use Rattle.acap_machine.specs.Runs.{machine_after, outcome_of, run_of}
 use Rattle.acap_machine.specs.Stepping.{step_of}
 use Rattle.acap_session.specs.Laws.{OwnStep, did_in, maker_in, place_in, leave_of, own, own_run, own_at, own_of, own_steps, replies_in, steps_in, IsStepOf, SessionLaw, OthersStay, StepAlone, AloneLaw}
-use Rattle.acap_session.specs.Places.{Place, Places, place_at, placed}
+use Rattle.acap_session.specs.Places.{Place, Places, place_at, with_place}
 use Rattle.acap_dialogue.specs.Running as dialogue
-use Rattle.acap_dialogue.specs.Running.{At, Call, Outcome, call_of, calls_with, closes, event_in, is_left, leaves_by, leaving, seated_by, spoken, turned}
-use Rattle.acap_dialogue.specs.Session.{answered, has_seat, has_seat_at, session_next, session_drain}
-use Rattle.acap_dialogue.specs.Talking.{Talking, begun}
+use Rattle.acap_dialogue.specs.Running.{At, Call, Outcome, call_of, calls_with, closes, event_in, is_left, leaves_by, leaving, seated_by, after_saying, after_turn}
+use Rattle.acap_dialogue.specs.Session.{after_answer, has_seat, has_seat_at, session_next, session_drain}
+use Rattle.acap_dialogue.specs.Talking.{Talking, beginning}
 use Rattle.acap_dialogue.proofs.Running.{Seats, next_seats, drain_seats, answered_seat, reply_goes_on}
-use Rattle.acap_session.specs.Turning.{Scene, scene, shown, left_by, turn_by, turn_of, drain_of, performed}
+use Rattle.acap_session.specs.Turning.{Scene, scene, turn_and_scene, left_by, turn_by, turn_of, drain_of, event_outcome}
 use Rattle.acap_session.specs.World as world
-use Rattle.acap_session.specs.World.{World, Deed, Step, at_open, did, ends, open_at, opened_at, run, said_before, scene_of, takes, with_scene}
+use Rattle.acap_session.specs.World.{World, Deed, Step, at_open, did, ends, open_at, opened_at, world_after, said_before, scene_of, takes, with_scene}
 use Rattle.acap_dialogue.specs.declared.next.Next.{Next}
 use Rattle.acap_dialogue.specs.declared.next.Next.TheVariants as next
 use Rattle.acap_session.specs.declared.occasion.Occasion.{Occasion}
@@ -27,7 +27,7 @@ use Rattle.acap_session.proofs.Placing.{placed_there}
 
 -- ---- a place that is set
 
-pub placed_other : (xs : Places) (k j : ℕ) (p : Place) → j ≢ k → place_at (placed xs k p) j ≡ place_at xs j
+pub placed_other : (xs : Places) (k j : ℕ) (p : Place) → j ≢ k → place_at (with_place xs k p) j ≡ place_at xs j
 placed_other [] zero zero p e = absurd (e refl)
 placed_other [] zero (suc j) p e = refl
 placed_other [] (suc k) zero p e = refl
@@ -94,7 +94,7 @@ one_leads m o e (Ok stepped) rest n k h =
     ∙ (λ i. (Ok stepped.0 ∷ (h i).0, (h i).1))
 one_leads m o e (Err f) rest n k h = h
 
-event_leads : (refused : Bool) (m : Machine) (o : Occasion) (e : Event) (rest : List Call) (n : Machine) → let r = performed refused m o e in
+event_leads : (refused : Bool) (m : Machine) (o : Occasion) (e : Event) (rest : List Call) (n : Machine) → let r = event_outcome refused m o e in
     Leads (machine_after m r) o.seat rest n → Leads m o.seat (call_of o.clock (Some e) (Some (outcome_of r)) ++ rest) n
 event_leads true m o e rest n h = h
 event_leads false m o e rest n h = one_leads m o e (step_of m o.seat e o.clock) rest n refl h
@@ -119,15 +119,15 @@ leave_made false m o at = refl
 
 -- once what is next is said, and the session has left where it is closed
 record Ends (o : Occasion) (m : Machine) (out : List ℕ) (b c : Bool) (n : Next) (t : Talking) : Type 0 where
-  is : leaving (is_left (b, (n, t))) (leave_of (is_left (b, (n, t))) m o) (spoken out (b, (n, t))) ≡ Some (at_scene (shown o c m out (n, t)).1)
-  leads : Leads m o.seat (call_of o.clock (Some event.Leave) (leave_of (is_left (b, (n, t))) m o)) (shown o c m out (n, t)).1.machine
+  is : leaving (is_left (b, (n, t))) (leave_of (is_left (b, (n, t))) m o) (after_saying out (b, (n, t))) ≡ Some (at_scene (turn_and_scene o c m out (n, t)).1)
+  leads : Leads m o.seat (call_of o.clock (Some event.Leave) (leave_of (is_left (b, (n, t))) m o)) (turn_and_scene o c m out (n, t)).1.machine
 
 ended : (o : Occasion) (m : Machine) (out : List ℕ) (b c : Bool) (n : Next) (t : Talking) → has_seat t ≡ (not (closes n) && b) → (closes n ≡ true → b ≡ c) → Ends o m out b c n t
 ended o m out b c next.More t h f = record { is = ap (λ k. Some (record { talk = t; out = out; seated = k })) (sym h); leads = refl }
 ended o m out b c (next.Say octets) t h f = record { is = ap (λ k. Some (record { talk = t; out = out ++ octets; seated = k })) (sym h); leads = refl }
 ended o m out b c (next.Ask e) t h f = record { is = ap (λ k. Some (record { talk = t; out = out; seated = k })) (sym h); leads = refl }
 ended o m out b c (next.Close octets) t h f = record {
-  is = leave_made b m o (spoken out (b, (next.Close octets, t))) ∙ ap (λ k. Some (record { talk = t; out = out ++ octets; seated = k })) (sym h);
+  is = leave_made b m o (after_saying out (b, (next.Close octets, t))) ∙ ap (λ k. Some (record { talk = t; out = out ++ octets; seated = k })) (sym h);
   leads = subst (λ k. Leads m o.seat (call_of o.clock (Some event.Leave) (leave_of b m o)) (left_by k o m)) (f refl) (leave_leads b m o);
 }
 
@@ -142,24 +142,24 @@ or_false true = refl
 or_false false = refl
 
 -- who is closed by an answer was answered with a fault
-same_seat : (t : Talking) (e : Event) (b : Bool) (r : Result (Reply × Machine) Fault) → has_seat t ≡ b → closes (answered t (outcome_of r)).0 ≡ true
+same_seat : (t : Talking) (e : Event) (b : Bool) (r : Result (Reply × Machine) Fault) → has_seat t ≡ b → closes (after_answer t (outcome_of r)).0 ≡ true
     → seated_by e (outcome_of r) b ≡ (has_seat t || is_ok r)
 same_seat t e b (Ok stepped) h c = absurd (let k : false ≡ true = sym (reply_goes_on t stepped.0) ∙ c in cc)
 same_seat t e b (Err f) h c = fault_leaves e f b ∙ sym h ∙ sym (or_false (has_seat t))
 
 abbrev answer_to : Bool → Machine → Occasion → Option Event → Outcome
-answer_to refused m o asks = option_map (λ e. outcome_of (performed refused m o e)) asks
+answer_to refused m o asks = option_map (λ e. outcome_of (event_outcome refused m o e)) asks
 
 abbrev after_event : Bool → Machine → Occasion → Option Event → Machine
 after_event refused m o None = m
-after_event refused m o (Some e) = machine_after m (performed refused m o e)
+after_event refused m o (Some e) = machine_after m (event_outcome refused m o e)
 
 abbrev leave_behind : Occasion → Bool → Scene → Next × Talking → Outcome
 leave_behind o refused s x =
     leave_of (leaves_by (has_seat s.talk) x (answer_to refused s.machine o (event_in x))) (after_event refused s.machine o (event_in x)) o
 
 record Turns (o : Occasion) (refused : Bool) (s : Scene) (x : Next × Talking) : Type 0 where
-  is : turned (at_scene s) x (answer_to refused s.machine o (event_in x)) (leave_behind o refused s x) ≡ Some (at_scene (turn_by o refused s x).1)
+  is : after_turn (at_scene s) x (answer_to refused s.machine o (event_in x)) (leave_behind o refused s x) ≡ Some (at_scene (turn_by o refused s x).1)
   leads : Leads s.machine o.seat (calls_with o.clock (event_in x) (answer_to refused s.machine o (event_in x)) (leave_behind o refused s x)) (turn_by o refused s x).1.machine
 
 turns : (o : Occasion) (refused : Bool) (s : Scene) (n : Next) (t : Talking) → Seats (has_seat s.talk) t.user n t.stage → Turns o refused s (n, t)
@@ -173,8 +173,8 @@ turns o refused s (next.Say octets) t h =
     record { is = made.is; leads = made.leads }
 turns o refused s (next.Ask e) t h =
     let b = has_seat s.talk in
-    let r = performed refused s.machine o e in
-    let y = answered t (outcome_of r) in
+    let r = event_outcome refused s.machine o e in
+    let y = after_answer t (outcome_of r) in
     let seat = answered_seat e b t (outcome_of r) h.0 h.1 in
     let made = ended o (machine_after s.machine r) s.out (seated_by e (outcome_of r) b) (has_seat t || is_ok r) y.0 y.1 seat (same_seat t e b r h.0) in
     record { is = made.is; leads = event_leads refused s.machine o e _ _ made.leads }
@@ -192,7 +192,7 @@ session_by : (o : Occasion) (refused : Bool) (deed : Deed) (w : World) (now : Op
     IsStepOf (own_at w (step_on o refused deed) now) (maker_in w (step_on o refused deed) now) w (did_by o refused deed w now)
 unfolding dialogue.did turn_of drain_of
 session_by o refused (world.Open user) w None =
-    let s = scene w.machine (begun w.host user) (said_before (place_at w.places o.seat)) in
+    let s = scene w.machine (beginning w.host user) (said_before (place_at w.places o.seat)) in
     let x = session_next w.users o.nonce o.clock s.talk in
     let made = turns o refused s x.0 x.1 (next_seats w.users o.nonce o.clock s.talk) in
     let end = (turn_by o refused s x).1 in

@@ -14,16 +14,16 @@ use Rattle.acap_lexer.specs.declared.mode.Mode.TheVariants as mode
 use Rattle.acap_lexer.proofs.Asking.{next_cases, Continues, Lacks, Finds}
 use Rattle.acap_lexer.proofs.ProgressLaws.{keeps_items, keeps_waits, takes_octets}
 use Rattle.acap_login.specs.Login.{User}
-use Rattle.acap_dialogue.specs.Hearing.{heard, heard_answer}
-use Rattle.acap_session.specs.Laws.{Move, Comes, Turns, joined, emptied, with_emptied, HasRoomFor, Alike, came_of, steps_on, HaveRoom, IsHeard, as_one, PiecesJoin, IsKept, TurnsKeep, CuttingLaw, IsJoined, JoiningLaw}
+use Rattle.acap_dialogue.specs.Hearing.{response_to, heard_answer}
+use Rattle.acap_session.specs.Laws.{Move, Comes, Turns, octets_of_moves, without_octets, with_emptied, HasRoomFor, Alike, came_of, steps_on, HaveRoom, IsHeard, as_one, PiecesJoin, IsKept, TurnsKeep, CuttingLaw, IsJoined, JoiningLaw}
 use Rattle.acap_session.specs.Piping.{hears}
-use Rattle.acap_session.specs.Places.{Place, Places, place_at, placed, if_open}
+use Rattle.acap_session.specs.Places.{Place, Places, place_at, with_place, if_open}
 use Rattle.acap_session.specs.Script.{IsQuiet, IsQuietFor}
-use Rattle.acap_dialogue.specs.Session.{listening, session_next, next_at, answered, comes_to, is_closed}
+use Rattle.acap_dialogue.specs.Session.{listening, session_next, next_at, after_answer, comes_to, is_closed}
 use Rattle.acap_dialogue.specs.Talking.{Talking}
 use Rattle.acap_session.specs.Turning.{Scene, turn_by, turn_of}
 use Rattle.acap_session.specs.World as world
-use Rattle.acap_session.specs.World.{World, at_open, did, open_at, run, room_of, scene_of, takes, with_scene, went_on}
+use Rattle.acap_session.specs.World.{World, at_open, did, open_at, world_after, room_of, scene_of, takes, with_scene, went_on}
 use Rattle.acap_dialogue.specs.declared.next.Next.{Next}
 use Rattle.acap_dialogue.specs.declared.next.Next.TheVariants as next
 use Rattle.acap_session.specs.declared.occasion.Occasion.{Occasion}
@@ -74,11 +74,11 @@ behind b t = record t { held = with_more t.held b }
 
 next_keeps : (users : List User) (nonce : ℕ) (clock : ℤ) (s : Stage) (t : Talking) (b : List ℕ) → ((next_at users nonce clock s t).0 ≡ next.More → ⊥)
     → next_at users nonce clock s (behind b t) ≡ ((next_at users nonce clock s t).0, behind b (next_at users nonce clock s t).1)
-unfolding heard heard_answer
+unfolding response_to heard_answer
 next_keeps users nonce clock stage.Opening t b some = refl
 next_keeps users nonce clock stage.Entering t b some = absurd (some refl)
 next_keeps users nonce clock stage.Ready t b some =
-    ap (λ (r : Lexed × Held). comes_to (record t { held = r.1 }) (heard (listening t nonce clock) r.0)) (lexer_keeps mode.Command t.held b t.held.fatal refl (λ e. some (ap (λ x. (heard (listening t nonce clock) x).0) e)))
+    ap (λ (r : Lexed × Held). comes_to (record t { held = r.1 }) (response_to (listening t nonce clock) r.0)) (lexer_keeps mode.Command t.held b t.held.fatal refl (λ e. some (ap (λ x. (response_to (listening t nonce clock) x).0) e)))
 next_keeps users nonce clock (stage.Asked tag) t b some = absurd (some refl)
 next_keeps users nonce clock (stage.Challenged tag challenge) t b some =
     ap (λ (r : Lexed × Held). comes_to (record t { held = r.1 }) (heard_answer users tag challenge r.0)) (lexer_keeps mode.Answer t.held b t.held.fatal refl (λ e. some (ap (λ x. (heard_answer users tag challenge x).0) e)))
@@ -95,7 +95,7 @@ next_kept users nonce clock s b some = ap (λ (x : Next × Talking). x.0) (next_
 
 by_next_keeps : (o : Occasion) (refused : Bool) (s : Scene) (n : Next) (t : Talking) (b : List ℕ)
     → turn_by o refused (hears b s) (n, behind b t) ≡ ((turn_by o refused s (n, t)).0, hears b (turn_by o refused s (n, t)).1)
-unfolding answered
+unfolding after_answer
 by_next_keeps o refused s next.More t b = refl
 by_next_keeps o refused s (next.Say octets) t b = refl
 by_next_keeps o refused s (next.Ask event) t b = refl
@@ -147,10 +147,10 @@ before_turn : (users : List User) (o : Occasion) (octets : List ℕ) (s end : Sc
 before_turn users o octets s end true e r = (suc r.0, ap (λ (x : Turn × Scene). turned users o r.0 x.1) (turn_keeps users o false s octets e) ∙ r.1)
 before_turn users o octets s end false e r = (r.0, ap (λ q. turned users o r.0 (hears octets q)) (sym (nothing_changes users o false s (turn_of users o false s).0 refl e)) ∙ r.1)
 
-comes_first : (users : List User) (o : Occasion) (moves : List Move) (s : Scene) → ComesFirst users o (joined moves) s (freely users o moves s)
+comes_first : (users : List User) (o : Occasion) (moves : List Move) (s : Scene) → ComesFirst users o (octets_of_moves moves) s (freely users o moves s)
 comes_first users o [] s = (0, ap (with_text s) (append-nil s.talk.held.text))
-comes_first users o (Comes x ∷ moves) s = let r = comes_first users o moves (hears x s) in (r.0, ap (λ ts. turned users o r.0 (with_text s ts)) (sym (append_assoc s.talk.held.text x (joined moves))) ∙ r.1)
-comes_first users o (Turns ∷ moves) s = before_turn users o (joined moves) s _ (went_on (turn_of users o false s).0) refl (comes_first users o moves (turn_of users o false s).1)
+comes_first users o (Comes x ∷ moves) s = let r = comes_first users o moves (hears x s) in (r.0, ap (λ ts. turned users o r.0 (with_text s ts)) (sym (append_assoc s.talk.held.text x (octets_of_moves moves))) ∙ r.1)
+comes_first users o (Turns ∷ moves) s = before_turn users o (octets_of_moves moves) s _ (went_on (turn_of users o false s).0) refl (comes_first users o moves (turn_of users o false s).1)
 
 -- where nothing is next more turns change nothing
 more_turns : (users : List User) (o : Occasion) (n : ℕ) (s : Scene) → IsStill users o s → turned users o n s ≡ s
@@ -162,26 +162,26 @@ one_end users o zero n s e f = sym (more_turns users o n s e)
 one_end users o (suc m) zero s e f = more_turns users o (suc m) s f
 one_end users o (suc m) (suc n) s e f = one_end users o m n (turn_of users o false s).1 e f
 
-ends_meet : (users : List User) (o : Occasion) (a b : List Move) (s : Scene) → joined a ≡ joined b → IsStill users o (freely users o a s) → IsStill users o (freely users o b s) → freely users o a s ≡ freely users o b s
+ends_meet : (users : List User) (o : Occasion) (a b : List Move) (s : Scene) → octets_of_moves a ≡ octets_of_moves b → IsStill users o (freely users o a s) → IsStill users o (freely users o b s) → freely users o a s ≡ freely users o b s
 ends_meet users o a b s e f g =
     let x = comes_first users o a s in
     let y = comes_first users o b s in
-    let z : turned users o y.0 (hears (joined a) s) ≡ freely users o b s = ap (λ ts. turned users o y.0 (hears ts s)) e ∙ y.1 in
-    sym x.1 ∙ one_end users o x.0 y.0 (hears (joined a) s) (subst (IsStill users o) (sym x.1) f) (subst (IsStill users o) (sym z) g) ∙ z
+    let z : turned users o y.0 (hears (octets_of_moves a) s) ≡ freely users o b s = ap (λ ts. turned users o y.0 (hears ts s)) e ∙ y.1 in
+    sym x.1 ∙ one_end users o x.0 y.0 (hears (octets_of_moves a) s) (subst (IsStill users o) (sym x.1) f) (subst (IsStill users o) (sym z) g) ∙ z
 
 -- a closed session holds all octets that come
-closed_hears : (users : List User) (o : Occasion) (moves : List Move) (s : Scene) → is_closed s.talk.stage ≡ true → freely users o moves s ≡ hears (joined moves) s
-closed_hears users o moves s e = let x = comes_first users o moves s in sym x.1 ∙ more_turns users o x.0 (hears (joined moves) s) (closed_still users o (hears (joined moves) s) e)
+closed_hears : (users : List User) (o : Occasion) (moves : List Move) (s : Scene) → is_closed s.talk.stage ≡ true → freely users o moves s ≡ hears (octets_of_moves moves) s
+closed_hears users o moves s e = let x = comes_first users o moves s in sym x.1 ∙ more_turns users o x.0 (hears (octets_of_moves moves) s) (closed_still users o (hears (octets_of_moves moves) s) e)
 
 -- ---- a world whose session at a seat is set
 
-placed_twice : (xs : Places) (k : ℕ) (p q : Place) → placed (placed xs k p) k q ≡ placed xs k q
+placed_twice : (xs : Places) (k : ℕ) (p q : Place) → with_place (with_place xs k p) k q ≡ with_place xs k q
 placed_twice [] zero p q = refl
 placed_twice [] (suc k) p q = ap (λ ys. None ∷ ys) (placed_twice [] k p q)
 placed_twice (x ∷ xs) zero p q = refl
 placed_twice (x ∷ xs) (suc k) p q = ap (λ ys. x ∷ ys) (placed_twice xs k p q)
 
-placed_same : (xs : Places) (k : ℕ) (p : Place) → place_at xs k ≡ Some p → placed xs k p ≡ xs
+placed_same : (xs : Places) (k : ℕ) (p : Place) → place_at xs k ≡ Some p → with_place xs k p ≡ xs
 placed_same [] k p e = absurd cc
 placed_same (x ∷ xs) zero p e = ap (λ y. y ∷ xs) (sym e)
 placed_same (x ∷ xs) (suc k) p e = ap (λ ys. x ∷ ys) (placed_same xs k p e)
@@ -260,7 +260,7 @@ pieces_join o later refused again a b w h =
 -- ---- sessions that are the same, but for what a closed one holds
 
 abbrev AreAlike : Scene → Scene → Type 0
-AreAlike x y = (x ≡ y) ⊎ ((is_closed x.talk.stage ≡ true) × (is_closed y.talk.stage ≡ true) × (emptied x ≡ emptied y))
+AreAlike x y = (x ≡ y) ⊎ ((is_closed x.talk.stage ≡ true) × (is_closed y.talk.stage ≡ true) × (without_octets x ≡ without_octets y))
 
 alike_back : (x y : Scene) → AreAlike x y → AreAlike y x
 alike_back x y (inl e) = inl (sym e)
@@ -280,8 +280,8 @@ alike_set : (w : World) (k : ℕ) (x y : Scene) → AreAlike x y → Alike k (wi
 alike_set w k x y (inl e) = inl (ap (with_scene w k) e)
 alike_set w k x y (inr (c, d, e)) = inr (open_is w k x true c, open_is w k y true d, set_empty x ∙ ap (with_scene w k) e ∙ sym (set_empty y))
   where
-    set_empty : (s : Scene) → with_emptied (with_scene w k s) k (place_at (with_scene w k s).places k) ≡ with_scene w k (emptied s)
-    set_empty s = ap (with_emptied (with_scene w k s) k) (there w k s) ∙ set_twice w k s (emptied s)
+    set_empty : (s : Scene) → with_emptied (with_scene w k s) k (place_at (with_scene w k s).places k) ≡ with_scene w k (without_octets s)
+    set_empty s = ap (with_emptied (with_scene w k s) k) (there w k s) ∙ set_twice w k s (without_octets s)
 
 -- ---- a turn and octets
 
@@ -317,27 +317,27 @@ turns_keep o later refused again b w h r q g =
 
 -- ---- all moves
 
-none_run : (o : Occasion) (moves : List Move) (w : World) → open_at w o.seat ≡ None → run (steps_on o moves) w ≡ w
+none_run : (o : Occasion) (moves : List Move) (w : World) → open_at w o.seat ≡ None → world_after (steps_on o moves) w ≡ w
 none_run o [] w e = refl
-none_run o (Turns ∷ moves) w e = ap (run (steps_on o moves)) (turn_none w o false e) ∙ none_run o moves w e
-none_run o (Comes x ∷ moves) w e = ap (run (steps_on o moves)) (piece_none w o o.seat false x refl e) ∙ none_run o moves w e
+none_run o (Turns ∷ moves) w e = ap (world_after (steps_on o moves)) (turn_none w o false e) ∙ none_run o moves w e
+none_run o (Comes x ∷ moves) w e = ap (world_after (steps_on o moves)) (piece_none w o o.seat false x refl e) ∙ none_run o moves w e
 
 -- they end at a session that is the same as without a limit
 abbrev Ends : Occasion → List Move → World → Scene → World → Type 0
 Ends o moves w s new = (end : Scene) × (new ≡ with_scene w o.seat end) × AreAlike end (freely w.users o moves s)
 
-ends : (o : Occasion) (moves : List Move) (w : World) (s : Scene) (b : Bool) → is_closed s.talk.stage ≡ b → HaveRoom o moves (with_scene w o.seat s) → Ends o moves w s (run (steps_on o moves) (with_scene w o.seat s))
+ends : (o : Occasion) (moves : List Move) (w : World) (s : Scene) (b : Bool) → is_closed s.talk.stage ≡ b → HaveRoom o moves (with_scene w o.seat s) → Ends o moves w s (world_after (steps_on o moves) (with_scene w o.seat s))
 ends o moves w s true e r = (s, none_run o moves (with_scene w o.seat s) (open_is w o.seat s true e), subst (AreAlike s) (sym (closed_hears w.users o moves s e)) (inr (e, e, refl)))
 ends o [] w s false e r = (s, refl, inl refl)
 ends o (Turns ∷ moves) w s false e r =
     let q = turn_set w o false s e in
     let z = (turn_of w.users o false s).1 in
     let k = ends o moves w z (is_closed z.talk.stage) refl (subst (HaveRoom o moves) q r) in
-    (k.0, ap (run (steps_on o moves)) q ∙ k.1, k.2)
+    (k.0, ap (world_after (steps_on o moves)) q ∙ k.1, k.2)
 ends o (Comes x ∷ moves) w s false e r =
     let q = piece_heard w o o.seat false x s refl e r.0 in
     let k = ends o moves w (hears x s) false e (subst (HaveRoom o moves) q r.1) in
-    (k.0, ap (run (steps_on o moves)) q ∙ k.1, k.2)
+    (k.0, ap (world_after (steps_on o moves)) q ∙ k.1, k.2)
 
 -- and nothing is next there
 heard_at : (o : Occasion) (moves : List Move) (w new : World) (s : Scene) → IsHeard o moves (with_scene w o.seat s) new → Ends o moves w s new × IsStill w.users o (freely w.users o moves s)
@@ -370,8 +370,8 @@ one_set : (o : Occasion) (moves : List Move) (w new : World) (s : Scene) → IsH
 one_set o moves w new s h r =
     let x = heard_at o moves w new s h in
     let c = comes_first w.users o moves s in
-    let room : HaveRoom o (as_one (joined moves) c.0) (with_scene w o.seat s) = (r, turns_room o c.0 (did o false (world.Piece (joined moves)) (with_scene w o.seat s))) in
-    let k = ends o (as_one (joined moves) c.0) w s (is_closed s.talk.stage) refl room in
+    let room : HaveRoom o (as_one (octets_of_moves moves) c.0) (with_scene w o.seat s) = (r, turns_room o c.0 (did o false (world.Piece (octets_of_moves moves)) (with_scene w o.seat s))) in
+    let k = ends o (as_one (octets_of_moves moves) c.0) w s (is_closed s.talk.stage) refl room in
     let same = subst (AreAlike k.0) c.1 k.2 in
     let still = alike_still w.users o (freely w.users o moves s) k.0 (alike_back k.0 (freely w.users o moves s) same) x.1 in
     let quiet = subst (IsQuietFor o (with_scene w o.seat k.0)) (sym (there w o.seat k.0)) still in
@@ -382,6 +382,6 @@ joining o moves old new h r =
     elim (starts old o.seat) [
       | inl none ↦ (
           let same = h.is ∙ none_run o moves old none in
-          (0, old, record { room = (r, tt); is = sym (none_run o (as_one (joined moves) 0) old none); quiet = subst (IsQuiet o) same h.quiet }, inl same))
+          (0, old, record { room = (r, tt); is = sym (none_run o (as_one (octets_of_moves moves) 0) old none); quiet = subst (IsQuiet o) same h.quiet }, inl same))
       | inr (s, q, c) ↦ subst (IsJoined o moves new) (sym q) (one_set o moves old new s (subst (λ (w : World). IsHeard o moves w new) q h)) r
     ]

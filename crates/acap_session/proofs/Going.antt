@@ -7,7 +7,7 @@ use Rattle.std.proofs.lemmas.List.{append-nil}
 use Rattle.acap_lexer.specs.Held.{fatal_of, next_of}
 use Rattle.acap_lexer.specs.Holding.{Held}
 use Rattle.acap_lexer.specs.Octets.{is_escaped}
-use Rattle.acap_lexer.specs.Printing.{printed, quoted, may_quote, is_printable}
+use Rattle.acap_lexer.specs.Printing.{printed_form, quoted_form, may_quote, is_printable}
 use Rattle.acap_lexer.specs.Token.{Token}
 use Rattle.acap_lexer.specs.declared.fault.LexFault.{LexFault}
 use Rattle.acap_lexer.specs.declared.fault.LexFault.TheVariants as lexical
@@ -32,9 +32,9 @@ use Rattle.acap_commands.specs.declared.said.Said.TheVariants as said
 use Rattle.acap_machine.specs.Completing.{completes}
 use Rattle.acap_commands.specs.declared.event.Event.{Event}
 use Rattle.acap_commands.specs.declared.event.Event.TheVariants as event
-use Rattle.acap_session.specs.Completing.{Call, plain_call, login_call, is_login, called_wrong, called, called_at, completed_by, going_on, farewell, IsLeft, IsEnd, AreCompleted}
+use Rattle.acap_session.specs.Completing.{Call, plain_call, login_call, is_login, called_wrong, calls_in, called_at, completed_by, going_on, farewell, IsLeft, IsEnd, AreCompleted}
 use Rattle.acap_dialogue.specs.Listening.{Listening}
-use Rattle.acap_dialogue.specs.Hearing.{challenged, refuses, heard, heard_line, heard_command, heard_answer, answer_line, answer_token, asks, authenticated, logs_in, mechanism_name, opening, ready_line, refusal_of, tag_of, who}
+use Rattle.acap_dialogue.specs.Hearing.{challenge_or_refusal, refuses, response_to, heard_line, heard_command, heard_answer, answer_line, answer_token, asks, login_or_refusal, logs_in, mechanism_name, opening, ready_line, refusal_of, tag_of, who}
 use Rattle.acap_dialogue.specs.Session.{listening, next_at, drain_at, drain_for}
 use Rattle.acap_dialogue.specs.Talking.{Talking}
 use Rattle.acap_dialogue.specs.declared.next.Next.{Next}
@@ -126,7 +126,7 @@ ending b f fatal e left = record { replies = []; done = []; left = b; end = fare
 -- ---- a command is heard
 
 ready_octets : ready_line ≡ octets_of (record { tag = None; said = said.Challenge (codes "Ready") })
-unfolding octets_of said_form challenge_form printed quoted may_quote is_printable is_escaped is_utf8 chars encode_utf8
+unfolding octets_of said_form challenge_form printed_form quoted_form may_quote is_printable is_escaped is_utf8 chars encode_utf8
 ready_octets = refl
 
 pub continues : (b : List Call) (fatal : Option LexFault) (x : Stage) → IsLeft fatal x b → AreCompleted b ready_line fatal x
@@ -162,8 +162,8 @@ if_goes b user seated fatal true x y p q = p
 if_goes b user seated fatal false x y p q = q
 
 authenticated_goes : (l : Listening) (tag : Option (List ℕ)) (m : List ℕ) (seated : Option (List ℕ)) (fatal : Option LexFault) →
-    seated ≡ l.user → GoesTo (login_call tag ∷ []) l.user seated fatal (authenticated l tag m)
-authenticated_goes l tag m seated fatal e = elim l.user as (λ u. l.user ≡ u → GoesTo (login_call tag ∷ []) l.user seated fatal (if is_some u then refuses tag refusals.LoggedIn else challenged l tag m)) [
+    seated ≡ l.user → GoesTo (login_call tag ∷ []) l.user seated fatal (login_or_refusal l tag m)
+authenticated_goes l tag m seated fatal e = elim l.user as (λ u. l.user ≡ u → GoesTo (login_call tag ∷ []) l.user seated fatal (if is_some u then refuses tag refusals.LoggedIn else challenge_or_refusal l tag m)) [
   | None ↦ λ none. if_goes (login_call tag ∷ []) l.user seated fatal (str_eq_ignore_ascii_case m mechanism_name) _ _ (none, waits _ _ fatal _ refl refl, e) (tt, one _ _ fatal stage.Ready refl refl, e)
   | Some user ↦ λ some. (tt, one _ _ fatal stage.Ready refl refl, e)
 ] refl
@@ -197,8 +197,8 @@ line_goes l tag (Err f) seated fatal e =
     (tt, one _ r fatal stage.Ready (ended tag r (completes r.said) (grammar_completes f)) refl, e)
 
 pub heard_goes : (l : Listening) (x : Lexed) (seated : Option (List ℕ)) (fatal : Option LexFault) → ((f : LexFault) → x ≡ lexed.Fatal f → fatal ≡ Some f) →
-    seated ≡ l.user → GoesTo (called x) l.user seated fatal (heard l x)
-unfolding heard
+    seated ≡ l.user → GoesTo (calls_in x) l.user seated fatal (response_to l x)
+unfolding response_to
 heard_goes l lexed.More seated fatal f e = (tt, refl, e)
 heard_goes l lexed.Plus seated fatal f e = (tt, continues [] fatal stage.Ready refl, e)
 heard_goes l (lexed.Line tokens) seated fatal f e = line_goes l (tag_of tokens) (command_of tokens) seated fatal e

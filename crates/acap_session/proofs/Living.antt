@@ -10,8 +10,8 @@ use Rattle.acap_commands.specs.declared.event.Event.TheVariants as event
 use Rattle.acap_commands.specs.declared.fault.Fault.{Fault}
 use Rattle.acap_commands.specs.declared.reply.Reply.{Reply}
 use Rattle.acap_dialogue.specs.Saying.{heard_of}
-use Rattle.acap_dialogue.specs.Session.{answered, has_seat, session_next, session_drain}
-use Rattle.acap_dialogue.specs.Talking.{Talking, begun}
+use Rattle.acap_dialogue.specs.Session.{after_answer, has_seat, session_next, session_drain}
+use Rattle.acap_dialogue.specs.Talking.{Talking, beginning}
 use Rattle.acap_dialogue.specs.declared.heard.Heard.{Heard}
 use Rattle.acap_dialogue.specs.declared.heard.Heard.TheVariants as heard
 use Rattle.acap_dialogue.specs.declared.next.Next.{Next}
@@ -29,9 +29,9 @@ use Rattle.acap_session.specs.Laws.{asked_by}
 use Rattle.acap_dialogue.specs.Running.{event_in}
 use Rattle.acap_session.specs.Live.{asked_in, told_with, told_in, client_told, whole_told, told_all, tells_in, client_in, whole_in, is_named_deed, are_named, Telling, IsTelling, start, all_steps, after, client, LiveLaw}
 use Rattle.acap_session.specs.Places.{Place, place_at}
-use Rattle.acap_session.specs.Turning.{Scene, scene, performed, left_at, left_by, turn_by, turn_of, drain_of}
+use Rattle.acap_session.specs.Turning.{Scene, scene, event_outcome, left_at, left_by, turn_by, turn_of, drain_of}
 use Rattle.acap_session.specs.World as world
-use Rattle.acap_session.specs.World.{World, Deed, Step, did, new_world, open_at, run, said_before, scene_of}
+use Rattle.acap_session.specs.World.{World, Deed, Step, did, new_world, open_at, world_after, said_before, scene_of}
 use Rattle.acap_session.specs.declared.occasion.Occasion.{Occasion}
 use Rattle.acap_rights.specs.declared.realm.Realm.{Realm}
 use Rattle.acap_session.proofs.Alone.{alone, did_by}
@@ -41,7 +41,7 @@ use Rattle.acap_session.proofs.Naming.{NamedWorld, new_named, step_named, asked_
 
 abbrev machine_by : Option Event → Occasion → Bool → Machine → Machine
 machine_by None o refused m = m
-machine_by (Some e) o refused m = machine_after m (performed refused m o e)
+machine_by (Some e) o refused m = machine_after m (event_outcome refused m o e)
 
 record MovedTo (o : Occasion) (m n : Machine) : Type 0 where
   left : Bool
@@ -57,8 +57,8 @@ turned_to : (o : Occasion) (refused : Bool) (s : Scene) (x : Next × Talking) �
 turned_to o refused s (next.More, t) = record { left = false; is = refl }
 turned_to o refused s (next.Say octets, t) = record { left = false; is = refl }
 turned_to o refused s (next.Ask event, t) =
-    let r = performed refused s.machine o event in
-    closing (heard_of (answered t (outcome_of r)).0) (has_seat t || is_ok r) o (machine_after s.machine r)
+    let r = event_outcome refused s.machine o event in
+    closing (heard_of (after_answer t (outcome_of r)).0) (has_seat t || is_ok r) o (machine_after s.machine r)
 turned_to o refused s (next.Close octets, t) = record { left = has_seat s.talk; is = refl }
 
 abbrev asked_on : World → Occasion → Deed → Option Place → Option Event
@@ -66,7 +66,7 @@ asked_on w o deed now = asked_by w (record { occasion = o; refused = false; deed
 
 moved_by : (o : Occasion) (refused : Bool) (deed : Deed) (w : World) (now : Option Place) → MovedTo o (machine_by (asked_on w o deed now) o refused w.machine) (did_by o refused deed w now).machine
 unfolding turn_of drain_of
-moved_by o refused (world.Open user) w None = turned_to o refused (scene w.machine (begun w.host user) (said_before (place_at w.places o.seat))) (session_next w.users o.nonce o.clock (begun w.host user))
+moved_by o refused (world.Open user) w None = turned_to o refused (scene w.machine (beginning w.host user) (said_before (place_at w.places o.seat))) (session_next w.users o.nonce o.clock (beginning w.host user))
 moved_by o refused (world.Open user) w (Some p) = record { left = false; is = refl }
 moved_by o refused (world.Piece octets) w None = record { left = false; is = refl }
 moved_by o refused (world.Piece octets) w (Some p) = record { left = false; is = refl }
@@ -123,7 +123,7 @@ module _ (current : CurrentLaw) (law : HeldLaw) where
 
     by_held : (m : Machine) (o : Occasion) (refused : Bool) (asked : Option Event) (whole : Bool) (held : Client) → IsCurrentMachine m → (b : Bool) → (o.seat == seat) ≡ b
         → IsHeld (live_at m seat name) whole held
-        → let told = option_and_then (λ e. option_and_then (told_with e) (option_map (λ e. outcome_of (performed refused m o e)) asked)) asked in
+        → let told = option_and_then (λ e. option_and_then (told_with e) (option_map (λ e. outcome_of (event_outcome refused m o e)) asked)) asked in
         IsHeld (live_at (machine_by asked o refused m) seat name) (cond b (whole_told name told whole) whole) (cond b (client_told name told held) held)
     by_held m o refused None whole held is true own h = h
     by_held m o refused None whole held is false own h = h
@@ -152,7 +152,7 @@ module _ (current : CurrentLaw) (law : HeldLaw) where
     after_told m e clock (Err fault) x f is t l = absurd cc
 
     by_told : (m : Machine) (o : Occasion) (refused : Bool) (asked : Option Event) (x : View) → o.seat ≡ seat → IsCurrentMachine m
-        → told_all name (option_and_then (λ e. option_and_then (told_with e) (option_map (λ e. outcome_of (performed refused m o e)) asked)) asked) ≡ true
+        → told_all name (option_and_then (λ e. option_and_then (told_with e) (option_map (λ e. outcome_of (event_outcome refused m o e)) asked)) asked) ≡ true
         → live_at (machine_by asked o refused m) seat name ≡ Some x → IsFresh (machine_by asked o refused m) seat x
     by_told m o refused None x at is t l = absurd cc
     by_told m o true (Some e) x at is t l = absurd cc
@@ -204,19 +204,19 @@ module _ (current : CurrentLaw) (law : HeldLaw) where
 
       all_held : (steps : List Step) (w : World) (whole : Bool) (held : Client) → NamedWorld w → list_all (λ x. is_named_deed x.deed) steps ≡ true → IsCurrentMachine w.machine
           → IsHeld (live_at w.machine seat name) whole held
-          → IsHeld (live_at (run steps w).machine seat name) (whole_in seat name steps w whole) (client_in seat name steps w held)
+          → IsHeld (live_at (world_after steps w).machine seat name) (whole_in seat name steps w whole) (client_in seat name steps w held)
       all_held [] w whole held names named is h = h
       all_held (x ∷ xs) w whole held names named is h =
           let both = and_parts (is_named_deed x.deed) _ named in
           all_held xs (did x.occasion x.refused x.deed w) _ _ (step_named formed w x names both.0) both.1 (step_current w x names both.0 is) (step_held w x whole held is h)
 
-      all_current : (steps : List Step) (w : World) → NamedWorld w → list_all (λ x. is_named_deed x.deed) steps ≡ true → IsCurrentMachine w.machine → IsCurrentMachine (run steps w).machine
+      all_current : (steps : List Step) (w : World) → NamedWorld w → list_all (λ x. is_named_deed x.deed) steps ≡ true → IsCurrentMachine w.machine → IsCurrentMachine (world_after steps w).machine
       all_current [] w names named is = is
       all_current (x ∷ xs) w names named is =
           let both = and_parts (is_named_deed x.deed) _ named in
           all_current xs (did x.occasion x.refused x.deed w) (step_named formed w x names both.0) both.1 (step_current w x names both.0 is)
 
-run_behind : (xs ys : List Step) (w : World) → run (xs ++ ys) w ≡ run ys (run xs w)
+run_behind : (xs ys : List Step) (w : World) → world_after (xs ++ ys) w ≡ world_after ys (world_after xs w)
 run_behind [] ys w = refl
 run_behind (x ∷ xs) ys w = run_behind xs ys (did x.occasion x.refused x.deed w)
 
@@ -228,7 +228,7 @@ named_front (x ∷ xs) ys named =
 
 module _ (current : CurrentLaw) (law : HeldLaw) (seen : SeenLaw) (formed : (tokens : List Token) (c : Command) → command_of tokens ≡ Ok c → is_named (event.Command c) ≡ true) where
   holds : (realm : Realm) (users : List User) (host : List ℕ) (steps : List Step) (seat : ℕ) (name : List ℕ) (x : View) → are_named users steps ≡ true
-      → live_at (run steps (new_world realm users host)).machine seat name ≡ Some x → whole_in seat name steps (new_world realm users host) false ≡ true
+      → live_at (world_after steps (new_world realm users host)).machine seat name ≡ Some x → whole_in seat name steps (new_world realm users host) false ≡ true
       → client_in seat name steps (new_world realm users host) None ≡ with_rows x
   holds realm users host steps seat name x named live whole =
       let both = and_parts (list_all (λ user. is_user_name user.0) users) _ named in
@@ -241,7 +241,7 @@ module _ (current : CurrentLaw) (law : HeldLaw) (seen : SeenLaw) (formed : (toke
       let end = run_behind t.steps (t.last ∷ []) (start t) in (
         holds t.realm t.users t.host (all_steps t) t.seat t.name x is.named is.live is.whole,
         subst (λ (w : World). IsFresh w.machine t.seat x) (sym end)
-            (step_told current law t.seat t.name (run t.steps (start t)) t.last x before is.tells (ap (λ (w : World). live_at w.machine t.seat t.name) (sym end) ∙ is.live)),
+            (step_told current law t.seat t.name (world_after t.steps (start t)) t.last x before is.tells (ap (λ (w : World). live_at w.machine t.seat t.name) (sym end) ∙ is.live)),
       )
 
   pub live_law : LiveLaw

@@ -13,10 +13,10 @@ use Rattle.acap_commands.specs.declared.fault.Fault.{Fault}
 use Rattle.acap_commands.specs.declared.fault.Fault.TheVariants as fault
 use Rattle.acap_commands.specs.declared.refusal.Refusal.TheVariants as refusals
 use Rattle.acap_commands.specs.declared.reply.Reply.{Reply}
-use Rattle.acap_dialogue.specs.Hearing.{heard, heard_line, heard_command, heard_answer, answer_line, answer_token, asks, opening, logs_in, authenticated, challenged, challenges, mechanism_name, refuses, seconds_of}
+use Rattle.acap_dialogue.specs.Hearing.{response_to, heard_line, heard_command, heard_answer, answer_line, answer_token, asks, opening, logs_in, login_or_refusal, challenge_or_refusal, challenges, mechanism_name, refuses, seconds_of}
 use Rattle.acap_dialogue.specs.Listening.{Listening}
-use Rattle.acap_dialogue.specs.Session.{answered, answer_said, answer_user, comes_to, listening, next_at, session_next, session_drain, drain_at, drain_for, is_closed}
-use Rattle.acap_dialogue.specs.Talking.{Talking, begun}
+use Rattle.acap_dialogue.specs.Session.{after_answer, answer_said, answer_user, comes_to, listening, next_at, session_next, session_drain, drain_at, drain_for, is_closed}
+use Rattle.acap_dialogue.specs.Talking.{Talking, beginning}
 use Rattle.acap_dialogue.specs.declared.next.Next.{Next}
 use Rattle.acap_dialogue.specs.declared.next.Next.TheVariants as next
 use Rattle.acap_dialogue.specs.declared.stage.Stage.{Stage}
@@ -31,12 +31,12 @@ use Rattle.acap_lexer.specs.declared.kind.Kind.TheVariants as kind
 use Rattle.acap_lexer.specs.declared.lexed.Lexed.{Lexed}
 use Rattle.acap_lexer.specs.declared.lexed.Lexed.TheVariants as lexed
 use Rattle.acap_lexer.specs.declared.mode.Mode.TheVariants as mode
-use Rattle.acap_login.specs.Login.{User, name_at, accepted, challenge_of}
+use Rattle.acap_login.specs.Login.{User, name_at, answering_user, challenge_of}
 use Rattle.acap_machine.specs.Following.{is_named}
 use Rattle.acap_rights.specs.declared.realm.Realm.{Realm}
 use Rattle.acap_session.specs.Laws.{OwnStep, asked_by, did_in, maker, own, own_of, place_in}
 use Rattle.acap_dialogue.specs.Running as alone
-use Rattle.acap_dialogue.specs.Running.{At, Did, Outcome, event_in, is_left, leaving, over, seated_by, spoken, turned}
+use Rattle.acap_dialogue.specs.Running.{At, Did, Outcome, event_in, is_left, leaving, over, seated_by, after_saying, after_turn}
 use Rattle.acap_session.specs.Live.{asked_in, has_name, is_named_deed}
 use Rattle.acap_session.specs.Places.{Place, place_at, if_open}
 use Rattle.acap_session.specs.World as world
@@ -105,8 +105,8 @@ logs_good tag (Some user) named = asking (event.Enter user) (stage.LoggingIn tag
 token_good : (users : List User) (tag : Option (List ℕ)) (challenge : List ℕ) (k : Kind) (answer : List ℕ) → list_all (λ user. is_user_name user.0) users ≡ true
     → Good (answer_token users tag challenge k answer)
 token_good users tag challenge kind.Word answer all = record { asks = λ e f. absurd cc; stage = refl }
-token_good users tag challenge kind.Quoted answer all = logs_good tag _ (who_named users (accepted users challenge answer) all)
-token_good users tag challenge kind.Literal answer all = logs_good tag _ (who_named users (accepted users challenge answer) all)
+token_good users tag challenge kind.Quoted answer all = logs_good tag _ (who_named users (answering_user users challenge answer) all)
+token_good users tag challenge kind.Literal answer all = logs_good tag _ (who_named users (answering_user users challenge answer) all)
 token_good users tag challenge kind.Tag answer all = record { asks = λ e f. absurd cc; stage = refl }
 token_good users tag challenge kind.Open answer all = record { asks = λ e f. absurd cc; stage = refl }
 token_good users tag challenge kind.Close answer all = record { asks = λ e f. absurd cc; stage = refl }
@@ -158,8 +158,8 @@ user_named (stage.LoggingIn tag name) user (Err fault) staged named = named
 user_named stage.Draining user r staged named = named
 user_named stage.Closed user r staged named = named
 
-answered_good : (t : Talking) (r : Result Reply Fault) → NamedTalk t → GoodTalk (answered t r)
-unfolding answered
+answered_good : (t : Talking) (r : Result Reply Fault) → NamedTalk t → GoodTalk (after_answer t r)
+unfolding after_answer
 answered_good t r is = comes_all (record t { user = answer_user t.stage t.user r }) (answer_said t.stage r) (user_named t.stage t.user r is.stage is.user) (replied_good t.stage r is.stage)
 
 -- ---- drains
@@ -202,9 +202,9 @@ module _ (formed : (tokens : List Token) (c : Command) → command_of tokens ≡
   asks_good None tag c named = record { asks = λ e f. absurd cc; stage = refl }
   asks_good (Some user) tag c named = asking (event.Command c) (stage.Asked tag) named refl
 
-  challenged_good : (l : Listening) (tag : Option (List ℕ)) (mechanism : List ℕ) → Good (authenticated l tag mechanism)
+  challenged_good : (l : Listening) (tag : Option (List ℕ)) (mechanism : List ℕ) → Good (login_or_refusal l tag mechanism)
   challenged_good l tag mechanism =
-      elim (is_some l.user) as (λ b. Good (if b then refuses tag refusals.LoggedIn else challenged l tag mechanism)) [
+      elim (is_some l.user) as (λ b. Good (if b then refuses tag refusals.LoggedIn else challenge_or_refusal l tag mechanism)) [
         | true ↦ record { asks = λ e f. absurd cc; stage = refl }
         | false ↦ elim (str_eq_ignore_ascii_case mechanism mechanism_name) as (λ b. Good (if b then challenges tag (challenge_of l.nonce (seconds_of l.clock) l.host) else refuses tag refusals.NoMechanism)) [
           | true ↦ record { asks = λ e f. absurd cc; stage = refl }
@@ -231,8 +231,8 @@ module _ (formed : (tokens : List Token) (c : Command) → command_of tokens ≡
   heard_line_good l tag tokens (Ok c) e = command_good l tag c (formed tokens c e)
   heard_line_good l tag tokens (Err fault) e = record { asks = λ e f. absurd cc; stage = refl }
 
-  heard_good : (l : Listening) (x : Lexed) → Good (heard l x)
-  unfolding heard
+  heard_good : (l : Listening) (x : Lexed) → Good (response_to l x)
+  unfolding response_to
   heard_good l lexed.More = record { asks = λ e f. absurd cc; stage = refl }
   heard_good l lexed.Plus = record { asks = λ e f. absurd cc; stage = refl }
   heard_good l (lexed.Line tokens) = heard_line_good l _ tokens (command_of tokens) refl
@@ -243,7 +243,7 @@ module _ (formed : (tokens : List Token) (c : Command) → command_of tokens ≡
   next_good users nonce clock stage.Opening t all is = comes_all t (opening t.user) is.user (opening_good t.user is.user)
   next_good users nonce clock stage.Entering t all is = silent t is
   next_good users nonce clock stage.Ready t all is =
-      comes_all (record t { held = (next_of mode.Command t.held).1 }) (heard (listening t nonce clock) (next_of mode.Command t.held).0) is.user (heard_good (listening t nonce clock) (next_of mode.Command t.held).0)
+      comes_all (record t { held = (next_of mode.Command t.held).1 }) (response_to (listening t nonce clock) (next_of mode.Command t.held).0) is.user (heard_good (listening t nonce clock) (next_of mode.Command t.held).0)
   next_good users nonce clock (stage.Asked tag) t all is = silent t is
   next_good users nonce clock (stage.Challenged tag challenge) t all is =
       comes_all (record t { held = (next_of mode.Answer t.held).1 }) (heard_answer users tag challenge (next_of mode.Answer t.held).0) is.user (answer_good users tag challenge (next_of mode.Answer t.held).0 all)
@@ -261,7 +261,7 @@ module _ (formed : (tokens : List Token) (c : Command) → command_of tokens ≡
   open_named None is = tt
   open_named (Some p) is = elim (is_closed p.talk.stage) as (λ b. NamedPlace (if b then None else Some p)) [ true ↦ tt | false ↦ is ]
 
-  begun_named : (host : List ℕ) (user : Option (List ℕ)) → has_name user ≡ true → NamedTalk (begun host user)
+  begun_named : (host : List ℕ) (user : Option (List ℕ)) → has_name user ≡ true → NamedTalk (beginning host user)
   begun_named host user named = record { user = named; stage = refl }
 
   abbrev NamedAt : Option At → Type 0
@@ -286,16 +286,16 @@ module _ (formed : (tokens : List Token) (c : Command) → command_of tokens ≡
   leaving_named false None at is = is
   leaving_named false (Some outcome) at is = tt
 
-  said_named : (out : List ℕ) (left : Outcome) (seated : Bool) (n : Next) (t : Talking) → NamedTalk t → NamedAt (leaving (is_left (seated, (n, t))) left (spoken out (seated, (n, t))))
-  said_named out left seated n t is = leaving_named (is_left (seated, (n, t))) left (spoken out (seated, (n, t))) is
+  said_named : (out : List ℕ) (left : Outcome) (seated : Bool) (n : Next) (t : Talking) → NamedTalk t → NamedAt (leaving (is_left (seated, (n, t))) left (after_saying out (seated, (n, t))))
+  said_named out left seated n t is = leaving_named (is_left (seated, (n, t))) left (after_saying out (seated, (n, t))) is
 
-  turned_named : (at : At) (n : Next) (t : Talking) (asked left : Outcome) → GoodTalk (n, t) → NamedAt (turned at (n, t) asked left)
+  turned_named : (at : At) (n : Next) (t : Talking) (asked left : Outcome) → GoodTalk (n, t) → NamedAt (after_turn at (n, t) asked left)
   turned_named at next.More t None left good = said_named at.out left at.seated next.More t good.talk
   turned_named at next.More t (Some r) left good = tt
   turned_named at (next.Say octets) t None left good = said_named at.out left at.seated (next.Say octets) t good.talk
   turned_named at (next.Say octets) t (Some r) left good = tt
   turned_named at (next.Ask event) t None left good = tt
-  turned_named at (next.Ask event) t (Some r) left good = said_named at.out left (seated_by event r at.seated) (answered t r).0 (answered t r).1 (answered_good t r good.talk).talk
+  turned_named at (next.Ask event) t (Some r) left good = said_named at.out left (seated_by event r at.seated) (after_answer t r).0 (after_answer t r).1 (answered_good t r good.talk).talk
   turned_named at (next.Close octets) t None left good = said_named at.out left at.seated (next.Close octets) t good.talk
   turned_named at (next.Close octets) t (Some r) left good = tt
 
@@ -338,7 +338,7 @@ module _ (formed : (tokens : List Token) (c : Command) → command_of tokens ≡
 
   asks_named : (w : World) (o : Occasion) (refused : Bool) (deed : Deed) (now : Option Place) → list_all (λ user. is_user_name user.0) w.users ≡ true → is_named_deed deed ≡ true → NamedPlace now
       → (e : Event) → asked_by w (record { occasion = o; refused = refused; deed = deed }) now ≡ Some e → is_named e ≡ true
-  asks_named w o refused (world.Open user) None all named is = (session_next_good w.users o.nonce o.clock (begun w.host user) all (begun_named w.host user named)).asks
+  asks_named w o refused (world.Open user) None all named is = (session_next_good w.users o.nonce o.clock (beginning w.host user) all (begun_named w.host user named)).asks
   asks_named w o refused (world.Open user) (Some p) all named is = λ e f. absurd cc
   asks_named w o refused (world.Piece octets) None all named is = λ e f. absurd cc
   asks_named w o refused (world.Piece octets) (Some p) all named is = λ e f. absurd cc

@@ -5,13 +5,13 @@ use Rattle.acap_commands.specs.declared.reply.Reply.{Reply}
 use Rattle.acap_machine.specs.Machine.{Machine, user_at}
 use Rattle.acap_machine.specs.Runs.{outcome_of, machine_after}
 use Rattle.acap_machine.proofs.SeatLemmas.{entered_user, left_again}
-use Rattle.acap_machine.specs.Stepping.{seated as seating, by_user, left_at}
+use Rattle.acap_machine.specs.Stepping.{enter_answer as seating, by_user, left_at}
 use Rattle.acap_commands.specs.declared.event.Event.TheVariants as events
 use Rattle.acap_commands.specs.declared.fault.Fault.{Fault}
 use Rattle.acap_dialogue.specs.Hearing.{opening}
-use Rattle.acap_dialogue.specs.Session.{session_next, next_at, answered, has_seat, has_seat_at, is_closed, comes_to}
+use Rattle.acap_dialogue.specs.Session.{session_next, next_at, after_answer, has_seat, has_seat_at, is_closed, comes_to}
 use Rattle.acap_dialogue.specs.Talking.{Talking}
-use Rattle.acap_session.specs.Turning.{Scene, performed, shown, turn_by, turn_of, left_by, IsCutFrom, IsTurn, WasCut}
+use Rattle.acap_session.specs.Turning.{Scene, event_outcome, turn_and_scene, turn_by, turn_of, left_by, IsCutFrom, IsTurn, WasCut}
 use Rattle.acap_session.specs.declared.occasion.Occasion.{Occasion}
 use Rattle.acap_dialogue.specs.declared.stage.Stage.TheVariants as stage
 use Rattle.acap_session.specs.declared.turn.Turn.{Turn}
@@ -30,7 +30,7 @@ entered_left : (m : Machine) (o : Occasion) (name : List ℕ) (x : Option (List 
 entered_left m o name None e = left_at_once m o name e
 entered_left m o name (Some other) e = refl
 
-performed_left : (m : Machine) (o : Occasion) (name : List ℕ) (refused : Bool) → (let r = performed refused m o (events.Enter name) in left_by (is_ok r) o (machine_after m r)) ≡ m
+performed_left : (m : Machine) (o : Occasion) (name : List ℕ) (refused : Bool) → (let r = event_outcome refused m o (events.Enter name) in left_by (is_ok r) o (machine_after m r)) ≡ m
 performed_left m o name true = refl
 performed_left m o name false = entered_left m o name (user_at m o.seat) refl
 
@@ -44,20 +44,20 @@ unfolding turn_of session_next
 first_turn users o refused s e = ap (λ x. turn_by o refused s (next_at users o.nonce o.clock x s.talk)) e
 
 abbrev welcomed_by : Occasion → Machine → List ℕ → Talking → Result (Reply × Machine) Fault → Turn × Scene
-welcomed_by o m out t r = shown o (has_seat (record t { stage = stage.Entering }) || is_ok r) (machine_after m r) out (answered (record t { stage = stage.Entering }) (outcome_of r))
+welcomed_by o m out t r = turn_and_scene o (has_seat (record t { stage = stage.Entering }) || is_ok r) (machine_after m r) out (after_answer (record t { stage = stage.Entering }) (outcome_of r))
 
 not_welcome : (o : Occasion) (m : Machine) (out : List ℕ) (t : Talking) (r : Result (Reply × Machine) Fault) → is_closed (welcomed_by o m out t r).1.talk.stage ≡ true → ((welcomed_by o m out t r).1.machine ≡ m) × ((welcomed_by o m out t r).1.out ≡ out)
-unfolding answered
+unfolding after_answer
 not_welcome o m out t (Ok x) e = absurd cc
 not_welcome o m out t (Err f) e = (refl, append-nil out)
 
 first_closed_by : (users : List User) (o : Occasion) (refused : Bool) (s : Scene) (user : Option (List ℕ)) → is_closed (first_by users o refused s user).1.talk.stage ≡ true → ((first_by users o refused s user).1.machine ≡ s.machine) × ((first_by users o refused s user).1.out ≡ s.out)
 unfolding opening
 first_closed_by users o refused s None e = absurd cc
-first_closed_by users o refused s (Some name) e = not_welcome o s.machine s.out s.talk (performed refused s.machine o (events.Enter name)) e
+first_closed_by users o refused s (Some name) e = not_welcome o s.machine s.out s.talk (event_outcome refused s.machine o (events.Enter name)) e
 
 first_open_by : (users : List User) (o : Occasion) (refused : Bool) (s : Scene) (user : Option (List ℕ)) → is_closed (first_by users o refused s user).1.talk.stage ≡ false → first_by users o refused s user ≡ first_by users o false s user
-unfolding opening answered
+unfolding opening after_answer
 first_open_by users o false s user e = refl
 first_open_by users o true s None e = refl
 first_open_by users o true s (Some name) e = absurd cc

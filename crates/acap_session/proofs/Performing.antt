@@ -1,5 +1,5 @@
 -- What the calls of a turn come to, put together.
-use Rattle.std.proofs.Common.{◌≡◌, inl, inr, ℕ, ℤ, Bool, true, false, ◌||◌, is_ok, List, Option, Some, None, Result, Ok, Err, IfOk, IfErr, MatchResult, OnErr, refl, sym, ap, subst, ◌∙◌}
+use Rattle.std.proofs.Common.{◌≡◌, inr, ℕ, ℤ, Bool, true, false, ◌||◌, is_ok, List, Option, Some, None, Result, Ok, Err, IfOk, IfErr, MatchResult, OnErr, refl, sym, ap, subst, ◌∙◌}
 use Rattle.acap_login.specs.Login.{User}
 use Rattle.acap_commands.specs.declared.reply.Reply.{Reply}
 use Rattle.acap_machine.specs.Machine.{Machine}
@@ -9,10 +9,10 @@ use Rattle.acap_commands.specs.declared.event.Event.{Event}
 use Rattle.acap_commands.specs.declared.event.Event.TheVariants as events
 use Rattle.acap_commands.specs.declared.fault.Fault.{Fault}
 use Rattle.acap_commands.specs.declared.fault.Fault.TheVariants as fault
-use Rattle.acap_dialogue.specs.Saying.{added, heard_of}
-use Rattle.acap_dialogue.specs.Session.{session_next, session_drain, answered, has_seat, has_seat_at, drain_in, drain_at, drain_for, is_asked}
+use Rattle.acap_dialogue.specs.Saying.{with_said, heard_of}
+use Rattle.acap_dialogue.specs.Session.{session_next, session_drain, after_answer, has_seat, has_seat_at, drain_in, drain_at, drain_for, is_asked}
 use Rattle.acap_dialogue.specs.Talking.{Talking}
-use Rattle.acap_session.specs.Turning.{Scene, scene, performed, shown, asked_of, turn_by, turn_of, drain_of, left_at, left_by, turn_from, is_refused, IsAsked, IsTurn, IsCutFrom, StandsBefore, WasCut, CutInAnswering, CutInAsking, CutInDraining}
+use Rattle.acap_session.specs.Turning.{Scene, scene, event_outcome, turn_and_scene, asked_of, turn_by, turn_of, drain_of, left_at, left_by, turn_from, is_refused, IsAsked, IsTurn, IsCutFrom, StandsBefore, WasCut, CutInAnswering, CutInAsking, CutInDraining}
 use Rattle.acap_dialogue.specs.declared.heard.Heard.{Heard}
 use Rattle.acap_dialogue.specs.declared.heard.Heard.TheVariants as heard
 use Rattle.acap_dialogue.specs.declared.next.Next.{Next}
@@ -27,16 +27,16 @@ use Rattle.acap_dialogue.proofs.Speaking.{Fits, fits}
 -- an outcome of the machine's step is what is performed, refused memory or not
 pub record IsPerformed (m : Machine) (o : Occasion) (event : Event) (outcome : Result Reply Fault) (new : Machine) : Type 0 where
   pub refused : Bool
-  pub outcome_is : outcome_of (performed refused m o event) ≡ outcome
-  pub machine_is : machine_after m (performed refused m o event) ≡ new
-  pub ok_is : is_ok (performed refused m o event) ≡ is_ok outcome
+  pub outcome_is : outcome_of (event_outcome refused m o event) ≡ outcome
+  pub machine_is : machine_after m (event_outcome refused m o event) ≡ new
+  pub ok_is : is_ok (event_outcome refused m o event) ≡ is_ok outcome
 
 ok_of : (r : Result (Reply × Machine) Fault) → is_ok r ≡ is_ok (outcome_of r)
 ok_of (Ok x) = refl
 ok_of (Err f) = refl
 
-performs : (m : Machine) (o : Occasion) (event : Event) (outcome : Result Reply Fault) (new : Machine) (refused : Bool) → outcome_of (performed refused m o event) ≡ outcome → machine_after m (performed refused m o event) ≡ new → IsPerformed m o event outcome new
-performs m o event outcome new refused e f = record { refused = refused; outcome_is = e; machine_is = f; ok_is = ok_of (performed refused m o event) ∙ ap is_ok e }
+performs : (m : Machine) (o : Occasion) (event : Event) (outcome : Result Reply Fault) (new : Machine) (refused : Bool) → outcome_of (event_outcome refused m o event) ≡ outcome → machine_after m (event_outcome refused m o event) ≡ new → IsPerformed m o event outcome new
+performs m o event outcome new refused e f = record { refused = refused; outcome_is = e; machine_is = f; ok_is = ok_of (event_outcome refused m o event) ∙ ap is_ok e }
 
 pub performed_by : (m : Machine) (o : Occasion) (event : Event) (outcome : Result Reply Fault) (new : Machine) → IfOk outcome (λ reply. Stepped m o.seat event o.clock reply new) → IfErr outcome (λ f. IsFault (step_of m o.seat event o.clock) f) → OnErr outcome (new ≡ m)
     → IsPerformed m o event outcome new
@@ -57,25 +57,25 @@ stood m o event (Err fault.AlreadyEntered) new ok err same = refl
 stood m o event (Err fault.HistoryFull) new ok err same = absurd err
 
 -- what is said to the answer, put together
-pub concluded_by : (o : Occasion) (seated : Bool) (m new_m : Machine) (t new_t : Talking) (out new_out : List ℕ) (outcome : Result Reply Fault) (h : Heard) (came : Turn) → seated ≡ (has_seat t || is_ok outcome) → h ≡ heard_of (answered t outcome).0 → new_t ≡ (answered t outcome).1 → new_out ≡ added out (answered t outcome).0 → came ≡ turn_from h → new_m ≡ left_at h seated o m
-    → (came, scene new_m new_t new_out) ≡ shown o (has_seat t || is_ok outcome) m out (answered t outcome)
+pub concluded_by : (o : Occasion) (seated : Bool) (m new_m : Machine) (t new_t : Talking) (out new_out : List ℕ) (outcome : Result Reply Fault) (h : Heard) (came : Turn) → seated ≡ (has_seat t || is_ok outcome) → h ≡ heard_of (after_answer t outcome).0 → new_t ≡ (after_answer t outcome).1 → new_out ≡ with_said out (after_answer t outcome).0 → came ≡ turn_from h → new_m ≡ left_at h seated o m
+    → (came, scene new_m new_t new_out) ≡ turn_and_scene o (has_seat t || is_ok outcome) m out (after_answer t outcome)
 concluded_by o seated m new_m t new_t out new_out outcome h came s e f g k n =
-    let machine_is : new_m ≡ left_at (heard_of (answered t outcome).0) seated o m = n ∙ ap (λ q. left_at q seated o m) e in
-    let came_is : came ≡ turn_from (heard_of (answered t outcome).0) = k ∙ ap turn_from e in
-    let made : (came, scene new_m new_t new_out) ≡ shown o seated m out (answered t outcome) = λ i. (came_is i, scene (machine_is i) (f i) (g i)) in
-    made ∙ ap (λ b. shown o b m out (answered t outcome)) s
+    let machine_is : new_m ≡ left_at (heard_of (after_answer t outcome).0) seated o m = n ∙ ap (λ q. left_at q seated o m) e in
+    let came_is : came ≡ turn_from (heard_of (after_answer t outcome).0) = k ∙ ap turn_from e in
+    let made : (came, scene new_m new_t new_out) ≡ turn_and_scene o seated m out (after_answer t outcome) = λ i. (came_is i, scene (machine_is i) (f i) (g i)) in
+    made ∙ ap (λ b. turn_and_scene o b m out (after_answer t outcome)) s
 
 -- or nothing, as memory was refused
 pub concluded_cut : (o : Occasion) (seated : Bool) (outcome : Result Reply Fault) (old new : Scene) → seated ≡ (has_seat old.talk || is_ok outcome) → new.talk.stage ≡ stage.Closed → new.out ≡ old.out → new.machine ≡ left_by seated o old.machine → CutInAnswering (has_seat old.talk || is_ok outcome) o old new
 concluded_cut o seated outcome old new s c e m = record { closed = c; out_is = e; machine_is = m ∙ ap (λ b. left_by b o old.machine) s }
 
 -- a session whose event was performed
-pub asked_by : (o : Occasion) (event : Event) (m step_m : Machine) (t : Talking) (out : List ℕ) (outcome : Result Reply Fault) (came : Turn) (new : Scene) (p : IsPerformed m o event outcome step_m) → (came, new) ≡ shown o (has_seat t || is_ok outcome) step_m out (answered t outcome)
+pub asked_by : (o : Occasion) (event : Event) (m step_m : Machine) (t : Talking) (out : List ℕ) (outcome : Result Reply Fault) (came : Turn) (new : Scene) (p : IsPerformed m o event outcome step_m) → (came, new) ≡ turn_and_scene o (has_seat t || is_ok outcome) step_m out (after_answer t outcome)
     → (came, new) ≡ asked_of o p.refused m out t event
 asked_by o event m step_m t out outcome came new p e =
-    let was = ap (λ b. shown o (has_seat t || b) (machine_after m (performed p.refused m o event)) out (answered t (outcome_of (performed p.refused m o event)))) p.ok_is
-    ∙ ap (λ q. shown o (has_seat t || is_ok outcome) q out (answered t (outcome_of (performed p.refused m o event)))) p.machine_is
-    ∙ ap (λ r. shown o (has_seat t || is_ok outcome) step_m out (answered t r)) p.outcome_is in
+    let was = ap (λ b. turn_and_scene o (has_seat t || b) (machine_after m (event_outcome p.refused m o event)) out (after_answer t (outcome_of (event_outcome p.refused m o event)))) p.ok_is
+    ∙ ap (λ q. turn_and_scene o (has_seat t || is_ok outcome) q out (after_answer t (outcome_of (event_outcome p.refused m o event)))) p.machine_is
+    ∙ ap (λ r. turn_and_scene o (has_seat t || is_ok outcome) step_m out (after_answer t r)) p.outcome_is in
     e ∙ sym was
 
 pub cut_by : (o : Occasion) (event : Event) (m step_m : Machine) (t : Talking) (out : List ℕ) (outcome : Result Reply Fault) (new : Scene) → IsPerformed m o event outcome step_m → CutInAnswering (has_seat t || is_ok outcome) o (scene step_m t out) new
@@ -85,13 +85,13 @@ cut_by o event m step_m t out outcome new p k = record {
   out_is = k.out_is;
   stands = record {
     refused = p.refused;
-    is = k.machine_is ∙ ap (λ b. left_by (has_seat t || b) o step_m) (sym p.ok_is) ∙ ap (λ q. left_by (has_seat t || is_ok (performed p.refused m o event)) o q) (sym p.machine_is);
+    is = k.machine_is ∙ ap (λ b. left_by (has_seat t || b) o step_m) (sym p.ok_is) ∙ ap (λ q. left_by (has_seat t || is_ok (event_outcome p.refused m o event)) o q) (sym p.machine_is);
   };
 }
 
 -- ---- a turn without an event
 
-said_by : (o : Occasion) (s : Scene) (n : Next) (t : Talking) (new_m : Machine) (new_out : List ℕ) (came : Turn) → ((event : Event) → n ≡ next.Ask event → ⊥) → new_out ≡ added s.out n → came ≡ turn_from (heard_of n) → new_m ≡ left_at (heard_of n) (has_seat s.talk) o s.machine
+said_by : (o : Occasion) (s : Scene) (n : Next) (t : Talking) (new_m : Machine) (new_out : List ℕ) (came : Turn) → ((event : Event) → n ≡ next.Ask event → ⊥) → new_out ≡ with_said s.out n → came ≡ turn_from (heard_of n) → new_m ≡ left_at (heard_of n) (has_seat s.talk) o s.machine
     → (came, scene new_m t new_out) ≡ turn_by o false s (n, t)
 said_by o s next.More t new_m new_out came none g k n = λ i. (k i, scene (n i) t (g i))
 said_by o s (next.Say octets) t new_m new_out came none g k n = λ i. (k i, scene (n i) t (g i))
@@ -101,7 +101,7 @@ said_by o s (next.Close octets) t new_m new_out came none g k n = λ i. (k i, sc
 not_asks : (n : Next) (h : Heard) → h ≡ heard_of n → ((event : Event) → h ≡ heard.Asks event → ⊥) → (event : Event) → n ≡ next.Ask event → ⊥
 not_asks n h e none event a = none event (e ∙ ap heard_of a)
 
-pub said_turn : (users : List User) (o : Occasion) (s : Scene) (new_t : Talking) (new_m : Machine) (new_out : List ℕ) (h : Heard) (came : Turn) → ((event : Event) → h ≡ heard.Asks event → ⊥) → h ≡ heard_of (session_next users o.nonce o.clock s.talk).0 → new_t ≡ (session_next users o.nonce o.clock s.talk).1 → new_out ≡ added s.out (session_next users o.nonce o.clock s.talk).0
+pub said_turn : (users : List User) (o : Occasion) (s : Scene) (new_t : Talking) (new_m : Machine) (new_out : List ℕ) (h : Heard) (came : Turn) → ((event : Event) → h ≡ heard.Asks event → ⊥) → h ≡ heard_of (session_next users o.nonce o.clock s.talk).0 → new_t ≡ (session_next users o.nonce o.clock s.talk).1 → new_out ≡ with_said s.out (session_next users o.nonce o.clock s.talk).0
     → came ≡ turn_from h → new_m ≡ left_at h (has_seat s.talk) o s.machine → IsTurn users o s came (scene new_m new_t new_out)
 unfolding turn_of
 said_turn users o s new_t new_m new_out h came none e f g k n =
@@ -130,10 +130,10 @@ asks_of (next.Say octets) h event e a = let k : heard.Said ≡ heard.Asks event 
 asks_of (next.Ask asked) h event e a = ap (λ (q : Heard). asked_in asked q) (sym e ∙ a)
 asks_of (next.Close octets) h event e a = let k : heard.Closes ≡ heard.Asks event = sym e ∙ a in cc
 
-out_same : (out : List ℕ) (n : Next) (event : Event) → n ≡ next.Ask event → added out n ≡ out
-out_same out n event e = ap (added out) e
+out_same : (out : List ℕ) (n : Next) (event : Event) → n ≡ next.Ask event → with_said out n ≡ out
+out_same out n event e = ap (with_said out) e
 
-pub asked_turn : (users : List User) (o : Occasion) (s : Scene) (t : Talking) (out : List ℕ) (h : Heard) (event : Event) (came : Turn) (new : Scene) → h ≡ heard.Asks event → h ≡ heard_of (session_next users o.nonce o.clock s.talk).0 → t ≡ (session_next users o.nonce o.clock s.talk).1 → out ≡ added s.out (session_next users o.nonce o.clock s.talk).0
+pub asked_turn : (users : List User) (o : Occasion) (s : Scene) (t : Talking) (out : List ℕ) (h : Heard) (event : Event) (came : Turn) (new : Scene) → h ≡ heard.Asks event → h ≡ heard_of (session_next users o.nonce o.clock s.talk).0 → t ≡ (session_next users o.nonce o.clock s.talk).1 → out ≡ with_said s.out (session_next users o.nonce o.clock s.talk).0
     → IsAsked o event (scene s.machine t out) came new → IsTurn users o s came new
 unfolding turn_of
 asked_turn users o s t out h event came new a e f g k =
@@ -144,20 +144,10 @@ asked_turn users o s t out h event came new a e f g k =
 cut_from : (o : Occasion) (s : Scene) (x : Next × Talking) (event : Event) (t : Talking) (m : Machine) → x.0 ≡ next.Ask event → t ≡ x.1 → StandsBefore o event t s.machine m → IsCutFrom o s x m
 cut_from o s x event t m e f k = subst (λ n. IsCutFrom o s (n, x.1) m) (sym e) (inr (subst (λ q. StandsBefore o event q s.machine m) f k))
 
-pub cut_turn : (o : Occasion) (s : Scene) (x : Next × Talking) (t : Talking) (out : List ℕ) (h : Heard) (event : Event) (new : Scene) → h ≡ heard.Asks event → h ≡ heard_of x.0 → t ≡ x.1 → out ≡ added s.out x.0 → CutInAsking o event (scene s.machine t out) new → WasCut o s x new
+pub cut_turn : (o : Occasion) (s : Scene) (x : Next × Talking) (t : Talking) (out : List ℕ) (h : Heard) (event : Event) (new : Scene) → h ≡ heard.Asks event → h ≡ heard_of x.0 → t ≡ x.1 → out ≡ with_said s.out x.0 → CutInAsking o event (scene s.machine t out) new → WasCut o s x new
 cut_turn o s x t out h event new a e f g k =
     let n = asks_of x.0 h event e a in
     record { closed = k.closed; out_is = k.out_is ∙ g ∙ out_same s.out x.0 event n; machine_is = cut_from o s x event t new.machine n f k.stands }
-
-at_once : (o : Occasion) (s : Scene) (n : Next) (t : Talking) (m : Machine) → m ≡ left_by (has_seat s.talk) o s.machine → IsCutFrom o s (n, t) m
-at_once o s next.More t m e = e
-at_once o s (next.Say octets) t m e = e
-at_once o s (next.Ask event) t m e = inl e
-at_once o s (next.Close octets) t m e = e
-
--- a session that is refused memory in hearing
-pub cut_before : (o : Occasion) (s : Scene) (x : Next × Talking) (new : Scene) → new.talk.stage ≡ stage.Closed → new.out ≡ s.out → new.machine ≡ left_by (has_seat s.talk) o s.machine → WasCut o s x new
-cut_before o s x new c e m = record { closed = c; out_is = e; machine_is = at_once o s x.0 x.1 new.machine m }
 
 pub seats_is : (b had ok : Bool) (t : Talking) (outcome : Result Reply Fault) → b ≡ (had || ok) → had ≡ has_seat t → ok ≡ is_ok outcome → b ≡ (has_seat t || is_ok outcome)
 seats_is b had ok t outcome e f g = e ∙ ap (λ x. x || ok) f ∙ ap (λ x. has_seat t || x) g
@@ -240,7 +230,7 @@ cut_drain o s new step_m t outcome p b e k = record {
   closed = k.closed;
   out_is = k.out_is;
   machine_is = k.machine_is ∙ ap (λ x. left_by x o step_m) (ap (λ x. x || is_ok outcome) (is_ready s.talk t e).seat)
-      ∙ ap (λ n. left_by true o n) (sym p.machine_is ∙ ap (λ x. machine_after s.machine (performed x s.machine o events.Drain)) b);
+      ∙ ap (λ n. left_by true o n) (sym p.machine_is ∙ ap (λ x. machine_after s.machine (event_outcome x s.machine o events.Drain)) b);
 }
 
 -- what was heard asks nothing

@@ -4,8 +4,8 @@ use Rattle.std.specs.Io.KnownBytes.{Consumes}
 use Rattle.std.proofs.lemmas.List.{append-nil, take-append-drop}
 use Rattle.acap_login.specs.Login.{User}
 use Rattle.acap_machine.specs.Machine.{Machine}
-use Rattle.acap_session.specs.Piping.{Fed, fed, fed_all, turns, joined, always, begins, entered, IsQuiet, AreAnswered, HasPart, HasStarted, HasPartlyAnswered, HasTurned, IsFed, IsLater, IsOut, IsSoFar, MayTake, PipeReads, Pipes, Says, SaysTo, SoFar, Goes, Answers, Settles, Takes, scene_of}
-use Rattle.acap_session.specs.Streams.{HasGiven, IfTold, Sends, SendsFront, Told}
+use Rattle.acap_session.specs.Piping.{Fed, after_piece, fed_all, turns, octets_of_pieces, always, begins, after_enter, IsQuiet, AreAnswered, HasPart, HasStarted, HasPartlyAnswered, HasTurned, IsFed, IsLater, IsOut, IsSoFar, MayTake, PipeReads, Pipes, Says, SaysTo, SoFar, Goes, Answers, Settles, Takes, scene_of}
+use Rattle.acap_session.specs.Streams.{HasGiven, IfTold, Sends, SendsFront, ReaderTold}
 use Rattle.acap_dialogue.specs.Talking.{Talking}
 use Rattle.acap_session.specs.Turning.{Scene, scene, turn_of, IsTurn}
 use Rattle.acap_session.specs.declared.pipe_fault.PipeFault.{PipeFault}
@@ -92,21 +92,17 @@ fed_says users piece old new a =
 partly_says_more : (users : List User) (piece rest back said : List ℕ) (n : ℕ) (old mid : Scene) → IsPartly users piece rest old mid → MayTake (take n rest) mid.talk → back ≡ drop n rest → Says users (pushed rest n mid) said → SaysTo users piece old said
 partly_says_more users piece rest back said n old mid a f b s =
     let x : Fed = (take n rest, s.refused) in
-    let whole : turns users s.refused (pushed rest n mid) ≡ fed users x (fed_all users a.parts old) = ap (λ q. fed users x q) a.is in
+    let whole : turns users s.refused (pushed rest n mid) ≡ after_piece users x (fed_all users a.parts old) = ap (λ q. after_piece users x q) a.is in
     record {
       parts = a.parts ++ x ∷ [];
       rest = back;
       more = s.more;
-      joined_is = a.joined_is ∙ ap (λ ys. joined a.parts ++ ys) (sym (take-append-drop n rest) ∙ ap (λ ys. take n rest ++ ys) (sym b)) ∙ sym (append_assoc (joined a.parts) (take n rest) back) ∙ ap (λ ys. ys ++ back) (sym (joined_snoc a.parts x));
+      joined_is = a.joined_is ∙ ap (λ ys. octets_of_pieces a.parts ++ ys) (sym (take-append-drop n rest) ∙ ap (λ ys. take n rest ++ ys) (sym b)) ∙ sym (append_assoc (octets_of_pieces a.parts) (take n rest) back) ∙ ap (λ ys. ys ++ back) (sym (joined_snoc a.parts x));
       answered = answered_snoc users a.parts x old a.answered (subst (λ (q : Scene). MayTake x.0 q.talk) a.is f) (subst (IsQuiet users) whole s.quiet);
       is = ap (λ (q : Scene). q.out) (fed_snoc users a.parts x old ∙ sym whole) ∙ s.is;
     }
 
 -- ---- and it is written or waits
-
-pub on_err : {T E : Type 0} {P : Type 0} (r : Result T E) → P → OnErr r P
-on_err (Ok x) p = tt
-on_err (Err e) p = p
 
 pub not_ok : {T E : Type 0} (r : Result T E) (P : Type 0) → IsErr r → OnOk r P
 not_ok (Ok x) P p = absurd cc
@@ -205,13 +201,13 @@ part_written user input rest piece left w0 w sent m t h c k =
     let none : prefixed h.written (scene m t []) ≡ scene m t h.written = ap (scene m t) (append-nil h.written) in
     let pieces = h.pieces ++ a.parts in
     let end = fed_all [] a.parts (scene m t []) in
-    let whole : fed_all [] pieces (entered user) ≡ prefixed h.written end = all_append [] h.pieces a.parts (entered user) ∙ ap (fed_all [] a.parts) (h.is ∙ sym none) ∙ all_pre [] h.written a.parts (scene m t []) in
-    let answered : AreAnswered [] pieces (entered user) = answered_append [] h.pieces a.parts (entered user) h.answered (subst (AreAnswered [] a.parts) (none ∙ sym h.is) (answered_pre [] h.written a.parts (scene m t []) a.answered)) in
-    let split : piece ++ left ≡ joined a.parts ++ (a.rest ++ left) = ap (λ ys. ys ++ left) a.joined_is ∙ append_assoc (joined a.parts) a.rest left in
+    let whole : fed_all [] pieces (after_enter user) ≡ prefixed h.written end = all_append [] h.pieces a.parts (after_enter user) ∙ ap (fed_all [] a.parts) (h.is ∙ sym none) ∙ all_pre [] h.written a.parts (scene m t []) in
+    let answered : AreAnswered [] pieces (after_enter user) = answered_append [] h.pieces a.parts (after_enter user) h.answered (subst (AreAnswered [] a.parts) (none ∙ sym h.is) (answered_pre [] h.written a.parts (scene m t []) a.answered)) in
+    let split : piece ++ left ≡ octets_of_pieces a.parts ++ (a.rest ++ left) = ap (λ ys. ys ++ left) a.joined_is ∙ append_assoc (octets_of_pieces a.parts) a.rest left in
     record {
-      read = joined pieces;
+      read = octets_of_pieces pieces;
       unread = a.rest;
-      input_is = h.input_is ∙ ap (λ ys. joined h.pieces ++ ys) (c ∙ split) ∙ sym (append_assoc (joined h.pieces) (joined a.parts) (a.rest ++ left)) ∙ ap (λ ys. ys ++ (a.rest ++ left)) (sym (joined_append h.pieces a.parts));
+      input_is = h.input_is ∙ ap (λ ys. octets_of_pieces h.pieces ++ ys) (c ∙ split) ∙ sym (append_assoc (octets_of_pieces h.pieces) (octets_of_pieces a.parts) (a.rest ++ left)) ∙ ap (λ ys. ys ++ (a.rest ++ left)) (sym (joined_append h.pieces a.parts));
       written = h.written ++ end.out;
       made = record { pieces = pieces; joined_is = refl; answered = answered; is = sym (ap (λ (q : Scene). q.out) whole) };
       sent = front_then w0 w sent h.written end.out h.appends (record { front = k.front; rest = a.more; is = a.is; sent = k.sent });
@@ -234,7 +230,7 @@ answer_cut user r0 r new w0 w sent piece m t fault (Ok done) p q l c k h = absur
 answer_cut user r0 r new w0 w sent piece m t fault (Err x) p q l c k h =
     subst (λ y. Pipes user r0 new w0 sent (Err y)) (sym q) (later_pipes user r0 new w0 sent fault l (has_started user r0 r new w0 w sent piece m t c k h))
 
-pub later_reads : (a b : Option Told) (fault : PipeFault) (result : Result (Unit {0}) PipeFault) → IsErr result → IsErrAnd result (λ x. x ≡ fault) → IsLater fault → IfTold HasGiven a b → PipeReads a b result
+pub later_reads : (a b : Option ReaderTold) (fault : PipeFault) (result : Result (Unit {0}) PipeFault) → IsErr result → IsErrAnd result (λ x. x ≡ fault) → IsLater fault → IfTold HasGiven a b → PipeReads a b result
 later_reads a b fault (Ok done) p q l g = absurd cc
 later_reads a b faults.Read (Err x) p q l g = absurd l
 later_reads a b faults.Write (Err x) p q l g = subst (λ y. PipeReads a b (Err y)) (sym q) g
@@ -243,13 +239,13 @@ later_reads a b faults.Memory (Err x) p q l g = subst (λ y. PipeReads a b (Err 
 -- ---- before the first octet
 
 -- nothing was read, and a front of the greeting was written
-greets : (user : List ℕ) (r w0 w : Option (List ℕ)) → SendsFront w0 w (entered user).out → HasStarted user r r w0 w
+greets : (user : List ℕ) (r w0 w : Option (List ℕ)) → SendsFront w0 w (after_enter user).out → HasStarted user r r w0 w
 greets user None w0 w s = tt
 greets user (Some input) w0 w s = record {
   read = [];
   unread = [];
   input_is = refl;
-  written = (entered user).out;
+  written = (after_enter user).out;
   made = record { pieces = []; joined_is = refl; answered = tt; is = refl };
   sent = s;
 }
@@ -258,7 +254,7 @@ none_front : (w : Option (List ℕ)) (octets : List ℕ) → SendsFront w w octe
 none_front w octets = record { front = []; rest = octets; is = refl; sent = appends_none w }
 
 pub unstarted : (user : List ℕ) (r w : Option (List ℕ)) → HasStarted user r r w w
-unstarted user r w = greets user r w w (none_front w (entered user).out)
+unstarted user r w = greets user r w w (none_front w (after_enter user).out)
 
 pub greets_by : (user : List ℕ) (r w0 w : Option (List ℕ)) (new : Scene) → HasTurned [] (begins user) new → SendsFront w0 w new.out → HasStarted user r r w0 w
 greets_by user r w0 w new k s =

@@ -7,13 +7,13 @@ use Rattle.std.proofs.lemmas.List.{append-nil, take-append-drop}
 use Rattle.acap_lexer.specs.Holding.{Held, held_limit}
 use Rattle.acap_login.specs.Login.{User}
 use Rattle.acap_machine.specs.Machine.{Machine, new_machine}
-use Rattle.acap_session.specs.Piping.{Fed, fed, fed_all, turns, hears, joined, always, begins, entered, IsQuiet, AreAnswered, IsWritten, HasRead, HasEnded, IsSettled, IsFed, IsOut, HasTurned, HasRoom, MayTake, Goes, SoFar, IsSoFar, without_administrators}
+use Rattle.acap_session.specs.Piping.{Fed, after_piece, fed_all, turns, hears, octets_of_pieces, always, begins, after_enter, IsQuiet, AreAnswered, IsWritten, HasRead, HasEnded, IsSettled, IsFed, IsOut, HasTurned, HasRoom, MayTake, Goes, SoFar, IsSoFar, without_administrators}
 use Rattle.acap_machine.specs.Runs.{outcome_of, machine_after}
 use Rattle.acap_dialogue.specs.Hearing.{opening}
-use Rattle.acap_dialogue.specs.Saying.{added}
-use Rattle.acap_dialogue.specs.Session.{session_next, is_closed, answered, has_seat}
-use Rattle.acap_dialogue.specs.Talking.{Talking, begun}
-use Rattle.acap_session.specs.Turning.{Scene, scene, turn_of, turn_by, shown, performed, turn_in, left_after, IsTurn}
+use Rattle.acap_dialogue.specs.Saying.{with_said}
+use Rattle.acap_dialogue.specs.Session.{session_next, is_closed, after_answer, has_seat}
+use Rattle.acap_dialogue.specs.Talking.{Talking, beginning}
+use Rattle.acap_session.specs.Turning.{Scene, scene, turn_of, turn_by, turn_and_scene, event_outcome, turn_in, left_after, IsTurn}
 use Rattle.acap_dialogue.specs.declared.next.Next.{Next}
 use Rattle.acap_session.specs.declared.occasion.Occasion.{Occasion}
 use Rattle.acap_dialogue.specs.declared.next.Next.TheVariants as next
@@ -62,22 +62,22 @@ settled_closed users old mid new a k =
 
 -- ---- pieces, one after another
 
-pub fed_snoc : (users : List User) (a : List Fed) (x : Fed) (s : Scene) → fed_all users (a ++ x ∷ []) s ≡ fed users x (fed_all users a s)
+pub fed_snoc : (users : List User) (a : List Fed) (x : Fed) (s : Scene) → fed_all users (a ++ x ∷ []) s ≡ after_piece users x (fed_all users a s)
 fed_snoc users [] x s = refl
-fed_snoc users (y ∷ a) x s = fed_snoc users a x (fed users y s)
+fed_snoc users (y ∷ a) x s = fed_snoc users a x (after_piece users y s)
 
-pub answered_snoc : (users : List User) (a : List Fed) (x : Fed) (s : Scene) → AreAnswered users a s → MayTake x.0 (fed_all users a s).talk → IsQuiet users (fed users x (fed_all users a s)) → AreAnswered users (a ++ x ∷ []) s
+pub answered_snoc : (users : List User) (a : List Fed) (x : Fed) (s : Scene) → AreAnswered users a s → MayTake x.0 (fed_all users a s).talk → IsQuiet users (after_piece users x (fed_all users a s)) → AreAnswered users (a ++ x ∷ []) s
 answered_snoc users [] x s h f q = (f, q, tt)
-answered_snoc users (y ∷ a) x s h f q = (h.0, h.1, answered_snoc users a x (fed users y s) h.2 f q)
+answered_snoc users (y ∷ a) x s h f q = (h.0, h.1, answered_snoc users a x (after_piece users y s) h.2 f q)
 
-pub joined_snoc : (a : List Fed) (x : Fed) → joined (a ++ x ∷ []) ≡ joined a ++ x.0
+pub joined_snoc : (a : List Fed) (x : Fed) → octets_of_pieces (a ++ x ∷ []) ≡ octets_of_pieces a ++ x.0
 joined_snoc [] x = append-nil x.0
-joined_snoc (y ∷ a) x = ap (λ ys. y.0 ++ ys) (joined_snoc a x) ∙ sym (append_assoc y.0 (joined a) x.0)
+joined_snoc (y ∷ a) x = ap (λ ys. y.0 ++ ys) (joined_snoc a x) ∙ sym (append_assoc y.0 (octets_of_pieces a) x.0)
 
 -- parts of a piece, up to some place
 pub record IsPartly (users : List User) (piece rest : List ℕ) (old new : Scene) : Type 0 where
   pub parts : List Fed
-  pub joined_is : piece ≡ joined parts ++ rest
+  pub joined_is : piece ≡ octets_of_pieces parts ++ rest
   pub answered : AreAnswered users parts old
   pub is : new ≡ fed_all users parts old
   pub room : HasRoom new.talk
@@ -96,10 +96,10 @@ fits_room rest n t o r e = let room = r o in (o, omega (arith, e, room.1, length
 pub partly_more : (users : List User) (piece rest back : List ℕ) (n : ℕ) (old mid new : Scene) → IsPartly users piece rest old mid → MayTake (take n rest) mid.talk → back ≡ drop n rest → IsSettled users (pushed rest n mid) new → IsPartly users piece back old new
 partly_more users piece rest back n old mid new a f b s =
     let x : Fed = (take n rest, s.refused) in
-    let whole : new ≡ fed users x (fed_all users a.parts old) = s.is ∙ ap (λ q. fed users x q) a.is in
+    let whole : new ≡ after_piece users x (fed_all users a.parts old) = s.is ∙ ap (λ q. after_piece users x q) a.is in
     record {
       parts = a.parts ++ x ∷ [];
-      joined_is = a.joined_is ∙ ap (λ ys. joined a.parts ++ ys) (sym (take-append-drop n rest) ∙ ap (λ ys. take n rest ++ ys) (sym b)) ∙ sym (append_assoc (joined a.parts) (take n rest) back) ∙ ap (λ ys. ys ++ back) (sym (joined_snoc a.parts x));
+      joined_is = a.joined_is ∙ ap (λ ys. octets_of_pieces a.parts ++ ys) (sym (take-append-drop n rest) ∙ ap (λ ys. take n rest ++ ys) (sym b)) ∙ sym (append_assoc (octets_of_pieces a.parts) (take n rest) back) ∙ ap (λ ys. ys ++ back) (sym (joined_snoc a.parts x));
       answered = answered_snoc users a.parts x old a.answered (subst (λ (q : Scene). MayTake x.0 q.talk) a.is f) (subst (IsQuiet users) whole s.quiet);
       is = whole ∙ sym (fed_snoc users a.parts x old);
       room = s.room;
@@ -130,21 +130,21 @@ prefixed xs s = record s { out = xs ++ s.out }
 abbrev pre : List ℕ → Turn × Scene → Turn × Scene
 pre xs k = (k.0, prefixed xs k.1)
 
-added_pre : (xs out : List ℕ) (n : Next) → added (xs ++ out) n ≡ xs ++ added out n
+added_pre : (xs out : List ℕ) (n : Next) → with_said (xs ++ out) n ≡ xs ++ with_said out n
 added_pre xs out next.More = refl
 added_pre xs out (next.Say octets) = append_assoc xs out octets
 added_pre xs out (next.Ask event) = refl
 added_pre xs out (next.Close octets) = append_assoc xs out octets
 
-shown_pre : (xs : List ℕ) (o : Occasion) (seated : Bool) (m : Machine) (out : List ℕ) (x : Next × Talking) → shown o seated m (xs ++ out) x ≡ pre xs (shown o seated m out x)
+shown_pre : (xs : List ℕ) (o : Occasion) (seated : Bool) (m : Machine) (out : List ℕ) (x : Next × Talking) → turn_and_scene o seated m (xs ++ out) x ≡ pre xs (turn_and_scene o seated m out x)
 shown_pre xs o seated m out x = ap (λ (ys : List ℕ). let k : Turn × Scene = (turn_in x.0, record { machine = left_after x.0 seated o m; talk = x.1; out = ys }) in k) (added_pre xs out x.0)
 
 turn_pre_by : (xs : List ℕ) (o : Occasion) (refused : Bool) (s : Scene) (n : Next) (t : Talking) → turn_by o refused (prefixed xs s) (n, t) ≡ pre xs (turn_by o refused s (n, t))
 turn_pre_by xs o refused s next.More t = shown_pre xs o (has_seat s.talk) s.machine s.out (next.More, t)
 turn_pre_by xs o refused s (next.Say octets) t = shown_pre xs o (has_seat s.talk) s.machine s.out (next.Say octets, t)
 turn_pre_by xs o refused s (next.Ask event) t =
-    let r = performed refused s.machine o event in
-    shown_pre xs o (has_seat t || is_ok r) (machine_after s.machine r) s.out (answered t (outcome_of r))
+    let r = event_outcome refused s.machine o event in
+    shown_pre xs o (has_seat t || is_ok r) (machine_after s.machine r) s.out (after_answer t (outcome_of r))
 turn_pre_by xs o refused s (next.Close octets) t = shown_pre xs o (has_seat s.talk) s.machine s.out (next.Close octets, t)
 
 turn_pre : (users : List User) (xs : List ℕ) (o : Occasion) (refused : Bool) (s : Scene) → turn_of users o refused (prefixed xs s) ≡ pre xs (turn_of users o refused s)
@@ -155,18 +155,18 @@ pub turns_pre : (users : List User) (xs : List ℕ) (refused : List Bool) (s : S
 turns_pre users xs [] s = refl
 turns_pre users xs (r ∷ refused) s = ap (λ (k : Turn × Scene). turns users refused k.1) (turn_pre users xs always r s) ∙ turns_pre users xs refused (turn_of users always r s).1
 
-fed_pre : (users : List User) (xs : List ℕ) (x : Fed) (s : Scene) → fed users x (prefixed xs s) ≡ prefixed xs (fed users x s)
+fed_pre : (users : List User) (xs : List ℕ) (x : Fed) (s : Scene) → after_piece users x (prefixed xs s) ≡ prefixed xs (after_piece users x s)
 fed_pre users xs x s = turns_pre users xs x.1 (hears x.0 s)
 
 pub all_pre : (users : List User) (xs : List ℕ) (a : List Fed) (s : Scene) → fed_all users a (prefixed xs s) ≡ prefixed xs (fed_all users a s)
 all_pre users xs [] s = refl
-all_pre users xs (x ∷ a) s = ap (fed_all users a) (fed_pre users xs x s) ∙ all_pre users xs a (fed users x s)
+all_pre users xs (x ∷ a) s = ap (fed_all users a) (fed_pre users xs x s) ∙ all_pre users xs a (after_piece users x s)
 
 pub answered_pre : (users : List User) (xs : List ℕ) (a : List Fed) (s : Scene) → AreAnswered users a s → AreAnswered users a (prefixed xs s)
 answered_pre users xs [] s h = tt
 answered_pre users xs (x ∷ a) s h =
     let same = sym (fed_pre users xs x s) in
-    (h.0, subst (IsQuiet users) same h.1, subst (AreAnswered users a) same (answered_pre users xs a (fed users x s) h.2))
+    (h.0, subst (IsQuiet users) same h.1, subst (AreAnswered users a) same (answered_pre users xs a (after_piece users x s) h.2))
 
 -- a turn, and turns, behind what was said
 pub turn_behind : (users : List User) (o : Occasion) (xs : List ℕ) (old new : Scene) (came : Turn) → IsTurn users o old came new → IsTurn users o (prefixed xs old) came (prefixed xs new)
@@ -228,15 +228,15 @@ fed_out users piece rest s new a b p all = record { front = p.front; sent = p.se
 
 pub all_append : (users : List User) (a b : List Fed) (s : Scene) → fed_all users (a ++ b) s ≡ fed_all users b (fed_all users a s)
 all_append users [] b s = refl
-all_append users (x ∷ a) b s = all_append users a b (fed users x s)
+all_append users (x ∷ a) b s = all_append users a b (after_piece users x s)
 
 pub answered_append : (users : List User) (a b : List Fed) (s : Scene) → AreAnswered users a s → AreAnswered users b (fed_all users a s) → AreAnswered users (a ++ b) s
 answered_append users [] b s h k = k
-answered_append users (x ∷ a) b s h k = (h.0, h.1, answered_append users a b (fed users x s) h.2 k)
+answered_append users (x ∷ a) b s h k = (h.0, h.1, answered_append users a b (after_piece users x s) h.2 k)
 
-pub joined_append : (a b : List Fed) → joined (a ++ b) ≡ joined a ++ joined b
+pub joined_append : (a b : List Fed) → octets_of_pieces (a ++ b) ≡ octets_of_pieces a ++ octets_of_pieces b
 joined_append [] b = refl
-joined_append (x ∷ a) b = ap (λ ys. x.0 ++ ys) (joined_append a b) ∙ sym (append_assoc x.0 (joined a) (joined b))
+joined_append (x ∷ a) b = ap (λ ys. x.0 ++ ys) (joined_append a b) ∙ sym (append_assoc x.0 (octets_of_pieces a) (octets_of_pieces b))
 
 -- ---- what was written so far
 
@@ -244,9 +244,9 @@ joined_append (x ∷ a) b = ap (λ ys. x.0 ++ ys) (joined_append a b) ∙ sym (a
 pub record IsHeard (user : List ℕ) (pieces : List Fed) (piece : List ℕ) (m : Machine) (t : Talking) (written : List ℕ) : Type 0 where
   pub after : List Fed
   pub unread : List ℕ
-  pub joined_is : joined pieces ++ piece ≡ joined after ++ unread
-  pub answered : AreAnswered [] after (entered user)
-  pub is : fed_all [] after (entered user) ≡ scene m t written
+  pub joined_is : octets_of_pieces pieces ++ piece ≡ octets_of_pieces after ++ unread
+  pub answered : AreAnswered [] after (after_enter user)
+  pub is : fed_all [] after (after_enter user) ≡ scene m t written
   pub all : is_closed t.stage ≡ false → unread ≡ []
 
 heard_more : (user input rest piece : List ℕ) (w0 w : Option (List ℕ)) (m new_m : Machine) (t new_t : Talking) (out : List ℕ) → (h : SoFar user input rest w0 w m t) → IsFed [] piece (scene m t []) (scene new_m new_t out) → IsHeard user h.pieces piece new_m new_t (h.written ++ out)
@@ -256,9 +256,9 @@ heard_more user input rest piece w0 w m new_m t new_t out h f =
     record {
       after = h.pieces ++ f.parts;
       unread = f.rest;
-      joined_is = ap (λ ys. joined h.pieces ++ ys) f.joined_is ∙ sym (append_assoc (joined h.pieces) (joined f.parts) f.rest) ∙ ap (λ ys. ys ++ f.rest) (sym (joined_append h.pieces f.parts));
-      answered = answered_append [] h.pieces f.parts (entered user) h.answered (subst (AreAnswered [] f.parts) (none ∙ sym h.is) (answered_pre [] h.written f.parts (scene m t []) f.answered));
-      is = all_append [] h.pieces f.parts (entered user) ∙ ap (fed_all [] f.parts) h.is ∙ whole;
+      joined_is = ap (λ ys. octets_of_pieces h.pieces ++ ys) f.joined_is ∙ sym (append_assoc (octets_of_pieces h.pieces) (octets_of_pieces f.parts) f.rest) ∙ ap (λ ys. ys ++ f.rest) (sym (joined_append h.pieces f.parts));
+      answered = answered_append [] h.pieces f.parts (after_enter user) h.answered (subst (AreAnswered [] f.parts) (none ∙ sym h.is) (answered_pre [] h.written f.parts (scene m t []) f.answered));
+      is = all_append [] h.pieces f.parts (after_enter user) ∙ ap (fed_all [] f.parts) h.is ∙ whole;
       all = f.all;
     }
 
@@ -272,7 +272,7 @@ has_read user (Some input) (Some rest) (Some left) w0 w sent piece out m new_m t
     record {
       pieces = k.after;
       written = h.written ++ out;
-      input_is = h.input_is ∙ ap (λ ys. joined h.pieces ++ ys) c ∙ sym (append_assoc (joined h.pieces) piece left) ∙ ap (λ ys. ys ++ left) (k.joined_is ∙ ap (λ ys. joined k.after ++ ys) (k.all o) ∙ append-nil (joined k.after));
+      input_is = h.input_is ∙ ap (λ ys. octets_of_pieces h.pieces ++ ys) c ∙ sym (append_assoc (octets_of_pieces h.pieces) piece left) ∙ ap (λ ys. ys ++ left) (k.joined_is ∙ ap (λ ys. octets_of_pieces k.after ++ ys) (k.all o) ∙ append-nil (octets_of_pieces k.after));
       answered = k.answered;
       is = k.is;
       appends = appends_then w0 w sent h.written out h.appends a;
@@ -285,19 +285,19 @@ has_closed user (Some input) None new w0 w sent piece out m new_m t new_t c f o 
 has_closed user (Some input) (Some rest) None w0 w sent piece out m new_m t new_t c f o a h = absurd c
 has_closed user (Some input) (Some rest) (Some left) w0 w sent piece out m new_m t new_t c f o a h =
     let k = heard_more user input rest piece w0 w m new_m t new_t out h f in
-    let made : IsWritten user (joined k.after) (h.written ++ out) = record { pieces = k.after; joined_is = refl; answered = k.answered; is = sym (ap (λ (s : Scene). s.out) k.is) } in (
+    let made : IsWritten user (octets_of_pieces k.after) (h.written ++ out) = record { pieces = k.after; joined_is = refl; answered = k.answered; is = sym (ap (λ (s : Scene). s.out) k.is) } in (
       h.written ++ out,
       record {
-        read = joined k.after;
+        read = octets_of_pieces k.after;
         unread = k.unread ++ left;
-        input_is = h.input_is ∙ ap (λ ys. joined h.pieces ++ ys) c ∙ sym (append_assoc (joined h.pieces) piece left) ∙ ap (λ ys. ys ++ left) k.joined_is ∙ append_assoc (joined k.after) k.unread left;
+        input_is = h.input_is ∙ ap (λ ys. octets_of_pieces h.pieces ++ ys) c ∙ sym (append_assoc (octets_of_pieces h.pieces) piece left) ∙ ap (λ ys. ys ++ left) k.joined_is ∙ append_assoc (octets_of_pieces k.after) k.unread left;
         made = made;
         whole = inr (ap (λ (s : Scene). is_closed s.talk.stage) k.is ∙ o);
       },
       appends_then w0 w sent h.written out h.appends a,
     )
 
-so_far_written : (user input rest : List ℕ) (w0 w : Option (List ℕ)) (m : Machine) (t : Talking) → (h : SoFar user input rest w0 w m t) → IsWritten user (joined h.pieces) h.written
+so_far_written : (user input rest : List ℕ) (w0 w : Option (List ℕ)) (m : Machine) (t : Talking) → (h : SoFar user input rest w0 w m t) → IsWritten user (octets_of_pieces h.pieces) h.written
 so_far_written user input rest w0 w m t h = record { pieces = h.pieces; joined_is = refl; answered = h.answered; is = sym (ap (λ (s : Scene). s.out) h.is) }
 
 -- all was read
@@ -306,7 +306,7 @@ at_end user None r new w0 w m t c a h = tt
 at_end user (Some input) None new w0 w m t c a h = absurd h
 at_end user (Some input) (Some rest) None w0 w m t c a h = absurd c
 at_end user (Some input) (Some rest) (Some left) w0 w m t c a h =
-    (h.written, record { read = joined h.pieces; unread = rest; input_is = h.input_is; made = so_far_written user input rest w0 w m t h; whole = inl (c ∙ a) }, h.appends)
+    (h.written, record { read = octets_of_pieces h.pieces; unread = rest; input_is = h.input_is; made = so_far_written user input rest w0 w m t h; whole = inl (c ∙ a) }, h.appends)
 
 -- the reader failed
 pub at_fault : (user : List ℕ) (r0 r new w0 w : Option (List ℕ)) (m : Machine) (t : Talking) → Keeps r new → IsSoFar user r0 r w0 w m t → HasRead user r0 new w0 w
@@ -314,21 +314,21 @@ at_fault user None r new w0 w m t k h = tt
 at_fault user (Some input) None new w0 w m t k h = absurd h
 at_fault user (Some input) (Some rest) None w0 w m t k h = absurd k
 at_fault user (Some input) (Some rest) (Some left) w0 w m t k h =
-    (joined h.pieces, h.written, h.input_is ∙ ap (λ ys. joined h.pieces ++ ys) (sym k), so_far_written user input rest w0 w m t h, h.appends)
+    (octets_of_pieces h.pieces, h.written, h.input_is ∙ ap (λ ys. octets_of_pieces h.pieces ++ ys) (sym k), so_far_written user input rest w0 w m t h, h.appends)
 
 pub at_bound : (user : List ℕ) (r0 r w0 w : Option (List ℕ)) (m : Machine) (t : Talking) → IsSoFar user r0 r w0 w m t → HasRead user r0 r w0 w
 at_bound user None r w0 w m t h = tt
 at_bound user (Some input) None w0 w m t h = absurd h
-at_bound user (Some input) (Some rest) w0 w m t h = (joined h.pieces, h.written, h.input_is, so_far_written user input rest w0 w m t h, h.appends)
+at_bound user (Some input) (Some rest) w0 w m t h = (octets_of_pieces h.pieces, h.written, h.input_is, so_far_written user input rest w0 w m t h, h.appends)
 
 -- ---- the user has entered
 
 refused_closes : (user : List ℕ) → is_closed (turn_of [] always true (begins user)).1.talk.stage ≡ true
-unfolding turn_of session_next opening answered
+unfolding turn_of session_next opening after_answer
 refused_closes user = refl
 
-pub entered_by : (user : List ℕ) (came : Turn) (new : Scene) (refused : Bool) → (came, new) ≡ turn_of [] always refused (begins user) → is_closed new.talk.stage ≡ false → new ≡ entered user
-unfolding entered
+pub entered_by : (user : List ℕ) (came : Turn) (new : Scene) (refused : Bool) → (came, new) ≡ turn_of [] always refused (begins user) → is_closed new.talk.stage ≡ false → new ≡ after_enter user
+unfolding after_enter
 entered_by user came new true e o = absurd (let both : true ≡ false = sym (refused_closes user) ∙ ap (λ k. is_closed k.1.talk.stage) (sym e) ∙ o in cc)
 entered_by user came new false e o = ap (λ k. k.1) e
 
@@ -351,9 +351,9 @@ starts_with_room user turn.Said new k = λ o. (goes_on [] always (begins user) n
 starts_with_room user turn.Closed new k = λ o. absurd (let both : true ≡ false = sym (over [] always (begins user) new k) ∙ o in cc)
 
 -- a session of the same user, host and machine
-pub begun_scene : (user host : List ℕ) (m : Machine) (t : Talking) (out : List ℕ) → host ≡ codes "localhost" → m ≡ new_machine without_administrators → t ≡ begun host (Some user) → out ≡ [] → scene m t out ≡ begins user
+pub begun_scene : (user host : List ℕ) (m : Machine) (t : Talking) (out : List ℕ) → host ≡ codes "localhost" → m ≡ new_machine without_administrators → t ≡ beginning host (Some user) → out ≡ [] → scene m t out ≡ begins user
 begun_scene user host m t out h e f g =
-    let talk : t ≡ (begins user).talk = f ∙ ap (λ (xs : List ℕ). begun xs (Some user)) h in
+    let talk : t ≡ (begins user).talk = f ∙ ap (λ (xs : List ℕ). beginning xs (Some user)) h in
     λ i. scene (e i) (talk i) (g i)
 
 -- its first turn

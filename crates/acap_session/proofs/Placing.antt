@@ -2,13 +2,13 @@
 use Rattle.std.proofs.Common.{◌≡◌, ◌⊎◌, inl, inr, ℕ, zero, suc, ◌<◌, ◌≤◌, Bool, true, false, not, List, [], ◌∷◌, ◌++◌, length, take, Option, Some, None, Result, Ok, Err, IsSome, IsErr, IsErrAnd, get_or, set, refl, sym, ap, subst, ◌∙◌, arith}
 use Rattle.std.proofs.Math.Seq.{take-length}
 use Rattle.std.specs.Option.{is_some}
-use Rattle.acap_session.specs.Places.{Place, Places, place_at, placed, reached, if_open}
+use Rattle.acap_session.specs.Places.{Place, Places, place_at, with_place, places_up_to, if_open}
 use Rattle.acap_dialogue.specs.Session.{is_closed, session_next}
 use Rattle.acap_machine.specs.Machine.{Machine}
 use Rattle.acap_session.specs.Turning.{Scene, scene, CutInDraining, WasCut, IsTurn, turn_of, drain_of}
 use Rattle.acap_session.specs.World.{World, Deed, said_before, taken_from, output_taken, opened_at, Drains, HasBegun, IsStep, IsCutAt, Turns, HasTurnedAt, went_on, Feeds, Leaves, Opens, room_of, with_octets, at_open, did, open_at, scene_of, with_scene, takes, ends}
 use Rattle.acap_session.specs.World as world
-use Rattle.acap_dialogue.specs.Talking.{Talking, begun}
+use Rattle.acap_dialogue.specs.Talking.{Talking, beginning}
 use Rattle.acap_session.specs.declared.occasion.Occasion.{Occasion}
 use Rattle.acap_session.specs.declared.turn.Turn as turned
 use Rattle.acap_session.specs.declared.world_fault.WorldFault.{WorldFault}
@@ -42,14 +42,14 @@ within (x ∷ xs) zero e = omega arith
 within (x ∷ xs) (suc k) e = let r = within xs k e in omega (arith, r)
 
 -- what stands at a seat where a place is set
-pub placed_there : (xs : Places) (k : ℕ) (p : Place) → place_at (placed xs k p) k ≡ Some p
+pub placed_there : (xs : Places) (k : ℕ) (p : Place) → place_at (with_place xs k p) k ≡ Some p
 placed_there [] zero p = refl
 placed_there [] (suc k) p = placed_there [] k p
 placed_there (x ∷ xs) zero p = refl
 placed_there (x ∷ xs) (suc k) p = placed_there xs k p
 
 -- what is set there stands there
-pub set_is : (xs : Places) (k : ℕ) (p : Place) → k < length xs → set xs k (Some p) ≡ placed xs k p
+pub set_is : (xs : Places) (k : ℕ) (p : Place) → k < length xs → set xs k (Some p) ≡ with_place xs k p
 set_is [] k p e = absurd (omega (arith, e))
 set_is (x ∷ xs) zero p e = refl
 set_is (x ∷ xs) (suc k) p e = ap (λ ys. x ∷ ys) (set_is xs k p (omega (arith, e)))
@@ -129,7 +129,7 @@ open_is : (x : Option Place) (place : Place) → if_open x ≡ Some place → x 
 open_is None place e = cc
 open_is (Some p) place e = sym (open_of (Some p) (sym (ap is_some e))) ∙ e
 
-same_placed : (xs : Places) (k : ℕ) (place : Place) → place_at xs k ≡ Some place → placed xs k place ≡ xs
+same_placed : (xs : Places) (k : ℕ) (place : Place) → place_at xs k ≡ Some place → with_place xs k place ≡ xs
 same_placed [] k place e = absurd cc
 same_placed (x ∷ xs) zero place e = ap (λ y. y ∷ xs) (sym e)
 same_placed (x ∷ xs) (suc k) place e = ap (λ ys. x ∷ ys) (same_placed xs k place e)
@@ -174,30 +174,30 @@ memory_said (Err f) e h = ap (λ g. Err g) h
 
 -- ---- places up to a seat
 
-pub reached_more : (xs : Places) (k : ℕ) → length xs ≤ k → reached (xs ++ None ∷ []) k ≡ reached xs k
+pub reached_more : (xs : Places) (k : ℕ) → length xs ≤ k → places_up_to (xs ++ None ∷ []) k ≡ places_up_to xs k
 reached_more [] zero e = refl
 reached_more [] (suc k) e = refl
 reached_more (x ∷ xs) zero e = absurd (omega (arith, e))
 reached_more (x ∷ xs) (suc k) e = ap (λ ys. x ∷ ys) (reached_more xs k (omega (arith, e)))
 
-pub reached_all : (xs : Places) (k : ℕ) → k < length xs → reached xs k ≡ xs
+pub reached_all : (xs : Places) (k : ℕ) → k < length xs → places_up_to xs k ≡ xs
 reached_all [] k e = absurd (omega (arith, e))
 reached_all (x ∷ xs) zero e = refl
 reached_all (x ∷ xs) (suc k) e = ap (λ ys. x ∷ ys) (reached_all xs k (omega (arith, e)))
 
-pub reached_within : (xs : Places) (k : ℕ) → k < length (reached xs k)
+pub reached_within : (xs : Places) (k : ℕ) → k < length (places_up_to xs k)
 reached_within [] zero = omega arith
 reached_within [] (suc k) = let r = reached_within [] k in omega (arith, r)
 reached_within (x ∷ xs) zero = omega arith
 reached_within (x ∷ xs) (suc k) = let r = reached_within xs k in omega (arith, r)
 
-pub reached_set : (xs : Places) (k : ℕ) (p : Place) → set (reached xs k) k (Some p) ≡ placed xs k p
+pub reached_set : (xs : Places) (k : ℕ) (p : Place) → set (places_up_to xs k) k (Some p) ≡ with_place xs k p
 reached_set [] zero p = refl
 reached_set [] (suc k) p = ap (λ ys. None ∷ ys) (reached_set [] k p)
 reached_set (x ∷ xs) zero p = refl
 reached_set (x ∷ xs) (suc k) p = ap (λ ys. x ∷ ys) (reached_set xs k p)
 
-pub reached_there : (xs : Places) (k : ℕ) (d : Option Place) → get_or (reached xs k) k d ≡ place_at xs k
+pub reached_there : (xs : Places) (k : ℕ) (d : Option Place) → get_or (places_up_to xs k) k d ≡ place_at xs k
 reached_there [] zero d = refl
 reached_there [] (suc k) d = reached_there [] k d
 reached_there (x ∷ xs) zero d = refl
@@ -219,7 +219,7 @@ said_there old w i k n item x same h e f g s =
 taken_case : (w : World) (i : ℕ) (place left : Place) (item : Option Place) → i < length w.places → item ≡ get_or w.places i item → item ≡ Some place → left ≡ record place { out = [] } → record w { places = set w.places i (Some left) } ≡ output_taken w i
 taken_case w i place left item e g s t =
     let there = place_or w.places i item e ∙ sym g ∙ s in
-    ap (λ xs. record w { places = xs }) (set_is w.places i left e ∙ ap (λ p. placed w.places i p) t) ∙ sym (ap (λ x. record w { places = taken_from w.places i x }) there)
+    ap (λ xs. record w { places = xs }) (set_is w.places i left e ∙ ap (λ p. with_place w.places i p) t) ∙ sym (ap (λ x. record w { places = taken_from w.places i x }) there)
 
 pub some_taken : (old w : World) (i k n : ℕ) (place left : Place) (item : Option Place) → w ≡ old → i ≡ k → i < n → n ≡ length w.places → item ≡ get_or w.places i item → item ≡ Some place → left ≡ record place { out = [] } → record w { places = set w.places i (Some left) } ≡ output_taken old k
 some_taken old w i k n place left item same h e f g s t = taken_case w i place left item (omega (arith, e, f)) g s t ∙ ap (λ j. output_taken w j) h ∙ ap (λ (v : World). output_taken v k) same
@@ -237,18 +237,18 @@ nothing_taken old w i k n item left same h e f g s t = same_case w i item left (
 pub now_none : (w old : World) (k : ℕ) (b : Bool) → w ≡ old → b ≡ false → b ≡ is_some (open_at old k) → open_at w k ≡ None
 now_none w old k b v e g = not_open w k (sym e ∙ g ∙ ap (λ (u : World). is_some (open_at u k)) (sym v))
 
-pub stood : (w : World) (xs : Places) (i k : ℕ) (item : Option Place) → xs ≡ reached w.places k → i ≡ k → item ≡ get_or xs i item → item ≡ place_at w.places k
-stood w xs i k item e h g = g ∙ ap (λ ys. get_or ys i item) e ∙ ap (λ n. get_or (reached w.places k) n item) h ∙ reached_there w.places k item
+pub stood : (w : World) (xs : Places) (i k : ℕ) (item : Option Place) → xs ≡ places_up_to w.places k → i ≡ k → item ≡ get_or xs i item → item ≡ place_at w.places k
+stood w xs i k item e h g = g ∙ ap (λ ys. get_or ys i item) e ∙ ap (λ n. get_or (places_up_to w.places k) n item) h ∙ reached_there w.places k item
 
-open_put : (w : World) (m : Machine) (xs : Places) (i k : ℕ) (x : Option Place) (p : Place) → xs ≡ reached w.places k → i ≡ k → x ≡ Some p → record w { machine = m; places = set xs i x } ≡ with_scene w k (scene m p.talk p.out)
-open_put w m xs i k x p e h s = ap (λ ys. record w { machine = m; places = ys }) (ap (λ ys. set ys i x) e ∙ ap (λ n. set (reached w.places k) n x) h ∙ ap (λ y. set (reached w.places k) k y) s ∙ reached_set w.places k p)
+open_put : (w : World) (m : Machine) (xs : Places) (i k : ℕ) (x : Option Place) (p : Place) → xs ≡ places_up_to w.places k → i ≡ k → x ≡ Some p → record w { machine = m; places = set xs i x } ≡ with_scene w k (scene m p.talk p.out)
+open_put w m xs i k x p e h s = ap (λ ys. record w { machine = m; places = ys }) (ap (λ ys. set ys i x) e ∙ ap (λ n. set (places_up_to w.places k) n x) h ∙ ap (λ y. set (places_up_to w.places k) k y) s ∙ reached_set w.places k p)
 
 -- a session that opens at a seat, before its first turn
 abbrev pub opening_at : World → ℕ → Option (List ℕ) → Scene
-opening_at w seat user = scene w.machine (begun w.host user) (said_before (place_at w.places seat))
+opening_at w seat user = scene w.machine (beginning w.host user) (said_before (place_at w.places seat))
 
-pub starts : (w : World) (k : ℕ) (user : Option (List ℕ)) (host : List ℕ) (t : Talking) (x : Option Place) → t ≡ begun host user → host ≡ w.host → x ≡ place_at w.places k → scene w.machine t (said_before x) ≡ opening_at w k user
-starts w k user host t x e h s = ap (λ y. scene w.machine y (said_before x)) (e ∙ ap (λ y. begun y user) h) ∙ ap (λ y. scene w.machine (begun w.host user) (said_before y)) s
+pub starts : (w : World) (k : ℕ) (user : Option (List ℕ)) (host : List ℕ) (t : Talking) (x : Option Place) → t ≡ beginning host user → host ≡ w.host → x ≡ place_at w.places k → scene w.machine t (said_before x) ≡ opening_at w k user
+starts w k user host t x e h s = ap (λ y. scene w.machine y (said_before x)) (e ∙ ap (λ y. beginning y user) h) ∙ ap (λ y. scene w.machine (beginning w.host user) (said_before y)) s
 
 opened : (w : World) (o : Occasion) (user : Option (List ℕ)) → open_at w o.seat ≡ None → did o false (world.Open user) w ≡ with_scene w o.seat (turn_of w.users o false (opening_at w o.seat user)).1
 unfolding did
@@ -259,7 +259,7 @@ stays_open w k s e =
     let p : Place = record { talk = s.talk; out = s.out } in
     ap (λ x. is_some (if_open x)) (placed_there w.places k p) ∙ open_some p ∙ ap not e
 
-pub open_made : (old w : World) (o : Occasion) (user : Option (List ℕ)) (first : Scene) (xs : Places) (i : ℕ) (x : Option Place) (m : Machine) → w ≡ old → open_at w o.seat ≡ None → first ≡ opening_at w o.seat user → xs ≡ reached w.places o.seat → i ≡ o.seat → HasBegun w.users o first x m
+pub open_made : (old w : World) (o : Occasion) (user : Option (List ℕ)) (first : Scene) (xs : Places) (i : ℕ) (x : Option Place) (m : Machine) → w ≡ old → open_at w o.seat ≡ None → first ≡ opening_at w o.seat user → xs ≡ places_up_to w.places o.seat → i ≡ o.seat → HasBegun w.users o first x m
     → Opens o user old (record w { machine = m; places = set xs i x }) (Ok tt)
 open_made old w o user first xs i x m same e f h n b =
     let put = open_put w m xs i o.seat x b.place h n b.stands in
@@ -268,16 +268,16 @@ open_made old w o user first xs i x m same e f h n b =
     subst (λ (y : World). Opens o user y (record w { machine = m; places = set xs i x }) (Ok tt)) same (e, put ∙ made, ap (λ (y : World). is_some (open_at y o.seat)) put ∙ stays_open w o.seat s b.going)
 
 -- and one that doesn't open leaves all as it was
-take_reached : (xs : Places) (k : ℕ) → take (length xs) (reached xs k) ≡ xs
+take_reached : (xs : Places) (k : ℕ) → take (length xs) (places_up_to xs k) ≡ xs
 take_reached [] k = refl
 take_reached (x ∷ xs) zero = ap (λ ys. x ∷ ys) (take-length xs)
 take_reached (x ∷ xs) (suc k) = ap (λ ys. x ∷ ys) (take_reached xs k)
 
-pub unopened : (old w : World) (o : Occasion) (user : Option (List ℕ)) (xs zs : Places) (i n : ℕ) (item x : Option Place) (m : Machine) → w ≡ old → open_at w o.seat ≡ None → xs ≡ reached w.places o.seat → i ≡ o.seat → item ≡ get_or xs i item → x ≡ item → zs ≡ take n (set xs i x) → n ≡ length w.places → m ≡ w.machine
+pub unopened : (old w : World) (o : Occasion) (user : Option (List ℕ)) (xs zs : Places) (i n : ℕ) (item x : Option Place) (m : Machine) → w ≡ old → open_at w o.seat ≡ None → xs ≡ places_up_to w.places o.seat → i ≡ o.seat → item ≡ get_or xs i item → x ≡ item → zs ≡ take n (set xs i x) → n ≡ length w.places → m ≡ w.machine
     → Opens o user old (record w { machine = m; places = zs }) (Err faults.Memory)
 unopened old w o user xs zs i n item x m same e h g f s t k l =
     let within : i < length xs = subst (λ j. j < length xs) (sym g) (subst (λ (ys : Places). o.seat < length ys) (sym h) (reached_within w.places o.seat)) in
     let kept = ap (λ y. set xs i y) (s ∙ f) ∙ same_set xs i item within ∙ h in
-    let all : zs ≡ w.places = t ∙ ap (λ ys. take n ys) kept ∙ ap (λ j. take j (reached w.places o.seat)) k ∙ take_reached w.places o.seat in
+    let all : zs ≡ w.places = t ∙ ap (λ ys. take n ys) kept ∙ ap (λ j. take j (places_up_to w.places o.seat)) k ∙ take_reached w.places o.seat in
     let now : record w { machine = m; places = zs } ≡ w = ap (λ ys. record w { machine = m; places = ys }) all ∙ ap (λ y. record w { machine = y }) l in
     subst (λ (y : World). Opens o user y (record w { machine = m; places = zs }) (Err faults.Memory)) same (e, now)

@@ -14,14 +14,14 @@ use Rattle.acap_lexer.specs.declared.mode.Mode.TheVariants as mode
 use Rattle.acap_machine.specs.Machine.{Machine, new_machine}
 use Rattle.acap_machine.proofs.SeatLemmas.{nobody_at}
 use Rattle.acap_machine.specs.Runs.{machine_after, outcome_of}
-use Rattle.acap_machine.specs.Stepping.{seated as seating}
+use Rattle.acap_machine.specs.Stepping.{enter_answer as seating}
 use Rattle.acap_commands.specs.declared.fault.Fault.TheVariants as fault
-use Rattle.acap_dialogue.specs.Hearing.{heard, opening}
+use Rattle.acap_dialogue.specs.Hearing.{response_to, opening}
 use Rattle.acap_session.specs.Laws.{IsUnder, RefusedTurns, WrittenLaw, told_first, refused_in, refused_of}
-use Rattle.acap_session.specs.Piping.{Fed, AreAnswered, IsQuiet, IsWritten, always, entered, fed, fed_all, hears, joined, turns, without_administrators}
-use Rattle.acap_dialogue.specs.Session.{session_next, answered, answer_said, answer_user, comes_to, has_seat}
-use Rattle.acap_dialogue.specs.Talking.{Talking, begun}
-use Rattle.acap_session.specs.Turning.{Scene, shown, turn_by, turn_of}
+use Rattle.acap_session.specs.Piping.{Fed, AreAnswered, IsQuiet, IsWritten, always, after_enter, after_piece, fed_all, hears, octets_of_pieces, turns, without_administrators}
+use Rattle.acap_dialogue.specs.Session.{session_next, after_answer, answer_said, answer_user, comes_to, has_seat}
+use Rattle.acap_dialogue.specs.Talking.{Talking, beginning}
+use Rattle.acap_session.specs.Turning.{Scene, turn_and_scene, turn_by, turn_of}
 use Rattle.acap_session.specs.World.{went_on}
 use Rattle.acap_dialogue.specs.declared.next.Next.{Next}
 use Rattle.acap_dialogue.specs.declared.next.Next.TheVariants as next
@@ -39,7 +39,7 @@ abbrev refused_scene : Scene → Talking → Option (List ℕ) → Scene
 refused_scene s t tag = record s { talk = record t { stage = stage.Ready }; out = s.out ++ octets_of (record { tag = tag; said = said.Refused refusals.Memory }) }
 
 refused_at : (o : Occasion) (s : Scene) (t : Talking) (tag : Option (List ℕ)) (x : Stage) → IsUnder tag x
-    → shown o (has_seat t || false) s.machine s.out (comes_to (record t { user = answer_user x t.user (Err fault.Memory) }) (answer_said x (Err fault.Memory))) ≡ (turn.Said, refused_scene s t tag)
+    → turn_and_scene o (has_seat t || false) s.machine s.out (comes_to (record t { user = answer_user x t.user (Err fault.Memory) }) (answer_said x (Err fault.Memory))) ≡ (turn.Said, refused_scene s t tag)
 refused_at o s t tag stage.Opening e = absurd e
 refused_at o s t tag stage.Entering e = absurd e
 refused_at o s t tag stage.Ready e = absurd e
@@ -50,14 +50,10 @@ refused_at o s t tag stage.Draining e = absurd e
 refused_at o s t tag stage.Closed e = absurd e
 
 pub refused_turns : RefusedTurns
-unfolding turn_of answered
+unfolding turn_of after_answer
 refused_turns users o s event t tag e k = ap (turn_by o true s) e ∙ refused_at o s t tag t.stage k
 
 -- ---- turns where more octets stand behind
-
--- which are refused, by what is next
-abbrev TellsAt : List User → Bool → List Bool → Scene → Next → Type 0
-TellsAt users refused more s n = refused_in users (refused ∷ more) s ≡ told_first refused n (refused_in users more (turn_of users always refused s).1)
 
 -- the same turns with octets behind those held, and without those that come to nothing
 record Ahead (users : List User) (octets : List ℕ) (made : List Bool) (s : Scene) : Type 0 where
@@ -120,8 +116,8 @@ refused_joined users (x ∷ a) b s =
 -- all octets first, and then some turns
 record AllFirst (users : List User) (pieces : List Fed) (s : Scene) : Type 0 where
   turned : List Bool
-  is : turns users turned (hears (joined pieces) s) ≡ fed_all users pieces s
-  told : refused_in users turned (hears (joined pieces) s) ≡ refused_of users pieces s
+  is : turns users turned (hears (octets_of_pieces pieces) s) ≡ fed_all users pieces s
+  told : refused_in users turned (hears (octets_of_pieces pieces) s) ≡ refused_of users pieces s
 
 abbrev with_text : Scene → List ℕ → Scene
 with_text s text = record s { talk = record s.talk { held = record s.talk.held { text = text } } }
@@ -129,9 +125,9 @@ with_text s text = record s { talk = record s.talk { held = record s.talk.held {
 all_first : (users : List User) (pieces : List Fed) (s : Scene) → AllFirst users pieces s
 all_first users [] s = record { turned = []; is = ap (with_text s) (append-nil s.talk.held.text); told = refl }
 all_first users (x ∷ pieces) s =
-    let rest = joined pieces in
+    let rest = octets_of_pieces pieces in
     let a = ahead users rest x.1 (hears x.0 s) in
-    let r = all_first users pieces (fed users x s) in
+    let r = all_first users pieces (after_piece users x s) in
     let both : hears (x.0 ++ rest) s ≡ hears rest (hears x.0 s) = ap (with_text s) (sym (append_assoc s.talk.held.text x.0 rest)) in
     record {
       turned = a.turned ++ r.turned;
@@ -200,16 +196,16 @@ ends_meet users (x ∷ a) (y ∷ b) s k e f =
 
 quiet_end : (users : List User) (pieces : List Fed) (s : Scene) → IsQuiet users s → AreAnswered users pieces s → IsQuiet users (fed_all users pieces s)
 quiet_end users [] s q h = q
-quiet_end users (x ∷ pieces) s q h = quiet_end users pieces (fed users x s) h.1 h.2
+quiet_end users (x ∷ pieces) s q h = quiet_end users pieces (after_piece users x s) h.1 h.2
 
-pieces_meet : (users : List User) (a b : List Fed) (s : Scene) → joined a ≡ joined b → IsQuiet users s → AreAnswered users a s → AreAnswered users b s → Agree (refused_of users a s) (refused_of users b s) → fed_all users a s ≡ fed_all users b s
+pieces_meet : (users : List User) (a b : List Fed) (s : Scene) → octets_of_pieces a ≡ octets_of_pieces b → IsQuiet users s → AreAnswered users a s → AreAnswered users b s → Agree (refused_of users a s) (refused_of users b s) → fed_all users a s ≡ fed_all users b s
 pieces_meet users a b s e q g h k =
     let x = all_first users a s in
     let y = all_first users b s in
-    let y_is : turns users y.turned (hears (joined a) s) ≡ fed_all users b s = ap (λ ts. turns users y.turned (hears ts s)) e ∙ y.is in
-    let y_told : refused_in users y.turned (hears (joined a) s) ≡ refused_of users b s = ap (λ ts. refused_in users y.turned (hears ts s)) e ∙ y.told in
-    let agree = subst (λ r. Agree r (refused_in users y.turned (hears (joined a) s))) (sym x.told) (subst (Agree (refused_of users a s)) (sym y_told) k) in
-    sym x.is ∙ ends_meet users x.turned y.turned (hears (joined a) s) agree (subst (IsQuiet users) (sym x.is) (quiet_end users a s q g)) (subst (IsQuiet users) (sym y_is) (quiet_end users b s q h)) ∙ y_is
+    let y_is : turns users y.turned (hears (octets_of_pieces a) s) ≡ fed_all users b s = ap (λ ts. turns users y.turned (hears ts s)) e ∙ y.is in
+    let y_told : refused_in users y.turned (hears (octets_of_pieces a) s) ≡ refused_of users b s = ap (λ ts. refused_in users y.turned (hears ts s)) e ∙ y.told in
+    let agree = subst (λ r. Agree r (refused_in users y.turned (hears (octets_of_pieces a) s))) (sym x.told) (subst (Agree (refused_of users a s)) (sym y_told) k) in
+    sym x.is ∙ ends_meet users x.turned y.turned (hears (octets_of_pieces a) s) agree (subst (IsQuiet users) (sym x.is) (quiet_end users a s q g)) (subst (IsQuiet users) (sym y_is) (quiet_end users b s q h)) ∙ y_is
 
 -- a session that has entered, and holds nothing, has nothing next
 abbrev nobody : Machine
@@ -218,10 +214,10 @@ nobody = new_machine without_administrators
 abbrev welcomed : List ℕ → Option (List ℕ) → Scene
 welcomed user x =
     let r = seating nobody 0 user x in
-    (shown always (false || is_ok r) (machine_after nobody r) [] (answered (record (begun (codes "localhost") (Some user)) { stage = stage.Entering }) (outcome_of r))).1
+    (turn_and_scene always (false || is_ok r) (machine_after nobody r) [] (after_answer (record (beginning (codes "localhost") (Some user)) { stage = stage.Entering }) (outcome_of r))).1
 
-entered_is : (user : List ℕ) → entered user ≡ welcomed user None
-unfolding entered turn_of session_next opening
+entered_is : (user : List ℕ) → after_enter user ≡ welcomed user None
+unfolding after_enter turn_of session_next opening
 entered_is user = ap (welcomed user) (nobody_at without_administrators 0)
 
 nothing_held : (next_of mode.Command (record { text = []; told = 0; fatal = None })).0 ≡ lexed.More
@@ -229,18 +225,18 @@ unfolding next_of progress progress_from progress_within step_of part_end end_of
 nothing_held = refl
 
 welcomed_quiet : (user : List ℕ) → IsQuiet [] (welcomed user None)
-unfolding answered session_next heard
-welcomed_quiet user = ap (λ x. (heard (record { host = codes "localhost"; user = Some user; nonce = 0; clock = pos 0 }) x).0) nothing_held
+unfolding after_answer session_next response_to
+welcomed_quiet user = ap (λ x. (response_to (record { host = codes "localhost"; user = Some user; nonce = 0; clock = pos 0 }) x).0) nothing_held
 
-entered_quiet : (user : List ℕ) → IsQuiet [] (entered user)
+entered_quiet : (user : List ℕ) → IsQuiet [] (after_enter user)
 entered_quiet user = subst (IsQuiet []) (sym (entered_is user)) (welcomed_quiet user)
 
-written_by : (user read a b : List ℕ) (x : IsWritten user read a) (y : IsWritten user read b) → Agree (refused_of [] x.pieces (entered user)) (refused_of [] y.pieces (entered user)) → a ≡ b
+written_by : (user read a b : List ℕ) (x : IsWritten user read a) (y : IsWritten user read b) → Agree (refused_of [] x.pieces (after_enter user)) (refused_of [] y.pieces (after_enter user)) → a ≡ b
 written_by user read a b x y k =
-    x.is ∙ ap (λ (s : Scene). s.out) (pieces_meet [] x.pieces y.pieces (entered user) (sym x.joined_is ∙ y.joined_is) (entered_quiet user) x.answered y.answered k) ∙ sym y.is
+    x.is ∙ ap (λ (s : Scene). s.out) (pieces_meet [] x.pieces y.pieces (after_enter user) (sym x.joined_is ∙ y.joined_is) (entered_quiet user) x.answered y.answered k) ∙ sym y.is
 
 pub written : WrittenLaw
 written = record {
-  by_refused = λ user read a b x y e. written_by user read a b x y (subst (Agree (refused_of [] x.pieces (entered user))) e (agree_same (refused_of [] x.pieces (entered user))));
-  by_none = λ user read a b x y e f. written_by user read a b x y (agree_none (refused_of [] x.pieces (entered user)) (refused_of [] y.pieces (entered user)) e f);
+  by_refused = λ user read a b x y e. written_by user read a b x y (subst (Agree (refused_of [] x.pieces (after_enter user))) e (agree_same (refused_of [] x.pieces (after_enter user))));
+  by_none = λ user read a b x y e f. written_by user read a b x y (agree_none (refused_of [] x.pieces (after_enter user)) (refused_of [] y.pieces (after_enter user)) e f);
 }

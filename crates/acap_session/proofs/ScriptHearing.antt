@@ -29,10 +29,6 @@ turned : (old : World) (o : Occasion) (refused : Bool) (place : Place) → open_
 unfolding did
 turned old o refused place e = ap (λ x. at_open old o.seat (λ s. (turn_of old.users o refused s).1) x) e
 
--- the scene that a turn leaves
-abbrev pub scene_after : {o : Occasion} {goes : Bool} {old new : World} → HasTurnedAt o goes old new → Scene
-scene_after {o} {goes} {old} {new} h = (turn_of old.users o h.refused (scene_of old h.place)).1
-
 -- ---- fewer turns are left
 
 abbrev pub unheard : Bool → ℕ

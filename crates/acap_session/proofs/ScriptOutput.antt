@@ -1,5 +1,5 @@
 -- Octets in parts, part by part.
-use Rattle.std.proofs.Common.{◌≡◌, ◌≢◌, ℕ, zero, suc, ◌+◌, ◌<◌, List, [], ◌∷◌, ◌++◌, length, Some, None, refl, sym, ap, subst, ◌∙◌, append_assoc, arith, slice_index}
+use Rattle.std.proofs.Common.{◌≡◌, ◌≢◌, ℕ, zero, suc, ◌+◌, ◌<◌, List, [], ◌∷◌, ◌++◌, length, Some, None, sym, ap, subst, ◌∙◌, append_assoc, arith, slice_index}
 use Rattle.std.specs.Prelude.{flat_map}
 use Rattle.std.proofs.lemmas.List.{append-nil}
 use Rattle.memchr.specs.Find.{FindsNeedle, OccursAt}
@@ -36,9 +36,6 @@ pub record IsPartly (seat : ℕ) (said rest written : List ℕ) : Type 0 where
   pub parts : List (List ℕ)
   pub is : written ≡ flat_map (part_line seat) parts
   pub more : (later : List (List ℕ)) → AreParts later rest → AreParts (parts ++ later) said
-
-pub no_parts : (seat : ℕ) (said : List ℕ) → IsPartly seat said said []
-no_parts seat said = record { parts = []; is = refl; more = λ later h. h }
 
 pub one_more : (seat : ℕ) (said rest part behind written more : List ℕ) → IsPartly seat said rest written → rest ≢ [] → IsFirstPart rest part behind → more ≡ written ++ part_line seat part → IsPartly seat said behind more
 one_more seat said rest part behind written more h some first e = record {

@@ -9,8 +9,8 @@ use Rattle.std.proofs.lemmas.List.{append-nil, take-append-drop, drop_more}
 use Rattle.acap_session.specs.Places.{place_at}
 use Rattle.acap_session.specs.Script.{Acts, AreDone, IsDone, MaySay, MaySpeak, Says, begins, is_wrong, may, world_of}
 use Rattle.acap_session.specs.ScriptOutput.{Shows}
-use Rattle.acap_session.specs.ScriptRun.{is_feed, IsLine, AreLines, ended, HasLines, HasBegun, HasEnded, HasStopped, HasFailed, Runs, ScriptReads, HasPartLines, HasRunLine, RunsLine, RunsLast, HasRunLines, HasFailedIn, RunsLines}
-use Rattle.acap_session.specs.Streams.{HasGiven, IfTold, SendsFront, Told}
+use Rattle.acap_session.specs.ScriptRun.{is_feed, IsLine, AreLines, lines_of, HasLines, HasBegun, HasEnded, HasStopped, HasFailed, Runs, ScriptReads, HasPartLines, HasRunLine, RunsLine, RunsLast, HasRunLines, HasFailedIn, RunsLines}
+use Rattle.acap_session.specs.Streams.{HasGiven, IfTold, SendsFront, ReaderTold}
 use Rattle.acap_session.specs.World.{World, open_at, output_taken, said_before}
 use Rattle.acap_session.specs.declared.script.Script.{Script}
 use Rattle.acap_session.specs.declared.script_fault.ScriptFault.{ScriptFault}
@@ -80,9 +80,9 @@ done_append (x ∷ a) b s t u said out h k = record {
   then_done = done_append a b h.between t u h.later out h.then_done k;
 }
 
-ended_append : (a b : List (List ℕ)) → ended (a ++ b) ≡ ended a ++ ended b
+ended_append : (a b : List (List ℕ)) → lines_of (a ++ b) ≡ lines_of a ++ lines_of b
 ended_append [] b = refl
-ended_append (x ∷ a) b = ap (λ ys. (x ++ 10 ∷ []) ++ ys) (ended_append a b) ∙ sym (append_assoc (x ++ 10 ∷ []) (ended a) (ended b))
+ended_append (x ∷ a) b = ap (λ ys. (x ++ 10 ∷ []) ++ ys) (ended_append a b) ∙ sym (append_assoc (x ++ 10 ∷ []) (lines_of a) (lines_of b))
 
 lines_append : (a b : List (List ℕ)) → AreLines a → AreLines b → AreLines (a ++ b)
 lines_append [] b h k = k
@@ -103,7 +103,7 @@ line_append (x ∷ a) b h k = let q = first_no (is_feed x) (list_any is_feed a) 
 
 pub record IsRunning (text piece held rest : List ℕ) (number later : ℕ) (s t : Script) (old new : Option (List ℕ)) : Type 0 where
   pub lines : List (List ℕ)
-  pub is : text ≡ ended lines ++ (held ++ rest)
+  pub is : text ≡ lines_of lines ++ (held ++ rest)
   pub are_lines : AreLines lines
   pub held_is : IsLine held
   pub counted : later ≡ number + length lines
@@ -129,13 +129,13 @@ ends_at rest front behind place h e f = record {
 }
 
 -- the text with that line
-cut_there : (lines : List (List ℕ)) (text held rest front behind line : List ℕ) → text ≡ ended lines ++ (held ++ rest) → rest ≡ front ++ 10 ∷ behind → line ≡ held ++ front → text ≡ ended lines ++ (line ++ 10 ∷ behind)
+cut_there : (lines : List (List ℕ)) (text held rest front behind line : List ℕ) → text ≡ lines_of lines ++ (held ++ rest) → rest ≡ front ++ 10 ∷ behind → line ≡ held ++ front → text ≡ lines_of lines ++ (line ++ 10 ∷ behind)
 cut_there lines text held rest front behind line e f g =
-    e ∙ ap (λ ys. ended lines ++ ys) (ap (λ ys. held ++ ys) f ∙ sym (append_assoc held front (10 ∷ behind)) ∙ ap (λ ys. ys ++ 10 ∷ behind) (sym g))
+    e ∙ ap (λ ys. lines_of lines ++ ys) (ap (λ ys. held ++ ys) f ∙ sym (append_assoc held front (10 ∷ behind)) ∙ ap (λ ys. ys ++ 10 ∷ behind) (sym g))
 
-ended_there : (lines : List (List ℕ)) (text held rest front behind line : List ℕ) → text ≡ ended lines ++ (held ++ rest) → rest ≡ front ++ 10 ∷ behind → line ≡ held ++ front → text ≡ ended (lines ++ line ∷ []) ++ behind
+ended_there : (lines : List (List ℕ)) (text held rest front behind line : List ℕ) → text ≡ lines_of lines ++ (held ++ rest) → rest ≡ front ++ 10 ∷ behind → line ≡ held ++ front → text ≡ lines_of (lines ++ line ∷ []) ++ behind
 ended_there lines text held rest front behind line e f g =
-    cut_there lines text held rest front behind line e f g ∙ ap (λ ys. ended lines ++ ys) (sym (append_assoc line (10 ∷ []) behind)) ∙ sym (append_assoc (ended lines) (line ++ 10 ∷ []) behind) ∙ ap (λ ys. ys ++ behind) (sym (flat_snoc (λ l. l ++ 10 ∷ []) lines line))
+    cut_there lines text held rest front behind line e f g ∙ ap (λ ys. lines_of lines ++ ys) (sym (append_assoc line (10 ∷ []) behind)) ∙ sym (append_assoc (lines_of lines) (line ++ 10 ∷ []) behind) ∙ ap (λ ys. ys ++ behind) (sym (flat_snoc (λ l. l ++ 10 ∷ []) lines line))
 
 -- memory was refused behind the lines that were done
 pub lines_cut : (text piece held rest : List ℕ) (number later : ℕ) (s t : Script) (old mid new : Option (List ℕ)) → IsRunning text piece held rest number later s t old mid → new ≡ mid → HasPartLines text s old new
@@ -206,7 +206,7 @@ lines_fail text piece held rest front behind line kept number later more s t u o
 pub all_run : (text piece held rest kept : List ℕ) (number later : ℕ) (s t : Script) (old new : Option (List ℕ)) → IsRunning text piece held rest number later s t old new → IsLine rest → kept ≡ held ++ rest → HasRunLines text kept number later s t old new
 all_run text piece held rest kept number later s t old new a h e = record {
   lines = a.lines;
-  in_lines = record { is = a.is ∙ ap (λ ys. ended a.lines ++ ys) (sym e); are_lines = a.are_lines; is_line = subst (λ ys. IsLine ys) (sym e) (line_append held rest a.held_is h) };
+  in_lines = record { is = a.is ∙ ap (λ ys. lines_of a.lines ++ ys) (sym e); are_lines = a.are_lines; is_line = subst (λ ys. IsLine ys) (sym e) (line_append held rest a.held_is h) };
   counted = a.counted;
   said = a.said;
   done = a.done;
@@ -259,7 +259,7 @@ piece_read r0 r r1 w0 w w1 held piece kept number later s t a c h = record {
   consumed = consumes_then r0 r r1 a.read piece a.consumed c;
   lines = a.lines ++ h.lines;
   in_lines = record {
-    is = ap (λ ys. ys ++ piece) a.in_lines.is ∙ append_assoc (ended a.lines) held piece ∙ ap (λ ys. ended a.lines ++ ys) h.in_lines.is ∙ sym (append_assoc (ended a.lines) (ended h.lines) kept) ∙ ap (λ ys. ys ++ kept) (sym (ended_append a.lines h.lines));
+    is = ap (λ ys. ys ++ piece) a.in_lines.is ∙ append_assoc (lines_of a.lines) held piece ∙ ap (λ ys. lines_of a.lines ++ ys) h.in_lines.is ∙ sym (append_assoc (lines_of a.lines) (lines_of h.lines) kept) ∙ ap (λ ys. ys ++ kept) (sym (ended_append a.lines h.lines));
     are_lines = lines_append a.lines h.lines a.in_lines.are_lines h.in_lines.are_lines;
     is_line = h.in_lines.is_line;
   };
@@ -276,7 +276,7 @@ piece_failed r0 r r1 w0 w w1 held piece number n s a c h = record {
   before = a.lines ++ h.before;
   wrong = h.wrong;
   behind = 10 ∷ h.behind;
-  is = ap (λ ys. ys ++ piece) a.in_lines.is ∙ append_assoc (ended a.lines) held piece ∙ ap (λ ys. ended a.lines ++ ys) h.is ∙ sym (append_assoc (ended a.lines) (ended h.before) (h.wrong ++ 10 ∷ h.behind)) ∙ ap (λ ys. ys ++ (h.wrong ++ 10 ∷ h.behind)) (sym (ended_append a.lines h.before));
+  is = ap (λ ys. ys ++ piece) a.in_lines.is ∙ append_assoc (lines_of a.lines) held piece ∙ ap (λ ys. lines_of a.lines ++ ys) h.is ∙ sym (append_assoc (lines_of a.lines) (lines_of h.before) (h.wrong ++ 10 ∷ h.behind)) ∙ ap (λ ys. ys ++ (h.wrong ++ 10 ∷ h.behind)) (sym (ended_append a.lines h.before));
   are_lines = lines_append a.lines h.before a.in_lines.are_lines h.are_lines;
   is_line = h.is_line;
   ends = refl;
@@ -294,7 +294,7 @@ piece_cut r0 r r1 w0 w w1 held piece number s a c h = record {
   consumed = consumes_then r0 r r1 a.read piece a.consumed c;
   lines = a.lines ++ h.lines;
   behind = h.behind;
-  is = ap (λ ys. ys ++ piece) a.in_lines.is ∙ append_assoc (ended a.lines) held piece ∙ ap (λ ys. ended a.lines ++ ys) h.is ∙ sym (append_assoc (ended a.lines) (ended h.lines) h.behind) ∙ ap (λ ys. ys ++ h.behind) (sym (ended_append a.lines h.lines));
+  is = ap (λ ys. ys ++ piece) a.in_lines.is ∙ append_assoc (lines_of a.lines) held piece ∙ ap (λ ys. lines_of a.lines ++ ys) h.is ∙ sym (append_assoc (lines_of a.lines) (lines_of h.lines) h.behind) ∙ ap (λ ys. ys ++ h.behind) (sym (ended_append a.lines h.lines));
   are_lines = lines_append a.lines h.lines a.in_lines.are_lines h.are_lines;
   texts = a.lines ++ h.lines;
   texts_are = inl refl;
@@ -358,7 +358,7 @@ ended_at r0 r r1 w0 w w1 (x ∷ held) number s t (Err (faults.Line n)) a c end k
   before = a.lines;
   wrong = x ∷ held;
   behind = [];
-  is = a.in_lines.is ∙ ap (λ ys. ended a.lines ++ ys) (sym (append-nil (x ∷ held)));
+  is = a.in_lines.is ∙ ap (λ ys. lines_of a.lines ++ ys) (sym (append-nil (x ∷ held)));
   are_lines = a.in_lines.are_lines;
   is_line = a.in_lines.is_line;
   ends = end;
@@ -423,14 +423,14 @@ unbegun_runs r w (Err x) p q = subst (λ y. Runs r r w w (Err y)) (sym q) (unbeg
 -- ---- how reading ends
 
 -- no line fails to read
-pub lines_read : (text rest : List ℕ) (number later : ℕ) (s t : Script) (old new : Option (List ℕ)) (fault : ScriptFault) (result : Result (Unit {0}) ScriptFault) (a b : Option Told) → IsErr result → IsErrAnd result (λ x. x ≡ fault) → RunsLines text rest number later s t old new (Err fault) → IfTold HasGiven a b → ScriptReads a b result
+pub lines_read : (text rest : List ℕ) (number later : ℕ) (s t : Script) (old new : Option (List ℕ)) (fault : ScriptFault) (result : Result (Unit {0}) ScriptFault) (a b : Option ReaderTold) → IsErr result → IsErrAnd result (λ x. x ≡ fault) → RunsLines text rest number later s t old new (Err fault) → IfTold HasGiven a b → ScriptReads a b result
 lines_read text rest number later s t old new fault (Ok done) a b p q k g = g
 lines_read text rest number later s t old new faults.Read (Err x) a b p q k g = absurd k
 lines_read text rest number later s t old new (faults.Line n) (Err x) a b p q k g = subst (λ y. ScriptReads a b (Err y)) (sym q) g
 lines_read text rest number later s t old new faults.Write (Err x) a b p q k g = subst (λ y. ScriptReads a b (Err y)) (sym q) g
 lines_read text rest number later s t old new faults.Memory (Err x) a b p q k g = subst (λ y. ScriptReads a b (Err y)) (sym q) g
 
-pub last_read : (text : List ℕ) (number : ℕ) (s t : Script) (old new : Option (List ℕ)) (result : Result (Unit {0}) ScriptFault) (a b : Option Told) → RunsLast text number s t old new result → IfTold HasGiven a b → ScriptReads a b result
+pub last_read : (text : List ℕ) (number : ℕ) (s t : Script) (old new : Option (List ℕ)) (result : Result (Unit {0}) ScriptFault) (a b : Option ReaderTold) → RunsLast text number s t old new result → IfTold HasGiven a b → ScriptReads a b result
 last_read [] number s t old new result a b k g = subst (ScriptReads a b) (sym k.0) g
 last_read (x ∷ text) number s t old new (Ok done) a b k g = g
 last_read (x ∷ text) number s t old new (Err (faults.Line n)) a b k g = g

@@ -1,5 +1,5 @@
 -- What was written of octets.
-use Rattle.std.proofs.Common.{◌≡◌, ℕ, List, [], ◌++◌, take, drop, Option, Some, None, refl, sym, ap, subst, ◌∙◌, append_assoc}
+use Rattle.std.proofs.Common.{◌≡◌, ℕ, List, [], ◌++◌, take, drop, Option, Some, None, sym, ap, ◌∙◌, append_assoc}
 use Rattle.std.specs.Io.KnownBytes.{Appends, Keeps}
 use Rattle.std.proofs.lemmas.List.{append-nil, take-append-drop}
 use Rattle.acap_session.specs.Streams.{SendsFront}
@@ -22,20 +22,12 @@ appends_keeps (Some u) None c xs p k = absurd p
 appends_keeps (Some u) (Some v) None xs p k = absurd k
 appends_keeps (Some u) (Some v) (Some w) xs p k = k ∙ p
 
-pub keeps_none : (a b : Option (List ℕ)) → Keeps a b → Appends a b []
-keeps_none None b k = tt
-keeps_none (Some u) None k = absurd k
-keeps_none (Some u) (Some v) k = k ∙ sym (append-nil u)
-
 -- ---- octets were written but for a rest
 
 pub record IsSent (old new : Option (List ℕ)) (octets rest : List ℕ) : Type 0 where
   pub front : List ℕ
   pub is : octets ≡ front ++ rest
   pub appends : Appends old new front
-
-pub none_sent : (w : Option (List ℕ)) (octets : List ℕ) → IsSent w w octets octets
-none_sent w octets = record { front = []; is = refl; appends = appends_none w }
 
 pub more_sent : (a b c : Option (List ℕ)) (octets rest back : List ℕ) (n : ℕ) → IsSent a b octets rest → Appends b c (take n rest) → back ≡ drop n rest → IsSent a c octets back
 more_sent a b c octets rest back n s p e = record {
@@ -44,13 +36,7 @@ more_sent a b c octets rest back n s p e = record {
   appends = appends_then a b c s.front (take n rest) s.appends p;
 }
 
-pub all_sent : (a b : Option (List ℕ)) (octets rest : List ℕ) → IsSent a b octets rest → rest ≡ [] → Appends a b octets
-all_sent a b octets rest s e = subst (λ ys. Appends a b ys) (sym (s.is ∙ ap (λ ys. s.front ++ ys) e ∙ append-nil s.front)) s.appends
-
 -- ---- a front of octets was written
-
-pub front_sent : (a b c : Option (List ℕ)) (octets rest : List ℕ) → IsSent a b octets rest → Appends b c [] → SendsFront a c octets
-front_sent a b c octets rest s p = record { front = s.front; rest = rest; is = s.is; sent = subst (λ ys. Appends a c ys) (append-nil s.front) (appends_then a b c s.front [] s.appends p) }
 
 pub all_front : (a b : Option (List ℕ)) (octets : List ℕ) → Appends a b octets → SendsFront a b octets
 all_front a b octets p = record { front = octets; rest = []; is = sym (append-nil octets); sent = p }

@@ -13,10 +13,10 @@ use Rattle.acap_login.specs.Login.{User}
 use Rattle.acap_commands.specs.declared.reply.Reply.{Reply}
 use Rattle.acap_machine.specs.Runs.{outcome_of}
 use Rattle.acap_commands.specs.declared.fault.Fault.{Fault}
-use Rattle.acap_dialogue.specs.Hearing.{heard, heard_answer}
-use Rattle.acap_dialogue.specs.Session.{listening, session_next, next_at, answered, is_asked, is_closed, is_hearing}
+use Rattle.acap_dialogue.specs.Hearing.{response_to, heard_answer}
+use Rattle.acap_dialogue.specs.Session.{listening, session_next, next_at, after_answer, is_asked, is_closed, is_hearing}
 use Rattle.acap_dialogue.specs.Talking.{Talking}
-use Rattle.acap_session.specs.Turning.{Scene, turn_by, turn_of, performed, turn_in, IsTurn}
+use Rattle.acap_session.specs.Turning.{Scene, turn_by, turn_of, event_outcome, turn_in, IsTurn}
 use Rattle.acap_dialogue.specs.declared.next.Next.{Next}
 use Rattle.acap_dialogue.specs.declared.next.Next.TheVariants as next
 use Rattle.acap_session.specs.declared.occasion.Occasion.{Occasion}
@@ -28,12 +28,12 @@ use Rattle.acap_dialogue.proofs.Speaking.{Hears, Fits, Words, heard_hears, answe
 
 -- ---- what was said to the machine's answer
 
-words_in : (t : Talking) (o : Result Reply Fault) → is_asked t.stage ≡ true → Words (answered t o).0 (answered t o).1.stage
-unfolding answered
+words_in : (t : Talking) (o : Result Reply Fault) → is_asked t.stage ≡ true → Words (after_answer t o).0 (after_answer t o).1.stage
+unfolding after_answer
 words_in t o e = says_at t.stage o e
 
-same_of_answer : (t : Talking) (o : Result Reply Fault) → (answered t o).1.held ≡ t.held
-unfolding answered
+same_of_answer : (t : Talking) (o : Result Reply Fault) → (after_answer t o).1.held ≡ t.held
+unfolding after_answer
 same_of_answer t o = refl
 
 -- ---- nothing was next
@@ -52,7 +52,7 @@ still_by : (o : Occasion) (refused : Bool) (old new : Scene) (n : Next) (t : Tal
 still_by o refused old new next.More t f e = (refl, ap (λ p. p.1) e)
 still_by o refused old new (next.Say octets) t f e = absurd (let k = ap (λ p. p.0) e in cc)
 still_by o refused old new (next.Ask event) t f e =
-    absurd (no_word (answered t (outcome_of (performed refused old.machine o event))).0 (answered t (outcome_of (performed refused old.machine o event))).1.stage (words_in t (outcome_of (performed refused old.machine o event)) f) (sym (ap (λ p. p.0) e)))
+    absurd (no_word (after_answer t (outcome_of (event_outcome refused old.machine o event))).0 (after_answer t (outcome_of (event_outcome refused old.machine o event))).1.stage (words_in t (outcome_of (event_outcome refused old.machine o event)) f) (sym (ap (λ p. p.0) e)))
 still_by o refused old new (next.Close octets) t f e = absurd (let k = ap (λ p. p.0) e in cc)
 
 pub still : (users : List User) (o : Occasion) (old new : Scene) → IsTurn users o old turn.More new → IsStill users o old new
@@ -77,9 +77,9 @@ said_by o refused old new (next.Say octets) t f e =
     let k : new.talk ≡ t = ap (λ p. p.1.talk) e in
     (ap (λ (q : Talking). is_hearing q.stage) k ∙ f, ap (λ (q : Talking). q.held) k, (λ m. cc), (λ c. let b : is_hearing stage.Closed ≡ true = ap is_hearing (sym c) ∙ f in cc))
 said_by o refused old new (next.Ask event) t f e =
-    let r = outcome_of (performed refused old.machine o event) in
-    let k : new.talk ≡ (answered t r).1 = ap (λ p. p.1.talk) e in
-    let w = said_word (answered t r).0 (answered t r).1.stage (words_in t r f) (sym (ap (λ p. p.0) e)) in
+    let r = outcome_of (event_outcome refused old.machine o event) in
+    let k : new.talk ≡ (after_answer t r).1 = ap (λ p. p.1.talk) e in
+    let w = said_word (after_answer t r).0 (after_answer t r).1.stage (words_in t r f) (sym (ap (λ p. p.0) e)) in
     (ap (λ (q : Talking). is_hearing q.stage) k ∙ w, ap (λ (q : Talking). q.held) k ∙ same_of_answer t r, (λ m. cc), (λ c. let b : is_asked stage.Closed ≡ true = ap is_asked (sym c) ∙ f in cc))
 said_by o refused old new (next.Close octets) t f e = absurd (let k = ap (λ p. p.0) e in cc)
 
@@ -103,8 +103,8 @@ over_by : (o : Occasion) (refused : Bool) (old new : Scene) (n : Next) (t : Talk
 over_by o refused old new next.More t f e = absurd (let k = ap (λ p. p.0) e in cc)
 over_by o refused old new (next.Say octets) t f e = absurd (let k = ap (λ p. p.0) e in cc)
 over_by o refused old new (next.Ask event) t f e =
-    let r = outcome_of (performed refused old.machine o event) in
-    ap (λ p. is_closed p.1.talk.stage) e ∙ over_word (answered t r).0 (answered t r).1.stage (words_in t r f) (sym (ap (λ p. p.0) e))
+    let r = outcome_of (event_outcome refused old.machine o event) in
+    ap (λ p. is_closed p.1.talk.stage) e ∙ over_word (after_answer t r).0 (after_answer t r).1.stage (words_in t r f) (sym (ap (λ p. p.0) e))
 over_by o refused old new (next.Close octets) t f e = ap (λ p. is_closed p.1.talk.stage) e ∙ ap is_closed f
 
 pub over : (users : List User) (o : Occasion) (old new : Scene) → IsTurn users o old turn.Closed new → is_closed new.talk.stage ≡ true
@@ -153,7 +153,7 @@ fewer_at users nonce clock stage.Opening t hearing some going = cc
 fewer_at users nonce clock stage.Entering t hearing some going = cc
 fewer_at users nonce clock stage.Ready t hearing some going =
     let x = (next_of mode.Command t.held).0 in
-    let r = heard (listening t nonce clock) x in
+    let r = response_to (listening t nonce clock) x in
     let hears = heard_hears (listening t nonce clock) x in
     heard_fewer mode.Command t.held stage.Ready x r (fatal_closes mode.Command t.held stage.Ready r t.held.fatal refl hears going) hears some refl
 fewer_at users nonce clock (stage.Asked tag) t hearing some going = cc
@@ -194,7 +194,7 @@ room_at users nonce clock stage.Opening t e m = cc
 room_at users nonce clock stage.Entering t e m = cc
 room_at users nonce clock stage.Ready t e m =
     let x = (next_of mode.Command t.held).0 in
-    room_for mode.Command t.held t.held.fatal refl (more_lexed x stage.Ready (heard (listening t nonce clock) x) (heard_hears (listening t nonce clock) x) m).0
+    room_for mode.Command t.held t.held.fatal refl (more_lexed x stage.Ready (response_to (listening t nonce clock) x) (heard_hears (listening t nonce clock) x) m).0
 room_at users nonce clock (stage.Asked tag) t e m = cc
 room_at users nonce clock (stage.Challenged tag challenge) t e m =
     let x = (next_of mode.Answer t.held).0 in

@@ -14,13 +14,13 @@ use Rattle.acap_rights.specs.declared.realm.Realm.{Realm}
 use Rattle.acap_session.specs.Completing.{Call, called_at, called_by, all_called, completed_by, going_on, IsEnd, IsLeft, AreCompleted, goes_on, all_go_on, HasCompleted, CompletionLaw}
 use Rattle.acap_session.specs.Laws.{reply_of}
 use Rattle.acap_dialogue.specs.Running.{event_in}
-use Rattle.acap_session.specs.Places.{Place, place_at, placed, if_open}
+use Rattle.acap_session.specs.Places.{Place, place_at, with_place, if_open}
 use Rattle.acap_session.specs.Seating.{SeatingLaw, occupant_by}
 use Rattle.acap_dialogue.specs.Session.{has_seat, has_seat_at, is_closed, session_next, session_drain}
-use Rattle.acap_dialogue.specs.Talking.{Talking, begun}
-use Rattle.acap_session.specs.Turning.{Scene, scene, performed, turn_of, drain_of}
+use Rattle.acap_dialogue.specs.Talking.{Talking, beginning}
+use Rattle.acap_session.specs.Turning.{Scene, scene, event_outcome, turn_of, drain_of}
 use Rattle.acap_session.specs.World as world
-use Rattle.acap_session.specs.World.{World, Deed, Step, at_open, did, ends, new_world, open_at, run, said_before, scene_of, takes, with_scene}
+use Rattle.acap_session.specs.World.{World, Deed, Step, at_open, did, ends, new_world, open_at, world_after, said_before, scene_of, takes, with_scene}
 use Rattle.acap_dialogue.specs.declared.next.Next.{Next}
 use Rattle.acap_dialogue.specs.declared.next.Next.TheVariants as next
 use Rattle.acap_session.specs.declared.occasion.Occasion.{Occasion}
@@ -90,11 +90,11 @@ unfolding drain_of
 drained_else o refused s q apart = let x = session_drain s.talk in made_else o refused s x.0 x.1 q apart
 
 begins : (users : List User) (o : Occasion) (refused : Bool) (m : Machine) (host : List ℕ) (user : Option (List ℕ)) (out : List ℕ) → user_at m o.seat ≡ None →
-    Made [] o.seat out (turn_of users o refused (scene m (begun host user) out)).1
+    Made [] o.seat out (turn_of users o refused (scene m (beginning host user) out)).1
 unfolding turn_of session_next
 begins users o refused m host user out e =
-    let x = session_next users o.nonce o.clock (begun host user) in
-    made [] o refused (scene m (begun host user) out) x.0 x.1 (λ f. e) (opening_goes user _ None e)
+    let x = session_next users o.nonce o.clock (beginning host user) in
+    made [] o refused (scene m (beginning host user) out) x.0 x.1 (λ f. e) (opening_goes user _ None e)
 
 -- ---- one step
 
@@ -109,7 +109,7 @@ Effect w k v = (v ≡ w) ⊎ Sets w k v
 
 effect_by : (o : Occasion) (refused : Bool) (deed : Deed) (w : World) (now : Option Place) → open_at w o.seat ≡ now → AllSeated w → Effect w o.seat (did_by o refused deed w now)
 effect_by o refused (world.Open user) w None e a =
-    let s = scene w.machine (begun w.host user) (said_before (place_at w.places o.seat)) in
+    let s = scene w.machine (beginning w.host user) (said_before (place_at w.places o.seat)) in
     let m = begins w.users o refused w.machine w.host user s.out (free (place_at w.places o.seat) _ e (a o.seat)) in
     inr (record { after = (turn_of w.users o refused s).1; is = refl; at = m.at; apart = turned_else w.users o refused s })
 effect_by o refused (world.Open user) w (Some p) e a = inl refl
@@ -134,9 +134,9 @@ effect_by o refused world.Leave w (Some p) e a =
     })
 
 set_at : (w : World) (k q : ℕ) (s : Scene) (b : Bool) → (q == k) ≡ b → At s.talk.stage s.talk.user (user_at s.machine k) → SameElse k w.machine s.machine → AllSeated w →
-    AtPlace (place_at (placed w.places k (place_of s)) q) (user_at s.machine q)
+    AtPlace (place_at (with_place w.places k (place_of s)) q) (user_at s.machine q)
 set_at w k q s true e at apart a =
-    subst (λ j. AtPlace (place_at (placed w.places k (place_of s)) j) (user_at s.machine j)) (sym (eqb-true q k e))
+    subst (λ j. AtPlace (place_at (with_place w.places k (place_of s)) j) (user_at s.machine j)) (sym (eqb-true q k e))
     (subst (λ x. AtPlace x (user_at s.machine k)) (sym (placed_there w.places k (place_of s))) at)
 set_at w k q s false e at apart a =
     subst (λ x. AtPlace x (user_at s.machine q)) (sym (placed_other w.places k q (place_of s) (eqb-false q k e)))
@@ -151,7 +151,7 @@ step_seated x w a =
     subst AllSeated (sym (did_is x.occasion x.refused x.deed w))
     (after_effect w _ x.occasion.seat (effect_by x.occasion x.refused x.deed w (open_at w x.occasion.seat) refl a) a)
 
-run_seated : (steps : List Step) (w : World) → AllSeated w → AllSeated (run steps w)
+run_seated : (steps : List Step) (w : World) → AllSeated w → AllSeated (world_after steps w)
 run_seated [] w a = a
 run_seated (x ∷ steps) w a = run_seated steps (did x.occasion x.refused x.deed w) (step_seated x w a)
 
@@ -177,7 +177,7 @@ occupant_is None has a = a
 occupant_is (Some p) has a = occupant_at p.talk.stage p.talk.user has a
 
 goes_placed : (b : List Call) (user : Option (List ℕ)) (fatal : Option LexFault) (refused : Bool) (m : Machine) (o : Occasion) (n : Next) (t : Talking) →
-    Goes b user (user_at m o.seat) fatal n t.stage → IsPlaced (option_map (λ event. outcome_of (performed refused m o event)) (event_in (n, t)))
+    Goes b user (user_at m o.seat) fatal n t.stage → IsPlaced (option_map (λ event. outcome_of (event_outcome refused m o event)) (event_in (n, t)))
 goes_placed b user fatal refused m o next.More t g = tt
 goes_placed b user fatal refused m o (next.Say octets) t g = tt
 goes_placed b user fatal refused m o (next.Ask e) t g = asks_placed b user refused m o e t.stage g
@@ -186,7 +186,7 @@ goes_placed b user fatal refused m o (next.Close octets) t g = tt
 reply_by : (o : Occasion) (refused : Bool) (deed : Deed) (w : World) (now : Option Place) → open_at w o.seat ≡ now → AllSeated w → IsPlaced (reply_of w (record { occasion = o; refused = refused; deed = deed }) now)
 unfolding session_next session_drain
 reply_by o refused (world.Open user) w None e a =
-    let x = session_next w.users o.nonce o.clock (begun w.host user) in
+    let x = session_next w.users o.nonce o.clock (beginning w.host user) in
     goes_placed _ _ _ refused w.machine o x.0 x.1 (opening_goes user _ None (free (place_at w.places o.seat) _ e (a o.seat)))
 reply_by o refused (world.Open user) w (Some p) e a = tt
 reply_by o refused (world.Piece octets) w None e a = tt
@@ -202,9 +202,9 @@ reply_by o refused world.Drain w (Some p) e a =
 reply_by o refused world.Leave w None e a = tt
 reply_by o refused world.Leave w (Some p) e a = tt
 
-replied : (realm : Realm) (users : List User) (host : List ℕ) (steps : List Step) (x : Step) → let w = run steps (new_world realm users host) in IsPlaced (reply_of w x (open_at w x.occasion.seat))
+replied : (realm : Realm) (users : List User) (host : List ℕ) (steps : List Step) (x : Step) → let w = world_after steps (new_world realm users host) in IsPlaced (reply_of w x (open_at w x.occasion.seat))
 replied realm users host steps x =
-    let w = run steps (new_world realm users host) in
+    let w = world_after steps (new_world realm users host) in
     reply_by x.occasion x.refused x.deed w (open_at w x.occasion.seat) refl (run_seated steps (new_world realm users host) (new_seated realm users host))
 
 pub seating : SeatingLaw
@@ -319,7 +319,7 @@ closed_step seat x w p true e s c g =
 closed_step seat x w p false e s c g = (refl, (others_stay x w).0 seat (λ f. eqb-false x.occasion.seat seat e (sym f)) ∙ s)
 
 closed_run : (seat : ℕ) (steps : List Step) (w : World) (p : Place) → place_at w.places seat ≡ Some p → p.talk.stage ≡ stage.Closed → all_go_on seat steps ≡ true →
-    (all_called seat steps w ≡ []) × (place_at (run steps w).places seat ≡ Some p)
+    (all_called seat steps w ≡ []) × (place_at (world_after steps w).places seat ≡ Some p)
 closed_run seat [] w p s c g = (refl, s)
 closed_run seat (x ∷ steps) w p s c g =
     let parts = and_parts (not (x.occasion.seat == seat) || goes_on x.deed) (all_go_on seat steps) g in
@@ -369,13 +369,13 @@ joined b more p mid final k m e f r =
     }
 
 abbrev Rest : ℕ → List Step → World → Type 0
-Rest seat steps v = (q : Place) → open_at v seat ≡ Some q → HasCompleted (going_on q.talk.stage ++ all_called seat steps v) q (place_at (run steps v).places seat)
+Rest seat steps v = (q : Place) → open_at v seat ≡ Some q → HasCompleted (going_on q.talk.stage ++ all_called seat steps v) q (place_at (world_after steps v).places seat)
 
 own_by : (seat : ℕ) (b : List Call) (p : Place) (v : World) (steps : List Step) (a : Acts b seat p v) (c : Bool) → is_closed a.after.talk.stage ≡ c → all_go_on seat steps ≡ true → Rest seat steps v →
-    HasCompleted (b ++ all_called seat steps v) p (place_at (run steps v).places seat)
+    HasCompleted (b ++ all_called seat steps v) p (place_at (world_after steps v).places seat)
 own_by seat b p v steps a false e g rest =
     let there : open_at v seat ≡ Some (place_of a.after) = ap if_open a.stands ∙ ap (λ x. if x then None else Some (place_of a.after)) e in
-    joined b (all_called seat steps v) p a.after (place_at (run steps v).places seat) seat a.made (left_of _ a.after.talk.stage a.made.completed.left e a.made.completed.left_is) (end_of _ a.after.talk.stage a.made.completed.end e a.made.completed.end_is) (rest (place_of a.after) there)
+    joined b (all_called seat steps v) p a.after (place_at (world_after steps v).places seat) seat a.made (left_of _ a.after.talk.stage a.made.completed.left e a.made.completed.left_is) (end_of _ a.after.talk.stage a.made.completed.end e a.made.completed.end_is) (rest (place_of a.after) there)
 own_by seat b p v steps a true e g rest =
     let r = closed_run seat steps v (place_of a.after) a.stands (closed_is a.after.talk.stage e) g in
     record {
@@ -392,12 +392,12 @@ own_by seat b p v steps a true e g rest =
 step_by : (seat : ℕ) (x : Step) (steps : List Step) (w : World) (p : Place) (b : Bool) → (x.occasion.seat == seat) ≡ b → AllSeated w → open_at w seat ≡ Some p → (not b || goes_on x.deed) ≡ true → all_go_on seat steps ≡ true →
     Rest seat steps (did x.occasion x.refused x.deed w) →
     HasCompleted (going_on p.talk.stage ++ ((if b then called_by x.deed (open_at w seat) else []) ++ all_called seat steps (did x.occasion x.refused x.deed w))) p
-    (place_at (run steps (did x.occasion x.refused x.deed w)).places seat)
+    (place_at (world_after steps (did x.occasion x.refused x.deed w)).places seat)
 step_by seat x steps w p true e a o g h rest =
     let v = did x.occasion x.refused x.deed w in
     let k = eqb-true x.occasion.seat seat e in
     let act = subst (λ j. open_at w j ≡ Some p → Acts (going_on p.talk.stage ++ called_by x.deed (open_at w j)) j p v) k (λ f. acts x w p f a g) o in
-    subst (λ b. HasCompleted b p (place_at (run steps v).places seat)) (append_assoc (going_on p.talk.stage) (called_by x.deed (open_at w seat)) (all_called seat steps v))
+    subst (λ b. HasCompleted b p (place_at (world_after steps v).places seat)) (append_assoc (going_on p.talk.stage) (called_by x.deed (open_at w seat)) (all_called seat steps v))
     (own_by seat _ p v steps act (is_closed act.after.talk.stage) refl h rest)
 step_by seat x steps w p false e a o g h rest =
     rest p (ap if_open ((others_stay x w).0 seat (λ f. eqb-false x.occasion.seat seat e (sym f))) ∙ o)
@@ -416,4 +416,4 @@ open_run seat (x ∷ steps) w a g p o =
 
 pub completion : CompletionLaw
 completion realm users host before steps seat old o g =
-    open_run seat steps (run before (new_world realm users host)) (run_seated before (new_world realm users host) (new_seated realm users host)) g old o
+    open_run seat steps (world_after before (new_world realm users host)) (run_seated before (new_world realm users host) (new_seated realm users host)) g old o

@@ -30,7 +30,7 @@ use Rattle.acap_session.specs.PipeSteps.{step_of}
 use Rattle.acap_session.specs.Piping.{without_administrators}
 use Rattle.acap_session.specs.Places.{Place, place_at}
 use Rattle.acap_session.specs.World as world
-use Rattle.acap_session.specs.World.{World, Deed, Step, did, new_world, open_at, run}
+use Rattle.acap_session.specs.World.{World, Deed, Step, did, new_world, open_at, world_after}
 use Rattle.acap_dialogue.specs.declared.stage.Stage.{Stage}
 use Rattle.acap_dialogue.specs.declared.stage.Stage.TheVariants as stage
 
@@ -60,16 +60,16 @@ called_wrong lexical.BadLiteral tag = plain_call tag ∷ []
 called_wrong lexical.CommandTooLong tag = []
 called_wrong lexical.LineTooLong tag = []
 
-abbrev pub called : Lexed → List Call
-called lexed.More = []
-called lexed.Plus = []
-called (lexed.Line tokens) = record { tag = tag_of tokens; is_login = is_login (command_of tokens) } ∷ []
-called (lexed.Bad fault tag) = called_wrong fault tag
-called (lexed.Fatal fault) = []
+abbrev pub calls_in : Lexed → List Call
+calls_in lexed.More = []
+calls_in lexed.Plus = []
+calls_in (lexed.Line tokens) = record { tag = tag_of tokens; is_login = is_login (command_of tokens) } ∷ []
+calls_in (lexed.Bad fault tag) = called_wrong fault tag
+calls_in (lexed.Fatal fault) = []
 
 -- the client's answer to a challenge is no command
 abbrev pub called_at : Stage → Held → List Call
-called_at stage.Ready held = called (next_of mode.Command held).0
+called_at stage.Ready held = calls_in (next_of mode.Command held).0
 called_at other held = []
 
 -- what is heard where the session of a seat makes a turn
@@ -91,8 +91,8 @@ all_called seat (x ∷ xs) w = called_in seat x w ++ all_called seat xs (did x.o
 abbrev pub completed_by : Reply → List (Option (List ℕ))
 completed_by reply = if completes reply.said then reply.tag ∷ [] else []
 
-abbrev pub completed : List Reply → List (Option (List ℕ))
-completed replies = flat_map completed_by replies
+abbrev pub completed_tags : List Reply → List (Option (List ℕ))
+completed_tags replies = flat_map completed_by replies
 
 -- a login goes on: its command is completed behind the client's answer
 abbrev pub going_on : Stage → List Call
@@ -122,7 +122,7 @@ pub record AreCompleted (commands : List Call) (said : List ℕ) (fatal : Option
   pub end : List ℕ
   pub said_is : said ≡ flat_map octets_of replies ++ end
   pub all_are : commands ≡ done ++ left
-  pub in_order : map (λ c. c.tag) done ≡ completed replies
+  pub in_order : map (λ c. c.tag) done ≡ completed_tags replies
   pub left_is : IsLeft fatal at left
   pub end_is : IsEnd fatal at end
 
@@ -152,9 +152,9 @@ pub record HasCompleted (commands : List Call) (old : Place) (standing : Option 
 -- hears each has its completion in what it says.
 abbrev pub CompletionLaw : Type 0
 CompletionLaw = (realm : Realm) (users : List User) (host : List ℕ) (before steps : List Step) (seat : ℕ) (old : Place) →
-    let w = run before (new_world realm users host) in
+    let w = world_after before (new_world realm users host) in
     open_at w seat ≡ Some old → all_go_on seat steps ≡ true →
-    HasCompleted (going_on old.talk.stage ++ all_called seat steps w) old (place_at (run steps w).places seat)
+    HasCompleted (going_on old.talk.stage ++ all_called seat steps w) old (place_at (world_after steps w).places seat)
 
 -- ---- how a completion is printed
 
@@ -189,15 +189,15 @@ opening_step = step_of (world.Open None) false
 abbrev pub some_turns : ℕ → List Step
 some_turns n = replicate n (step_of world.Turn false)
 
-abbrev pub given : List ℕ → ℕ → List Step
-given octets n = step_of (world.Piece octets) false ∷ some_turns n
+abbrev pub piece_and_turns : List ℕ → ℕ → List Step
+piece_and_turns octets n = step_of (world.Piece octets) false ∷ some_turns n
 
 -- the commands that are heard there, and what is said
 abbrev pub heard_there : List Step → List Call
-heard_there steps = all_called 0 steps (run (opening_step ∷ []) empty_world)
+heard_there steps = all_called 0 steps (world_after (opening_step ∷ []) empty_world)
 
 abbrev pub said_there : List Step → Option (List ℕ)
-said_there steps = option_map (λ place. place.out) (place_at (run (opening_step ∷ steps) empty_world).places 0)
+said_there steps = option_map (λ place. place.out) (place_at (world_after (opening_step ∷ steps) empty_world).places 0)
 
 abbrev pub lines_of : List (List ℕ) → Option (List ℕ)
 lines_of lines = Some (greeting ++ flat_map (λ line. line ++ crlf) lines)
@@ -213,19 +213,19 @@ a2 = Some (codes "A2")
 
 pub record CompletionExamples : Type 0 where
   -- two commands of one piece; the second is completed behind its BYE
-  pub two : heard_there (given (codes "A1 NOOP\r\nA2 LOGOUT\r\n") 2) ≡ plain_call a1 ∷ plain_call a2 ∷ []
-  pub two_said : said_there (given (codes "A1 NOOP\r\nA2 LOGOUT\r\n") 2) ≡ lines_of (codes "A1 OK \"NOOP done\"" ∷ codes "* BYE \"Good bye\"" ∷ codes "A2 OK \"LOGOUT done\"" ∷ [])
+  pub two : heard_there (piece_and_turns (codes "A1 NOOP\r\nA2 LOGOUT\r\n") 2) ≡ plain_call a1 ∷ plain_call a2 ∷ []
+  pub two_said : said_there (piece_and_turns (codes "A1 NOOP\r\nA2 LOGOUT\r\n") 2) ≡ lines_of (codes "A1 OK \"NOOP done\"" ∷ codes "* BYE \"Good bye\"" ∷ codes "A2 OK \"LOGOUT done\"" ∷ [])
   -- a command that isn't whole is none; a line that can't be read is one, under its tag or without
-  pub unfinished : heard_there (given (codes "A1 NOOP\r\nA2 NO") 2) ≡ plain_call a1 ∷ []
-  pub wrong : heard_there (given (codes "A1 \"NOOP\r\n+ NOOP\r\n") 2) ≡ plain_call a1 ∷ plain_call None ∷ []
-  pub wrong_said : said_there (given (codes "A1 \"NOOP\r\n+ NOOP\r\n") 2) ≡ lines_of (codes "A1 BAD \"Bad token\"" ∷ codes "* BAD \"Bad tag\"" ∷ [])
+  pub unfinished : heard_there (piece_and_turns (codes "A1 NOOP\r\nA2 NO") 2) ≡ plain_call a1 ∷ []
+  pub wrong : heard_there (piece_and_turns (codes "A1 \"NOOP\r\n+ NOOP\r\n") 2) ≡ plain_call a1 ∷ plain_call None ∷ []
+  pub wrong_said : said_there (piece_and_turns (codes "A1 \"NOOP\r\n+ NOOP\r\n") 2) ≡ lines_of (codes "A1 BAD \"Bad token\"" ∷ codes "* BAD \"Bad tag\"" ∷ [])
   -- a login is completed behind the line that answers its challenge, which is no command
-  pub login : heard_there (given (codes "A1 AUTHENTICATE \"CRAM-MD5\"\r\n*\r\nA2 NOOP\r\n") 3) ≡ login_call a1 ∷ plain_call a2 ∷ []
-  pub login_said : said_there (given (codes "A1 AUTHENTICATE \"CRAM-MD5\"\r\n*\r\nA2 NOOP\r\n") 3)
+  pub login : heard_there (piece_and_turns (codes "A1 AUTHENTICATE \"CRAM-MD5\"\r\n*\r\nA2 NOOP\r\n") 3) ≡ login_call a1 ∷ plain_call a2 ∷ []
+  pub login_said : said_there (piece_and_turns (codes "A1 AUTHENTICATE \"CRAM-MD5\"\r\n*\r\nA2 NOOP\r\n") 3)
       ≡ lines_of (codes "+ \"<0.0@localhost>\"" ∷ codes "A1 BAD \"Login cancelled\"" ∷ codes "A2 OK \"NOOP done\"" ∷ [])
   -- an input that is too long is told by a BYE, which completes nothing
-  pub too_long : heard_there (given (codes "A1 NOOP\r\nA2 NOOP {262144}\r\n") 3) ≡ plain_call a1 ∷ []
-  pub too_long_said : said_there (given (codes "A1 NOOP\r\nA2 NOOP {262144}\r\n") 3) ≡ lines_of (codes "A1 OK \"NOOP done\"" ∷ codes "* BYE \"Command too long\"" ∷ [])
+  pub too_long : heard_there (piece_and_turns (codes "A1 NOOP\r\nA2 NOOP {262144}\r\n") 3) ≡ plain_call a1 ∷ []
+  pub too_long_said : said_there (piece_and_turns (codes "A1 NOOP\r\nA2 NOOP {262144}\r\n") 3) ≡ lines_of (codes "A1 OK \"NOOP done\"" ∷ codes "* BYE \"Command too long\"" ∷ [])
   -- a refusal under `*` answers a line without a tag; neither a challenge nor a BYE answers one
-  pub completions : completed (under None said.Greeting ∷ under a1 (said.Done verb.Noop) ∷ under a1 (said.Challenge []) ∷ under None (said.Refused refusals.BadTag)
+  pub completions : completed_tags (under None said.Greeting ∷ under a1 (said.Done verb.Noop) ∷ under a1 (said.Challenge []) ∷ under None (said.Refused refusals.BadTag)
       ∷ under a1 (said.Refused refusals.Memory) ∷ under None (said.Refused refusals.LineTooLong) ∷ under a1 said.GoodBye ∷ under None (said.Drained []) ∷ []) ≡ a1 ∷ None ∷ a1 ∷ a1 ∷ []

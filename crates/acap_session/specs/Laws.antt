@@ -15,16 +15,16 @@ use Rattle.acap_machine.specs.declared.step.Step.{Step as MachineStep}
 use Rattle.acap_commands.specs.declared.event.Event.{Event}
 use Rattle.acap_commands.specs.declared.event.Event.TheVariants as events
 use Rattle.acap_commands.specs.declared.fault.Fault.{Fault}
-use Rattle.acap_session.specs.Piping.{Fed, IsWritten, always, entered, fed, hears}
+use Rattle.acap_session.specs.Piping.{Fed, IsWritten, always, after_enter, after_piece, hears}
 use Rattle.acap_session.specs.Places.{Place, place_at, if_open}
 use Rattle.acap_session.specs.Script.{IsQuiet}
 use Rattle.acap_dialogue.specs.Running as alone
 use Rattle.acap_dialogue.specs.Running.{At, Call, Did, Outcome, asked_in, calls_in, leaves_in, start}
 use Rattle.acap_dialogue.specs.Session.{has_seat, session_next}
 use Rattle.acap_dialogue.specs.Talking.{Talking}
-use Rattle.acap_session.specs.Turning.{Scene, turn_of, performed}
+use Rattle.acap_session.specs.Turning.{Scene, turn_of, event_outcome}
 use Rattle.acap_session.specs.World as world
-use Rattle.acap_session.specs.World.{World, Deed, Step, did, run, open_at, scene_of, with_scene, room_of, said_before, went_on}
+use Rattle.acap_session.specs.World.{World, Deed, Step, did, world_after, open_at, scene_of, with_scene, room_of, said_before, went_on}
 use Rattle.acap_dialogue.specs.declared.next.Next.{Next}
 use Rattle.acap_dialogue.specs.declared.next.Next.TheVariants as next
 use Rattle.acap_session.specs.declared.occasion.Occasion.{Occasion}
@@ -46,12 +46,12 @@ HasRoomFor piece None = Unit {0}
 HasRoomFor piece (Some place) = room_of place.talk piece ≡ length piece
 
 -- a session without the octets that it holds
-abbrev pub emptied : Scene → Scene
-emptied s = record s { talk = record s.talk { held = record s.talk.held { text = [] } } }
+abbrev pub without_octets : Scene → Scene
+without_octets s = record s { talk = record s.talk { held = record s.talk.held { text = [] } } }
 
 abbrev pub with_emptied : World → ℕ → Option Place → World
 with_emptied w seat None = w
-with_emptied w seat (Some place) = with_scene w seat (emptied (scene_of w place))
+with_emptied w seat (Some place) = with_scene w seat (without_octets (scene_of w place))
 
 -- Two worlds are the same; or a seat's session is closed in both, and they are the same without the octets that it
 -- holds, which nothing reads.
@@ -89,8 +89,8 @@ octets_in (Comes octets) = octets
 octets_in Turns = []
 
 -- all octets that come
-abbrev pub joined : List Move → List ℕ
-joined moves = flat_map octets_in moves
+abbrev pub octets_of_moves : List Move → List ℕ
+octets_of_moves moves = flat_map octets_in moves
 
 -- on one occasion, no event being refused memory
 abbrev pub steps_on : Occasion → List Move → List Step
@@ -105,13 +105,13 @@ HaveRoom o (Turns ∷ moves) w = HaveRoom o moves (did o false world.Turn w)
 -- octets came to a seat's session, with turns between and behind them until nothing is next
 pub record IsHeard (o : Occasion) (moves : List Move) (old new : World) : Type 0 where
   pub room : HaveRoom o moves old
-  pub is : new ≡ run (steps_on o moves) old
+  pub is : new ≡ world_after (steps_on o moves) old
   pub quiet : IsQuiet o new
 
 -- However octets are cut, and wherever turns stand between them: where all turns were made the end is one and the same,
 -- with all that was said.
 abbrev pub CuttingLaw : Type 0
-CuttingLaw = (o : Occasion) (a b : List Move) (old v w : World) → joined a ≡ joined b → IsHeard o a old v → IsHeard o b old w → Alike o.seat v w
+CuttingLaw = (o : Occasion) (a b : List Move) (old v w : World) → octets_of_moves a ≡ octets_of_moves b → IsHeard o a old v → IsHeard o b old w → Alike o.seat v w
 
 -- some turns behind all octets as one piece
 abbrev pub as_one : List ℕ → ℕ → List Move
@@ -119,7 +119,7 @@ as_one octets n = Comes octets ∷ replicate n Turns
 
 -- What comes of octets in pieces comes of them as one piece, if there is room for that, and some turns.
 abbrev pub IsJoined : Occasion → List Move → World → World → Type 0
-IsJoined o moves new old = HasRoomFor (joined moves) (open_at old o.seat) → (n : ℕ) × (end : World) × IsHeard o (as_one (joined moves) n) old end × Alike o.seat new end
+IsJoined o moves new old = HasRoomFor (octets_of_moves moves) (open_at old o.seat) → (n : ℕ) × (end : World) × IsHeard o (as_one (octets_of_moves moves) n) old end × Alike o.seat new end
 
 abbrev pub JoiningLaw : Type 0
 JoiningLaw = (o : Occasion) (moves : List Move) (old new : World) → IsHeard o moves old new → IsJoined o moves new old
@@ -177,14 +177,14 @@ asked_by w x now = option_and_then (λ at. asked_in w.users (did_of x.occasion x
 
 -- what the machine answers to it, and the machine then
 abbrev pub reply_to : World → Step → Option Event → Outcome
-reply_to w x asks = option_map (λ event. outcome_of (performed x.refused w.machine x.occasion event)) asks
+reply_to w x asks = option_map (λ event. outcome_of (event_outcome x.refused w.machine x.occasion event)) asks
 
 abbrev pub reply_of : World → Step → Option Place → Outcome
 reply_of w x now = reply_to w x (asked_by w x now)
 
 abbrev pub machine_by : World → Step → Option Event → Machine
 machine_by w x None = w.machine
-machine_by w x (Some event) = machine_after w.machine (performed x.refused w.machine x.occasion event)
+machine_by w x (Some event) = machine_after w.machine (event_outcome x.refused w.machine x.occasion event)
 
 -- and to a Leave behind it, if one is made
 abbrev pub leave_of : Bool → Machine → Occasion → Outcome
@@ -251,7 +251,7 @@ SessionLaw = (x : Step) (w : World) →
 -- machine answered to them.
 abbrev pub AloneLaw : Type 0
 AloneLaw = (seat : ℕ) (steps : List Step) (w : World) →
-    place_at (run steps w).places seat ≡ own_run w.users w.host (own_steps seat steps w) (place_at w.places seat)
+    place_at (world_after steps w).places seat ≡ own_run w.users w.host (own_steps seat steps w) (place_at w.places seat)
 
 -- ---- what is written where events are refused memory
 
@@ -280,13 +280,13 @@ refused_in users (refused ∷ more) s = told_first refused (session_next users 0
 -- and those that pieces with their turns ask
 abbrev pub refused_of : List User → List Fed → Scene → List Bool
 refused_of users [] s = []
-refused_of users (x ∷ pieces) s = refused_in users x.1 (hears x.0 s) ++ refused_of users pieces (fed users x s)
+refused_of users (x ∷ pieces) s = refused_in users x.1 (hears x.0 s) ++ refused_of users pieces (after_piece users x s)
 
 -- What is written is determined by what was read and by which of the events were refused memory, in their order; and by
 -- what was read alone where none was.
 pub record WrittenLaw : Type 0 where
   pub by_refused : (user read a b : List ℕ) (x : IsWritten user read a) (y : IsWritten user read b) →
-      refused_of [] x.pieces (entered user) ≡ refused_of [] y.pieces (entered user) → a ≡ b
+      refused_of [] x.pieces (after_enter user) ≡ refused_of [] y.pieces (after_enter user) → a ≡ b
   pub by_none : (user read a b : List ℕ) (x : IsWritten user read a) (y : IsWritten user read b) →
-      list_any (λ refused. refused) (refused_of [] x.pieces (entered user)) ≡ false →
-      list_any (λ refused. refused) (refused_of [] y.pieces (entered user)) ≡ false → a ≡ b
+      list_any (λ refused. refused) (refused_of [] x.pieces (after_enter user)) ≡ false →
+      list_any (λ refused. refused) (refused_of [] y.pieces (after_enter user)) ≡ false → a ≡ b

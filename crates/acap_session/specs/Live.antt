@@ -12,7 +12,7 @@ use Rattle.acap_machine.specs.Client.{Client, View, IsFresh, IsSeenAlike, client
 use Rattle.acap_rights.specs.declared.realm.Realm.{Realm}
 use Rattle.acap_session.specs.Laws.{AloneLaw, asked_by, own_of}
 use Rattle.acap_session.specs.World as world
-use Rattle.acap_session.specs.World.{World, Deed, Step, did, run, new_world, open_at}
+use Rattle.acap_session.specs.World.{World, Deed, Step, did, world_after, new_world, open_at}
 
 -- ---- what the session of a seat is told
 
@@ -88,7 +88,7 @@ abbrev pub all_steps : Telling → List Step
 all_steps t = t.steps ++ t.last ∷ []
 
 abbrev pub after : Telling → World
-after t = run (all_steps t) (start t)
+after t = world_after (all_steps t) (start t)
 
 -- what its client then holds
 abbrev pub client : Telling → Client
@@ -97,7 +97,7 @@ client t = client_in t.seat t.name (all_steps t) (start t) None
 -- the context is live, and its client began with a whole list
 pub record IsTelling (t : Telling) (x : View) : Type 0 where
   pub named : are_named t.users (all_steps t) ≡ true
-  pub tells : tells_in t.seat t.name (run t.steps (start t)) t.last ≡ true
+  pub tells : tells_in t.seat t.name (world_after t.steps (start t)) t.last ≡ true
   pub live : live_at (after t).machine t.seat t.name ≡ Some x
   pub whole : whole_in t.seat t.name (all_steps t) (start t) false ≡ true
 
@@ -106,7 +106,7 @@ pub record LiveLaw : Type 0 where
   -- notice that misfits, and holds the rows of the list that it was told last
   pub holds : (realm : Realm) (users : List User) (host : List ℕ) (steps : List Step) (seat : ℕ) (name : List ℕ) (x : View) →
       let w = new_world realm users host in
-      are_named users steps ≡ true → live_at (run steps w).machine seat name ≡ Some x → whole_in seat name steps w false ≡ true
+      are_named users steps ≡ true → live_at (world_after steps w).machine seat name ≡ Some x → whole_in seat name steps w false ≡ true
       → client_in seat name steps w None ≡ with_rows x
   -- and where an UPDATECONTEXT of its name has just ended, or a drain, these are what a search finds then
   pub told : (t : Telling) (x : View) → IsTelling t x → (client t ≡ with_rows x) × IsFresh (after t).machine t.seat x

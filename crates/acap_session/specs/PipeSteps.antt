@@ -1,8 +1,8 @@
 -- The steps of a world that a session between a reader and a writer is.
 use Rattle.std.specs.Prelude.{◌≡◌, ℕ, List, [], ◌∷◌, map, flat_map, Bool, false, Some, codes}
-use Rattle.acap_session.specs.Piping.{Fed, AreAnswered, always, entered, fed_all, without_administrators}
+use Rattle.acap_session.specs.Piping.{Fed, AreAnswered, always, after_enter, fed_all, without_administrators}
 use Rattle.acap_session.specs.Turning.{Scene}
-use Rattle.acap_session.specs.World.{World, Deed, Step, Open, Piece, Turn, new_world, run}
+use Rattle.acap_session.specs.World.{World, Deed, Step, Open, Piece, Turn, new_world, world_after}
 
 abbrev pub step_of : Deed → Bool → Step
 step_of deed refused = record { occasion = always; refused = refused; deed = deed }
@@ -21,5 +21,5 @@ world_of_one s = record { machine = s.machine; places = Some (record { talk = s.
 
 -- What is written for pieces is what a world's only session says.
 abbrev pub PipeRuns : Type 0
-PipeRuns = (user : List ℕ) (pieces : List Fed) → AreAnswered [] pieces (entered user) →
-    run (steps_of user pieces) (new_world without_administrators [] (codes "localhost")) ≡ world_of_one (fed_all [] pieces (entered user))
+PipeRuns = (user : List ℕ) (pieces : List Fed) → AreAnswered [] pieces (after_enter user) →
+    world_after (steps_of user pieces) (new_world without_administrators [] (codes "localhost")) ≡ world_of_one (fed_all [] pieces (after_enter user))

@@ -7,8 +7,8 @@ use Rattle.acap_login.specs.Login.{User}
 use Rattle.acap_machine.specs.Machine.{Machine, new_machine}
 use Rattle.acap_rights.specs.declared.realm.Realm.{Realm}
 use Rattle.acap_dialogue.specs.Session.{session_next, is_closed, is_hearing}
-use Rattle.acap_session.specs.Streams.{HasEndedReads, HasGiven, IfTold, SendsFront, Told}
-use Rattle.acap_dialogue.specs.Talking.{Talking, begun}
+use Rattle.acap_session.specs.Streams.{HasEndedReads, HasGiven, IfTold, SendsFront, ReaderTold}
+use Rattle.acap_dialogue.specs.Talking.{Talking, beginning}
 use Rattle.acap_session.specs.Turning.{Scene, scene, turn_of, IsTurn}
 use Rattle.acap_dialogue.specs.declared.next.Next.TheVariants as next
 use Rattle.acap_session.specs.declared.occasion.Occasion.{Occasion}
@@ -27,11 +27,11 @@ always = record { seat = 0; clock = pos 0; nonce = 0 }
 
 -- a user's session, before it has said anything
 abbrev pub begins : List ℕ → Scene
-begins user = scene (new_machine without_administrators) (begun (codes "localhost") (Some user)) []
+begins user = scene (new_machine without_administrators) (beginning (codes "localhost") (Some user)) []
 
 -- its first turn: the user enters, and is greeted
-unfoldable pub entered : List ℕ → Scene
-entered user = (turn_of [] always false (begins user)).1
+unfoldable pub after_enter : List ℕ → Scene
+after_enter user = (turn_of [] always false (begins user)).1
 
 -- turns, one for each of a list that tells whether the step that it may ask is refused memory
 abbrev pub turns : List User → List Bool → Scene → Scene
@@ -46,12 +46,12 @@ hears octets s = record s { talk = record s.talk { held = record s.talk.held { t
 abbrev pub Fed : Type 0
 Fed = List ℕ × List Bool
 
-abbrev pub fed : List User → Fed → Scene → Scene
-fed users x s = turns users x.1 (hears x.0 s)
+abbrev pub after_piece : List User → Fed → Scene → Scene
+after_piece users x s = turns users x.1 (hears x.0 s)
 
 abbrev pub fed_all : List User → List Fed → Scene → Scene
 fed_all users [] s = s
-fed_all users (x ∷ xs) s = fed_all users xs (fed users x s)
+fed_all users (x ∷ xs) s = fed_all users xs (after_piece users x s)
 
 -- nothing is next: all turns were made that the octets allow
 abbrev pub IsQuiet : List User → Scene → Type 0
@@ -64,18 +64,18 @@ MayTake octets t = (is_closed t.stage ≡ false) × (length t.held.text + length
 -- each piece is given while there is room for it; all turns are made before the next one is heard, and behind the last
 abbrev pub AreAnswered : List User → List Fed → Scene → Type 0
 AreAnswered users [] s = Unit {0}
-AreAnswered users (x ∷ xs) s = MayTake x.0 s.talk × IsQuiet users (fed users x s) × AreAnswered users xs (fed users x s)
+AreAnswered users (x ∷ xs) s = MayTake x.0 s.talk × IsQuiet users (after_piece users x s) × AreAnswered users xs (after_piece users x s)
 
-abbrev pub joined : List Fed → List ℕ
-joined pieces = flat_map (λ x. x.0) pieces
+abbrev pub octets_of_pieces : List Fed → List ℕ
+octets_of_pieces pieces = flat_map (λ x. x.0) pieces
 
 -- What is written for octets that are read: the user has entered, the octets came in some pieces, and after each of
 -- them all turns were made. Which of the steps after the first are refused memory is told beside the pieces.
 pub record IsWritten (user read written : List ℕ) : Type 0 where
   pub pieces : List Fed
-  pub joined_is : read ≡ joined pieces
-  pub answered : AreAnswered [] pieces (entered user)
-  pub is : written ≡ (fed_all [] pieces (entered user)).out
+  pub joined_is : read ≡ octets_of_pieces pieces
+  pub answered : AreAnswered [] pieces (after_enter user)
+  pub is : written ≡ (fed_all [] pieces (after_enter user)).out
 
 -- and nothing of the input is left out but behind a close
 pub record IsWhole (user input written : List ℕ) : Type 0 where
@@ -83,7 +83,7 @@ pub record IsWhole (user input written : List ℕ) : Type 0 where
   pub unread : List ℕ
   pub input_is : input ≡ read ++ unread
   pub made : IsWritten user read written
-  pub whole : (unread ≡ []) ⊎ (is_closed (fed_all [] made.pieces (entered user)).talk.stage ≡ true)
+  pub whole : (unread ≡ []) ⊎ (is_closed (fed_all [] made.pieces (after_enter user)).talk.stage ≡ true)
 
 -- ---- the same of a reader and a writer whose octets are known
 
@@ -126,7 +126,7 @@ PipesFrom user remaining unread left contents old new = Pipes user (remaining un
 
 -- It answers that the reader failed only where it did, or where reads came to their bound, and where it did it answers
 -- nothing else.
-abbrev pub PipeReads : Option Told → Option Told → Result (Unit {0}) PipeFault → Type 0
+abbrev pub PipeReads : Option ReaderTold → Option ReaderTold → Result (Unit {0}) PipeFault → Type 0
 PipeReads old new (Err faults.Read) = IfTold HasEndedReads old new
 PipeReads old new other = IfTold HasGiven old new
 
@@ -150,7 +150,7 @@ pub record IsSettled (users : List User) (old new : Scene) : Type 0 where
 pub record IsFed (users : List User) (piece : List ℕ) (old new : Scene) : Type 0 where
   pub parts : List Fed
   pub rest : List ℕ
-  pub joined_is : piece ≡ joined parts ++ rest
+  pub joined_is : piece ≡ octets_of_pieces parts ++ rest
   pub answered : AreAnswered users parts old
   pub is : new ≡ fed_all users parts old
   pub room : HasRoom new.talk
@@ -168,7 +168,7 @@ pub record SaysTo (users : List User) (piece : List ℕ) (old : Scene) (said : L
   pub parts : List Fed
   pub rest : List ℕ
   pub more : List ℕ
-  pub joined_is : piece ≡ joined parts ++ rest
+  pub joined_is : piece ≡ octets_of_pieces parts ++ rest
   pub answered : AreAnswered users parts old
   pub is : (fed_all users parts old).out ≡ said ++ more
 
@@ -206,9 +206,9 @@ IsLater faults.Memory = ⊤
 pub record SoFar (user input rest : List ℕ) (w0 w : Option (List ℕ)) (m : Machine) (t : Talking) : Type 0 where
   pub pieces : List Fed
   pub written : List ℕ
-  pub input_is : input ≡ joined pieces ++ rest
-  pub answered : AreAnswered [] pieces (entered user)
-  pub is : fed_all [] pieces (entered user) ≡ scene m t written
+  pub input_is : input ≡ octets_of_pieces pieces ++ rest
+  pub answered : AreAnswered [] pieces (after_enter user)
+  pub is : fed_all [] pieces (after_enter user) ≡ scene m t written
   pub appends : Appends w0 w written
 
 abbrev pub IsSoFar : List ℕ → Option (List ℕ) → Option (List ℕ) → Option (List ℕ) → Option (List ℕ) → Machine → Talking → Type 0

@@ -18,18 +18,18 @@ place_at (x ∷ xs) zero = x
 place_at (x ∷ xs) (suc seat) = place_at xs seat
 
 -- the same with that at a seat
-abbrev pub placed : Places → ℕ → Place → Places
-placed [] zero place = Some place ∷ []
-placed [] (suc seat) place = None ∷ placed [] seat place
-placed (x ∷ xs) zero place = Some place ∷ xs
-placed (x ∷ xs) (suc seat) place = x ∷ placed xs seat place
+abbrev pub with_place : Places → ℕ → Place → Places
+with_place [] zero place = Some place ∷ []
+with_place [] (suc seat) place = None ∷ with_place [] seat place
+with_place (x ∷ xs) zero place = Some place ∷ xs
+with_place (x ∷ xs) (suc seat) place = x ∷ with_place xs seat place
 
 -- the same with places up to a seat
-abbrev pub reached : Places → ℕ → Places
-reached [] zero = None ∷ []
-reached [] (suc seat) = None ∷ reached [] seat
-reached (x ∷ xs) zero = x ∷ xs
-reached (x ∷ xs) (suc seat) = x ∷ reached xs seat
+abbrev pub places_up_to : Places → ℕ → Places
+places_up_to [] zero = None ∷ []
+places_up_to [] (suc seat) = None ∷ places_up_to [] seat
+places_up_to (x ∷ xs) zero = x ∷ xs
+places_up_to (x ∷ xs) (suc seat) = x ∷ places_up_to xs seat
 
 -- what stands at a seat, with that said there
 abbrev pub saying : List ℕ → Option Place → Option Place

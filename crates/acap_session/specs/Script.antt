@@ -79,8 +79,8 @@ may act.Drain is_open = is_open
 may act.Leave is_open = is_open
 
 -- no challenge is told by a drain or an end
-abbrev pub unasked : Occasion → Occasion
-unasked o = record o { nonce = 0 }
+abbrev pub without_nonce : Occasion → Occasion
+without_nonce o = record o { nonce = 0 }
 
 -- Each is a step of the world, or some. No entering of a user and no drain is refused memory.
 abbrev pub Acts : SeatLine → Occasion → World → World → Type 0
@@ -90,8 +90,8 @@ Acts (act.Send text) o old new = HasHeard o (text ++ crlf) old new
 Acts (act.Raw octets) o old new = HasHeard o octets old new
 Acts (act.Piece octets) o old new = new ≡ did o false (world.Piece octets) old
 Acts act.Turn o old new = IsStep o world.Turn old new
-Acts act.Drain o old new = new ≡ did (unasked o) false world.Drain old
-Acts act.Leave o old new = new ≡ did (unasked o) false world.Leave old
+Acts act.Drain o old new = new ≡ did (without_nonce o) false world.Drain old
+Acts act.Leave o old new = new ≡ did (without_nonce o) false world.Leave old
 
 -- ---- lines
 
@@ -111,9 +111,9 @@ abbrev pub is_before : Standing → Bool
 is_before (standing.Before s) = true
 is_before (standing.Since w) = false
 
-abbrev pub set : (Setup → Setup) → Standing → Standing
-set f (standing.Before s) = standing.Before (f s)
-set f (standing.Since w) = standing.Since w
+abbrev pub with_setup : (Setup → Setup) → Standing → Standing
+with_setup f (standing.Before s) = standing.Before (f s)
+with_setup f (standing.Since w) = standing.Since w
 
 abbrev pub with_user : List ℕ → List ℕ → Setup → Setup
 with_user name secret s = record s { users = s.users ++ (name, secret) ∷ [] }
@@ -141,7 +141,7 @@ fits (line.At seat act) s = may act (is_some (open_at (world_of s) seat))
 
 -- a line that sets something says nothing
 abbrev pub Sets : (Setup → Setup) → Script → List ℕ → Script → Type 0
-Sets f old out new = (out ≡ []) × (new ≡ record old { standing = set f old.standing })
+Sets f old out new = (out ≡ []) × (new ≡ record old { standing = with_setup f old.standing })
 
 -- something is done at a seat; what is said there then is written, and is said no more
 pub record Speaks (seat : ℕ) (does : SeatLine) (old : Script) (out : List ℕ) (new : Script) : Type 0 where

@@ -3,7 +3,7 @@ use Rattle.std.specs.Prelude.{◌≡◌, ◌⊎◌, ℕ, ◌+◌, ◌<◌, ◌==
 use Rattle.std.specs.Io.KnownBytes.{Appends, Consumes, IsAtEnd}
 use Rattle.std.specs.List.{list_any}
 use Rattle.acap_session.specs.Script.{AreDone, IsDone, begins, is_wrong}
-use Rattle.acap_session.specs.Streams.{HasEndedReads, HasGiven, IfTold, SendsFront, Told}
+use Rattle.acap_session.specs.Streams.{HasEndedReads, HasGiven, IfTold, SendsFront, ReaderTold}
 use Rattle.acap_session.specs.declared.progress.Progress.{Progress}
 use Rattle.acap_session.specs.declared.script.Script.{Script}
 use Rattle.acap_session.specs.declared.script_fault.ScriptFault.{ScriptFault}
@@ -27,12 +27,12 @@ AreLines [] = Unit {0}
 AreLines (text ∷ texts) = IsLine text × AreLines texts
 
 -- lines, each with its LF
-abbrev pub ended : List (List ℕ) → List ℕ
-ended texts = flat_map (λ text. text ++ 10 ∷ []) texts
+abbrev pub lines_of : List (List ℕ) → List ℕ
+lines_of texts = flat_map (λ text. text ++ 10 ∷ []) texts
 
 -- a text in lines, and what stands behind the last LF
 pub record HasLines (text : List ℕ) (lines : List (List ℕ)) (rest : List ℕ) : Type 0 where
-  pub is : text ≡ ended lines ++ rest
+  pub is : text ≡ lines_of lines ++ rest
   pub are_lines : AreLines lines
   pub is_line : IsLine rest
 
@@ -80,7 +80,7 @@ pub record HasFailed (number : ℕ) (unread left old new : Option (List ℕ)) : 
   pub before : List (List ℕ)
   pub wrong : List ℕ
   pub behind : List ℕ
-  pub is : read ≡ ended before ++ (wrong ++ behind)
+  pub is : read ≡ lines_of before ++ (wrong ++ behind)
   pub are_lines : AreLines before
   pub is_line : IsLine wrong
   pub ends : EndsLine left behind
@@ -98,7 +98,7 @@ pub record HasBegun (unread left old new : Option (List ℕ)) : Type 0 where
   pub consumed : Consumes unread left read
   pub lines : List (List ℕ)
   pub behind : List ℕ
-  pub is : read ≡ ended lines ++ behind
+  pub is : read ≡ lines_of lines ++ behind
   pub are_lines : AreLines lines
   pub texts : List (List ℕ)
   pub texts_are : (texts ≡ lines) ⊎ (IsAtEnd left × IsLine behind × (texts ≡ with_last lines behind))
@@ -121,7 +121,7 @@ RunsFrom remaining unread left contents old new = Runs (remaining unread) (remai
 
 -- It answers that the reader failed only where it did, or where reads came to their bound, and where it did it answers
 -- nothing else.
-abbrev pub ScriptReads : Option Told → Option Told → Result (Unit {0}) ScriptFault → Type 0
+abbrev pub ScriptReads : Option ReaderTold → Option ReaderTold → Result (Unit {0}) ScriptFault → Type 0
 ScriptReads old new (Err faults.Read) = IfTold HasEndedReads old new
 ScriptReads old new other = IfTold HasGiven old new
 
@@ -178,7 +178,7 @@ pub record HasFailedIn (text : List ℕ) (number n : ℕ) (s : Script) (old new 
   pub before : List (List ℕ)
   pub wrong : List ℕ
   pub behind : List ℕ
-  pub is : text ≡ ended before ++ (wrong ++ 10 ∷ behind)
+  pub is : text ≡ lines_of before ++ (wrong ++ 10 ∷ behind)
   pub are_lines : AreLines before
   pub is_line : IsLine wrong
   pub counted : n ≡ number + length before + 1
@@ -192,7 +192,7 @@ pub record HasFailedIn (text : List ℕ) (number n : ℕ) (s : Script) (old new 
 pub record HasPartLines (text : List ℕ) (s : Script) (old new : Option (List ℕ)) : Type 0 where
   pub lines : List (List ℕ)
   pub behind : List ℕ
-  pub is : text ≡ ended lines ++ behind
+  pub is : text ≡ lines_of lines ++ behind
   pub are_lines : AreLines lines
   pub said : List ℕ
   pub last : Script

@@ -7,7 +7,7 @@ use Rattle.acap_rights.specs.declared.realm.Realm.{Realm}
 use Rattle.acap_session.specs.Laws.{reply_of}
 use Rattle.acap_session.specs.Places.{Place, place_at}
 use Rattle.acap_dialogue.specs.Session.{has_seat}
-use Rattle.acap_session.specs.World.{Step, new_world, open_at, run}
+use Rattle.acap_session.specs.World.{Step, new_world, open_at, world_after}
 
 -- the user of the session that stands there, if it has entered and isn't closed
 abbrev pub occupant_by : Option Place → Option (List ℕ)
@@ -18,8 +18,8 @@ occupant_by (Some place) = if has_seat place.talk then place.talk.user else None
 -- no session that its seat is empty, or taken.
 pub record SeatingLaw : Type 0 where
   pub occupied : (realm : Realm) (users : List User) (host : List ℕ) (steps : List Step) (seat : ℕ) →
-      let w = run steps (new_world realm users host) in user_at w.machine seat ≡ occupant_by (place_at w.places seat)
+      let w = world_after steps (new_world realm users host) in user_at w.machine seat ≡ occupant_by (place_at w.places seat)
   pub never_empty : (realm : Realm) (users : List User) (host : List ℕ) (steps : List Step) (x : Step) →
-      let w = run steps (new_world realm users host) in reply_of w x (open_at w x.occasion.seat) ≢ Some (Err fault.NotEntered)
+      let w = world_after steps (new_world realm users host) in reply_of w x (open_at w x.occasion.seat) ≢ Some (Err fault.NotEntered)
   pub never_taken : (realm : Realm) (users : List User) (host : List ℕ) (steps : List Step) (x : Step) →
-      let w = run steps (new_world realm users host) in reply_of w x (open_at w x.occasion.seat) ≢ Some (Err fault.AlreadyEntered)
+      let w = world_after steps (new_world realm users host) in reply_of w x (open_at w x.occasion.seat) ≢ Some (Err fault.AlreadyEntered)

@@ -5,7 +5,7 @@ use Rattle.std.specs.Io.KnownBytes.{Appends}
 -- ---- what a reader tells
 
 -- how often it was asked, and how often it failed, each counted up to the last number
-pub record Told : Type 0 where
+pub record ReaderTold : Type 0 where
   pub reads : ℕ
   pub failures : ℕ
 
@@ -14,26 +14,26 @@ abbrev pub up_by : ℕ → ℕ → ℕ
 up_by more n = min (n + more) 18446744073709551615
 
 -- after so many reads that gave octets or the end
-abbrev pub after_reads : ℕ → Told → Told
+abbrev pub after_reads : ℕ → ReaderTold → ReaderTold
 after_reads n t = record t { reads = up_by n t.reads }
 
 -- after one, which gave them, or failed
-abbrev pub after_read : Bool → Told → Told
+abbrev pub after_read : Bool → ReaderTold → ReaderTold
 after_read true t = after_reads 1 t
 after_read false t = record { reads = up_by 1 t.reads; failures = up_by 1 t.failures }
 
 -- where a reader tells that, it is so
-abbrev pub IfTold : (Told → Told → Type 0) → Option Told → Option Told → Type 0
+abbrev pub IfTold : (ReaderTold → ReaderTold → Type 0) → Option ReaderTold → Option ReaderTold → Type 0
 IfTold Is None new = Unit {0}
 IfTold Is (Some old) None = ⊥
 IfTold Is (Some old) (Some new) = Is old new
 
 -- no read failed
-abbrev pub HasGiven : Told → Told → Type 0
+abbrev pub HasGiven : ReaderTold → ReaderTold → Type 0
 HasGiven old new = new.failures ≡ old.failures
 
 -- one failed, or there were 1,000,000,000, none of which failed
-abbrev pub HasEndedReads : Told → Told → Type 0
+abbrev pub HasEndedReads : ReaderTold → ReaderTold → Type 0
 HasEndedReads old new = (new.failures ≡ up_by 1 old.failures) ⊎ (new ≡ after_reads 1000000000 old)
 
 -- ---- what was written

@@ -1,7 +1,7 @@
 -- One session and the machine: what a turn, a drain and an end make of them [RFC 2244 section 2].
 use Rattle.std.specs.Prelude.{◌≡◌, ◌⊎◌, ℕ, List, Vec, Bool, true, false, ◌||◌, is_ok, MatchResult, Result, Err}
 use Rattle.std.specs.declared.alloc.Global.{Global}
-use Rattle.acap_entries.specs.declared.memory.Memory.{Memory}
+use Rattle.std.specs.declared.alloc.AllocError.{AllocError as Memory}
 use Rattle.acap_login.specs.Login.{User}
 use Rattle.acap_commands.specs.declared.reply.Reply.{Reply}
 use Rattle.acap_machine.specs.Machine.{Machine, Roomed}
@@ -11,8 +11,8 @@ use Rattle.acap_commands.specs.declared.event.Event.{Event}
 use Rattle.acap_commands.specs.declared.event.Event.TheVariants as events
 use Rattle.acap_commands.specs.declared.fault.Fault.{Fault}
 use Rattle.acap_commands.specs.declared.fault.Fault.TheVariants as fault
-use Rattle.acap_dialogue.specs.Saying.{added, heard_of}
-use Rattle.acap_dialogue.specs.Session.{session_next, session_drain, answered, has_seat}
+use Rattle.acap_dialogue.specs.Saying.{with_said, heard_of}
+use Rattle.acap_dialogue.specs.Session.{session_next, session_drain, after_answer, has_seat}
 use Rattle.acap_dialogue.specs.Talking.{Talking}
 use Rattle.acap_dialogue.specs.declared.heard.Heard.{Heard}
 use Rattle.acap_dialogue.specs.declared.heard.Heard.TheVariants as heard
@@ -34,9 +34,9 @@ abbrev pub scene : Machine → Talking → List ℕ → Scene
 scene m t out = record { machine = m; talk = t; out = out }
 
 -- an event at the session's seat; where it is refused memory the machine is as before
-abbrev pub performed : Bool → Machine → Occasion → Event → Result (Reply × Machine) Fault
-performed true m o event = Err fault.Memory
-performed false m o event = step_of m o.seat event o.clock
+abbrev pub event_outcome : Bool → Machine → Occasion → Event → Result (Reply × Machine) Fault
+event_outcome true m o event = Err fault.Memory
+event_outcome false m o event = step_of m o.seat event o.clock
 
 -- whether memory was refused
 abbrev pub is_refused : Result Reply Fault → Bool
@@ -68,20 +68,20 @@ turn_from heard.Closes = turn.Closed
 abbrev pub turn_in : Next → Turn
 turn_in n = turn_from (heard_of n)
 
-abbrev pub shown : Occasion → Bool → Machine → List ℕ → Next × Talking → Turn × Scene
-shown o seated m out x = (turn_in x.0, record { machine = left_after x.0 seated o m; talk = x.1; out = added out x.0 })
+abbrev pub turn_and_scene : Occasion → Bool → Machine → List ℕ → Next × Talking → Turn × Scene
+turn_and_scene o seated m out x = (turn_in x.0, record { machine = left_after x.0 seated o m; talk = x.1; out = with_said out x.0 })
 
 -- the event that a session asked is performed, and what it says to the answer is said
 abbrev pub asked_of : Occasion → Bool → Machine → List ℕ → Talking → Event → Turn × Scene
 asked_of o refused m out t event =
-    let r = performed refused m o event in
-    shown o (has_seat t || is_ok r) (machine_after m r) out (answered t (outcome_of r))
+    let r = event_outcome refused m o event in
+    turn_and_scene o (has_seat t || is_ok r) (machine_after m r) out (after_answer t (outcome_of r))
 
 abbrev pub turn_by : Occasion → Bool → Scene → Next × Talking → Turn × Scene
-turn_by o refused s (next.More, t) = shown o (has_seat s.talk) s.machine s.out (next.More, t)
-turn_by o refused s (next.Say octets, t) = shown o (has_seat s.talk) s.machine s.out (next.Say octets, t)
+turn_by o refused s (next.More, t) = turn_and_scene o (has_seat s.talk) s.machine s.out (next.More, t)
+turn_by o refused s (next.Say octets, t) = turn_and_scene o (has_seat s.talk) s.machine s.out (next.Say octets, t)
 turn_by o refused s (next.Ask event, t) = asked_of o refused s.machine s.out t event
-turn_by o refused s (next.Close octets, t) = shown o (has_seat s.talk) s.machine s.out (next.Close octets, t)
+turn_by o refused s (next.Close octets, t) = turn_and_scene o (has_seat s.talk) s.machine s.out (next.Close octets, t)
 
 -- A turn of a session: what is next is said, or asked of the machine in one step and what it answers is said. Whether
 -- that step is refused memory is told beforehand.
@@ -106,7 +106,7 @@ pub record IsAsked (o : Occasion) (event : Event) (old : Scene) (came : Turn) (n
 -- asked stands.
 pub record StandsBefore (o : Occasion) (event : Event) (t : Talking) (old : Machine) (new : Machine) : Type 0 where
   pub refused : Bool
-  pub is : let r = performed refused old o event in new ≡ left_by (has_seat t || is_ok r) o (machine_after old r)
+  pub is : let r = event_outcome refused old o event in new ≡ left_by (has_seat t || is_ok r) o (machine_after old r)
 
 abbrev pub IsCutFrom : Occasion → Scene → Next × Talking → Machine → Type 0
 IsCutFrom o old (next.More, t) m = m ≡ left_by (has_seat old.talk) o old.machine
@@ -153,7 +153,7 @@ DrainsTo o old new result = MatchResult result (λ came. (came, new) ≡ drain_o
 abbrev pub RepliesTo : Occasion → Result Reply Fault → Scene → Scene → Result Turn Memory → Type 0
 RepliesTo o outcome old new result =
     let seated = has_seat old.talk || is_ok outcome in
-    MatchResult result (λ came. (came, new) ≡ shown o seated old.machine old.out (answered old.talk outcome)) (λ memory. CutInAnswering seated o old new)
+    MatchResult result (λ came. (came, new) ≡ turn_and_scene o seated old.machine old.out (after_answer old.talk outcome)) (λ memory. CutInAnswering seated o old new)
 
 -- of the machine in memory, the session, and the octets to be written
 abbrev pub Turns : List User → Occasion → Roomed → Talking → Vec ℕ Global → Roomed → Talking → Vec ℕ Global → Result Turn Memory → Type 0

@@ -2,12 +2,12 @@
 -- [RFC 2244 section 2].
 use Rattle.std.specs.Prelude.{◌≡◌, ◌⊎◌, ℕ, List, [], ◌∷◌, Bool, true, false, Option, Some, None, Result, Ok, Err, IsSome}
 use Rattle.acap_login.specs.Login.{User}
-use Rattle.acap_entries.specs.declared.memory.Memory.{Memory}
+use Rattle.std.specs.declared.alloc.AllocError.{AllocError as Memory}
 use Rattle.acap_machine.specs.Machine.{Machine, Roomed, new_machine}
 use Rattle.acap_rights.specs.declared.realm.Realm.{Realm}
-use Rattle.acap_session.specs.Places.{Place, Places, place_at, placed, if_open}
+use Rattle.acap_session.specs.Places.{Place, Places, place_at, with_place, if_open}
 use Rattle.acap_dialogue.specs.Session.{has_seat, is_closed, session_next}
-use Rattle.acap_dialogue.specs.Talking.{Talking, begun}
+use Rattle.acap_dialogue.specs.Talking.{Talking, beginning}
 use Rattle.acap_dialogue.specs.Telling.{room_for, with_front}
 use Rattle.acap_session.specs.Turning.{Scene, scene, turn_of, drain_of, left_by, CutInDraining, WasCut}
 use Rattle.acap_session.specs.declared.occasion.Occasion.{Occasion}
@@ -31,7 +31,7 @@ abbrev pub scene_of : World → Place → Scene
 scene_of w place = scene w.machine place.talk place.out
 
 abbrev pub with_scene : World → ℕ → Scene → World
-with_scene w seat s = record w { machine = s.machine; places = placed w.places seat (record { talk = s.talk; out = s.out }) }
+with_scene w seat s = record w { machine = s.machine; places = with_place w.places seat (record { talk = s.talk; out = s.out }) }
 
 -- what a seat's session does to the world, if one is open there
 abbrev pub at_open : World → ℕ → (Scene → Scene) → Option Place → World
@@ -57,7 +57,7 @@ said_before (Some place) = place.out
 -- what was said at a seat is taken from there
 abbrev pub taken_from : Places → ℕ → Option Place → Places
 taken_from places seat None = places
-taken_from places seat (Some place) = placed places seat (record place { out = [] })
+taken_from places seat (Some place) = with_place places seat (record place { out = [] })
 
 abbrev pub output_taken : World → ℕ → World
 output_taken w seat = record w { places = taken_from w.places seat (place_at w.places seat) }
@@ -84,7 +84,7 @@ ends o s = record s { machine = left_by (has_seat s.talk) o s.machine; talk = re
 -- a session opens where none is open, and makes its first turn
 abbrev pub opened_at : World → Occasion → Bool → Option (List ℕ) → Option Place → World
 opened_at w o refused user (Some place) = w
-opened_at w o refused user None = with_scene w o.seat (turn_of w.users o refused (scene w.machine (begun w.host user) (said_before (place_at w.places o.seat)))).1
+opened_at w o refused user None = with_scene w o.seat (turn_of w.users o refused (scene w.machine (beginning w.host user) (said_before (place_at w.places o.seat)))).1
 
 -- One step of the world on an occasion. Whether the event that it may ask is refused memory is told beforehand.
 unfoldable pub did : Occasion → Bool → Deed → World → World
@@ -100,9 +100,9 @@ pub record Step : Type 0 where
   pub refused : Bool
   pub deed : Deed
 
-abbrev pub run : List Step → World → World
-run [] w = w
-run (x ∷ xs) w = run xs (did x.occasion x.refused x.deed w)
+abbrev pub world_after : List Step → World → World
+world_after [] w = w
+world_after (x ∷ xs) w = world_after xs (did x.occasion x.refused x.deed w)
 
 -- the world before its first step
 abbrev pub new_world : Realm → List User → List ℕ → World

@@ -12,13 +12,13 @@ pub struct ReadFailed;
 
 /// A reader that may tell how often it was asked, and how often it failed.
 pub trait Input {
-    ghost use Rattle.acap_session.specs.Streams.{Told, after_read};
+    ghost use Rattle.acap_session.specs.Streams.{ReaderTold, after_read};
 
     // The octets that reads will give from here on, where they are known.
     ghost remaining: { Self → Option (List ℕ) } = { λ _. None };
 
     // How often it was asked and how often it failed, where it tells that.
-    ghost told: { Self → Option Told } = { λ _. None };
+    ghost told: { Self → Option ReaderTold } = { λ _. None };
 
     /// Reads octets into the front of a buffer, and says how many: 0 at the end, or where there is no room.
     fn read_front(&mut self, buf: &mut [u8]) -> Result<usize, ReadFailed>

@@ -3,7 +3,7 @@
 ghost use Rattle.std.specs.Prelude.{◌≡◌, [], false, IfOk, OnErr, OnOk};
 ghost use Rattle.acap_dialogue.specs.Session.{is_closed};
 ghost use Rattle.acap_session.specs.Turning.{BeginsAt, DrainsAt, TurnsAt, scene_at};
-ghost use Rattle.acap_session.specs.Places.{reached, saying};
+ghost use Rattle.acap_session.specs.Places.{places_up_to, saying};
 ghost use Rattle.acap_dialogue.specs.declared.stage.Stage.TheVariants as stages;
 ghost use Rattle.acap_session.specs.World as world;
 ghost use Rattle.acap_session.specs.World.{Begins, said_before};
@@ -136,7 +136,7 @@ impl Place {
 
 /// Makes places up to a seat, with nobody there. Where memory is refused there are none more.
 pub(crate) fn reach(places: &mut Vec<Option<Place>>, seat: Seat) -> Result<(), Memory>
-    ensures reached { OnOk result (places.new.items ≡ reached places.old.items seat) }
+    ensures reached { OnOk result (places.new.items ≡ places_up_to places.old.items seat) }
     ensures kept { OnErr result (places.new.items ≡ places.old.items) }
 {
     let index = usize::from(seat.number());

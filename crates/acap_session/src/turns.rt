@@ -1,6 +1,6 @@
 //! Turns: one session, the machine, and what is said.
 
-ghost use Rattle.std.specs.Prelude.{◌≡◌, ◌||◌, true};
+ghost use Rattle.std.specs.Prelude.{◌≡◌, true};
 ghost use Rattle.acap_dialogue.specs.Session.{is_asked};
 ghost use Rattle.acap_session.specs.Turning.{Asks, Drains, Replies, Turns};
 ghost use Rattle.acap_session.specs.Turning.{is_refused, left_at, left_by, turn_from};
@@ -70,7 +70,7 @@ fn conclude<L: Ledger>(
     requires { is_asked session.old.stage ≡ true }
     ensures { Replies occasion outcome state.old session.old out.old state.new session.new out.new result }
 {
-    let has_seat = either(session.has_seat(), outcome.is_ok());
+    let has_seat = session.has_seat() | outcome.is_ok();
     match session.reply(outcome, out) {
         Ok(heard) => Ok(finish(state, occasion, has_seat, &heard, steps)),
         Err(Memory) => {
@@ -94,13 +94,6 @@ fn perform<L: Ledger>(
 {
     let outcome = state.step(occasion.seat, event, occasion.clock, steps);
     conclude(session, state, occasion, outcome, out, steps)
-}
-
-// Whether one of them holds.
-fn either(first: bool, second: bool) -> bool
-    ensures { result ≡ (first || second) }
-{
-    first || second
 }
 
 /// Makes one turn of a session, and adds what it says. Where memory is refused the session is closed, and an event that

@@ -65,32 +65,32 @@ has_root (array names) = any_item is_root names
 has_root _ = false
 
 -- what a key must have, and what it may have
-abbrev pub needed : (Data → Bool) → Option Data → Bool
-needed is_good (Some value) = is_good value
-needed is_good None = false
+abbrev pub is_there_and_good : (Data → Bool) → Option Data → Bool
+is_there_and_good is_good (Some value) = is_good value
+is_there_and_good is_good None = false
 
-abbrev pub allowed : (Data → Bool) → Option Data → Bool
-allowed is_good (Some value) = is_good value
-allowed is_good None = true
+abbrev pub is_good_if_there : (Data → Bool) → Option Data → Bool
+is_good_if_there is_good (Some value) = is_good value
+is_good_if_there is_good None = true
 
 -- a start file is a text, and root, by whom its commands are given, is an administrator
 abbrev pub start_is_good : Members → Bool
 start_is_good settings =
-    let root_is_there = needed has_root (get_member (codes "administrators") settings) in
-    allowed (λ file. is_text file && root_is_there) (get_member (codes "start") settings)
+    let root_is_there = is_there_and_good has_root (get_member (codes "administrators") settings) in
+    is_good_if_there (λ file. is_text file && root_is_there) (get_member (codes "start") settings)
 
 -- The keys in the order in which they are judged, each with whether what stands there is good.
 abbrev pub judged_keys : Members → List (List ℕ × Bool)
 judged_keys settings =
-    (codes "listen", needed is_text (get_member (codes "listen") settings))
-    ∷ (codes "host", needed is_text (get_member (codes "host") settings))
-    ∷ (codes "workers", needed (is_number 1 16) (get_member (codes "workers") settings))
-    ∷ (codes "turns", needed (is_number 1 1_000_000_000) (get_member (codes "turns") settings))
-    ∷ (codes "sessions", needed (is_number 0 1_000_000_000) (get_member (codes "sessions") settings))
-    ∷ (codes "administrators", needed is_user_list (get_member (codes "administrators") settings))
-    ∷ (codes "users", needed is_secret_table (get_member (codes "users") settings))
+    (codes "listen", is_there_and_good is_text (get_member (codes "listen") settings))
+    ∷ (codes "host", is_there_and_good is_text (get_member (codes "host") settings))
+    ∷ (codes "workers", is_there_and_good (is_number 1 16) (get_member (codes "workers") settings))
+    ∷ (codes "turns", is_there_and_good (is_number 1 1_000_000_000) (get_member (codes "turns") settings))
+    ∷ (codes "sessions", is_there_and_good (is_number 0 1_000_000_000) (get_member (codes "sessions") settings))
+    ∷ (codes "administrators", is_there_and_good is_user_list (get_member (codes "administrators") settings))
+    ∷ (codes "users", is_there_and_good is_secret_table (get_member (codes "users") settings))
     ∷ (codes "start", start_is_good settings)
-    ∷ (codes "groups", allowed is_group_table (get_member (codes "groups") settings))
+    ∷ (codes "groups", is_good_if_there is_group_table (get_member (codes "groups") settings))
     ∷ []
 
 -- the first key whose value isn't good

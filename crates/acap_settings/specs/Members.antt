@@ -20,8 +20,8 @@ abbrev pub all_entries : (List ℕ → Data → Bool) → BTreeMap (String Globa
 all_entries passes settings = list_all (λ entry. passes (string_bytes entry.0) (view entry.1)) settings.entries
 
 -- a member that is lent: what it is, and its octets and data
-abbrev pub lent : Bor (String Global) × Bor Value → String Global × Value
-lent pair = (pair.0.now, pair.1.now)
+abbrev pub member_of : Bor (String Global) × Bor Value → String Global × Value
+member_of pair = (pair.0.now, pair.1.now)
 
-abbrev pub seen : Bor (String Global) × Bor Value → List ℕ × Data
-seen pair = (string_bytes pair.0.now, view pair.1.now)
+abbrev pub octets_and_data : Bor (String Global) × Bor Value → List ℕ × Data
+octets_and_data pair = (string_bytes pair.0.now, view pair.1.now)

@@ -14,7 +14,7 @@ use toml::Table;
 
 // Whether a text stands at a key.
 fn text_is_good(table: &Table, key: &str) -> bool
-    ensures { result ≡ rule.needed rule.is_text (member_at key.now table.now) }
+    ensures { result ≡ rule.is_there_and_good rule.is_text (member_at key.now table.now) }
 {
     match value_at(table, key) {
         Some(value) => is_text(value),
@@ -24,7 +24,7 @@ fn text_is_good(table: &Table, key: &str) -> bool
 
 // Whether a number in these bounds stands at a key.
 fn number_is_good(table: &Table, key: &str, least: u32, most: u32) -> bool
-    ensures { result ≡ rule.needed (rule.is_number least most) (member_at key.now table.now) }
+    ensures { result ≡ rule.is_there_and_good (rule.is_number least most) (member_at key.now table.now) }
 {
     match value_at(table, key) {
         Some(value) => is_number(value, least, most),
@@ -33,7 +33,7 @@ fn number_is_good(table: &Table, key: &str, least: u32, most: u32) -> bool
 }
 
 fn administrators_are_good(table: &Table) -> bool
-    ensures { result ≡ rule.needed rule.is_user_list (administrators_in table.now) }
+    ensures { result ≡ rule.is_there_and_good rule.is_user_list (administrators_in table.now) }
 {
     match value_at(table, "administrators") {
         Some(value) => is_user_list(value),
@@ -42,7 +42,7 @@ fn administrators_are_good(table: &Table) -> bool
 }
 
 fn users_are_good(table: &Table) -> bool
-    ensures { result ≡ rule.needed rule.is_secret_table (member_at (codes "users") table.now) }
+    ensures { result ≡ rule.is_there_and_good rule.is_secret_table (member_at (codes "users") table.now) }
 {
     match value_at(table, "users") {
         Some(value) => is_secret_table(value),
@@ -52,7 +52,7 @@ fn users_are_good(table: &Table) -> bool
 
 // Whether root is an administrator.
 fn root_is_there(table: &Table) -> bool
-    ensures { result ≡ rule.needed rule.has_root (administrators_in table.now) }
+    ensures { result ≡ rule.is_there_and_good rule.has_root (administrators_in table.now) }
 {
     match value_at(table, "administrators") {
         Some(value) => has_root(value),
@@ -70,7 +70,7 @@ fn start_is_good(table: &Table) -> bool
 }
 
 fn groups_are_good(table: &Table) -> bool
-    ensures { result ≡ rule.allowed rule.is_group_table (member_at (codes "groups") table.now) }
+    ensures { result ≡ rule.is_good_if_there rule.is_group_table (member_at (codes "groups") table.now) }
 {
     match value_at(table, "groups") {
         Some(value) => is_group_table(value),

@@ -1,11 +1,11 @@
 //! What a good document stands for.
-ghost use Rattle.std.specs.Prelude.{◌≡◌, ◌&&◌, pos, IfOk, true, codes, map, option_map, string_bytes};
+ghost use Rattle.std.specs.Prelude.{◌≡◌, pos, IfOk, true, codes, map, option_map, string_bytes};
 ghost use Rattle.std.specs.List.{AllPass};
 ghost use Rattle.acap_entries.specs.Names.{is_user_name};
 ghost use Rattle.acap_settings.specs.Keys as rule;
 ghost use Rattle.acap_settings.specs.Settings.{AreGroups, group_table, name_list};
 ghost use Rattle.acap_settings.specs.Settings.{said_group, said_user, secret_table};
-ghost use Rattle.acap_settings.specs.Members.{administrators_in, lent, member_at, seen};
+ghost use Rattle.acap_settings.specs.Members.{administrators_in, member_of, member_at, octets_and_data};
 ghost use Rattle.toml.specs.Data.{string, integer};
 ghost use Rattle.toml.specs.View.{table_view, view};
 
@@ -29,7 +29,7 @@ fn text_of(alloc: Global, value: &Value) -> Result<Octets, Memory>
 
 /// The text at a key that has one.
 pub(crate) fn text_at(alloc: Global, settings: &Table, key: &str) -> Result<Octets, Memory>
-    requires { rule.needed rule.is_text (member_at key.now settings.now) ≡ true }
+    requires { rule.is_there_and_good rule.is_text (member_at key.now settings.now) ≡ true }
     ensures { IfOk result (λ text. member_at key.now settings.now ≡ Some (string text)) }
 {
     match value_at(settings, key) {
@@ -51,7 +51,7 @@ fn number_of(value: &Value, least: u32, most: u32) -> u32
 
 /// The number at a key that has one.
 pub(crate) fn number_at(settings: &Table, key: &str, least: u32, most: u32) -> u32
-    requires { rule.needed (rule.is_number least most) (member_at key.now settings.now) ≡ true }
+    requires { rule.is_there_and_good (rule.is_number least most) (member_at key.now settings.now) ≡ true }
     ensures { member_at key.now settings.now ≡ Some (integer (pos result)) }
 {
     match value_at(settings, key) {
@@ -61,7 +61,7 @@ pub(crate) fn number_at(settings: &Table, key: &str, least: u32, most: u32) -> u
 }
 
 // The name that octets are which are a user's.
-fn user_named(alloc: Global, name: &[u8]) -> Result<UserName, Memory>
+fn read_user(alloc: Global, name: &[u8]) -> Result<UserName, Memory>
     requires { is_user_name name.now ≡ true }
     ensures { IfOk result (λ made. made ≡ name.now) }
 {
@@ -78,7 +78,7 @@ fn user_of(alloc: Global, value: &Value) -> Result<UserName, Memory>
     ensures { IfOk result (λ name. view value.now ≡ string name) }
 {
     match value {
-        Value::String(name) => user_named(alloc, name.as_bytes()),
+        Value::String(name) => read_user(alloc, name.as_bytes()),
         _ => unreachable!(),
     }
 }
@@ -112,7 +112,7 @@ pub(crate) fn administrators_at(
     alloc: Global,
     settings: &Table,
 ) -> Result<Sequence<UserName>, Memory>
-    requires { rule.needed rule.is_user_list (administrators_in settings.now) ≡ true }
+    requires { rule.is_there_and_good rule.is_user_list (administrators_in settings.now) ≡ true }
     ensures { IfOk result (λ users. administrators_in settings.now ≡ Some (name_list users)) }
 {
     match value_at(settings, "administrators") {
@@ -123,7 +123,7 @@ pub(crate) fn administrators_at(
 
 // The members of a table, in its order.
 fn members_of<'a>(alloc: Global, table: &'a Table) -> Result<Vec<(&'a String, &'a Value)>, Memory>
-    ensures { IfOk result (λ members. map lent members.items ≡ table.now.entries) }
+    ensures { IfOk result (λ members. map member_of members.items ≡ table.now.entries) }
 {
     Ok(table.iter().collect(alloc)?)
 }
@@ -134,12 +134,12 @@ fn secrets_of(
     members: &[(&String, &Value)],
 ) -> Result<Vec<(UserName, Vec<u8>)>, Memory>
     requires { AllPass (λ pair. rule.is_secret (string_bytes pair.0.now) (view pair.1.now)) members.now }
-    ensures { IfOk result (λ users. map seen members.now ≡ map said_user users.items) }
+    ensures { IfOk result (λ users. map octets_and_data members.now ≡ map said_user users.items) }
 {
     let mut users = Vec::with_capacity(alloc, members.len())?;
     for (name, secret) in members {
         let secret = text_of(alloc, secret)?.into_vec();
-        users.push((user_named(alloc, name.as_bytes())?, secret))?;
+        users.push((read_user(alloc, name.as_bytes())?, secret))?;
     }
     Ok(users)
 }
@@ -147,12 +147,12 @@ fn secrets_of(
 // The groups of members that are names with a list of users each.
 fn groups_of(alloc: Global, members: &[(&String, &Value)]) -> Result<Groups, Memory>
     requires { AllPass (λ pair. rule.is_group (string_bytes pair.0.now) (view pair.1.now)) members.now }
-    ensures { IfOk result (λ groups. map seen members.now ≡ map said_group groups) }
+    ensures { IfOk result (λ groups. map octets_and_data members.now ≡ map said_group groups) }
 {
     let mut groups = Groups::new(alloc);
     for (name, value) in members {
         let members = user_list_of(alloc, value)?;
-        let name = user_named(alloc, name.as_bytes())?;
+        let name = read_user(alloc, name.as_bytes())?;
         groups.push(Group { name, members })?;
     }
     Ok(groups)
@@ -174,7 +174,7 @@ fn secret_table_of(alloc: Global, value: &Value) -> Result<Users, Memory>
 
 /// The users with their secrets, where a table of secrets stands at their key.
 pub(crate) fn users_at(alloc: Global, settings: &Table) -> Result<Users, Memory>
-    requires { rule.needed rule.is_secret_table (member_at (codes "users") settings.now) ≡ true }
+    requires { rule.is_there_and_good rule.is_secret_table (member_at (codes "users") settings.now) ≡ true }
     ensures { IfOk result (λ users. member_at (codes "users") settings.now ≡ Some (secret_table users)) }
 {
     match value_at(settings, "users") {
@@ -199,7 +199,7 @@ fn group_table_of(alloc: Global, value: &Value) -> Result<Groups, Memory>
 
 /// The groups, where a table of groups stands at their key or nothing.
 pub(crate) fn groups_at(alloc: Global, settings: &Table) -> Result<Groups, Memory>
-    requires { rule.allowed rule.is_group_table (member_at (codes "groups") settings.now) ≡ true }
+    requires { rule.is_good_if_there rule.is_group_table (member_at (codes "groups") settings.now) ≡ true }
     ensures { IfOk result (λ groups. AreGroups (member_at (codes "groups") settings.now) groups) }
 {
     match value_at(settings, "groups") {

@@ -17,8 +17,6 @@ use Rattle.acap_entries.specs.Homes.{is_home, for_user}
 use Rattle.acap_entries.specs.Names.{components, is_component, dataset_of, name_of, is_dataset_argument}
 use Rattle.acap_entries.specs.Orders.{octets_cmp, octets_eq}
 use Rattle.acap_entries.specs.Store.{Stored, path_cmp}
-use Rattle.acap_entries.specs.declared.cell.Cell.{Cell}
-use Rattle.acap_entries.specs.declared.cell.Cell.TheVariants.{Nil}
 use Rattle.acap_entries.specs.declared.deletion.Deletion.{Deletion}
 use Rattle.acap_entries.specs.declared.record.Record.{Record}
 use Rattle.acap_rights.specs.Keeping.{target_of_list}
@@ -154,7 +152,7 @@ second false b p = absurd p
 tie : (a b : List ℕ) → eq_by_cmp octets_cmp a b ≡ octets_eq a b
 tie a b = is_eq-slice_cmp a b
 
-any_key : (n : List ℕ) (es : List (List ℕ × Cell)) → list_any (eq_by_cmp octets_cmp n) (map (λ e. e.0) es) ≡ list_any (octets_eq n) (map (λ e. e.0) es)
+any_key : (n : List ℕ) (es : List (List ℕ × Unit {0})) → list_any (eq_by_cmp octets_cmp n) (map (λ e. e.0) es) ≡ list_any (octets_eq n) (map (λ e. e.0) es)
 any_key n [] = refl
 any_key n (e ∷ es) = ap (λ b. b || list_any (eq_by_cmp octets_cmp n) (map (λ e. e.0) es)) (tie n e.0) ∙ ap (λ b. octets_eq n e.0 || b) (any_key n es)
 
@@ -164,15 +162,15 @@ or_swap true false c = refl
 or_swap false true c = refl
 or_swap false false c = refl
 
-one_name : (b : Bool) (old : Option Cell) → is_some (cond b (Some Nil) old) ≡ (b || is_some old)
+one_name : (b : Bool) (old : Option (Unit {0})) → is_some (cond b (Some tt) old) ≡ (b || is_some old)
 one_name true old = refl
 one_name false old = refl
 
 has_name : (n : List ℕ) (set : Names) (names : List (List ℕ)) → is_some (table.get (with_names set names) n) ≡ (list_any (octets_eq n) names || is_some (table.get set n))
 has_name n set [] = refl
 has_name n set (name ∷ names) =
-    has_name n (table.insert set name Nil) names
-    ∙ ap (λ o. list_any (octets_eq n) names || is_some o) (get-insert nat_list_cmp_total set name Nil n)
+    has_name n (table.insert set name tt) names
+    ∙ ap (λ o. list_any (octets_eq n) names || is_some o) (get-insert nat_list_cmp_total set name tt n)
     ∙ ap (λ b. list_any (octets_eq n) names || b) (one_name (eq_by_cmp octets_cmp n name) (table.get set n) ∙ ap (λ b. b || is_some (table.get set n)) (tie n name))
     ∙ or_swap (list_any (octets_eq n) names) (octets_eq n name) (is_some (table.get set n))
 
@@ -189,11 +187,11 @@ told_names n test (d ∷ ds) = elim (test d) as (λ b. list_any (octets_eq n) (m
   | false ↦ told_names n test ds ∙ ap (λ b. b || list_any (λ d. octets_eq n d.path.name && test d) ds) (sym (and_false (octets_eq n d.path.name)))
 ]
 
-all_above : (x : List ℕ) (es : List (List ℕ × Cell)) → T (below_all octets_cmp x es) → AllByRecursion (λ y. octets_cmp x y ≡ Less) (map (λ e. e.0) es)
+all_above : (x : List ℕ) (es : List (List ℕ × Unit {0})) → T (below_all octets_cmp x es) → AllByRecursion (λ y. octets_cmp x y ≡ Less) (map (λ e. e.0) es)
 all_above x [] h = tt
 all_above x (e ∷ es) h = (is_less _ (first _ _ h), all_above x es (second _ _ h))
 
-rising : (es : List (List ℕ × Cell)) → T (is_sorted octets_cmp es) → IsStrictlySortedBy octets_cmp (map (λ e. e.0) es)
+rising : (es : List (List ℕ × Unit {0})) → T (is_sorted octets_cmp es) → IsStrictlySortedBy octets_cmp (map (λ e. e.0) es)
 unfolding IsStrictlySortedBy
 rising [] h = tt
 rising (e ∷ es) h = (all_above e.0 es (first _ _ h), rising es (second _ _ h))

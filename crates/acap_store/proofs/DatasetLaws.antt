@@ -27,7 +27,7 @@ use Rattle.acap_commands.specs.declared.refusal.Refusal.{Refusal}
 use Rattle.acap_commands.specs.declared.store_entry.StoreEntry.{StoreEntry}
 use Rattle.acap_commands.specs.declared.store_item.StoreItem.{StoreItem}
 use Rattle.acap_inherit.specs.Chains.{chain_within}
-use Rattle.acap_inherit.specs.Resolving.{resolved, by_cell, by_record}
+use Rattle.acap_inherit.specs.Resolving.{lookup, by_cell, by_record}
 use Rattle.acap_rights.specs.declared.realm.Realm.{Realm}
 use Rattle.acap_store.specs.DatasetLaws.{DatasetLaw, own_path, way_within, way_to, is_on_way, is_made, is_made_at, gets_subdataset}
 use Rattle.acap_store.specs.Forms.{is_management, is_value, is_nothing, is_of, is_ending, resolved_at}
@@ -38,7 +38,7 @@ use Rattle.acap_store.specs.Refusing.{same_path, refused_if, has_twice, no_exist
 use Rattle.acap_store.specs.Permission.{permission}
 use Rattle.acap_store.specs.Limits.{gives_large}
 use Rattle.acap_commands.specs.declared.refusal.Refusal.TheVariants as refusal
-use Rattle.acap_store.specs.Writing.{Celled, with_value, with_values, with_named, with_given, kept_as, cells_of, given_record, fate_of, entry_at, steps_for, step_at, stepped, missing_for, missing_to, missing_within, own_if_missing, deletes, ends, written_for}
+use Rattle.acap_store.specs.Writing.{Celled, with_value, with_values, with_named, with_given, kept_as, cells_of, given_record, fate_of, entry_at, steps_for, step_at, record_with_steps, missing_for, missing_to, missing_within, own_if_missing, deletes, ends, written_for}
 use Rattle.acap_store.specs.declared.meant.Meant.{Meant}
 use Rattle.acap_store.proofs.DatasetLemmas.{first_true, second_true, both_true, not_true, or_false, and_false, octets_same, octets_refl, paths_same, own_whole, append_behind, makes_at, exists_by, exists_without, missing_is, found_as, found_has, not_found_none, some_found}
 use Rattle.acap_store.proofs.StoreLaws.{path_law, steps_at, order}
@@ -159,7 +159,7 @@ lies_nowhere entry d (Some (Single value)) true h = cc
 lies_nowhere entry d (Some (Multi values)) true h = cc
 
 makes_none : (records : Stored) (p : Path) (old : Option Record) → table.get records p ≡ old → is_some (resolved_at records p sub) ≡ false → makes_at old ≡ false
-unfolding resolved chain_within
+unfolding lookup chain_within
 makes_none records p None e h = refl
 makes_none records p (Some entry) e h =
     lies_nowhere entry p.dataset (table.get entry.cells sub) entry.present (ap (λ o. is_some (by_record o sub p.dataset None)) (sym e) ∙ h)
@@ -350,12 +350,12 @@ at_path records user meant moment d own (Some e) q valid housed f =
     let same : own_path own ≡ e.path = paths_same (own_path own) e.path (found_has (λ e. same_path (own_path own) e.path) meant.entries e f) in
     let existed = makes_at (table.get records (own_path own)) in
     let missing = missing_is records meant.entries d own q ∙ ap (λ b. is_on_way meant.entries d && not b) (exists_by records d own q) in
-    let before : stepped records (steps_for records meant.entries moment) (own_path own) ≡ after_step records moment (own_path own) (is_on_way meant.entries d) existed =
+    let before : record_with_steps records (steps_for records meant.entries moment) (own_path own) ≡ after_step records moment (own_path own) (is_on_way meant.entries d) existed =
     ap (λ o. after_fate o (table.get records (own_path own))) (steps_at records meant.entries moment (own_path own) ∙ step_is records moment (own_path own) (missing_for records meant.entries) _ missing) in
-    let there : stepped records (steps_for records meant.entries moment) e.path ≡ after_step records moment e.path (is_on_way meant.entries d) existed =
-    subst (λ p. stepped records (steps_for records meant.entries moment) p ≡ after_step records moment p (is_on_way meant.entries d) existed) same before in
+    let there : record_with_steps records (steps_for records meant.entries moment) e.path ≡ after_step records moment e.path (is_on_way meant.entries d) existed =
+    subst (λ p. record_with_steps records (steps_for records meant.entries moment) p ≡ after_step records moment p (is_on_way meant.entries d) existed) same before in
     let kept : makes_at (table.get records e.path) ≡ existed = ap (λ p. makes_at (table.get records p)) (sym same) in
-    ap (λ p. makes_at (after_fate (Some (fate_of user (stepped records (steps_for records meant.entries moment) e.path) moment e)) (table.get records p))) same
+    ap (λ p. makes_at (after_fate (Some (fate_of user (record_with_steps records (steps_for records meant.entries moment) e.path) moment e)) (table.get records p))) same
     ∙ ap (λ o. makes_at (after_fate (Some (fate_of user o moment e)) (table.get records e.path))) there
     ∙ one_entry records user meant.entries moment d own e (is_on_way meant.entries d) existed q same (entry_valid records meant _ meant.entries e valid f) housed refl kept
 

@@ -20,9 +20,9 @@ use Rattle.acap_commands.specs.declared.store_entry.StoreEntry.{StoreEntry}
 use Rattle.acap_rights.specs.declared.realm.Realm.{Realm}
 use Rattle.acap_store.specs.DatasetLaws.{HousedLaw, own_path, way_within, way_to, is_on_way, is_made, reaches_within, is_absolute}
 use Rattle.acap_store.specs.Laws.{entries_of}
-use Rattle.acap_store.specs.Planning.{planned}
+use Rattle.acap_store.specs.Planning.{plan}
 use Rattle.acap_store.specs.Refusing.{same_path}
-use Rattle.acap_store.specs.Writing.{missing_for, missing_to, missing_within, own_if_missing, entry_at, step_at, steps_for, stepped, fate_of, deletes, ends, deleted_record, given_record}
+use Rattle.acap_store.specs.Writing.{missing_for, missing_to, missing_within, own_if_missing, entry_at, step_at, steps_for, record_with_steps, fate_of, deletes, ends, deleted_record, given_record}
 use Rattle.acap_store.specs.declared.write.Write.{Write}
 use Rattle.acap_store.proofs.DatasetLemmas.{first_true, second_true, any_own, octets_refl, paths_same, not_root, found_as, found_has}
 use Rattle.acap_store.proofs.DatasetLaws.{dataset_law, step_is}
@@ -131,7 +131,7 @@ written_absent user old before moment e entry = elim (deletes e) as (λ b. after
 root_exists : (records : Stored) (d : List ℕ) → octets_eq d root ≡ true → dataset_exists records d ≡ true
 root_exists records d e = left_or (octets_eq d root) _ e
 
-module _ (s : Store) (realm : Realm) (user : List ℕ) (write : Write) (now : ℤ) (change : Change) (made : planned s realm user write now ≡ Ok change) (housed : IsHoused s.records) where
+module _ (s : Store) (realm : Realm) (user : List ℕ) (write : Write) (now : ℤ) (change : Change) (made : plan s realm user write now ≡ Ok change) (housed : IsHoused s.records) where
   abbrev entries : List StoreEntry
   entries = entries_of s user write
 
@@ -149,7 +149,7 @@ module _ (s : Store) (realm : Realm) (user : List ℕ) (write : Write) (now : �
   -- what a record of afterwards is: what an entry or a step wrote, or what was there before
   abbrev pub here : Path → Option StoreEntry → Bool → Option Record
   here p found stepped_there =
-      after_fate (option_or (option_map (λ e. fate_of user (stepped s.records (steps_for s.records entries change.moment) e.path) change.moment e) found)
+      after_fate (option_or (option_map (λ e. fate_of user (record_with_steps s.records (steps_for s.records entries change.moment) e.path) change.moment e) found)
       (cond stepped_there (Some (step_at s.records change.moment p).1) None)) (table.get s.records p)
 
   pub is_here : (p : Path) → table.get after p ≡ here p (find (λ e. same_path p e.path) entries) (list_any (same_path p) (missing_for s.records entries))
@@ -157,7 +157,7 @@ module _ (s : Store) (realm : Realm) (user : List ℕ) (write : Write) (now : �
       path_law s realm user write now change made p
       ∙ ap (λ o. after_fate (option_or o (table.find path_cmp p (map (step_at s.records change.moment) (missing_for s.records entries)))) (table.get s.records p))
       (found_as (λ (e : StoreEntry). e.path) (λ e. (entry_at s.records user (steps_for s.records entries change.moment) change.moment e).1) p entries)
-      ∙ ap (λ o. after_fate (option_or (option_map (λ e. fate_of user (stepped s.records (steps_for s.records entries change.moment) e.path) change.moment e) (find (λ e. same_path p e.path) entries)) o) (table.get s.records p))
+      ∙ ap (λ o. after_fate (option_or (option_map (λ e. fate_of user (record_with_steps s.records (steps_for s.records entries change.moment) e.path) change.moment e) (find (λ e. same_path p e.path) entries)) o) (table.get s.records p))
       (step_is s.records change.moment p (missing_for s.records entries) _ refl)
 
   home_by : (p : Path) (entry : Record) (found : Option StoreEntry) (b : Bool) → list_all (λ e. is_absolute e.path.dataset) entries ≡ true → find (λ e. same_path p e.path) entries ≡ found → list_any (same_path p) (missing_for s.records entries) ≡ b → here p found b ≡ Some entry → dataset_exists after p.dataset ≡ true
@@ -168,7 +168,7 @@ module _ (s : Store) (realm : Realm) (user : List ℕ) (write : Write) (now : �
   home_by p entry None false absolute f m h = stays p.dataset (housed.homes p entry h)
 
   absent_by : (p : Path) (entry : Record) (found : Option StoreEntry) (b : Bool) → here p found b ≡ Some entry → entry.present ≡ false → table.get entry.cells (codes "subdataset") ≡ None
-  absent_by p entry (Some e) b h absent = written_absent user (stepped s.records (steps_for s.records entries change.moment) e.path) (table.get s.records p) change.moment e entry h absent
+  absent_by p entry (Some e) b h absent = written_absent user (record_with_steps s.records (steps_for s.records entries change.moment) e.path) (table.get s.records p) change.moment e entry h absent
   absent_by p entry None true h absent =
       let same = some_same _ entry h in
       let no : true ≡ false = ap (λ (r : Record). r.present) same ∙ absent in cc

@@ -17,7 +17,7 @@ use Rattle.acap_store.specs.Counting.{is_new, is_gone}
 use Rattle.acap_store.specs.Laws.{RoomLaw, StepsLaw}
 use Rattle.acap_store.specs.Limits.{is_crowded, writes_crowded, is_full_after}
 use Rattle.acap_store.specs.Refusing.{same_path}
-use Rattle.acap_store.specs.Writing.{put_all, written_for, steps_for, step_at, entry_at, missing_for, fate_of, stepped, deletes, ends, deleted_record, given_record}
+use Rattle.acap_store.specs.Writing.{put_all, written_for, steps_for, step_at, entry_at, missing_for, fate_of, record_with_steps, deletes, ends, deleted_record, given_record}
 use Rattle.acap_store.proofs.CountLemmas.{full_by_count}
 use Rattle.acap_store.proofs.DatasetLemmas.{found_as}
 use Rattle.acap_store.proofs.StoreLaws.{steps_at}
@@ -77,7 +77,7 @@ one_step records a b old None = refl
 one_step records a b old (Some q) = refl
 
 stepped_shape : (records : Stored) (entries : List StoreEntry) (a b : ℤ) (p : Path) →
-    timeless_old (stepped records (steps_for records entries a) p) ≡ timeless_old (stepped records (steps_for records entries b) p)
+    timeless_old (record_with_steps records (steps_for records entries a) p) ≡ timeless_old (record_with_steps records (steps_for records entries b) p)
 stepped_shape records entries a b p =
     ap (λ o. timeless_old (after_fate o (table.get records p))) (steps_at records entries a p ∙ found_as (λ q. q) (λ q. (step_at records a q).1) p (missing_for records entries))
     ∙ one_step records a b (table.get records p) (find (same_path p) (missing_for records entries))
@@ -104,7 +104,7 @@ entries_shape : (records : Stored) (user : List ℕ) (all entries : List StoreEn
 entries_shape records user all [] a b = refl
 entries_shape records user all (e ∷ entries) a b =
     ap (λ f. (e.path, f) ∷ shape (map (entry_at records user (steps_for records all a) a) entries))
-    (fate_shape user (stepped records (steps_for records all a) e.path) (stepped records (steps_for records all b) e.path) a b e (stepped_shape records all a b e.path))
+    (fate_shape user (record_with_steps records (steps_for records all a) e.path) (record_with_steps records (steps_for records all b) e.path) a b e (stepped_shape records all a b e.path))
     ∙ ap (λ t. (e.path, timeless (entry_at records user (steps_for records all b) b e).1) ∷ t) (entries_shape records user all entries a b)
 
 written_shape : (records : Stored) (user : List ℕ) (entries : List StoreEntry) (a b : ℤ) → shape (table.entries (written_for records user entries a)) ≡ shape (table.entries (written_for records user entries b))

@@ -23,7 +23,7 @@ use Rattle.acap_rights.specs.declared.realm.Realm.{Realm}
 use Rattle.acap_store.specs.DatasetLaws.{SoundLaw, own_path, is_absolute, paths_named}
 use Rattle.acap_store.specs.Laws.{entries_of}
 use Rattle.acap_store.specs.Meaning.{entries_for, list_path, meaning, path_for, target_for, target_in}
-use Rattle.acap_store.specs.Planning.{planned}
+use Rattle.acap_store.specs.Planning.{plan}
 use Rattle.acap_store.specs.Refusing.{same_path}
 use Rattle.acap_store.specs.Writing.{missing_for, missing_to, missing_within, own_if_missing}
 use Rattle.acap_store.specs.declared.write.Write.{Write}
@@ -99,7 +99,7 @@ step_formed records (x ∷ entries) p all h =
     either_or _ _ (sym (list_any-append (same_path p) (missing_to records x.path.dataset) (missing_for records entries)) ∙ h)
     (missing_formed records _ x.path.dataset p (first_true _ _ (first_true _ _ all))) (step_formed records entries p (second_true _ _ all))
 
-module _ (s : Store) (realm : Realm) (user : List ℕ) (sent : Write) (now : ℤ) (change : Change) (made : planned s realm user sent now ≡ Ok change) (sound : IsSoundStore s.records) (by_name : is_user_name user ≡ true) (named : list_all is_well_formed (paths_named sent) ≡ true) where
+module _ (s : Store) (realm : Realm) (user : List ℕ) (sent : Write) (now : ℤ) (change : Change) (made : plan s realm user sent now ≡ Ok change) (sound : IsSoundStore s.records) (by_name : is_user_name user ≡ true) (named : list_all is_well_formed (paths_named sent) ≡ true) where
   formed_by : (p : Path) (entry : Record) (found : Option StoreEntry) (b : Bool) → find (λ e. same_path p e.path) (entries_of s user sent) ≡ found → list_any (same_path p) (missing_for s.records (entries_of s user sent)) ≡ b
       → here s realm user sent now change made sound.housed p found b ≡ Some entry → IsWellFormed p
   formed_by p entry (Some e) b f m h =

@@ -6,7 +6,7 @@ use Rattle.acap_entries.specs.Store.{Stored, Store, after_writes}
 use Rattle.acap_entries.specs.declared.cell.Cell.TheVariants.{Single}
 use Rattle.acap_entries.specs.declared.record.Record.{Record}
 use Rattle.acap_rights.specs.declared.realm.Realm.{Realm}
-use Rattle.acap_inherit.specs.Resolving.{resolved, entry_exists, modtime_of}
+use Rattle.acap_inherit.specs.Resolving.{lookup, entry_exists, modtime_of}
 use Rattle.acap_store.specs.Deleting.{ending, deleted_by}
 use Rattle.acap_inherit.specs.Chains.{chain_of}
 use Rattle.acap_store.specs.Examples.{StageLaw, ChangeExamples, home, at}
@@ -34,7 +34,7 @@ inherited records base second chain a b present = rw (chain, a, b, present) refl
 
 inherited_value : (records : Stored) (base : List ℕ) (second : Record) → chain_of records home false ≡ home ∷ base ∷ [] → get records (at (codes "a")) ≡ None → get records (record { dataset = base; name = codes "a" }) ≡ Some second →
     second.present ≡ true → get second.cells (codes "k") ≡ Some (Single (codes "1")) → resolved_at records (at (codes "a")) (codes "k") ≡ Some (Single (codes "1"), base)
-unfolding resolved
+unfolding lookup
 inherited_value records base second chain a b present k = rw (chain, a, b, present, k) refl
 
 -- nothing where there is no record and no base

@@ -12,7 +12,7 @@ use Rattle.acap_entries.proofs.SortedLemmas.{first, second, is_less, rises_behin
 use Rattle.acap_commands.specs.EntryOrder.{has_path}
 use Rattle.acap_commands.specs.declared.store_entry.StoreEntry.{StoreEntry}
 use Rattle.acap_store.specs.Refusing.{same_path, has_twice}
-use Rattle.acap_store.specs.Rising.{keyed, rising}
+use Rattle.acap_store.specs.Rising.{with_path, rising}
 use Rattle.acap_store.proofs.DatasetLemmas.{iff_bool, paths_same, paths_refl, or_false}
 use Rattle.acap_store.proofs.StoreLaws.{path_tie}
 
@@ -87,7 +87,7 @@ not_false false e = cc
 less_apart : (p q : Path) → path_cmp p q ≡ Less → same_path q p ≡ false
 less_apart p q h = turned q p ∙ sym (path_tie p q) ∙ ap is_eq h
 
-none_same : (p : Path) (entries : List StoreEntry) → T (below_all path_cmp p (map keyed entries)) → list_any (λ other. same_path other.path p) entries ≡ false
+none_same : (p : Path) (entries : List StoreEntry) → T (below_all path_cmp p (map with_path entries)) → list_any (λ other. same_path other.path p) entries ≡ false
 none_same p [] h = refl
 none_same p (e ∷ entries) h = ap (λ b. b || list_any (λ other. same_path other.path p) entries) (less_apart p e.path (is_less _ (first _ _ h))) ∙ none_same p entries (second _ _ h)
 
@@ -99,10 +99,10 @@ once_each (e ∷ entries) h = ap (λ b. b || has_twice entries) (none_same e.pat
 pub of_rising : (entries : List StoreEntry) → rising entries ≡ true → has_twice entries ≡ false
 of_rising entries h = once_each entries (subst T (sym h) tt)
 
-first_keyed : (others : List StoreEntry) (next : StoreEntry) → slice_get others 0 ≡ Some next → slice_get (map keyed others) 0 ≡ Some (keyed next)
+first_keyed : (others : List StoreEntry) (next : StoreEntry) → slice_get others 0 ≡ Some next → slice_get (map with_path others) 0 ≡ Some (with_path next)
 first_keyed [] next e = cc
-first_keyed (x ∷ others) next e = let same : x ≡ next = cc in ap (λ y. Some (keyed y)) same
+first_keyed (x ∷ others) next e = let same : x ≡ next = cc in ap (λ y. Some (with_path y)) same
 
 -- the first of several that ascend asks for nothing more than the second
 pub rises_behind_first : (first next : StoreEntry) (others : List StoreEntry) → slice_get others 0 ≡ Some next → path_cmp first.path next.path ≡ Less → rising (first ∷ others) ≡ rising others
-rises_behind_first first next others e less = rises_behind path_cmp path_cmp_total (keyed first) (keyed next) (map keyed others) (first_keyed others next e) less
+rises_behind_first first next others e less = rises_behind path_cmp path_cmp_total (with_path first) (with_path next) (map with_path others) (first_keyed others next e) less

@@ -117,9 +117,6 @@ pub none_within : (records : Stored) (n : ℕ) (d : List ℕ) → own_entry d �
 none_within records zero d e = refl
 none_within records (suc n) d e = ap (λ o. option_map_or (λ own. missing_within n records own.0 ++ own_if_missing records d own) o []) e
 
-pub way_ends : (records : Stored) (f : Path → Path × Fate) (d : List ℕ) (w : Written) → own_entry d ≡ None → put_all (map f (missing_to records d)) w ≡ w
-way_ends records f d w e = ap (λ t. put_all (map f t) w) (none_within records (length d) d e)
-
 -- ---- the entries, from the last to the first
 
 append_assoc : {A : Type 0} (xs ys zs : List A) → (xs ++ ys) ++ zs ≡ xs ++ (ys ++ zs)

@@ -18,7 +18,7 @@ use Rattle.acap_rights.specs.declared.realm.Realm.{Realm}
 use Rattle.acap_store.specs.Forms.{is_of}
 use Rattle.acap_store.specs.Laws.{entries_of}
 use Rattle.acap_store.specs.Meaning.{target_in, list_path}
-use Rattle.acap_store.specs.Planning.{planned}
+use Rattle.acap_store.specs.Planning.{plan}
 use Rattle.acap_store.specs.Refusing.{same_path}
 use Rattle.acap_store.specs.declared.write.Write.{Write}
 use Rattle.acap_store.specs.declared.write.Write.TheVariants as write
@@ -52,7 +52,7 @@ is_made entries dataset = option_map_or (λ own. is_made_at entries (own_path ow
 
 -- after a command there are the datasets that there were, those on the way to its paths, and those that its items make. No other
 abbrev pub DatasetLaw : Type 0
-DatasetLaw = (s : Store) (realm : Realm) (user : List ℕ) (write : Write) (now : ℤ) (change : Change) → planned s realm user write now ≡ Ok change → IsHoused s.records →
+DatasetLaw = (s : Store) (realm : Realm) (user : List ℕ) (write : Write) (now : ℤ) (change : Change) → plan s realm user write now ≡ Ok change → IsHoused s.records →
     (dataset : List ℕ) → dataset_exists (store_after change s).records dataset
     ≡ (dataset_exists s.records dataset || is_on_way (entries_of s user write) dataset || is_made (entries_of s user write) dataset)
 
@@ -72,9 +72,9 @@ pub record RootLaw : Type 0 where
 -- so a command takes no dataset away, and the dataset of each record exists afterwards too. That begins with the empty store
 pub record HousedLaw : Type 0 where
   pub empty : IsHoused table.empty
-  pub stays : (s : Store) (realm : Realm) (user : List ℕ) (write : Write) (now : ℤ) (change : Change) → planned s realm user write now ≡ Ok change → IsHoused s.records →
+  pub stays : (s : Store) (realm : Realm) (user : List ℕ) (write : Write) (now : ℤ) (change : Change) → plan s realm user write now ≡ Ok change → IsHoused s.records →
       (dataset : List ℕ) → dataset_exists s.records dataset ≡ true → dataset_exists (store_after change s).records dataset ≡ true
-  pub housed : (s : Store) (realm : Realm) (user : List ℕ) (write : Write) (now : ℤ) (change : Change) → planned s realm user write now ≡ Ok change → IsHoused s.records →
+  pub housed : (s : Store) (realm : Realm) (user : List ℕ) (write : Write) (now : ℤ) (change : Change) → plan s realm user write now ≡ Ok change → IsHoused s.records →
       list_all (λ e. is_absolute e.path.dataset) (entries_of s user write) ≡ true → IsHoused (store_after change s).records
 
 -- the paths that a command names, `~` standing where it was sent
@@ -87,7 +87,7 @@ paths_named (write.DeleteAcl object identifier) = list_path (target_in object) �
 -- taken away
 pub record SoundLaw : Type 0 where
   pub empty : IsSoundStore table.empty
-  pub stays : (s : Store) (realm : Realm) (user : List ℕ) (write : Write) (now : ℤ) (change : Change) → planned s realm user write now ≡ Ok change → IsSoundStore s.records →
+  pub stays : (s : Store) (realm : Realm) (user : List ℕ) (write : Write) (now : ℤ) (change : Change) → plan s realm user write now ≡ Ok change → IsSoundStore s.records →
       (dataset : List ℕ) → dataset_exists s.records dataset ≡ true → dataset_exists (store_after change s).records dataset ≡ true
-  pub sound : (s : Store) (realm : Realm) (user : List ℕ) (write : Write) (now : ℤ) (change : Change) → planned s realm user write now ≡ Ok change → IsSoundStore s.records →
+  pub sound : (s : Store) (realm : Realm) (user : List ℕ) (write : Write) (now : ℤ) (change : Change) → plan s realm user write now ≡ Ok change → IsSoundStore s.records →
       is_user_name user ≡ true → list_all is_well_formed (paths_named write) ≡ true → IsSoundStore (store_after change s).records

@@ -6,8 +6,6 @@ use Rattle.acap_entries.specs.Datasets.{dataset_exists}
 use Rattle.acap_entries.specs.Homes.{for_user}
 use Rattle.acap_entries.specs.Orders.{octets_cmp, octets_eq}
 use Rattle.acap_entries.specs.Store.{Stored, Store, Written, after_writes}
-use Rattle.acap_entries.specs.declared.cell.Cell.{Cell}
-use Rattle.acap_entries.specs.declared.cell.Cell.TheVariants.{Nil}
 use Rattle.acap_entries.specs.declared.deletion.Deletion.{Deletion}
 use Rattle.acap_entries.specs.declared.path.Path.{Path}
 use Rattle.acap_commands.specs.declared.refusal.Refusal.{Refusal}
@@ -46,11 +44,11 @@ is_told records dataset since d =
 
 -- some names, each once, ascending in octets
 abbrev pub Names : Type 0
-Names = table.FinMap octets_cmp Cell
+Names = table.FinMap octets_cmp (Unit {0})
 
 abbrev pub with_names : Names → List (List ℕ) → Names
 with_names set [] = set
-with_names set (name ∷ names) = with_names (table.insert set name Nil) names
+with_names set (name ∷ names) = with_names (table.insert set name tt) names
 
 abbrev pub set_of : List (List ℕ) → Names
 set_of names = with_names table.empty names

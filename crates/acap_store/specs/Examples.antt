@@ -38,7 +38,7 @@ use Rattle.acap_store.specs.Meaning.{meaning}
 use Rattle.acap_store.specs.Permission.{permission, permission_in, suffices_for_entry, suffices_for_item, item_target, list_target}
 use Rattle.acap_store.specs.Planning.{planned_for, refusals_by_room, change_with}
 use Rattle.acap_store.specs.Refusing.{has_twice, no_exist, modified, modtime_at, is_later, first_of}
-use Rattle.acap_store.specs.Writing.{Celled, Listed, renewed, deleted_record, with_values, with_lists, fate_of, own_if_missing, missing_to, step_at, written_for}
+use Rattle.acap_store.specs.Writing.{Celled, Listed, record_after, deleted_record, with_values, with_lists, fate_of, own_if_missing, missing_to, step_at, written_for}
 use Rattle.acap_store.specs.declared.meant.Meant.{Meant}
 use Rattle.acap_store.specs.declared.write.Write.TheVariants as write
 
@@ -72,31 +72,31 @@ abbrev pub entry : List ℕ → List StoreItem → StoreEntry
 entry name items = record { path = at name; modifiers = unconditional; items = items }
 
 -- which of some items may not be stored in an entry, each being the only one
-abbrev pub judged : Stored → List ℕ → List StoreItem → List Bool
-judged records name items = map (λ item. is_invalid records (entry name (item ∷ []) ∷ []) (entry name (item ∷ [])) item) items
+abbrev pub invalid_flags : Stored → List ℕ → List StoreItem → List Bool
+invalid_flags records name items = map (λ item. is_invalid records (entry name (item ∷ []) ∷ []) (entry name (item ∷ [])) item) items
 
 -- ---- what may be stored
 
 pub record ItemExamples (records : Stored) : Type 0 where
-  pub ordinary : judged records (codes "a") (value (codes "k") (text (codes "1")) ∷ value (codes "k") (Put Nil) ∷ value (codes "k") Default ∷ value (codes "k") (list []) ∷ [])
+  pub ordinary : invalid_flags records (codes "a") (value (codes "k") (text (codes "1")) ∷ value (codes "k") (Put Nil) ∷ value (codes "k") Default ∷ value (codes "k") (list []) ∷ [])
       ≡ false ∷ false ∷ false ∷ false ∷ []
-  pub told_by_the_server : judged records (codes "a") (value (codes "modtime") (text (codes "1")) ∷ value (codes "modtime") Default ∷ acl (codes "modtime") (Put Nil) ∷ [])
+  pub told_by_the_server : invalid_flags records (codes "a") (value (codes "modtime") (text (codes "1")) ∷ value (codes "modtime") Default ∷ acl (codes "modtime") (Put Nil) ∷ [])
       ≡ true ∷ true ∷ true ∷ []
-  pub dot : judged records (codes "a") (value (codes "subdataset") (list (codes "." ∷ [])) ∷ value (codes "subdataset") (list (codes ".." ∷ [])) ∷ value (codes "subdataset") (text (codes ".")) ∷ value (codes "subdataset") (Put Nil) ∷ value (codes "subdataset") Default ∷ acl (codes "subdataset") (Put Nil) ∷ [])
+  pub dot : invalid_flags records (codes "a") (value (codes "subdataset") (list (codes "." ∷ [])) ∷ value (codes "subdataset") (list (codes ".." ∷ [])) ∷ value (codes "subdataset") (text (codes ".")) ∷ value (codes "subdataset") (Put Nil) ∷ value (codes "subdataset") Default ∷ acl (codes "subdataset") (Put Nil) ∷ [])
       ≡ false ∷ true ∷ true ∷ true ∷ true ∷ false ∷ []
-  pub its_name : judged records (codes "a") (value (codes "entry") (text (codes "a")) ∷ value (codes "entry") (text (codes "b")) ∷ value (codes "entry") (list (codes "a" ∷ [])) ∷ value (codes "entry") (list []) ∷ [])
+  pub its_name : invalid_flags records (codes "a") (value (codes "entry") (text (codes "a")) ∷ value (codes "entry") (text (codes "b")) ∷ value (codes "entry") (list (codes "a" ∷ [])) ∷ value (codes "entry") (list []) ∷ [])
       ≡ false ∷ true ∷ true ∷ true ∷ []
   -- the management entry's name is empty, and it never ends
-  pub no_name : judged records [] (value (codes "entry") (text []) ∷ value (codes "entry") (list []) ∷ value (codes "entry") (Put Nil) ∷ value (codes "entry") Default ∷ [])
+  pub no_name : invalid_flags records [] (value (codes "entry") (text []) ∷ value (codes "entry") (list []) ∷ value (codes "entry") (Put Nil) ∷ value (codes "entry") Default ∷ [])
       ≡ false ∷ true ∷ true ∷ true ∷ []
-  pub lists : judged records (codes "a") (acl (codes "k") (list (pair (codes "joe") (codes "r") ∷ [])) ∷ acl (codes "k") (list []) ∷ acl (codes "k") (Put Nil) ∷ acl (codes "k") Default ∷ acl (codes "k") (text (pair (codes "joe") (codes "r"))) ∷ acl (codes "k") (list (codes "joe" ∷ [])) ∷ acl (codes "k") (list (pair (codes "joe") (codes "q") ∷ [])) ∷ acl (codes "k") (list (pair (codes "-") (codes "r") ∷ [])) ∷ [])
+  pub lists : invalid_flags records (codes "a") (acl (codes "k") (list (pair (codes "joe") (codes "r") ∷ [])) ∷ acl (codes "k") (list []) ∷ acl (codes "k") (Put Nil) ∷ acl (codes "k") Default ∷ acl (codes "k") (text (pair (codes "joe") (codes "r"))) ∷ acl (codes "k") (list (codes "joe" ∷ [])) ∷ acl (codes "k") (list (pair (codes "joe") (codes "q") ∷ [])) ∷ acl (codes "k") (list (pair (codes "-") (codes "r") ∷ [])) ∷ [])
       ≡ false ∷ false ∷ false ∷ false ∷ true ∷ true ∷ true ∷ true ∷ []
   -- in the management entry alone some values are lists
-  pub kept_lists : judged records [] (value (codes "dataset.acl") (text (pair (codes "joe") (codes "r"))) ∷ value (codes "dataset.acl.k") (list (codes "joe" ∷ [])) ∷ value (codes "dataset.acl") (list (pair (codes "joe") (codes "r") ∷ [])) ∷ value (codes "dataset.acl") Default ∷ value (codes "dataset.acl.") (text (codes "x")) ∷ [])
+  pub kept_lists : invalid_flags records [] (value (codes "dataset.acl") (text (pair (codes "joe") (codes "r"))) ∷ value (codes "dataset.acl.k") (list (codes "joe" ∷ [])) ∷ value (codes "dataset.acl") (list (pair (codes "joe") (codes "r") ∷ [])) ∷ value (codes "dataset.acl") Default ∷ value (codes "dataset.acl.") (text (codes "x")) ∷ [])
       ≡ true ∷ true ∷ false ∷ false ∷ false ∷ []
-  pub no_lists : judged records (codes "a") (value (codes "dataset.acl") (text (codes "x")) ∷ value (codes "dataset.acl.k") (text (codes "x")) ∷ value (codes "dataset.inherit") (list []) ∷ [])
+  pub no_lists : invalid_flags records (codes "a") (value (codes "dataset.acl") (text (codes "x")) ∷ value (codes "dataset.acl.k") (text (codes "x")) ∷ value (codes "dataset.inherit") (list []) ∷ [])
       ≡ false ∷ false ∷ false ∷ []
-  pub base : judged records [] (value (codes "dataset.inherit") (text (codes "/a")) ∷ value (codes "dataset.inherit") (text (codes "/option/~/")) ∷ value (codes "dataset.inherit") (Put Nil) ∷ value (codes "dataset.inherit") Default ∷ value (codes "dataset.inherit") (text (codes "a/")) ∷ value (codes "dataset.inherit") (text []) ∷ value (codes "dataset.inherit") (list (codes "/a/" ∷ [])) ∷ [])
+  pub base : invalid_flags records [] (value (codes "dataset.inherit") (text (codes "/a")) ∷ value (codes "dataset.inherit") (text (codes "/option/~/")) ∷ value (codes "dataset.inherit") (Put Nil) ∷ value (codes "dataset.inherit") Default ∷ value (codes "dataset.inherit") (text (codes "a/")) ∷ value (codes "dataset.inherit") (text []) ∷ value (codes "dataset.inherit") (list (codes "/a/" ∷ [])) ∷ [])
       ≡ false ∷ false ∷ false ∷ false ∷ true ∷ true ∷ true ∷ []
   -- what ends is alone in its entry, and no path of the command lies beneath it
   pub beside : (item : StoreItem) → is_invalid records [] (entry (codes "a") (value (codes "entry") (Put Nil) ∷ item ∷ [])) (value (codes "entry") (Put Nil)) ≡ true
@@ -106,8 +106,8 @@ pub record ItemExamples (records : Stored) : Type 0 where
   pub alike : (e : StoreEntry) → e.path ≡ record { dataset = codes "/option/user/joe/ab/"; name = codes "c" } → resolved_at records (at (codes "a")) (codes "subdataset") ≡ None →
       is_invalid records (e ∷ []) (entry (codes "a") (value (codes "entry") Default ∷ [])) (value (codes "entry") Default) ≡ false
   -- an entry may end where it makes no dataset
-  pub makes_none : resolved_at records (at (codes "a")) (codes "subdataset") ≡ None → judged records (codes "a") (value (codes "entry") (Put Nil) ∷ value (codes "entry") Default ∷ []) ≡ false ∷ false ∷ []
-  pub makes_one : (found : Cell × List ℕ) → resolved_at records (at (codes "a")) (codes "subdataset") ≡ Some found → judged records (codes "a") (value (codes "entry") (Put Nil) ∷ value (codes "entry") Default ∷ []) ≡ true ∷ true ∷ []
+  pub makes_none : resolved_at records (at (codes "a")) (codes "subdataset") ≡ None → invalid_flags records (codes "a") (value (codes "entry") (Put Nil) ∷ value (codes "entry") Default ∷ []) ≡ false ∷ false ∷ []
+  pub makes_one : (found : Cell × List ℕ) → resolved_at records (at (codes "a")) (codes "subdataset") ≡ Some found → invalid_flags records (codes "a") (value (codes "entry") (Put Nil) ∷ value (codes "entry") Default ∷ []) ≡ true ∷ true ∷ []
   -- every item of every entry is judged, and the first that is invalid is told
   pub second_item : invalid records (record { entries = entry (codes "a") (value (codes "k") Default ∷ []) ∷ entry (codes "b") (value (codes "k") Default ∷ value (codes "modtime") Default ∷ []) ∷ []; drops_dataset_list = false }) ≡ Some (refusals.Invalid (at (codes "b")) (codes "modtime"))
 
@@ -121,18 +121,18 @@ own_home = codes "/option/~/"
 abbrev pub one : List ℕ → StoreItem → List StoreEntry
 one name item = record { path = at name; modifiers = record { no_create = true; unchanged_since = None }; items = item ∷ [] } ∷ []
 
-abbrev pub decided : Stored → Target → List (List ℕ)
-decided records target = deciding_list records target
+abbrev pub decisive_list : Stored → Target → List (List ℕ)
+decisive_list records target = deciding_list records target
 
 pub record MeaningExamples (records : Stored) : Type 0 where
   pub of_dataset : meaning records joe (write.SetAcl (object_name.Dataset own_home) (codes "ann") (codes "r"))
-      ≡ record { entries = one [] (value (codes "dataset.acl") (list (with_pair (codes "ann") (codes "r") (decided records (OfDataset home))))); drops_dataset_list = false }
+      ≡ record { entries = one [] (value (codes "dataset.acl") (list (with_pair (codes "ann") (codes "r") (decisive_list records (OfDataset home))))); drops_dataset_list = false }
   pub of_attribute : meaning records joe (write.SetAcl (object_name.Attribute own_home (codes "k")) (codes "ann") (codes "r"))
-      ≡ record { entries = one [] (value (codes "dataset.acl.k") (list (with_pair (codes "ann") (codes "r") (decided records (OfAttribute home (codes "k")))))); drops_dataset_list = false }
+      ≡ record { entries = one [] (value (codes "dataset.acl.k") (list (with_pair (codes "ann") (codes "r") (decisive_list records (OfAttribute home (codes "k")))))); drops_dataset_list = false }
   pub of_entry : meaning records joe (write.SetAcl (object_name.Entry own_home (codes "k") (codes "a")) (codes "ann") (codes "r"))
-      ≡ record { entries = one (codes "a") (acl (codes "k") (list (with_pair (codes "ann") (codes "r") (decided records (OfEntry home (codes "k") (codes "a")))))); drops_dataset_list = false }
+      ≡ record { entries = one (codes "a") (acl (codes "k") (list (with_pair (codes "ann") (codes "r") (decisive_list records (OfEntry home (codes "k") (codes "a")))))); drops_dataset_list = false }
   pub taken_off : meaning records joe (write.DeleteAcl (object_name.Attribute own_home (codes "k")) (Some (codes "ann")))
-      ≡ record { entries = one [] (value (codes "dataset.acl.k") (list (without (codes "ann") (decided records (OfAttribute home (codes "k")))))); drops_dataset_list = false }
+      ≡ record { entries = one [] (value (codes "dataset.acl.k") (list (without (codes "ann") (decisive_list records (OfAttribute home (codes "k")))))); drops_dataset_list = false }
   pub dropped : meaning records joe (write.DeleteAcl (object_name.Attribute own_home (codes "k")) None) ≡ record { entries = one [] (value (codes "dataset.acl.k") Default); drops_dataset_list = false }
   pub dropped_of_entry : meaning records joe (write.DeleteAcl (object_name.Entry own_home (codes "k") (codes "a")) None) ≡ record { entries = one (codes "a") (acl (codes "k") Default); drops_dataset_list = false }
   -- a STORE stores its entries as they are, at the paths that its user means
@@ -226,13 +226,13 @@ pub record LimitExamples : Type 0 where
 
 pub record WritingExamples : Type 0 where
   -- a new entry, and one that keeps the rest of what it had
-  pub fresh : (cells : Celled) (acls : Listed) (moment : ℤ) → renewed None cells acls moment ≡ record { present = true; blocks_inheritance = false; cells = cells; acls = acls; modtime = moment }
-  pub again : (cells : Celled) (acls : Listed) (before moment : ℤ) → renewed (Some (deleted_record before)) cells acls moment ≡ record { present = true; blocks_inheritance = true; cells = cells; acls = acls; modtime = moment }
+  pub fresh : (cells : Celled) (acls : Listed) (moment : ℤ) → record_after None cells acls moment ≡ record { present = true; blocks_inheritance = false; cells = cells; acls = acls; modtime = moment }
+  pub again : (cells : Celled) (acls : Listed) (before moment : ℤ) → record_after (Some (deleted_record before)) cells acls moment ≡ record { present = true; blocks_inheritance = true; cells = cells; acls = acls; modtime = moment }
   -- `entry` NIL and DEFAULT
   pub deletes : (old : Option Record) (moment : ℤ) → fate_of joe old moment (entry (codes "a") (value (codes "entry") (Put Nil) ∷ [])) ≡ fate.Put (record { present = false; blocks_inheritance = true; cells = table.empty; acls = table.empty; modtime = moment })
   pub removes : (old : Option Record) (moment : ℤ) → fate_of joe old moment (entry (codes "a") (value (codes "entry") Default ∷ [])) ≡ fate.Remove
   -- DEFAULT of what isn't there writes the record, and its own name is not kept
-  pub default : (moment : ℤ) → fate_of joe None moment (entry (codes "a") (value (codes "k") Default ∷ value (codes "entry") (text (codes "a")) ∷ [])) ≡ fate.Put (renewed None (table.remove table.empty (codes "k")) table.empty moment)
+  pub default : (moment : ℤ) → fate_of joe None moment (entry (codes "a") (value (codes "k") Default ∷ value (codes "entry") (text (codes "a")) ∷ [])) ≡ fate.Put (record_after None (table.remove table.empty (codes "k")) table.empty moment)
   -- an entry keeps what is not given to it, and so does the own entry of a missing dataset, which gets `subdataset`
   pub keeps : (old : Record) (moment : ℤ) → fate_of joe (Some old) moment (entry (codes "a") (value (codes "k") (text (codes "1")) ∷ acl (codes "l") (list []) ∷ []))
       ≡ fate.Put (record { present = true; blocks_inheritance = old.blocks_inheritance; cells = table.insert old.cells (codes "k") (Single (codes "1")); acls = table.insert old.acls (codes "l") []; modtime = moment })

@@ -10,7 +10,7 @@ use Rattle.acap_commands.specs.declared.store_item.StoreItem.{StoreItem}
 use Rattle.acap_commands.specs.declared.store_metadata.StoreMetadata.{StoreMetadata}
 use Rattle.acap_commands.specs.declared.store_metadata.StoreMetadata.TheVariants as metadata
 use Rattle.acap_inherit.specs.Chains.{chain_of}
-use Rattle.acap_inherit.specs.Resolving.{Resolution, resolved, entry_exists}
+use Rattle.acap_inherit.specs.Resolving.{Resolution, lookup, entry_exists}
 
 -- the management entry of a dataset has no name
 abbrev pub is_management : Path → Bool
@@ -38,7 +38,7 @@ is_ending item = is_of (codes "entry") item && is_nothing item.given
 
 -- what an attribute of the entry at a path resolves to along the chain of its dataset, and whether that entry exists
 abbrev pub resolved_at : Stored → Path → List ℕ → Resolution
-resolved_at records p attribute = resolved records (chain_of records p.dataset false) p.name attribute
+resolved_at records p attribute = lookup records (chain_of records p.dataset false) p.name attribute
 
 abbrev pub exists_at : Stored → Path → Bool
 exists_at records p = entry_exists records (chain_of records p.dataset false) p.name

@@ -13,7 +13,7 @@ use Rattle.acap_commands.specs.declared.store_entry.StoreEntry.{StoreEntry}
 use Rattle.acap_rights.specs.declared.realm.Realm.{Realm}
 use Rattle.acap_store.specs.Limits.{is_too_much}
 use Rattle.acap_store.specs.Meaning.{meaning}
-use Rattle.acap_store.specs.Planning.{refusals_of, planned}
+use Rattle.acap_store.specs.Planning.{refusals_of, plan}
 use Rattle.acap_store.specs.Refusing.{same_path}
 use Rattle.acap_store.specs.Writing.{own_if_missing, missing_to, written_for, steps_for, entry_at, step_at, missing_for}
 use Rattle.acap_store.specs.declared.write.Write.{Write}
@@ -34,9 +34,9 @@ refusals s realm user write now = refusals_of s realm user (meaning s.records us
 -- a command is refused exactly by the first refusal of their order that holds, and accepted exactly where none does
 pub record OrderLaw : Type 0 where
   pub refused : (s : Store) (realm : Realm) (user : List ℕ) (write : Write) (now : ℤ) (refusal : Refusal) →
-      (planned s realm user write now ≡ Err refusal) ↔ IsFirst refusal (refusals s realm user write now)
+      (plan s realm user write now ≡ Err refusal) ↔ IsFirst refusal (refusals s realm user write now)
   pub accepted : (s : Store) (realm : Realm) (user : List ℕ) (write : Write) (now : ℤ) (change : Change) →
-      planned s realm user write now ≡ Ok change → list_all is_none (refusals s realm user write now) ≡ true
+      plan s realm user write now ≡ Ok change → list_all is_none (refusals s realm user write now) ≡ true
 
 -- ---- what is written
 
@@ -47,7 +47,7 @@ entries_of s user write = (meaning s.records user write).entries
 -- path by path: what an accepted command writes at a path is what its entry with that path gets, else what the own entry of a
 -- missing dataset gets, and every other path has its old record
 abbrev pub PathLaw : Type 0
-PathLaw = (s : Store) (realm : Realm) (user : List ℕ) (write : Write) (now : ℤ) (change : Change) → planned s realm user write now ≡ Ok change → (p : Path) →
+PathLaw = (s : Store) (realm : Realm) (user : List ℕ) (write : Write) (now : ℤ) (change : Change) → plan s realm user write now ≡ Ok change → (p : Path) →
     table.get (store_after change s).records p
     ≡ after_fate
     (option_or (table.find path_cmp p (map (entry_at s.records user (steps_for s.records (entries_of s user write) change.moment) change.moment) (entries_of s user write)))
@@ -56,13 +56,13 @@ PathLaw = (s : Store) (realm : Realm) (user : List ℕ) (write : Write) (now : �
 
 -- a path that no entry of the command has, and that is no missing dataset's own entry, keeps its record
 abbrev pub KeptLaw : Type 0
-KeptLaw = (s : Store) (realm : Realm) (user : List ℕ) (write : Write) (now : ℤ) (change : Change) → planned s realm user write now ≡ Ok change → (p : Path) →
+KeptLaw = (s : Store) (realm : Realm) (user : List ℕ) (write : Write) (now : ℤ) (change : Change) → plan s realm user write now ≡ Ok change → (p : Path) →
     list_any (λ e. same_path p e.path) (entries_of s user write) ≡ false → list_any (same_path p) (missing_for s.records (entries_of s user write)) ≡ false →
     table.get (store_after change s).records p ≡ table.get s.records p
 
 -- an accepted command is later than the one before it, whatever the clock
 abbrev pub LaterLaw : Type 0
-LaterLaw = (s : Store) (realm : Realm) (user : List ℕ) (write : Write) (now : ℤ) (change : Change) → planned s realm user write now ≡ Ok change → int_lt s.last change.moment ≡ true
+LaterLaw = (s : Store) (realm : Realm) (user : List ℕ) (write : Write) (now : ℤ) (change : Change) → plan s realm user write now ≡ Ok change → int_lt s.last change.moment ≡ true
 
 -- ---- in other words
 

@@ -78,24 +78,24 @@ is_dataset_list (OfDataset dataset) = true
 is_dataset_list (OfAttribute dataset attribute) = false
 is_dataset_list (OfEntry dataset attribute name) = false
 
-abbrev pub edited : Target → List (List ℕ) → Meant
-edited target acl = record { entries = list_entry target (Put (Multi acl)) ∷ []; drops_dataset_list = false }
+abbrev pub list_store : Target → List (List ℕ) → Meant
+list_store target acl = record { entries = list_entry target (Put (Multi acl)) ∷ []; drops_dataset_list = false }
 
 -- the list that decides at a target, with letters for an identifier, or without it
 abbrev pub with_pair_in : Stored → Target → List ℕ → List ℕ → Meant
-with_pair_in records target identifier letters = edited target (with_pair identifier letters (deciding_list records target))
+with_pair_in records target identifier letters = list_store target (with_pair identifier letters (deciding_list records target))
 
 abbrev pub set_in : Stored → ObjectName → List ℕ → List ℕ → Meant
 set_in records object identifier letters = with_pair_in records (target_in object) identifier letters
 
 abbrev pub without_in : Stored → Target → List ℕ → Meant
-without_in records target identifier = edited target (without identifier (deciding_list records target))
+without_in records target identifier = list_store target (without identifier (deciding_list records target))
 
 abbrev pub taken_off_in : Stored → ObjectName → List ℕ → Meant
 taken_off_in records object identifier = without_in records (target_in object) identifier
 
-abbrev pub dropped : Target → Meant
-dropped target = record { entries = list_entry target Default ∷ []; drops_dataset_list = is_dataset_list target }
+abbrev pub list_removal : Target → Meant
+list_removal target = record { entries = list_entry target Default ∷ []; drops_dataset_list = is_dataset_list target }
 
 -- ---- each command. An edit starts from the list that decides at the object: that is the list stored there, if one is
 
@@ -103,4 +103,4 @@ unfoldable pub meaning : Stored → List ℕ → Write → Meant
 meaning records user (write.Store entries) = record { entries = entries_for user entries; drops_dataset_list = false }
 meaning records user (write.SetAcl object identifier letters) = with_pair_in records (target_for user object) identifier letters
 meaning records user (write.DeleteAcl object (Some identifier)) = without_in records (target_for user object) identifier
-meaning records user (write.DeleteAcl object None) = dropped (target_for user object)
+meaning records user (write.DeleteAcl object None) = list_removal (target_for user object)

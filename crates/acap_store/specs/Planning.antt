@@ -72,5 +72,5 @@ unfoldable pub planned_for : Store → Realm → List ℕ → Meant → ℤ → 
 planned_for s realm user meant now =
     unless_refused (first_of (refusals_of s realm user meant now)) (change_of s user meant.entries (written_at s now))
 
-abbrev pub planned : Store → Realm → List ℕ → Write → ℤ → Result Change Refusal
-planned s realm user write now = planned_for s realm user (meaning s.records user write) now
+abbrev pub plan : Store → Realm → List ℕ → Write → ℤ → Result Change Refusal
+plan s realm user write now = planned_for s realm user (meaning s.records user write) now

@@ -5,9 +5,9 @@ use Rattle.acap_entries.specs.Store.{path_cmp}
 use Rattle.acap_entries.specs.declared.path.Path.{Path}
 use Rattle.acap_commands.specs.declared.store_entry.StoreEntry.{StoreEntry}
 
-abbrev pub keyed : StoreEntry → Path × StoreEntry
-keyed e = (e.path, e)
+abbrev pub with_path : StoreEntry → Path × StoreEntry
+with_path e = (e.path, e)
 
 -- each path is greater than all before it
 abbrev pub rising : List StoreEntry → Bool
-rising entries = is_sorted path_cmp (map keyed entries)
+rising entries = is_sorted path_cmp (map with_path entries)

@@ -5,7 +5,7 @@ use Rattle.std.specs.Option.{option_map_or}
 use Rattle.std.specs.FinMap as table
 use Rattle.acap_entries.specs.Datasets.{dataset_exists}
 use Rattle.acap_entries.specs.Homes.{for_user}
-use Rattle.acap_entries.specs.Names.{own_entry, closed, is_dataset_argument}
+use Rattle.acap_entries.specs.Names.{own_entry, with_slash, is_dataset_argument}
 use Rattle.acap_entries.specs.Orders.{octets_cmp, octets_eq}
 use Rattle.acap_entries.specs.Store.{Store, Stored, Written, after_fate}
 use Rattle.acap_entries.specs.declared.cell.Cell.{Cell}
@@ -35,8 +35,8 @@ acls_of old = option_map_or (λ entry. entry.acls) old table.empty
 
 -- what a path has once it is written: it is present with these cells and lists and the moment of the change. Where inheritance
 -- ended it still ends
-abbrev pub renewed : Option Record → Celled → Listed → ℤ → Record
-renewed old cells acls moment = record {
+abbrev pub record_after : Option Record → Celled → Listed → ℤ → Record
+record_after old cells acls moment = record {
   present = true;
   blocks_inheritance = option_map_or (λ entry. entry.blocks_inheritance) old false;
   cells = cells;
@@ -74,7 +74,7 @@ missing_for records entries = flat_map (λ e. missing_to records e.path.dataset)
 -- the own entry of a missing dataset gets `subdataset` (".")
 abbrev pub step_at : Stored → ℤ → Path → Path × Fate
 step_at records moment p =
-    (p, fate.Put (renewed (table.get records p) (table.insert (cells_of (table.get records p)) (codes "subdataset") (Multi (codes "." ∷ []))) (acls_of (table.get records p)) moment))
+    (p, fate.Put (record_after (table.get records p) (table.insert (cells_of (table.get records p)) (codes "subdataset") (Multi (codes "." ∷ []))) (acls_of (table.get records p)) moment))
 
 -- those at some paths, beside other writes
 abbrev pub with_steps : Stored → ℤ → List Path → Written → Written
@@ -98,7 +98,7 @@ steps_for records entries moment = with_steps records moment (missing_for record
 
 -- the dataset that a management entry inherits from is kept with `~` replaced and with its closing `/`
 abbrev pub base_for : List ℕ → List ℕ → List ℕ
-base_for user text = if is_dataset_argument text then for_user user (closed text) else text
+base_for user text = if is_dataset_argument text then for_user user (with_slash text) else text
 
 abbrev pub as_base : List ℕ → Cell → Cell
 as_base user Nil = Nil
@@ -154,12 +154,12 @@ abbrev pub ends : StoreEntry → Bool
 ends e = list_any is_ending e.items
 
 -- what a path has when the missing datasets have been made
-abbrev pub stepped : Stored → Written → Path → Option Record
-stepped records steps p = after_fate (table.get steps p) (table.get records p)
+abbrev pub record_with_steps : Stored → Written → Path → Option Record
+record_with_steps records steps p = after_fate (table.get steps p) (table.get records p)
 
 -- any other entry gets its items
 abbrev pub given_record : List ℕ → Path → Option Record → List StoreItem → ℤ → Record
-given_record user p old items moment = renewed old (with_values user p (cells_of old) items) (with_lists (acls_of old) items) moment
+given_record user p old items moment = record_after old (with_values user p (cells_of old) items) (with_lists (acls_of old) items) moment
 
 abbrev pub fate_of : List ℕ → Option Record → ℤ → StoreEntry → Fate
 fate_of user old moment e =
@@ -167,7 +167,7 @@ fate_of user old moment e =
     else (if ends e then fate.Remove else fate.Put (given_record user e.path old e.items moment))
 
 abbrev pub entry_at : Stored → List ℕ → Written → ℤ → StoreEntry → Path × Fate
-entry_at records user steps moment e = (e.path, fate_of user (stepped records steps e.path) moment e)
+entry_at records user steps moment e = (e.path, fate_of user (record_with_steps records steps e.path) moment e)
 
 abbrev pub entries_at : Stored → List ℕ → Written → ℤ → List StoreEntry → List (Path × Fate)
 entries_at records user steps moment entries = map (entry_at records user steps moment) entries

@@ -1,7 +1,6 @@
 //! Which entries a STORE deletes, and what DELETEDSINCE tells of them (RFC 2244 section 6.6.2).
-ghost use Rattle.std.specs.Prelude.{◌≡◌, filter, map, not, IfOk, Ok, Err};
+ghost use Rattle.std.specs.Prelude.{◌≡◌, map, not, IfOk, Ok, Err};
 ghost use Rattle.std.specs.FinMap as table;
-ghost use Rattle.acap_entries.specs.Store.{after_writes};
 ghost use Rattle.acap_commands.specs.Answers.{IsAnswer};
 ghost use Rattle.acap_entries.specs.Made.{IsMade};
 ghost use Rattle.acap_store.specs.Deleting as rule;
@@ -10,11 +9,14 @@ use crate::forms::exists_at;
 use crate::writing::ends;
 use acap_commands::{Refusal, StoreEntry};
 use acap_entries::{
-    After, Attribute, Cell, Cells, Copying, Dataset, Deletion, Memory, Moment, Paths, Tree,
-    UserName, Value, Values, Writes,
+    After, Attribute, Copying, Dataset, Deletion, Memory, Moment, Paths, Table, Tree, UserName,
+    Value, Values, Writes,
 };
 use acap_rights::{Object, Realm, rights_of};
 use std::alloc::Global;
+
+// Names, each once.
+type Names = Table<()>;
 
 // Whether an entry is to end and exists.
 fn is_to_end(tree: &Tree, entry: &StoreEntry) -> bool
@@ -39,7 +41,7 @@ pub(crate) fn ending(alloc: Global, tree: &Tree, entries: &[StoreEntry]) -> Resu
 
 /// Those of the paths whose entries don't exist once it is written, in their order.
 #[tactic(auto, using(crate::proofs::WriteLemmas::filter_append))]
-pub(crate) fn gone(
+pub(crate) fn keep_gone(
     alloc: Global,
     tree: &Tree,
     writes: &Writes,
@@ -69,23 +71,28 @@ fn is_told(tree: &Tree, dataset: &Dataset, since: Moment, deletion: &Deletion) -
 }
 
 // The names of the deletions that are told, as a set.
-fn told(alloc: Global, tree: &Tree, dataset: &Dataset, since: Moment) -> Result<Cells, Memory>
+fn gather_names(
+    alloc: Global,
+    tree: &Tree,
+    dataset: &Dataset,
+    since: Moment,
+) -> Result<Names, Memory>
     ensures { IsMade (rule.set_of (rule.names_told tree.now.store dataset.now since)) result }
 {
-    let mut names = Cells::new(alloc);
+    let mut names = Names::new(alloc);
     let kept = tree.deletions();
     for at in 0..kept.len() {
         let deletion = &kept[at];
         if is_told(tree, dataset, since, deletion) {
             let name = Attribute::from_slice(alloc, deletion.path.name.as_slice())?;
-            names.set(name, Cell::Nil)?;
+            names.set(name, ())?;
         }
     }
     Ok(names)
 }
 
 // The names of a set.
-fn listed(alloc: Global, names: &Cells) -> Result<Values, Memory>
+fn list_names(alloc: Global, names: &Names) -> Result<Values, Memory>
     ensures { IfOk result (λ made. made ≡ map (λ e. e.0) (table.entries names.now)) }
 {
     let mut made = Values::new(alloc);
@@ -105,8 +112,8 @@ fn names_deleted(
 ) -> Result<Values, Memory>
     ensures { IfOk result (λ made. made ≡ rule.names_deleted tree.now.store dataset.now since) }
 {
-    let names = told(alloc, tree, dataset, since)?;
-    listed(alloc, &names)
+    let names = gather_names(alloc, tree, dataset, since)?;
+    list_names(alloc, &names)
 }
 
 // Whether a deletion later than the time may be forgotten.
@@ -132,7 +139,7 @@ fn may_read(tree: &Tree, realm: &Realm, user: &UserName, dataset: &Dataset) -> b
 
 // The answer for the dataset that is meant.
 #[tactic(auto, unfolding(crate::specs::Deleting::deleted_in))]
-fn deleted_in(
+fn tell_deleted(
     alloc: Global,
     tree: &Tree,
     realm: &Realm,
@@ -169,5 +176,5 @@ pub fn deleted_since(
     ensures { IsAnswer result (rule.deleted_since tree.now.store realm.now user.now dataset.now since) }
 {
     let dataset = dataset.for_user(user)?;
-    deleted_in(alloc, tree, realm, user, dataset, since)
+    tell_deleted(alloc, tree, realm, user, dataset, since)
 }

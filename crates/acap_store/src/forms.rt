@@ -1,5 +1,5 @@
 //! What the items of a STORE give, and what is known of the entry at a path.
-ghost use Rattle.std.specs.Prelude.{◌≡◌, is_none, is_some};
+ghost use Rattle.std.specs.Prelude.{◌≡◌, is_none};
 ghost use Rattle.acap_store.specs.Forms as rule;
 
 use acap_commands::{Given, StoreItem, StoreMetadata};

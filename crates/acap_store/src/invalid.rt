@@ -1,5 +1,5 @@
 //! What may not be stored.
-ghost use Rattle.std.specs.Prelude.{◌≡◌, find, is_some};
+ghost use Rattle.std.specs.Prelude.{◌≡◌, find};
 ghost use Rattle.std.specs.Option.{option_copied};
 ghost use Rattle.acap_commands.specs.Answers.{IsCheck};
 ghost use Rattle.acap_store.specs.Invalid as rule;

@@ -1,7 +1,6 @@
 //! What is too much for the store.
 ghost use Rattle.std.specs.Prelude.{◌≡◌, ◌+◌, ◌||◌, length, filter};
 ghost use Rattle.std.specs.List.{list_any};
-ghost use Rattle.std.specs.FinMap as table;
 ghost use Rattle.acap_store.specs.Limits as limits;
 ghost use Rattle.acap_store.specs.Counting as counting;
 
@@ -75,7 +74,7 @@ fn is_crowded(fate: &Fate) -> bool
 }
 
 // Whether too many cells are written somewhere.
-fn writes_crowded(writes: &Writes) -> bool
+fn are_crowded(writes: &Writes) -> bool
     ensures { result ≡ limits.writes_crowded writes.now }
 {
     writes.entries().iter().any(|(_, fate)| is_crowded(fate))
@@ -138,5 +137,5 @@ fn is_full_after(tree: &Tree, writes: &Writes) -> bool
 pub(crate) fn is_too_much(tree: &Tree, gives_large: bool, writes: &Writes) -> bool
     ensures { result ≡ limits.is_too_much tree.now.store.records gives_large writes.now }
 {
-    gives_large || writes_crowded(writes) || is_full_after(tree, writes)
+    gives_large || are_crowded(writes) || is_full_after(tree, writes)
 }

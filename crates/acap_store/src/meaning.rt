@@ -92,8 +92,8 @@ fn list_store(alloc: Global, object: ObjectName, given: Given) -> Result<Entries
 }
 
 // The STORE of a list that was edited.
-fn edited(alloc: Global, object: ObjectName, acl: Acl) -> Result<Meant, Memory>
-    ensures { IsMade (rule.edited (rule.target_in object) acl) result }
+fn put_list(alloc: Global, object: ObjectName, acl: Acl) -> Result<Meant, Memory>
+    ensures { IsMade (rule.list_store (rule.target_in object) acl) result }
 {
     let given = Given::Put(Cell::Multi(acl.into_values()));
     let entries = list_store(alloc, object, given)?;
@@ -115,7 +115,7 @@ fn set(
 {
     let acl = decided_list(alloc, tree, &lent_object(&object))?;
     let acl = acl.with_pair(identifier, letters)?;
-    edited(alloc, object, acl)
+    put_list(alloc, object, acl)
 }
 
 // The STORE that DELETEACL of an identifier is.
@@ -129,12 +129,12 @@ fn take_off(
 {
     let acl = decided_list(alloc, tree, &lent_object(&object))?;
     let acl = acl.without(identifier);
-    edited(alloc, object, acl)
+    put_list(alloc, object, acl)
 }
 
 // The STORE that DELETEACL of a whole list is.
-fn dropped(alloc: Global, object: ObjectName) -> Result<Meant, Memory>
-    ensures { IsMade (rule.dropped (rule.target_in object)) result }
+fn drop_list(alloc: Global, object: ObjectName) -> Result<Meant, Memory>
+    ensures { IsMade (rule.list_removal (rule.target_in object)) result }
 {
     let drops_dataset_list = matches!(&object, ObjectName::Dataset { .. });
     let entries = list_store(alloc, object, Given::Default)?;
@@ -173,7 +173,7 @@ pub(crate) fn meaning(
             let object = object_for(user, object.into_value())?;
             match listed {
                 Some(identifier) => take_off(alloc, tree, object, identifier.as_slice()),
-                None => dropped(alloc, object),
+                None => drop_list(alloc, object),
             }
         }
     }

@@ -1,12 +1,11 @@
 //! The own entries of datasets that are missing.
-ghost use Rattle.std.specs.Option.{option_map_or};
 ghost use Rattle.acap_entries.specs.Names.{is_closed_dataset, own_entry};
-ghost use Rattle.std.specs.Prelude.{◌≡◌, [], ◌∷◌, map, codes, IfOk, IsTrue, OnOk};
+ghost use Rattle.std.specs.Prelude.{◌≡◌, [], ◌∷◌, codes, IfOk, IsTrue, OnOk};
 ghost use Rattle.acap_entries.specs.declared.cell.Cell.TheVariants as cell;
 ghost use Rattle.acap_store.specs.Writing as writing;
 ghost use Rattle.acap_store.specs.Writing.{with_own_step, with_steps_to};
 
-use crate::records::{acls_of, cells_of, renewed};
+use crate::records::{acls_of, cells_of, renew};
 use acap_commands::StoreEntry;
 use acap_entries::{
     Attribute, Boxed, Cell, Fate, Memory, Moment, Path, Tree, Value, Values, Writes, own_entry_of,
@@ -31,7 +30,7 @@ fn step_at(alloc: Global, tree: &Tree, path: Path, moment: Moment) -> Result<(Pa
     let attribute = Attribute::from_slice(alloc, b"subdataset")?;
     cells.set(attribute, dot_list(alloc)?)?;
     let acls = acls_of(alloc, old)?;
-    let record = renewed(old, cells, acls, moment);
+    let record = renew(old, cells, acls, moment);
     Ok((path, Fate::Put(Boxed::new(alloc, record)?)))
 }
 

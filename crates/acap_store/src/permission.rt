@@ -37,7 +37,11 @@ fn has_no_lists(tree: &Tree, path: &Path) -> bool
 }
 
 // The rights on the attributes of the entry at a path, where it has no list for one of them: those in its dataset.
-fn shared_at<'a>(by: &Asker<'_>, path: &Path, shared: &'a SharedRights) -> Option<&'a SharedRights>
+fn select_shared<'a>(
+    by: &Asker<'_>,
+    path: &Path,
+    shared: &'a SharedRights,
+) -> Option<&'a SharedRights>
     requires { asking.AreSharedIn by.now path.now.dataset shared.now }
     ensures { asking.AreSharedAt by.now path.now (option_copied result) }
 {
@@ -143,7 +147,11 @@ fn denied_item<'a>(subject: &Subject<'_>, items: &'a [StoreItem]) -> Option<&'a 
 
 // The first object of an entry on which rights are missing.
 #[tactic(auto, unfolding(crate::specs::Permission::denied_in))]
-fn denied_in<'a>(by: &Asker<'_>, entry: &'a StoreEntry, shared: &SharedRights) -> Option<Object<'a>>
+fn find_denied<'a>(
+    by: &Asker<'_>,
+    entry: &'a StoreEntry,
+    shared: &SharedRights,
+) -> Option<Object<'a>>
     requires { asking.AreSharedIn by.now entry.now.path.dataset shared.now }
     ensures target { option_map decided.target_of result ≡ asking.target_denied by.now entry.now }
     ensures inside { IfSome result (λ object. asking.IsAt entry.now.path (decided.target_of object)) }
@@ -151,7 +159,7 @@ fn denied_in<'a>(by: &Asker<'_>, entry: &'a StoreEntry, shared: &SharedRights) -
     let subject = Subject {
         by,
         path: &entry.path,
-        shared: shared_at(by, &entry.path, shared),
+        shared: select_shared(by, &entry.path, shared),
     };
     if !may_touch(&subject) {
         return Some(entry_object(&entry.path));
@@ -163,7 +171,7 @@ fn denied_in<'a>(by: &Asker<'_>, entry: &'a StoreEntry, shared: &SharedRights) -
 }
 
 // The object as a refusal names it.
-fn named(alloc: Global, path: &Path, object: &Object<'_>) -> Result<ObjectName, Memory>
+fn name_object(alloc: Global, path: &Path, object: &Object<'_>) -> Result<ObjectName, Memory>
     requires { asking.IsAt path.now (decided.target_of object.now) }
     ensures { IfOk result (λ made. made ≡ rule.object_name_of (decided.target_of object.now)) }
 {
@@ -196,9 +204,9 @@ fn check_entry(
     requires { asking.AreSharedIn by.now entry.now.path.dataset shared.now }
     ensures { IsCheck (asking.entry_refusal by.now entry.now) result }
 {
-    match denied_in(by, entry, shared) {
+    match find_denied(by, entry, shared) {
         Some(object) => {
-            let object = named(alloc, &entry.path, &object)?;
+            let object = name_object(alloc, &entry.path, &object)?;
             Err(Refusal::Permission(Boxed::new(alloc, object)?))
         }
         None => Ok(()),
@@ -213,7 +221,7 @@ struct Known<'a> {
 }
 
 // The rights in a dataset: those known, where they are known of this dataset.
-fn known_in<'a>(
+fn learn_rights<'a>(
     alloc: Global,
     by: &Asker<'_>,
     known: Option<Known<'a>>,
@@ -242,7 +250,7 @@ pub(crate) fn check_rights(
 {
     let mut known: Option<Known<'_>> = None;
     for entry in entries {
-        let here = known_in(alloc, by, known, entry.path.dataset.as_slice())?;
+        let here = learn_rights(alloc, by, known, entry.path.dataset.as_slice())?;
         check_entry(alloc, by, entry, &here.shared)?;
         known = Some(here);
     }

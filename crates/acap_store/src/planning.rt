@@ -2,23 +2,22 @@
 ghost use Rattle.std.specs.Prelude.{◌≡◌, IfOk};
 ghost use Rattle.acap_commands.specs.Answers.{IsAnswer, IsCheck};
 ghost use Rattle.acap_store.specs.Planning as rule;
-ghost use Rattle.acap_store.specs.Refusing.{first_of};
 
 use crate::asker::Asker;
-use crate::deleting::{ending, gone};
+use crate::deleting::{ending, keep_gone};
 use crate::limits::{gives_large, is_too_much};
 use crate::meaning::meaning;
 use crate::meant::Meant;
 use crate::refusing::check;
 use crate::write::Write;
-use crate::writing::written_for;
+use crate::writing::write_for;
 use acap_commands::{Entries, Refusal};
 use acap_entries::{Change, Memory, Moment, Tree, UserName};
 use acap_rights::Realm;
 use std::alloc::Global;
 
 // The moment of what is written: the change's, or where there is none, the last one.
-fn written_at(tree: &Tree, now: Moment) -> Moment
+fn choose_moment(tree: &Tree, now: Moment) -> Moment
     ensures { result ≡ rule.written_at tree.now.store now }
 {
     match tree.last().after(now) {
@@ -39,8 +38,8 @@ fn change_of(
     ensures { IfOk result (λ change. change ≡ rule.change_of tree.now.store user.now entries moment) }
 {
     let ending = ending(alloc, tree, entries.as_slice())?;
-    let writes = written_for(alloc, tree, user, entries, moment)?;
-    let deleted = gone(alloc, tree, &writes, ending)?;
+    let writes = write_for(alloc, tree, user, entries, moment)?;
+    let deleted = keep_gone(alloc, tree, &writes, ending)?;
     Ok(Change {
         writes,
         moment,
@@ -63,12 +62,12 @@ fn check_room(tree: &Tree, gives_large: bool, change: &Change, now: Moment) -> R
 
 // The change of what a command stores, or its first refusal.
 #[tactic(auto, unfolding(crate::specs::Planning::planned_for, crate::specs::Planning::refusals_of, crate::specs::Planning::change_of))]
-fn planned_for(alloc: Global, by: &Asker<'_>, meant: Meant, now: Moment) -> Result<Change, Refusal>
+fn plan_for(alloc: Global, by: &Asker<'_>, meant: Meant, now: Moment) -> Result<Change, Refusal>
     ensures { IsAnswer result (rule.planned_for by.now.store by.now.realm by.now.user meant now) }
 {
     check(alloc, by, &meant)?;
     let gives_large = gives_large(meant.entries.as_slice());
-    let moment = written_at(by.tree, now);
+    let moment = choose_moment(by.tree, now);
     let change = change_of(alloc, by.tree, by.user, meant.entries, moment)?;
     check_room(by.tree, gives_large, &change, now)?;
     Ok(change)
@@ -85,9 +84,9 @@ pub fn plan(
     write: Write,
     now: Moment,
 ) -> Result<Change, Refusal>
-    ensures { IsAnswer result (rule.planned tree.now.store realm.now user.now write now) }
+    ensures { IsAnswer result (rule.plan tree.now.store realm.now user.now write now) }
 {
     let by = Asker { tree, realm, user };
     let meant = meaning(alloc, tree, user, write)?;
-    planned_for(alloc, &by, meant, now)
+    plan_for(alloc, &by, meant, now)
 }

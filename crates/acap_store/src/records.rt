@@ -2,7 +2,6 @@
 ghost use Rattle.std.specs.Prelude.{◌≡◌, IfOk, OnOk};
 ghost use Rattle.std.specs.Option.{option_copied};
 ghost use Rattle.acap_entries.specs.Homes.{for_user};
-ghost use Rattle.acap_entries.specs.Names.{closed};
 ghost use Rattle.acap_store.specs.Writing as writing;
 
 use crate::forms::{is_management, is_value};
@@ -34,8 +33,8 @@ pub(crate) fn acls_of(alloc: Global, old: Option<&Record>) -> Result<Acls, Memor
 }
 
 /// What a path has once it is written with those cells and lists. Takes no memory.
-pub(crate) fn renewed(old: Option<&Record>, cells: Cells, acls: Acls, moment: Moment) -> Record
-    ensures { result ≡ writing.renewed (option_copied old.entry) cells acls moment }
+pub(crate) fn renew(old: Option<&Record>, cells: Cells, acls: Acls, moment: Moment) -> Record
+    ensures { result ≡ writing.record_after (option_copied old.entry) cells acls moment }
 {
     let blocks_inheritance = match old {
         Some(entry) => entry.blocks_inheritance,
@@ -75,7 +74,7 @@ fn base_for(alloc: Global, user: &UserName, text: Value) -> Result<Value, Memory
 }
 
 // A value as it is kept.
-fn kept_as(
+fn keep_as(
     alloc: Global,
     user: &UserName,
     path: &Path,
@@ -110,7 +109,7 @@ pub(crate) fn give_value(
     }
     match given {
         Given::Put(value) => {
-            let value = kept_as(alloc, user, path, &attribute, value)?;
+            let value = keep_as(alloc, user, path, &attribute, value)?;
             cells.set(attribute, value)
         }
         Given::Default => {

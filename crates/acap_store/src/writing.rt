@@ -1,5 +1,5 @@
 //! What a STORE writes.
-ghost use Rattle.std.specs.Prelude.{◌≡◌, map, IfOk, OnOk};
+ghost use Rattle.std.specs.Prelude.{◌≡◌, IfOk, OnOk};
 ghost use Rattle.std.specs.List.{list_any};
 ghost use Rattle.std.specs.Option.{option_copied};
 ghost use Rattle.acap_entries.specs.Made.{IsMade};
@@ -9,7 +9,7 @@ ghost use Rattle.acap_store.specs.Writing.{fates_in};
 
 use crate::forms::{is_ending, is_of};
 use crate::missing::steps_for;
-use crate::records::{acls_of, cells_of, deleted_record, give_item, renewed};
+use crate::records::{acls_of, cells_of, deleted_record, give_item, renew};
 use acap_commands::{Entries, Given, StoreEntry, StoreItem, StoreItems};
 use acap_entries::{
     Acls, Boxed, Cell, Cells, Fate, Memory, Moment, Path, Record, Tree, UserName, Writes,
@@ -50,8 +50,8 @@ pub(crate) fn ends(entry: &StoreEntry) -> bool
 }
 
 // What a path has when the missing datasets have been made.
-fn stepped<'a>(tree: &'a Tree, steps: &'a Writes, path: &Path) -> Option<&'a Record>
-    ensures { option_copied result ≡ writing.stepped tree.now.store.records steps.now path.now }
+fn record_there<'a>(tree: &'a Tree, steps: &'a Writes, path: &Path) -> Option<&'a Record>
+    ensures { option_copied result ≡ writing.record_with_steps tree.now.store.records steps.now path.now }
 {
     match steps.get(path) {
         Some(Fate::Put(record)) => Some(record.get()),
@@ -93,7 +93,7 @@ fn given_record(
     let mut cells = cells_of(alloc, old)?;
     let mut acls = acls_of(alloc, old)?;
     give_items(alloc, user, path, &mut cells, &mut acls, items)?;
-    Ok(renewed(old, cells, acls, moment))
+    Ok(renew(old, cells, acls, moment))
 }
 
 // What one entry writes at its path, by what the path had.
@@ -133,7 +133,7 @@ fn entries_at(
 {
     let mut made = Vec::with_capacity(alloc, entries.len())?;
     for entry in entries.into_vec() {
-        let old = stepped(tree, steps, &entry.path);
+        let old = record_there(tree, steps, &entry.path);
         made.push(fate_of(alloc, user, old, moment, entry)?)?;
     }
     Ok(made)
@@ -172,7 +172,7 @@ fn over(writes: Writes, added: Vec<(Path, Fate)>) -> Result<Writes, Memory>
 
 /// All that a STORE of entries writes at a moment.
 #[tactic(auto, unfolding(crate::specs::Writing::written_for))]
-pub(crate) fn written_for(
+pub(crate) fn write_for(
     alloc: Global,
     tree: &Tree,
     user: &UserName,

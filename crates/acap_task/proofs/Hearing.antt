@@ -1,7 +1,7 @@
 -- An event that is asked awaits its answer.
 use Rattle.std.proofs.Common.{ℕ, Vec, Result, Ok, Err, IfOk, sym, subst}
 use Rattle.std.specs.declared.alloc.Global.{Global}
-use Rattle.acap_entries.specs.declared.memory.Memory.{Memory}
+use Rattle.std.specs.declared.alloc.AllocError.{AllocError as Memory}
 use Rattle.acap_dialogue.specs.Saying.{Makes, heard_of}
 use Rattle.acap_dialogue.specs.Session.{Awaits}
 use Rattle.acap_dialogue.specs.Talking.{Talking}

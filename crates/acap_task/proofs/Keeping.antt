@@ -6,25 +6,25 @@ use Rattle.std.specs.Option.{option_and_then, option_map}
 use Rattle.futures.specs.declared.task.Poll.{Poll}
 use Rattle.futures.specs.declared.task.Poll.TheVariants.{Ready, Pending}
 use Rattle.acap_login.specs.Login.{User}
-use Rattle.acap_entries.specs.declared.memory.Memory.{Memory}
+use Rattle.std.specs.declared.alloc.AllocError.{AllocError as Memory}
 use Rattle.acap_commands.specs.declared.event.Event.{Event}
 use Rattle.acap_commands.specs.declared.event.Event.TheVariants as event
 use Rattle.acap_commands.specs.declared.fault.Fault.{Fault}
 use Rattle.acap_commands.specs.declared.reply.Reply.{Reply}
 use Rattle.acap_locked.specs.declared.answer.Answer.{Answer}
 use Rattle.acap_dialogue.specs.Running as running
-use Rattle.acap_dialogue.specs.Running.{At, Did, Piece, Turn, Drain, Leave, Outcome, calls, calls_in, calls_with, call_of, clocks, clocks_in, closes, did, drains, drains_in, event_in, fault_count, faults, faults_in, is_left, leaving, nonces, nonces_in, octets_in, over, pieces, run, seated_by, settled, spoken, start, taking, turned}
-use Rattle.acap_dialogue.specs.Saying.{added, heard_of}
-use Rattle.acap_dialogue.specs.Session.{answered, drain_at, drain_for, session_drain, session_next}
-use Rattle.acap_dialogue.specs.Talking.{Talking, begun}
+use Rattle.acap_dialogue.specs.Running.{At, Did, Piece, Turn, Drain, Leave, Outcome, calls, calls_in, calls_with, call_of, clocks, clocks_in, closes, did, drains, drains_in, event_in, fault_count, faults, faults_in, is_left, leaving, nonces, nonces_in, octets_in, over, pieces, after_steps, seated_by, after_asking, after_saying, start, taking, after_turn}
+use Rattle.acap_dialogue.specs.Saying.{with_said, heard_of}
+use Rattle.acap_dialogue.specs.Session.{after_answer, drain_at, drain_for, session_drain, session_next}
+use Rattle.acap_dialogue.specs.Talking.{Talking, beginning}
 use Rattle.acap_dialogue.specs.declared.next.Next.{Next}
 use Rattle.acap_dialogue.specs.declared.next.Next.TheVariants as next
 use Rattle.acap_dialogue.specs.declared.stage.Stage.{Stage}
 use Rattle.acap_dialogue.specs.declared.stage.Stage.TheVariants as stage
 use Rattle.acap_dialogue.proofs.Running.{run_snoc, pieces_snoc, clocks_snoc, nonces_snoc, drains_snoc, faults_snoc, calls_snoc, calls_then}
 use Rattle.acap_dialogue.proofs.Speaking.{same_talk}
-use Rattle.acap_task.specs.Kept.{Agrees, IsPicked, IsUntold, Kept, Roles, as_told, counted, fault_of, shape}
-use Rattle.acap_task.specs.Progress.{Progress, untouched}
+use Rattle.acap_task.specs.Kept.{Agrees, IsPicked, IsUntold, Kept, Roles, as_told, count_told, fault_of, shape}
+use Rattle.acap_task.specs.Progress.{Progress, no_progress}
 use Rattle.acap_task.specs.Told.{WireTold, DeskTold, SourceTold, BellTold, after_call, after_ring, gives_moment, gives_nonce, up}
 use Rattle.acap_task.specs.Turns.{Acts, Drains, DrainsAs, Ends, Idles, KeepsAll, Leaves, Rings, Settles, Turns, fault_in, is_entering, reply_in, seats}
 use Rattle.acap_task.specs.declared.ring.Ring.{Ring}
@@ -39,7 +39,7 @@ begin roles = start roles.host roles.user
 -- ---- the beginning
 
 pub kept_first : {w : WireTold} {d : DeskTold} {s : SourceTold} {b : BellTold} {k : Progress} (roles : Roles) (talk : Talking) (lost : Bool)
-    → (lost ≡ false → talk ≡ begun roles.host roles.user) → k ≡ untouched talk lost → IsUntold w d s b → Kept roles w d s b k
+    → (lost ≡ false → talk ≡ beginning roles.host roles.user) → k ≡ no_progress talk lost → IsUntold w d s b → Kept roles w d s b k
 kept_first {w} {d} {s} {b} {k} roles talk lost begins is untold =
     subst (λ x. Kept roles w d s b x) (sym is) (record {
       dids = [];
@@ -81,11 +81,11 @@ owed_missing old new text whole (inr h) = (text, ap (λ xs. xs ++ text) (sym h.0
 pub shapes_snoc : (ds : List Did) (d : Did) → map shape (ds ++ d ∷ []) ≡ map shape ds ++ shape d ∷ []
 shapes_snoc ds d = map-append shape ds (d ∷ [])
 
-pub told_snoc : (roles : Roles) (ds : List Did) (x : Did) (at : At) → run roles.users ds (begin roles) ≡ Some at
+pub told_snoc : (roles : Roles) (ds : List Did) (x : Did) (at : At) → after_steps roles.users ds (begin roles) ≡ Some at
     → map as_told (calls roles.users (ds ++ x ∷ []) (begin roles)) ≡ map as_told (calls roles.users ds (begin roles)) ++ map as_told (calls_in roles.users x at)
 told_snoc roles ds x at ran =
     ap (map as_told) (calls_snoc roles.users ds x (begin roles))
-    ∙ map-append as_told (calls roles.users ds (begin roles)) (calls_then roles.users x (run roles.users ds (begin roles)))
+    ∙ map-append as_told (calls roles.users ds (begin roles)) (calls_then roles.users x (after_steps roles.users ds (begin roles)))
     ∙ ap (λ o. map as_told (calls roles.users ds (begin roles)) ++ map as_told (calls_then roles.users x o)) ran
 
 pub kept_step : {roles : Roles} {w v : WireTold} {d e : DeskTold} {s t : SourceTold} {b c : BellTold} {k l : Progress}
@@ -95,7 +95,7 @@ pub kept_step : {roles : Roles} {w v : WireTold} {d e : DeskTold} {s t : SourceT
     → (l.lost ≡ false → unread ≡ []) → Agrees v.taken ((pieces h.dids ++ octets_in x) ++ unread) → v.put ≡ w.put
     → Goes d e (calls_in roles.users x h.at) (faults_in x)
     → Agrees t.moments moments → Agrees t.nonces numbers → IsPicked (clocks h.dids ++ clocks_in x) moments → IsPicked (nonces h.dids ++ nonces_in x) numbers
-    → Agrees c.rings (counted (drains h.dids + drains_in x))
+    → Agrees c.rings (count_told (drains h.dids + drains_in x))
     → Kept roles v e t c l
 kept_step {roles} {w} {v} {d} {e} {s} {t} {b} {c} {k} {l} h x at text unread moments numbers does talk seated out whole owes steps all taken put goes gave numbered clocked nonced rings =
     let left = owed_missing k l text whole owes in
@@ -120,12 +120,12 @@ kept_step {roles} {w} {v} {d} {e} {s} {t} {b} {c} {k} {l} h x at text unread mom
       taken_is = agrees_as v.taken _ _ (ap (λ ys. ys ++ unread) (sym (pieces_snoc h.dids x))) taken;
       put_is = subst (λ o. Agrees o h.written) (sym put) h.put_is;
       calls_are = agrees_as e.calls _ _ (sym (told_snoc roles h.dids x h.at h.ran)) (goes.told _ h.calls_are);
-      faults_are = goes.counts _ h.faults_are ∙ ap counted (sym (faults_snoc h.dids x));
+      faults_are = goes.counts _ h.faults_are ∙ ap count_told (sym (faults_snoc h.dids x));
       moments_are = gave;
       numbers_are = numbered;
       clocks_picked = subst (λ xs. IsPicked xs moments) (sym (clocks_snoc h.dids x)) clocked;
       nonces_picked = subst (λ xs. IsPicked xs numbers) (sym (nonces_snoc h.dids x)) nonced;
-      rings_are = agrees_as c.rings _ _ (ap counted (sym (drains_snoc h.dids x))) rings;
+      rings_are = agrees_as c.rings _ _ (ap count_told (sym (drains_snoc h.dids x))) rings;
     }
 
 -- ---- leaving
@@ -157,9 +157,9 @@ has_left false clock d left e at h = record { outcome = None; shown = h.0; made 
 
 -- the text that is said
 abbrev pub text_of : Next → List ℕ
-text_of n = added [] n
+text_of n = with_said [] n
 
-added_text : (out : List ℕ) (n : Next) → added out n ≡ out ++ text_of n
+added_text : (out : List ℕ) (n : Next) → with_said out n ≡ out ++ text_of n
 added_text out next.More = sym (append-nil out)
 added_text out (next.Say octets) = refl
 added_text out (next.Ask event) = sym (append-nil out)
@@ -169,8 +169,8 @@ added_text out (next.Close octets) = refl
 pub record HasSaid (seated : Bool) (x : Next × Talking) (clock : ℤ) (d : DeskTold) (left : Option Fault) (now : Bool) (e : DeskTold) (out : List ℕ) : Type 0 where
   pub outcome : Outcome
   pub shown : left ≡ fault_of outcome
-  pub made : leaving (is_left (seated, x)) outcome (spoken out (seated, x)) ≡ Some (spoken out (seated, x))
-  pub seat : (spoken out (seated, x)).seated ≡ now
+  pub made : leaving (is_left (seated, x)) outcome (after_saying out (seated, x)) ≡ Some (after_saying out (seated, x))
+  pub seat : (after_saying out (seated, x)).seated ≡ now
   pub goes : Goes d e (leave_calls clock outcome) (fault_count outcome)
 
 goes_open : (seated : Bool) (x : Next × Talking) (clock : ℤ) (d : DeskTold) (left : Option Fault) (now : Bool) (e : DeskTold) (out : List ℕ)
@@ -178,7 +178,7 @@ goes_open : (seated : Bool) (x : Next × Talking) (clock : ℤ) (d : DeskTold) (
 goes_open seated x clock d left now e out still none same desk = record {
   outcome = None;
   shown = none;
-  made = ap (λ y. leaving (y && seated) None (spoken out (seated, x))) still;
+  made = ap (λ y. leaving (y && seated) None (after_saying out (seated, x))) still;
   seat = ap (λ y. not y && seated) still ∙ sym same;
   goes = goes_nowhere d e desk;
 }
@@ -189,10 +189,10 @@ has_said seated next.More t clock d left now e out h = goes_open seated (next.Mo
 has_said seated (next.Say octets) t clock d left now e out h = goes_open seated (next.Say octets, t) clock d left now e out refl h.0 h.1 h.2
 has_said seated (next.Ask event) t clock d left now e out h = goes_open seated (next.Ask event, t) clock d left now e out refl h.0 h.1 h.2
 has_said seated (next.Close octets) t clock d left now e out h =
-    let l = has_left seated clock d left e (spoken out (seated, (next.Close octets, t))) h.0 in
+    let l = has_left seated clock d left e (after_saying out (seated, (next.Close octets, t))) h.0 in
     record { outcome = l.outcome; shown = l.shown; made = l.made; seat = sym h.1; goes = l.goes }
 
-owes_added : (k l : Progress) (n : Next) → l.owed ≡ added k.owed n → l.lost ≡ k.lost → Owes k (text_of n) l
+owes_added : (k l : Progress) (n : Next) → l.owed ≡ with_said k.owed n → l.lost ≡ k.lost → Owes k (text_of n) l
 owes_added k l n owed lost = inl (owed ∙ added_text k.owed n, lost)
 
 -- ---- an event
@@ -209,7 +209,7 @@ seats_as event.Leave (Err fault) seated = refl
 
 -- whether the seat is taken behind an answer, and what is next
 abbrev pub behind : Event → Result Reply Fault → Bool → Talking → Bool × (Next × Talking)
-behind event outcome seated x = (seated_by event outcome seated, answered x outcome)
+behind event outcome seated x = (seated_by event outcome seated, after_answer x outcome)
 
 -- an event that was asked, and answered, with what was said to that
 pub record HasSettled (x : Talking) (seated : Bool) (event : Event) (clock : ℤ) (k : Progress) (d : DeskTold) (asked left : Option Fault) (l : Progress) (e : DeskTold) (out : List ℕ) : Type 0 where
@@ -217,21 +217,21 @@ pub record HasSettled (x : Talking) (seated : Bool) (event : Event) (clock : ℤ
   pub gone : Outcome
   pub asked_shown : asked ≡ fault_of (Some outcome)
   pub left_shown : left ≡ fault_of gone
-  pub made : leaving (is_left (behind event outcome seated x)) gone (spoken out (behind event outcome seated x)) ≡ Some (spoken out (behind event outcome seated x))
-  pub seat : (spoken out (behind event outcome seated x)).seated ≡ l.seated
-  pub talk : l.lost ≡ false → (answered x outcome).1 ≡ l.talk
-  pub owes : Owes k (text_of (answered x outcome).0) l
+  pub made : leaving (is_left (behind event outcome seated x)) gone (after_saying out (behind event outcome seated x)) ≡ Some (after_saying out (behind event outcome seated x))
+  pub seat : (after_saying out (behind event outcome seated x)).seated ≡ l.seated
+  pub talk : l.lost ≡ false → (after_answer x outcome).1 ≡ l.talk
+  pub owes : Owes k (text_of (after_answer x outcome).0) l
   pub goes : Goes d e (call_of clock (Some event) (Some outcome) ++ leave_calls clock gone) (fault_count (Some outcome) + fault_count gone)
 
 module _ {k l : Progress} {d e : DeskTold} {clock : ℤ} {asked left : Option Fault} where
   has_settled : (event : Event) (outcome : Result Answer Fault) (out : List ℕ) → asked ≡ fault_in outcome
-      → HasSaid (seats (is_entering event) outcome k.seated) (answered k.talk (reply_in outcome)) clock (after_call d event clock outcome) left l.seated e out
-      → (l.lost ≡ false → (answered k.talk (reply_in outcome)).1 ≡ l.talk)
-      → Owes k (text_of (answered k.talk (reply_in outcome)).0) l
+      → HasSaid (seats (is_entering event) outcome k.seated) (after_answer k.talk (reply_in outcome)) clock (after_call d event clock outcome) left l.seated e out
+      → (l.lost ≡ false → (after_answer k.talk (reply_in outcome)).1 ≡ l.talk)
+      → Owes k (text_of (after_answer k.talk (reply_in outcome)).0) l
       → HasSettled k.talk k.seated event clock k d asked left l e out
   has_settled event outcome out shown said talk owes =
       let same = seats_as event outcome k.seated in
-      let P : Bool → Type 0 = λ s. HasSaid s (answered k.talk (reply_in outcome)) clock (after_call d event clock outcome) left l.seated e out in
+      let P : Bool → Type 0 = λ s. HasSaid s (after_answer k.talk (reply_in outcome)) clock (after_call d event clock outcome) left l.seated e out in
       let q = subst P same said in
       record {
         outcome = reply_in outcome;
@@ -247,20 +247,20 @@ module _ {k l : Progress} {d e : DeskTold} {clock : ℤ} {asked left : Option Fa
 
   settles : (event : Event) (out : List ℕ) → k.lost ≡ false → Settles event clock k d asked left l e → HasSettled k.talk k.seated event clock k d asked left l e out
   settles event out whole (outcome, shown, inl h) =
-      let x = answered k.talk (reply_in outcome) in
+      let x = after_answer k.talk (reply_in outcome) in
       has_settled event outcome out shown (has_said (seats (is_entering event) outcome k.seated) x.0 x.1 clock (after_call d event clock outcome) left l.seated e out h.3)
       (λ _. sym h.1) (owes_added k l x.0 h.2 h.0)
   settles event out whole (outcome, shown, inr h) =
-      let x = answered k.talk (reply_in outcome) in
+      let x = after_answer k.talk (reply_in outcome) in
       has_settled event outcome out shown (goes_open (seats (is_entering event) outcome k.seated) x clock (after_call d event clock outcome) left l.seated e out h.1 h.3 h.4 h.5)
       (λ f. absurd (cc (f, h.0))) (inr (h.2, h.0))
 
 -- ---- a turn
 
 did_turn : (users : List User) (clock : ℤ) (nonce : ℕ) (asked left : Outcome) (at : At) (x : Next × Talking) → session_next users nonce clock at.talk ≡ x
-    → did users (Turn clock nonce asked left) at ≡ turned at x asked left
+    → did users (Turn clock nonce asked left) at ≡ after_turn at x asked left
 unfolding did
-did_turn users clock nonce asked left at x is = ap (λ y. turned at y asked left) is
+did_turn users clock nonce asked left at x is = ap (λ y. after_turn at y asked left) is
 
 turn_calls : (users : List User) (clock : ℤ) (nonce : ℕ) (asked left : Outcome) (at : At) (x : Next × Talking) → session_next users nonce clock at.talk ≡ x
     → calls_in users (Turn clock nonce asked left) at ≡ calls_with clock (event_in x) asked left
@@ -276,7 +276,7 @@ no_more xs ys = ap (λ zs. zs ++ ys) (sym (append-nil xs))
 module _ {roles : Roles} {w : WireTold} {d e : DeskTold} {s : SourceTold} {b : BellTold} {k l : Progress} where
   -- a turn, by what it leaves and says
   turn_step : (h : Kept roles w d s b k) (clock : ℤ) (nonce : ℕ) (x : Next × Talking) (asked left : Outcome) (at : At) (text : List ℕ)
-      → session_next roles.users nonce clock h.at.talk ≡ x → turned h.at x asked left ≡ Some at
+      → session_next roles.users nonce clock h.at.talk ≡ x → after_turn h.at x asked left ≡ Some at
       → (l.lost ≡ false → at.talk ≡ l.talk) → at.seated ≡ l.seated → at.out ≡ h.at.out ++ text
       → k.lost ≡ false → Owes k text l → l.steps ≡ k.steps ++ shape (Turn clock nonce asked left) ∷ []
       → Goes d e (calls_with clock (event_in x) asked left) (fault_count asked + fault_count left)
@@ -288,7 +288,7 @@ module _ {roles : Roles} {w : WireTold} {d e : DeskTold} {s : SourceTold} {b : B
       (subst (λ cs. Goes d e cs (fault_count asked + fault_count left)) (sym (turn_calls roles.users clock nonce asked left h.at x is)) goes)
       (agrees_adds s.moments h.moments (clock ∷ []) h.moments_are) (agrees_adds s.nonces h.numbers (nonce ∷ []) h.numbers_are)
       (picked_more _ _ clock h.clocks_picked) (picked_more _ _ nonce h.nonces_picked)
-      (agrees_as b.rings _ _ (ap counted (omega arith)) h.rings_are)
+      (agrees_as b.rings _ _ (ap count_told (omega arith)) h.rings_are)
 
   -- nothing was next, but a moment and a nonce were given
   turn_none : (h : Kept roles w d s b k) (clock : ℤ) (nonce : ℕ) → l ≡ k → e ≡ d → Kept roles w e (gives_nonce (gives_moment s clock) nonce) b l
@@ -323,7 +323,7 @@ module _ {roles : Roles} {w : WireTold} {d e : DeskTold} {s : SourceTold} {b : B
 
   -- a turn, by what is next
   acted : (h : Kept roles w d s b k) (clock : ℤ) (nonce : ℕ) (was : Turned) (n : Next) (t : Talking) → session_next roles.users nonce clock k.talk ≡ (n, t)
-      → k.lost ≡ false → Acts (heard_of n) clock nonce (record k { talk = t; owed = added k.owed n }) d was l e
+      → k.lost ≡ false → Acts (heard_of n) clock nonce (record k { talk = t; owed = with_said k.owed n }) d was l e
       → Kept roles w e (gives_nonce (gives_moment s clock) nonce) b l
   acted h clock nonce was next.More t is whole made =
       let same : t ≡ k.talk = ap (λ x. x.1) (sym is) ∙ same_talk roles.users nonce clock k.talk (ap (λ x. x.0) is) in
@@ -348,9 +348,9 @@ module _ {roles : Roles} {w : WireTold} {d e : DeskTold} {s : SourceTold} {b : B
       let m : (asked : Option Fault) × (left : Option Fault) × (l.steps ≡ k.steps ++ step.Turn clock nonce asked left ∷ [])
       × Settles event clock (record k { talk = t }) d asked left l e = made.1 in
       let q = settles {k = record k { talk = t }} {l = l} {d = d} {e = e} {clock = clock} {asked = m.0} {left = m.1} event h.at.out whole m.3 in
-      turn_step h clock nonce (next.Ask event, t) (Some q.outcome) q.gone (spoken h.at.out (behind event q.outcome k.seated t)) (text_of (answered t q.outcome).0) from
-      (ap (λ z. leaving (is_left (behind event q.outcome z t)) q.gone (spoken h.at.out (behind event q.outcome z t))) h.seated_is ∙ q.made)
-      q.talk q.seat (added_text h.at.out (answered t q.outcome).0) whole q.owes
+      turn_step h clock nonce (next.Ask event, t) (Some q.outcome) q.gone (after_saying h.at.out (behind event q.outcome k.seated t)) (text_of (after_answer t q.outcome).0) from
+      (ap (λ z. leaving (is_left (behind event q.outcome z t)) q.gone (after_saying h.at.out (behind event q.outcome z t))) h.seated_is ∙ q.made)
+      q.talk q.seat (added_text h.at.out (after_answer t q.outcome).0) whole q.owes
       (m.2 ∙ ap (λ y. k.steps ++ y ∷ []) (shape_turn clock nonce m.0 m.1 (Some q.outcome) q.gone q.asked_shown q.left_shown))
       q.goes
 
@@ -420,9 +420,9 @@ module _ {roles : Roles} {w : WireTold} {d e : DeskTold} {s t : SourceTold} {b :
 -- ---- a drain
 
 did_drain : (users : List User) (clock : ℤ) (asked left : Outcome) (at : At) (x : Next × Talking) → session_drain at.talk ≡ x
-    → did users (Drain clock asked left) at ≡ turned at x asked left
+    → did users (Drain clock asked left) at ≡ after_turn at x asked left
 unfolding did
-did_drain users clock asked left at x is = ap (λ y. turned at y asked left) is
+did_drain users clock asked left at x is = ap (λ y. after_turn at y asked left) is
 
 drain_calls : (users : List User) (clock : ℤ) (asked left : Outcome) (at : At) (x : Next × Talking) → session_drain at.talk ≡ x
     → calls_in users (Drain clock asked left) at ≡ calls_with clock (event_in x) asked left
@@ -432,7 +432,7 @@ shape_drain : (clock : ℤ) (asked left : Option Fault) (a b : Outcome) → aske
     → step.Drain clock asked left ≡ shape (Drain clock a b)
 shape_drain clock asked left a b p q = λ i. step.Drain clock (p i) (q i)
 
-rung_once : (o : Option ℕ) (n : ℕ) → Agrees o (counted n) → Agrees (option_map up o) (counted (n + 1))
+rung_once : (o : Option ℕ) (n : ℕ) → Agrees o (count_told n) → Agrees (option_map up o) (count_told (n + 1))
 rung_once None n h = tt
 rung_once (Some m) n h = ap up h ∙ counted_up n
 
@@ -463,7 +463,7 @@ mute t = mute_at t.stage t
 
 module _ {roles : Roles} {w : WireTold} {d e : DeskTold} {s : SourceTold} {b : BellTold} {k l : Progress} where
   drain_step : (h : Kept roles w d s b k) (clock : ℤ) (x : Next × Talking) (asked left : Outcome) (at : At) (text : List ℕ)
-      → session_drain h.at.talk ≡ x → turned h.at x asked left ≡ Some at
+      → session_drain h.at.talk ≡ x → after_turn h.at x asked left ≡ Some at
       → (l.lost ≡ false → at.talk ≡ l.talk) → at.seated ≡ l.seated → at.out ≡ h.at.out ++ text
       → k.lost ≡ false → Owes k text l → l.steps ≡ k.steps ++ shape (Drain clock asked left) ∷ []
       → Goes d e (calls_with clock (event_in x) asked left) (fault_count asked + fault_count left)
@@ -490,9 +490,9 @@ module _ {roles : Roles} {w : WireTold} {d e : DeskTold} {s : SourceTold} {b : B
   drained h clock (next.Ask event) t m is whole made =
       let from = ap session_drain (h.talk_is whole) ∙ is in
       let q = settles {k = record k { talk = t }} {l = l} {d = d} {e = e} {clock = clock} {asked = made.0} {left = made.1} event h.at.out whole made.3 in
-      drain_step h clock (next.Ask event, t) (Some q.outcome) q.gone (spoken h.at.out (behind event q.outcome k.seated t)) (text_of (answered t q.outcome).0) from
-      (ap (λ z. leaving (is_left (behind event q.outcome z t)) q.gone (spoken h.at.out (behind event q.outcome z t))) h.seated_is ∙ q.made)
-      q.talk q.seat (added_text h.at.out (answered t q.outcome).0) whole q.owes
+      drain_step h clock (next.Ask event, t) (Some q.outcome) q.gone (after_saying h.at.out (behind event q.outcome k.seated t)) (text_of (after_answer t q.outcome).0) from
+      (ap (λ z. leaving (is_left (behind event q.outcome z t)) q.gone (after_saying h.at.out (behind event q.outcome z t))) h.seated_is ∙ q.made)
+      q.talk q.seat (added_text h.at.out (after_answer t q.outcome).0) whole q.owes
       (made.2 ∙ ap (λ y. k.steps ++ y ∷ []) (shape_drain clock made.0 made.1 (Some q.outcome) q.gone q.asked_shown q.left_shown))
       q.goes
 
@@ -532,7 +532,7 @@ module _ {roles : Roles} {w : WireTold} {d e : DeskTold} {s t : SourceTold} {b :
         numbers_are = h.numbers_are;
         clocks_picked = h.clocks_picked;
         nonces_picked = h.nonces_picked;
-        rings_are = subst (λ o. Agrees o (counted (drains h.dids))) (sym rings) h.rings_are;
+        rings_are = subst (λ o. Agrees o (count_told (drains h.dids))) (sym rings) h.rings_are;
       })))
 
   rings_kept : (r : Poll Ring) → Kept roles w d s b k → k.lost ≡ false → Rings r k d s l e t → Kept roles w e t (after_ring b r) l

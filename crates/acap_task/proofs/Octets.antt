@@ -9,7 +9,7 @@ use Rattle.acap_commands.specs.declared.event.Event.TheVariants as event
 use Rattle.acap_commands.specs.declared.fault.Fault.{Fault}
 use Rattle.acap_locked.specs.declared.answer.Answer.{Answer}
 use Rattle.acap_dialogue.specs.Running.{At, Piece, Leave, Outcome, clocks, did, drains, leaving, nonces, over, pieces, taking}
-use Rattle.acap_task.specs.Kept.{Agrees, IsPicked, Kept, Roles, counted}
+use Rattle.acap_task.specs.Kept.{Agrees, IsPicked, Kept, Roles, count_told}
 use Rattle.acap_task.specs.Progress.{Progress}
 use Rattle.std.specs.Option.{option_and_then}
 use Rattle.acap_dialogue.proofs.Running.{run_snoc, pieces_snoc, clocks_snoc, nonces_snoc, drains_snoc, faults_snoc}
@@ -98,8 +98,8 @@ did_piece : (users : List User) (octets : List ℕ) (at : At) → did users (Pie
 unfolding did
 did_piece users octets at = refl
 
-no_drain : (o : Option ℕ) (n : ℕ) → Agrees o (counted n) → Agrees o (counted (n + 0))
-no_drain o n h = agrees_as o _ _ (ap counted (omega arith)) h
+no_drain : (o : Option ℕ) (n : ℕ) → Agrees o (count_told n) → Agrees o (count_told (n + 0))
+no_drain o n h = agrees_as o _ _ (ap count_told (omega arith)) h
 
 module _ {roles : Roles} {w v : WireTold} {d : DeskTold} {s : SourceTold} {b : BellTold} {k l : Progress} where
   -- the session took octets
@@ -204,12 +204,12 @@ module _ {roles : Roles} {w : WireTold} {d e : DeskTold} {s t : SourceTold} {b :
         taken_is = agrees_as w.taken _ _ (ap (λ ys. ys ++ h.unread) (sym (pieces_snoc h.dids (Leave clock (Some (reply_in outcome))) ∙ append-nil (pieces h.dids)))) h.taken_is;
         put_is = h.put_is;
         calls_are = agrees_as e.calls _ _ (sym (told_snoc roles h.dids (Leave clock (Some (reply_in outcome))) h.at h.ran)) ((goes_by_call d e event.Leave clock outcome desk).told _ h.calls_are);
-        faults_are = (goes_by_call d e event.Leave clock outcome desk).counts _ h.faults_are ∙ ap counted (sym (faults_snoc h.dids (Leave clock (Some (reply_in outcome)))));
+        faults_are = (goes_by_call d e event.Leave clock outcome desk).counts _ h.faults_are ∙ ap count_told (sym (faults_snoc h.dids (Leave clock (Some (reply_in outcome)))));
         moments_are = agrees_adds s.moments h.moments (clock ∷ []) h.moments_are;
         numbers_are = h.numbers_are;
         clocks_picked = subst (λ xs. IsPicked xs (h.moments ++ clock ∷ [])) (sym (clocks_snoc h.dids (Leave clock (Some (reply_in outcome))))) (picked_more _ _ clock h.clocks_picked);
         nonces_picked = subst (λ xs. IsPicked xs h.numbers) (sym (nonces_snoc h.dids (Leave clock (Some (reply_in outcome))) ∙ append-nil (nonces h.dids))) h.nonces_picked;
-        rings_are = agrees_as b.rings _ _ (ap counted (sym (drains_snoc h.dids (Leave clock (Some (reply_in outcome))) ∙ omega arith))) h.rings_are;
+        rings_are = agrees_as b.rings _ _ (ap count_told (sym (drains_snoc h.dids (Leave clock (Some (reply_in outcome))) ∙ omega arith))) h.rings_are;
       }))
 
   left_kept : (seated : Bool) → k.seated ≡ seated → Kept roles w d s b k → LeavesAtEnd seated k d s l e t → Kept roles w e t b l

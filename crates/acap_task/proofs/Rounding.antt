@@ -3,9 +3,9 @@ use Rattle.std.proofs.Common.{rules, ◌≡◌, ℕ, ℤ, ◌+◌, ◌<◌, ◌=
 use Rattle.futures.specs.declared.task.Poll.{Poll}
 use Rattle.futures.specs.declared.task.Poll.TheVariants.{Ready}
 use Rattle.acap_login.specs.Login.{User}
-use Rattle.acap_entries.specs.declared.memory.Memory.{Memory}
+use Rattle.std.specs.declared.alloc.AllocError.{AllocError as Memory}
 use Rattle.acap_dialogue.specs.Session.{session_drain, session_next}
-use Rattle.acap_dialogue.specs.Saying.{added, heard_of}
+use Rattle.acap_dialogue.specs.Saying.{with_said, heard_of}
 use Rattle.acap_dialogue.specs.declared.heard.Heard.{Heard}
 use Rattle.acap_dialogue.specs.declared.heard.Heard.TheVariants as heard
 use Rattle.acap_dialogue.specs.declared.next.Next.{Next}
@@ -55,7 +55,7 @@ pub turn_done : (users : List User) (k l : Progress) (d e : DeskTold) (s t : Sou
 turn_done users k l d e s t r was is other h =
     let m = subst (λ y. IfOk y (λ w. Turns users w k d s l e t)) is h in
     let x = session_next users m.nonce m.clock k.talk in
-    acts_done (heard_of x.0) (record k { talk = x.1; owed = added k.owed x.0 }) l d e m.clock m.nonce was other m.acts
+    acts_done (heard_of x.0) (record k { talk = x.1; owed = with_said k.owed x.0 }) l d e m.clock m.nonce was other m.acts
 
 if_none : (n : ℕ) (b : Bool) → (n == 0) ≡ b → (n ≡ 0 → ⊥) → ◌≡◌ {A = ℕ} (if b then 0 else 1) 1
 if_none n true e some = absurd (some (search rules))

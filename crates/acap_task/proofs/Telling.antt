@@ -7,7 +7,7 @@ use Rattle.acap_dialogue.specs.Running as running
 use Rattle.acap_dialogue.specs.Running.{fault_count}
 use Rattle.acap_locked.specs.declared.answer.Answer.{Answer}
 use Rattle.acap_locked.specs.declared.call.Call.{Call}
-use Rattle.acap_task.specs.Kept.{Agrees, IsPicked, as_told, counted}
+use Rattle.acap_task.specs.Kept.{Agrees, IsPicked, as_told, count_told}
 use Rattle.acap_task.specs.Told.{DeskTold, adds, after_call, up}
 use Rattle.acap_task.specs.Turns.{reply_in}
 
@@ -20,7 +20,7 @@ pub agrees_as : {A : Type 0} (told : Option A) (x y : A) → x ≡ y → Agrees 
 agrees_as None x y e h = tt
 agrees_as (Some a) x y e h = h ∙ e
 
-pub counted_up : (n : ℕ) → up (counted n) ≡ counted (n + 1)
+pub counted_up : (n : ℕ) → up (count_told n) ≡ count_told (n + 1)
 counted_up n = omega arith
 
 -- ---- a desk
@@ -28,12 +28,12 @@ counted_up n = omega arith
 -- what it tells grows by these calls, and by so many faults
 pub record Goes (d e : DeskTold) (calls : List running.Call) (faults : ℕ) : Type 0 where
   pub told : (cs : List Call) → Agrees d.calls cs → Agrees e.calls (cs ++ map as_told calls)
-  pub counts : (n : ℕ) → d.faults ≡ counted n → e.faults ≡ counted (n + faults)
+  pub counts : (n : ℕ) → d.faults ≡ count_told n → e.faults ≡ count_told (n + faults)
 
 pub goes_nowhere : (d e : DeskTold) → e ≡ d → Goes d e [] 0
 goes_nowhere d e same = record {
   told = λ cs h. subst (λ (x : DeskTold). Agrees x.calls (cs ++ [])) (sym same) (agrees_as d.calls cs (cs ++ []) (sym (append-nil cs)) h);
-  counts = λ n h. ap (λ (x : DeskTold). x.faults) same ∙ h ∙ ap counted (omega arith);
+  counts = λ n h. ap (λ (x : DeskTold). x.faults) same ∙ h ∙ ap count_told (omega arith);
 }
 
 -- a call
@@ -41,7 +41,7 @@ pub goes_by_call : (d e : DeskTold) (event : Event) (clock : ℤ) (outcome : Res
     → Goes d e (running.call_of clock (Some event) (Some (reply_in outcome))) (fault_count (Some (reply_in outcome)))
 goes_by_call d e event clock (Ok answer) is = record {
   told = λ cs h. subst (λ (x : DeskTold). Agrees x.calls (cs ++ map as_told (record { event = event; clock = clock; reply = answer.reply } ∷ []))) (sym is) (agrees_adds d.calls cs _ h);
-  counts = λ n h. ap (λ (x : DeskTold). x.faults) is ∙ h ∙ ap counted (omega arith);
+  counts = λ n h. ap (λ (x : DeskTold). x.faults) is ∙ h ∙ ap count_told (omega arith);
 }
 goes_by_call d e event clock (Err fault) is = record {
   told = λ cs h. subst (λ (x : DeskTold). Agrees x.calls (cs ++ [])) (sym is) (agrees_as d.calls cs (cs ++ []) (sym (append-nil cs)) h);
@@ -52,7 +52,7 @@ goes_by_call d e event clock (Err fault) is = record {
 pub goes_on : {d e f : DeskTold} {xs ys : List running.Call} {m n : ℕ} → Goes d e xs m → Goes e f ys n → Goes d f (xs ++ ys) (m + n)
 goes_on {d} {e} {f} {xs} {ys} {m} {n} g h = record {
   told = λ cs a. agrees_as f.calls _ _ (append_assoc cs (map as_told xs) (map as_told ys) ∙ ap (λ zs. cs ++ zs) (sym (map-append as_told xs ys))) (h.told _ (g.told cs a));
-  counts = λ k a. h.counts (k + m) (g.counts k a) ∙ ap counted (omega arith);
+  counts = λ k a. h.counts (k + m) (g.counts k a) ∙ ap count_told (omega arith);
 }
 
 -- ---- a source

@@ -11,7 +11,7 @@ use Rattle.acap_commands.specs.declared.event.Event.{Event}
 use Rattle.acap_commands.specs.declared.reply.Reply.{Reply}
 use Rattle.acap_locked.specs.Notes.{call_of}
 use Rattle.acap_locked.specs.declared.call.Call.{Call}
-use Rattle.acap_locked.specs.declared.item.Item.{Item}
+use Rattle.acap_locked.specs.declared.item.PassItem.{PassItem}
 use Rattle.acap_task.specs.Told.{DeskTold}
 
 -- why a call is not answered: its answer is that fault, or there is none left, or memory was refused
@@ -36,21 +36,21 @@ desk_code = coded× told_code (coded_list (coded_result answer.the_row.coded ref
 -- ---- a desk with a pass
 
 -- the call of an item
-abbrev pub exchange_of : Item → Call
+abbrev pub exchange_of : PassItem → Call
 exchange_of i = i.exchange
 
 -- one list ends with the other
-pub record EndsWith (long short : List Item) : Type 0 where
-  pub front : List Item
+pub record EndsWith (long short : List PassItem) : Type 0 where
+  pub front : List PassItem
   pub is : long ≡ front ++ short
 
 -- of two lists the shorter is how the other ends
-abbrev pub EndsAlike : List Item → List Item → Type 0
+abbrev pub EndsAlike : List PassItem → List PassItem → Type 0
 EndsAlike one other = EndsWith one other ⊎ EndsWith other one
 
 -- One more call stands in the record, and in the pass, which may have let go of all before it.
-pub record HasCalled (event : Event) (now : ℤ) (reply : Reply) (items kept new_items new_kept : List Item) : Type 0 where
-  pub item : Item
+pub record HasCalled (event : Event) (now : ℤ) (reply : Reply) (items kept new_items new_kept : List PassItem) : Type 0 where
+  pub item : PassItem
   pub call : item.exchange ≡ call_of event now reply
   pub in_record : new_kept ≡ kept ++ item ∷ []
   pub in_pass : (new_items ≡ items ++ item ∷ []) ⊎ (new_items ≡ item ∷ [])

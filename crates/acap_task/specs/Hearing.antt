@@ -1,8 +1,8 @@
 -- What comes of what a session hears, where its octets are owed as a list.
 use Rattle.std.specs.Prelude.{◌≡◌, ℕ, List, Result, Ok, Err, true, false}
-use Rattle.acap_entries.specs.declared.memory.Memory.{Memory}
+use Rattle.std.specs.declared.alloc.AllocError.{AllocError as Memory}
 use Rattle.acap_dialogue.specs.Running.{closes}
-use Rattle.acap_dialogue.specs.Saying.{added, heard_of}
+use Rattle.acap_dialogue.specs.Saying.{with_said, heard_of}
 use Rattle.acap_dialogue.specs.Session.{is_asked}
 use Rattle.acap_dialogue.specs.Talking.{Talking}
 use Rattle.acap_dialogue.specs.declared.heard.Heard.{Heard}
@@ -11,7 +11,7 @@ use Rattle.acap_dialogue.specs.declared.next.Next.{Next}
 
 -- what is next is told, and its octets are owed; where memory was refused nothing is
 abbrev pub HearsAll : Next × Talking → Result Heard Memory → Talking → List ℕ → List ℕ → Type 0
-HearsAll x (Ok told) after old new = (told ≡ heard_of x.0) × (after ≡ x.1) × (new ≡ added old x.0)
+HearsAll x (Ok told) after old new = (told ≡ heard_of x.0) × (after ≡ x.1) × (new ≡ with_said old x.0)
 HearsAll x (Err memory) after old new = new ≡ old
 
 -- after an event is asked its answer is awaited

@@ -3,7 +3,7 @@ use Rattle.std.specs.Prelude.{◌≡◌, ◌⊎◌, ℕ, ℤ, min, List, [], ◌
 use Rattle.acap_login.specs.Login.{User}
 use Rattle.acap_commands.specs.declared.fault.Fault.{Fault}
 use Rattle.acap_dialogue.specs.Running as running
-use Rattle.acap_dialogue.specs.Running.{At, Did, Piece, Turn, Drain, Leave, Outcome, calls, clocks, drains, faults, nonces, pieces, run, start}
+use Rattle.acap_dialogue.specs.Running.{At, Did, Piece, Turn, Drain, Leave, Outcome, calls, clocks, drains, faults, nonces, pieces, after_steps, start}
 use Rattle.acap_locked.specs.Notes.{call_of}
 use Rattle.acap_locked.specs.declared.call.Call.{Call}
 use Rattle.acap_task.specs.Progress.{Progress}
@@ -42,8 +42,8 @@ Agrees None x = Unit {0}
 Agrees (Some a) x = a ≡ x
 
 -- a count as it is told: it stops at the last number
-abbrev pub counted : ℕ → ℕ
-counted n = min n last
+abbrev pub count_told : ℕ → ℕ
+count_told n = min n last
 
 -- the calls of a run, as a desk tells them
 abbrev pub as_told : running.Call → Call
@@ -68,7 +68,7 @@ pub record Kept (roles : Roles) (w : WireTold) (d : DeskTold) (s : SourceTold) (
   pub unread : List ℕ
   pub moments : List ℤ
   pub numbers : List ℕ
-  pub ran : run roles.users dids (start roles.host roles.user) ≡ Some at
+  pub ran : after_steps roles.users dids (start roles.host roles.user) ≡ Some at
   pub steps_are : map shape dids ≡ k.steps
   pub talk_is : k.lost ≡ false → at.talk ≡ k.talk
   pub seated_is : at.seated ≡ k.seated
@@ -78,12 +78,12 @@ pub record Kept (roles : Roles) (w : WireTold) (d : DeskTold) (s : SourceTold) (
   pub taken_is : Agrees w.taken (pieces dids ++ unread)
   pub put_is : Agrees w.put written
   pub calls_are : Agrees d.calls (map as_told (calls roles.users dids (start roles.host roles.user)))
-  pub faults_are : d.faults ≡ counted (faults dids)
+  pub faults_are : d.faults ≡ count_told (faults dids)
   pub moments_are : Agrees s.moments moments
   pub numbers_are : Agrees s.nonces numbers
   pub clocks_picked : IsPicked (clocks dids) moments
   pub nonces_picked : IsPicked (nonces dids) numbers
-  pub rings_are : Agrees b.rings (counted (drains dids))
+  pub rings_are : Agrees b.rings (count_told (drains dids))
 
 -- a wire, a desk, a source and a bell that have told nothing yet
 pub record IsUntold (w : WireTold) (d : DeskTold) (s : SourceTold) (b : BellTold) : Type 0 where

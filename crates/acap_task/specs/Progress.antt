@@ -20,8 +20,8 @@ abbrev pub progress : Course → Progress
 progress c = record { talk = c.session; steps = c.steps.items; owed = c.owed; lost = c.lost; seated = c.seated }
 
 -- a session of which nothing has been done yet
-abbrev pub untouched : Talking → Bool → Progress
-untouched talk lost = record { talk = talk; steps = []; owed = []; lost = lost; seated = false }
+abbrev pub no_progress : Talking → Bool → Progress
+no_progress talk lost = record { talk = talk; steps = []; owed = []; lost = lost; seated = false }
 
 -- ---- room for steps
 

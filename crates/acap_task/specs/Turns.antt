@@ -8,8 +8,8 @@ use Rattle.acap_commands.specs.declared.event.Event.TheVariants as event
 use Rattle.acap_commands.specs.declared.fault.Fault.{Fault}
 use Rattle.acap_commands.specs.declared.reply.Reply.{Reply}
 use Rattle.acap_dialogue.specs.Running.{closes, over, taking}
-use Rattle.acap_dialogue.specs.Saying.{added, heard_of}
-use Rattle.acap_dialogue.specs.Session.{answered, session_drain, session_next}
+use Rattle.acap_dialogue.specs.Saying.{with_said, heard_of}
+use Rattle.acap_dialogue.specs.Session.{after_answer, session_drain, session_next}
 use Rattle.acap_dialogue.specs.Talking.{Talking}
 use Rattle.acap_dialogue.specs.declared.heard.Heard.{Heard}
 use Rattle.acap_dialogue.specs.declared.heard.Heard.TheVariants as heard
@@ -51,7 +51,7 @@ Ends heard.Closes seated clock d left now e = Leaves seated clock d left e × (n
 -- What a session says to an answer is owed, or memory is refused for it. The answer then closes nothing.
 abbrev pub SaysTo : Next × Talking → ℤ → Progress → DeskTold → Option Fault → Progress → DeskTold → Type 0
 SaysTo x clock old d left new e =
-    ((new.lost ≡ old.lost) × (new.talk ≡ x.1) × (new.owed ≡ added old.owed x.0) × Ends (heard_of x.0) old.seated clock d left new.seated e)
+    ((new.lost ≡ old.lost) × (new.talk ≡ x.1) × (new.owed ≡ with_said old.owed x.0) × Ends (heard_of x.0) old.seated clock d left new.seated e)
     ⊎ ((new.lost ≡ true) × (closes x.0 ≡ false) × (new.owed ≡ old.owed) × (left ≡ None) × (new.seated ≡ old.seated) × (e ≡ d))
 
 abbrev pub is_entering : Event → Bool
@@ -69,7 +69,7 @@ seats false outcome seated = seated
 -- an event is performed, and what the session says to its answer is owed
 abbrev pub Settles : Event → ℤ → Progress → DeskTold → Option Fault → Option Fault → Progress → DeskTold → Type 0
 Settles event clock old d asked left new e = (outcome : Result Answer Fault) × (asked ≡ fault_in outcome)
-    × SaysTo (answered old.talk (reply_in outcome)) clock (record old { seated = seats (is_entering event) outcome old.seated })
+    × SaysTo (after_answer old.talk (reply_in outcome)) clock (record old { seated = seats (is_entering event) outcome old.seated })
     (after_call d event clock outcome) left new e
 
 -- ---- a turn
@@ -96,7 +96,7 @@ pub record Turns (users : List User) (was : Turned) (old : Progress) (d : DeskTo
   pub whole : old.lost ≡ false
   pub given : t ≡ gives_nonce (gives_moment s clock) nonce
   pub acts : let x = session_next users nonce clock old.talk in
-      Acts (heard_of x.0) clock nonce (record old { talk = x.1; owed = added old.owed x.0 }) d was new e
+      Acts (heard_of x.0) clock nonce (record old { talk = x.1; owed = with_said old.owed x.0 }) d was new e
 
 -- nothing was done, for want of memory, but a moment and a nonce may have been given
 pub record Idles (old : Progress) (d : DeskTold) (s : SourceTold) (new : Progress) (e : DeskTold) (t : SourceTold) : Type 0 where

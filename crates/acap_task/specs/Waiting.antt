@@ -6,7 +6,7 @@ use Rattle.acap_login.specs.Login.{User}
 use Rattle.acap_dialogue.specs.Session.{is_closed, session_next}
 use Rattle.acap_dialogue.specs.Talking.{Talking}
 use Rattle.acap_dialogue.specs.declared.next.Next.TheVariants as next
-use Rattle.acap_task.specs.Kept.{Kept, Roles, counted}
+use Rattle.acap_task.specs.Kept.{Kept, Roles, count_told}
 use Rattle.acap_task.specs.Progress.{Progress, done}
 use Rattle.acap_task.specs.Told.{WireTold, DeskTold, SourceTold, BellTold, last}
 use Rattle.acap_task.specs.Turns.{LeavesAtEnd}
@@ -32,9 +32,9 @@ Rose old new = old < last → old < new
 
 -- counts of polls that found nothing ready don't fall, up to the last number
 pub record Later (w v : WireTold) (b c : BellTold) : Type 0 where
-  pub reader : counted w.read_waits ≤ v.read_waits
-  pub writer : counted w.write_waits ≤ v.write_waits
-  pub bell : counted b.waits ≤ c.waits
+  pub reader : count_told w.read_waits ≤ v.read_waits
+  pub writer : count_told w.write_waits ≤ v.write_waits
+  pub bell : count_told b.waits ≤ c.waits
 
 -- ---- where a poll leaves a session waiting
 
@@ -61,7 +61,7 @@ Stops users w v b c new = Rose w.write_waits v.write_waits ⊎ Listens users w v
 -- all that is owed is written, or the writer fails
 pub record Flushes (w v : WireTold) (old new : Progress) : Type 0 where
   pub reader : v.read_waits ≡ w.read_waits
-  pub writer : counted w.write_waits ≤ v.write_waits
+  pub writer : count_told w.write_waits ≤ v.write_waits
   pub talk : new.talk ≡ old.talk
   pub steps : new.steps ≡ old.steps
   pub lost : new.lost ≡ old.lost

@@ -1,6 +1,6 @@
 //! How far a session has come.
 ghost use Rattle.std.specs.Prelude.{◌≡◌, ◌<◌, ◌≤◌, ◌+◌, ◌++◌, ◌∷◌, [], OnOk, vec_len, vec_capacity};
-ghost use Rattle.acap_task.specs.Progress.{progress, untouched};
+ghost use Rattle.acap_task.specs.Progress.{progress, no_progress};
 
 use crate::owed::Owed;
 use crate::step::Step;
@@ -27,7 +27,7 @@ pub struct Course {
 impl Course {
     /// A session of which nothing has been done. Takes no memory.
     pub(crate) fn new(alloc: Global, session: Session, lost: bool) -> Course
-        ensures { progress result ≡ untouched session lost }
+        ensures { progress result ≡ no_progress session lost }
     {
         Course {
             session,

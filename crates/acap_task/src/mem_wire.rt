@@ -1,5 +1,5 @@
 //! A wire in memory.
-ghost use Rattle.std.specs.Prelude.{◌≡◌, ◌≤◌, ◌+◌, ◌++◌, ◌||◌, IfOk, Some, length, min, take, drop};
+ghost use Rattle.std.specs.Prelude.{◌≡◌, ◌≤◌, ◌+◌, ◌++◌, IfOk, Some, length, min, take, drop};
 ghost use Rattle.acap_task.specs.Told.{after_read, after_write, new_wire};
 ghost use Rattle.futures.specs.Poll.{IfReady, OnPending};
 ghost use Rattle.futures.specs.Task.{Covers, Keeps};
@@ -93,13 +93,6 @@ impl MemWire {
     }
 }
 
-// Whether one of two holds.
-fn either(one: bool, other: bool) -> bool
-    ensures { result ≡ one || other }
-{
-    one || other
-}
-
 // Copies octets of a text, from a place in it, to the front of a buffer, and says how many.
 fn copy_from(text: &[u8], at: usize, buffer: &mut [u8], width: usize) -> usize
     requires { at ≤ length text.now }
@@ -135,7 +128,7 @@ impl Wire for MemWire {
         match self.reads.next() {
             Transfer::Moves(width) => {
                 let count = copy_from(self.input.as_slice(), self.at, buffer, width);
-                self.ended = either(self.ended, count == 0);
+                self.ended = self.ended | (count == 0);
                 self.at += count;
                 Poll::Ready(Ok(count))
             }

@@ -1,5 +1,5 @@
 //! What a session that runs does with its wire and its bell.
-ghost use Rattle.std.specs.Prelude.{◌≡◌, ◌≤◌, ◌<◌, ◌+◌, length, vec_len, vec_capacity, false};
+ghost use Rattle.std.specs.Prelude.{◌≡◌, ◌≤◌, ◌<◌, length};
 ghost use Rattle.futures.specs.Poll.{OnPending};
 ghost use Rattle.futures.specs.Task.{IsArmed, Keeps};
 ghost use Rattle.acap_dialogue.specs.Telling.{room_in};

@@ -1,6 +1,6 @@
 //! Octets that a session said and that wait to be written.
-ghost use Rattle.std.specs.Prelude.{◌≡◌, ◌≤◌, ◌+◌, [], IfOk, IfErr, OnErr, length, drop, true};
-ghost use Rattle.acap_dialogue.specs.Session.{answered, is_asked, session_next};
+ghost use Rattle.std.specs.Prelude.{◌≡◌, ◌≤◌, ◌+◌, [], IfOk, OnErr, length, drop, true};
+ghost use Rattle.acap_dialogue.specs.Session.{after_answer, is_asked, session_next};
 ghost use Rattle.acap_task.specs.Hearing.{AwaitsBy, GoesOn, HearsAll};
 
 use acap_commands::{Fault, Reply};
@@ -95,8 +95,8 @@ impl Owed {
         outcome: Result<Reply, Fault>,
     ) -> Result<Heard, Memory>
         requires { is_asked session.old.stage ≡ true }
-        ensures heard { HearsAll (answered session.old outcome) result session.new self.old self.new }
-        ensures open { OnErr result (GoesOn (answered session.old outcome)) }
+        ensures heard { HearsAll (after_answer session.old outcome) result session.new self.old self.new }
+        ensures open { OnErr result (GoesOn (after_answer session.old outcome)) }
     {
         session.reply(outcome, &mut self.octets)
     }

@@ -1,6 +1,6 @@
 //! A session that runs, and what its type keeps.
 ghost use Rattle.std.specs.Prelude.{◌≡◌, false, IfOk};
-ghost use Rattle.acap_dialogue.specs.Talking.{begun};
+ghost use Rattle.acap_dialogue.specs.Talking.{beginning};
 ghost use Rattle.acap_task.specs.Kept.{Kept, roles_of};
 ghost use Rattle.acap_task.specs.Progress.{HasRoomToLeave, progress};
 
@@ -54,7 +54,7 @@ fn copies(host: &Octets, user: &Option<UserName>) -> Result<(Octets, Option<User
 
 // A session at that host, of that user, and whether memory was refused for it.
 fn begin(alloc: Global, host: &Octets, user: &Option<UserName>) -> (Session, bool)
-    ensures { result.1 ≡ false → result.0 ≡ begun host.now user.now }
+    ensures { result.1 ≡ false → result.0 ≡ beginning host.now user.now }
 {
     match copies(host, user) {
         Ok((host, user)) => (Session::new(alloc, host, user), false),
@@ -67,7 +67,7 @@ fn begin(alloc: Global, host: &Octets, user: &Option<UserName>) -> (Session, boo
 
 impl<'u, W: Wire, D: Desk, S: Source, B: Bell> Running<'u, W, D, S, B> {
     ghost use Rattle.acap_task.specs.Kept.{IsUntold};
-    ghost use Rattle.std.specs.Prelude.{◌≡◌, ◌+◌, ◌≤◌, vec_len, vec_capacity};
+    ghost use Rattle.std.specs.Prelude.{◌≡◌};
 
     /// A session of which nothing has been done, over four that have told nothing yet. Where memory is refused for it, it ends at its
     /// first poll.

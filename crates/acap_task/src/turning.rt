@@ -1,6 +1,6 @@
 //! What a session that runs does with its desk: turns, drains and its end.
-ghost use Rattle.std.specs.Prelude.{◌≡◌, IfOk, OnErr, true, false, []};
-ghost use Rattle.acap_dialogue.specs.Session.{is_asked, answered};
+ghost use Rattle.std.specs.Prelude.{◌≡◌, IfOk, OnErr, true, false};
+ghost use Rattle.acap_dialogue.specs.Session.{is_asked, after_answer};
 ghost use Rattle.acap_task.specs.Hearing.{AwaitsBy};
 ghost use Rattle.acap_task.specs.Progress.{HasRoom, HasRoomToLeave, IfNothing, progress};
 ghost use Rattle.acap_task.specs.Turns as turns;
@@ -74,7 +74,7 @@ fn say_to<D: Desk>(
     outcome: Result<Reply, Fault>,
 ) -> Option<Fault>
     requires { is_asked course.old.session.stage ≡ true }
-    ensures said { SaysTo (answered course.old.session outcome) clock
+    ensures said { SaysTo (after_answer course.old.session outcome) clock
         (progress course.old) (D.told desk.old) result (progress course.new) (D.told desk.new) }
     ensures steps { course.new.steps ≡ course.old.steps }
 {

@@ -22,11 +22,11 @@ use std::sync::ledger::{Blank, Ledger};
 const JOE: Option<&[u8]> = Some(b"joe");
 
 /// What a session before sends; what the session that is cut sends, and what it should be told behind the greeting.
-type Row = (&'static [u8], &'static [u8], &'static [u8]);
+type FailingRow = (&'static [u8], &'static [u8], &'static [u8]);
 
 const STORED: &[u8] = b"A1 STORE (\"/option/~/font\" \"option.value\" \"mono\")\r\n";
 
-const ROWS: [Row; 3] = [
+const ROWS: [FailingRow; 3] = [
     (b"", STORED, b"A1 OK \"STORE done\"\r\n"),
     (
         b"",
@@ -134,7 +134,7 @@ fn is_cut_at<S, L, R>(
     blank: Blank,
     state: State,
     counter: Blank,
-    row: Row,
+    row: FailingRow,
     at: usize,
     fault: TaskEnd,
 ) -> io::Result<bool>

@@ -19,7 +19,7 @@ use std::sync::ledger::{Blank, Ledger};
 type Client = (Option<&'static [u8]>, &'static [u8]);
 
 /// Clients one after the other, the same as lines of a script, and what the clock shows.
-struct Row {
+struct PieceRow {
     clients: &'static [Client],
     script: &'static [u8],
     clock: i64,
@@ -40,28 +40,28 @@ const LITERALS: &[u8] =
 const LOGIN: &[u8] =
     b"A1 AUTHENTICATE \"CRAM-MD5\"\r\n\"tim b913a602c7eda7a495b4e6e7334d3890\"\r\nA2 MYRIGHTS (\"/option/~/\")\r\nA3 LOGOUT\r\n";
 
-const ROWS: [Row; 5] = [
-    Row {
+const ROWS: [PieceRow; 5] = [
+    PieceRow {
         clients: &[(JOE, b"A1 NOOP\r\n")],
         script: b"enter 0 joe\nsend 0 A1 NOOP\n",
         clock: 0,
     },
-    Row {
+    PieceRow {
         clients: &[(JOE, STORE_AND_SEARCH)],
         script: b"enter 0 joe\nsend 0 A1 STORE (\"/option/~/font\" \"option.value\" \"mono\")\nsend 0 A2 SEARCH \"/option/~/\" RETURN (\"option.value\" \"modtime\") ALL\n",
         clock: 0,
     },
-    Row {
+    PieceRow {
         clients: &[(JOE, LITERALS)],
         script: b"enter 0 joe\nsend 0 A1 STORE (\"/option/~/font\" \"option.value\" {5}\nsend 0 hello)\nsend 0 A2 STORE (\"/option/~/size\" \"option.value\" {2+}\nsend 0 10)\nsend 0 A3 NOOP\n",
         clock: 0,
     },
-    Row {
+    PieceRow {
         clients: &[(JOE, STORE), (JOE, SEARCH)],
         script: b"clock 697170952000000\nenter 0 joe\nsend 0 A1 STORE (\"/option/~/font\" \"option.value\" \"mono\")\nleave 0\nenter 1 joe\nsend 1 B1 SEARCH \"/option/~/\" RETURN (\"option.value\" \"modtime\") ALL\nleave 1\n",
         clock: 697_170_952_000_000,
     },
-    Row {
+    PieceRow {
         clients: &[(None, LOGIN)],
         script: b"user tim tanstaaftanstaaf\nhost postoffice.reston.mci.net\nnonce 1896\nclock 697170952000000\nopen 0\nsend 0 A1 AUTHENTICATE \"CRAM-MD5\"\nsend 0 \"tim b913a602c7eda7a495b4e6e7334d3890\"\nsend 0 A2 MYRIGHTS (\"/option/~/\")\nsend 0 A3 LOGOUT\n",
         clock: 697_170_952_000_000,
@@ -123,12 +123,12 @@ where
 
 // What clients one after the other are told in pieces of that size, each at a seat of its own, as a script writes it, and what the last
 // one is told. `None` where a session ends otherwise than it should, or the passes don't fit the history.
-fn told_in_pieces<S, L, R>(
+fn run_in_pieces<S, L, R>(
     rt: &R,
     blank: Blank,
     state: State,
     counter: Blank,
-    row: &Row,
+    row: &PieceRow,
     width: usize,
 ) -> io::Result<Option<(Vec<u8>, Vec<u8>)>>
 where
@@ -170,7 +170,7 @@ where
 }
 
 // What a script of the same clients writes.
-fn told_by_script<L: Ledger>(alloc: Global, row: &Row, blank: Blank) -> Option<Vec<u8>>
+fn run_as_script<L: Ledger>(alloc: Global, row: &PieceRow, blank: Blank) -> Option<Vec<u8>>
     requires name { blank.name ≡ L.name }
     requires parts { blank.parts ≡ L.parts }
     requires some { 0 < L.parts }
@@ -182,7 +182,7 @@ fn told_by_script<L: Ledger>(alloc: Global, row: &Row, blank: Blank) -> Option<V
 }
 
 // What a pipe of joe writes for the same octets.
-fn told_by_pipe<L: Ledger>(alloc: Global, input: &[u8], blank: Blank) -> Option<Vec<u8>>
+fn run_as_pipe<L: Ledger>(alloc: Global, input: &[u8], blank: Blank) -> Option<Vec<u8>>
     requires name { blank.name ≡ L.name }
     requires parts { blank.parts ≡ L.parts }
     requires some { 0 < L.parts }
@@ -195,12 +195,12 @@ fn told_by_pipe<L: Ledger>(alloc: Global, input: &[u8], blank: Blank) -> Option<
 }
 
 // Whether clients are told the same in pieces of that size as by a script, and, where a pipe has the same client and clock, as by a pipe.
-fn are_alike<R>(rt: &R, row: &Row, width: usize) -> bool
+fn are_alike<R>(rt: &R, row: &PieceRow, width: usize) -> bool
 where
     R: Wait + RandomSource + AllocGlobal,
 {
     let alloc = rt.alloc();
-    let told = told_in_pieces::<Brand, Brand, _>(
+    let told = run_in_pieces::<Brand, Brand, _>(
         rt,
         Blank::new(64),
         empty(alloc),
@@ -211,11 +211,11 @@ where
     let Ok(Some((text, last))) = told else {
         return false;
     };
-    if told_by_script::<Brand>(alloc, row, Blank::new(1)) != Some(text) {
+    if run_as_script::<Brand>(alloc, row, Blank::new(1)) != Some(text) {
         return false;
     }
     match row.clients {
-        [(Some(_), input)] => told_by_pipe::<Brand>(alloc, *input, Blank::new(1)) == Some(last),
+        [(Some(_), input)] => run_as_pipe::<Brand>(alloc, *input, Blank::new(1)) == Some(last),
         _ => true,
     }
 }

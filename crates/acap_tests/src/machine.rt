@@ -67,7 +67,7 @@ fn are_said(outcomes: &Outcomes) -> bool {
 }
 
 // A copy of these steps.
-fn copied(alloc: Global) -> Result<StepList, Memory> {
+fn copy_steps(alloc: Global) -> Result<StepList, Memory> {
     steps_of(alloc)?.copy()
 }
 
@@ -88,7 +88,7 @@ fn runs<L: Ledger>(alloc: Global, list: StepList, blank: Blank) -> bool
 // A run answers each step in its order, and goes on behind a fault.
 #[test]
 fn runs_steps(rt: HostRuntime) {
-    let said = match copied(rt.alloc()) {
+    let said = match copy_steps(rt.alloc()) {
         Ok(list) => runs::<Brand>(rt.alloc(), list, Blank::new(1)),
         Err(_) => false,
     };

@@ -27,7 +27,7 @@ fn has_rows(held: &[Row], rows: &[Row], enumerated: bool) -> bool {
 }
 
 // What a client holds that was told some rows.
-fn held_of(rows: Rows, enumerated: bool) -> Result<Held, Wrong> {
+fn hold(rows: Rows, enumerated: bool) -> Result<Held, Wrong> {
     if is_each_once(rows.as_slice()) {
         Ok(Held::start(rows, enumerated))
     } else {
@@ -47,7 +47,7 @@ impl Client {
         let line = quest.making(world.alloc, name)?;
         match world.send(seat, line.as_slice(), steps)? {
             Said::Searched(found) => {
-                let held = held_of(found.rows, quest.enumerated)?;
+                let held = hold(found.rows, quest.enumerated)?;
                 Ok(Some(Client {
                     seat,
                     name,
@@ -70,12 +70,12 @@ impl Client {
             seat: self.seat,
             name: self.name,
             quest: self.quest.copy(alloc)?,
-            held: held_of(rows, self.quest.enumerated)?,
+            held: hold(rows, self.quest.enumerated)?,
         })
     }
 
     // The rows that its user finds now.
-    fn found<L: Ledger>(&self, world: &mut World, steps: &mut Steps<L>) -> Result<Rows, Wrong> {
+    fn find<L: Ledger>(&self, world: &mut World, steps: &mut Steps<L>) -> Result<Rows, Wrong> {
         let line = self.quest.searching(world.alloc)?;
         match world.send(self.seat, line.as_slice(), steps)? {
             Said::Searched(found) => Ok(found.rows),
@@ -85,7 +85,7 @@ impl Client {
     }
 
     // The rows that its user finds in the context.
-    fn shown<L: Ledger>(&self, world: &mut World, steps: &mut Steps<L>) -> Result<Rows, Wrong> {
+    fn show<L: Ledger>(&self, world: &mut World, steps: &mut Steps<L>) -> Result<Rows, Wrong> {
         let line = self.quest.within(world.alloc, self.name)?;
         match world.send(self.seat, line.as_slice(), steps)? {
             Said::Searched(found) => Ok(found.rows),
@@ -103,11 +103,11 @@ impl Client {
         for told in tolds.as_slice() {
             self.apply(told)?;
         }
-        let rows = self.found(world, steps)?;
+        let rows = self.find(world, steps)?;
         if !has_rows(self.held.rows(), rows.as_slice(), self.quest.enumerated) {
             return Err(Wrong::Held);
         }
-        if self.shown(world, steps)? != rows {
+        if self.show(world, steps)? != rows {
             return Err(Wrong::Range);
         }
         Ok(())

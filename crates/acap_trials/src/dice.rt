@@ -90,7 +90,7 @@ const KEYS: Words = &[
 ];
 
 /// Some pieces of a line, one after the other.
-pub(crate) fn joined(alloc: Global, parts: &[&[u8]]) -> Result<Vec<u8>, Memory> {
+pub(crate) fn join(alloc: Global, parts: &[&[u8]]) -> Result<Vec<u8>, Memory> {
     let mut line = Vec::new(alloc);
     for part in parts {
         line.extend_from_slice(part)?;
@@ -102,9 +102,9 @@ impl Quest {
     /// The same search once more.
     pub(crate) fn copy(&self, alloc: Global) -> Result<Quest, Memory> {
         Ok(Quest {
-            front: joined(alloc, &[&self.front])?,
+            front: join(alloc, &[&self.front])?,
             returns: self.returns,
-            back: joined(alloc, &[&self.back])?,
+            back: join(alloc, &[&self.back])?,
             enumerated: self.enumerated,
         })
     }
@@ -138,7 +138,7 @@ impl Quest {
 
     /// A search for all that is in such a context.
     pub(crate) fn within(&self, alloc: Global, name: u8) -> Result<Vec<u8>, Memory> {
-        joined(
+        join(
             alloc,
             &[b"T SEARCH \"", &[name, b'"'], self.returns, b" ALL"],
         )
@@ -190,7 +190,7 @@ impl Dice {
             2 => (b"subdataset", b"(\"value\" (\".\"))"),
             _ => (self.word(ATTRIBUTES), self.word(VALUES)),
         };
-        joined(
+        join(
             alloc,
             &[
                 b" (\"", dataset, name, b"\" \"", attribute, b"\" ", value, b")",
@@ -203,17 +203,17 @@ impl Dice {
         let (one, two) = (self.path(), self.path());
         let first = self.entry(alloc, one)?;
         if self.under(4) > 0 || one == two {
-            return joined(alloc, &[b"T STORE", first.as_slice()]);
+            return join(alloc, &[b"T STORE", first.as_slice()]);
         }
         let second = self.entry(alloc, two)?;
-        joined(alloc, &[b"T STORE", first.as_slice(), second.as_slice()])
+        join(alloc, &[b"T STORE", first.as_slice(), second.as_slice()])
     }
 
     // A dataset inherits from another, or from none.
     fn inherit(&mut self, alloc: Global) -> Result<Vec<u8>, Memory> {
         let heir = self.word(DATASETS);
         let base = self.word(BASES);
-        joined(
+        join(
             alloc,
             &[b"T STORE (\"", heir, b"\" \"dataset.inherit\" ", base, b")"],
         )
@@ -226,9 +226,9 @@ impl Dice {
         let rest: &[u8] = match self.under(3) {
             0 => b"\")",
             1 => b"\" \"k\")",
-            _ => return joined(alloc, &[b" (\"", dataset, b"\" \"k\" \"", name, b"\")"]),
+            _ => return join(alloc, &[b" (\"", dataset, b"\" \"k\" \"", name, b"\")"]),
         };
-        joined(alloc, &[b" (\"", dataset, rest])
+        join(alloc, &[b" (\"", dataset, rest])
     }
 
     // Rights are given, withheld or forgotten.
@@ -238,9 +238,9 @@ impl Dice {
         let rights = self.word(RIGHTS);
         let object = object.as_slice();
         match self.under(4) {
-            0 => joined(alloc, &[b"T DELETEACL", object]),
-            1 => joined(alloc, &[b"T DELETEACL", object, b" \"", who, b"\""]),
-            _ => joined(
+            0 => join(alloc, &[b"T DELETEACL", object]),
+            1 => join(alloc, &[b"T DELETEACL", object, b" \"", who, b"\""]),
+            _ => join(
                 alloc,
                 &[b"T SETACL", object, b" \"", who, b"\" \"", rights, b"\""],
             ),
@@ -264,11 +264,11 @@ impl Dice {
         } else {
             b"/option/user/"
         };
-        let front = joined(alloc, &[b"T SEARCH \"", dataset, b"\"", depth])?;
+        let front = join(alloc, &[b"T SEARCH \"", dataset, b"\"", depth])?;
         let returns = self.word(RETURNS);
         let sort = self.word(SORTS);
         let key = self.word(KEYS);
-        let back = joined(alloc, &[sort, b" ", key])?;
+        let back = join(alloc, &[sort, b" ", key])?;
         let enumerated = self.under(2) == 0;
         Ok(Quest {
             front,

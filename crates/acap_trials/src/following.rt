@@ -2,7 +2,7 @@
 ghost use Rattle.std.specs.Prelude.{◌≡◌, ◌<◌};
 
 use crate::client::Client;
-use crate::dice::{Dice, joined};
+use crate::dice::{Dice, join};
 use crate::world::World;
 use crate::wrong::Wrong;
 use acap_commands::{Said, Tolds};
@@ -171,7 +171,7 @@ impl Trial {
         }
         let client = self.clients.swap_remove(at);
         let name = [client.name];
-        let line = joined(
+        let line = join(
             self.world.alloc,
             &[b"T FREECONTEXT \"", name.as_slice(), b"\""],
         )?;

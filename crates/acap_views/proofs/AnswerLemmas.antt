@@ -70,20 +70,3 @@ update_refused meant contexts names last why e = refused (fault_of contexts name
 
 pub update_told : (contexts : Contexts) (names : List (List ℕ)) (last : ℤ) (tolds : List Told) → None ≡ fault_of contexts names → tolds ≡ told_in_turn contexts names last → update_tells contexts names last ≡ Ok tolds
 update_told contexts names last tolds e t = ap (λ (o : Option ViewRefusal). unless_faulty o (told_in_turn contexts names last)) (sym e) ∙ ap (λ (ts : List Told). Ok ts) (sym t)
-
--- the same with the seats as they are left
-pub also_told : {S : Type 0} (f : Option ViewRefusal) (x tolds : List Told) (s new : S) → unless_faulty f x ≡ Ok tolds → new ≡ s → unless_faulty {X = List Told × S} f (x, s) ≡ Ok (tolds, new)
-also_told None x tolds s new e n = let same : x ≡ tolds = cc (e) in λ i. Ok (same i, sym n i)
-also_told (Some why) x tolds s new e n = absurd (cc (e))
-
-pub also_refused : {S X : Type 0} (f : Option ViewRefusal) (x : List Told) (s : S) (meant : X → List Told × S) (why : ViewRefusal) → IsAnswer (unless_faulty f x) (λ (ts : List Told). ts) (Err why) → IsAnswer (unless_faulty {X = List Told × S} f (x, s)) meant (Err why)
-also_refused None x s meant refusal.TryFree h = absurd (cc (h))
-also_refused None x s meant refusal.NoContext h = absurd (cc (h))
-also_refused None x s meant refusal.FreedContext h = absurd (cc (h))
-also_refused None x s meant refusal.NotNotify h = absurd (cc (h))
-also_refused None x s meant refusal.Memory h = h
-also_refused (Some f) x s meant refusal.TryFree h = let same : f ≡ refusal.TryFree = cc (h) in ap (λ (w : ViewRefusal). Err w) same
-also_refused (Some f) x s meant refusal.NoContext h = let same : f ≡ refusal.NoContext = cc (h) in ap (λ (w : ViewRefusal). Err w) same
-also_refused (Some f) x s meant refusal.FreedContext h = let same : f ≡ refusal.FreedContext = cc (h) in ap (λ (w : ViewRefusal). Err w) same
-also_refused (Some f) x s meant refusal.NotNotify h = let same : f ≡ refusal.NotNotify = cc (h) in ap (λ (w : ViewRefusal). Err w) same
-also_refused (Some f) x s meant refusal.Memory h = h

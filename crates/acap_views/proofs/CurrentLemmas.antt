@@ -30,7 +30,7 @@ use Rattle.acap_search.specs.Matches.{Match}
 use Rattle.acap_search.specs.Once.{OnceLaw}
 use Rattle.acap_search.specs.declared.query.Sought.{Sought}
 use Rattle.acap_search.proofs.SeenLemmas.{here, there, first_or, nowhere, either}
-use Rattle.acap_views.specs.Changing.{IsSoundStep, sight_for, follows, changed_context, changed_occupant, changed}
+use Rattle.acap_views.specs.Changing.{IsSoundStep, sight_for, follows, changed_context, changed_occupant, changed_seats}
 use Rattle.acap_views.specs.Contexts.{Kept, Snapshot, Live, Freed, Context, Contexts, kept_of, context_of}
 use Rattle.acap_views.specs.Current.{rows, IsFollowing, IsCurrentKept, IsCurrentContext, IsCurrentOccupant, IsCurrent}
 use Rattle.acap_views.specs.Laws.{NoticeLaw, CurrentLaw}
@@ -240,7 +240,7 @@ module _ (notice : NoticeLaw) (once : OnceLaw) (old new : Store) (realm : Realm)
         subst (λ (c : Context). IsCurrentContext new realm occupant.user c) same (one_changed occupant.user w.1.0 (i.each w.0 w.1.0 w.1.1.0));
   }
 
-  all_changed : (seats : Seated) → IsCurrent old realm seats → IsCurrent new realm (changed realm old new seats)
+  all_changed : (seats : Seated) → IsCurrent old realm seats → IsCurrent new realm (changed_seats realm old new seats)
   all_changed seats i = record {
     all = λ seat occupant e.
         let w = from_kept nat_cmp_total (λ (o : Occupant). Some (changed_occupant realm old new o)) seats seat occupant e in

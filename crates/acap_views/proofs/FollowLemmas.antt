@@ -23,11 +23,11 @@ use Rattle.acap_search.specs.Matches.{Match, match_cmp}
 use Rattle.acap_search.specs.Places.{places_cmp}
 use Rattle.acap_search.specs.Totals.{match_total}
 use Rattle.acap_search.specs.Tuples.{name_told}
-use Rattle.acap_search.specs.declared.rank.Place.{Place}
+use Rattle.acap_search.specs.declared.rank.SortPlace.{SortPlace}
 use Rattle.acap_search.proofs.OnceLemmas.{then_equal}
 use Rattle.acap_search.proofs.SeenLemmas.{here, there, first_or, nowhere, either}
 use Rattle.acap_views.specs.Notices.{told_shape}
-use Rattle.acap_views.specs.Shifting.{Shift, standing, with_match, without_old, stood, stands, from_one, after_shift, after_shifts, shift_notices, shifts_notices, tells_between, surely_tells, counted, until_full}
+use Rattle.acap_views.specs.Shifting.{Shift, standing, with_match, without_old, old_place, stands, from_one, after_shift, after_shifts, shift_notices, shifts_notices, tells_between, surely_tells, count_with, until_full}
 use Rattle.acap_views.proofs.PathLemmas.{IsIn, told_apart}
 use Rattle.acap_views.proofs.ShiftLemmas.{Unlike, IsApt, rises, left_of, finds_place, shift_is, told_is, tied}
 
@@ -98,7 +98,7 @@ abbrev pub Apart : List Path → Type 0
 Apart [] = Unit {0}
 Apart (p ∷ ps) = ((q : Path) → Contains ps q → p ≡ q → ⊥) × Apart ps
 
-module _ (dataset : List ℕ) (depth : Option ℕ) (was : Path → List Place) (come : Path → Option Match) where
+module _ (dataset : List ℕ) (depth : Option ℕ) (was : Path → List SortPlace) (come : Path → Option Match) where
   abbrev pub told : Path → Name
   told = name_told depth
 
@@ -197,7 +197,7 @@ module _ (dataset : List ℕ) (depth : Option ℕ) (was : Path → List Place) (
       let old = standing p (was p) in
       let stood_is = found_there (rank_of match_cmp old hits) (item_at match_cmp old hits) in
       let place = finds_place (shift_by p) hits (apt p hits named asked at) (come p) (unlike p hits named asked at) in
-      told_one enumerated (told p) (from_one (stood old hits)) (from_one (stands old (come p) hits))
+      told_one enumerated (told p) (from_one (old_place old hits)) (from_one (stands old (come p) hits))
       ((λ i. tells_between (stood_is i) (place i)) ∙ e)
 
   -- all of them are needed, or more notices would wait than may: with those that are needed, and with all
@@ -223,7 +223,7 @@ module _ (dataset : List ℕ) (depth : Option ℕ) (was : Path → List Place) (
   suffices enumerated first (p ∷ ps) hits count n a s d f =
       let asked = a p (here p ps) in
       let stood = s p (here p ps) in
-      let next = counted first (shift_by p) count in
+      let next = count_with first (shift_by p) count in
       let within = counted_within (surely_tells first (shift_by p)) count (length (shift_notices enumerated (shift_by p) hits)) (λ e.
       surely_told p hits n asked stood enumerated (ap (λ (o : Option Match). tells_between o (come p)) (f p (here p ps)) ∙ e)) in
       let rest = suffices enumerated first ps (after_shift (shift_by p) hits) next (next_named p hits n asked stood) (λ q k. a q (there p q ps k))

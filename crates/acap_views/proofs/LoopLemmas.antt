@@ -1,32 +1,14 @@
 -- Lists that loops go through, one item further.
-use Rattle.std.proofs.Common.{◌≡◌, ℕ, zero, suc, ◌+◌, ◌<◌, List, [], ◌∷◌, ◌++◌, length, take, drop, get_or, set, refl, sym, ◌∙◌, ap, arith, append_assoc, map as each}
+use Rattle.std.proofs.Common.{◌≡◌, ℕ, zero, suc, ◌+◌, ◌<◌, List, [], ◌∷◌, ◌++◌, length, take, drop, get_or, set, refl, sym, ◌∙◌, ap, arith, map as each}
 use Rattle.std.proofs.Math.Seq.{drop-cons}
 use Rattle.std.proofs.lemmas.List.Edits.{map_over_more}
-use Rattle.std.proofs.lemmas.List.{take_more, map-append, map-set}
+use Rattle.std.proofs.lemmas.List.{map-set}
 
 suc_is : (i : ℕ) → suc i ≡ i + 1
 suc_is i = omega arith
 
 pub one_dropped : {A : Type 0} (xs : List A) (i : ℕ) (x : A) → i < length xs → x ≡ get_or xs i x → drop i xs ≡ x ∷ drop (i + 1) xs
 one_dropped xs i x h e = drop-cons xs i x h ∙ (ap (λ z. z ∷ drop (suc i) xs) (sym e) ∙ ap (λ n. x ∷ drop n xs) (suc_is i))
-
--- images of what was gone through, and of one item more
-pub one_made : {A B : Type 0} (f : A → B) (made : List A) (items : List B) (i : ℕ) (y : A) → i < length items → f y ≡ get_or items i (f y)
-    → each f made ≡ take i items → each f (made ++ y ∷ []) ≡ take (i + 1) items
-one_made f made items i y h e m =
-    map-append f made (y ∷ []) ∙ (λ t. m t ++ e t ∷ []) ∙ sym (take_more items i (f y) h)
-
-pub one_copied : {A B : Type 0} (f : A → B) (made items : List A) (i : ℕ) (x y : A) → i < length items → x ≡ get_or items i x → f y ≡ f x
-    → each f made ≡ each f (take i items) → each f (made ++ y ∷ []) ≡ each f (take (i + 1) items)
-one_copied f made items i x y h e k m =
-    map-append f made (y ∷ []) ∙ (λ t. m t ++ (k ∙ ap f e) t ∷ []) ∙ sym (ap (each f) (take_more items i x h) ∙ map-append f (take i items) (get_or items i x ∷ []))
-
--- what is put behind others for each item
-pub one_pushed : {A B : Type 0} (f : A → B) (before now : List B) (items : List A) (i : ℕ) (x : A) → i < length items → x ≡ get_or items i x
-    → now ≡ before ++ each f (take i items) → now ++ f x ∷ [] ≡ before ++ each f (take (i + 1) items)
-one_pushed f before now items i x h e m =
-    ap (λ t. t ++ f x ∷ []) m ∙ (append_assoc before (each f (take i items)) (f x ∷ [])
-    ∙ ap (λ t. before ++ t) (sym (ap (each f) (take_more items i x h) ∙ map-append f (take i items) (get_or items i x ∷ []) ∙ ap (λ z. each f (take i items) ++ f z ∷ []) (sym e))))
 
 each_length : {A B : Type 0} (f : A → B) (xs : List A) → length (each f xs) ≡ length xs
 each_length f [] = refl

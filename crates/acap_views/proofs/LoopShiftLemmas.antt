@@ -8,7 +8,7 @@ use Rattle.acap_notices.specs.Waiting.{most_waiting}
 use Rattle.acap_notices.specs.declared.notice.Notice.{Notice}
 use Rattle.acap_search.specs.Matches.{Match}
 use Rattle.acap_views.specs.Room.{Space, Watched, HasRoom}
-use Rattle.acap_views.specs.Shifting.{Shift, after_shift, after_shifts, shift_notices, shifts_notices, surely_tells, counted, until_full, needed}
+use Rattle.acap_views.specs.Shifting.{Shift, after_shift, after_shifts, shift_notices, shifts_notices, surely_tells, count_with, until_full, due_shifts}
 
 some_first : (n : ℕ) (o : Option ℕ) → IfSome o (λ room. suc n ≤ room) → IfSome o (λ room. 1 ≤ room)
 some_first n None i = i
@@ -51,18 +51,18 @@ full_then enumerated rest shift now shifts pending before all s i h =
 
 stopped : (matches : List Match) (count : ℕ) (shifts : List Shift) → most_waiting < count → until_full matches count shifts ≡ []
 stopped matches count [] h = refl
-stopped matches count (shift ∷ shifts) h = ap (λ b. cond b [] (shift ∷ until_full matches (counted matches shift count) shifts)) (lt-ltb _ _ h)
+stopped matches count (shift ∷ shifts) h = ap (λ b. cond b [] (shift ∷ until_full matches (count_with matches shift count) shifts)) (lt-ltb _ _ h)
 
 pub left_out : (f : Path → Shift) (matches : List Match) (count : ℕ) (made all : List Shift) (rest paths : List Path) → most_waiting < count
     → made ++ until_full matches count (each f paths) ≡ all → made ++ until_full matches count (each f rest) ≡ all
 left_out f matches count made all rest paths h i = ap (λ ss. made ++ ss) (stopped matches count (each f rest) h ∙ sym (stopped matches count (each f paths) h)) ∙ i
 
 pub put_in : (f : Path → Shift) (matches : List Match) (count next : ℕ) (made more all : List Shift) (path : Path) (rest paths : List Path) → count ≤ most_waiting → paths ≡ path ∷ rest
-    → more ≡ made ++ f path ∷ [] → next ≡ counted matches (f path) count → made ++ until_full matches count (each f paths) ≡ all → more ++ until_full matches next (each f rest) ≡ all
+    → more ≡ made ++ f path ∷ [] → next ≡ count_with matches (f path) count → made ++ until_full matches count (each f paths) ≡ all → more ++ until_full matches next (each f rest) ≡ all
 put_in f matches count next made more all path rest paths h p m n i =
     (λ t. m t ++ until_full matches (n t) (each f rest))
-    ∙ (append_assoc made (f path ∷ []) (until_full matches (counted matches (f path) count) (each f rest))
-    ∙ (ap (λ b. made ++ cond b [] (f path ∷ until_full matches (counted matches (f path) count) (each f rest))) (sym (le-ltb _ _ h))
+    ∙ (append_assoc made (f path ∷ []) (until_full matches (count_with matches (f path) count) (each f rest))
+    ∙ (ap (λ b. made ++ cond b [] (f path ∷ until_full matches (count_with matches (f path) count) (each f rest))) (sym (le-ltb _ _ h))
     ∙ (ap (λ ps. made ++ until_full matches count (each f ps)) (sym p) ∙ i)))
 
 -- where all of them may wait, all are needed
@@ -74,11 +74,11 @@ one_more_at_most false count = omega arith
 all_few : (matches : List Match) (count : ℕ) (shifts : List Shift) → count + length shifts ≤ most_waiting → until_full matches count shifts ≡ shifts
 all_few matches count [] h = refl
 all_few matches count (shift ∷ shifts) h =
-    ap (λ b. cond b [] (shift ∷ until_full matches (counted matches shift count) shifts)) (le-ltb _ _ (omega (arith, h)))
-    ∙ ap (λ ss. shift ∷ ss) (all_few matches (counted matches shift count) shifts (omega (arith, h, one_more_at_most (surely_tells matches shift) count)))
+    ap (λ b. cond b [] (shift ∷ until_full matches (count_with matches shift count) shifts)) (le-ltb _ _ (omega (arith, h)))
+    ∙ ap (λ ss. shift ∷ ss) (all_few matches (count_with matches shift count) shifts (omega (arith, h, one_more_at_most (surely_tells matches shift) count)))
 
 pub all_needed : (f : Path → Shift) (watched : Watched) (paths : List Path) → length paths ≤ most_waiting - length watched.pending → length watched.pending ≤ most_waiting
-    → each f paths ≡ needed watched (each f paths)
+    → each f paths ≡ due_shifts watched (each f paths)
 all_needed f watched paths h few = sym (all_few watched.present (length watched.pending) (each f paths) (omega (arith, h, few, length-map paths f)))
 
 -- what has no items left

@@ -26,7 +26,7 @@ use Rattle.acap_entries.specs.declared.path.Path.{Path}
 use Rattle.acap_inherit.specs.Chains.{chain_of}
 use Rattle.acap_inherit.specs.Laws.{NothingLaw, NamesLaw}
 use Rattle.acap_inherit.specs.Records.{record_at}
-use Rattle.acap_inherit.specs.Touched.{by_octets, octets_total, is_written, is_written_on, has_record_on, is_reached, is_touched, touched}
+use Rattle.acap_inherit.specs.Touched.{by_octets, octets_total, is_written, is_written_on, has_record_on, is_reached, is_touched, touched_paths}
 use Rattle.acap_inherit.specs.TouchedLaws.{TouchedPathsLaw}
 use Rattle.acap_moves.specs.Hits.{Name, is_among, IsAscending}
 use Rattle.acap_moves.specs.Moves.{moves_to, after_moves, moves_notices}
@@ -143,7 +143,7 @@ module _ (nothing : NothingLaw) (names : NamesLaw) (listed : TouchedPathsLaw) (s
   is_looked_at path = list_any (octets_eq path.dataset) datasets
 
   abbrev looked : List Path
-  looked = filter is_looked_at (touched written old.records new.records)
+  looked = filter is_looked_at (touched_paths written old.records new.records)
 
   abbrev told : Path → Name
   told = name_told sought.depth
@@ -165,10 +165,10 @@ module _ (nothing : NothingLaw) (names : NamesLaw) (listed : TouchedPathsLaw) (s
         (reached_name written taken.formed new.records taken.sound.new_sound _ p.name);
   }
 
-  in_touched : (p : Path) → is_touched written old.records new.records p ≡ true → Contains (touched written old.records new.records) p
+  in_touched : (p : Path) → is_touched written old.records new.records p ≡ true → Contains (touched_paths written old.records new.records) p
   in_touched p e = Contains-from_any (tells_apart same_paths) p _ (listed.all written old.records new.records taken.paths p ∙ e)
 
-  from_touched : (p : Path) → Contains (touched written old.records new.records) p → is_touched written old.records new.records p ≡ true
+  from_touched : (p : Path) → Contains (touched_paths written old.records new.records) p → is_touched written old.records new.records p ≡ true
   from_touched p k = sym (listed.all written old.records new.records taken.paths p) ∙ list_any-from_Contains (eq_by_cmp_equiv octets_total) p _ k
 
   -- ---- those that are looked at
@@ -177,7 +177,7 @@ module _ (nothing : NothingLaw) (names : NamesLaw) (listed : TouchedPathsLaw) (s
   looked_split p k = touched_split p (from_touched p (from_filter _ _ p k).0)
 
   pub looked_in : (p : Path) → Contains looked p → Contains datasets p.dataset
-  looked_in p k = Contains-from_any same_name p.dataset datasets (from_filter is_looked_at (touched written old.records new.records) p k).1
+  looked_in p k = Contains-from_any same_name p.dataset datasets (from_filter is_looked_at (touched_paths written old.records new.records) p k).1
 
   pub alone : (p : Path) → Contains datasets p.dataset → IsIn sought.dataset sought.depth p
   alone p k e =
@@ -187,7 +187,7 @@ module _ (nothing : NothingLaw) (names : NamesLaw) (listed : TouchedPathsLaw) (s
   pub looked_rise : IsAscending (each told looked)
   looked_rise =
       names_rise sought.dataset sought.depth looked (λ p k. alone p (looked_in p k))
-      (paths_rise listed looked looked_split (AllPairs-filter (λ x y. by_octets x y ≡ Less) is_looked_at (touched written old.records new.records) (listed.rises written old.records new.records).rises))
+      (paths_rise listed looked looked_split (AllPairs-filter (λ x y. by_octets x y ≡ Less) is_looked_at (touched_paths written old.records new.records) (listed.rises written old.records new.records).rises))
 
   -- ---- the changed ones are among them
 
@@ -208,7 +208,7 @@ module _ (nothing : NothingLaw) (names : NamesLaw) (listed : TouchedPathsLaw) (s
 
   changed_looked : (p : Path) → Contains (changed_paths sought before after) p → Contains looked p
   changed_looked p k =
-      in_filter is_looked_at (touched written old.records new.records) p
+      in_filter is_looked_at (touched_paths written old.records new.records) p
       (in_touched p (differs_touched p ((changed.exact sought before after p).0 k)))
       (list_any-from_Contains nat_list_eq_equiv p.dataset datasets (looked_into p k))
 

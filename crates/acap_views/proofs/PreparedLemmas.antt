@@ -30,12 +30,12 @@ use Rattle.acap_search.specs.Touched.{TouchedLaw}
 use Rattle.acap_search.specs.Tuples.{name_told, match_of}
 use Rattle.acap_search.specs.Views.{answers_of, stars_at}
 use Rattle.acap_search.specs.declared.query.Sought.{Sought}
-use Rattle.acap_search.specs.declared.rank.Place.{Place}
+use Rattle.acap_search.specs.declared.rank.SortPlace.{SortPlace}
 use Rattle.acap_search.proofs.OnceLemmas.{from_made, found_at, in_one, from_ordered}
 use Rattle.acap_search.proofs.SeenLemmas.{here, there, first_or, nowhere, either}
 use Rattle.acap_search.proofs.TupleLemmas.{made_is}
 use Rattle.acap_views.specs.Aheads.{Planned, store_ahead}
-use Rattle.acap_views.specs.Changing.{sight_for, follows, changed_context, changed_occupant, changed}
+use Rattle.acap_views.specs.Changing.{sight_for, follows, changed_context, changed_occupant, changed_seats}
 use Rattle.acap_views.specs.Contexts.{Kept, Snapshot, Live, Freed, Context}
 use Rattle.acap_views.specs.Current.{IsCurrentKept, IsCurrentContext, IsCurrentOccupant, IsCurrent}
 use Rattle.acap_views.specs.Laws.{ChangedLaw, FoundLaw}
@@ -88,7 +88,7 @@ module _ (nothing : NothingLaw) (names : NamesLaw) (listed : TouchedPathsLaw) (s
     abbrev after : Sight
     after = sight_for realm new user sought
 
-    abbrev was : Path → List Place
+    abbrev was : Path → List SortPlace
     was p = (shift_for old.records new.records realm user sought p).old.places
 
     abbrev come : Path → Option Match
@@ -229,7 +229,7 @@ module _ (nothing : NothingLaw) (names : NamesLaw) (listed : TouchedPathsLaw) (s
     all_occupants (e ∷ es) current = λ i. (e.0, one_occupant e.1 (current e (here e es)) i) ∷ all_occupants es (λ x k. current x (there e x es k)) i
 
     all_seats : (seats : Seated) (work : ℕ) → IsCurrent plan.old plan.realm seats
-        → with_delta (record { seats = each (turns_by made) (table.values seats); work = work }) seats ≡ changed plan.realm plan.old (store_ahead plan) seats
+        → with_delta (record { seats = each (turns_by made) (table.values seats); work = work }) seats ≡ changed_seats plan.realm plan.old (store_ahead plan) seats
     all_seats seats work current = ap table.from_entries (all_occupants (table.entries seats)
         (λ e k. current.all e.0 e.1 (table.get-entries seats e.0 ∙ find_own nat_cmp_total (table.entries seats) e (so _ (table.entries_sorted seats)) k)))
 

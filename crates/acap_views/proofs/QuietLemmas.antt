@@ -15,7 +15,7 @@ use Rattle.acap_entries.specs.Store.{Store, Written}
 use Rattle.acap_notices.specs.declared.notice.Notice.{Notice}
 use Rattle.acap_rights.specs.declared.realm.Realm.{Realm}
 use Rattle.acap_search.specs.Matches.{Match}
-use Rattle.acap_views.specs.Changing.{follows, changed_context, changed_occupant, changed}
+use Rattle.acap_views.specs.Changing.{follows, changed_context, changed_occupant, changed_seats}
 use Rattle.acap_views.specs.Contexts.{Kept, Snapshot, Live, Freed, Context}
 use Rattle.acap_views.specs.Keeping.{RoomyContext, RoomyOccupant, occupant_in}
 use Rattle.acap_views.specs.Listing.{as_contexts, as_seated, bare, bare_seat, live_entry, live_seat}
@@ -76,7 +76,7 @@ occupant_same realm old new occupant e =
     ap (λ contexts. record occupant { contexts = contexts })
     (each_same (λ (c : Context). is_live c.kept) nat_list_cmp_total names_same (changed_context realm old new occupant.user) (λ c f. context_same realm old new occupant.user c f) occupant.contexts e)
 
-pub quiet_same : (realm : Realm) (old new : Store) (seats : Seated) → has_live seats ≡ false → changed realm old new seats ≡ seats
+pub quiet_same : (realm : Realm) (old new : Store) (seats : Seated) → has_live seats ≡ false → changed_seats realm old new seats ≡ seats
 quiet_same realm old new seats e =
     each_same (λ (o : Occupant). any_live o.contexts) nat_cmp_total nat_cmp-IsAntisymmetric (changed_occupant realm old new) (λ o f. occupant_same realm old new o f) seats e
 

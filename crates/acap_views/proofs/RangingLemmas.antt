@@ -8,11 +8,11 @@ use Rattle.acap_notices.specs.declared.notice.Notice.{Notice}
 use Rattle.acap_rights.specs.declared.realm.Realm.{Realm}
 use Rattle.acap_search.specs.Fresh.{matches_of}
 use Rattle.acap_search.specs.Matches.{Match}
-use Rattle.acap_views.specs.Changing.{follows, sight_for, changed_context, changed_occupant, changed}
+use Rattle.acap_views.specs.Changing.{follows, sight_for, changed_context, changed_occupant, changed_seats}
 use Rattle.acap_views.specs.Contexts.{Kept, Snapshot, Live, Freed, Context, Contexts}
 use Rattle.acap_views.specs.Laws.{ChangedLaw}
 use Rattle.acap_views.specs.Notices.{event_notices}
-use Rattle.acap_views.specs.Ranging.{Ranged, ranged_as, ranged_if, ranged_of, ranged}
+use Rattle.acap_views.specs.Ranging.{Ranged, ranged_as, ranged_if, ranged_of, range_at}
 use Rattle.acap_views.specs.RangingLaws.{RangedLaw}
 use Rattle.acap_views.specs.Seats.{Occupant, Seated}
 use Rattle.acap_views.specs.declared.refusal.ViewRefusal.{ViewRefusal}
@@ -43,9 +43,9 @@ module _ (changes : ChangedLaw) (realm : Realm) (old new : Store) where
   at_seat name (Some occupant) =
       subst (λ found. Stays (ranged_of (table.get occupant.contexts name)) (ranged_of found)) (sym (changes.contexts realm old new occupant name)) (one occupant.user (table.get occupant.contexts name))
 
-  stays : (seats : Seated) (seat : ℕ) (name : List ℕ) → Stays (ranged seats seat name) (ranged (changed realm old new seats) seat name)
+  stays : (seats : Seated) (seat : ℕ) (name : List ℕ) → Stays (range_at seats seat name) (range_at (changed_seats realm old new seats) seat name)
   stays seats seat name =
-      subst (λ o. Stays (ranged seats seat name) (ranged_of (table.get (contexts_in o) name))) (sym (changes.seats realm old new seats seat)) (at_seat name (table.get seats seat))
+      subst (λ o. Stays (range_at seats seat name) (ranged_of (table.get (contexts_in o) name))) (sym (changes.seats realm old new seats seat)) (at_seat name (table.get seats seat))
 
 kept_or : (before after : Result Ranged ViewRefusal) (found : Ranged) → Stays before after → before ≡ Ok found → (after ≡ Ok found) ⊎ (after ≡ Err refusal.FreedContext)
 kept_or before after found (inl same) e = inl (same ∙ e)

@@ -19,7 +19,7 @@ use Rattle.acap_search.specs.Matches.{Match, match_cmp}
 use Rattle.acap_search.specs.Totals.{match_total}
 use Rattle.acap_search.proofs.SeenLemmas.{here, there, first_or, nowhere, either, from_filter}
 use Rattle.acap_views.specs.Notices.{told_cmp, told_shape}
-use Rattle.acap_views.specs.Shifting.{Shift, placed_among, with_match, without_old, shifted, stood, stands, undo_by, from_one, shift_notices, after_shift, move_by}
+use Rattle.acap_views.specs.Shifting.{Shift, placed_among, with_match, without_old, with_exchange, old_place, stands, undo_by, from_one, shift_notices, after_shift, move_by}
 
 -- ---- lists that ascend
 
@@ -127,7 +127,7 @@ later old h hs b (Some x) e =
     ap (λ n. Some (n, x)) (sym (ranks_later old h x hs w.1 (b x w.0)))
 
 -- a match found by its name is that which stood there, and as many stand before it
-found_is : (name : Name) (old : Match) (hits : List Match) → Rises hits → Agree name old hits → found told_shape name hits ≡ stood old hits
+found_is : (name : Name) (old : Match) (hits : List Match) → Rises hits → Agree name old hits → found told_shape name hits ≡ old_place old hits
 unfolding found item_at
 found_is name old [] r a = refl
 found_is name old (h ∷ hs) r a = rw (a h (here h hs)) (
@@ -257,7 +257,7 @@ module _ (shift : Shift) (hits : List Match) (apt : IsApt shift hits) where
   unfolding spot after_move
   told_is enumerated = sym (
       ap (λ place. notice_between told_shape enumerated shift.name place (spot told_shape shift.name (after_move told_shape (move_by shift) hits))) (ap from_one (found_is shift.name shift.old hits apt.rises apt.agree))
-      ∙ ap (notice_between told_shape enumerated shift.name (from_one (stood shift.old hits)))
+      ∙ ap (notice_between told_shape enumerated shift.name (from_one (old_place shift.old hits)))
       (ap (λ es. spot told_shape shift.name (put_some told_shape shift.come es)) left ∙ spot_after shift.come apt.named apt.unlike))
 
 -- ---- taken back
@@ -266,7 +266,7 @@ back_later : (o : Option (ℕ × Match)) (e : Match) (es : List Match) → put_b
 back_later None e es = refl
 back_later (Some s) e es = refl
 
-back_taken : (old : Match) (hits : List Match) → Rises hits → put_back (stood old hits) (without_old old hits) ≡ hits
+back_taken : (old : Match) (hits : List Match) → Rises hits → put_back (old_place old hits) (without_old old hits) ≡ hits
 unfolding item_at without_item
 back_taken old [] r = refl
 back_taken old (h ∷ hs) r = elim (eq_by_cmp match_cmp old h) as (λ b. eq_by_cmp match_cmp old h ≡ b
@@ -277,7 +277,7 @@ back_taken old (h ∷ hs) r = elim (eq_by_cmp match_cmp old h) as (λ b. eq_by_c
           ∙ ap (λ t. h ∷ t) (all_kept _ hs (λ x k. ap not (untied_behind old h hs e r.0 x k)))
       | false ↦ λ e.
           ap (λ o. put_back o (h ∷ filter (λ x. not (eq_by_cmp match_cmp old x)) hs)) (sym (later old h hs r.0 (find (eq_by_cmp match_cmp old) hs) refl))
-          ∙ (back_later (stood old hs) h (without_old old hs) ∙ ap (λ t. h ∷ t) (back_taken old hs r.1))
+          ∙ (back_later (old_place old hs) h (without_old old hs) ∙ ap (λ t. h ∷ t) (back_taken old hs r.1))
     ] refl
 
 unlike_of : (come : Match) (hits : List Match) → find (eq_by_cmp match_cmp come) hits ≡ None → Unlike come hits
@@ -312,13 +312,13 @@ without_come come es a None e = removed_put come es (rises es a) (unlike_of come
 without_come come es a (Some x) e = with_tied come es x a e
 
 without_stands : (old : Match) (come : Option Match) (hits : List Match) → Ascending match_cmp hits
-    → without (option_map place_in (stands old come hits)) (shifted old come hits) ≡ without_old old hits
+    → without (option_map place_in (stands old come hits)) (with_exchange old come hits) ≡ without_old old hits
 unfolding item_at
 without_stands old None hits a = refl
 without_stands old (Some found) hits a = without_come found (without_old old hits) ((rank_holds match_cmp match_total).after_take old hits a) _ refl
 
-pub undone_is : (old : Match) (come : Option Match) (hits : List Match) → Ascending match_cmp hits → undone (undo_by old come hits) (shifted old come hits) ≡ hits
-undone_is old come hits a = ap (put_back (stood old hits)) (without_stands old come hits a) ∙ back_taken old hits (rises hits a)
+pub undone_is : (old : Match) (come : Option Match) (hits : List Match) → Ascending match_cmp hits → undone (undo_by old come hits) (with_exchange old come hits) ≡ hits
+undone_is old come hits a = ap (put_back (old_place old hits)) (without_stands old come hits a) ∙ back_taken old hits (rises hits a)
 
 -- ---- what the code does
 
@@ -390,7 +390,7 @@ rank_left old (h ∷ hs) = elim (eq_by_cmp match_cmp old h) as (λ b. eq_by_cmp 
     ] refl
 
 pub stood_left : (old : Match) (hits : List Match) (place : ℕ) (found : Option Match) → place ≡ rank_of match_cmp old (without_old old hits) → found ≡ item_at match_cmp old hits
-    → option_map (counted_as place) found ≡ stood old hits
+    → option_map (counted_as place) found ≡ old_place old hits
 stood_left old hits place found p f = ap (λ n. option_map (counted_as n) found) (p ∙ rank_left old hits) ∙ ap (option_map (counted_as (rank_of match_cmp old hits))) f
 
 free_there : (old found : Match) (hits : List Match) → eq_by_cmp match_cmp old found ≡ true → is_some (item_at match_cmp found (without_old old hits)) ≡ false
@@ -418,11 +418,11 @@ unfolding without_item
 same_left old found [] e = refl
 same_left old found (h ∷ hs) e = λ i. cond (not (same_tie old found h e i)) (h ∷ same_left old found hs e i) (same_left old found hs e i)
 
-pub replaced_is : (old found : Match) (hits : List Match) → eq_by_cmp match_cmp old found ≡ true → with_item match_cmp found (without_item match_cmp found hits) ≡ shifted old (Some found) hits
+pub replaced_is : (old found : Match) (hits : List Match) → eq_by_cmp match_cmp old found ≡ true → with_item match_cmp found (without_item match_cmp found hits) ≡ with_exchange old (Some found) hits
 replaced_is old found hits e = ap (with_item match_cmp found) (same_left old found hits e)
 
 pub stood_at : (old come : Match) (hits : List Match) (place : ℕ) (found : Option Match) → eq_by_cmp match_cmp old come ≡ true
-    → place ≡ rank_of match_cmp come hits → found ≡ item_at match_cmp come hits → option_map (counted_as place) found ≡ stood old hits
+    → place ≡ rank_of match_cmp come hits → found ≡ item_at match_cmp come hits → option_map (counted_as place) found ≡ old_place old hits
 stood_at old come hits place found e p f =
     ap (λ n. option_map (counted_as n) found) (p ∙ rank_tied old come hits (tied _ e)) ∙ ap (option_map (counted_as (rank_of match_cmp old hits))) (f ∙ same_item old come hits e)
 

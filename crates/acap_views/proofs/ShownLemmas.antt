@@ -19,7 +19,7 @@ use Rattle.acap_notices.specs.declared.notice.Notice.{Notice}
 use Rattle.acap_rights.specs.declared.realm.Realm.{Realm}
 use Rattle.acap_search.specs.Fresh.{Sight, tuple_of, matches_of, same_path}
 use Rattle.acap_search.specs.Matches.{Match}
-use Rattle.acap_search.specs.contracts.rank.PlacePartialEq.TheImpl as place
+use Rattle.acap_search.specs.contracts.rank.SortPlacePartialEq.TheImpl as place
 use Rattle.acap_search.specs.declared.query.Sought.{Sought}
 use Rattle.acap_search.proofs.EqualLemmas.{places_exact}
 use Rattle.acap_search.proofs.SeenLemmas.{here, there, first_or, nowhere, either, in_filter, from_filter}

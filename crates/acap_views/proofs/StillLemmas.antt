@@ -12,7 +12,7 @@ use Rattle.acap_search.proofs.SeenLemmas.{here, there}
 use Rattle.acap_entries.specs.Store.{Store}
 use Rattle.acap_views.specs.Contexts.{Kept, Snapshot, Live, Freed, Context}
 use Rattle.acap_views.specs.Current.{IsCurrentKept, IsCurrentContext}
-use Rattle.acap_views.specs.Plans.{is_still, trimmed, shifts_count}
+use Rattle.acap_views.specs.Plans.{is_still, unless_still, shifts_count}
 use Rattle.acap_views.specs.Preparing.{kept_after, context_after, contexts_after}
 use Rattle.acap_views.specs.Shifting.{Shift}
 
@@ -47,7 +47,7 @@ module _ (store : Store) (realm : Realm) (user : List ℕ) where
       (e.0, context_still shifts e.1 (first_so _ _ s) (i e (here e es)) j) ∷ contexts_still turns es (second_so _ _ s) (λ x k. i x (there e x es k)) j
 
   pub contexts_trimmed : (turns : List (List Shift)) (es : List (List ℕ × Context)) → ((e : List ℕ × Context) → Contains es e → IsCurrentContext store realm user e.1)
-      → contexts_after (trimmed turns) es ≡ contexts_after turns es
+      → contexts_after (unless_still turns) es ≡ contexts_after turns es
   contexts_trimmed turns es i = elim (is_still turns) as (λ b. is_still turns ≡ b → contexts_after (cond b [] turns) es ≡ contexts_after turns es) [
     | true ↦ λ s. sym (contexts_still turns es s i)
     | false ↦ λ s. refl
@@ -61,7 +61,7 @@ none_counted (shifts ∷ turns) s =
     let none : length shifts ≡ 0 = ap length (no_shifts shifts (first_so _ _ s)) in
     sum_by-cons length shifts turns ∙ omega (arith, none, none_counted turns (second_so _ _ s))
 
-pub count_trimmed : (turns : List (List Shift)) → shifts_count (trimmed turns) ≡ shifts_count turns
+pub count_trimmed : (turns : List (List Shift)) → shifts_count (unless_still turns) ≡ shifts_count turns
 count_trimmed turns = elim (is_still turns) as (λ b. is_still turns ≡ b → shifts_count (cond b [] turns) ≡ shifts_count turns) [
   | true ↦ λ s. sym (none_counted turns s)
   | false ↦ λ s. refl

@@ -4,36 +4,24 @@ use Rattle.std.specs.Cmp.{tied_itself}
 use Rattle.std.specs.Cmp.Lexicographic.{nat_list_cmp_total, bytes_decides}
 use Rattle.std.specs.FinMap as table
 use Rattle.std.specs.List.{list_any}
-use Rattle.std.specs.Option.{option_map, option_map_or, option_or}
+use Rattle.std.specs.Option.{option_map, option_map_or}
 use Rattle.std.specs.Ordering.{eq_by_cmp, is_eq}
 use Rattle.std.specs.declared.cmp.Ordering.TheVariants.{Less, Equal, Greater}
 use Rattle.std.proofs.lemmas.List.{take_more}
 use Rattle.acap_entries.specs.Orders.{octets_cmp, octets_eq}
 use Rattle.acap_entries.specs.Sorted.{InOrder, found}
 use Rattle.acap_notices.specs.declared.told.Told.{Told}
-use Rattle.acap_notices.specs.declared.told.Told.TheVariants as told
 use Rattle.acap_views.specs.Contexts.{Kept, Snapshot, Live, Freed, Context, Contexts}
-use Rattle.acap_views.specs.Holds.{pending_in, is_freed}
+use Rattle.acap_views.specs.Holds.{is_freed}
 use Rattle.acap_views.specs.Keeping.{RoomyContext}
 use Rattle.acap_views.specs.Listing.{as_contexts, bare, waiting_after}
-use Rattle.acap_views.specs.Telling.{notes_of, shown_now, fault_in, fault_at, fault_of, told_by_name, updated_to, after_update, after_updates, told_in_turn, drain_told}
+use Rattle.acap_views.specs.Telling.{notes_of, shown_now, fault_in, fault_at, told_by_name, updated_to, after_update, after_updates, told_in_turn, drain_told}
 use Rattle.acap_views.specs.Waiting.{waits}
-use Rattle.acap_views.specs.declared.refusal.ViewRefusal.{ViewRefusal}
 use Rattle.acap_views.specs.declared.refusal.ViewRefusal.TheVariants as refusal
 use Rattle.acap_views.proofs.KeepingLemmas.{names_same, listed_entries, get_listed}
 use Rattle.acap_views.proofs.LoopLemmas.{one_dropped}
 
 -- ---- one context
-
-pub notes_pending : (name : List ℕ) (kept : Kept) → notes_of name kept ≡ each (told.Note name) (pending_in kept)
-notes_pending name (Snapshot shown) = refl
-notes_pending name (Live shown now pending) = refl
-notes_pending name Freed = refl
-
-pub freed_told : (name : List ℕ) (kept : Kept) → is_freed kept ≡ true → told.Freed name ∷ [] ≡ drain_told name kept
-freed_told name (Snapshot shown) e = absurd (cc (e))
-freed_told name (Live shown now pending) e = absurd (cc (e))
-freed_told name Freed e = refl
 
 pub notes_told : (name : List ℕ) (kept : Kept) → is_freed kept ≡ false → notes_of name kept ≡ drain_told name kept
 notes_told name (Snapshot shown) e = refl
@@ -158,12 +146,6 @@ fault_found es name o h f =
       | None ↦ refl
       | Some kept ↦ refl
     ]
-
--- the fault of the names that are left, the first of them being known
-pub fault_next : (contexts : Contexts) (names : List (List ℕ)) (i : ℕ) (name : List ℕ) (o : Option ViewRefusal) → i < length names → name ≡ get_or names i name → o ≡ fault_at contexts name
-    → fault_of contexts (drop i names) ≡ option_or o (fault_of contexts (drop (i + 1) names))
-fault_next contexts names i name o h e f =
-    ap (fault_of contexts) (one_dropped names i name h e) ∙ ap (λ (r : Option ViewRefusal). option_or r (fault_of contexts (drop (i + 1) names))) (sym f)
 
 -- ---- drains
 

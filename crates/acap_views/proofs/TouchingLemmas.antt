@@ -17,7 +17,7 @@ use Rattle.acap_entries.specs.Store.{Store, Stored}
 use Rattle.acap_entries.specs.declared.change.Change.{Change}
 use Rattle.acap_entries.specs.declared.path.Path.{Path}
 use Rattle.acap_inherit.specs.Leaving.{AreTouched, AreTouchedAt, AreTouchedDatasets}
-use Rattle.acap_inherit.specs.Touched.{ordered_among, touched, datasets_touched}
+use Rattle.acap_inherit.specs.Touched.{ordered_among, touched_paths, datasets_touched}
 use Rattle.acap_inherit.specs.declared.touched_dataset.TouchedDataset.{TouchedDataset}
 use Rattle.acap_search.specs.Scoped.{SaysWhether}
 use Rattle.acap_search.specs.Scopes.{Scope, datasets_of, beneath}
@@ -50,10 +50,10 @@ alone records sought none path =
     ∙ sym (ap (λ depth. list_any (octets_eq path.dataset) (sought.dataset ∷ option_map_or (beneath records sought.dataset) depth [])) none))
 
 pub in_one_dataset : (change : Change) (old : Store) (sought : Sought) (paths : List Path) → AreTouchedAt change old sought.dataset paths → sought.depth ≡ None
-    → paths ≡ filter (is_looked_at (store_after change old).records sought) (touched change.writes old.records (store_after change old).records)
+    → paths ≡ filter (is_looked_at (store_after change old).records sought) (touched_paths change.writes old.records (store_after change old).records)
 in_one_dataset change old sought paths at none =
     at (store_after change old) (value_after change old)
-    ∙ (λ i. filter (λ path. alone (store_after change old).records sought none path i) (touched change.writes old.records (store_after change old).records))
+    ∙ (λ i. filter (λ path. alone (store_after change old).records sought none path i) (touched_paths change.writes old.records (store_after change old).records))
 
 -- ---- a dataset in which nothing is touched
 
@@ -77,9 +77,9 @@ in_ordered q [] k = k
 in_ordered q (x ∷ xs) k = in_put x q (ordered_among octets_cmp xs []) (either (first_or x q xs k) (λ s. inl s) (λ l. inr (in_ordered q xs l)))
 
 has_touched : (change : Change) (old : Store) (datasets : List TouchedDataset) → AreTouchedDatasets change old datasets → (path : Path)
-    → Contains (touched change.writes old.records (store_after change old).records) path → has_dataset datasets path.dataset ≡ true
+    → Contains (touched_paths change.writes old.records (store_after change old).records) path → has_dataset datasets path.dataset ≡ true
 has_touched change old datasets are path k =
-    let all = touched change.writes old.records (store_after change old).records in
+    let all = touched_paths change.writes old.records (store_after change old).records in
     let names = datasets_touched change.writes old.records (store_after change old).records in
     ap (λ ds. has_dataset ds path.dataset) (are (store_after change old) (value_after change old))
     ∙ (any_image _ (λ d. octets_eq d.dataset path.dataset) names
@@ -91,7 +91,7 @@ none_kept p [] h = refl
 none_kept p (x ∷ xs) h = rw (h x (here x xs)) (none_kept p xs (λ y k. h y (there x y xs k)))
 
 pub in_no_dataset : (change : Change) (old : Store) (sought : Sought) (datasets : List TouchedDataset) → AreTouchedDatasets change old datasets → has_dataset datasets sought.dataset ≡ false
-    → sought.depth ≡ None → [] ≡ filter (is_looked_at (store_after change old).records sought) (touched change.writes old.records (store_after change old).records)
+    → sought.depth ≡ None → [] ≡ filter (is_looked_at (store_after change old).records sought) (touched_paths change.writes old.records (store_after change old).records)
 in_no_dataset change old sought datasets are lacks none =
     sym (none_kept (is_looked_at (store_after change old).records sought) _ (λ path k.
     sym (alone (store_after change old).records sought none path)
@@ -101,7 +101,7 @@ in_no_dataset change old sought datasets are lacks none =
     ] refl)))
 
 pub all_looked_at : (change : Change) (old : Store) (sought : Sought) (paths made : List Path) → AreTouched change old paths → made ≡ filter (is_looked_at (store_after change old).records sought) paths
-    → made ≡ filter (is_looked_at (store_after change old).records sought) (touched change.writes old.records (store_after change old).records)
+    → made ≡ filter (is_looked_at (store_after change old).records sought) (touched_paths change.writes old.records (store_after change old).records)
 all_looked_at change old sought paths made are m = m ∙ ap (filter (is_looked_at (store_after change old).records sought)) (are (store_after change old) (value_after change old))
 
 -- ---- a dataset of which they are kept

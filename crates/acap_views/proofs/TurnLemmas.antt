@@ -16,7 +16,7 @@ use Rattle.acap_views.specs.Aheads.{Planned, store_ahead}
 use Rattle.acap_views.specs.Contexts.{Context}
 use Rattle.acap_views.specs.Keeping.{RoomyContext, RoomyContexts, RoomyOccupant, contexts_in, occupant_in}
 use Rattle.acap_views.specs.Listing.{as_seated, bare, bare_seat}
-use Rattle.acap_views.specs.Plans.{live_shifts, work_in, needed_in, work_at, turns_by, trimmed, work_of, needed_of}
+use Rattle.acap_views.specs.Plans.{live_shifts, work_in, needed_in, work_at, turns_by, unless_still, work_of, needed_of}
 use Rattle.acap_views.specs.Preparing.{shift_for}
 use Rattle.acap_views.specs.Scenes.{Scene, shift_in}
 use Rattle.acap_views.specs.Seats.{Occupant, Seated}
@@ -63,8 +63,8 @@ module _ (plan : Planned) (es : List (List ℕ × RoomyContext)) (o : RoomyOccup
       ∙ (ap (λ (xs : List (List ℕ × Context)). sum_by (work_in plan) (each (λ (x : List ℕ × Context). x.1) xs)) (listed_entries es h)
       ∙ (sum_each (λ (x : List ℕ × Context). x.1) (work_in plan) (each bare es) ∙ sum_each bare (λ (x : List ℕ × Context). work_in plan x.1) es))
 
-  pub turns_listed : turns_by (needed_in plan) (occupant_in o) ≡ trimmed (each (shifts_there plan o.user) es)
-  turns_listed = ap trimmed (
+  pub turns_listed : turns_by (needed_in plan) (occupant_in o) ≡ unless_still (each (shifts_there plan o.user) es)
+  turns_listed = ap unless_still (
       ap (λ (cs : RoomyContexts). each (needed_in plan o.user) (table.values (contexts_in cs))) (sym v)
       ∙ (ap (λ (xs : List (List ℕ × Context)). each (needed_in plan o.user) (each (λ (x : List ℕ × Context). x.1) xs)) (listed_entries es h)
       ∙ (each_each (λ (x : List ℕ × Context). x.1) (needed_in plan o.user) (each bare es) ∙ each_each bare (λ (x : List ℕ × Context). needed_in plan o.user x.1) es)))

@@ -17,7 +17,7 @@ use Rattle.acap_notices.specs.declared.told.Told.TheVariants as told
 use Rattle.acap_views.specs.Contexts.{Kept, Snapshot, Live, Freed, Context, Contexts}
 use Rattle.acap_views.specs.Maps.{each_kept}
 use Rattle.acap_views.specs.Seats.{Occupant, Seated, contexts_at}
-use Rattle.acap_views.specs.Telling.{drain_told, kept_drained, after_drain, drained}
+use Rattle.acap_views.specs.Telling.{drain_told, kept_drained, after_drain, drain_of}
 use Rattle.acap_views.specs.Waiting.{any_wait, waits, is_waiting}
 use Rattle.acap_views.proofs.BitLemmas.{waiting_bits}
 use Rattle.acap_views.specs.WaitingLaws.{WaitingLaw}
@@ -111,7 +111,7 @@ module _ (seats : Seated) (seat : ℕ) where
   own : eq_by_cmp nat_cmp seat seat ≡ true
   own = ap is_eq (tied_itself nat_cmp_total seat)
 
-  none_left : is_waiting (drained seats seat).1 seat ≡ false
+  none_left : is_waiting (drain_of seats seat).1 seat ≡ false
   none_left =
       elim (table.get seats seat) as (λ o. table.get seats seat ≡ o → any_in (table.get (with (each_kept after_drain (option_map_or (λ (occupant : Occupant). occupant.contexts) o table.empty)) o) seat) ≡ false) [
         | None ↦ λ e. ap any_in e ∙ none_in_none
@@ -135,7 +135,7 @@ pub waiting_law : WaitingLaw
 waiting_law = record {
   tells = λ seats seat.
       let same = all_told (table.entries (contexts_at seats seat)) in
-      let none = nothing_told (drained seats seat).0 in
+      let none = nothing_told (drain_of seats seat).0 in
       (λ e. none.0 (same ∙ e), λ e. sym same ∙ none.1 e);
   none_left = none_left;
   bits = waiting_bits;

@@ -43,5 +43,5 @@ changed_context realm old new user context = record context {
 abbrev pub changed_occupant : Realm → Store → Store → Occupant → Occupant
 changed_occupant realm old new occupant = record occupant { contexts = each_value (changed_context realm old new occupant.user) occupant.contexts }
 
-abbrev pub changed : Realm → Store → Store → Seated → Seated
-changed realm old new seats = each_value (changed_occupant realm old new) seats
+abbrev pub changed_seats : Realm → Store → Store → Seated → Seated
+changed_seats realm old new seats = each_value (changed_occupant realm old new) seats

@@ -9,7 +9,7 @@ use Rattle.acap_notices.specs.declared.told.Told.TheVariants as told
 use Rattle.acap_moves.specs.Hits.{Name}
 use Rattle.acap_search.specs.Matches.{Match}
 use Rattle.acap_search.specs.declared.query.Sought.{Sought}
-use Rattle.acap_search.specs.declared.rank.Place.TheVariants.{Rising}
+use Rattle.acap_search.specs.declared.rank.SortPlace.TheVariants.{Rising}
 use Rattle.acap_search.specs.declared.rank.Rank.TheVariants.{Octets}
 use Rattle.acap_views.specs.Changing.{follows}
 use Rattle.acap_views.specs.Contexts.{Kept, Snapshot, Live, Freed, Context, Contexts, kept_of}
@@ -106,8 +106,8 @@ abbrev pub adf : List Match
 adf = entry (codes "a") (codes "1") ∷ entry (codes "d") (codes "4") ∷ entry (codes "f") (codes "9") ∷ []
 
 -- the same entry with the same row at another place
-abbrev pub placed : Name → List ℕ → List ℕ → Match
-placed name value rank = record { path = record { dataset = codes "/"; name = name }; places = Rising (Octets rank) ∷ []; row = with_value name value }
+abbrev pub ranked_match : Name → List ℕ → List ℕ → Match
+ranked_match name value rank = record { path = record { dataset = codes "/"; name = name }; places = Rising (Octets rank) ∷ []; row = with_value name value }
 
 pub record NoticeExamples : Type 0 where
   -- the new position is counted when the entry has been taken out
@@ -117,14 +117,14 @@ pub record NoticeExamples : Type 0 where
   pub mixed : list_notices true bdf adf (codes "a" ∷ codes "b" ∷ codes "f" ∷ [])
       ≡ AddTo 1 (with_value (codes "a") (codes "1")) ∷ RemoveFrom (codes "b") 2 ∷ Change 3 3 (with_value (codes "f") (codes "9")) ∷ []
   -- a place that gives no other position is no notice, and a position alone is one with ENUMERATE
-  pub rank_alone : list_notices true (entry (codes "a") (codes "1") ∷ []) (placed (codes "a") (codes "1") (codes "2") ∷ []) (codes "a" ∷ []) ≡ []
-  pub position : list_notices true (entry (codes "a") (codes "1") ∷ entry (codes "b") (codes "2") ∷ []) (entry (codes "b") (codes "2") ∷ placed (codes "a") (codes "1") (codes "3") ∷ []) (codes "a" ∷ [])
+  pub rank_alone : list_notices true (entry (codes "a") (codes "1") ∷ []) (ranked_match (codes "a") (codes "1") (codes "2") ∷ []) (codes "a" ∷ []) ≡ []
+  pub position : list_notices true (entry (codes "a") (codes "1") ∷ entry (codes "b") (codes "2") ∷ []) (entry (codes "b") (codes "2") ∷ ranked_match (codes "a") (codes "1") (codes "3") ∷ []) (codes "a" ∷ [])
       ≡ Change 1 2 (with_value (codes "a") (codes "1")) ∷ []
-  pub position_alone : list_notices false (entry (codes "a") (codes "1") ∷ entry (codes "b") (codes "2") ∷ []) (entry (codes "b") (codes "2") ∷ placed (codes "a") (codes "1") (codes "3") ∷ []) (codes "a" ∷ []) ≡ []
+  pub position_alone : list_notices false (entry (codes "a") (codes "1") ∷ entry (codes "b") (codes "2") ∷ []) (entry (codes "b") (codes "2") ∷ ranked_match (codes "a") (codes "1") (codes "3") ∷ []) (codes "a" ∷ []) ≡ []
   -- what counts as a change: that it comes, goes, has another row or another place
   pub comes : same_tuple None (Some (entry (codes "a") (codes "1"))) ≡ false
   pub goes : same_tuple (Some (entry (codes "a") (codes "1"))) None ≡ false
-  pub row : same_tuple (Some (entry (codes "a") (codes "1"))) (Some (placed (codes "a") (codes "2") (codes "1"))) ≡ false
-  pub place : same_tuple (Some (entry (codes "a") (codes "1"))) (Some (placed (codes "a") (codes "1") (codes "2"))) ≡ false
+  pub row : same_tuple (Some (entry (codes "a") (codes "1"))) (Some (ranked_match (codes "a") (codes "2") (codes "1"))) ≡ false
+  pub place : same_tuple (Some (entry (codes "a") (codes "1"))) (Some (ranked_match (codes "a") (codes "1") (codes "2"))) ≡ false
   pub same : same_tuple (Some (entry (codes "a") (codes "1"))) (Some (entry (codes "a") (codes "1"))) ≡ true
   pub neither : same_tuple None None ≡ true

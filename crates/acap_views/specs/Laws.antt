@@ -18,14 +18,14 @@ use Rattle.acap_search.specs.Fresh.{Sight, tuple_of, IsSameSight, matches_of}
 use Rattle.acap_search.specs.Matches.{Match}
 use Rattle.acap_search.specs.Tuples.{name_told}
 use Rattle.acap_search.specs.declared.query.Sought.{Sought}
-use Rattle.acap_views.specs.Changing.{IsSoundStep, sight_for, changed_context, changed_occupant, changed}
+use Rattle.acap_views.specs.Changing.{IsSoundStep, sight_for, changed_context, changed_occupant, changed_seats}
 use Rattle.acap_views.specs.Contexts.{Snapshot, Live, Freed, Context, Contexts}
 use Rattle.acap_views.specs.Current.{IsCurrent, IsCurrentOccupant, IsToldAll, rows}
 use Rattle.acap_views.specs.Maps.{each_kept}
 use Rattle.acap_views.specs.Notices.{told_shape, match_told, event_notices, changed_paths, changed_names}
-use Rattle.acap_views.specs.Opening.{opened, freed_by}
-use Rattle.acap_views.specs.Seats.{Occupant, Seated, IsAt, entered, left, with_contexts}
-use Rattle.acap_views.specs.Telling.{after_updates, after_drain, told_of, drained}
+use Rattle.acap_views.specs.Opening.{with_context, freed_by}
+use Rattle.acap_views.specs.Seats.{Occupant, Seated, IsAt, with_user, without_user, with_contexts}
+use Rattle.acap_views.specs.Telling.{after_updates, after_drain, told_of, drain_of}
 
 -- two changes come to the same notices where what is seen before is the same, and what is seen after; and a client that holds the
 -- rows of the old list, in order or by name, and applies the notices of a change, holds those of the new one
@@ -45,21 +45,21 @@ pub record NoticeLaw : Type 0 where
 pub record CurrentLaw : Type 0 where
   pub nobody : (store : Store) (realm : Realm) → IsCurrent store realm table.empty
   pub entered : (store : Store) (realm : Realm) (seats : Seated) (seat : ℕ) (user : List ℕ)
-      → IsCurrent store realm seats → IsCurrent store realm (entered seats seat user)
+      → IsCurrent store realm seats → IsCurrent store realm (with_user seats seat user)
   pub left : (store : Store) (realm : Realm) (seats : Seated) (seat : ℕ)
-      → IsCurrent store realm seats → IsCurrent store realm (left seats seat)
+      → IsCurrent store realm seats → IsCurrent store realm (without_user seats seat)
   pub opened : (store : Store) (realm : Realm) (seats new : Seated) (seat : ℕ) (make : MakeContext) (sought : Sought) (user : List ℕ) (last : ℤ)
       → IsSoundStore store.records → dataset_exists store.records sought.dataset ≡ true → IsAt seats seat user
-      → opened seats seat make sought (matches_of store.records realm user sought) last ≡ Ok new
+      → with_context seats seat make sought (matches_of store.records realm user sought) last ≡ Ok new
       → IsCurrent store realm seats → IsCurrent store realm new
   pub freed : (store : Store) (realm : Realm) (seats new : Seated) (seat : ℕ) (name : List ℕ)
       → freed_by seats seat name ≡ Ok new → IsCurrent store realm seats → IsCurrent store realm new
   pub told : (store : Store) (realm : Realm) (seats new : Seated) (seat : ℕ) (names : List (List ℕ)) (last : ℤ) (told : List Told)
       → told_of seats seat names last ≡ Ok (told, new) → IsCurrent store realm seats → IsCurrent store realm new
   pub drained : (store : Store) (realm : Realm) (seats : Seated) (seat : ℕ)
-      → IsCurrent store realm seats → IsCurrent store realm (drained seats seat).1
+      → IsCurrent store realm seats → IsCurrent store realm (drain_of seats seat).1
   pub changed : (old new : Store) (realm : Realm) (seats : Seated) → IsSoundStep old new
-      → IsCurrent old realm seats → IsCurrent new realm (changed realm old new seats)
+      → IsCurrent old realm seats → IsCurrent new realm (changed_seats realm old new seats)
 
 -- when a client has been told, what it was told is what a search finds then; contexts that aren't named stay as they are, and so
 -- do snapshots over drains and changes of the store. A drain takes freed ones away, and leaves each live one its moment
@@ -88,7 +88,7 @@ pub record ChangedLaw : Type 0 where
   pub named : (sought : Sought) (old new : Sight) (name : Name)
       → Contains (changed_names sought old new) name ↔ ((path : Path) × (Contains (changed_paths sought old new) path × (name_told sought.depth path ≡ name)))
   pub ascending : (sought : Sought) (old new : Sight) → IsAscending (changed_names sought old new)
-  pub seats : (realm : Realm) (old new : Store) (seats : Seated) (seat : ℕ) → table.get (changed realm old new seats) seat ≡ option_map (changed_occupant realm old new) (table.get seats seat)
+  pub seats : (realm : Realm) (old new : Store) (seats : Seated) (seat : ℕ) → table.get (changed_seats realm old new seats) seat ≡ option_map (changed_occupant realm old new) (table.get seats seat)
   pub contexts : (realm : Realm) (old new : Store) (occupant : Occupant) (name : List ℕ)
       → table.get (changed_occupant realm old new occupant).contexts name ≡ option_map (changed_context realm old new occupant.user) (table.get occupant.contexts name)
 

@@ -4,6 +4,6 @@ use Rattle.acap_search.specs.Matches.{Match}
 use Rattle.acap_views.specs.declared.listed.Listed.{Listed}
 use Rattle.acap_views.specs.declared.listed.Listed.TheVariants as list
 
-abbrev pub listed : Listed → List Match
-listed (list.Snapshot hits) = hits.now
-listed (list.Live watch) = watch.now.shown
+abbrev pub told_matches : Listed → List Match
+told_matches (list.Snapshot hits) = hits.now
+told_matches (list.Live watch) = watch.now.shown

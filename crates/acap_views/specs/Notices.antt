@@ -14,7 +14,7 @@ use Rattle.acap_moves.specs.Notices.{same_row, notices}
 use Rattle.acap_search.specs.Fresh.{Sight, same_path, is_among, tuple_of, fresh_of}
 use Rattle.acap_search.specs.Matches.{Match, match_cmp}
 use Rattle.acap_search.specs.Tuples.{name_told}
-use Rattle.acap_search.specs.contracts.rank.PlacePartialEq.TheImpl as place
+use Rattle.acap_search.specs.contracts.rank.SortPlacePartialEq.TheImpl as place
 use Rattle.acap_search.specs.declared.query.Sought.{Sought}
 
 -- ---- the list in which an entry has a position

@@ -17,8 +17,8 @@ most_contexts = 200
 abbrev pub is_full : Contexts → List ℕ → Bool
 is_full contexts name = not (table.contains_key contexts name) && nat_le most_contexts (table.len contexts)
 
-abbrev pub opened : Seated → ℕ → MakeContext → Sought → List Match → ℤ → Result Seated ViewRefusal
-opened seats seat make sought found last =
+abbrev pub with_context : Seated → ℕ → MakeContext → Sought → List Match → ℤ → Result Seated ViewRefusal
+with_context seats seat make sought found last =
     if is_full (contexts_at seats seat) make.name then Err refusal.TryFree
     else Ok (with_contexts seats seat (table.insert (contexts_at seats seat) make.name (context_of make sought found last)))
 

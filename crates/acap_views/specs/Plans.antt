@@ -8,7 +8,7 @@ use Rattle.acap_views.specs.Contexts.{Context}
 use Rattle.acap_views.specs.Preparing.{shift_for, shifts_for, needed_if}
 use Rattle.acap_views.specs.Seats.{Occupant, Seated}
 use Rattle.acap_views.specs.Room.{Watched}
-use Rattle.acap_views.specs.Shifting.{Shift, needed}
+use Rattle.acap_views.specs.Shifting.{Shift, due_shifts}
 use Rattle.acap_views.specs.Touching.{looked_at_by}
 use Rattle.acap_views.specs.Work.{work_for}
 
@@ -17,7 +17,7 @@ live_shifts plan user sought =
     each (shift_for plan.old.records (store_ahead plan).records plan.realm user sought) (looked_at_by plan sought)
 
 abbrev pub live_needed : Planned → List ℕ → Sought → Watched → List Shift
-live_needed plan user sought watched = needed watched (live_shifts plan user sought)
+live_needed plan user sought watched = due_shifts watched (live_shifts plan user sought)
 
 abbrev pub work_in : Planned → Context → ℕ
 work_in plan context = work_for plan.change.writes plan.old (store_ahead plan) context
@@ -36,11 +36,11 @@ work_at plan occupant = sum_by (work_in plan) (table.values occupant.contexts)
 abbrev pub is_still : List (List Shift) → Bool
 is_still turns = list_all (λ shifts. length shifts == 0) turns
 
-abbrev pub trimmed : List (List Shift) → List (List Shift)
-trimmed turns = if is_still turns then [] else turns
+abbrev pub unless_still : List (List Shift) → List (List Shift)
+unless_still turns = if is_still turns then [] else turns
 
 abbrev pub turns_by : (List ℕ → Context → List Shift) → Occupant → List (List Shift)
-turns_by made occupant = trimmed (each (made occupant.user) (table.values occupant.contexts))
+turns_by made occupant = unless_still (each (made occupant.user) (table.values occupant.contexts))
 
 abbrev pub needed_at : Planned → Occupant → List (List Shift)
 needed_at plan occupant = turns_by (needed_in plan) occupant

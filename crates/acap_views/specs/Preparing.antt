@@ -9,10 +9,10 @@ use Rattle.acap_entries.specs.declared.change.Change.{Change}
 use Rattle.acap_entries.specs.declared.path.Path.{Path}
 use Rattle.acap_rights.specs.declared.realm.Realm.{Realm}
 use Rattle.acap_search.specs.Tuples.{name_told}
-use Rattle.acap_search.specs.Views.{Spotted, spotted, places_at, found_at}
+use Rattle.acap_search.specs.Views.{Spotted, spot_in, places_at, found_at}
 use Rattle.acap_search.specs.Walks.{quest_of, view_in}
 use Rattle.acap_search.specs.declared.query.Sought.{Sought}
-use Rattle.acap_views.specs.Changing.{follows, changed}
+use Rattle.acap_views.specs.Changing.{follows, changed_seats}
 use Rattle.acap_views.specs.Contexts.{Kept, Snapshot, Live, Freed, Context}
 use Rattle.acap_views.specs.Keeping.{RoomySeats, seats_in}
 use Rattle.acap_views.specs.Seats.{Occupant, Seated}
@@ -21,7 +21,7 @@ use Rattle.acap_views.specs.Work.{touched_for, touched_within}
 
 -- the entry at a path, as a user sees it in a search
 abbrev pub seen_at : Stored → Realm → List ℕ → Sought → Path → Spotted
-seen_at records realm user sought path = spotted (view_in (quest_of records realm user sought) path.dataset) path.name
+seen_at records realm user sought path = spot_in (view_in (quest_of records realm user sought) path.dataset) path.name
 
 -- what becomes of one entry: it is found by its places before the change, and what is found of it afterwards is put in
 abbrev pub shift_for : Stored → Stored → Realm → List ℕ → Sought → Path → Shift
@@ -82,7 +82,7 @@ with_delta delta seats = table.from_entries (seats_after delta.seats (table.entr
 
 -- it stands for the change, in all contexts; and so many touched entries are looked at for it
 abbrev pub IsPreparedFor : Change → Store → Realm → Seated → Prepared → Type 0
-IsPreparedFor change old realm seats delta = with_delta delta seats ≡ changed realm old (store_after change old) seats
+IsPreparedFor change old realm seats delta = with_delta delta seats ≡ changed_seats realm old (store_after change old) seats
 
 abbrev pub touched_for_all : Change → Store → Seated → ℕ
 touched_for_all change old seats = touched_within change.writes old (store_after change old) seats

@@ -29,5 +29,5 @@ abbrev pub ranged_of : Option Context → Result Ranged ViewRefusal
 ranged_of None = Err refusal.NoContext
 ranged_of (Some context) = ranged_if context context.kept
 
-abbrev pub ranged : Seated → ℕ → List ℕ → Result Ranged ViewRefusal
-ranged seats seat name = ranged_of (table.get (contexts_at seats seat) name)
+abbrev pub range_at : Seated → ℕ → List ℕ → Result Ranged ViewRefusal
+range_at seats seat name = ranged_of (table.get (contexts_at seats seat) name)

@@ -15,7 +15,7 @@ use Rattle.acap_search.specs.Matches.{Match}
 use Rattle.acap_search.specs.Views.{Spotted, places_at, found_at}
 use Rattle.acap_search.specs.contracts.query.Sought as query
 use Rattle.acap_search.specs.declared.query.Sought.{Sought}
-use Rattle.acap_search.specs.declared.rank.Place.{Place}
+use Rattle.acap_search.specs.declared.rank.SortPlace.{SortPlace}
 use Rattle.acap_views.specs.Preparing.{seen_at, shift_for}
 use Rattle.acap_views.specs.Shifting.{Shift}
 
@@ -37,7 +37,7 @@ spot_before scene path = seen_at scene.old scene.realm scene.user scene.sought p
 abbrev pub spot_after : Scene → Path → Spotted
 spot_after scene path = seen_at scene.new scene.realm scene.user scene.sought path
 
-abbrev pub places_before : Scene → Path → List Place
+abbrev pub places_before : Scene → Path → List SortPlace
 places_before scene path = places_at (spot_before scene path) (unwrap_or scene.sought.sort [])
 
 abbrev pub found_after : Scene → Path → Option Match

@@ -15,11 +15,11 @@ abbrev pub Seated : Type 0
 Seated = table.FinMap nat_cmp Occupant
 
 -- a user who takes a seat has no context there, and who leaves it takes all along
-abbrev pub entered : Seated → ℕ → List ℕ → Seated
-entered seats seat user = table.insert seats seat (record { user = user; contexts = table.empty })
+abbrev pub with_user : Seated → ℕ → List ℕ → Seated
+with_user seats seat user = table.insert seats seat (record { user = user; contexts = table.empty })
 
-abbrev pub left : Seated → ℕ → Seated
-left seats seat = table.remove seats seat
+abbrev pub without_user : Seated → ℕ → Seated
+without_user seats seat = table.remove seats seat
 
 -- who sits at a seat
 abbrev pub IsAt : Seated → ℕ → List ℕ → Type 0

@@ -11,7 +11,7 @@ use Rattle.acap_moves.specs.Moves.{Move, Undo}
 use Rattle.acap_moves.specs.Notices.{notice_between, same_row}
 use Rattle.acap_search.specs.Matches.{Match, match_cmp, match_code}
 use Rattle.acap_search.specs.declared.placed.Standing.{Standing}
-use Rattle.acap_search.specs.declared.rank.Place.{Place}
+use Rattle.acap_search.specs.declared.rank.SortPlace.{SortPlace}
 use Rattle.acap_views.specs.Notices.{told_shape}
 use Rattle.acap_views.specs.Room.{Watched}
 
@@ -22,7 +22,7 @@ pub record Shift : Type 0 where
   pub come : Option Match
 
 -- a match at some places and a path, whatever is told of it
-abbrev pub standing : Path → List Place → Match
+abbrev pub standing : Path → List SortPlace → Match
 standing path places = record { path = path; places = places; row = record { name = []; items = [] } }
 
 abbrev pub match_by : Standing → Match
@@ -36,13 +36,13 @@ with_match (Some found) matches = with_item match_cmp found matches
 abbrev pub without_old : Match → List Match → List Match
 without_old old matches = without_item match_cmp old matches
 
-abbrev pub shifted : Match → Option Match → List Match → List Match
-shifted old come matches = with_match come (without_old old matches)
+abbrev pub with_exchange : Match → Option Match → List Match → List Match
+with_exchange old come matches = with_match come (without_old old matches)
 
 -- what stood there and how many stood before it; and how many stand before what is put in, which is put nowhere where another one
 -- stands: in the lists of contexts none ever does
-abbrev pub stood : Match → List Match → Option (ℕ × Match)
-stood old matches = option_map (λ found. (rank_of match_cmp old matches, found)) (item_at match_cmp old matches)
+abbrev pub old_place : Match → List Match → Option (ℕ × Match)
+old_place old matches = option_map (λ found. (rank_of match_cmp old matches, found)) (item_at match_cmp old matches)
 
 abbrev pub placed_among : Match → List Match → Option (ℕ × Match)
 placed_among found others = if is_some (item_at match_cmp found others) then None else Some (rank_of match_cmp found others, found)
@@ -54,7 +54,7 @@ abbrev pub comes_to : Match → Option Match → List Match → Option ℕ
 comes_to old come matches = option_map (λ s. s.0) (stands old come matches)
 
 abbrev pub undo_by : Match → Option Match → List Match → Undo Match
-undo_by old come matches = record { gone = stood old matches; come = comes_to old come matches }
+undo_by old come matches = record { gone = old_place old matches; come = comes_to old come matches }
 
 -- positions are counted from 1
 abbrev pub from_one : Option (ℕ × Match) → Option (ℕ × Match)
@@ -63,7 +63,7 @@ from_one place = option_map (λ s. (s.0 + 1, s.1)) place
 -- what is told of it
 abbrev pub swap_notices : Bool → List ℕ → Match → Option Match → List Match → List Notice
 swap_notices enumerated name old come matches =
-    notice_between told_shape enumerated name (from_one (stood old matches)) (from_one (stands old come matches))
+    notice_between told_shape enumerated name (from_one (old_place old matches)) (from_one (stands old come matches))
 
 abbrev pub IsSwapNotice : Bool → List ℕ → Match → Option Match → List Match → Option Notice → Type 0
 IsSwapNotice enumerated name old come matches told = cons_option told [] ≡ swap_notices enumerated name old come matches
@@ -73,7 +73,7 @@ shift_notices enumerated shift matches = swap_notices enumerated shift.name shif
 
 -- one entry after the other
 abbrev pub after_shift : Shift → List Match → List Match
-after_shift shift matches = shifted shift.old shift.come matches
+after_shift shift matches = with_exchange shift.old shift.come matches
 
 abbrev pub after_shifts : List Shift → List Match → List Match
 after_shifts [] matches = matches
@@ -107,18 +107,18 @@ abbrev pub surely_tells : List Match → Shift → Bool
 surely_tells matches shift = tells_between (item_at match_cmp shift.old matches) shift.come
 
 -- so many notices wait or will for certain, with one entry more
-abbrev pub counted : List Match → Shift → ℕ → ℕ
-counted matches shift count = if surely_tells matches shift then count + 1 else count
+abbrev pub count_with : List Match → Shift → ℕ → ℕ
+count_with matches shift count = if surely_tells matches shift then count + 1 else count
 
 -- of what becomes of entries as much as is needed: where more notices than may are certain to wait, the context is freed whatever
 -- becomes of the rest
 abbrev pub until_full : List Match → ℕ → List Shift → List Shift
 until_full matches count [] = []
 until_full matches count (shift ∷ shifts) =
-    if nat_lt most_waiting count then [] else shift ∷ until_full matches (counted matches shift count) shifts
+    if nat_lt most_waiting count then [] else shift ∷ until_full matches (count_with matches shift count) shifts
 
-abbrev pub needed : Watched → List Shift → List Shift
-needed watched shifts = until_full watched.present (length watched.pending) shifts
+abbrev pub due_shifts : Watched → List Shift → List Shift
+due_shifts watched shifts = until_full watched.present (length watched.pending) shifts
 
 abbrev pub move_by : Shift → Move Match
 move_by shift = (shift.name, shift.come)

@@ -86,8 +86,8 @@ kept_drained context Freed = None
 abbrev pub after_drain : Context → Option Context
 after_drain context = kept_drained context context.kept
 
-abbrev pub drained : Seated → ℕ → List Told × Seated
-drained seats seat = (
+abbrev pub drain_of : Seated → ℕ → List Told × Seated
+drain_of seats seat = (
   flat_map (λ e. drain_told e.0 e.1.kept) (table.entries (contexts_at seats seat)),
   with_contexts seats seat (each_kept after_drain (contexts_at seats seat)),
 )

@@ -4,7 +4,7 @@ use Rattle.std.specs.List.{filter, list_any}
 use Rattle.acap_entries.specs.Orders.{octets_eq}
 use Rattle.acap_entries.specs.declared.path.Path.{Path}
 use Rattle.acap_inherit.specs.Leaving.{AreTouchedAt}
-use Rattle.acap_inherit.specs.Touched.{touched}
+use Rattle.acap_inherit.specs.Touched.{touched_paths}
 use Rattle.acap_inherit.specs.declared.touched_dataset.TouchedDataset.{TouchedDataset}
 use Rattle.acap_search.specs.declared.query.Sought.{Sought}
 use Rattle.acap_views.specs.Aheads.{Planned, store_ahead}
@@ -13,7 +13,7 @@ use Rattle.acap_views.specs.declared.noted.Noted.{Noted}
 
 -- all paths that a change touches, and those that a search looks at
 abbrev pub touched_by : Planned → List Path
-touched_by plan = touched plan.change.writes plan.old.records (store_ahead plan).records
+touched_by plan = touched_paths plan.change.writes plan.old.records (store_ahead plan).records
 
 abbrev pub looks_at : Planned → Sought → Path → Bool
 looks_at plan sought path = is_looked_at (store_ahead plan).records sought path

@@ -7,8 +7,8 @@ use Rattle.acap_views.specs.declared.shown.Shown.{Shown}
 use Rattle.acap_views.specs.declared.shown.Shown.TheVariants.{Moves, Written}
 
 -- hits that are lent, as their matches
-abbrev pub seen : List (Bor Match) → List Match
-seen hits = each (λ hit. hit.now) hits
+abbrev pub matches_lent : List (Bor Match) → List Match
+matches_lent hits = each (λ hit. hit.now) hits
 
 abbrev pub shown_in : Shown → List Match → List Match
 shown_in (Moves undos) now = all_undone undos.items now

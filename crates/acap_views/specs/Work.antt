@@ -5,7 +5,7 @@ use Rattle.std.specs.List.{filter, list_any, sum_by}
 use Rattle.acap_entries.specs.Orders.{octets_eq}
 use Rattle.acap_entries.specs.Store.{Store, Stored, Written}
 use Rattle.acap_entries.specs.declared.path.Path.{Path}
-use Rattle.acap_inherit.specs.Touched.{touched}
+use Rattle.acap_inherit.specs.Touched.{touched_paths}
 use Rattle.acap_search.specs.Scopes.{scope_of, datasets_of}
 use Rattle.acap_search.specs.declared.query.Sought.{Sought}
 use Rattle.acap_views.specs.Contexts.{Kept, Snapshot, Live, Freed, Context, Contexts}
@@ -29,7 +29,7 @@ is_looked_at records sought path = list_any (octets_eq path.dataset) (datasets_o
 
 -- those in the scope of a context, as it is after the change; a context that isn't live looks at none
 abbrev pub touched_for : Written → Store → Store → Context → List Path
-touched_for written old new context = filter (is_looked_at new.records context.sought) (touched written old.records new.records)
+touched_for written old new context = filter (is_looked_at new.records context.sought) (touched_paths written old.records new.records)
 
 abbrev pub work_for : Written → Store → Store → Context → ℕ
 work_for written old new context = if is_live context.kept then length (touched_for written old new context) else 0

@@ -1,17 +1,10 @@
 //! What sessions ask of their contexts: to make and free them, to search over them and to be told of them.
-ghost use Rattle.std.specs.Prelude.{◌≡◌, ◌<◌, IsSome, IfSome, OnOk, OnErr, IfOk, IfErr, Ok, Err};
-ghost use Rattle.std.specs.FinMap as table;
-ghost use Rattle.acap_entries.specs.Ranks.{Ascending};
-ghost use Rattle.acap_search.specs.Matches.{match_cmp};
+ghost use Rattle.std.specs.Prelude.{◌≡◌, ◌<◌, OnOk, OnErr, IfOk, IfErr, Ok, Err};
 ghost use Rattle.acap_views.specs.Answering.{IsAnswer, update_tells};
-ghost use Rattle.acap_views.specs.Contexts.{context_of};
 ghost use Rattle.acap_views.specs.Keeping.{seats_in};
-ghost use Rattle.acap_views.specs.Maps.{each_kept};
-ghost use Rattle.acap_views.specs.Opening.{opened, freed_by};
-ghost use Rattle.acap_views.specs.Ranging.{ranged};
+ghost use Rattle.acap_views.specs.Opening.{freed_by};
 ghost use Rattle.acap_views.specs.Seats.{contexts_at, with_contexts};
-ghost use Rattle.acap_views.specs.Started.{as_ranged};
-ghost use Rattle.acap_views.specs.Telling.{told_of, after_updates, after_drain, drained};
+ghost use Rattle.acap_views.specs.Telling.{told_of, after_updates, drain_of};
 
 use crate::keyed::place_of;
 use crate::refusal::ViewRefusal;
@@ -53,7 +46,7 @@ impl Views {
         if let Some(fault) = telling::fault_of(contexts, names) {
             return Err(fault);
         }
-        let tolds = telling::told_in_turn(self.alloc, contexts, names, last)?;
+        let tolds = telling::tell_in_turn(self.alloc, contexts, names, last)?;
         Ok(Tolds::from_vec(tolds))
     }
 
@@ -89,16 +82,16 @@ impl Views {
     /// What a drain tells at a seat: what waits of each context in the order of the names, and which of them the server has freed
     /// (RFC 2244 section 6.5). Fails only for want of memory.
     pub fn drain_tolds(&self, seat: Seat) -> Result<Tolds, Memory>
-        ensures { IfOk result (λ tolds. tolds ≡ (drained (seats_in self.now) seat).0) }
+        ensures { IfOk result (λ tolds. tolds ≡ (drain_of (seats_in self.now) seat).0) }
     {
-        let tolds = telling::drained(self.alloc, self.contexts(seat))?;
+        let tolds = telling::drain(self.alloc, self.contexts(seat))?;
         Ok(Tolds::from_vec(tolds))
     }
 
     /// All that a drain tells at a seat has been told: live contexts show their present lists, and freed ones are gone (RFC 2244
     /// section 6.5). Takes no memory.
     pub fn drop_told(&mut self, seat: Seat)
-        ensures { seats_in self.new ≡ (drained (seats_in self.old) seat).1 }
+        ensures { seats_in self.new ≡ (drain_of (seats_in self.old) seat).1 }
     {
         let (at, tied) = place_of(self.seats.as_slice(), &seat);
         if !tied {
@@ -109,7 +102,7 @@ impl Views {
 
     /// Tells all that waits at a seat (RFC 2244 section 6.5). Fails only for want of memory, and then nothing has changed.
     pub fn drain(&mut self, seat: Seat) -> Result<Tolds, Memory>
-        ensures ok { IfOk result (λ tolds. drained (seats_in self.old) seat ≡ (tolds, seats_in self.new)) }
+        ensures ok { IfOk result (λ tolds. drain_of (seats_in self.old) seat ≡ (tolds, seats_in self.new)) }
         ensures err { OnErr result (seats_in self.new ≡ seats_in self.old) }
     {
         let tolds = self.drain_tolds(seat)?;

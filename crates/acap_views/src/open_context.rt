@@ -43,7 +43,7 @@ impl Model for OpenContext {
 }
 
 // What is kept of what a search found.
-fn held_of(alloc: Global, notify: bool, hits: Hits) -> Result<Held, Memory>
+fn hold(alloc: Global, notify: bool, hits: Hits) -> Result<Held, Memory>
     requires { Ascending match_cmp hits }
     ensures { IfOk result (λ made. kept_in made ≡ kept_of notify hits) }
 {
@@ -55,7 +55,7 @@ fn held_of(alloc: Global, notify: bool, hits: Hits) -> Result<Held, Memory>
 }
 
 // What is kept of a context, again.
-fn copied(held: &Held) -> Result<Held, Memory>
+fn copy_held(held: &Held) -> Result<Held, Memory>
     ensures { IfOk result (λ made. kept_in made ≡ kept_in held.now) }
 {
     match held {
@@ -86,7 +86,7 @@ impl OpenContext {
         requires { Ascending match_cmp hits }
         ensures { IfOk result (λ made. made.context ≡ context_of make.now sought hits last) }
     {
-        let held = held_of(alloc, make.notify, hits)?;
+        let held = hold(alloc, make.notify, hits)?;
         Ok(OpenContext {
             sought,
             enumerated: make.enumerate,
@@ -160,7 +160,7 @@ impl OpenContext {
     pub(crate) fn copy(&self) -> Result<OpenContext, Memory>
         ensures { IfOk result (λ made. made.context ≡ self.now.context) }
     {
-        let held = copied(&self.held)?;
+        let held = copy_held(&self.held)?;
         Ok(OpenContext {
             sought: self.sought.copy()?,
             enumerated: self.enumerated,

@@ -9,7 +9,7 @@ ghost use Rattle.acap_views.specs.Answering.{IsAnswer, HasPlace, with_context};
 ghost use Rattle.acap_views.specs.Keeping.{seats_in};
 ghost use Rattle.acap_views.specs.Listing.{as_contexts};
 ghost use Rattle.acap_views.specs.Opening as rule;
-ghost use Rattle.acap_views.specs.Ranging.{ranged};
+ghost use Rattle.acap_views.specs.Ranging.{range_at};
 ghost use Rattle.acap_views.specs.Started.{as_ranged};
 
 use crate::keyed::{lookup, place_of};
@@ -59,7 +59,7 @@ impl Views {
     ) -> Result<NewContext, ViewRefusal>
         requires somebody { IsSome (table.get (seats_in self.old) seat) }
         requires order { Ascending match_cmp hits }
-        ensures answer { IsAnswer (rule.opened (seats_in self.old) seat make sought hits last)
+        ensures answer { IsAnswer (rule.with_context (seats_in self.old) seat make sought hits last)
             (with_context (seats_in self.old) seat) result }
         ensures same { seats_in self.new ≡ seats_in self.old }
         ensures room { OnOk result (HasPlace self.new seat) }
@@ -97,7 +97,7 @@ impl Views {
     ) -> Result<(), ViewRefusal>
         requires somebody { IsSome (table.get (seats_in self.old) seat) }
         requires order { Ascending match_cmp hits }
-        ensures answer { IsAnswer (rule.opened (seats_in self.old) seat make sought hits last)
+        ensures answer { IsAnswer (rule.with_context (seats_in self.old) seat make sought hits last)
             (λ _. seats_in self.new) result }
         ensures err { OnErr result (seats_in self.new ≡ seats_in self.old) }
     {
@@ -110,8 +110,8 @@ impl Views {
     /// up to which moment its client was told, and the list that was told. Refused exactly where there is no such context, or the
     /// server has freed it (RFC 2244 sections 3.3 and 6.4.1). Takes no memory.
     pub fn range(&self, seat: Seat, name: &ContextName) -> Result<RangedContext<'_>, ViewRefusal>
-        ensures ok { IfOk result (λ lent. ranged (seats_in self.now) seat name.now ≡ Ok (as_ranged lent)) }
-        ensures refused { IfErr result (λ why. ranged (seats_in self.now) seat name.now ≡ Err why) }
+        ensures ok { IfOk result (λ lent. range_at (seats_in self.now) seat name.now ≡ Ok (as_ranged lent)) }
+        ensures refused { IfErr result (λ why. range_at (seats_in self.now) seat name.now ≡ Err why) }
     {
         match lookup(self.contexts(seat), name) {
             Some(context) => context.lend(),

@@ -1,6 +1,5 @@
 //! What a change comes to for all contexts, made before it is committed.
-ghost use Rattle.std.specs.Prelude.{◌≡◌, ◌+◌, ◌-◌, ◌≤◌, ◌^◌, ◌<◌, IfOk, OnOk, length, map as each};
-ghost use Rattle.std.specs.FinMap as table;
+ghost use Rattle.std.specs.Prelude.{◌≡◌, ◌+◌, ◌-◌, ◌<◌, IfOk, OnOk, map as each};
 ghost use Rattle.acap_entries.specs.Changes.{store_after};
 ghost use Rattle.acap_inherit.specs.Index.{IsIndexOf};
 ghost use Rattle.acap_search.specs.Counting.{IsCounted};

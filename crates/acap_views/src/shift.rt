@@ -1,7 +1,7 @@
 //! What a change does to one entry of a live context.
 
 use acap_entries::{Path, Row, Value};
-use acap_search::{Placed, Places};
+use acap_search::{Placed, SortPlaces};
 use std::marker::Model;
 
 /// What is told of an entry that a change touches, made ready for its notice.
@@ -17,7 +17,7 @@ pub(crate) enum News {
 /// All that takes memory has been made.
 #[derive(Drop)]
 pub(crate) struct Shift {
-    pub(crate) places: Places,
+    pub(crate) places: SortPlaces,
     pub(crate) path: Path,
     pub(crate) news: News,
 }

@@ -7,7 +7,7 @@ ghost use Rattle.acap_views.specs.News.{name_in, come_in, name_for, IsTold};
 ghost use Rattle.acap_views.specs.Scenes as rule;
 ghost use Rattle.acap_views.specs.Scenes.{shift_in};
 ghost use Rattle.acap_views.specs.Shifting as moves;
-ghost use Rattle.acap_views.specs.Shifting.{needed};
+ghost use Rattle.acap_views.specs.Shifting.{due_shifts};
 
 use crate::delta::Shifts;
 use crate::scene::Scene;
@@ -16,12 +16,12 @@ use crate::watch::Watch;
 use acap_entries::{Copying, Memory, Octets, Path, Paths, Steps, Value};
 use acap_inherit::chain;
 use acap_notices::MOST;
-use acap_search::{Hit, Placed, Places, Sought, Standing, Viewer, places_at, row_of};
+use acap_search::{Hit, Placed, SortPlaces, Sought, Standing, Viewer, places_at, row_of};
 use std::alloc::Global;
 use std::sync::ledger::Ledger;
 
 // The name under which an entry is told.
-fn name_told(alloc: Global, path: &Path, sought: &Sought) -> Result<Value, Memory>
+fn tell_name(alloc: Global, path: &Path, sought: &Sought) -> Result<Value, Memory>
     ensures { IfOk result (λ name. name ≡ tuples.name_told sought.now.depth path.now) }
 {
     let name = path.name.as_slice();
@@ -36,12 +36,12 @@ fn name_told(alloc: Global, path: &Path, sought: &Sought) -> Result<Value, Memor
 }
 
 // Where an entry stood before the change.
-fn places_before(alloc: Global, scene: &Scene<'_>, path: &Path) -> Result<Places, Memory>
+fn places_before(alloc: Global, scene: &Scene<'_>, path: &Path) -> Result<SortPlaces, Memory>
     ensures { IfOk result (λ places. places ≡ rule.places_before scene.now path.now) }
 {
     let sought = scene.sought;
     if sought.sort.is_none() {
-        return Ok(Places::new(alloc));
+        return Ok(SortPlaces::new(alloc));
     }
     let tree = scene.before;
     let by = Viewer {
@@ -55,7 +55,7 @@ fn places_before(alloc: Global, scene: &Scene<'_>, path: &Path) -> Result<Places
 }
 
 // What is found of it afterwards: one step.
-fn found_after<L: Ledger>(
+fn find_after<L: Ledger>(
     alloc: Global,
     scene: &Scene<'_>,
     path: &Path,
@@ -87,7 +87,7 @@ fn news_of(alloc: Global, path: &Path, sought: &Sought, found: Option<Hit>) -> R
             let row = hit.row().copy()?;
             Ok(News::Here(Placed::new(alloc, hit)?, row))
         }
-        None => Ok(News::Gone(name_told(alloc, path, sought)?)),
+        None => Ok(News::Gone(tell_name(alloc, path, sought)?)),
     }
 }
 
@@ -104,7 +104,7 @@ fn shift_at<L: Ledger>(
     ensures shift { IfOk result (λ shift. shift ≡ shift_in scene.now path) }
 {
     let places = places_before(alloc, scene, &path)?;
-    let found = found_after(alloc, scene, &path, steps)?;
+    let found = find_after(alloc, scene, &path, steps)?;
     let news = news_of(alloc, &path, scene.sought, found)?;
     Ok(Shift { places, path, news })
 }
@@ -125,9 +125,9 @@ fn surely_tells(watch: &Watch, shift: &Shift) -> bool
 }
 
 // How many notices wait or will for certain, with one entry more.
-fn counted(watch: &Watch, shift: &Shift, count: usize) -> usize
+fn count_on(watch: &Watch, shift: &Shift, count: usize) -> usize
     requires { count ≤ most_waiting }
-    ensures { result ≡ moves.counted watch.now.present shift.now count }
+    ensures { result ≡ moves.count_with watch.now.present shift.now count }
 {
     if surely_tells(watch, shift) {
         count + 1
@@ -162,7 +162,7 @@ fn needed_shifts<L: Ledger>(
     steps: &mut Steps<L>,
 ) -> Result<Shifts, Memory>
     ensures count { IsCounted result steps.old steps.new (length paths) }
-    ensures shifts { IfOk result (λ shifts. shifts ≡ needed watch.now (each (shift_in scene.now) paths)) }
+    ensures shifts { IfOk result (λ shifts. shifts ≡ due_shifts watch.now (each (shift_in scene.now) paths)) }
 {
     let mut shifts = Vec::with_capacity(alloc, paths.len())?;
     let mut count = watch.pending().len();
@@ -171,7 +171,7 @@ fn needed_shifts<L: Ledger>(
             steps.tick();
         } else {
             let shift = shift_at(alloc, scene, path, steps)?;
-            count = counted(watch, &shift, count);
+            count = count_on(watch, &shift, count);
             shifts.push(shift)?;
         }
     }
@@ -189,7 +189,7 @@ pub(crate) fn shifts_at<L: Ledger>(
     steps: &mut Steps<L>,
 ) -> Result<Shifts, Memory>
     ensures count { IsCounted result steps.old steps.new (length paths) }
-    ensures shifts { IfOk result (λ shifts. shifts ≡ needed watch.now (each (shift_in scene.now) paths)) }
+    ensures shifts { IfOk result (λ shifts. shifts ≡ due_shifts watch.now (each (shift_in scene.now) paths)) }
 {
     if paths.len() <= MOST - watch.pending.len() {
         return all_shifts(alloc, scene, paths, steps);

@@ -1,6 +1,6 @@
 //! How a live list goes from one store to the next: entry by entry, each hit found by where it stood.
 ghost use Rattle.std.specs.Prelude.{◌≡◌, ◌+◌, ◌<◌, ◌≤◌, ◌^◌, ◌++◌, ℕ, suc, false, IsTrue, if◌then◌else◌};
-ghost use Rattle.std.specs.Prelude.{[], length, Some, None, is_some, IsSome, IfSome};
+ghost use Rattle.std.specs.Prelude.{[], length, Some, None, is_some, IfSome};
 ghost use Rattle.std.specs.List.{cons_option};
 ghost use Rattle.std.specs.Option.{option_map};
 ghost use Rattle.std.specs.Ordering.{eq_by_cmp};
@@ -27,7 +27,7 @@ use acap_search::{Placed, Standing};
 // Takes out the hit that stood at some places, and tells how many stood before it.
 fn take_hit(now: &mut Ranked<Placed>, old: &Standing<'_>) -> Option<(usize, Placed)>
     ensures list { now.new.0 ≡ rule.without_old (match_by old.now) now.old.0 }
-    ensures gone { result ≡ rule.stood (match_by old.now) now.old.0 }
+    ensures gone { result ≡ rule.old_place (match_by old.now) now.old.0 }
     ensures within { IfSome result (λ gone. gone.0 + 1 < 2 ^ 64) }
     ensures room { now.old.1 ≤ now.new.1 }
 {
@@ -95,8 +95,8 @@ fn replace_hit(
 ) -> (Option<(usize, Placed)>, usize)
     requires room { 0 < now.old.1 }
     requires same { IsTrue (eq_by_cmp match_cmp (match_by old.now) hit) }
-    ensures list { now.new.0 ≡ rule.shifted (match_by old.now) (Some hit) now.old.0 }
-    ensures gone { result.0 ≡ rule.stood (match_by old.now) now.old.0 }
+    ensures list { now.new.0 ≡ rule.with_exchange (match_by old.now) (Some hit) now.old.0 }
+    ensures gone { result.0 ≡ rule.old_place (match_by old.now) now.old.0 }
     ensures from { IfSome result.0 (λ gone. gone.0 + 1 < 2 ^ 64) }
     ensures come { Some result.1 ≡ rule.comes_to (match_by old.now) (Some hit) now.old.0 }
     ensures to { result.1 + 1 < 2 ^ 64 }
@@ -198,9 +198,9 @@ fn swap_gone(
     name: Value,
     enumerated: bool,
 ) -> (Undone, Option<Notice>)
-    ensures list { hits.new.0 ≡ rule.shifted (match_by old.now) None hits.old.0 }
+    ensures list { hits.new.0 ≡ rule.with_exchange (match_by old.now) None hits.old.0 }
     ensures undone { result.0 ≡ rule.undo_by (match_by old.now) None hits.old.0 }
-    ensures told { IsGoneNotice enumerated name (rule.stood (match_by old.now) hits.old.0) result.1 }
+    ensures told { IsGoneNotice enumerated name (rule.old_place (match_by old.now) hits.old.0) result.1 }
     ensures room { hits.old.1 ≤ hits.new.1 }
 {
     let gone = take_hit(hits, old);
@@ -215,8 +215,8 @@ fn swap_hit(
     found: Placed,
 ) -> (Option<(usize, Placed)>, Option<usize>)
     requires { 0 < hits.old.1 }
-    ensures list { hits.new.0 ≡ rule.shifted (match_by old.now) (Some found) hits.old.0 }
-    ensures gone { result.0 ≡ rule.stood (match_by old.now) hits.old.0 }
+    ensures list { hits.new.0 ≡ rule.with_exchange (match_by old.now) (Some found) hits.old.0 }
+    ensures gone { result.0 ≡ rule.old_place (match_by old.now) hits.old.0 }
     ensures from { IfSome result.0 (λ gone. gone.0 + 1 < 2 ^ 64) }
     ensures come { result.1 ≡ rule.comes_to (match_by old.now) (Some found) hits.old.0 }
     ensures to { IfSome result.1 (λ place. place + 1 < 2 ^ 64) }
@@ -241,7 +241,7 @@ fn swap_here(
 ) -> (Undone, Option<Notice>)
     requires room { 0 < hits.old.1 }
     requires row { row ≡ found.row }
-    ensures list { hits.new.0 ≡ rule.shifted (match_by old.now) (Some found) hits.old.0 }
+    ensures list { hits.new.0 ≡ rule.with_exchange (match_by old.now) (Some found) hits.old.0 }
     ensures undone { result.0 ≡ rule.undo_by (match_by old.now) (Some found) hits.old.0 }
     ensures told { rule.IsSwapNotice enumerated row.name (match_by old.now) (Some found) hits.old.0 result.1 }
     ensures room { hits.old.1 ≤ hits.new.1 + 1 }

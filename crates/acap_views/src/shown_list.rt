@@ -17,13 +17,13 @@ impl<'a> Model for ShownList<'a> {
     ghost use Rattle.std.specs.Prelude.{List};
     ghost use Rattle.std.specs.Coded.{coded_list};
     ghost use Rattle.acap_search.specs.Matches.{Match, match_code};
-    ghost use Rattle.acap_views.specs.Lending.{listed};
+    ghost use Rattle.acap_views.specs.Lending.{told_matches};
 
     ghost Value = { List Match };
 
     ghost coded = { coded_list match_code };
 
-    ghost view = { λ s. listed s.list };
+    ghost view = { λ s. told_matches s.list };
 }
 
 /// Hits one by one. Fails only for want of memory.

@@ -94,7 +94,7 @@ fn push_told(
 }
 
 /// What is told of the contexts of these names, one after the other. Fails only for want of memory.
-pub(crate) fn told_in_turn(
+pub(crate) fn tell_in_turn(
     alloc: Global,
     contexts: &[(ContextName, OpenContext)],
     names: &[ContextName],
@@ -128,7 +128,7 @@ fn push_drained(
 }
 
 /// What a drain tells of the contexts, in the order of their names. Fails only for want of memory.
-pub(crate) fn drained(
+pub(crate) fn drain(
     alloc: Global,
     contexts: &[(ContextName, OpenContext)],
 ) -> Result<Vec<Told>, Memory>

@@ -26,7 +26,7 @@ fn is_looked_at(ahead: &Ahead<'_>, sought: &Sought, path: &Path) -> bool
 }
 
 // Those of some paths in whose datasets a search looks.
-fn looked_at(ahead: &Ahead<'_>, sought: &Sought, paths: Paths) -> Result<Paths, Memory>
+fn keep_looked_at(ahead: &Ahead<'_>, sought: &Sought, paths: Paths) -> Result<Paths, Memory>
     ensures { IfOk result (λ made. made ≡ filter (rule.looks_at ahead.now sought.now) paths) }
 {
     let mut made = Paths::new(paths.allocator());
@@ -95,7 +95,7 @@ fn in_dataset<'a>(
 
 /// The touched entries that a search looks at, in the order of their full octets. Where it looks through one dataset, no name of
 /// another one is listed, and those that are listed are kept for the next search. Fails only for want of memory.
-pub(crate) fn touched_for<'a>(
+pub(crate) fn list_touched<'a>(
     ahead: &Ahead<'_>,
     sought: &'a Sought,
     noted: &mut Option<Noted<'a>>,
@@ -109,5 +109,5 @@ pub(crate) fn touched_for<'a>(
         return in_dataset(ahead, sought, noted);
     }
     let paths = ahead.index.touched(ahead.tree, ahead.change)?;
-    looked_at(ahead, sought, paths)
+    keep_looked_at(ahead, sought, paths)
 }

@@ -1,6 +1,5 @@
 //! What a change does to the contexts of each seat, in the order in which they are kept.
-ghost use Rattle.std.specs.Prelude.{◌≡◌, ◌+◌, ◌≤◌, IfOk, OnOk, length, map as each};
-ghost use Rattle.std.specs.List.{sum_by};
+ghost use Rattle.std.specs.Prelude.{◌≡◌, ◌+◌, IfOk, OnOk, length, map as each};
 ghost use Rattle.acap_search.specs.Counting.{IsCounted};
 ghost use Rattle.acap_views.specs.Keeping.{occupant_in};
 ghost use Rattle.acap_views.specs.Plans as rule;
@@ -16,7 +15,7 @@ use crate::open_context::OpenContext;
 use crate::scene::Scene;
 use crate::shift_making::shifts_at;
 use crate::sitting::Sitting;
-use crate::touching::touched_for;
+use crate::touching::list_touched;
 use crate::watch::Watch;
 use acap_entries::{Memory, Paths, Sequence, Steps, UserName};
 use acap_search::Sought;
@@ -80,7 +79,7 @@ fn turn_of<'a, L: Ledger>(
     let sought = &context.sought;
     match &context.held {
         Held::Live(watch) => {
-            let paths = touched_for(ahead, sought, noted)?;
+            let paths = list_touched(ahead, sought, noted)?;
             *work = and_more(*work, paths.len())?;
             live_turn(alloc, ahead, user, sought, watch, paths, steps)
         }
@@ -96,8 +95,8 @@ fn are_still(turns: &[Shifts]) -> bool
 }
 
 // What becomes of the contexts of a seat: nothing where none of them looks at a touched entry.
-fn trimmed(alloc: Global, turns: Turns) -> Turns
-    ensures { result ≡ rule.trimmed turns }
+fn trim(alloc: Global, turns: Turns) -> Turns
+    ensures { result ≡ rule.unless_still turns }
 {
     if are_still(turns.as_slice()) {
         Turns::new(alloc)
@@ -126,5 +125,5 @@ pub(crate) fn turns_of<'a, L: Ledger>(
     for entry in &sitting.contexts {
         turns.push(turn_of(alloc, ahead, &sitting.user, &entry.1, noted, work, steps)?)?;
     }
-    Ok(trimmed(alloc, Turns::from_vec(turns)))
+    Ok(trim(alloc, Turns::from_vec(turns)))
 }

@@ -1,7 +1,7 @@
 //! The list that was told last, written out: the present one with moves taken back.
-ghost use Rattle.std.specs.Prelude.{◌≡◌, IfOk, IfSome, OnOk, Some, map as each};
+ghost use Rattle.std.specs.Prelude.{◌≡◌, IfOk, IfSome, OnOk, Some};
 ghost use Rattle.acap_moves.specs.Moves.{undone, all_undone, without, put_back};
-ghost use Rattle.acap_views.specs.Undoing.{shown_in, seen};
+ghost use Rattle.acap_views.specs.Undoing.{shown_in, matches_lent};
 
 use crate::shown::Shown;
 use crate::shown_list::each_hit;
@@ -11,8 +11,8 @@ use acap_search::{Hit, Placed};
 use std::alloc::Global;
 
 // The hits of a list, one by one.
-fn each_placed<'a>(alloc: Global, now: &'a Ranked<Placed>) -> Result<Vec<&'a Hit>, Memory>
-    ensures { IfOk result (λ hits. seen hits.items ≡ now.now.0) }
+fn list_placed<'a>(alloc: Global, now: &'a Ranked<Placed>) -> Result<Vec<&'a Hit>, Memory>
+    ensures { IfOk result (λ hits. matches_lent hits.items ≡ now.now.0) }
 {
     let mut hits = Vec::with_capacity(alloc, now.len())?;
     for placed in now.iter() {
@@ -23,7 +23,7 @@ fn each_placed<'a>(alloc: Global, now: &'a Ranked<Placed>) -> Result<Vec<&'a Hit
 
 // Takes out again what a move put in.
 fn take_back(hits: &mut Vec<&Hit>, come: Option<usize>)
-    ensures { seen hits.new.items ≡ without come (seen hits.old.items) }
+    ensures { matches_lent hits.new.items ≡ without come (matches_lent hits.old.items) }
 {
     if let Some(place) = come {
         if place < hits.len() {
@@ -34,7 +34,7 @@ fn take_back(hits: &mut Vec<&Hit>, come: Option<usize>)
 
 // Puts in again what a move took out.
 fn give_back<'a>(hits: &mut Vec<&'a Hit>, gone: &'a Option<(usize, Placed)>) -> Result<(), Memory>
-    ensures { OnOk result (seen hits.new.items ≡ put_back gone.now (seen hits.old.items)) }
+    ensures { OnOk result (matches_lent hits.new.items ≡ put_back gone.now (matches_lent hits.old.items)) }
 {
     if let Some((place, placed)) = gone {
         if *place < hits.len() {
@@ -47,7 +47,7 @@ fn give_back<'a>(hits: &mut Vec<&'a Hit>, gone: &'a Option<(usize, Placed)>) -> 
 }
 
 // The hit that a move took out where it put the new one, if it did so.
-fn replaced(move_made: &Undone) -> Option<(usize, &Placed)>
+fn find_replaced(move_made: &Undone) -> Option<(usize, &Placed)>
     ensures { IfSome result (λ r. move_made.now ≡ record { gone = Some (r.0, r.1.now); come = Some r.0 }) }
 {
     match (&move_made.gone, move_made.come) {
@@ -58,9 +58,9 @@ fn replaced(move_made: &Undone) -> Option<(usize, &Placed)>
 
 // Takes one move back: at one place nothing else is moved.
 fn undo<'a>(hits: &mut Vec<&'a Hit>, move_made: &'a Undone) -> Result<(), Memory>
-    ensures { OnOk result (seen hits.new.items ≡ undone move_made.now (seen hits.old.items)) }
+    ensures { OnOk result (matches_lent hits.new.items ≡ undone move_made.now (matches_lent hits.old.items)) }
 {
-    if let Some((place, placed)) = replaced(move_made)
+    if let Some((place, placed)) = find_replaced(move_made)
         && place < hits.len()
     {
         hits[place] = placed.hit();
@@ -76,9 +76,9 @@ fn undone_hits<'a>(
     undos: &'a Vec<Undone>,
     now: &'a Ranked<Placed>,
 ) -> Result<Vec<&'a Hit>, Memory>
-    ensures { IfOk result (λ hits. seen hits.items ≡ all_undone undos.now.items now.now.0) }
+    ensures { IfOk result (λ hits. matches_lent hits.items ≡ all_undone undos.now.items now.now.0) }
 {
-    let mut hits = each_placed(alloc, now)?;
+    let mut hits = list_placed(alloc, now)?;
     let mut left = undos.len();
     while 0 < left {
         left -= 1;
@@ -93,7 +93,7 @@ pub(crate) fn shown_hits<'a>(
     shown: &'a Shown,
     now: &'a Ranked<Placed>,
 ) -> Result<Vec<&'a Hit>, Memory>
-    ensures { IfOk result (λ hits. seen hits.items ≡ shown_in shown.now now.now.0) }
+    ensures { IfOk result (λ hits. matches_lent hits.items ≡ shown_in shown.now now.now.0) }
 {
     match shown {
         Shown::Moves(undos) => undone_hits(alloc, undos, now),

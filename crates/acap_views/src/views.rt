@@ -87,7 +87,7 @@ impl Views {
     /// A user takes a seat, in the room that there is, and has no context there (RFC 2244 section 2). Takes no memory.
     pub fn take_seat(&mut self, seat: Seat, user: UserName)
         requires { 0 < self.old.spare }
-        ensures { seats_in self.new ≡ rule.entered (seats_in self.old) seat user }
+        ensures { seats_in self.new ≡ rule.with_user (seats_in self.old) seat user }
     {
         let sitting = Sitting::new(self.alloc, user);
         put_in_room(&mut self.seats, seat, sitting);
@@ -96,7 +96,7 @@ impl Views {
     /// A user takes a seat, and has no context there (RFC 2244 section 2). Fails only for want of memory, and then nothing has
     /// changed.
     pub fn enter(&mut self, seat: Seat, user: UserName) -> Result<(), Memory>
-        ensures ok { OnOk result (seats_in self.new ≡ rule.entered (seats_in self.old) seat user) }
+        ensures ok { OnOk result (seats_in self.new ≡ rule.with_user (seats_in self.old) seat user) }
         ensures err { OnErr result (seats_in self.new ≡ seats_in self.old) }
     {
         self.reserve_seat()?;
@@ -106,7 +106,7 @@ impl Views {
 
     /// Who sits at a seat leaves it, and takes all contexts along (RFC 2244 section 2). Takes no memory.
     pub fn leave(&mut self, seat: Seat)
-        ensures { seats_in self.new ≡ rule.left (seats_in self.old) seat }
+        ensures { seats_in self.new ≡ rule.without_user (seats_in self.old) seat }
     {
         let _ = take_out(&mut self.seats, &seat);
     }

@@ -1,9 +1,9 @@
 //! The lists of a live context: what its client was told, what a search finds now, and what waits to be told.
-ghost use Rattle.std.specs.Prelude.{◌≡◌, ◌≤◌, [], IfOk, OnOk, map as each};
+ghost use Rattle.std.specs.Prelude.{◌≡◌, [], IfOk, OnOk};
 ghost use Rattle.acap_entries.specs.Ranks.{Ascending};
 ghost use Rattle.acap_search.specs.Matches.{match_cmp};
 ghost use Rattle.acap_views.specs.Room.{HasRoom};
-ghost use Rattle.acap_views.specs.Undoing.{seen};
+ghost use Rattle.acap_views.specs.Undoing.{matches_lent};
 
 use crate::shown::Shown;
 use crate::undoing::shown_hits;
@@ -42,7 +42,7 @@ impl Model for Watch {
 }
 
 // Hits in boxes.
-fn boxed(alloc: Global, hits: Hits) -> Result<Vec<Placed>, Memory>
+fn box_hits(alloc: Global, hits: Hits) -> Result<Vec<Placed>, Memory>
     ensures { IfOk result (λ made. made.items ≡ hits) }
 {
     let mut made = Vec::with_capacity(alloc, hits.len())?;
@@ -53,8 +53,8 @@ fn boxed(alloc: Global, hits: Hits) -> Result<Vec<Placed>, Memory>
 }
 
 // Copies of hits.
-fn copied(alloc: Global, hits: &Vec<&Hit>) -> Result<Hits, Memory>
-    ensures { IfOk result (λ made. made ≡ seen hits.now.items) }
+fn copy_hits(alloc: Global, hits: &Vec<&Hit>) -> Result<Hits, Memory>
+    ensures { IfOk result (λ made. made ≡ matches_lent hits.now.items) }
 {
     let mut made = Vec::with_capacity(alloc, hits.len())?;
     for hit in hits {
@@ -79,7 +79,7 @@ impl Watch {
         ensures present { IfOk result (λ made. made.present ≡ hits) }
         ensures pending { IfOk result (λ made. made.pending ≡ []) }
     {
-        let Ok(hits) = Ranked::from_ascending(boxed(alloc, hits)?)? else {
+        let Ok(hits) = Ranked::from_ascending(box_hits(alloc, hits)?)? else {
             return Err(Memory);
         };
         Ok(Watch {
@@ -108,7 +108,7 @@ impl Watch {
 
     /// The list that was told last, hit by hit. Fails only for want of memory.
     pub(crate) fn shown_hits(&self, alloc: Global) -> Result<Vec<&Hit>, Memory>
-        ensures { IfOk result (λ hits. seen hits.items ≡ self.now.shown) }
+        ensures { IfOk result (λ hits. matches_lent hits.items ≡ self.now.shown) }
     {
         shown_hits(alloc, &self.shown, &self.hits)
     }
@@ -142,7 +142,7 @@ impl Watch {
         if has_places(&self.shown, more) {
             return self.shown.reserve(more);
         }
-        let hits = copied(alloc, &self.shown_hits(alloc)?)?;
+        let hits = copy_hits(alloc, &self.shown_hits(alloc)?)?;
         self.shown = Shown::Written(hits);
         Ok(())
     }

@@ -1,5 +1,5 @@
 use Rattle.std.proofs.Common.{◌≡◌, ◌<◌, ◌+◌, length, set, sym, ap, ◌∙◌, arith}
-use Rattle.acap_entries.specs.Leaves.{joined}
+use Rattle.acap_entries.specs.Leaves.{contents}
 use Rattle.acap_entries.proofs.LeafLemmas.{leaf_read, leaf_in_order, entry_in_leaf, without_in_leaf, filled_set, filled_emptied, joined_emptied, positive_if, joined_set_length, some_from, none_from}
 use Rattle.acap_entries.proofs.leaves.take_out_at.Goals as goal
 
@@ -29,7 +29,7 @@ returns-then-len-eq0-clause-some g c =
     let none : length c.take_out-taken.new.self ≡ 0 = sym c.len.ensures.value ∙ c.if-len-eq0.true in
     let counted = joined_set_length c.args.leaves.now.items c.args.at c.take_out-taken.new.self at in
     let before = ap length (leaf_read _ _ _ at c.index_mut-leaf.ensures.value) in
-    rw (c.remove.ensures.items, joined_emptied _ _ _ at none) (some_from c.take_out-taken.result (length c.take_out-taken.new.self + 1 ≡ length c.index_mut-leaf.result.now) (length (joined (set c.args.leaves.now.items c.args.at c.take_out-taken.new.self)) + 1 ≡ length (joined c.args.leaves.now.items)) (λ one. omega (arith, counted, before, one)) c.take_out-taken.ensures.some)
+    rw (c.remove.ensures.items, joined_emptied _ _ _ at none) (some_from c.take_out-taken.result (length c.take_out-taken.new.self + 1 ≡ length c.index_mut-leaf.result.now) (length (contents (set c.args.leaves.now.items c.args.at c.take_out-taken.new.self)) + 1 ≡ length (contents c.args.leaves.now.items)) (λ one. omega (arith, counted, before, one)) c.take_out-taken.ensures.some)
 
 pub returns-then-len-eq0-clause-none : goal.returns-then-len-eq0-clause-none
 returns-then-len-eq0-clause-none g c =
@@ -37,7 +37,7 @@ returns-then-len-eq0-clause-none g c =
     let none : length c.take_out-taken.new.self ≡ 0 = sym c.len.ensures.value ∙ c.if-len-eq0.true in
     let counted = joined_set_length c.args.leaves.now.items c.args.at c.take_out-taken.new.self at in
     let before = ap length (leaf_read _ _ _ at c.index_mut-leaf.ensures.value) in
-    rw (c.remove.ensures.items, joined_emptied _ _ _ at none) (none_from c.take_out-taken.result (length c.take_out-taken.new.self ≡ length c.index_mut-leaf.result.now) (length (joined (set c.args.leaves.now.items c.args.at c.take_out-taken.new.self)) ≡ length (joined c.args.leaves.now.items)) (λ same. omega (arith, counted, before, same)) c.take_out-taken.ensures.none)
+    rw (c.remove.ensures.items, joined_emptied _ _ _ at none) (none_from c.take_out-taken.result (length c.take_out-taken.new.self ≡ length c.index_mut-leaf.result.now) (length (contents (set c.args.leaves.now.items c.args.at c.take_out-taken.new.self)) ≡ length (contents c.args.leaves.now.items)) (λ same. omega (arith, counted, before, same)) c.take_out-taken.ensures.none)
 
 pub returns-clause-taken : goal.returns-clause-taken
 returns-clause-taken g c =
@@ -57,11 +57,11 @@ returns-clause-some g c =
     let at : c.args.at < length c.args.leaves.now.items = omega (arith, c.requires.among.within) in
     let counted = joined_set_length c.args.leaves.now.items c.args.at c.take_out-taken.new.self at in
     let before = ap length (leaf_read _ _ _ at c.index_mut-leaf.ensures.value) in
-    some_from c.take_out-taken.result (length c.take_out-taken.new.self + 1 ≡ length c.index_mut-leaf.result.now) (length (joined (set c.args.leaves.now.items c.args.at c.take_out-taken.new.self)) + 1 ≡ length (joined c.args.leaves.now.items)) (λ one. omega (arith, counted, before, one)) c.take_out-taken.ensures.some
+    some_from c.take_out-taken.result (length c.take_out-taken.new.self + 1 ≡ length c.index_mut-leaf.result.now) (length (contents (set c.args.leaves.now.items c.args.at c.take_out-taken.new.self)) + 1 ≡ length (contents c.args.leaves.now.items)) (λ one. omega (arith, counted, before, one)) c.take_out-taken.ensures.some
 
 pub returns-clause-none : goal.returns-clause-none
 returns-clause-none g c =
     let at : c.args.at < length c.args.leaves.now.items = omega (arith, c.requires.among.within) in
     let counted = joined_set_length c.args.leaves.now.items c.args.at c.take_out-taken.new.self at in
     let before = ap length (leaf_read _ _ _ at c.index_mut-leaf.ensures.value) in
-    none_from c.take_out-taken.result (length c.take_out-taken.new.self ≡ length c.index_mut-leaf.result.now) (length (joined (set c.args.leaves.now.items c.args.at c.take_out-taken.new.self)) ≡ length (joined c.args.leaves.now.items)) (λ same. omega (arith, counted, before, same)) c.take_out-taken.ensures.none
+    none_from c.take_out-taken.result (length c.take_out-taken.new.self ≡ length c.index_mut-leaf.result.now) (length (contents (set c.args.leaves.now.items c.args.at c.take_out-taken.new.self)) ≡ length (contents c.args.leaves.now.items)) (λ same. omega (arith, counted, before, same)) c.take_out-taken.ensures.none

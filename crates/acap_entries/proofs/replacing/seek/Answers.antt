@@ -1,5 +1,5 @@
 use Rattle.std.proofs.Common.{◌<◌, length, arith, ap, sym, ◌∙◌}
-use Rattle.acap_entries.specs.Leaves.{joined}
+use Rattle.acap_entries.specs.Leaves.{contents}
 use Rattle.acap_entries.specs.Sorted.{place, is_tied}
 use Rattle.acap_entries.proofs.LeafLemmas.{leaf_read, leaf_in_order, place_of_leaf, tied_in_leaf}
 use Rattle.acap_entries.proofs.SortedLemmas.{place_le}
@@ -16,8 +16,8 @@ overflow_add-result g c =
     let at : c.leaf_of-leaf.result < length c.args.leaves.now = omega (arith, c.leaf_of-leaf.ensures.within) in
     let same = c.as_slice-entries.ensures ∙ sym (leaf_read _ _ _ at c.index-leaves-leaf.is) in
     let stands = c.place_of-at.ensures.place ∙ ap (λ es. place g.K.Ord.cmp key es) same in
-    let most = place_le g.K.Ord.cmp key (joined c.args.leaves.now) in
-    let front = ap (λ ls. length (joined ls)) c.split_at.ensures.front in
+    let most = place_le g.K.Ord.cmp key (contents c.args.leaves.now) in
+    let front = ap (λ ls. length (contents ls)) c.split_at.ensures.front in
     omega (arith, most, front, c.count.ensures, stands, place_of_leaf g.K.Ord.cmp key c.args.leaves.now c.leaf_of-leaf.result c.leaf_of-leaf.ensures, c.requires.counted)
 
 pub returns-clause-rank : goal.returns-clause-rank
@@ -26,7 +26,7 @@ returns-clause-rank g c =
     let at : c.leaf_of-leaf.result < length c.args.leaves.now = omega (arith, c.leaf_of-leaf.ensures.within) in
     let same = c.as_slice-entries.ensures ∙ sym (leaf_read _ _ _ at c.index-leaves-leaf.is) in
     let stands = c.place_of-at.ensures.place ∙ ap (λ es. place g.K.Ord.cmp key es) same in
-    let front = ap (λ ls. length (joined ls)) c.split_at.ensures.front in
+    let front = ap (λ ls. length (contents ls)) c.split_at.ensures.front in
     omega (arith, front, c.count.ensures, stands, place_of_leaf g.K.Ord.cmp key c.args.leaves.now c.leaf_of-leaf.result c.leaf_of-leaf.ensures)
 
 pub returns-clause-tied : goal.returns-clause-tied

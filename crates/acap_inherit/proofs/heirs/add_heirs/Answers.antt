@@ -23,5 +23,5 @@ pub loop-index-preserved : goal.loop-index-preserved
 loop-index-preserved c = record {
   place = omega (arith, c.loop-index.invariant.place);
   heirs = one_heir c.args.base.now c.in-Some.link.now c.args.links.now.0 c.loop-index.index c.loop-index.heirs.items c.push.new.self.items _ (sym c.get.ensures ∙ ap option_copied c.in-Some.is) (like c.args.base.now _ _ _ (c.as_slice.ensures ∙ ap (λ (l : Link). l.base) c.get-link.ensures) c.ne.ensures c.if-ne.false)
-      c.in_ok-push.ensures.items (c.in_ok-boxed.ensures ∙ ap (λ (l : Link). l.heir) c.get-link.ensures) c.loop-index.invariant.heirs;
+      c.in_ok-push.ensures.items (c.in_ok-box_copy.ensures ∙ ap (λ (l : Link). l.heir) c.get-link.ensures) c.loop-index.invariant.heirs;
 }

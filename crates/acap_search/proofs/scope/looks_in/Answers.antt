@@ -8,4 +8,4 @@ returns g c =
     let records = (g.R.Records.store c.args.records.now).records in
     subst (SaysWhether records c.args.scope.now c.args.dataset.now)
     (sym (c.is_looked_in.ensures ∙ ap (is_looked_in records c.args.scope.now) c.as_slice.ensures.value))
-    (says_whether records c.args.scope.now c.args.dataset.now c.searched-searched.ensures.formed c.as_slice.ensures.formed)
+    (says_whether records c.args.scope.now c.args.dataset.now c.dataset-searched.ensures.formed c.as_slice.ensures.formed)

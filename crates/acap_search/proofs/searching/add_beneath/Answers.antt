@@ -1,7 +1,7 @@
 use Rattle.std.proofs.Common.{◌+◌, ap, arith, flat_map, nat_eq, refl, sym, ◌∙◌}
 use Rattle.std.specs.FinMap as map
 use Rattle.std.specs.List.{filter, starts_with, sum_by}
-use Rattle.acap_search.specs.Gathering.{gathered}
+use Rattle.acap_search.specs.Gathering.{with_more}
 use Rattle.acap_search.specs.Walks.{hits_in, count_in}
 use Rattle.acap_search.proofs.CountingLemmas.{count_beneath_is}
 use Rattle.acap_search.proofs.GatheredLemmas.{gathered_none, walked}
@@ -16,7 +16,7 @@ returns-then-depth-eq1-clause-count g c =
 
 pub returns-then-depth-eq1-clause-found : goal.returns-then-depth-eq1-clause-found
 returns-then-depth-eq1-clause-found g c =
-    sym (ap (λ datasets. gathered c.args.found.now (flat_map (hits_in c.args.search.now) datasets))
+    sym (ap (λ datasets. with_more c.args.found.now (flat_map (hits_in c.args.search.now) datasets))
     (none_beneath c.args.search.now.records c.args.search.now.sought.dataset c.args.depth c.if-depth-eq1.true)
     ∙ gathered_none c.args.found.now)
 
@@ -34,7 +34,7 @@ pub returns-clause-found : goal.returns-clause-found
 returns-clause-found g c =
     let search = c.args.search.now in
     walked _ _ _ _ _ c.in-None.ensures.steps.0 c.loop-path.invariant.found
-    ∙ ap (gathered c.args.found.now) (beneath_is search.records search.realm search.user search.sought c.args.depth _
+    ∙ ap (with_more c.args.found.now) (beneath_is search.records search.realm search.user search.sought c.args.depth _
     (c.into_iter-path-iterator.ensures.into_iter_gives
     ∙ (c.entries_beneath-path-items.ensures
     ∙ ap (λ quest. filter (λ e. starts_with nat_eq e.0.dataset quest.sought.dataset) (map.entries quest.records)) c.search.view_is)))

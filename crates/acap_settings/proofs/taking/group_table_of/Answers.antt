@@ -4,7 +4,7 @@ use Rattle.toml.specs.Data.{table}
 use Rattle.toml.specs.View.{view}
 use Rattle.toml.proofs.Views.{view-Table}
 use Rattle.acap_settings.specs.Keys.{is_group_table}
-use Rattle.acap_settings.specs.Members.{seen}
+use Rattle.acap_settings.specs.Members.{octets_and_data}
 use Rattle.acap_settings.specs.Settings.{said_group, group_table}
 use Rattle.acap_settings.proofs.TakingLemmas.{groups_pass, table_said}
 use Rattle.acap_settings.proofs.taking.group_table_of.Goals as goal
@@ -16,8 +16,8 @@ groups_of-requires c =
     (ap is_group_table (sym (ap view c.in-Table.is ∙ view-Table c.in-Table.table)) ∙ c.requires))
 
 pub returns : goal.returns
-returns c = IfOk-weaker c.groups_of.result (λ groups. map seen c.deref.result.now ≡ map said_group groups) (λ groups. view c.args.value.now ≡ group_table groups)
+returns c = IfOk-weaker c.groups_of.result (λ groups. map octets_and_data c.deref.result.now ≡ map said_group groups) (λ groups. view c.args.value.now ≡ group_table groups)
     (λ groups e. rw (c.in-Table.is, view-Table c.in-Table.table)
     (ap table (table_said c.in-Table.table.entries c.in_ok-members-in-Table.members.items (map said_group groups)
-    (c.in_ok-members-in-Table.ensures) (ap (map seen) (sym c.deref.ensures.value) ∙ e))))
+    (c.in_ok-members-in-Table.ensures) (ap (map octets_and_data) (sym c.deref.ensures.value) ∙ e))))
     c.groups_of.ensures

@@ -1,7 +1,7 @@
 use Rattle.std.proofs.Common.{◌≡◌, take, map}
 use Rattle.acap_settings.specs.Settings.{said_user}
-use Rattle.acap_settings.specs.Members.{seen}
+use Rattle.acap_settings.specs.Members.{octets_and_data}
 use Rattle.acap_settings.proofs.taking.secrets_of.Given as goal
 
 abbrev pub invariant-loop-name : goal.invariant-loop-name
-invariant-loop-name l = map seen (take l.name-index l.members) ≡ map said_user l.users.items
+invariant-loop-name l = map octets_and_data (take l.name-index l.members) ≡ map said_user l.users.items

@@ -1,6 +1,6 @@
 use Rattle.std.proofs.Common.{arith, length, ◌∙◌, ap, ◌∷◌, [], ◌++◌}
 use Rattle.acap_views.specs.Scenes.{shift_in}
-use Rattle.acap_views.specs.Shifting.{counted}
+use Rattle.acap_views.specs.Shifting.{count_with}
 use Rattle.acap_views.proofs.LoopShiftLemmas.{left_out, put_in}
 use Rattle.acap_views.proofs.shift_making.needed_shifts.Goals as goal
 
@@ -22,10 +22,10 @@ loop-path-preserved-then-count-gt-MOST-2 g c = record {
 
 pub loop-path-preserved : goal.loop-path-preserved
 loop-path-preserved g c = record {
-  shifts = put_in (shift_in c.args.scene.now) c.args.watch.now.present c.loop-path.count c.counted-count.result c.loop-path.shifts.items c.push.new.self.items _ c.in-Some.path
+  shifts = put_in (shift_in c.args.scene.now) c.args.watch.now.present c.loop-path.count c.count_on-count.result c.loop-path.shifts.items c.push.new.self.items _ c.in-Some.path
       c.next.new.self.rest.items c.loop-path.path-iterator.rest.items (omega (arith, c.if-count-gt-MOST.false)) c.in-Some.ensures.steps.0
       (c.in_ok-push.ensures.items ∙ ap (λ s. c.loop-path.shifts.items ++ s ∷ []) c.in_ok-shift.ensures.shift)
-      (c.counted-count.ensures ∙ ap (λ s. counted c.args.watch.now.present s c.loop-path.count) c.in_ok-shift.ensures.shift) c.loop-path.invariant.shifts;
+      (c.count_on-count.ensures ∙ ap (λ s. count_with c.args.watch.now.present s c.loop-path.count) c.in_ok-shift.ensures.shift) c.loop-path.invariant.shifts;
   count = omega (arith, c.in_ok-shift.ensures.count, ap length c.in-Some.ensures.steps.0, c.loop-path.invariant.count);
   least = omega (arith, c.in_ok-shift.ensures.least, c.loop-path.invariant.least);
 }

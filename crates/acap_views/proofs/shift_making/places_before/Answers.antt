@@ -1,14 +1,14 @@
 use Rattle.std.proofs.Common.{◌∙◌, ap, []}
 use Rattle.std.specs.Option.{unwrap_or}
 use Rattle.std.proofs.lemmas.Result.{IfOk-weaker}
-use Rattle.acap_search.specs.Views.{places_at, spotted}
+use Rattle.acap_search.specs.Views.{places_at, spot_in}
 use Rattle.acap_views.specs.Scenes.{places_before}
 use Rattle.acap_views.proofs.shift_making.places_before.Goals as goal
 
 pub returns : goal.returns
 returns c =
     IfOk-weaker c.places_at.result _ _ (λ places e.
-    e ∙ (ap (λ chain. places_at (spotted (record {
+    e ∙ (ap (λ chain. places_at (spot_in (record {
       records = c.scene.inside.before.now.store.records;
       realm = c.scene.inside.realm.now;
       user = c.scene.inside.user.now;

@@ -2,7 +2,7 @@ use Rattle.std.proofs.Common.{◌≡◌, Some, ◌∙◌, ap}
 use Rattle.std.specs.Option.{option_map}
 use Rattle.acap_moves.specs.Notices.{notice_between}
 use Rattle.acap_views.specs.Notices.{told_shape}
-use Rattle.acap_views.specs.Shifting.{from_one, match_by, stood, stands, without_old}
+use Rattle.acap_views.specs.Shifting.{from_one, match_by, old_place, stands, without_old}
 use Rattle.acap_views.proofs.ShiftLemmas.{counted_as, placed_back}
 use Rattle.acap_views.proofs.shifting.swap_here.Goals as goal
 
@@ -15,4 +15,4 @@ returns-clause-told c =
     ∙ placed_back found (without_old old c.args.hits.now.0) in
     c.here_notice-told.ensures found c.requires.row
     ∙ (ap (λ gone. notice_between told_shape c.args.enumerated c.args.row.name (from_one gone) (from_one (option_map (λ place. counted_as place found) c.swap_hit-gone.result.1))) c.swap_hit-gone.ensures.gone
-    ∙ ap (λ place. notice_between told_shape c.args.enumerated c.args.row.name (from_one (stood old c.args.hits.now.0)) (from_one place)) come)
+    ∙ ap (λ place. notice_between told_shape c.args.enumerated c.args.row.name (from_one (old_place old c.args.hits.now.0)) (from_one place)) come)

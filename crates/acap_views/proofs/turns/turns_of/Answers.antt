@@ -2,7 +2,7 @@ use Rattle.std.proofs.Common.{◌≡◌, ◌+◌, take, sym, ap, ◌∙◌, map 
 use Rattle.std.proofs.lemmas.List.{take_all}
 use Rattle.std.specs.List.{sum_by}
 use Rattle.acap_views.specs.Keeping.{RoomyOccupant, occupant_in}
-use Rattle.acap_views.specs.Plans.{work_at, trimmed}
+use Rattle.acap_views.specs.Plans.{work_at, unless_still}
 use Rattle.acap_views.proofs.TurnLemmas.{work_there, shifts_there, work_listed, turns_listed, part_counted, counted_within, counted_err}
 use Rattle.acap_views.proofs.turns.turns_of.Goals as goal
 
@@ -41,6 +41,6 @@ returns-clause-work g c =
 pub returns-clause-turns : goal.returns-clause-turns
 returns-clause-turns g c =
     let items = c.deref-entry-items.result.now in
-    c.trimmed.ensures ∙ (ap trimmed (c.from_vec.ensures ∙ (c.loop-entry.invariant.turns
+    c.trim.ensures ∙ (ap unless_still (c.from_vec.ensures ∙ (c.loop-entry.invariant.turns
     ∙ ap (each (shifts_there c.args.ahead.now c.args.sitting.now.user)) (take_all c.loop-entry.entry-index items c.loop-entry-test.false ∙ c.deref-entry-items.ensures.value)))
     ∙ sym (turns_listed c.args.ahead.now c.sitting.inside.contexts.items c.args.sitting.now c.sitting.invariant (ap (λ (o : RoomyOccupant). o.contexts) c.sitting.view_is)))

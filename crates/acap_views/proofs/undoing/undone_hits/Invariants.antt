@@ -1,11 +1,11 @@
 use Rattle.std.proofs.Common.{◌≡◌, ◌≤◌, drop, length}
 use Rattle.acap_moves.specs.Moves.{all_undone}
-use Rattle.acap_views.specs.Undoing.{seen}
+use Rattle.acap_views.specs.Undoing.{matches_lent}
 use Rattle.acap_views.proofs.undoing.undone_hits.Given as goal
 
 abbrev pub invariant-loop-left : goal.invariant-loop-left
 invariant-loop-left l = record {
-  undone : seen l.hits.items ≡ all_undone (drop l.left l.undos.items) l.now.0;
+  undone : matches_lent l.hits.items ≡ all_undone (drop l.left l.undos.items) l.now.0;
   within : l.left ≤ length l.undos.items;
 }
 

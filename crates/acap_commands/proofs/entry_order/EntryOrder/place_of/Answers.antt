@@ -4,14 +4,14 @@ use Rattle.acap_entries.specs.Store.{path_cmp}
 use Rattle.acap_entries.proofs.Halves.{less_at, equal_at, greater_at}
 use Rattle.acap_entries.proofs.SortedLemmas.{place_le, tied_lt}
 use Rattle.acap_entries.proofs.StoreLemmas.{path_cmp_total}
-use Rattle.acap_commands.specs.EntryOrder.{keyed}
+use Rattle.acap_commands.specs.EntryOrder.{places_by_path}
 use Rattle.acap_commands.proofs.OrderLemmas.{met_at, keyed_len}
 use Rattle.acap_commands.proofs.entry_order.EntryOrder.place_of.Goals as goal
 use Rattle.acap_commands.proofs.entry_order.EntryOrder.place_of.Goals.{in-Less, in-Greater}
 
 pub loop-low-init : goal.loop-low-init
 loop-low-init c =
-    let keys = keyed c.args.entries.now c.args.self.now in
+    let keys = places_by_path c.args.entries.now c.args.self.now in
     let many = keyed_len c.args.entries.now c.args.self.now in
     let high : c.len-high.result ≡ length c.args.self.now = cc (c.len-high.ensures, c.self.view_is) in
     let middle : c.saturating_sub-middle.result ≡ c.len-high.result - 1 = cc c.saturating_sub-middle.ensures in
@@ -25,7 +25,7 @@ loop-low-init c =
 
 pub returns-in-Equal-clause-place : goal.returns-in-Equal-clause-place
 returns-in-Equal-clause-place c =
-    let keys = keyed c.args.entries.now c.args.self.now in
+    let keys = places_by_path c.args.entries.now c.args.self.now in
     let many = keyed_len c.args.entries.now c.args.self.now in
     let middle = c.loop-low.invariant.middle c.loop-low-test.true in
     let within : c.loop-low.middle < length c.args.self.now = omega (arith, middle.1, c.loop-low.invariant.within) in
@@ -34,7 +34,7 @@ returns-in-Equal-clause-place c =
 
 pub returns-in-Equal-clause-tied : goal.returns-in-Equal-clause-tied
 returns-in-Equal-clause-tied c =
-    let keys = keyed c.args.entries.now c.args.self.now in
+    let keys = places_by_path c.args.entries.now c.args.self.now in
     let many = keyed_len c.args.entries.now c.args.self.now in
     let middle = c.loop-low.invariant.middle c.loop-low-test.true in
     let within : c.loop-low.middle < length c.args.self.now = omega (arith, middle.1, c.loop-low.invariant.within) in
@@ -43,7 +43,7 @@ returns-in-Equal-clause-tied c =
 
 pub loop-low-preserved : goal.loop-low-preserved
 loop-low-preserved c =
-    let keys = keyed c.args.entries.now c.args.self.now in
+    let keys = places_by_path c.args.entries.now c.args.self.now in
     let many = keyed_len c.args.entries.now c.args.self.now in
     let old = c.loop-low.invariant in
     let middle = old.middle c.loop-low-test.true in

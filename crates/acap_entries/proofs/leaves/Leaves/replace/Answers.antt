@@ -1,6 +1,6 @@
 use Rattle.std.proofs.Common.{◌≡◌, length, false, sym, ap, ◌∙◌, arith}
 use borrow.Author.Tests.{eqb-true}
-use Rattle.acap_entries.specs.Leaves.{joined}
+use Rattle.acap_entries.specs.Leaves.{contents}
 use Rattle.acap_entries.specs.Replacing.{replaced}
 use Rattle.acap_entries.specs.Sorted.{place, is_tied, put_in}
 use Rattle.acap_entries.proofs.LeafLemmas.{entry_of_none}
@@ -28,32 +28,32 @@ returns-then-is_empty-clause-within g c =
 
 pub returns-then-spot-clause-within : goal.returns-then-spot-clause-within
 returns-then-spot-clause-within g c =
-    let same = ap joined c.as_slice.ensures.value ∙ ap (λ v. v.0) c.self.view_is in
+    let same = ap contents c.as_slice.ensures.value ∙ ap (λ v. v.0) c.self.view_is in
     let rank = c.seek-spot.ensures.rank ∙ ap (λ es. place g.K.Ord.cmp c.args.key es) same in
-    let whole : joined c.exchange_at-old.new.leaves.items ≡ replaced g.K.Ord.cmp c.args.key c.args.value c.args.self.now.0 =
+    let whole : contents c.exchange_at-old.new.leaves.items ≡ replaced g.K.Ord.cmp c.args.key c.args.value c.args.self.now.0 =
     c.exchange_at-old.ensures.items ∙ ap (λ v. replaced g.K.Ord.cmp c.args.key c.args.value v.0) c.self.view_is in
     let stands = within_replaced g.K.Ord.cmp g.met.K.Ord.total c.args.key c.args.value c.args.self.now.0 c.requires.sorted in
     omega (arith, stands, rank, ap length whole)
 
 pub returns-then-len-lt-MOST-clause-taken : goal.returns-then-len-lt-MOST-clause-taken
 returns-then-len-lt-MOST-clause-taken g c =
-    let same = ap joined c.as_slice.ensures.value ∙ ap (λ v. v.0) c.self.view_is in
+    let same = ap contents c.as_slice.ensures.value ∙ ap (λ v. v.0) c.self.view_is in
     let absent : is_tied g.K.Ord.cmp c.args.key c.args.self.now.0 ≡ false = sym (ap (λ es. is_tied g.K.Ord.cmp c.args.key es) same) ∙ sym c.seek-spot.ensures.tied ∙ c.if-spot.false in
     sym (entry_absent g.K.Ord.cmp g.met.K.Ord.total c.args.key c.args.self.now.0 c.requires.sorted absent)
 
 pub returns-then-len-lt-MOST-clause-entries : goal.returns-then-len-lt-MOST-clause-entries
 returns-then-len-lt-MOST-clause-entries g c =
-    let same = ap joined c.as_slice.ensures.value ∙ ap (λ v. v.0) c.self.view_is in
+    let same = ap contents c.as_slice.ensures.value ∙ ap (λ v. v.0) c.self.view_is in
     let absent : is_tied g.K.Ord.cmp c.args.key c.args.self.now.0 ≡ false = sym (ap (λ es. is_tied g.K.Ord.cmp c.args.key es) same) ∙ sym c.seek-spot.ensures.tied ∙ c.if-spot.false in
     c.insert_at.ensures.items ∙ ap (λ v. put_in g.K.Ord.cmp c.args.key c.args.value v.0) c.self.view_is
     ∙ sym (replaced_absent g.K.Ord.cmp g.met.K.Ord.total c.args.key c.args.value c.args.self.now.0 c.requires.sorted absent)
 
 pub returns-then-len-lt-MOST-clause-within : goal.returns-then-len-lt-MOST-clause-within
 returns-then-len-lt-MOST-clause-within g c =
-    let same = ap joined c.as_slice.ensures.value ∙ ap (λ v. v.0) c.self.view_is in
+    let same = ap contents c.as_slice.ensures.value ∙ ap (λ v. v.0) c.self.view_is in
     let rank = c.seek-spot.ensures.rank ∙ ap (λ es. place g.K.Ord.cmp c.args.key es) same in
     let absent : is_tied g.K.Ord.cmp c.args.key c.args.self.now.0 ≡ false = sym (ap (λ es. is_tied g.K.Ord.cmp c.args.key es) same) ∙ sym c.seek-spot.ensures.tied ∙ c.if-spot.false in
-    let whole : joined c.insert_at.new.leaves.items ≡ replaced g.K.Ord.cmp c.args.key c.args.value c.args.self.now.0 =
+    let whole : contents c.insert_at.new.leaves.items ≡ replaced g.K.Ord.cmp c.args.key c.args.value c.args.self.now.0 =
     c.insert_at.ensures.items ∙ ap (λ v. put_in g.K.Ord.cmp c.args.key c.args.value v.0) c.self.view_is
     ∙ sym (replaced_absent g.K.Ord.cmp g.met.K.Ord.total c.args.key c.args.value c.args.self.now.0 c.requires.sorted absent) in
     let stands = within_replaced g.K.Ord.cmp g.met.K.Ord.total c.args.key c.args.value c.args.self.now.0 c.requires.sorted in
@@ -61,19 +61,19 @@ returns-then-len-lt-MOST-clause-within g c =
 
 pub returns-clause-taken : goal.returns-clause-taken
 returns-clause-taken g c =
-    let same = ap joined c.as_slice.ensures.value ∙ ap (λ v. v.0) c.self.view_is in
+    let same = ap contents c.as_slice.ensures.value ∙ ap (λ v. v.0) c.self.view_is in
     let absent : is_tied g.K.Ord.cmp c.args.key c.args.self.now.0 ≡ false = sym (ap (λ es. is_tied g.K.Ord.cmp c.args.key es) same) ∙ sym c.seek-spot.ensures.tied ∙ c.if-spot.false in
     sym (entry_absent g.K.Ord.cmp g.met.K.Ord.total c.args.key c.args.self.now.0 c.requires.sorted absent)
 
 pub returns-clause-entries : goal.returns-clause-entries
 returns-clause-entries g c =
-    let same = ap joined c.as_slice.ensures.value ∙ ap (λ v. v.0) c.self.view_is in
+    let same = ap contents c.as_slice.ensures.value ∙ ap (λ v. v.0) c.self.view_is in
     let absent : is_tied g.K.Ord.cmp c.args.key c.args.self.now.0 ≡ false = sym (ap (λ es. is_tied g.K.Ord.cmp c.args.key es) same) ∙ sym c.seek-spot.ensures.tied ∙ c.if-spot.false in
     c.put-2.ensures.entries ∙ sym (replaced_absent g.K.Ord.cmp g.met.K.Ord.total c.args.key c.args.value c.args.self.now.0 c.requires.sorted absent)
 
 pub returns-clause-within : goal.returns-clause-within
 returns-clause-within g c =
-    let same = ap joined c.as_slice.ensures.value ∙ ap (λ v. v.0) c.self.view_is in
+    let same = ap contents c.as_slice.ensures.value ∙ ap (λ v. v.0) c.self.view_is in
     let rank = c.seek-spot.ensures.rank ∙ ap (λ es. place g.K.Ord.cmp c.args.key es) same in
     let absent : is_tied g.K.Ord.cmp c.args.key c.args.self.now.0 ≡ false = sym (ap (λ es. is_tied g.K.Ord.cmp c.args.key es) same) ∙ sym c.seek-spot.ensures.tied ∙ c.if-spot.false in
     let whole : c.put-2.new.self.0 ≡ replaced g.K.Ord.cmp c.args.key c.args.value c.args.self.now.0 =

@@ -1,5 +1,5 @@
 use Rattle.std.proofs.Common.{◌≡◌, [], ◌∷◌, ◌++◌, Some, ap, sym, subst, ◌∙◌}
-use Rattle.acap_dialogue.specs.Talking.{begun}
+use Rattle.acap_dialogue.specs.Talking.{beginning}
 use Rattle.acap_examples.proofs.Followed.{open_done}
 use Rattle.acap_examples.proofs.sessions.Sessions.open.Goals as goal
 use Rattle.acap_examples.specs.Followed.{IsToldTurn}
@@ -19,4 +19,4 @@ returns-clause-done g c =
     let pushed = rw c.unwrap.ensures at c.push.ensures.items in
     let places = pushed ∙ ap (λ (xs : Places). xs ++ Some c.ask.new.self ∷ []) c.reserve.ensures.items in
     let put = ap (λ (xs : Places). record w { machine = c.ask.new.state.machine; places = xs }) places in
-    open_done c.args.self.now w _ (turn_on c.args.occasion) c.args.user c.new-session.result c.ask.new.self c.ask.new.state.machine c.in_ok-told.told c.self.view_is seat (c.new-session.ensures ∙ ap (λ host. begun host (Some c.args.user)) c.in_ok-host.ensures) put turn
+    open_done c.args.self.now w _ (turn_on c.args.occasion) c.args.user c.new-session.result c.ask.new.self c.ask.new.state.machine c.in_ok-told.told c.self.view_is seat (c.new-session.ensures ∙ ap (λ host. beginning host (Some c.args.user)) c.in_ok-host.ensures) put turn

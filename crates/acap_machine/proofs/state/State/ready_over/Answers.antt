@@ -9,16 +9,16 @@ returns-in_default-clause-answer g c =
     alone_ready c.args.self.now c.args.seat c.in_ok-user.user.now c.args.asked c.in_ok-words.words c.new.result c.in_ok-user.ensures.ok (search (rules, tests))
     c.in_ok-words.ensures.words c.new.ensures c.kept_law.ensures.kept
 
-pub ready_made-requires-clause-order : goal.ready_made-requires-clause-order
-ready_made-requires-clause-order g c =
+pub ready_context-requires-clause-order : goal.ready_context-requires-clause-order
+ready_context-requires-clause-order g c =
     let s = c.args.self.now in
     let user = c.in_ok-user.user.now in
     in_order c.hit_law.ensures s.machine user c.args.asked.query c.in-Ok.hits c.kept_law.ensures.kept.sound
     (sym (ap (λ t. refusal_of t.machine.store.records t.machine.realm user c.args.asked.query) c.state.view_is) ∙ c.in-Ok.ensures.found.0)
     (c.in-Ok.ensures.found.1 ∙ ap (λ t. matches_of t.machine.store.records t.machine.realm user c.args.asked.query.sought) c.state.view_is)
 
-pub ready_made-requires-clause-current : goal.ready_made-requires-clause-current
-ready_made-requires-clause-current g c =
+pub ready_context-requires-clause-current : goal.ready_context-requires-clause-current
+ready_context-requires-clause-current g c =
     let s = c.args.self.now in
     let user = c.in_ok-user.user.now in
     openable c.kept_law.ensures.contexts s.machine c.args.seat user c.in-Some.make c.args.asked.query c.in-Ok.hits c.kept_law.ensures.kept.sound c.in_ok-user.ensures.ok

@@ -8,10 +8,10 @@ pub returns-in_ok-excerpt-in-Ok-clause-words : goal.returns-in_ok-excerpt-in-Ok-
 returns-in_ok-excerpt-in-Ok-clause-words g c =
     let wanted = query_within c.args.from.sought.now c.args.modifiers c.args.key in
     found_from c.self.inside.tree.store c.self.inside.realm c.args.user.now (as_ranged c.args.from) c.in_ok-query.query wanted c.args.modifiers.limit
-    (each (λ hit. hit.now.path) c.as_slice.result.now) c.in-Ok.hits c.in_ok-excerpt-in-Ok.excerpt c.found_with.result
+    (each (λ hit. hit.now.path) c.as_slice.result.now) c.in-Ok.hits c.in_ok-excerpt-in-Ok.excerpt c.reply_with.result
     c.in_ok-query.ensures (paths_are c.as_slice.result.now c.args.from.shown (ap (λ xs. each (λ hit. hit.now) xs) c.as_slice.ensures.value ∙ c.in_ok-shown.ensures))
     c.in-Ok.ensures.answer c.in_ok-excerpt-in-Ok.ensures
-    (rw c.last-last.ensures at c.found_with.ensures)
+    (rw c.last-last.ensures at c.reply_with.ensures)
     ∙ ap (λ t. searched_from t.machine.store t.machine.realm c.args.user.now (as_ranged c.args.from) wanted c.args.modifiers.limit) c.self.view_is
 
 pub returns-in-Err-clause-words : goal.returns-in-Err-clause-words

@@ -1,5 +1,5 @@
 use Rattle.std.proofs.Common.{◌<◌, length, sym, subst, ◌∙◌, ap}
-use Rattle.acap_session.specs.Places.{reached}
+use Rattle.acap_session.specs.Places.{places_up_to}
 use Rattle.acap_session.specs.contracts.world.World.{the_view}
 use Rattle.acap_session.proofs.Placing.{reached_within, now_none, stood, starts, open_made, unopened}
 use Rattle.acap_session.proofs.world.World.open.Goals as goal
@@ -7,7 +7,7 @@ use Rattle.acap_session.proofs.world.World.open.Goals as goal
 pub index_mut-standing-requires : goal.index_mut-standing-requires
 index_mut-standing-requires g c =
     let there = reached_within c.self.inside.places.items c.args.seat in
-    let index = subst (λ n. n < length (reached c.self.inside.places.items c.args.seat)) (sym (c.from-index.ensures ∙ c.number.ensures.value)) there in
+    let index = subst (λ n. n < length (places_up_to c.self.inside.places.items c.args.seat)) (sym (c.from-index.ensures ∙ c.number.ensures.value)) there in
     subst (λ n. c.from-index.result < n) (ap length (sym c.in_ok-reach.ensures.reached) ∙ sym c.reach.new.places.ok.0) index
 
 pub returns : goal.returns

@@ -6,7 +6,7 @@ use Rattle.acap_entries.proofs.MapLemmas.{insert_kept, put_in_order}
 use Rattle.acap_views.specs.Keeping.{occupant_in, seats_in}
 use Rattle.acap_views.specs.Listing.{as_seated}
 use Rattle.acap_views.specs.Maps.{each_value}
-use Rattle.acap_views.specs.Seats.{entered}
+use Rattle.acap_views.specs.Seats.{with_user}
 use Rattle.acap_views.proofs.KeepingLemmas.{seat_insert}
 use Rattle.acap_views.proofs.views.Views.take_seat.Goals as goal
 
@@ -21,4 +21,4 @@ returns c =
     ∙ (ap (each_value occupant_in) (insert_kept nat_cmp nat_cmp_total seats c.args.seat sitting c.self.invariant)
     ∙ (seat_insert (table.from_sorted seats) c.args.seat sitting
     ∙ (ap (table.insert (as_seated seats) c.args.seat) c.new-sitting.ensures
-    ∙ ap (λ v. entered (seats_in v) c.args.seat c.args.user) c.self.view_is)))
+    ∙ ap (λ v. with_user (seats_in v) c.args.seat c.args.user) c.self.view_is)))
