@@ -1,0 +1,153 @@
+#!/usr/bin/env python3
+"""Tries the edits of bench/edits/CRATE, each on the function that it changes alone: a whole check of the crate for each would take minutes.
+
+    python3 bench/edits_alone.py CRATE [EDIT..]     # an EDIT: the beginning of its name; none: all of the crate
+
+What `rt check` has proved in crates/*/out is used, so run it in the crate's folder first. It tries the last commit, in a clone. An edit is
+refused where a function is no longer proved. Where the function is still proved, all of its module is tried, and then the whole crate. An
+edit outside functions, as of a constant, begins with its module, and one of a definition with the crate. Fails where one is not refused, or
+the text that it replaces doesn't stand in the code exactly once.
+"""
+import os
+import re
+import shutil
+import subprocess
+import sys
+import tempfile
+
+TOP = os.path.dirname(os.path.dirname(os.path.abspath(__file__)))
+
+
+def text_of(file):
+    with open(file, encoding="utf-8") as it:
+        return it.read()
+
+
+def write_all(crate, texts):
+    for path, text in texts.items():
+        with open(f"{crate}/{path}", "w", encoding="utf-8") as it:
+            it.write(text)
+
+
+def pairs_of(edit):
+    """Returns what an edit replaces, as (file, old text, new text)."""
+    pairs, path, old = [], "", ""
+    for line in text_of(edit).split("\n"):
+        if line.startswith("file: "):
+            path = line[len("file: "):].strip()
+        elif line.startswith("old: "):
+            old = line[len("old: "):]
+        elif line.startswith("new:"):
+            pairs.append((path, old, line[len("new:"):].removeprefix(" ")))
+    return pairs
+
+
+def indent_of(line):
+    return len(line) - len(line.lstrip())
+
+
+def type_of(line):
+    """Returns the name by which `rt check` calls a method's type: with the trait's behind it, where the impl is of one."""
+    head = re.sub(r"^impl(<(?:[^<>]|<[^<>]*>)*>)?\s*", "", line)
+    of_trait = re.match(r"([\w:]+)(?:<.*>)?\s+for\s+&?(\w+)", head)
+    if of_trait:
+        return of_trait[2] + of_trait[1].split("::")[-1]
+    return re.match(r"&?(\w+)", head)[1]
+
+
+def function_at(text, place):
+    """Returns the function around a place of a file, behind its type's name where it is a method; None outside functions."""
+    lines = text.split("\n")
+    at = text[:place].count("\n")
+    margin, found = indent_of(lines[at]), None
+    for number in range(at, -1, -1):
+        line = lines[number]
+        head = re.match(r"\s*(?:pub(?:\(\w+\))? )?(?:const )?fn (\w+)", line)
+        if head and not found and (number == at or indent_of(line) <= margin):
+            found = head[1]
+            if not indent_of(line):
+                return found
+        elif found and line.startswith("impl"):
+            return f"{type_of(line)}::{found}"
+        elif not found and number < at and line.rstrip() in ("}", "};"):
+            return None
+    return found
+
+
+def ways_of(crate, pairs):
+    """Returns what to check, in turn: the functions that an edit changes, their modules, and the crate, which is an empty list."""
+    functions, modules = [], []
+    for path, old, _ in pairs:
+        if not path.endswith(".rt"):
+            return [[]]
+        text = text_of(f"{crate}/{path}")
+        module = path.removeprefix("src/").removesuffix(".rt").replace("/", "::")
+        function = function_at(text, text.find(old))
+        # (a method is listed in its type's module, which may be another one, and is found by the end of its name)
+        is_method = function and "::" in function
+        functions.append(function if is_method else f"{module}::{function}" if function else module)
+        modules.append(module)
+    ways = [list(dict.fromkeys(it)) for it in (functions, modules)] + [[]]
+    return ways[ways[0] == ways[1]:]
+
+
+def edited(crate, pairs):
+    """Returns the texts of the files that an edit changes, by their paths, or why it can't be applied."""
+    texts = {}
+    for path, old, new in pairs:
+        text = texts[path] if path in texts else text_of(f"{crate}/{path}")
+        if text.count(old) != 1:
+            return {}, f"its text stands {text.count(old)} times in {path}"
+        texts[path] = text.replace(old, new)
+    return texts, None if texts else "it replaces nothing"
+
+
+def verdict_of(crate, only):
+    """Returns whether a check of the edited crate refused something, and which function, or else its last line."""
+    words = [word for path in only for word in ("--only", path)]
+    ran = subprocess.run(["rt", "check", *words], cwd=crate, capture_output=True, text=True, errors="replace", stdin=subprocess.DEVNULL)
+    refused = re.search(r"^fn (\S+): (not proved|no proof)", ran.stdout, re.M)
+    last = ran.stdout.rstrip("\n").split("\n")[-1]
+    is_refused = ran.returncode == 1 and bool(refused or last.startswith("logic=not-proved"))
+    return is_refused, refused[1] if refused else last[:120]
+
+
+def tried(crate, edit):
+    """Returns whether an edit is refused, and what to say of it."""
+    pairs = pairs_of(edit)
+    texts, misfit = edited(crate, pairs)
+    if misfit:
+        return False, misfit
+    ways, were = ways_of(crate, pairs), {path: text_of(f"{crate}/{path}") for path in texts}
+    write_all(crate, texts)
+    try:
+        for only in ways:
+            is_refused, said = verdict_of(crate, only)
+            if is_refused:
+                break
+    finally:
+        write_all(crate, were)
+    return is_refused, said
+
+
+def main(name, *begins):
+    with tempfile.TemporaryDirectory() as clone:
+        subprocess.run(["git", "clone", "-q", TOP, f"{clone}/repo"], check=True)
+        for crate in os.listdir(f"{TOP}/crates"):
+            if os.path.isdir(f"{TOP}/crates/{crate}/out"):
+                shutil.copytree(f"{TOP}/crates/{crate}/out", f"{clone}/repo/crates/{crate}/out", symlinks=True)
+        folder = f"{clone}/repo/bench/edits/{name}"
+        edits = [it for it in sorted(os.listdir(folder)) if not begins or it.startswith(begins)]
+        refused = 0
+        for edit in edits:
+            is_refused, said = tried(f"{clone}/repo/crates/{name}", f"{folder}/{edit}")
+            refused += is_refused
+            print(f"{edit}: {'refused' if is_refused else 'NOT REFUSED'}: {said}", flush=True)
+    print(f"{name}: {refused} of {len(edits)} edits refused")
+    return 0 if refused == len(edits) else 1
+
+
+if __name__ == "__main__":
+    if len(sys.argv) < 2:
+        sys.exit(__doc__)
+    sys.exit(main(*sys.argv[1:]))
