@@ -6,7 +6,8 @@
 What `rt check` has proved in crates/*/out is used, so run it in the crate's folder first. It tries the last commit, in a clone. An edit is
 refused where a function is no longer proved. Where the function is still proved, all of its module is tried, and then the whole crate. An
 edit outside functions, as of a constant, begins with its module, and one of a definition with the crate. Fails where one is not refused, or
-the text that it replaces doesn't stand in the code exactly once.
+the text that it replaces doesn't stand in the code exactly once. It doesn't tell where an edit is refused only because the prover can't read it,
+or because a proof names what it took away: bench/edits.sh does.
 """
 import os
 import re
