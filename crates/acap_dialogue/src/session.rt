@@ -49,13 +49,25 @@ fn next_of(heard: Heard, octets: Vec<u8>) -> Next
 
 /// A session between a client and the machine (RFC 2244 section 2): octets come in pieces, and it says what is next.
 /// It performs no event itself: it asks for one, and is given the machine's answer.
-#[derive(Drop)]
 pub struct Session {
     alloc: Global,
     lexer: Lexer,
     host: Octets,
     user: Option<UserName>,
     stage: Stage,
+}
+
+// By hand, so that no other crate takes a session apart to drop it.
+impl Drop for Session {
+    fn drop(self) {
+        let Session {
+            alloc: _,
+            lexer: _,
+            host: _,
+            user: _,
+            stage: _,
+        } = self;
+    }
 }
 
 impl Model for Session {

@@ -28,6 +28,7 @@ impl Ready {
     ghost use Rattle.std.specs.Prelude.{◌≡◌};
     ghost use Rattle.acap_machine.specs.Readied.{pending_of};
     ghost use Rattle.acap_machine.specs.Stepping.{plain};
+    ghost use Rattle.acap_machine.specs.declared.deed.Deed.TheVariants as deeds;
 
     // What is said, and what is yet to be put in place; no touched entry was looked at for it.
     pub(crate) fn new(seat: Seat, deed: Deed, words: Said) -> Ready
@@ -39,6 +40,13 @@ impl Ready {
             reply: Reply::new(words),
             work: 0,
         }
+    }
+
+    // What is said, where nothing is yet to be put in place.
+    pub(crate) fn saying(seat: Seat, words: Said) -> Ready
+        ensures { result ≡ pending_of seat deeds.Nothing (plain words) 0 }
+    {
+        Ready::new(seat, Deed::Nothing, words)
     }
 
     /// What is answered once it is put in place.

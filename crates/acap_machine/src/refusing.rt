@@ -6,7 +6,7 @@ ghost use Rattle.acap_machine.specs.Searching as rule;
 
 use acap_commands::{Refusal, Said};
 use acap_entries::{Dataset, Memory};
-use acap_search::SearchRefusal;
+use acap_search::{Query, SearchRefusal};
 use acap_views::ViewRefusal;
 
 /// What is said of a refused change or list.
@@ -32,6 +32,16 @@ pub(crate) fn refuse_search(dataset: Dataset, refusal: SearchRefusal) -> Result<
         SearchRefusal::WayTooMany => Ok(Said::Refused(Refusal::WayTooMany)),
         SearchRefusal::Memory => Err(Memory),
     }
+}
+
+/// The same, with the dataset of the query.
+pub(crate) fn refuse_query(query: Query, refusal: SearchRefusal) -> Result<Said, Memory>
+    ensures words { IfOk result
+        (λ words. words ≡ saying.Refused (rule.refused_as query.sought.dataset refusal)) }
+    ensures other { OnOk result (rule.is_search_memory refusal ≡ false) }
+{
+    let sought = query.sought;
+    refuse_search(sought.dataset, refusal)
 }
 
 /// What is said of what is asked of a context, and refused.

@@ -13,7 +13,7 @@ ghost use Rattle.acap_views.specs.Started.{as_ranged};
 
 use crate::deed::Deed;
 use crate::ready::Ready;
-use crate::refusing::{refuse_search, refuse_view};
+use crate::refusing::{refuse_query, refuse_view};
 use crate::state::State;
 use acap_commands::{
     Fault, Key, Limit, MakeContext, Refusal, Rows, Said, Search, SearchModifiers, SearchReply,
@@ -165,7 +165,7 @@ impl State {
             }
             Target::Context(name) => {
                 let words = state.words_within(seat, user, &name, modifiers, key, steps)?;
-                Ok(Ready::new(seat, Deed::Nothing, words))
+                Ok(Ready::saying(seat, words))
             }
         }
     }
@@ -233,10 +233,7 @@ impl State {
                 let last = self.tree.last();
                 Ok(Said::Searched(reply_with(self.alloc, last, &query.sought, excerpt)))
             }
-            Err(refusal) => {
-                let sought = query.sought;
-                refuse_search(sought.dataset, refusal)
-            }
+            Err(refusal) => refuse_query(query, refusal),
         }
     }
 
@@ -266,10 +263,7 @@ impl State {
                 let last = self.tree.last();
                 Ok(Said::Searched(reply_with(self.alloc, last, &query.sought, excerpt)))
             }
-            Err(refusal) => {
-                let sought = query.sought;
-                refuse_search(sought.dataset, refusal)
-            }
+            Err(refusal) => refuse_query(query, refusal),
         }
     }
 
@@ -299,14 +293,13 @@ impl State {
         } = asked;
         let Some(make) = make_context else {
             let words = state.words_over(user, query, limit, steps)?;
-            return Ok(Ready::new(seat, Deed::Nothing, words));
+            return Ok(Ready::saying(seat, words));
         };
         match fresh(state.alloc, &state.tree, &state.realm, user, &query, steps) {
             Ok(hits) => self.ready_context(seat, make, query.sought, limit, hits),
             Err(refusal) => {
-                let sought = query.sought;
-                let words = refuse_search(sought.dataset, refusal)?;
-                Ok(Ready::new(seat, Deed::Nothing, words))
+                let words = refuse_query(query, refusal)?;
+                Ok(Ready::saying(seat, words))
             }
         }
     }
@@ -332,13 +325,13 @@ impl State {
         self.kept_law();
         if is_full(&self.views, seat, &make.name) {
             let words = Said::Refused(Refusal::TryFreeContext);
-            return Ok(Ready::new(seat, Deed::Nothing, words));
+            return Ok(Ready::saying(seat, words));
         }
         let last = self.tree.last();
         let found = reply_of(self.alloc, last, &sought, limit, &hits)?;
         match self.views.make_context(seat, make, sought, hits, last) {
             Ok(new) => Ok(Ready::new(seat, Deed::Makes(new), Said::Searched(found))),
-            Err(why) => Ok(Ready::new(seat, Deed::Nothing, refuse_view(why)?)),
+            Err(why) => Ok(Ready::saying(seat, refuse_view(why)?)),
         }
     }
 }

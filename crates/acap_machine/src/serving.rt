@@ -23,7 +23,7 @@ impl State {
     {
         self.kept_law();
         self.user(seat)?;
-        Ok(Ready::new(seat, Deed::Nothing, words))
+        Ok(Ready::saying(seat, words))
     }
 
     /// A MYRIGHTS (RFC 2244 section 6.7).
@@ -37,7 +37,7 @@ impl State {
         let object = object_for(user, object)?;
         let rights = rights_of(&self.tree, &self.realm, user, &lent_object(&object));
         let letters = rights.letters(self.alloc)?;
-        Ok(Ready::new(seat, Deed::Nothing, Said::Rights(letters)))
+        Ok(Ready::saying(seat, Said::Rights(letters)))
     }
 
     /// A LISTRIGHTS (RFC 2244 section 6.7).
@@ -56,7 +56,7 @@ impl State {
         let meant = object_for(user, object)?;
         let rights = implicit_rights(&self.realm, identifier, lent_object(&meant).dataset());
         let list = rights.list(self.alloc)?;
-        Ok(Ready::new(seat, Deed::Nothing, Said::RightsList(list)))
+        Ok(Ready::saying(seat, Said::RightsList(list)))
     }
 
     /// A DELETEDSINCE (RFC 2244 section 6.6.2).
@@ -76,7 +76,7 @@ impl State {
             Ok(names) => Said::Deleted(names),
             Err(refusal) => refuse(refusal)?,
         };
-        Ok(Ready::new(seat, Deed::Nothing, words))
+        Ok(Ready::saying(seat, words))
     }
 
     /// A FREECONTEXT (RFC 2244 section 6.5). Takes no memory.
@@ -88,7 +88,7 @@ impl State {
         self.kept_law();
         self.user(seat)?;
         if !has_context(&self.views, seat, &name) {
-            return Ok(Ready::new(seat, Deed::Nothing, Said::Refused(Refusal::NoContext)));
+            return Ok(Ready::saying(seat, Said::Refused(Refusal::NoContext)));
         }
         Ok(Ready::new(seat, Deed::Frees(name), Said::Done(Verb::FreeContext)))
     }
@@ -104,7 +104,7 @@ impl State {
         let last = self.tree.last();
         match self.views.tolds_of(seat, names.as_slice(), last) {
             Ok(tolds) => Ok(Ready::new(seat, Deed::Tells(names, last), Said::Updated(tolds))),
-            Err(refusal) => Ok(Ready::new(seat, Deed::Nothing, refuse_view(refusal)?)),
+            Err(refusal) => Ok(Ready::saying(seat, refuse_view(refusal)?)),
         }
     }
 }

@@ -17,7 +17,6 @@ use std::sync::ledger::Ledger;
 
 /// The machine in memory: seen as who is who, its store and who sits where with which contexts, and beside these how it is kept
 /// and what its last event cost, of which no equality of machines speaks (RFC 2244 sections 2 and 3.3).
-#[derive(Drop)]
 pub struct State {
     pub(crate) alloc: Global,
     pub(crate) realm: Realm,
@@ -25,6 +24,20 @@ pub struct State {
     pub(crate) index: Resolved,
     pub(crate) views: Views,
     pub(crate) work: usize,
+}
+
+// By hand, so that no other crate takes a machine apart to drop it.
+impl Drop for State {
+    fn drop(self) {
+        let State {
+            alloc: _,
+            realm: _,
+            tree: _,
+            index: _,
+            views: _,
+            work: _,
+        } = self;
+    }
 }
 
 impl Model for State {

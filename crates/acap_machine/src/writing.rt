@@ -137,7 +137,7 @@ impl State {
         user.form_law();
         match plan(state.alloc, &state.tree, &state.realm, user, write, clock) {
             Ok(change) => self.ready_change(seat, verb, change, steps),
-            Err(refusal) => Ok(Ready::new(seat, Deed::Nothing, refuse(refusal)?)),
+            Err(refusal) => Ok(Ready::saying(seat, refuse(refusal)?)),
         }
     }
 }

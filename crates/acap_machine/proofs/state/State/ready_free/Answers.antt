@@ -8,7 +8,7 @@ use Rattle.acap_views.specs.Seats.{contexts_at}
 pub returns-clause-answer : goal.returns-clause-answer
 returns-clause-answer c =
     let there = sym c.has_context.ensures ∙ c.if-not-has_context.false in
-    frees_ready c.kept_law.ensures.contexts c.args.self.now c.args.seat c.in_ok-user.field-0.now c.args.name c.new-2.result c.in_ok-user.ensures.ok
+    frees_ready c.kept_law.ensures.contexts c.args.self.now c.args.seat c.in_ok-user.field-0.now c.args.name c.new.result c.in_ok-user.ensures.ok
     (sym (ap (λ s. table.contains_key (contexts_at s.machine.seats c.args.seat) c.args.name) c.self.view_is) ∙ there)
     (sym (ap (λ s. table.contains_key (contexts_at (seats_in s.kept.views) c.args.seat) c.args.name) c.self.view_is) ∙ there)
-    c.new-2.ensures c.kept_law.ensures.kept
+    c.new.ensures c.kept_law.ensures.kept

@@ -6,8 +6,8 @@ use Rattle.acap_search.specs.Matches.{Match}
 
 pub returns-in_default-clause-answer : goal.returns-in_default-clause-answer
 returns-in_default-clause-answer g c =
-    alone_ready c.args.self.now c.args.seat c.in_ok-user.user.now c.args.asked c.in_ok-words.words c.new.result c.in_ok-user.ensures.ok (search (rules, tests))
-    c.in_ok-words.ensures.words c.new.ensures c.kept_law.ensures.kept
+    alone_ready c.args.self.now c.args.seat c.in_ok-user.user.now c.args.asked c.in_ok-words.words c.saying.result c.in_ok-user.ensures.ok (search (rules, tests))
+    c.in_ok-words.ensures.words c.saying.ensures c.kept_law.ensures.kept
 
 pub ready_context-requires-clause-order : goal.ready_context-requires-clause-order
 ready_context-requires-clause-order g c =
@@ -30,6 +30,6 @@ returns-in_ok-words-in-Err-clause-answer g c =
     let s = c.args.self.now in
     let user = c.in_ok-user.user.now in
     let holds : List Match → List Match → Type 0 = λ h all. h ≡ all in
-    refused_ready s c.args.seat user c.args.asked holds c.in-Err.refusal c.in_ok-words-in-Err.words c.new-in-Err.result c.in_ok-user.ensures.ok
+    refused_ready s c.args.seat user c.args.asked holds c.in-Err.refusal c.in_ok-words-in-Err.words c.saying-in-Err.result c.in_ok-user.ensures.ok
     (subst (λ t. IsAnswer t.machine.store.records t.machine.realm user c.args.asked.query holds (Err c.in-Err.refusal)) c.state.view_is c.in-Err.ensures.found)
-    c.in_ok-words-in-Err.ensures.other c.in_ok-words-in-Err.ensures.words c.new-in-Err.ensures c.kept_law.ensures.kept
+    c.in_ok-words-in-Err.ensures.other c.in_ok-words-in-Err.ensures.words c.saying-in-Err.ensures c.kept_law.ensures.kept

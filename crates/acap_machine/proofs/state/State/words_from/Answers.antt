@@ -17,7 +17,7 @@ returns-in_ok-excerpt-in-Ok-clause-words g c =
 pub returns-in-Err-clause-words : goal.returns-in-Err-clause-words
 returns-in-Err-clause-words g c =
     let wanted = query_within c.args.from.sought.now c.args.modifiers c.args.key in
-    words_for c.refuse_search.result _ _ _ c.refuse_search.ensures.words c.refuse_search.ensures.other
+    words_for c.refuse_query.result _ _ _ c.refuse_query.ensures.words c.refuse_query.ensures.other
     (λ other. refused_from c.self.inside.tree.store c.self.inside.realm c.args.user.now (as_ranged c.args.from) c.in_ok-query.query wanted c.args.modifiers.limit
     (each (λ hit. hit.now.path) c.as_slice.result.now) c.in-Err.refusal
     c.in_ok-query.ensures (paths_are c.as_slice.result.now c.args.from.shown (ap (λ xs. each (λ hit. hit.now) xs) c.as_slice.ensures.value ∙ c.in_ok-shown.ensures))
