@@ -23,7 +23,7 @@ entry_send = declared_send entry.the_type (of_seat.the_send, (exchange_send, tt)
 module _ (S : RattleType) (g : site.Ghosts S.Denot) (h : ledger.Ghosts S.Denot) (L : RattleType) (l : ledger.Ghosts L.Denot) where
   pub book_send : IsSend (book.the_row S L g h l)
   book_send = view_send _ _ _ _ _ (declared_send (book_inside.the_type S L g h l) (
-    state_send,
+    search (state_send, crosses, sendable) depth 60,
     (
       search (entry_send, crosses, sendable) depth 60,
       (
@@ -31,7 +31,7 @@ module _ (S : RattleType) (g : site.Ghosts S.Denot) (h : ledger.Ghosts S.Denot) 
         (
           search sendable depth 20,
           (
-            state_send,
+            search (state_send, crosses, sendable) depth 60,
             (
               search (crosses, sendable) depth 20,
               (

@@ -17,7 +17,7 @@ pub record IsWhole (passes : List Held) (shelf : Shelf) : Type 0 where
 pub record IsReport (passes : List Held) (shelf : Shelf) (report : Report) : Type 0 where
   pub whole : IsWhole passes shelf
   pub epoch : report.epoch ≡ shelf.epoch
-  pub base : report.base.machine ≡ shelf.base
+  pub base : report.base.value.machine ≡ shelf.base
   pub history : report.history ≡ shelf.history
   pub retired : report.retired ≡ shelf.retired
   pub passes_are : report.passes ≡ map (held_in shelf.epoch) passes

@@ -1,5 +1,5 @@
 //! The machine, and how it came to be.
-ghost use Rattle.std.specs.Prelude.{◌≡◌, ◌<◌, ◌+◌, IfOk, IfErr, OnErr, OnOk, length, sum};
+ghost use Rattle.std.specs.Prelude.{◌≡◌, ◌<◌, ◌+◌, Err, IfOk, IfErr, OnErr, OnOk, length, sum};
 ghost use Rattle.acap_locked.specs.Calls.{IsCalled, IsRefused, IsServed};
 ghost use Rattle.acap_locked.specs.Epochs.{Turns};
 ghost use Rattle.acap_locked.specs.History.{IsLegal};
@@ -35,15 +35,31 @@ const EVENTS: u64 = 1_000_000;
 /// The greatest number of an epoch, and the most calls of epochs that are over.
 const MOST: u64 = 1 << 62;
 
+// An equal machine in a box of its own. Fails only for want of memory.
+fn copy_in_box(alloc: Global, state: &State) -> Result<Box<State>, Memory>
+    ensures { IfOk result (λ made. made.value.machine ≡ state.now.machine) }
+{
+    let copy = state.copy()?;
+    Ok(Box::new(alloc, copy)?)
+}
+
+// An event is let go, and refused.
+fn refuse(_event: Event, fault: Fault) -> Result<Answer, Fault>
+    ensures { result ≡ Err fault }
+{
+    Err(fault)
+}
+
 /// The machine, and how it came to be (RFC 2244 section 2): it is always what the calls of its history make of the machine with which
 /// their epoch began, and all calls that were ever made are counted in one ledger.
 #[derive(Drop)]
 pub struct Book<S: Site, L: Ledger> {
-    state: State,
+    // In boxes, so that a book moves little.
+    state: Box<State>,
     history: Vec<Entry>,
     flags: u64,
     epoch: u64,
-    base: State,
+    base: Box<State>,
     retired: Vec<u64>,
     // The sum of `retired`.
     gone: u64,
@@ -63,11 +79,11 @@ impl<S: Site, L: Ledger> Model for Book<S, L> {
     ghost coded = { shelf_code };
 
     ghost view = { λ b.
-        shelf_of b.state.machine b.history.items b.flags b.epoch b.base.machine b.retired.items };
+        shelf_of b.state.value.machine b.history.items b.flags b.epoch b.base.value.machine b.retired.items };
 
     ghost invariant = { λ b.
         IsKept S.base
-        (shelf_of b.state.machine b.history.items b.flags b.epoch b.base.machine b.retired.items)
+        (shelf_of b.state.value.machine b.history.items b.flags b.epoch b.base.value.machine b.retired.items)
         b.ledger.total b.gone
         × (S.parts ≡ 64) × (b.gathered.parts ≡ 0) × (b.gathered.amount ≡ 0) };
 }
@@ -93,7 +109,8 @@ impl<S: Site, L: Ledger> Book<S, L> {
         let (ledger, mut share) = blank.open::<S>();
         let gathered = share.empty();
         let passes = make_passes(alloc, share)?;
-        let base = state.copy()?;
+        let base = copy_in_box(alloc, &state)?;
+        let state = Box::new(alloc, state)?;
         let retired = vec![in alloc; 0; 64]?;
         let book = Book {
             state,
@@ -126,7 +143,7 @@ impl<S: Site, L: Ledger> Book<S, L> {
         if count < LONG || self.epoch >= MOST || count > MOST || self.gone > MOST - count {
             return;
         }
-        let Ok(base) = self.state.copy() else {
+        let Ok(base) = copy_in_box(*self.history.allocator(), &self.state) else {
             return;
         };
         retire_all(&mut self.retired, &self.history);
@@ -156,10 +173,11 @@ impl<S: Site, L: Ledger> Book<S, L> {
     {
         let place = self.history.len() as u64;
         if place >= EVENTS {
-            return Err(Fault::HistoryFull);
+            return refuse(event, Fault::HistoryFull);
         }
-        self.history.reserve(1)?;
-        pass.items.reserve(1)?;
+        if self.history.reserve(1).is_err() || pass.items.reserve(1).is_err() {
+            return refuse(event, Fault::Memory);
+        }
         let flags = flags_after(pass.seat, &event, self.flags);
         let alloc = *self.history.allocator();
         let mark = Mark {

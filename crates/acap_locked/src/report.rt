@@ -9,7 +9,7 @@ pub struct Report {
     /// The number of the last epoch, from 0.
     pub epoch: u64,
     /// The machine with which it began.
-    pub base: State,
+    pub base: Box<State>,
     /// Its calls, in their order.
     pub history: Entries,
     /// How many calls each seat made in the epochs before.
