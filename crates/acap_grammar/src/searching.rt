@@ -183,36 +183,17 @@ fn modify(
 ) -> Result<SearchModifiers, GrammarError>
     ensures { Reads result cursor.new (searching.behind_modifier modifiers word cursor.old) }
 {
+    let mut modifiers = modifiers;
     match word {
-        SearchWord::Depth => Ok(SearchModifiers {
-            depth: Some(number_at(cursor)?),
-            ..modifiers
-        }),
-        SearchWord::HardLimit => Ok(SearchModifiers {
-            hard_limit: Some(number_at(cursor)?),
-            ..modifiers
-        }),
-        SearchWord::Limit => Ok(SearchModifiers {
-            limit: Some(limit_at(cursor)?),
-            ..modifiers
-        }),
-        SearchWord::MakeContext => Ok(SearchModifiers {
-            make_context: Some(make_context_at(cursor)?),
-            ..modifiers
-        }),
-        SearchWord::NoInherit => Ok(SearchModifiers {
-            no_inherit: true,
-            ..modifiers
-        }),
-        SearchWord::Return => Ok(SearchModifiers {
-            returns: Some(returns_at(cursor)?),
-            ..modifiers
-        }),
-        SearchWord::Sort => Ok(SearchModifiers {
-            sort: Some(sorts_at(cursor)?),
-            ..modifiers
-        }),
+        SearchWord::Depth => modifiers.depth = Some(number_at(cursor)?),
+        SearchWord::HardLimit => modifiers.hard_limit = Some(number_at(cursor)?),
+        SearchWord::Limit => modifiers.limit = Some(limit_at(cursor)?),
+        SearchWord::MakeContext => modifiers.make_context = Some(make_context_at(cursor)?),
+        SearchWord::NoInherit => modifiers.no_inherit = true,
+        SearchWord::Return => modifiers.returns = Some(returns_at(cursor)?),
+        SearchWord::Sort => modifiers.sort = Some(sorts_at(cursor)?),
     }
+    Ok(modifiers)
 }
 
 fn is_of_datasets(word: SearchWord) -> bool
