@@ -1,9 +1,11 @@
-//! Tests of the machine and of sessions through their public calls, for what no row reaches.
+//! Tests of the machine, of sessions and of stories through their public calls, for what no row reaches.
 #![tactic(auto)]
 
 #[cfg(test)]
 mod machine;
 #[cfg(test)]
 mod pipe;
+#[cfg(test)]
+mod stories;
 #[cfg(test)]
 mod work;

@@ -35,18 +35,18 @@ struct Trial {
 }
 
 impl Trial {
-    fn new(alloc: Global, seed: u64) -> Trial {
+    fn new(world: World, seed: u64) -> Trial {
+        let clients = Vec::new(world.alloc);
         Trial {
-            world: World::new(alloc),
+            world,
             dice: Dice::new(seed),
-            clients: Vec::new(alloc),
+            clients,
         }
     }
 
     // Where it stands, on an equal machine.
     fn copy(&self) -> Result<Trial, Wrong> {
-        let mut trial = Trial::new(self.world.alloc, 0);
-        trial.world = self.world.copy()?;
+        let mut trial = Trial::new(self.world.copy()?, 0);
         for client in &self.clients {
             let client = client.copy(self.world.alloc)?;
             trial.clients.push(client).map_err(|_| Wrong::Memory)?;
@@ -215,7 +215,10 @@ fn trouble<L: Ledger>(
     requires some { 0 < L.parts }
 {
     let mut steps = Steps::<L>::new(blank);
-    let mut trial = Trial::new(alloc, seed);
+    let Ok(world) = World::new(alloc) else {
+        return Some((Wrong::Memory, Vec::new(alloc)));
+    };
+    let mut trial = Trial::new(world, seed);
     match trial.follow(changes, &mut steps) {
         Ok(()) => None,
         Err(wrong) => Some((wrong, trial.world.into_sent())),

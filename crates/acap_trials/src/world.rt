@@ -14,7 +14,7 @@ use std::sync::ledger::Ledger;
 #[derive(Drop)]
 pub(crate) struct World {
     pub(crate) alloc: Global,
-    machine: State,
+    machine: Box<State>,
     sent: Vec<u8>,
 }
 
@@ -41,19 +41,25 @@ fn command_of(alloc: Global, line: &[u8]) -> Result<Command, Wrong> {
 
 impl World {
     /// An empty machine without administrators.
-    pub(crate) fn new(alloc: Global) -> World {
-        World {
+    pub(crate) fn new(alloc: Global) -> Result<World, Memory> {
+        World::of(
             alloc,
-            machine: State::new(alloc, Realm::new(Vec::new(alloc), Vec::new(alloc))),
+            State::new(alloc, Realm::new(Vec::new(alloc), Vec::new(alloc))),
+        )
+    }
+
+    // A machine to which nothing was sent.
+    fn of(alloc: Global, machine: State) -> Result<World, Memory> {
+        Ok(World {
+            alloc,
+            machine: Box::new(alloc, machine)?,
             sent: Vec::new(alloc),
-        }
+        })
     }
 
     /// An equal machine, to which nothing was sent.
     pub(crate) fn copy(&self) -> Result<World, Memory> {
-        let mut world = World::new(self.alloc);
-        world.machine = self.machine.copy()?;
-        Ok(world)
+        World::of(self.alloc, self.machine.copy()?)
     }
 
     /// What was sent.

@@ -202,62 +202,51 @@ fn holds<L: Ledger>(alloc: Global, blank: Blank, tale: &Tale, told: Pairs) -> Re
     shows(alloc, story, rows.as_slice(), &mut steps)
 }
 
-#[test]
-fn sorted_context(rt: HostRuntime) {
-    let good: Pairs = &[(b"b", b"2"), (b"c", b"3"), (b"a", b"9")];
-    let other: Pairs = &[(b"a", b"9"), (b"b", b"2"), (b"c", b"3")];
-    assert_eq!(rt;
-        holds::<Brand>(rt.alloc(), Blank::new(1), &SORTED, good),
-        Ok(true)
-    );
-    assert_eq!(rt;
-        holds::<Brand>(rt.alloc(), Blank::new(1), &SORTED, other),
-        Ok(false)
-    );
-}
+/// Stories, what a client is said to hold at the end of each, and whether that is so.
+type TaleRow = (&'static Tale, Pairs, Result<bool, Trouble>);
+
+const ROWS: [TaleRow; 9] = [
+    (
+        &SORTED,
+        &[(b"b", b"2"), (b"c", b"3"), (b"a", b"9")],
+        Ok(true),
+    ),
+    (
+        &SORTED,
+        &[(b"a", b"9"), (b"b", b"2"), (b"c", b"3")],
+        Ok(false),
+    ),
+    (&RIGHTS, &[(b"e", b"s"), (b"f", b"t")], Ok(true)),
+    (&RIGHTS, &[(b"e", b"s")], Ok(false)),
+    (
+        &MIXED,
+        &[(b"a", b"1"), (b"d", b"4"), (b"f", b"9")],
+        Ok(true),
+    ),
+    (
+        &MIXED,
+        &[(b"a", b"1"), (b"d", b"4"), (b"f", b"6")],
+        Ok(false),
+    ),
+    (&UNTOLD, &[], Err(Trouble::Unbegun)),
+    (
+        &UNPLACED,
+        &[(b"d", b"4"), (b"f", b"9"), (b"a", b"1")],
+        Ok(true),
+    ),
+    (
+        &UNPLACED,
+        &[(b"d", b"4"), (b"f", b"6"), (b"a", b"1")],
+        Ok(false),
+    ),
+];
 
 #[test]
-fn live_rights(rt: HostRuntime) {
-    let good: Pairs = &[(b"e", b"s"), (b"f", b"t")];
-    let other: Pairs = &[(b"e", b"s")];
-    assert_eq!(rt;
-        holds::<Brand>(rt.alloc(), Blank::new(1), &RIGHTS, good),
-        Ok(true)
-    );
-    assert_eq!(rt;
-        holds::<Brand>(rt.alloc(), Blank::new(1), &RIGHTS, other),
-        Ok(false)
-    );
-}
-
-#[test]
-fn mixed_notices(rt: HostRuntime) {
-    let good: Pairs = &[(b"a", b"1"), (b"d", b"4"), (b"f", b"9")];
-    let other: Pairs = &[(b"a", b"1"), (b"d", b"4"), (b"f", b"6")];
-    assert_eq!(rt;
-        holds::<Brand>(rt.alloc(), Blank::new(1), &MIXED, good),
-        Ok(true)
-    );
-    assert_eq!(rt;
-        holds::<Brand>(rt.alloc(), Blank::new(1), &MIXED, other),
-        Ok(false)
-    );
-    assert_eq!(rt;
-        holds::<Brand>(rt.alloc(), Blank::new(1), &UNTOLD, &[]),
-        Err(Trouble::Unbegun)
-    );
-}
-
-#[test]
-fn without_positions(rt: HostRuntime) {
-    let good: Pairs = &[(b"d", b"4"), (b"f", b"9"), (b"a", b"1")];
-    let other: Pairs = &[(b"d", b"4"), (b"f", b"6"), (b"a", b"1")];
-    assert_eq!(rt;
-        holds::<Brand>(rt.alloc(), Blank::new(1), &UNPLACED, good),
-        Ok(true)
-    );
-    assert_eq!(rt;
-        holds::<Brand>(rt.alloc(), Blank::new(1), &UNPLACED, other),
-        Ok(false)
-    );
+fn clients_hold_what_stories_say(rt: HostRuntime) {
+    for (tale, told, wanted) in ROWS {
+        assert_eq!(rt;
+            holds::<Brand>(rt.alloc(), Blank::new(1), tale, told),
+            wanted
+        );
+    }
 }

@@ -1,5 +1,0 @@
-//! Tests of stories: what clients of contexts hold at their ends.
-#![tactic(auto)]
-
-#[cfg(test)]
-mod stories;
