@@ -107,7 +107,8 @@ pub(crate) fn perform<L: Ledger>(
     ensures kept { IfOk result
         (λ done. done.written.kept ≡ item_of mark.epoch mark.place (call_of event now done.reply)) }
     ensures waiting { IfOk result (λ done. done.waiting ≡ waiting_at state.new.value.machine.seats) }
-    ensures fault { IfErr result (λ fault. IsFault (step_of state.old.value.machine mark.seat event now) fault) }
+    ensures fault { IfErr result
+        (λ fault. IsFault (step_of state.old.value.machine mark.seat event now) fault) }
     ensures err { OnErr result (state.new.value.machine ≡ state.old.value.machine) }
 {
     let ready = state.ready(mark.seat, &event, now, steps)?;
