@@ -132,10 +132,10 @@ impl State {
                 let write = Write::DeleteAcl(object, identifier);
                 self.ready_write(seat, Verb::DeleteAcl, write, clock, steps)
             }
-            Command::Search(search) => self.ready_search(seat, search.into_value(), steps),
-            Command::MyRights(object) => self.ready_rights(seat, object.into_value()),
+            Command::Search(search) => self.ready_search(seat, search, steps),
+            Command::MyRights(object) => self.ready_rights(seat, object),
             Command::ListRights(object, identifier) => {
-                self.ready_list(seat, object.into_value(), identifier.as_slice())
+                self.ready_list(seat, object, identifier.as_slice())
             }
             Command::DeletedSince(dataset, since) => self.ready_deletions(seat, &dataset, since),
             Command::FreeContext(name) => self.ready_free(seat, name),

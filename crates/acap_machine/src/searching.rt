@@ -19,7 +19,7 @@ use acap_commands::{
     Fault, Key, Limit, MakeContext, Refusal, Rows, Said, Search, SearchModifiers, SearchReply,
     Target,
 };
-use acap_entries::{ContextName, Copying, Memory, Moment, Seat, Steps, UserName};
+use acap_entries::{Boxed, ContextName, Copying, Memory, Moment, Seat, Steps, UserName};
 use acap_search::{
     Asked, Excerpt, Hit, Hits, Query, Showing, Sought, cut_by, first_rows, fresh, hit_law, tell,
     within,
@@ -140,7 +140,7 @@ impl State {
     pub(crate) fn ready_search<L: Ledger>(
         &mut self,
         seat: Seat,
-        search: Search,
+        search: Boxed<Search>,
         steps: &mut Steps<L>,
     ) -> Result<Ready, Fault>
         ensures answer { IsReadyOf result self.old
@@ -157,7 +157,7 @@ impl State {
             target,
             modifiers,
             key,
-        } = search;
+        } = search.into_value();
         match target {
             Target::Dataset(dataset) => {
                 let asked = Asked::new(user, &dataset, modifiers, key)?;

@@ -9,7 +9,7 @@ use crate::ready::Ready;
 use crate::refusing::{refuse, refuse_view};
 use crate::state::State;
 use acap_commands::{ContextNames, Fault, ObjectName, Refusal, Said, Verb};
-use acap_entries::{ContextName, Dataset, Moment, Seat};
+use acap_entries::{Boxed, ContextName, Dataset, Moment, Seat};
 use acap_rights::{implicit_rights, rights_of};
 use acap_store::{deleted_since, lent_object, object_for};
 use acap_views::has_context;
@@ -27,14 +27,14 @@ impl State {
     }
 
     /// A MYRIGHTS (RFC 2244 section 6.7).
-    pub(crate) fn ready_rights(&self, seat: Seat, object: ObjectName) -> Result<Ready, Fault>
+    pub(crate) fn ready_rights(&self, seat: Seat, object: Boxed<ObjectName>) -> Result<Ready, Fault>
         ensures answer { IsReadyOf result self.now
             (answer_at self.now.machine seat (λ m u. rule.rights_told m u object)) self.now }
         ensures none { IfOk result (λ r. r.work ≡ 0) }
     {
         self.kept_law();
         let user = self.user(seat)?;
-        let object = object_for(user, object)?;
+        let object = object_for(user, object.into_value())?;
         let rights = rights_of(&self.tree, &self.realm, user, &lent_object(&object));
         let letters = rights.letters(self.alloc)?;
         Ok(Ready::saying(seat, Said::Rights(letters)))
@@ -44,7 +44,7 @@ impl State {
     pub(crate) fn ready_list(
         &self,
         seat: Seat,
-        object: ObjectName,
+        object: Boxed<ObjectName>,
         identifier: &[u8],
     ) -> Result<Ready, Fault>
         ensures answer { IsReadyOf result self.now
@@ -53,7 +53,7 @@ impl State {
     {
         self.kept_law();
         let user = self.user(seat)?;
-        let meant = object_for(user, object)?;
+        let meant = object_for(user, object.into_value())?;
         let rights = implicit_rights(&self.realm, identifier, lent_object(&meant).dataset());
         let list = rights.list(self.alloc)?;
         Ok(Ready::saying(seat, Said::RightsList(list)))
