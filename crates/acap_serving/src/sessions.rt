@@ -258,6 +258,11 @@ where
     Slot { task, over: None }
 }
 
+// Puts an item into room that is there.
+fn put<T: Drop>(list: &mut Vec<T>, item: T) {
+    let _ = list.push(item);
+}
+
 // Puts each session into a slot, in room.
 fn fill<'a, R, S, L, W, O>(
     venue: &Venue<'a, R, S, L>,
@@ -279,7 +284,7 @@ where
     let mut hosts = hosts.into_iter();
     for conn in conns {
         if let (Some(pass), Some(rings), Some(host)) = (passes.next(), rings.next(), hosts.next()) {
-            let _ = slots.push(slot_of(venue, pass, rings, host, conn));
+            put(slots, slot_of(venue, pass, rings, host, conn));
         }
     }
 }
@@ -325,12 +330,12 @@ where
     let Lists { mut left, mut done } = lists;
     for slot in slots {
         if let Some((one, pass)) = parts(slot) {
-            let _ = done.push(one);
-            let _ = left.push(pass);
+            put(&mut done, one);
+            put(&mut left, pass);
         }
     }
     for pass in passes {
-        let _ = left.push(pass);
+        put(&mut left, pass);
     }
     Lists { left, done }
 }
