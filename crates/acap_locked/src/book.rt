@@ -43,7 +43,7 @@ fn copy_in_box(alloc: Global, state: &State) -> Result<Box<State>, Memory>
     Ok(Box::new(alloc, copy)?)
 }
 
-// An event is let go, and refused.
+// An event is refused, and let go here alone: the proof of what drops it at each exit is long.
 fn refuse(_event: Event, fault: Fault) -> Result<Answer, Fault>
     ensures { result ≡ Err fault }
 {

@@ -81,7 +81,7 @@ fn put_in_place(state: &mut Box<State>, ready: Ready, written: Written) -> Perfo
     }
 }
 
-// What was made ready is given up, since memory was refused.
+// What was made ready is given up, since memory was refused: here alone, as the proof of what drops it is long.
 fn give_up(_ready: Ready) -> Fault
     ensures { result ≡ faults.Memory }
 {

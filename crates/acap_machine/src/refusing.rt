@@ -20,8 +20,8 @@ pub(crate) fn refuse(refusal: Refusal) -> Result<Said, Memory>
     }
 }
 
-/// What is said of a refused search, with the dataset that was searched.
-pub(crate) fn refuse_search(dataset: Dataset, refusal: SearchRefusal) -> Result<Said, Memory>
+// What is said of a refused search, with the dataset that was searched.
+fn refuse_search(dataset: Dataset, refusal: SearchRefusal) -> Result<Said, Memory>
     ensures words { IfOk result (λ words. words ≡ saying.Refused (rule.refused_as dataset refusal)) }
     ensures other { OnOk result (rule.is_search_memory refusal ≡ false) }
 {
@@ -34,7 +34,7 @@ pub(crate) fn refuse_search(dataset: Dataset, refusal: SearchRefusal) -> Result<
     }
 }
 
-/// The same, with the dataset of the query.
+/// What is said of a refused search, with the dataset of its query.
 pub(crate) fn refuse_query(query: Query, refusal: SearchRefusal) -> Result<Said, Memory>
     ensures words { IfOk result
         (λ words. words ≡ saying.Refused (rule.refused_as query.sought.dataset refusal)) }

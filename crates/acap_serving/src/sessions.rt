@@ -258,7 +258,7 @@ where
     Slot { task, over: None }
 }
 
-// Puts an item into room that is there.
+// Puts an item into room that is there; where there is none, it is let go.
 fn put<T: Drop>(list: &mut Vec<T>, item: T) {
     let _ = list.push(item);
 }
