@@ -7,7 +7,7 @@ use acap_entries::{Copying, Dataset, Memory, UserName};
 
 /// What a search over a dataset looks for, and what is told of each match (RFC 2244 section 6.4.1): all that a context keeps of
 /// the SEARCH that made it, and all that the list of its matches depends on.
-#[derive(Clone, Drop)]
+#[derive(Drop)]
 pub struct Sought {
     /// The dataset, in which no component stands for the user.
     pub dataset: Dataset,
@@ -78,6 +78,25 @@ impl Asked {
             },
             limit,
             make_context,
+        })
+    }
+}
+
+impl Clone for Sought {
+    ghost is_clone = { λ x y. y ≡ x };
+
+    fn clone(&self) -> Result<Sought, Memory> {
+        let dataset = self.dataset.copy()?;
+        let sort = self.sort.copy()?;
+        let returns = self.returns.copy()?;
+        let key = self.key.copy()?;
+        Ok(Sought {
+            dataset,
+            depth: self.depth,
+            no_inherit: self.no_inherit,
+            key,
+            sort,
+            returns,
         })
     }
 }

@@ -24,7 +24,9 @@ use crate::refusal::SearchRefusal;
 use crate::spot::Spot;
 use crate::viewer::Viewer;
 use acap_commands::{Key, Node, Test};
-use acap_entries::{Dataset, EntryName, Listing, Memory, Records, Steps, Tree, UserName};
+use acap_entries::{
+    Dataset, EntryName, Listing, Memory, Path, Record, Records, Steps, Tree, UserName,
+};
 use acap_inherit::{Lineage, chain, names_law, names_on};
 use acap_rights::{Realm, SharedRights, shared_rights};
 use std::alloc::Global;
@@ -157,8 +159,29 @@ fn add_in<'a, L: Ledger>(
     add_own(alloc, &by, entries, &shared, sought, found, steps)
 }
 
+// Adds what is found in the dataset that an entry makes, where that is reached in so many levels.
+#[tactic(auto, using(crate::proofs::GatheredLemmas::gathered_none), unfolding(crate::specs::Walks::hits_by, crate::specs::Walks::count_by))]
+fn add_reached<'a, L: Ledger>(
+    alloc: Global,
+    search: &Quest<'a>,
+    depth: u32,
+    path: &Path,
+    entry: &Record,
+    found: &mut Gathered<'a>,
+    steps: &mut Steps<L>,
+) -> Result<(), Memory>
+    ensures count { IsCounted result steps.old steps.new (walks.count_by search.now depth (path.now, entry.now)) }
+    ensures found { OnOk result
+        (found.new ≡ with_more found.old (walks.hits_by search.now depth (path.now, entry.now))) }
+{
+    match find_reached(&search.sought.dataset, depth, path, entry)? {
+        Some(dataset) => add_in(alloc, search, &dataset, found, steps),
+        None => Ok(()),
+    }
+}
+
 // Adds what is found beneath the searched dataset, in so many levels: with one level nothing, and nothing is walked through.
-#[tactic(auto, using(crate::proofs::GatheredLemmas::gathered_twice), unfolding(crate::specs::Walks::hits_by, crate::specs::Walks::count_by))]
+#[tactic(auto, using(crate::proofs::GatheredLemmas::gathered_twice))]
 fn add_beneath<'a, L: Ledger>(
     alloc: Global,
     search: &Quest<'a>,
@@ -172,11 +195,8 @@ fn add_beneath<'a, L: Ledger>(
     if depth == 1 {
         return Ok(());
     }
-    let sought = search.sought;
-    for (path, entry) in search.tree.entries_beneath(&sought.dataset) {
-        if let Some(dataset) = find_reached(&sought.dataset, depth, path, entry)? {
-            add_in(alloc, search, &dataset, found, steps)?;
-        }
+    for (path, entry) in search.tree.entries_beneath(&search.sought.dataset) {
+        add_reached(alloc, search, depth, path, entry, found, steps)?;
     }
     Ok(())
 }

@@ -1,4 +1,4 @@
-use Rattle.std.proofs.Common.{None, ◌+◌, ap, arith, length, sym, ◌∙◌}
+use Rattle.std.proofs.Common.{None, ap, arith, length, sym, ◌∙◌}
 use Rattle.acap_search.specs.Gathering.{with_more}
 use Rattle.acap_search.specs.Views.{found_at, spot_in}
 use Rattle.acap_search.specs.Walks.{hits_at}
