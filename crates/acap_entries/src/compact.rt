@@ -97,6 +97,25 @@ fn join_few(alloc: Global, first: &[u8], second: &[u8], third: &[u8], fourth: &[
     few
 }
 
+// Four texts that are many together, one behind the other, in that much room.
+fn join_apart(
+    alloc: Global,
+    room: usize,
+    first: &[u8],
+    second: &[u8],
+    third: &[u8],
+    fourth: &[u8],
+) -> Result<Vec<u8>, Memory>
+    ensures { IfOk result (λ made. made.items ≡ first.now ++ second.now ++ third.now ++ fourth.now) }
+{
+    let mut octets = Vec::with_capacity(alloc, room)?;
+    octets.extend_from_slice(first)?;
+    octets.extend_from_slice(second)?;
+    octets.extend_from_slice(third)?;
+    octets.extend_from_slice(fourth)?;
+    Ok(octets)
+}
+
 impl Compact {
     /// The octets of four texts, one behind the other. Fails only for want of memory.
     pub(crate) fn join(
@@ -113,20 +132,12 @@ impl Compact {
             .saturating_add(second.len())
             .saturating_add(third.len())
             .saturating_add(fourth.len());
-        if room <= IN_PLACE {
-            let few = join_few(alloc, first, second, third, fourth);
-            return Ok(Compact {
-                kept: Kept::InPlace(few),
-            });
-        }
-        let mut octets = Vec::with_capacity(alloc, room)?;
-        octets.extend_from_slice(first)?;
-        octets.extend_from_slice(second)?;
-        octets.extend_from_slice(third)?;
-        octets.extend_from_slice(fourth)?;
-        Ok(Compact {
-            kept: Kept::Apart(octets),
-        })
+        let kept = if room <= IN_PLACE {
+            Kept::InPlace(join_few(alloc, first, second, third, fourth))
+        } else {
+            Kept::Apart(join_apart(alloc, room, first, second, third, fourth)?)
+        };
+        Ok(Compact { kept })
     }
 
     /// The octets of a vector. Takes no memory, and keeps the vector's, if they are many.
