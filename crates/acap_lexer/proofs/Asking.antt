@@ -3,13 +3,16 @@ use Rattle.std.proofs.Common.{◌≡◌, ℕ, suc, ◌+◌, ◌-◌, ◌<◌, �
 use Rattle.std.specs.Prelude.{replicate}
 use Rattle.std.proofs.lemmas.List.{drop-append-le}
 use Rattle.std.proofs.lemmas.Bool.{cases_lt, le-ltb, lt-ltb}
+use Rattle.acap_lexer.specs.declared.due.Due.{Due}
+use Rattle.acap_lexer.specs.declared.due.Due.TheVariants as dues
 use Rattle.acap_lexer.specs.declared.fault.LexFault.{LexFault}
 use Rattle.acap_lexer.specs.declared.lexed.Lexed.{Lexed}
-use Rattle.acap_lexer.specs.declared.lexed.Lexed.TheVariants.{More, Plus}
+use Rattle.acap_lexer.specs.declared.lexed.Lexed.TheVariants.{More, Plus, Fatal}
 use Rattle.acap_lexer.specs.declared.mode.Mode.{Mode}
 use Rattle.acap_lexer.specs.Holding.{Held}
 use Rattle.acap_lexer.specs.Held.{fatal_of, held_behind, next_of, next_by, next_by_item, answers_from, answers_by_item}
 use Rattle.acap_lexer.specs.Owing.{Owes, with_more}
+use Rattle.acap_lexer.specs.Scanning.{IsDue}
 use Rattle.acap_lexer.specs.Stream.{IsItem, progress}
 use Rattle.acap_lexer.proofs.ProgressLaws.{keeps_items, keeps_waits, takes_octets}
 
@@ -47,6 +50,22 @@ unfolding next_of
 item_next mode old going le =
     ap (λ f. next_by f old (progress mode old.text)) going
     ∙ ap (λ b. let r : Lexed × Held = cond b (Plus, record { text = old.text; told = old.told + 1; fatal = None }) (next_by_item old (progress mode old.text).item) in r) (le-ltb _ _ le)
+
+-- what is answered where this is due, and what is held then
+abbrev pub answer_to : Due → Held → Lexed × Held
+answer_to dues.Plus h = (Plus, record { text = h.text; told = h.told + 1; fatal = h.fatal })
+answer_to dues.More h = (More, h)
+answer_to (dues.Item lexed n) h = (lexed, held_behind (lexed, n) h.text)
+
+pub due_next : (mode : Mode) (old : Held) (due : Due) → old.fatal ≡ None → IsDue mode old.told old.text due → next_of mode old ≡ answer_to due old
+due_next mode old dues.Plus going due =
+    plus_next mode old going due ∙ ap (λ f. let r : Lexed × Held = (Plus, record { text = old.text; told = old.told + 1; fatal = f }) in r) (sym going)
+due_next mode old dues.More going due = item_next mode old going due.0 ∙ ap (next_by_item old) due.1
+due_next mode old (dues.Item lexed n) going due = item_next mode old going due.0 ∙ ap (next_by_item old) due.1
+
+pub fatal_next : (mode : Mode) (old : Held) (fault : LexFault) → old.fatal ≡ Some fault → next_of mode old ≡ (Fatal fault, old)
+unfolding next_of
+fatal_next mode old fault e = ap (λ f. next_by f old (progress mode old.text)) e
 
 -- the next answer, by cases
 pub next_cases : (mode : Mode) (old : Held) → old.fatal ≡ None → Continues mode old (next_of mode old) ⊎ (Lacks mode old (next_of mode old) ⊎ Finds mode old (next_of mode old))

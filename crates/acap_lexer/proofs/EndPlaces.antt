@@ -1,12 +1,12 @@
 -- Where the first CR LF begins, by places.
 use Rattle.std.proofs.Common.{◌≡◌, ℕ, zero, suc, ◌+◌, ◌-◌, ◌<◌, ◌≤◌, Bool, true, false, cond, List, [], ◌∷◌, length, take, drop, Option, Some, None, refl, sym, ap, ◌∙◌, subst, arith, eqb, ltb, slice_index, length-drop, inl, inr}
-use Rattle.std.specs.Prelude.{option_map, ◌&&◌}
+use Rattle.std.specs.Prelude.{option_map, min, ◌&&◌}
 use Rattle.std.proofs.lemmas.Bool.{and_parts, eqb-true, eq-eqb, and_from, cases_lt, ltb-true, lt-ltb, le-ltb, true≢false}
-use Rattle.std.proofs.lemmas.List.{get_or-drop, take_all}
+use Rattle.std.proofs.lemmas.List.{get_or-drop, take_all, take_min}
 use Rattle.memchr.specs.Find.{IsFirstByte, is_byte}
 use Rattle.acap_lexer.specs.Ends.{NoEnd, follows_return}
-use Rattle.acap_lexer.specs.declared.part_end.PartEnd.TheVariants.{Never}
-use Rattle.acap_lexer.specs.Stream.{end_of, part_end, part_limit}
+use Rattle.acap_lexer.specs.declared.part_end.PartEnd.TheVariants.{At, Never, NotYet}
+use Rattle.acap_lexer.specs.Stream.{end_of, part_end, part_end_by, part_limit}
 
 -- a CR LF lies there
 pub record IsEnd (text : List ℕ) (n : ℕ) : Type 0 where
@@ -158,10 +158,20 @@ feed_passes text from passed none f r k lt return feed =
           absurd (true≢false (sym t ∙ r)))
     ]
 
--- a front that is as long as a part may be, with no end in it
-pub never : (text : List ℕ) (n : ℕ) → n ≡ part_limit → None ≡ end_of (take n text) → part_limit ≤ length text → Never ≡ part_end text
+-- the end of a part is known from its front
+by_front : (text : List ℕ) (n : ℕ) (end : Option ℕ) → n ≡ min part_limit (length text) → end ≡ end_of (take n text) → part_end_by end (length text) ≡ part_end text
 unfolding part_end
-never text n is none long =
-    let a : end_of (take part_limit text) ≡ None = subst (λ (m : ℕ). end_of (take m text) ≡ None) is (sym none) in
-    let b : ltb (length text) part_limit ≡ false = le-ltb _ _ long in
-    rw (a, b) refl
+by_front text n end is first = ap (λ o. part_end_by o (length text)) (first ∙ ap end_of (ap (λ m. take m text) is ∙ take_min part_limit text))
+
+pub ends_there : (text : List ℕ) (n at : ℕ) → n ≡ min part_limit (length text) → Some at ≡ end_of (take n text) → At at ≡ part_end text
+ends_there text n at is first = by_front text n (Some at) is first
+
+pub not_yet : (text : List ℕ) (n : ℕ) → n ≡ min part_limit (length text) → None ≡ end_of (take n text) → length text < part_limit → NotYet ≡ part_end text
+not_yet text n is none short = rw (← by_front text n None is none, lt-ltb _ _ short) refl
+
+pub never : (text : List ℕ) (n : ℕ) → n ≡ min part_limit (length text) → None ≡ end_of (take n text) → part_limit ≤ length text → Never ≡ part_end text
+never text n is none long = rw (← by_front text n None is none, le-ltb _ _ long) refl
+
+-- a text that is shorter than a part may be is its own front
+pub none_yet : (text : List ℕ) (n : ℕ) → n ≡ min part_limit (length text) → NoEnd (take n text) (length (take n text)) → length text < part_limit → NoEnd text (length text)
+none_yet text n is none short = subst (λ (front : List ℕ). NoEnd front (length front)) (take_all n text (omega arith)) none

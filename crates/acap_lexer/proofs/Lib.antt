@@ -4,6 +4,7 @@ pub mod Copies
 pub mod Quoting
 pub mod QuotingLoop
 pub mod Counting
+pub mod Growing
 pub mod PartLoop
 pub mod EndPlaces
 pub mod StepLaws

@@ -1,6 +1,5 @@
 -- What the loop over the tokens of a part keeps.
-use Rattle.std.proofs.Common.{◌≡◌, ℕ, suc, ◌+◌, ◌-◌, ◌<◌, ◌≤◌, List, [], ◌∷◌, length, take, Some, None, Result, Ok, Err, refl, sym, ap, ◌∙◌, arith, length-take}
-use Rattle.std.proofs.lemmas.List.{take-take}
+use Rattle.std.proofs.Common.{◌≡◌, ℕ, suc, ◌+◌, ◌-◌, ◌<◌, ◌≤◌, List, [], ◌∷◌, length, Some, None, Result, Ok, Err, refl, sym, ap, ◌∙◌, arith}
 use Rattle.acap_lexer.specs.declared.announced.Announced.{Announced}
 use Rattle.acap_lexer.specs.declared.fault.LexError.{LexError}
 use Rattle.acap_lexer.specs.declared.fault.LexFault.{LexFault}
@@ -12,16 +11,12 @@ use Rattle.acap_lexer.specs.Part.{Part, next_at, part_within}
 use Rattle.acap_lexer.specs.Printing.{Grows}
 use Rattle.acap_lexer.specs.Reading.{Fails}
 use Rattle.acap_lexer.specs.Taking.{TakesNext}
+use Rattle.acap_lexer.proofs.Growing.{grows_on}
 
 pub record IsSoFar (end : ℕ) (old : List Token) (text : List ℕ) (tokens : List Token) (left : List ℕ) (counter : ℕ) : Type 0 where
   pub reads : part_within (length text - counter) end tokens left ≡ part_within (length text) end old text
   pub grows : Grows old tokens
   pub within : length left ≤ length text
-
-pub grows_on : {X : Type 0} (a b c : List X) → Grows a b → Grows b c → Grows a c
-grows_on a b c p q =
-    let fits : length a ≤ length b = omega (arith, ap length p, length-take (length a) b) in
-    sym (take-take (length a) (length b) c fits) ∙ ap (take (length a)) q ∙ p
 
 at_end : (most end : ℕ) (tokens : List Token) (left : List ℕ) → length left ≡ 0 → part_within most end tokens left ≡ Ok (record { tokens = tokens; mark = None })
 unfolding part_within

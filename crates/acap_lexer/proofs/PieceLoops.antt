@@ -1,5 +1,6 @@
 -- What the loops over commands, parts and pieces keep.
-use Rattle.std.proofs.Common.{◌≡◌, ℕ, ◌<◌, List, [], ◌∷◌, ◌++◌, length, None, refl, sym, ap, ◌∙◌, arith, Bor}
+use Rattle.std.proofs.Common.{◌≡◌, ℕ, ◌+◌, ◌<◌, ◌≤◌, List, [], ◌∷◌, ◌++◌, length, get_or, drop, None, refl, sym, ap, ◌∙◌, arith, Bor}
+use Rattle.std.proofs.lemmas.List.{append-nil, at_drop_more, at_drop_all}
 use Rattle.acap_lexer.specs.declared.answered.Answered.TheVariants as asked
 use Rattle.acap_lexer.specs.declared.lexed.Lexed.{Lexed}
 use Rattle.acap_lexer.specs.declared.mode.Mode.{Mode}
@@ -62,3 +63,20 @@ joins_start modes pieces new now e n = rw (e, n) (record {
   owes = refl;
   ready = record { going = λ some. refl; room = λ some. omega arith; done = nothing_owed modes };
 })
+
+pub joins_piece : (modes : List Mode) (pieces : List (Bor (List ℕ))) (place : ℕ) (default : Bor (List ℕ)) (here_left left : List Mode) (here new : Held) (middle now : List Lexed) → place < length pieces
+    → JoinsSoFar modes pieces (drop place pieces) here_left here middle → Feeds (get_or pieces place default).now here_left here middle left new now → JoinsSoFar modes pieces (drop (place + 1) pieces) left new now
+joins_piece modes pieces place default here_left left here new middle now some s f = record {
+  owes = s.owes ∙ ap (λ more. middle ++ answers_from here_left (with_more here more)) (at_drop_more octets_of pieces place default some) ∙ f.owes (octets_of (drop (place + 1) pieces));
+  ready = f.ready;
+}
+
+no_more : (h : Held) → with_more h [] ≡ h
+no_more h = ap (λ text. let g : Held = record { text = text; told = h.told; fatal = h.fatal } in g) (append-nil h.text)
+
+pub joins_end : (modes : List Mode) (pieces : List (Bor (List ℕ))) (place : ℕ) (left : List Mode) (new : Held) (now : List Lexed) → length pieces ≤ place → JoinsSoFar modes pieces (drop place pieces) left new now
+    → now ≡ answers_of modes (octets_of pieces)
+joins_end modes pieces place left new now none s =
+    let all : answers_from left (with_more new (octets_of (drop place pieces))) ≡ [] =
+    ap (λ more. answers_from left (with_more new more)) (at_drop_all octets_of pieces place none) ∙ ap (answers_from left) (no_more new) ∙ s.ready.done in
+    sym (s.owes ∙ ap (λ (xs : List Lexed). now ++ xs) all ∙ append-nil now)

@@ -1,7 +1,9 @@
 -- Tokens as places in one text of values, as the text grows.
-use Rattle.std.proofs.Common.{◌≡◌, ℕ, suc, ◌+◌, ◌-◌, ◌≤◌, List, [], ◌∷◌, ◌++◌, length, take, drop, Ok, Err, refl, sym, ap, ◌∙◌, arith, length-append, length-drop}
+use Rattle.std.proofs.Common.{◌≡◌, ℕ, suc, ◌+◌, ◌-◌, ◌<◌, ◌≤◌, List, [], ◌∷◌, ◌++◌, length, take, drop, get_or, Some, Ok, Err, refl, sym, ap, ◌∙◌, arith, length-append, length-drop}
 use Rattle.std.proofs.Math.Seq.{take-append_seam}
-use Rattle.std.proofs.lemmas.List.{take-append-le, drop-append-le, drop_at, take_all, map_push, take-append-drop}
+use Rattle.std.specs.Prelude.{slice_get, option_map}
+use Rattle.std.proofs.lemmas.List.{take-append-le, drop-append-le, drop_at, take_all, map_push, take-append-drop, length-map}
+use Rattle.std.proofs.lemmas.Option.{slice_get-map, slice_get-get_or}
 use Rattle.acap_lexer.specs.declared.place.TokenPlace.{TokenPlace}
 use Rattle.acap_lexer.specs.declared.kind.Kind.{Kind}
 use Rattle.acap_lexer.specs.declared.kind.Kind.TheVariants as kinds
@@ -100,3 +102,10 @@ pushed_grows seen new end front left (Ok x) e =
     let p : ◌≡◌ {A = List Token × List ℕ} (seen ++ token_of_lexeme end front x ∷ [], x.1) (new, left) = cc in
     let n : seen ++ token_of_lexeme end front x ∷ [] ≡ new = ap (λ q. q.0) p in
     ap (take (length seen)) (sym n) ∙ take-append_seam seen (token_of_lexeme end front x ∷ [])
+
+-- the token at an index is that of the place there
+pub token_of_place : (text : List ℕ) (places : List TokenPlace) (tokens : List Token) (index : ℕ) (place : TokenPlace) → tokens_in text places ≡ tokens → index < length tokens → place ≡ get_or places index place
+    → slice_get tokens index ≡ Some (token_in text place)
+token_of_place text places tokens index place view some is =
+    let within : index < length places = omega (arith, some, ap length view, length-map places (token_in text)) in
+    rw (← view) (slice_get-map (token_in text) places index ∙ ap (option_map (token_in text)) (slice_get-get_or places index place within ∙ ap (λ p. Some p) (sym is)))

@@ -39,7 +39,6 @@ fn end_of(text: &[u8], looked: usize) -> Option<usize>
 }
 
 /// Where the part that begins the text ends, if its first octets have been looked at.
-#[tactic(auto, using(std::proofs::lemmas::List::take_min), unfolding(crate::specs::Stream::part_end))]
 pub(crate) fn part_end(text: &[u8], looked: usize) -> PartEnd
     requires within { looked ≤ length text.now }
     requires none { NoEnd text.now looked }

@@ -107,7 +107,6 @@ impl Lexer {
 
     /// What comes next, where a command that isn't whole is read in this mode from its beginning on: `More` only
     /// where the octets so far have no further answer.
-    #[tactic(auto, unfolding(crate::specs::Held::next_of))]
     pub fn next(&mut self, mode: Mode) -> Result<Lexed, Memory>
         ensures answer { IfOk result (λ lexed. lexed ≡ (next_of mode self.old).0) }
         ensures held { IfOk result (λ lexed. self.new ≡ (next_of mode self.old).1) }
@@ -117,12 +116,8 @@ impl Lexer {
             return Ok(Lexed::Fatal(fault));
         }
         turn_to(self.alloc, &mut self.scan, mode);
-        match advance(
-            self.alloc,
-            &mut self.scan,
-            self.told,
-            &self.text[self.start..],
-        ) {
+        let (_, rest) = self.text.split_at(self.start);
+        match advance(self.alloc, &mut self.scan, self.told, rest) {
             Err(Memory) => {
                 self.scan = start(Draft::new(self.alloc), mode);
                 Err(Memory)

@@ -1,0 +1,23 @@
+use Rattle.std.proofs.Math.Seq.{take-length, take-append_seam}
+use Rattle.acap_lexer.proofs.Growing.{grows_more}
+use Rattle.acap_lexer.proofs.print.append_plain.Goals as goal
+
+pub returns-in_err-reserve-clause-grows : goal.returns-in_err-reserve-clause-grows
+returns-in_err-reserve-clause-grows c = rw c.in_err-reserve.ensures.items (take-length _)
+
+pub returns-in_err-push-clause-grows : goal.returns-in_err-push-clause-grows
+returns-in_err-push-clause-grows c = rw (c.in_err-push.ensures.items, c.in_ok-reserve.ensures.items) (take-length _)
+
+pub returns-in_err-extend_from_slice-clause-grows : goal.returns-in_err-extend_from_slice-clause-grows
+returns-in_err-extend_from_slice-clause-grows c =
+    rw (c.in_err-extend_from_slice.ensures.items, c.in_ok-push.ensures.items, c.in_ok-reserve.ensures.items) (take-append_seam _ _)
+
+pub returns-in_err-push-2-clause-grows : goal.returns-in_err-push-2-clause-grows
+returns-in_err-push-2-clause-grows c =
+    rw (c.in_err-push-2.ensures.items, c.in_ok-extend_from_slice.ensures.items, c.in_ok-push.ensures.items, c.in_ok-reserve.ensures.items)
+    (grows_more _ _ _ (take-append_seam _ _))
+
+pub returns-clause-grows : goal.returns-clause-grows
+returns-clause-grows c =
+    rw (c.in_ok-push-2.ensures.items, c.in_ok-extend_from_slice.ensures.items, c.in_ok-push.ensures.items, c.in_ok-reserve.ensures.items)
+    (grows_more _ _ _ (grows_more _ _ _ (take-append_seam _ _)))
