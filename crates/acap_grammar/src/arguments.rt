@@ -270,6 +270,5 @@ pub(crate) fn object_at(cursor: &mut Cursor<'_>) -> Result<ObjectName, GrammarEr
     cursor.pass_open()?;
     let dataset = name_at(cursor)?;
     let object = attribute_part(dataset, cursor)?;
-    cursor.pass_close()?;
-    Ok(object)
+    cursor.closed(object)
 }

@@ -1,6 +1,6 @@
 //! The tokens of a line that are left to read.
 
-ghost use Rattle.std.specs.Prelude.{◌≡◌, drop, is_none};
+ghost use Rattle.std.specs.Prelude.{◌≡◌, drop, is_none, IfOk};
 ghost use Rattle.acap_grammar.specs.Outcome.{Finds, Passes, Reads, ReadsBy};
 ghost use Rattle.acap_grammar.specs.Marks.{is_open, is_close, is_string, ends, starts, behind, string_at, behind_word, word_at};
 ghost use Rattle.acap_grammar.specs.Rows.{kind_of, IsFirst};
@@ -193,6 +193,16 @@ impl<'a> Cursor<'a> {
             }
             _ => Err(GrammarError::Fault(GrammarFault::Arguments)),
         }
+    }
+
+    /// What was read, where a parenthesis closes behind it. Of any type, as letting a large one go is slow to
+    /// prove.
+    pub(crate) fn closed<T: Drop>(&mut self, read: T) -> Result<T, GrammarError>
+        ensures left { ReadsBy (λ _ left. left) result self.new (behind is_close self.old) }
+        ensures same { IfOk result (λ given. given ≡ read) }
+    {
+        self.pass_close()?;
+        Ok(read)
     }
 
     /// Passes that word, which is read in any case, if it stands first.

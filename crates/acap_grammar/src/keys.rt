@@ -1,6 +1,7 @@
 //! The key of a SEARCH (RFC 2244 section 6.4.1).
 
-ghost use Rattle.std.specs.Prelude.{◌≡◌, if◌then◌else◌};
+ghost use Rattle.std.specs.Prelude.{◌≡◌, Ok, Err, MatchResult, if◌then◌else◌};
+ghost use Rattle.acap_commands.specs.Wanted.{One};
 ghost use Rattle.acap_grammar.specs.Outcome.{Reads};
 ghost use Rattle.acap_grammar.specs.Marks.{ends};
 ghost use Rattle.acap_grammar.specs.declared.grammar_fault.GrammarFault.TheVariants as fault;
@@ -66,6 +67,20 @@ fn too_deep(cursor: &Cursor<'_>) -> GrammarFault
     }
 }
 
+// One test as a key.
+fn one_of(test: Result<Test, GrammarError>) -> Result<Key, GrammarError>
+    ensures { MatchResult test (λ test. result ≡ Ok (One test)) (λ e. result ≡ Err e) }
+{
+    Ok(Key::one(test?))
+}
+
+// Both keys, where there is a second. Of any type, as letting a key go is slow to prove.
+fn both<T: Drop>(first: T, second: Result<T, GrammarError>) -> Result<(T, T), GrammarError>
+    ensures { MatchResult second (λ second. result ≡ Ok (first, second)) (λ e. result ≡ Err e) }
+{
+    Ok((first, second?))
+}
+
 /// A key of so many levels at most.
 #[tactic(auto, unfolding(crate::specs::Keys::key_at, crate::specs::Keys::key_behind))]
 pub(crate) fn key_at(levels: u32, cursor: &mut Cursor<'_>) -> Result<Key, GrammarError>
@@ -82,19 +97,19 @@ pub(crate) fn key_at(levels: u32, cursor: &mut Cursor<'_>) -> Result<Key, Gramma
         KeyWord::All => Ok(Key::one(Test::All)),
         KeyWord::And => {
             let first = key_at(levels - 1, cursor)?;
-            let second = key_at(levels - 1, cursor)?;
+            let (first, second) = both(first, key_at(levels - 1, cursor))?;
             Ok(Key::and(alloc, first, second)?)
         }
         KeyWord::Or => {
             let first = key_at(levels - 1, cursor)?;
-            let second = key_at(levels - 1, cursor)?;
+            let (first, second) = both(first, key_at(levels - 1, cursor))?;
             Ok(Key::or(alloc, first, second)?)
         }
         KeyWord::Not => {
             let key = key_at(levels - 1, cursor)?;
             Ok(Key::not(alloc, key)?)
         }
-        KeyWord::Range => Ok(Key::one(range_at(cursor)?)),
-        KeyWord::Meets(relation) => Ok(Key::one(meets_at(relation, cursor)?)),
+        KeyWord::Range => one_of(range_at(cursor)),
+        KeyWord::Meets(relation) => one_of(meets_at(relation, cursor)),
     }
 }

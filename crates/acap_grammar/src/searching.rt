@@ -1,7 +1,7 @@
 //! What a SEARCH asks for (RFC 2244 section 6.4.1).
 
-ghost use Rattle.std.specs.Prelude.{◌≡◌, IfOk};
-ghost use Rattle.acap_grammar.specs.Outcome.{Gives, Reads};
+ghost use Rattle.std.specs.Prelude.{◌≡◌, Some, Ok, Err, IfOk, MatchResult};
+ghost use Rattle.acap_grammar.specs.Outcome.{Gives, Reads, ReadsBy};
 ghost use Rattle.acap_grammar.specs.Searching as searching;
 
 use crate::arguments::{Named, name_at, number_at};
@@ -103,8 +103,7 @@ fn returns_at(cursor: &mut Cursor<'_>) -> Result<Returns, GrammarError>
     cursor.pass_open()?;
     let none = Returns::new(cursor.alloc());
     let items = several(Series::Enclosed, none, 256, cursor)?;
-    cursor.pass_close()?;
-    Ok(items)
+    cursor.closed(items)
 }
 
 // ---- SORT
@@ -174,26 +173,36 @@ pub(crate) struct Scope {
     pub(crate) modifiers: SearchModifiers,
 }
 
+// Puts what is read in its place. Of any type, as letting a large one go is slow to prove.
+fn put<T: Drop>(place: &mut Option<T>, read: Result<T, GrammarError>) -> Result<(), GrammarError>
+    ensures { MatchResult read (λ x. (result ≡ Ok tt) × (place.new ≡ Some x)) (λ e. result ≡ Err e) }
+{
+    *place = Some(read?);
+    Ok(())
+}
+
 // Behind the word of a modifier.
 #[tactic(auto, unfolding(crate::specs::Searching::behind_modifier))]
 fn modify(
-    modifiers: SearchModifiers,
+    modifiers: &mut SearchModifiers,
     word: SearchWord,
     cursor: &mut Cursor<'_>,
-) -> Result<SearchModifiers, GrammarError>
-    ensures { Reads result cursor.new (searching.behind_modifier modifiers word cursor.old) }
+) -> Result<(), GrammarError>
+    ensures { ReadsBy (λ _ left. (modifiers.new, left))
+        result cursor.new (searching.behind_modifier modifiers.old word cursor.old) }
 {
-    let mut modifiers = modifiers;
     match word {
-        SearchWord::Depth => modifiers.depth = Some(number_at(cursor)?),
-        SearchWord::HardLimit => modifiers.hard_limit = Some(number_at(cursor)?),
-        SearchWord::Limit => modifiers.limit = Some(limit_at(cursor)?),
-        SearchWord::MakeContext => modifiers.make_context = Some(make_context_at(cursor)?),
-        SearchWord::NoInherit => modifiers.no_inherit = true,
-        SearchWord::Return => modifiers.returns = Some(returns_at(cursor)?),
-        SearchWord::Sort => modifiers.sort = Some(sorts_at(cursor)?),
+        SearchWord::Depth => put(&mut modifiers.depth, number_at(cursor)),
+        SearchWord::HardLimit => put(&mut modifiers.hard_limit, number_at(cursor)),
+        SearchWord::Limit => put(&mut modifiers.limit, limit_at(cursor)),
+        SearchWord::MakeContext => put(&mut modifiers.make_context, make_context_at(cursor)),
+        SearchWord::NoInherit => {
+            modifiers.no_inherit = true;
+            Ok(())
+        }
+        SearchWord::Return => put(&mut modifiers.returns, returns_at(cursor)),
+        SearchWord::Sort => put(&mut modifiers.sort, sorts_at(cursor)),
     }
-    Ok(modifiers)
 }
 
 fn is_of_datasets(word: SearchWord) -> bool
@@ -236,22 +245,28 @@ impl Scope {
         }
         once(has_modifier(&self.modifiers, word))
     }
+
+    // One modifier more.
+    #[tactic(auto, unfolding(crate::specs::Searching::modifier_at))]
+    fn modify(&mut self, cursor: &mut Cursor<'_>) -> Result<(), GrammarError>
+        ensures { ReadsBy (λ _ left. (self.new, left))
+            result cursor.new (searching.modifier_at self.old cursor.old) }
+    {
+        let Some(word) = cursor.word() else {
+            return Err(GrammarError::Fault(GrammarFault::Arguments));
+        };
+        self.may_modify(word)?;
+        modify(&mut self.modifiers, word, cursor)
+    }
 }
 
 impl Gather for Scope {
     ghost item = { searching.modifier_at };
 
-    #[tactic(auto, unfolding(crate::specs::Searching::modifier_at))]
     fn gather(self, cursor: &mut Cursor<'_>) -> Result<Scope, GrammarError> {
-        let Some(word) = cursor.word() else {
-            return Err(GrammarError::Fault(GrammarFault::Arguments));
-        };
-        self.may_modify(word)?;
-        let modifiers = modify(self.modifiers, word, cursor)?;
-        Ok(Scope {
-            target: self.target,
-            modifiers,
-        })
+        let mut scope = self;
+        scope.modify(cursor)?;
+        Ok(scope)
     }
 }
 

@@ -114,6 +114,5 @@ pub(crate) fn read_enclosed<S: Gather>(
 {
     cursor.pass_open()?;
     let items = some_of(Series::Enclosed, none, most, cursor)?;
-    cursor.pass_close()?;
-    Ok(items)
+    cursor.closed(items)
 }

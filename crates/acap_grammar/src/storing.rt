@@ -1,7 +1,7 @@
 //! The entries of a STORE (RFC 2244 section 6.6.1).
 
-ghost use Rattle.std.specs.Prelude.{◌≡◌, [], IfOk};
-ghost use Rattle.acap_grammar.specs.Outcome.{Finds, Gives, Reads};
+ghost use Rattle.std.specs.Prelude.{◌≡◌, ◌++◌, ◌∷◌, [], IfOk};
+ghost use Rattle.acap_grammar.specs.Outcome.{Finds, Gives, Reads, ReadsBy};
 ghost use Rattle.acap_grammar.specs.Marks.{word_at};
 ghost use Rattle.acap_grammar.specs.Storing as storing;
 ghost use Rattle.acap_grammar.specs.Storing.{with_gift};
@@ -263,21 +263,28 @@ fn new_path_at(seen: &GatheredEntries, cursor: &mut Cursor<'_>) -> Result<Path, 
     Ok(path)
 }
 
+// One entry more. Those before are only looked at here: letting them go at each fault is slow to prove.
+#[tactic(auto, unfolding(crate::specs::Storing::entry_at))]
+fn entry_at(seen: &GatheredEntries, cursor: &mut Cursor<'_>) -> Result<StoreEntry, GrammarError>
+    ensures { ReadsBy (λ entry left. (seen.now ++ entry ∷ [], left))
+        result cursor.new (storing.entry_at seen.now cursor.old) }
+{
+    cursor.pass_open()?;
+    let path = new_path_at(seen, cursor)?;
+    let modifiers = conditions_at(cursor)?;
+    let items = items_at(cursor)?;
+    cursor.closed(StoreEntry {
+        path,
+        modifiers,
+        items,
+    })
+}
+
 impl Gather for GatheredEntries {
     ghost item = { storing.entry_at };
 
-    #[tactic(auto, unfolding(crate::specs::Storing::entry_at))]
     fn gather(self, cursor: &mut Cursor<'_>) -> Result<GatheredEntries, GrammarError> {
-        cursor.pass_open()?;
-        let path = new_path_at(&self, cursor)?;
-        let modifiers = conditions_at(cursor)?;
-        let items = items_at(cursor)?;
-        cursor.pass_close()?;
-        let entry = StoreEntry {
-            path,
-            modifiers,
-            items,
-        };
+        let entry = entry_at(&self, cursor)?;
         Ok(self.with(cursor.alloc(), entry)?)
     }
 }
