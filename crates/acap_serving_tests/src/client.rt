@@ -28,6 +28,16 @@ fn wrong(why: &'static str) -> io::Error {
     io::Error::other(why)
 }
 
+// What a user answers to a challenge (RFC 2195), as a line.
+fn answer_of(alloc: Global, user: &[u8], secret: &[u8], challenge: &[u8]) -> io::Result<Vec<u8>> {
+    let mut answer = Vec::from_slice(alloc, b"\"")?;
+    answer.extend_from_slice(user)?;
+    answer.extend_from_slice(b" ")?;
+    answer.extend_from_slice(&digest(secret, challenge))?;
+    answer.extend_from_slice(b"\"\r\n")?;
+    Ok(answer)
+}
+
 impl Client {
     /// A client that has connected.
     pub(crate) fn connect<R>(rt: &R, alloc: Global, at: SocketAddr) -> io::Result<Client>
@@ -132,11 +142,7 @@ impl Client {
         let Some(challenge) = challenge.strip_suffix(b"\"\r\n") else {
             return Ok(false);
         };
-        let mut answer = Vec::from_slice(self.alloc, b"\"")?;
-        answer.extend_from_slice(user)?;
-        answer.extend_from_slice(b" ")?;
-        answer.extend_from_slice(&digest(secret, challenge))?;
-        answer.extend_from_slice(b"\"\r\n")?;
+        let answer = answer_of(self.alloc, user, secret, challenge)?;
         self.is_told(&answer, b"L1 OK \"AUTHENTICATE done\"\r\n")
     }
 }

@@ -6,7 +6,7 @@ mod client;
 #[cfg(test)]
 mod gate;
 #[cfg(test)]
-mod scene;
+mod meeting;
 #[cfg(test)]
 mod server;
 #[cfg(test)]

@@ -1,5 +1,5 @@
 //! A server on a thread of its own, beside its clients.
-use crate::scene::{Scene, play};
+use crate::meeting::Meeting;
 use acap_serving::{Door, ServeFault, Setup, serve_at};
 use acap_settings::Settings;
 use std::alloc::{AllocGlobal, Global};
@@ -22,9 +22,13 @@ const USERS: &str = "[users]\njoe = \"secret\"\nann = \"hush\"\n";
 pub(crate) fn setup_of(
     alloc: Global,
     sessions: u32,
-    start: Option<Vec<u8>>,
+    start: Option<&[u8]>,
 ) -> Result<Setup, ServeFault> {
     let text = format!(in alloc; "{FRONT}sessions = {sessions}\n{USERS}")?;
+    let start = match start {
+        Some(octets) => Some(Vec::from_slice(alloc, octets)?),
+        None => None,
+    };
     let settings = Settings::read(alloc, text.as_str())?;
     Ok(Setup { settings, start })
 }
@@ -43,14 +47,9 @@ where
     }
 }
 
-/// Runs a server that ends after so many sessions beside clients, and says whether they were answered as they should and it ended well.
-/// Where the clients leave it sessions, those are used up.
-pub(crate) fn is_served<R>(
-    rt: &R,
-    scene: Scene,
-    sessions: u32,
-    start: Option<Vec<u8>>,
-) -> io::Result<bool>
+/// Runs a server beside the clients of a meeting, and says whether all came true and it ended well. Where the clients leave it
+/// sessions, those are used up.
+pub(crate) fn is_served<R>(rt: &R, meeting: &Meeting) -> io::Result<bool>
 where
     R: Threads
         + Wait
@@ -60,12 +59,12 @@ where
         + AllocGlobal
         + Sync,
 {
-    let Ok(setup) = setup_of(rt.alloc(), sessions, start) else {
-        return Ok(false);
-    };
     let listener = TcpListener::bind(rt, "127.0.0.1:0")?;
     let at = listener.local_addr()?;
     let over = AtomicBool::new(false);
+    let Ok(setup) = setup_of(rt.alloc(), meeting.sessions, meeting.start) else {
+        return Ok(false);
+    };
     let (ended, content) = thread::join(
         rt,
         || {
@@ -74,7 +73,7 @@ where
             ended
         },
         || {
-            let content = play(scene, rt, at);
+            let content = meeting.comes_true(rt, at);
             knock(rt, at, &over);
             content
         },

@@ -1,5 +1,5 @@
 //! Tests of a server with clients over loopback.
-use crate::scene::Scene;
+use crate::meeting::{Deed, Meeting, Step};
 use crate::server::{is_served, setup_of};
 use acap_entries::Octets;
 use acap_serving::{Door, ServeFault, Setup, serve, serve_at};
@@ -8,41 +8,145 @@ use std::fs;
 use std::net::TcpListener;
 use std::test::Fail;
 
-#[test]
-fn sessions_see_what_others_store(rt: HostRuntime) -> Result<(), Fail> {
-    assert!(rt; is_served(&rt, Scene::Shared, 2, None)?);
-    Ok(())
-}
+/// A STORE, and its answer.
+const STORE: Deed = Deed::IsTold(
+    b"A1 STORE (\"/option/~/font\" \"option.value\" \"mono\")\r\n",
+    b"A1 OK \"STORE done\"\r\n",
+);
+
+/// A LOGOUT, and its answer.
+const LOGOUT: Deed = Deed::IsTold(
+    b"A2 LOGOUT\r\n",
+    b"* BYE \"Good bye\"\r\nA2 OK \"LOGOUT done\"\r\n",
+);
+
+/// A NOOP, and its answer.
+const NOOP: Deed = Deed::IsTold(b"A3 NOOP\r\n", b"A3 OK \"NOOP done\"\r\n");
+
+/// Joe logs in.
+const JOE: Step = Step::LogsIn(b"joe", b"secret");
+
+/// Ann logs in.
+const ANN: Step = Step::LogsIn(b"ann", b"hush");
+
+const MEETINGS: [Meeting; 6] = [
+    Meeting {
+        name: "one stores, and another finds it and is told of a change",
+        start: None,
+        sessions: 2,
+        rounds: 1,
+        steps: &[
+            JOE,
+            JOE,
+            Step::By(0, STORE),
+            Step::By(
+                1,
+                Deed::IsTold(
+                    b"B1 SEARCH \"/option/~/\" MAKECONTEXT NOTIFY \"c\" RETURN (\"option.value\") EQUAL \"entry\" \"i;octet\" \"font\"\r\n",
+                    b"B1 ENTRY \"font\" \"mono\"\r\n",
+                ),
+            ),
+            Step::By(1, Deed::HearsALine),
+            Step::By(1, Deed::Hears(1, b"B1 OK \"SEARCH done\"\r\n")),
+            Step::By(
+                0,
+                Deed::IsTold(
+                    b"A2 STORE (\"/option/~/font\" \"option.value\" \"serif\")\r\n",
+                    b"A2 OK \"STORE done\"\r\n",
+                ),
+            ),
+            Step::By(
+                1,
+                Deed::Hears(1, b"* CHANGE \"c\" \"font\" 0 0 \"serif\"\r\n"),
+            ),
+        ],
+    },
+    Meeting {
+        name: "what the start file stores is found",
+        start: Some(
+            b"A1 STORE (\"/option/site/motd\" \"option.value\" \"hello\")\r\nA2 LOGOUT\r\n",
+        ),
+        sessions: 1,
+        rounds: 1,
+        steps: &[
+            ANN,
+            Step::By(
+                0,
+                Deed::IsTold(
+                    b"A1 SEARCH \"/option/site/\" RETURN (\"option.value\") EQUAL \"entry\" \"i;octet\" \"motd\"\r\n",
+                    b"A1 ENTRY \"motd\" \"hello\"\r\n",
+                ),
+            ),
+        ],
+    },
+    Meeting {
+        name: "octets come one by one, and one side of a stream is closed",
+        start: None,
+        sessions: 1,
+        rounds: 1,
+        steps: &[
+            Step::Come(1),
+            Step::By(0, Deed::SendsSlowly(b"A1 NOOP\r\n")),
+            Step::By(0, Deed::Hears(1, b"A1 OK \"NOOP done\"\r\n")),
+            Step::By(0, Deed::Sends(200, b"A2 NOOP\r\n")),
+            Step::By(0, Deed::Finishes),
+            Step::By(0, Deed::Hears(200, b"A2 OK \"NOOP done\"\r\n")),
+            Step::By(0, Deed::IsLeft),
+        ],
+    },
+    Meeting {
+        name: "there are 64 sessions at most; one ends, and one is cut off within a literal",
+        start: None,
+        sessions: 66,
+        rounds: 1,
+        steps: &[
+            Step::Come(64),
+            Step::IsRefused,
+            Step::By(63, LOGOUT),
+            Step::By(63, Deed::IsLeft),
+            Step::Come(1),
+            Step::By(64, Deed::IsTold(b"A1 NOOP {5}\r\nhel", b"+ \"Ready\"\r\n")),
+            Step::GoesAway,
+            Step::ComesAtLast,
+        ],
+    },
+    Meeting {
+        name: "one never reads, another sends garbage, and others are answered",
+        start: None,
+        sessions: 3,
+        rounds: 1,
+        steps: &[
+            JOE,
+            Step::By(0, STORE),
+            Step::By(0, Deed::IsDeaf),
+            ANN,
+            Step::By(1, NOOP),
+            Step::Come(1),
+            Step::By(2, Deed::IsNoisy),
+            Step::By(1, NOOP),
+        ],
+    },
+    Meeting {
+        name: "a place is used again",
+        start: None,
+        sessions: 10,
+        rounds: 10,
+        steps: &[
+            JOE,
+            Step::By(0, STORE),
+            Step::By(0, LOGOUT),
+            Step::By(0, Deed::IsLeft),
+        ],
+    },
+];
 
 #[test]
-fn a_start_file_is_run_first(rt: HostRuntime) -> Result<(), Fail> {
-    let text = b"A1 STORE (\"/option/site/motd\" \"option.value\" \"hello\")\r\nA2 LOGOUT\r\n";
-    let start = Vec::from_slice(rt.alloc(), text)?;
-    assert!(rt; is_served(&rt, Scene::Started, 1, Some(start))?);
-    Ok(())
-}
-
-#[test]
-fn octets_come_one_by_one_and_half_a_stream_is_closed(rt: HostRuntime) -> Result<(), Fail> {
-    assert!(rt; is_served(&rt, Scene::Slow, 1, None)?);
-    Ok(())
-}
-
-#[test]
-fn there_are_64_sessions_at_most(rt: HostRuntime) -> Result<(), Fail> {
-    assert!(rt; is_served(&rt, Scene::Full, 66, None)?);
-    Ok(())
-}
-
-#[test]
-fn rude_clients_keep_nobody_waiting(rt: HostRuntime) -> Result<(), Fail> {
-    assert!(rt; is_served(&rt, Scene::Rude, 3, None)?);
-    Ok(())
-}
-
-#[test]
-fn a_place_is_used_again(rt: HostRuntime) -> Result<(), Fail> {
-    assert!(rt; is_served(&rt, Scene::InTurn, 10, None)?);
+fn what_meetings_say_comes_true(rt: HostRuntime) -> Result<(), Fail> {
+    for meeting in &MEETINGS {
+        if !is_served(&rt, meeting)? {
+            return Err(Fail::new(meeting.name));
+        }
+    }
     Ok(())
 }
 

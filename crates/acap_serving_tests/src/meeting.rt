@@ -1,0 +1,239 @@
+//! Meetings: who comes to a server, what each client says, and what it must be told.
+use crate::client::Client;
+use std::alloc::AllocGlobal;
+use std::io;
+use std::net::{Net, SocketAddr, TcpListener, TcpStream};
+
+/// The greeting.
+const HELLO: &[u8] =
+    b"* ACAP (IMPLEMENTATION \"acapd\") (SASL \"CRAM-MD5\") (CONTEXTLIMIT \"200\")\r\n";
+
+/// What a client is told for which there is no place.
+const FULL: &[u8] = b"* BYE \"Too many sessions\"\r\n";
+
+/// What a client does, or must hear next.
+#[derive(Clone, Copy)]
+pub(crate) enum Deed {
+    /// It sends this, so often.
+    Sends(u32, &'static [u8]),
+    /// It sends this octet by octet.
+    SendsSlowly(&'static [u8]),
+    /// It hears this, so often.
+    Hears(u32, &'static [u8]),
+    /// It hears a line, whatever stands there.
+    HearsALine,
+    /// It sends this, and hears that.
+    IsTold(&'static [u8], &'static [u8]),
+    /// It sends no more.
+    Finishes,
+    /// It hears nothing more until the server closes.
+    IsLeft,
+    /// It asks for so much as the server takes, and reads nothing.
+    IsDeaf,
+    /// It sends 300,000 octets of garbage, or as many as the server takes.
+    IsNoisy,
+}
+
+/// What happens at a meeting. Clients have numbers from 0 on, in the order in which they come.
+#[derive(Clone, Copy)]
+pub(crate) enum Step {
+    /// So many clients come, and are greeted.
+    Come(u32),
+    /// One more comes, is told that there is no place, and gets no number.
+    IsRefused,
+    /// One more comes once there is a place: a session that was cut off may not have ended yet.
+    ComesAtLast,
+    /// A user comes and logs in with a secret.
+    LogsIn(&'static [u8], &'static [u8]),
+    /// The last that came goes away without a word.
+    GoesAway,
+    /// The client with that number does this.
+    By(usize, Deed),
+}
+
+// Puts a client behind the others.
+fn put<T: Drop>(clients: &mut Vec<T>, client: T) -> io::Result<()> {
+    match clients.push(client) {
+        Ok(()) => Ok(()),
+        Err(_) => Err(io::Error::other("no memory")),
+    }
+}
+
+// A client that has connected and was greeted.
+fn connect<R>(rt: &R, at: SocketAddr) -> io::Result<Client>
+where
+    R: Net<Listener = TcpListener, Stream = TcpStream> + AllocGlobal,
+{
+    let mut client = Client::connect(rt, rt.alloc(), at)?;
+    if client.hears(HELLO)? {
+        Ok(client)
+    } else {
+        Err(io::Error::other("no greeting"))
+    }
+}
+
+// So many clients come.
+fn come<R>(rt: &R, at: SocketAddr, count: u32, clients: &mut Vec<Client>) -> io::Result<()>
+where
+    R: Net<Listener = TcpListener, Stream = TcpStream> + AllocGlobal,
+{
+    for _ in 0..count {
+        put(clients, connect(rt, at)?)?;
+    }
+    Ok(())
+}
+
+// A client comes once there is a place.
+fn come_at_last<R>(rt: &R, at: SocketAddr, clients: &mut Vec<Client>) -> io::Result<()>
+where
+    R: Net<Listener = TcpListener, Stream = TcpStream> + AllocGlobal,
+{
+    for _ in 0..10_000 {
+        if let Ok(client) = connect(rt, at) {
+            return put(clients, client);
+        }
+    }
+    Err(io::Error::other("no place"))
+}
+
+// Whether a client that comes is told that there is no place.
+fn is_refused<R>(rt: &R, at: SocketAddr) -> io::Result<bool>
+where
+    R: Net<Listener = TcpListener, Stream = TcpStream> + AllocGlobal,
+{
+    let mut client = Client::connect(rt, rt.alloc(), at)?;
+    Ok(client.rest()? == FULL)
+}
+
+// Sends so many SEARCHes as the other side takes, up to some, and reads nothing.
+fn flood(client: &Client) -> io::Result<()> {
+    client.set_impatient()?;
+    for _ in 0..100_000 {
+        if client
+            .send(b"A1 SEARCH \"/option/~/\" RETURN (\"option.value\") ALL\r\n")
+            .is_err()
+        {
+            break;
+        }
+    }
+    Ok(())
+}
+
+// Sends garbage.
+fn throw(client: &Client) {
+    let mut octet: u8 = 7;
+    for _ in 0..3000 {
+        let mut piece = [0u8; 100];
+        for place in &mut piece {
+            octet = octet.wrapping_mul(181).wrapping_add(59);
+            *place = octet;
+        }
+        if client.send(&piece).is_err() {
+            return;
+        }
+    }
+}
+
+impl Client {
+    // Sends octets so often.
+    fn send_times(&self, times: u32, octets: &[u8]) -> io::Result<()> {
+        for _ in 0..times {
+            self.send(octets)?;
+        }
+        Ok(())
+    }
+
+    // Whether the next lines are these, so often.
+    fn hears_times(&mut self, times: u32, wanted: &[u8]) -> io::Result<bool> {
+        for _ in 0..times {
+            if !self.hears(wanted)? {
+                return Ok(false);
+            }
+        }
+        Ok(true)
+    }
+
+    // Does what it should, and says whether it heard what it should.
+    fn does(&mut self, deed: Deed) -> io::Result<bool> {
+        match deed {
+            Deed::Sends(times, octets) => self.send_times(times, octets)?,
+            Deed::SendsSlowly(octets) => self.send_slowly(octets)?,
+            Deed::Hears(times, wanted) => return self.hears_times(times, wanted),
+            Deed::HearsALine => drop(self.line()?),
+            Deed::IsTold(said, wanted) => return self.is_told(said, wanted),
+            Deed::Finishes => self.finish()?,
+            Deed::IsLeft => return Ok(self.rest()?.is_empty()),
+            Deed::IsDeaf => flood(self)?,
+            Deed::IsNoisy => throw(self),
+        }
+        Ok(true)
+    }
+}
+
+impl Step {
+    // Whether the step came true.
+    fn comes_true<R>(self, rt: &R, at: SocketAddr, clients: &mut Vec<Client>) -> io::Result<bool>
+    where
+        R: Net<Listener = TcpListener, Stream = TcpStream> + AllocGlobal,
+    {
+        match self {
+            Step::Come(count) => come(rt, at, count, clients)?,
+            Step::IsRefused => return is_refused(rt, at),
+            Step::ComesAtLast => come_at_last(rt, at, clients)?,
+            Step::LogsIn(user, secret) => {
+                come(rt, at, 1, clients)?;
+                return match clients.last_mut() {
+                    Some(client) => client.logs_in(user, secret),
+                    None => Ok(false),
+                };
+            }
+            Step::GoesAway => drop(clients.pop()),
+            Step::By(number, deed) => {
+                return match clients.get_mut(number) {
+                    Some(client) => client.does(deed),
+                    None => Ok(false),
+                };
+            }
+        }
+        Ok(true)
+    }
+}
+
+/// What happens at a server that ends after so many sessions, and may run a start file first: the steps, in so many rounds, each
+/// with clients of its own.
+pub(crate) struct Meeting {
+    pub(crate) name: &'static str,
+    pub(crate) start: Option<&'static [u8]>,
+    pub(crate) sessions: u32,
+    pub(crate) rounds: u32,
+    pub(crate) steps: &'static [Step],
+}
+
+// Whether all steps come true, one after the other.
+fn come_true<R>(steps: &[Step], rt: &R, at: SocketAddr) -> io::Result<bool>
+where
+    R: Net<Listener = TcpListener, Stream = TcpStream> + AllocGlobal,
+{
+    let mut clients = Vec::new(rt.alloc());
+    for step in steps {
+        if !step.comes_true(rt, at, &mut clients)? {
+            return Ok(false);
+        }
+    }
+    Ok(true)
+}
+
+impl Meeting {
+    /// Whether all steps of all rounds come true, at that address.
+    pub(crate) fn comes_true<R>(&self, rt: &R, at: SocketAddr) -> io::Result<bool>
+    where
+        R: Net<Listener = TcpListener, Stream = TcpStream> + AllocGlobal,
+    {
+        for _ in 0..self.rounds {
+            if !come_true(self.steps, rt, at)? {
+                return Ok(false);
+            }
+        }
+        Ok(true)
+    }
+}
