@@ -5,7 +5,7 @@
     python3 bench/task.py refuse PROGRAM
 
 The session logs in by CRAM-MD5 over a wire in memory, asks for its rights, and logs out; or its user is given, so that it enters before its
-greeting. It is written in a clone of the repository, over the stage of `acap_task_tests`. Of each run this must hold: what was written is a
+greeting. It is written in a clone of the repository, over the stage of `acap_serving_tests`. Of each run this must hold: what was written is a
 beginning of what it is told without a refusal, or a command is answered `NO (TRYLATER)`, and where an Enter was answered Ok, the last call
 is a Leave, or a Leave was asked and refused. At least one run must be one in which the seat was entered and the line that says so, the
 login's OK or the greeting, wasn't written for want of memory.
@@ -160,7 +160,7 @@ SESSIONS = {"a login": ((), 'A1 OK "AUTHENTICATE done"'), "a session of a user":
 def build(top, program):
     with tempfile.TemporaryDirectory() as folder:
         clone, crate = locked.add_program(top, folder, LINE, PROGRAM, PROOFS)
-        shutil.copy(clone / "crates/acap_task_tests/src/stage.rt", crate / "src/stage.rt")
+        shutil.copy(clone / "crates/acap_serving_tests/src/stage.rt", crate / "src/stage.rt")
         locked.give_libraries(top, clone)
         subprocess.run(["rt", "run"], cwd=crate, check=True)
         shutil.copy(crate / "out/task_runs", program)

@@ -1,15 +1,22 @@
-//! Tests of servers and of sessions on several threads, with clients over loopback. Each ends by itself.
+//! Tests of sessions that run as tasks: over wires in memory, several on several threads, and of a server with clients over loopback. Each
+//! ends by itself.
 #![tactic(auto)]
 
 #[cfg(test)]
 mod client;
 #[cfg(test)]
+mod failing;
+#[cfg(test)]
 mod gate;
 #[cfg(test)]
 mod meeting;
 #[cfg(test)]
+mod pieces;
+#[cfg(test)]
 mod server;
 #[cfg(test)]
 mod serving;
+#[cfg(test)]
+mod stage;
 #[cfg(test)]
 mod together;

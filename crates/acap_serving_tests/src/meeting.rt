@@ -1,12 +1,9 @@
 //! Meetings: who comes to a server, what each client says, and what it must be told.
 use crate::client::Client;
+use crate::stage::HELLO;
 use std::alloc::AllocGlobal;
 use std::io;
 use std::net::{Net, SocketAddr, TcpListener, TcpStream};
-
-/// The greeting.
-const HELLO: &[u8] =
-    b"* ACAP (IMPLEMENTATION \"acapd\") (SASL \"CRAM-MD5\") (CONTEXTLIMIT \"200\")\r\n";
 
 /// What a client is told for which there is no place.
 const FULL: &[u8] = b"* BYE \"Too many sessions\"\r\n";

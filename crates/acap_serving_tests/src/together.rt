@@ -3,6 +3,7 @@ ghost use Rattle.std.specs.Prelude.{◌≡◌, ◌<◌, All, IfOk, None};
 ghost use Rattle.acap_serving.specs.Devices.{silent_wire};
 
 use crate::gate::{OneMoment, Stop, WaitingWire};
+use crate::stage::HELLO;
 use acap_entries::{Memory, Octets, Steps, UserName};
 use acap_locked::{Pass, Served, Site};
 use acap_login::Users;
@@ -20,10 +21,6 @@ use std::sync::ledger::{Blank, Ledger};
 use std::test::Fail;
 use std::thread::Threads;
 use std::time::Clock;
-
-/// The greeting.
-const HELLO: &[u8] =
-    b"* ACAP (IMPLEMENTATION \"acapd\") (SASL \"CRAM-MD5\") (CONTEXTLIMIT \"200\")\r\n";
 
 /// With so many polls a session ends.
 const TURNS: u64 = 10_000_000;

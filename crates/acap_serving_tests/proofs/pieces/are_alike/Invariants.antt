@@ -1,4 +1,4 @@
-use Rattle.acap_task_tests.proofs.pieces.are_alike.Given as goal
+use Rattle.acap_serving_tests.proofs.pieces.are_alike.Given as goal
 
 abbrev pub ghosts-run_in_pieces-S-Ledger : goal.ghosts-run_in_pieces-S-Ledger
 ghosts-run_in_pieces-S-Ledger g a = record { name = a.blank.name; parts = a.blank.parts }

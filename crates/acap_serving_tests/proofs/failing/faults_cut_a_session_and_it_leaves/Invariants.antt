@@ -1,4 +1,4 @@
-use Rattle.acap_task_tests.proofs.failing.faults_cut_a_session_and_it_leaves.Given as goal
+use Rattle.acap_serving_tests.proofs.failing.faults_cut_a_session_and_it_leaves.Given as goal
 
 abbrev pub ghosts-is_cut_at-S-Ledger : goal.ghosts-is_cut_at-S-Ledger
 ghosts-is_cut_at-S-Ledger g a = record { name = a.blank.name; parts = a.blank.parts }
