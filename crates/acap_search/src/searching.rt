@@ -170,7 +170,8 @@ fn add_reached<'a, L: Ledger>(
     found: &mut Gathered<'a>,
     steps: &mut Steps<L>,
 ) -> Result<(), Memory>
-    ensures count { IsCounted result steps.old steps.new (walks.count_by search.now depth (path.now, entry.now)) }
+    ensures count { IsCounted result steps.old steps.new
+        (walks.count_by search.now depth (path.now, entry.now)) }
     ensures found { OnOk result
         (found.new ≡ with_more found.old (walks.hits_by search.now depth (path.now, entry.now))) }
 {
