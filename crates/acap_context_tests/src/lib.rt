@@ -1,4 +1,4 @@
-//! Trials of contexts: what clients hold that follow what they are told, against what a search finds.
+//! Tests of contexts: what clients hold that follow what they are told, against what a search finds.
 #![tactic(auto)]
 
 #[cfg(test)]
