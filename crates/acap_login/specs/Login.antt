@@ -1,8 +1,9 @@
 -- CRAM-MD5 [RFC 2195 section 2]: the challenge, the answer of a user, and whom an answer logs in.
 use Rattle.std.specs.Prelude.{◌≡◌, ℕ, ◌<◌, ◌==◌, Bool, false, List, [], ◌∷◌, ◌++◌, length, codes, decimal, Option, option_map}
-use Rattle.std.specs.List.{list_any, position, slice_get, slice_index_or}
+use Rattle.std.specs.List.{list_all, list_any, position, slice_get, slice_index_or}
 use Rattle.std.specs.Str.{bytes_eq}
 use Rattle.hex.specs.Hex.{encode_lower}
+use Rattle.acap_entries.specs.Names.{is_user_name}
 use Rattle.acap_login.specs.Hmac.{hmac}
 
 -- `<NONCE.SECONDS@HOST>`, both numbers in decimal
@@ -17,6 +18,10 @@ digest_of secret challenge = encode_lower (hmac secret challenge)
 -- a user's name and secret
 abbrev pub User : Type 0
 User = List ℕ × List ℕ
+
+-- each name is one that a user may have
+abbrev pub are_named : List User → Bool
+are_named users = list_all (λ user. is_user_name user.0) users
 
 abbrev pub space : ℕ
 space = 32

@@ -1,6 +1,6 @@
 //! Who may log in.
-ghost use Rattle.std.specs.Prelude.{◌≡◌, length, map, option_copied, ◌==◌};
-ghost use Rattle.acap_login.specs.Login.{name_at};
+ghost use Rattle.std.specs.Prelude.{◌≡◌, true, length, map, option_copied, ◌==◌};
+ghost use Rattle.acap_login.specs.Login.{are_named, name_at};
 
 use acap_entries::UserName;
 use std::marker::Model;
@@ -18,6 +18,22 @@ impl Model for Users {
     ghost Value = { List (List ℕ × List ℕ) };
 
     ghost view = { λ v. map (λ entry. (entry.0, entry.1.items)) v.entries.items };
+
+    ghost use Rattle.std.specs.Prelude.{◌≡◌, true};
+    ghost use Rattle.acap_login.specs.Login.{are_named};
+
+    ghost invariant = { λ v. are_named (map (λ entry. (entry.0, entry.1.items)) v.entries.items) ≡ true };
+}
+
+// The names in a list are names of users: goes over them and does nothing.
+fn form_names(entries: &[(UserName, Vec<u8>)])
+    ensures { are_named (map (λ entry. (entry.0, entry.1.items)) entries.now) ≡ true }
+{
+    let mut left = entries;
+    while let Some((first, others)) = left.split_first() {
+        first.0.form_law();
+        left = others;
+    }
 }
 
 impl Users {
@@ -25,7 +41,15 @@ impl Users {
     pub fn new(entries: Vec<(UserName, Vec<u8>)>) -> Users
         ensures { result ≡ map (λ entry. (entry.0, entry.1.items)) entries.items }
     {
+        form_names(entries.as_slice());
         Users { entries }
+    }
+
+    /// Each has a user's name: does nothing.
+    pub fn form_law(&self)
+        ensures { are_named self.now ≡ true }
+    {
+        let _ = self.entries.len();
     }
 
     /// How many there are.

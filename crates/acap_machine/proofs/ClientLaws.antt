@@ -1,6 +1,6 @@
 -- What each event tells the client of a context, by the commands.
 use Rattle.std.proofs.Common.{◌≡◌, ◌⊎◌, inl, inr, ◌==◌, eq-eqb, ℕ, ℤ, Bool, true, false, cond, ◌&&◌, Option, Some, None, Result, Ok, Err, List, [], ◌∷◌, refl, sym, ◌∙◌, ap, subst, option_map, map as each}
-use Rattle.std.specs.Prelude.{is_some, is_none, length, take, min, nat_lt, flat_map}
+use Rattle.std.specs.Prelude.{◌++◌, is_some, is_none, length, take, min, nat_lt, flat_map}
 use Rattle.std.specs.Cmp.{nat_cmp_total, unsigned_tied}
 use Rattle.std.specs.Cmp.Lexicographic.{nat_list_cmp_total, texts_ties}
 use Rattle.std.specs.FinMap as table
@@ -32,11 +32,12 @@ use Rattle.acap_machine.specs.Machine.{Machine, user_at}
 use Rattle.acap_machine.specs.Searching.{number_told, rows_told, found_of, found_unless, refused_as, view_refused_as, seated_or, kept_if, found_or, searched_over, searched_in, searched_within, searched_from}
 use Rattle.acap_machine.specs.Serving.{answer_to, written_or, names_or, updated_or}
 use Rattle.acap_machine.specs.Stepping.{step_of, drained_at}
-use Rattle.acap_machine.proofs.ClientSteps.{Sits, sits, own_contexts, put_contexts, put_fresh, changed_live, updated_held, updated_shown, drained_held, drained_shown}
+use Rattle.acap_machine.proofs.ClientSteps.{Sits, sits, own_contexts, put_contexts, put_fresh, changed_live, updated_front, updated_held, updated_shown, drained_held, drained_shown}
 use Rattle.acap_machine.proofs.SeatLemmas.{opened_is, freed_is}
 use Rattle.acap_machine.proofs.StepLaws.{by_keeps, change, seated_keeps}
 use Rattle.acap_notices.specs.Holding.{Holding, holding}
 use Rattle.acap_notices.specs.declared.told.Told.{Told}
+use Rattle.acap_notices.specs.declared.told.Told.TheVariants as told_as
 use Rattle.acap_search.specs.Asking.{asked_of}
 use Rattle.acap_search.specs.Cutting.{cut_of}
 use Rattle.acap_search.specs.declared.cutting.Cut.{Cut}
@@ -45,6 +46,7 @@ use Rattle.acap_search.specs.Laws.{SightLaw}
 use Rattle.acap_search.specs.Matches.{Match}
 use Rattle.acap_search.specs.declared.query.Sought.{Sought}
 use Rattle.acap_search.specs.declared.refusal.SearchRefusal.{SearchRefusal}
+use Rattle.acap_views.proofs.ClientLemmas.{client_law}
 use Rattle.acap_views.specs.Contexts.{Context, Contexts, context_of, kept_of}
 use Rattle.acap_views.specs.Current.{IsCurrentOccupant, rows}
 use Rattle.acap_views.specs.Maps.{each_kept}
@@ -58,6 +60,12 @@ use Rattle.acap_views.specs.declared.refusal.ViewRefusal.{ViewRefusal}
 record Follows (seat : ℕ) (name : List ℕ) (whole : Bool) (held : Option Holding) (e : Event) (words : Said) (n : Machine) : Type 0 where
   held_now : IsHeld (live_at n seat name) (whole_after name e words whole) (client_after name e words held)
   told : tells name e words ≡ true → (x : View) → live_at n seat name ≡ Some x → fresh_for n seat x.0 ≡ Some x.1.1
+
+-- at each MODTIME within it the client that has read as far as that has that list
+record AtModtimes (seat : ℕ) (name : List ℕ) (whole : Bool) (held : Option Holding) (words : Said) (n : Machine) : Type 0 where
+  each_one : (front back : List Told) (moment : ℤ) → words ≡ said.Updated (front ++ told_as.Upto name moment ∷ back)
+      → (x : View) → live_at n seat name ≡ Some x → whole ≡ true
+      → (client_after_tolds name front held ≡ Some (holding x.1.0 (rows x.1.1))) × (fresh_for n seat x.0 ≡ Some x.1.1)
 
 -- ---- a list that is told whole
 
@@ -231,6 +239,37 @@ module _ (m : Machine) (seat : ℕ) (user : List ℕ) (at : user_at m seat ≡ S
             ∙ ap Some (sym (updated_shown m.store m.realm own.occupant occupied name names m.store.last x t (sym live ∙ l)));
       })
 
+  tells_at : (names : List (List ℕ)) (told : List Told × Seated) → told_of m.seats seat names m.store.last ≡ Ok told
+      → AtModtimes seat name whole held (said.Updated told.0) (record m { seats = told.1 })
+  tells_at names told e =
+      let made : List Told × Seated = (told_in_turn (contexts_at m.seats seat) names m.store.last, with_contexts m.seats seat (after_updates (contexts_at m.seats seat) names m.store.last)) in
+      let is : made ≡ told = told_all (fault_of (contexts_at m.seats seat) names) made told e in
+      let contexts = own_contexts m seat own in
+      let live : live_at (record m { seats = with_contexts m.seats seat (after_updates (contexts_at m.seats seat) names m.store.last) }) seat name
+      ≡ option_and_then live_in (table.get (after_updates own.occupant.contexts names m.store.last) name) =
+      ap (λ (cs : Contexts). option_and_then live_in (table.get cs name)) (put_contexts m seat own (after_updates (contexts_at m.seats seat) names m.store.last)
+      ∙ ap (λ (cs : Contexts). after_updates cs names m.store.last) contexts) in
+      subst (λ (p : List Told × Seated). AtModtimes seat name whole held (said.Updated p.0) (record m { seats = p.1 })) is
+      (record {
+        each_one = λ front back moment words x l w.
+            let all : told_in_turn (contexts_at m.seats seat) names m.store.last ≡ front ++ told_as.Upto name moment ∷ back = cc in
+            let here : told_in_turn own.occupant.contexts names m.store.last ≡ front ++ told_as.Upto name moment ∷ back = sym (ap (λ (cs : Contexts). told_in_turn cs names m.store.last) contexts) ∙ all in
+            let among = client_law.named own.occupant.contexts names name m.store.last front back moment here in (
+              updated_front m.store m.realm own.occupant occupied name names m.store.last whole held at_first front back moment here x (sym live ∙ l) w,
+              put_fresh m seat own (after_updates (contexts_at m.seats seat) names m.store.last) x.0
+                  ∙ ap Some (sym (updated_shown m.store m.realm own.occupant occupied name names m.store.last x among (sym live ∙ l))),
+            );
+      })
+
+  told_at : (names : List (List ℕ)) (r : Result (List Told × Seated) ViewRefusal) → told_of m.seats seat names m.store.last ≡ r
+      → AtModtimes seat name whole held (updated_or m r).0 (updated_or m r).1
+  told_at names (Ok told) e = tells_at names told e
+  told_at names (Err why) e = record { each_one = λ front back moment words. absurd cc }
+
+  updates_at : (names : List (List ℕ)) (clock : ℤ) → let answer = answer_to m seat user (command.UpdateContext names) clock in AtModtimes seat name whole held answer.0 answer.1
+  unfolding answer_to
+  updates_at names clock = told_at names (told_of m.seats seat names m.store.last) refl
+
   updates : (names : List (List ℕ)) (r : Result (List Told × Seated) ViewRefusal) → told_of m.seats seat names m.store.last ≡ r → Does (event.Command (command.UpdateContext names)) (updated_or m r)
   updates names (Ok told) e = tells_of names told e
   updates names (Err why) e = quiet _ (view_refused_as why)
@@ -327,6 +366,9 @@ held_law = record {
   others = λ m seat e clock reply new other name whole held f apart h x l w. h x (elsewhere m new seat e clock other name x (change m seat e clock reply new f) apart l) w;
   told = λ m seat e clock reply new name x f is t l.
       (by_step m seat e clock reply new name false None f is (λ y k w. absurd cc)).told t x l;
+  modtimes = λ m seat names clock reply new name whole held front back moment f is h words x l w.
+      (by_keeps (λ r n. AtModtimes seat name whole held r.said n) (user_at m seat) _ reply new
+      (λ user at. updates_at m seat user at is name whole held h names clock) f).each_one front back moment words x l w;
   left = left_none;
 }
 

@@ -16,6 +16,7 @@ use Rattle.acap_moves.proofs.Splits.{same_name}
 use Rattle.acap_notices.specs.Holding.{Holding, holding, holding_after_all}
 use Rattle.acap_notices.specs.declared.notice.Notice.{Notice}
 use Rattle.acap_notices.specs.declared.told.Told.{Told}
+use Rattle.acap_notices.specs.declared.told.Told.TheVariants as told_as
 use Rattle.acap_rights.specs.declared.realm.Realm.{Realm}
 use Rattle.acap_search.specs.Fresh.{matches_of}
 use Rattle.acap_search.specs.Matches.{Match}
@@ -173,6 +174,16 @@ module _ (store : Store) (realm : Realm) (occupant : Occupant) (current : IsCurr
             (client_law.updated occupant.contexts names name last ∙ ap (λ b. cond b (pending_of (table.get occupant.contexts name)) []) t)
             ∙ h x (ap live_of (sym (shown_law.unnamed occupant.contexts names name last (λ k. let f : false ≡ true = sym t ∙ among names name k in cc))) ∙ e) w
       ] refl
+
+  -- and at each MODTIME of it
+  pub updated_front : (names : List (List ℕ)) (last : ℤ) (whole : Bool) (held : Option Holding) → IsHeld (live_of (table.get occupant.contexts name)) whole held
+      → (front back : List Told) (moment : ℤ) → told_in_turn occupant.contexts names last ≡ front ++ told_as.Upto name moment ∷ back
+      → IsHeld (live_of (table.get (after_updates occupant.contexts names last) name)) whole (client_after_tolds name front held)
+  updated_front names last whole held h front back moment s x e w =
+      led (table.get occupant.contexts name) x front whole held h w
+      (from_marks (live_of (table.get occupant.contexts name)) (live_of (table.get (after_updates occupant.contexts names last) name)) x (updates_marks occupant.contexts names name last) e)
+      (updated_shown names last x (client_law.named occupant.contexts names name last front back moment s) e)
+      (λ context shown now pending there live. client_law.at_modtime store realm occupant name context shown now pending names last front back moment current there live s)
 
   -- ---- a drain
 

@@ -1,5 +1,5 @@
 -- What the client of a context holds, by what its own session is told [RFC 2244 sections 3.3, 6.4.1 and 6.5].
-use Rattle.std.specs.Prelude.{◌≡◌, ℕ, ◌==◌, ℤ, Bool, true, false, ◌&&◌, is_some, is_none, List, Option, Some, None, Ok, if◌then◌else◌}
+use Rattle.std.specs.Prelude.{◌≡◌, ℕ, ◌==◌, ℤ, Bool, true, false, ◌&&◌, is_some, is_none, List, ◌∷◌, ◌++◌, Option, Some, None, Ok, if◌then◌else◌}
 use Rattle.std.specs.FinMap as table
 use Rattle.std.specs.Option.{option_map, option_and_then}
 use Rattle.acap_entries.specs.Orders.{octets_eq}
@@ -20,6 +20,7 @@ use Rattle.acap_machine.specs.Stepping.{step_of}
 use Rattle.acap_moves.specs.Hits.{is_among}
 use Rattle.acap_notices.specs.Holding.{Holding, holding, holding_after_all}
 use Rattle.acap_notices.specs.declared.told.Told.{Told}
+use Rattle.acap_notices.specs.declared.told.Told.TheVariants as told_as
 use Rattle.acap_search.specs.Fresh.{IsSameSight, matches_of}
 use Rattle.acap_search.specs.Matches.{Match}
 use Rattle.acap_search.specs.declared.query.Sought.{Sought}
@@ -132,7 +133,8 @@ IsFresh m seat x = fresh_for m seat x.0 ≡ Some x.1.1
 -- ---- the law
 
 -- Each event keeps that so, at its own seat and at every other; and where the client is told all, the rows that it holds are those
--- that a search finds then. Who leaves has no context
+-- that a search finds then. That is so at each MODTIME of the context too, for the client that has read as far as that. Who leaves has
+-- no context
 pub record HeldLaw : Type 0 where
   pub own : (m : Machine) (seat : ℕ) (e : Event) (clock : ℤ) (reply : Reply) (new : Machine)
       → (name : List ℕ) (whole : Bool) (held : Client)
@@ -145,6 +147,12 @@ pub record HeldLaw : Type 0 where
   pub told : (m : Machine) (seat : ℕ) (e : Event) (clock : ℤ) (reply : Reply) (new : Machine) (name : List ℕ) (x : View)
       → step_of m seat e clock ≡ Ok (reply, new) → IsCurrentMachine m → tells name e reply.said ≡ true
       → live_at new seat name ≡ Some x → IsFresh new seat x
+  pub modtimes : (m : Machine) (seat : ℕ) (names : List (List ℕ)) (clock : ℤ) (reply : Reply) (new : Machine)
+      → (name : List ℕ) (whole : Bool) (held : Client) (front back : List Told) (moment : ℤ)
+      → step_of m seat (event.Command (command.UpdateContext names)) clock ≡ Ok (reply, new) → IsCurrentMachine m
+      → IsHeld (live_at m seat name) whole held → reply.said ≡ said.Updated (front ++ told_as.Upto name moment ∷ back)
+      → (x : View) → live_at new seat name ≡ Some x → whole ≡ true
+      → (client_after_tolds name front held ≡ with_rows x) × IsFresh new seat x
   pub left : (m : Machine) (seat : ℕ) (clock : ℤ) (reply : Reply) (new : Machine) (name : List ℕ)
       → step_of m seat event.Leave clock ≡ Ok (reply, new) → live_at new seat name ≡ None
 

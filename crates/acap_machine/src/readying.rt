@@ -1,5 +1,5 @@
 //! Events are made ready: what is said, all that is to be put in place, and room for it.
-ghost use Rattle.std.specs.Prelude.{◌≡◌, ◌≤◌, false, IfOk, IsOk, IsSome};
+ghost use Rattle.std.specs.Prelude.{◌≡◌, ◌≤◌, false, true, IfOk, IsOk, IsSome};
 ghost use Rattle.acap_commands.specs.declared.event.Event.TheVariants as events;
 ghost use Rattle.acap_machine.specs.Machine.{user_at};
 ghost use Rattle.acap_machine.specs.Readied.{IsReadyFor, IsWork};
@@ -31,6 +31,7 @@ impl State {
         ensures count { steps.old ≤ steps.new }
         ensures work { is_search event.now ≡ false
             → IsWork result steps.old steps.new (work_of self.old.machine seat event.now clock) }
+        ensures search { is_search event.now ≡ true → IfOk result (λ r. r.work ≡ 0) }
     {
         if let Event::Leave = event {
             return self.ready_leave(seat, clock);
@@ -54,6 +55,7 @@ impl State {
         ensures count { steps.old ≤ steps.new }
         ensures work { is_search event ≡ false
             → IsWork result steps.old steps.new (work_of self.old.machine seat event clock) }
+        ensures search { is_search event ≡ true → IfOk result (λ r. r.work ≡ 0) }
     {
         match event {
             Event::Enter(user) => self.ready_enter(seat, user, clock),
@@ -115,6 +117,7 @@ impl State {
         ensures count { steps.old ≤ steps.new }
         ensures work { searches command ≡ false
             → IsWork result steps.old steps.new (work_of self.old.machine seat (events.Command command) clock) }
+        ensures search { searches command ≡ true → IfOk result (λ r. r.work ≡ 0) }
     {
         match command {
             Command::Noop => self.ready_words(seat, Said::Done(Verb::Noop)),

@@ -1,5 +1,5 @@
 //! The machine in memory.
-ghost use Rattle.std.specs.Prelude.{◌≡◌, ◌≤◌, ◌+◌, false, IfOk, IfErr, OnErr, IsOk, IsSome, Ok, Err};
+ghost use Rattle.std.specs.Prelude.{◌≡◌, ◌≤◌, ◌+◌, false, true, IfOk, IfErr, OnErr, OnOk, IsOk, IsSome, Ok, Err};
 ghost use Rattle.acap_machine.specs.Changing.{IsKept};
 ghost use Rattle.acap_machine.specs.Machine.{new_machine, user_at};
 ghost use Rattle.acap_views.specs.Laws.{CurrentLaw};
@@ -65,7 +65,8 @@ impl State {
 
     /// The empty machine of a realm: an empty store, and nobody in any seat. Takes no memory.
     pub fn new(alloc: Global, realm: Realm) -> State
-        ensures { result.machine ≡ new_machine realm }
+        ensures machine { result.machine ≡ new_machine realm }
+        ensures work { result.work ≡ 0 }
     {
         sound_law();
         current_law();
@@ -110,7 +111,8 @@ impl State {
 
     /// An equal machine. Fails only for want of memory.
     pub fn copy(&self) -> Result<State, Memory>
-        ensures { IfOk result (λ made. made.machine ≡ self.now.machine) }
+        ensures machine { IfOk result (λ made. made.machine ≡ self.now.machine) }
+        ensures work { IfOk result (λ made. made.work ≡ self.now.work) }
     {
         let realm = self.realm.copy()?;
         let tree = self.tree.copy()?;
@@ -142,6 +144,9 @@ impl State {
         ensures count { steps.old ≤ steps.new }
         ensures work { is_search event ≡ false
             → steps.new ≤ steps.old + work_of self.old.machine seat event clock }
+        ensures rise { is_search event ≡ false → OnOk result (steps.new ≡ steps.old + self.new.work) }
+        ensures search { is_search event ≡ true → OnOk result (self.new.work ≡ 0) }
+        ensures last { OnErr result (self.new.work ≡ self.old.work) }
     {
         let ready = self.ready_by(seat, event, clock, steps)?;
         Ok(self.apply(ready))

@@ -1,5 +1,5 @@
 -- What is told of a context is what waits for it.
-use Rattle.std.proofs.Common.{◌≡◌, ℕ, ℤ, Bool, true, false, cond, ◌||◌, Option, Some, None, List, [], ◌∷◌, ◌++◌, refl, sym, ◌∙◌, ap, subst, flat_map, append_assoc, append-nil, map as each}
+use Rattle.std.proofs.Common.{◌≡◌, ◌⊎◌, inl, inr, ℕ, ℤ, Bool, true, false, cond, ◌||◌, Option, Some, None, List, [], ◌∷◌, ◌++◌, refl, sym, ◌∙◌, ap, subst, flat_map, append_assoc, append-nil, map as each}
 use Rattle.std.specs.Cmp.{first_so, second_so}
 use Rattle.std.specs.Cmp.Lexicographic.{nat_list_cmp_total, texts_ties}
 use Rattle.std.specs.FinMap as table
@@ -10,7 +10,7 @@ use Rattle.std.specs.declared.cmp.Ordering.{Ordering}
 use Rattle.std.specs.declared.cmp.Ordering.TheVariants.{Less, Equal, Greater}
 use Rattle.acap_entries.specs.Orders.{octets_cmp, octets_eq}
 use Rattle.acap_moves.specs.Hits.{is_among}
-use Rattle.acap_moves.proofs.Splits.{same_name}
+use Rattle.acap_moves.proofs.Splits.{itself, same_name}
 use Rattle.acap_notices.specs.Holding.{holding, holding_after_all}
 use Rattle.acap_notices.specs.declared.notice.Notice.{Notice}
 use Rattle.acap_notices.specs.declared.told.Told.{Told}
@@ -95,6 +95,112 @@ all_names (other ∷ names) contexts name last =
     ∙ ((λ i. one_name contexts name other last i ++ (all_names names (after_update contexts other last) name last ∙ ap (λ ns. cond (is_among name names) ns []) (left_pending contexts name other last)) i)
     ∙ joined (octets_eq name other) (is_among name names) (pending_of (table.get contexts other)) (pending_of (table.get contexts name)) (λ t. ap (λ q. pending_of (table.get contexts q)) (sym (same_name name other t))))
 
+-- ---- each MODTIME
+
+-- where a list stands in two joined ones that is followed by something
+pub record Within (xs front back : List Told) (u : Told) : Type 0 where
+  rest : List Told
+  is : xs ≡ front ++ u ∷ rest
+
+pub record Behind (xs ys front back : List Told) (u : Told) : Type 0 where
+  more : List Told
+  front_is : front ≡ xs ++ more
+  is : ys ≡ more ++ u ∷ back
+
+split_told : (xs ys front back : List Told) (u : Told) → xs ++ ys ≡ front ++ u ∷ back → Within xs front back u ⊎ Behind xs ys front back u
+split_told [] ys front back u e = inr (record { more = front; front_is = refl; is = e })
+split_told (x ∷ xs) ys [] back u e = let head : x ≡ u = cc in inl (record { rest = xs; is = ap (λ t. t ∷ xs) head })
+split_told (x ∷ xs) ys (f ∷ front) back u e =
+    let head : x ≡ f = cc in
+    let tail : xs ++ ys ≡ front ++ u ∷ back = cc in
+    elim (split_told xs ys front back u tail) as (λ _. Within (x ∷ xs) (f ∷ front) back u ⊎ Behind (x ∷ xs) ys (f ∷ front) back u) [
+      | inl k ↦ inl (record { rest = k.rest; is = (λ i. head i ∷ k.is i) })
+      | inr k ↦ inr (record { more = k.more; front_is = (λ i. sym head i ∷ k.front_is i); is = k.is })
+    ]
+
+-- among notices is none
+no_modtime : (other name : List ℕ) (moment : ℤ) (pending : List Notice) (front back : List Told) → each (told.Note other) pending ≡ front ++ told.Upto name moment ∷ back → ⊥
+no_modtime other name moment [] [] back e = absurd cc
+no_modtime other name moment [] (f ∷ front) back e = absurd cc
+no_modtime other name moment (n ∷ pending) [] back e = absurd cc
+no_modtime other name moment (n ∷ pending) (f ∷ front) back e = let tail : each (told.Note other) pending ≡ front ++ told.Upto name moment ∷ back = cc in no_modtime other name moment pending front back tail
+
+kept_no_modtime : (other name : List ℕ) (moment : ℤ) (kept : Kept) (front back : List Told) → notes_of other kept ≡ front ++ told.Upto name moment ∷ back → ⊥
+kept_no_modtime other name moment (Snapshot shown) [] back e = absurd cc
+kept_no_modtime other name moment (Snapshot shown) (f ∷ front) back e = absurd cc
+kept_no_modtime other name moment (Live shown now pending) front back e = no_modtime other name moment pending front back e
+kept_no_modtime other name moment Freed [] back e = absurd cc
+kept_no_modtime other name moment Freed (f ∷ front) back e = absurd cc
+
+found_no_modtime : (other name : List ℕ) (moment : ℤ) (found : Option Context) (front back : List Told) → option_map_or (λ (c : Context). notes_of other c.kept) found [] ≡ front ++ told.Upto name moment ∷ back → ⊥
+found_no_modtime other name moment None [] back e = absurd cc
+found_no_modtime other name moment None (f ∷ front) back e = absurd cc
+found_no_modtime other name moment (Some c) front back e = kept_no_modtime other name moment c.kept front back e
+
+-- one MODTIME alone
+the_modtime : (other name : List ℕ) (last moment : ℤ) (more back : List Told) → told.Upto other last ∷ [] ≡ more ++ told.Upto name moment ∷ back → (more ≡ []) × (other ≡ name)
+the_modtime other name last moment [] back e = let head : told.Upto other last ≡ told.Upto name moment = cc in let name_is : other ≡ name = cc in (refl, name_is)
+the_modtime other name last moment (m ∷ []) back e = absurd cc
+the_modtime other name last moment (m ∷ (k ∷ more)) back e = absurd cc
+
+-- the first one of a name is behind all that waits
+first_modtime : (contexts : Contexts) (other name : List ℕ) (last moment : ℤ) (front back : List Told) → told_by_name contexts other last ≡ front ++ told.Upto name moment ∷ back
+    → notices_for name front ≡ pending_of (table.get contexts name)
+first_modtime contexts other name last moment front back e =
+    let notes = option_map_or (λ (c : Context). notes_of other c.kept) (table.get contexts other) [] in
+    elim (split_told notes (told.Upto other last ∷ []) front back (told.Upto name moment) e) as (λ _. notices_for name front ≡ pending_of (table.get contexts name)) [
+      | inl k ↦ absurd (found_no_modtime other name moment (table.get contexts other) front k.rest k.is)
+      | inr k ↦
+          let at = the_modtime other name last moment k.more back k.is in
+          ap (notices_for name) (k.front_is ∙ ap (λ ts. notes ++ ts) at.0 ∙ append-nil notes)
+          ∙ found_notes name other (table.get contexts other)
+          ∙ ap (λ q. cond (octets_eq name q) (pending_of (table.get contexts q)) []) at.1
+          ∙ ap (λ b. cond b (pending_of (table.get contexts name)) []) (itself name name refl)
+    ]
+
+either_told : (b : Bool) (first other : List Notice) → (b ≡ true → first ≡ other) → cond b first [] ++ cond b [] other ≡ other
+either_told true first other h = append-nil first ∙ h refl
+either_told false first other h = refl
+
+modtimes : (names : List (List ℕ)) (contexts : Contexts) (name : List ℕ) (last : ℤ) (front back : List Told) (moment : ℤ) → told_in_turn contexts names last ≡ front ++ told.Upto name moment ∷ back
+    → notices_for name front ≡ pending_of (table.get contexts name)
+modtimes [] contexts name last [] back moment e = absurd cc
+modtimes [] contexts name last (f ∷ front) back moment e = absurd cc
+modtimes (other ∷ names) contexts name last front back moment e =
+    elim (split_told (told_by_name contexts other last) (told_in_turn (after_update contexts other last) names last) front back (told.Upto name moment) e) as (λ _. notices_for name front ≡ pending_of (table.get contexts name)) [
+      | inl k ↦ first_modtime contexts other name last moment front k.rest k.is
+      | inr k ↦
+          ap (notices_for name) k.front_is
+          ∙ both_for name (told_by_name contexts other last) k.more
+          ∙ (λ i. one_name contexts name other last i ++ (modtimes names (after_update contexts other last) name last k.more back moment k.is ∙ left_pending contexts name other last) i)
+          ∙ either_told (octets_eq name other) (pending_of (table.get contexts other)) (pending_of (table.get contexts name)) (λ t. ap (λ q. pending_of (table.get contexts q)) (sym (same_name name other t)))
+    ]
+
+named_first : (contexts : Contexts) (other name : List ℕ) (last moment : ℤ) (front back : List Told)
+    → told_by_name contexts other last ≡ front ++ told.Upto name moment ∷ back → other ≡ name
+named_first contexts other name last moment front back e =
+    let notes = option_map_or (λ (c : Context). notes_of other c.kept) (table.get contexts other) [] in
+    elim (split_told notes (told.Upto other last ∷ []) front back (told.Upto name moment) e) as (λ _. other ≡ name) [
+      | inl k ↦ absurd (found_no_modtime other name moment (table.get contexts other) front k.rest k.is)
+      | inr k ↦ (the_modtime other name last moment k.more back k.is).1
+    ]
+
+or_true : (b : Bool) → (b || true) ≡ true
+or_true true = refl
+or_true false = refl
+
+-- each is of a name that was said
+named : (names : List (List ℕ)) (contexts : Contexts) (name : List ℕ) (last : ℤ) (front back : List Told) (moment : ℤ)
+    → told_in_turn contexts names last ≡ front ++ told.Upto name moment ∷ back → is_among name names ≡ true
+unfolding is_among
+named [] contexts name last [] back moment e = absurd cc
+named [] contexts name last (f ∷ front) back moment e = absurd cc
+named (other ∷ names) contexts name last front back moment e =
+    elim (split_told (told_by_name contexts other last) (told_in_turn (after_update contexts other last) names last) front back (told.Upto name moment) e) as (λ _. (octets_eq name other || is_among name names) ≡ true) [
+      | inl k ↦ ap (λ b. b || is_among name names) (itself name other (sym (named_first contexts other name last moment front k.rest k.is)))
+      | inr k ↦ ap (λ b. octets_eq name other || b) (named names (after_update contexts other last) name last k.more back moment k.is) ∙ or_true (octets_eq name other)
+    ]
+
 -- ---- drains
 
 tie : (r : Ordering) → is_eq r ≡ true → r ≡ Equal
@@ -129,6 +235,12 @@ client_law = record {
   drained = drained;
   after_update = λ store realm occupant name context shown now pending names last current e live among.
       let told = all_names names occupant.contexts name last ∙ (ap (λ b. cond b (pending_of (table.get occupant.contexts name)) []) among ∙ (ap pending_of e ∙ ap pending_in live)) in
+      ap (holding_after_all (holding context.enumerated (rows shown))) told
+      ∙ leads _ context.enumerated context.kept shown now pending live (current.each name context e).kept;
+  modtimes = λ contexts names name last front back moment e. modtimes names contexts name last front back moment e;
+  named = λ contexts names name last front back moment e. named names contexts name last front back moment e;
+  at_modtime = λ store realm occupant name context shown now pending names last front back moment current e live is.
+      let told = modtimes names occupant.contexts name last front back moment is ∙ (ap pending_of e ∙ ap pending_in live) in
       ap (holding_after_all (holding context.enumerated (rows shown))) told
       ∙ leads _ context.enumerated context.kept shown now pending live (current.each name context e).kept;
   after_drain = λ store realm occupant name context shown now pending current e live.

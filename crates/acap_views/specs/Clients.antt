@@ -1,5 +1,5 @@
 -- What the client of a context holds that applies what it is told [RFC 2244 sections 3.3 and 6.5].
-use Rattle.std.specs.Prelude.{◌≡◌, ℕ, ℤ, true, List, [], ◌∷◌, flat_map, Option, Some, if◌then◌else◌}
+use Rattle.std.specs.Prelude.{◌≡◌, ℕ, ℤ, true, List, [], ◌∷◌, ◌++◌, flat_map, Option, Some, if◌then◌else◌}
 use Rattle.std.specs.FinMap as table
 use Rattle.std.specs.Option.{option_map_or}
 use Rattle.acap_entries.specs.Orders.{octets_eq}
@@ -46,6 +46,23 @@ pub record ClientLaw : Type 0 where
   pub after_update : (store : Store) (realm : Realm) (occupant : Occupant) (name : List ℕ) (context : Context) (shown now : List Match) (pending : List Notice) (names : List (List ℕ)) (last : ℤ)
       → IsCurrentOccupant store realm occupant → table.get occupant.contexts name ≡ Some context → context.kept ≡ Live shown now pending → is_among name names ≡ true
       → holding_after_all (holding context.enumerated (rows shown)) (notices_for name (told_in_turn occupant.contexts names last))
+      ≡ Some (holding context.enumerated (rows (matches_of store.records realm occupant.user context.sought)))
+  -- and at each MODTIME of a context, which is one that was named, all that waited for it is told, so that the client which has read
+  -- as far as that holds these rows
+  pub modtimes : (contexts : Contexts) (names : List (List ℕ)) (name : List ℕ) (last : ℤ)
+      (front back : List Told) (moment : ℤ)
+      → told_in_turn contexts names last ≡ front ++ told.Upto name moment ∷ back
+      → notices_for name front ≡ pending_of (table.get contexts name)
+  pub named : (contexts : Contexts) (names : List (List ℕ)) (name : List ℕ) (last : ℤ)
+      (front back : List Told) (moment : ℤ)
+      → told_in_turn contexts names last ≡ front ++ told.Upto name moment ∷ back → is_among name names ≡ true
+  pub at_modtime : (store : Store) (realm : Realm) (occupant : Occupant) (name : List ℕ) (context : Context)
+      (shown now : List Match) (pending : List Notice) (names : List (List ℕ)) (last : ℤ)
+      (front back : List Told) (moment : ℤ)
+      → IsCurrentOccupant store realm occupant → table.get occupant.contexts name ≡ Some context
+      → context.kept ≡ Live shown now pending
+      → told_in_turn occupant.contexts names last ≡ front ++ told.Upto name moment ∷ back
+      → holding_after_all (holding context.enumerated (rows shown)) (notices_for name front)
       ≡ Some (holding context.enumerated (rows (matches_of store.records realm occupant.user context.sought)))
   pub after_drain : (store : Store) (realm : Realm) (occupant : Occupant) (name : List ℕ) (context : Context) (shown now : List Match) (pending : List Notice)
       → IsCurrentOccupant store realm occupant → table.get occupant.contexts name ≡ Some context → context.kept ≡ Live shown now pending
