@@ -1,5 +1,5 @@
 -- A history goes on by one call.
-use Rattle.std.proofs.Common.{◌≡◌, ◌<◌, ℕ, ℤ, ◌+◌, List, [], ◌∷◌, ◌++◌, length, Result, Ok, Err, IfOk, refl, ◌∙◌, sym, subst, ap, arith, length-append}
+use Rattle.std.proofs.Common.{◌≡◌, ◌<◌, ◌≤◌, ℕ, ℤ, ◌+◌, sum, slice_set, slice_index, List, [], ◌∷◌, ◌++◌, length, Result, Ok, Err, IfOk, refl, ◌∙◌, sym, subst, ap, arith, length-append}
 use Rattle.acap_commands.specs.declared.event.Event.{Event}
 use Rattle.acap_commands.specs.declared.fault.Fault.{Fault}
 use Rattle.acap_commands.specs.declared.reply.Reply.{Reply}
@@ -9,7 +9,7 @@ use Rattle.acap_locked.specs.declared.entry.Entry.{Entry}
 use Rattle.acap_locked.specs.declared.answer.Answer.{Answer}
 use Rattle.acap_locked.specs.declared.held.Held.{Held}
 use Rattle.acap_locked.specs.Calls.{IsCalled, IsServed}
-use Rattle.acap_locked.specs.Epochs.{Turns}
+use Rattle.acap_locked.specs.Epochs.{Turns, retire}
 use Rattle.acap_locked.specs.History.{IsReplay, IsKept}
 use Rattle.acap_locked.specs.Notes.{call_of, entry_of}
 use Rattle.acap_locked.specs.Shelf.{Shelf, shelf_of}
@@ -33,6 +33,8 @@ kept_push first base es old flags epoch rs total gone seat event now reply new m
     let P : List Entry → Type 0 = λ xs. IsReplay base xs new in
     record {
       legal = record {
+        earlier = k.legal.earlier;
+        before = record { replays = k.legal.before.replays; counted = k.legal.before.counted; whole = k.legal.before.whole; least = k.legal.before.least; most = k.legal.before.most };
         replays = subst P (sym all) (replay_push base es old (entry_of seat (call_of event now reply)) new k.legal.replays s);
         began = k.legal.began;
         few = omega (arith, many, l);
@@ -41,6 +43,44 @@ kept_push first base es old flags epoch rs total gone seat event now reply new m
       counted = omega (arith, many, k.counted, t);
       past = k.past;
       bound = k.bound;
+    }
+
+-- one history after another
+replay_append : (a : Machine) (xs : List Entry) (b : Machine) (ys : List Entry) (c : Machine) → IsReplay a xs b → IsReplay b ys c → IsReplay a (xs ++ ys) c
+replay_append a [] b ys c r s = subst (λ m. IsReplay m ys c) r s
+replay_append a (x ∷ xs) b ys c r s = (r.0, r.1, replay_append r.0 xs b ys c r.2 s)
+
+retire_append : (counts : List ℕ) (xs ys : List Entry) → retire counts (xs ++ ys) ≡ retire (retire counts xs) ys
+retire_append counts [] ys = refl
+retire_append counts (x ∷ xs) ys = retire_append (slice_set counts x.seat (slice_index counts x.seat + 1)) xs ys
+
+-- the book where a new epoch begins: the calls of the one that is over come after those of the epochs before
+pub kept_turn : (first base machine next : Machine) (es left : List Entry) (flags epoch : ℕ) (rs counts : List ℕ) (total gone now : ℕ)
+    → IsKept first (shelf_of machine es flags epoch base rs) total gone → 500000 ≤ length es → next ≡ machine → left ≡ []
+    → counts ≡ retire rs es → sum counts ≡ sum rs + length es → length counts ≡ 64 → now ≡ gone + length es → now ≤ 4611686018427387904
+    → IsKept first (shelf_of machine left flags (epoch + 1) next counts) total now
+kept_turn first base machine next es left flags epoch rs counts total gone now k long n e c t s g b =
+    let none : length left ≡ 0 = ap length e in
+    let p : List Entry = k.legal.earlier in
+    let all : IsReplay first (p ++ es) machine = replay_append first p base es machine k.legal.before.replays k.legal.replays in
+    record {
+      legal = record {
+        earlier = p ++ es;
+        before = record {
+          replays = subst (λ m. IsReplay first (p ++ es) m) (sym n) all;
+          counted = c ∙ (ap (λ xs. retire xs es) k.legal.before.counted ∙ sym (retire_append _ p es));
+          whole = omega (arith, length-append p es, k.legal.before.whole, t);
+          least = omega (arith, length-append p es, k.legal.before.least, long);
+          most = omega (arith, length-append p es, k.legal.before.most, k.legal.few);
+        };
+        replays = subst (λ xs. IsReplay next xs machine) (sym e) (sym n);
+        began = λ z. absurd (omega (arith, z));
+        few = omega (arith, none);
+        seats = s;
+      };
+      counted = omega (arith, k.counted, g, none);
+      past = omega (arith, k.past, g, t);
+      bound = b;
     }
 
 -- a call that is made after a new epoch may have begun

@@ -1,9 +1,9 @@
 //! The book behind a lock.
-ghost use Rattle.std.specs.Prelude.{◌≡◌, IfOk, OnErr};
+ghost use Rattle.std.specs.Prelude.{◌≡◌, ◌+◌, IfOk, OnErr, OnOk, length, sum};
 ghost use Rattle.acap_locked.specs.Calls.{Gains};
 ghost use Rattle.acap_locked.specs.Closing.{IsClosed};
 ghost use Rattle.acap_locked.specs.History.{IsLegal};
-ghost use Rattle.acap_locked.specs.Passes.{new_passes};
+ghost use Rattle.acap_locked.specs.Passes.{calls_of, new_passes};
 ghost use Rattle.acap_locked.specs.Shelf.{Shelf};
 
 use crate::answer::Answer;
@@ -65,7 +65,9 @@ impl<S: Site, L: Ledger> Served<S, L> {
 
     /// Closes the book, as `Book::close` does: its history is legal.
     pub fn close(self, passes: Vec<Pass<S>>) -> Result<Report, CloseFault>
-        ensures { (shelf : Shelf) × IsLegal S.base shelf × IsClosed passes.items shelf result }
+        ensures closed { (shelf : Shelf) × IsLegal S.base shelf × IsClosed passes.items shelf result
+            × OnOk result (calls_of passes.items ≡ sum shelf.retired + length shelf.history) }
+        ensures number { OnOk result (length passes.items ≡ 64) }
     {
         self.book.into_inner().close(passes)
     }
