@@ -1,6 +1,5 @@
 -- What the words behind the program's name ask for, what is done then, and with which status and line that ends.
 use Rattle.std.specs.Prelude.{◌≡◌, ℕ, List, [], ◌∷◌, map, string_bytes, Bool, true, false, ◌&&◌, codes, Option, Some, None, Result, Ok, Err}
-use Rattle.std.specs.Io.KnownBytes.{Appends}
 use Rattle.std.specs.declared.alloc.Global.{Global}
 use Rattle.std.specs.declared.io.ErrorKind.{ErrorKind}
 use Rattle.std.specs.declared.io.ErrorKind.TheVariants as kind
@@ -8,11 +7,14 @@ use Rattle.std.specs.declared.string.String.{String}
 use Rattle.std.specs.declared.vec.Vec.{Vec}
 use Rattle.acap_entries.specs.Names.{is_user_name}
 use Rattle.acap_entries.specs.Orders.{octets_eq}
-use Rattle.acap_session.specs.Piping.{Pipes}
-use Rattle.acap_session.specs.ScriptRun.{Runs}
+use Rattle.acap_session.specs.Piping.{PipeReads, PipeWrites, Pipes}
+use Rattle.acap_session.specs.ScriptRun.{Runs, ScriptReads, ScriptWrites}
+use Rattle.acap_session.specs.Streams.{WriterTold}
+use Rattle.acap_session.specs.declared.output.WriteFailed.{WriteFailed}
 use Rattle.acap_session.specs.declared.pipe_fault.PipeFault.{PipeFault}
 use Rattle.acap_session.specs.declared.script_fault.ScriptFault.{ScriptFault}
 use Rattle.acap_calls.specs.Faults.{line_of, of_pipe, of_script, usage}
+use Rattle.acap_calls.specs.Printing.{Prints, Streams, Writer, writer_of}
 use Rattle.acap_calls.specs.declared.call.Call.{Call}
 use Rattle.acap_calls.specs.declared.call.Call.TheVariants as call
 use Rattle.acap_calls.specs.declared.fault.Fault.{Fault}
@@ -58,47 +60,65 @@ words_of (Err why) = Err why
 
 -- ---- how it ends
 
--- with status 0 and not a word, or with status 1 and the line of a fault
-abbrev pub Ends : Option Fault → Option (List ℕ) → Option (List ℕ) → ℕ → Type 0
-Ends None told tells status = (status ≡ 0) × (tells ≡ told)
-Ends (Some f) told tells status = (status ≡ 1) × Appends told tells (line_of f)
+-- With status 0 and nothing printed, or with status 1 and the line of a fault; of which a prefix is printed
+-- where standard error fails. Nothing else is a failure.
+abbrev pub Ends : Option Fault → Writer → Writer → Result ℕ WriteFailed → Type 0
+Ends None old new (Ok status) = (status ≡ 0) × (new ≡ old)
+Ends None old new (Err failed) = ⊥
+Ends (Some f) old new result = Prints (line_of f) 1 old new result
+
+abbrev pub EndsIn : {W : Type 0} → (W → Option (List ℕ)) → (W → Option WriterTold) →
+    Option Fault → W → W → Result ℕ WriteFailed → Type 0
+EndsIn contents told f old new result =
+    Ends f (writer_of contents told old) (writer_of contents told new) result
 
 -- the fault in which something ended, if it did
 abbrev pub fault_in : {F : Type 0} → (F → Fault) → Result (Unit {0}) F → Option Fault
 fault_in of_fault (Ok done) = None
 fault_in of_fault (Err f) = Some (of_fault f)
 
--- one session of a user, or a script, and how that ended
-pub record DoesPipe (user : List ℕ) (unread left old new told tells : Option (List ℕ)) (status : ℕ) : Type 0 where
+-- one session of a user, or a script, and how that ended, also where standard error fails then
+pub record DoesPipe (user : List ℕ) (old new : Streams) (result : Result ℕ WriteFailed) : Type 0 where
   pub done : Result (Unit {0}) PipeFault
-  pub pipes : Pipes user unread left old new done
-  pub ends : Ends (fault_in of_pipe done) told tells status
+  pub pipes : Pipes user old.input.remaining new.input.remaining old.output.contents new.output.contents done
+  pub reads : PipeReads old.input.told new.input.told done
+  pub writes : PipeWrites old.output.told new.output.told done
+  pub ends : Ends (fault_in of_pipe done) old.errors new.errors result
 
-pub record DoesScript (unread left old new told tells : Option (List ℕ)) (status : ℕ) : Type 0 where
+pub record DoesScript (old new : Streams) (result : Result ℕ WriteFailed) : Type 0 where
   pub done : Result (Unit {0}) ScriptFault
-  pub runs : Runs unread left old new done
-  pub ends : Ends (fault_in of_script done) told tells status
+  pub runs : Runs old.input.remaining new.input.remaining old.output.contents new.output.contents done
+  pub reads : ScriptReads old.input.told new.input.told done
+  pub writes : ScriptWrites old.output.told new.output.told done
+  pub ends : Ends (fault_in of_script done) old.errors new.errors result
 
 -- a server that can end so, called with that file, and how it ended
 abbrev pub Server : Type 1
 Server = String Global → Result (Unit {0}) Fault → Type 0
 
-pub record DoesServe (server : Server) (file : String Global) (told tells : Option (List ℕ)) (status : ℕ) : Type 0 where
+pub record DoesServe (server : Server) (file : String Global) (old new : Writer)
+    (result : Result ℕ WriteFailed) : Type 0 where
   pub done : Result (Unit {0}) Fault
   pub served : server file done
-  pub ends : Ends (fault_in (λ f. f) done) told tells status
+  pub ends : Ends (fault_in (λ f. f) done) old new result
 
--- nothing is read or written but the line of a wrong call, or of a fault, is told
-abbrev pub Does : Server → Call → Option (List ℕ) → Option (List ℕ) → Option (List ℕ) → Option (List ℕ) → Option (List ℕ) → Option (List ℕ) → ℕ → Type 0
-Does server call.Nothing unread left old new told tells status = (left ≡ unread) × (new ≡ old) × (status ≡ 2) × Appends told tells usage
-Does server call.Script unread left old new told tells status = DoesScript unread left old new told tells status
-Does server (call.Pipe user) unread left old new told tells status = DoesPipe user unread left old new told tells status
-Does server (call.Serve file) unread left old new told tells status = (left ≡ unread) × (new ≡ old) × DoesServe server file told tells status
-Does server (call.Refused f) unread left old new told tells status = (left ≡ unread) × (new ≡ old) × Ends (Some f) told tells status
+-- nothing is read, nor written to standard output
+abbrev pub IsUntouched : Streams → Streams → Type 0
+IsUntouched old new = (new.input ≡ old.input) × (new.output ≡ old.output)
 
--- By the server and the words of a call: what it reads, `unread` before it and `left` behind it, what it writes, what it tells on
--- standard error, and its status.
-pub record Calls (server : Server) (words : Result (List (List ℕ)) ErrorKind) (unread left old new told tells : Option (List ℕ)) (status : ℕ) : Type 0 where
+-- what is asked for is done, or the line of a wrong call or of a fault is printed
+abbrev pub Does : Server → Call → Streams → Streams → Result ℕ WriteFailed → Type 0
+Does server call.Nothing old new result = IsUntouched old new × Prints usage 2 old.errors new.errors result
+Does server call.Script old new result = DoesScript old new result
+Does server (call.Pipe user) old new result = DoesPipe user old new result
+Does server (call.Serve file) old new result =
+    IsUntouched old new × DoesServe server file old.errors new.errors result
+Does server (call.Refused f) old new result = IsUntouched old new × Ends (Some f) old.errors new.errors result
+
+-- By the server and the words of a call: what it makes of the streams, and its status, or that standard error
+-- failed.
+pub record Calls (server : Server) (words : Result (List (List ℕ)) ErrorKind) (old new : Streams)
+    (result : Result ℕ WriteFailed) : Type 0 where
   pub asked : Call
   pub is : IsCallOf words asked
-  pub does : Does server asked unread left old new told tells status
+  pub does : Does server asked old new result

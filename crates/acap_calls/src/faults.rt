@@ -1,11 +1,12 @@
-//! What the program says of a fault or a wrong call.
+//! What the program prints of a fault or a wrong call.
 
-ghost use Rattle.std.specs.Io.KnownBytes.{Appends};
-ghost use Rattle.std.specs.Prelude.{◌≡◌, IfOk, OnOk};
 ghost use Rattle.acap_calls.specs.Faults.{line_of, usage};
+ghost use Rattle.acap_calls.specs.Printing.{PrintsTo, SendsTo};
+ghost use Rattle.acap_calls.specs.declared.fault.Fault.TheVariants as faults;
 
 use crate::fault::Fault;
-use std::io;
+use acap_session::{Output, WriteFailed, send_all};
+use itoa::Buffer;
 
 /// The line that a call with no or wrong arguments is answered by.
 const USAGE: &[u8] = b"usage: acapd pipe USER | script | serve FILE\n";
@@ -16,34 +17,50 @@ const USAGE_STATUS: u8 = 2;
 /// The status of a fault.
 const FAULT_STATUS: u8 = 1;
 
-/// Answers a call with no or wrong arguments: writes the usage line and nothing else, for status 2.
-pub(crate) fn refuse<W: io::Write>(out: &mut W) -> io::Result<u8>
-    ensures status { IfOk result (λ status. status ≡ 2) }
-    ensures line { OnOk result (Appends (W.contents out.old) (W.contents out.new) usage) }
+// Writes a line.
+fn write<W: Output>(out: &mut W, line: &[u8]) -> Result<(), WriteFailed>
+    ensures { SendsTo W.contents W.told line.now out.old out.new result }
 {
-    out.write_all(USAGE)?;
-    Ok(USAGE_STATUS)
+    send_all(out, line)
+}
+
+// Writes the line of a wrong line of a script.
+fn write_number<W: Output>(out: &mut W, number: u64) -> Result<(), WriteFailed>
+    ensures { SendsTo W.contents W.told (line_of (faults.Line number)) out.old out.new result }
+{
+    let mut digits = Buffer::new();
+    write(out, b"acapd: bad script line ")?;
+    write(out, digits.format(number).as_bytes())?;
+    write(out, b"\n")
 }
 
 // Writes the line of a fault.
-fn write_line<W: io::Write>(fault: Fault, out: &mut W) -> io::Result<()>
-    ensures { OnOk result (Appends (W.contents out.old) (W.contents out.new) (line_of fault)) }
+fn write_line<W: Output>(fault: Fault, out: &mut W) -> Result<(), WriteFailed>
+    ensures { SendsTo W.contents W.told (line_of fault) out.old out.new result }
 {
     match fault {
-        Fault::Read => out.write_all(b"acapd: cannot read\n"),
-        Fault::Write => out.write_all(b"acapd: cannot write\n"),
-        Fault::Memory => out.write_all(b"acapd: no memory\n"),
-        Fault::Line(number) => write!(out, "acapd: bad script line {number}\n"),
-        Fault::Settings => out.write_all(b"acapd: bad settings\n"),
-        Fault::Listen => out.write_all(b"acapd: cannot listen\n"),
-        Fault::Unequal => out.write_all(b"acapd: history unequal\n"),
+        Fault::Read => write(out, b"acapd: cannot read\n"),
+        Fault::Write => write(out, b"acapd: cannot write\n"),
+        Fault::Memory => write(out, b"acapd: no memory\n"),
+        Fault::Line(number) => write_number(out, number),
+        Fault::Settings => write(out, b"acapd: bad settings\n"),
+        Fault::Listen => write(out, b"acapd: cannot listen\n"),
+        Fault::Unequal => write(out, b"acapd: history unequal\n"),
     }
 }
 
-/// Tells a fault: writes its line and nothing else, for status 1.
-pub(crate) fn tell<W: io::Write>(fault: Fault, out: &mut W) -> io::Result<u8>
-    ensures status { IfOk result (λ status. status ≡ 1) }
-    ensures line { OnOk result (Appends (W.contents out.old) (W.contents out.new) (line_of fault)) }
+/// Answers a call with no or wrong arguments: prints the usage line and nothing else, for status 2. Fails only
+/// where the writer fails.
+pub(crate) fn refuse<W: Output>(out: &mut W) -> Result<u8, WriteFailed>
+    ensures { PrintsTo W.contents W.told usage 2 out.old out.new result }
+{
+    write(out, USAGE)?;
+    Ok(USAGE_STATUS)
+}
+
+/// Reports a fault: prints its line and nothing else, for status 1. Fails only where the writer fails.
+pub(crate) fn report<W: Output>(fault: Fault, out: &mut W) -> Result<u8, WriteFailed>
+    ensures { PrintsTo W.contents W.told (line_of fault) 1 out.old out.new result }
 {
     write_line(fault, out)?;
     Ok(FAULT_STATUS)

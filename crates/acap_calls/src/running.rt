@@ -1,59 +1,61 @@
 //! A call of the program, from its words to its status.
 
-ghost use Rattle.std.specs.Prelude.{IfOk};
-ghost use Rattle.acap_calls.specs.Calls.{Calls, DoesServe, Ends, fault_in, words_of};
+ghost use Rattle.acap_calls.specs.Calls.{Calls, DoesServe, EndsIn, fault_in, words_of};
 ghost use Rattle.acap_calls.specs.Faults.{of_pipe, of_script};
+ghost use Rattle.acap_calls.specs.Printing.{reader_of, streams, writer_of};
 
 use crate::call::Call;
 use crate::calls::read_call;
 use crate::fault::Fault;
-use crate::faults::{refuse, tell};
+use crate::faults::{refuse, report};
 use acap_entries::Steps;
-use acap_session::{PipeFault, ScriptFault, run_pipe, run_script};
+use acap_session::{Input, Output, PipeFault, ScriptFault, WriteFailed, run_pipe, run_script};
 use std::alloc::Global;
-use std::io::{self, ErrorKind, Read, Write};
+use std::io::ErrorKind;
 use std::sync::ledger::Ledger;
 
 /// The status of a normal end.
 const DONE: u8 = 0;
 
 // How a session of a user ended.
-fn end_pipe<E: Write>(done: Result<(), PipeFault>, errors: &mut E) -> io::Result<u8>
-    ensures { IfOk result (Ends (fault_in of_pipe done) (E.contents errors.old) (E.contents errors.new)) }
+fn end_pipe<E: Output>(done: Result<(), PipeFault>, errors: &mut E) -> Result<u8, WriteFailed>
+    ensures { EndsIn E.contents E.told (fault_in of_pipe done) errors.old errors.new result }
 {
     match done {
         Ok(()) => Ok(DONE),
-        Err(fault) => tell(Fault::from(fault), errors),
+        Err(fault) => report(Fault::from(fault), errors),
     }
 }
 
 // How a script ended.
-fn end_script<E: Write>(done: Result<(), ScriptFault>, errors: &mut E) -> io::Result<u8>
-    ensures { IfOk result (Ends (fault_in of_script done) (E.contents errors.old) (E.contents errors.new)) }
+fn end_script<E: Output>(done: Result<(), ScriptFault>, errors: &mut E) -> Result<u8, WriteFailed>
+    ensures { EndsIn E.contents E.told (fault_in of_script done) errors.old errors.new result }
 {
     match done {
         Ok(()) => Ok(DONE),
-        Err(fault) => tell(Fault::from(fault), errors),
+        Err(fault) => report(Fault::from(fault), errors),
     }
 }
 
 // A server.
-fn serve<V, E: Write>(serve: V, file: String, errors: &mut E) -> io::Result<u8>
+fn serve<V, E: Output>(serve: V, file: String, errors: &mut E) -> Result<u8, WriteFailed>
 where
     V: FnOnce(String) -> Result<(), Fault>,
     requires { V.pre serve file }
-    ensures { IfOk result (DoesServe (V.post serve) file (E.contents errors.old) (E.contents errors.new)) }
+    ensures { DoesServe (V.post serve) file (writer_of E.contents E.told errors.old)
+        (writer_of E.contents E.told errors.new) result }
 {
     match serve(file) {
         Ok(()) => Ok(DONE),
-        Err(fault) => tell(fault, errors),
+        Err(fault) => report(fault, errors),
     }
 }
 
-/// Does what the words behind the program's name ask for, and gives the status with which the call ends: 0, or 1 where a
-/// fault is told, or 2 where the words are no call, or can't be read. Fails where that can't be told. A server is what is
-/// lent: it is called with the name of its settings file. Each entry that a search looks at counts as a step.
-pub fn run_call<R: Read, W: Write, E: Write, L: Ledger, V>(
+/// Does what the words after the program's name ask for, and gives the status with which the call ends: 0, or 1
+/// where a fault is reported, or 2 where the words are no call, or can't be read. Fails only where standard error
+/// fails, when all else was done. A server is what is lent: it is called with the name of its settings file. Each
+/// entry that a search looks at counts as a step.
+pub fn run_call<R: Input, W: Output, E: Output, L: Ledger, V>(
     alloc: Global,
     words: &Result<Vec<String>, ErrorKind>,
     reader: &mut R,
@@ -61,17 +63,20 @@ pub fn run_call<R: Read, W: Write, E: Write, L: Ledger, V>(
     errors: &mut E,
     steps: &mut Steps<L>,
     server: V,
-) -> io::Result<u8>
+) -> Result<u8, WriteFailed>
 where
     V: FnOnce(String) -> Result<(), Fault>,
     requires { (file : _) → V.pre server file }
-    ensures { IfOk result (λ status. Calls (V.post server) (words_of words.now)
-        (R.remaining reader.old) (R.remaining reader.new) (W.contents writer.old) (W.contents writer.new)
-        (E.contents errors.old) (E.contents errors.new) status) }
+    ensures { Calls (V.post server) (words_of words.now)
+        (streams (reader_of R.remaining R.told reader.old) (writer_of W.contents W.told writer.old)
+        (writer_of E.contents E.told errors.old))
+        (streams (reader_of R.remaining R.told reader.new) (writer_of W.contents W.told writer.new)
+        (writer_of E.contents E.told errors.new))
+        result }
 {
     match read_call(alloc, words) {
         Call::Nothing => refuse(errors),
-        Call::Refused(fault) => tell(fault, errors),
+        Call::Refused(fault) => report(fault, errors),
         Call::Pipe(user) => end_pipe(run_pipe(alloc, reader, writer, user, steps), errors),
         Call::Script => end_script(run_script(alloc, reader, writer, steps), errors),
         Call::Serve(file) => serve(server, file, errors),

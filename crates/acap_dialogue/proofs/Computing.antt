@@ -44,6 +44,7 @@ answer_examples = record {
   login_history_full = refl;
   login_seat = refl;
   drained = refl;
+  drain_seat = refl;
 }
 
 pub hearing_examples : HearingExamples

@@ -270,7 +270,10 @@ entry_seat user name seated (Err f) u = refl
 
 drained_seat : (user : Option (List ℕ)) (seated : Bool) (o : Result Reply Fault) → has_seat_at stage.Draining user ≡ seated → Answers event.Drain seated stage.Draining user o
 drained_seat user seated (Ok reply) h = ready_seat user ∙ sym (draining_seat user) ∙ h
-drained_seat user seated (Err f) h = ready_seat user ∙ sym (draining_seat user) ∙ h
+drained_seat user seated (Err fault.Memory) h = ready_seat user ∙ sym (draining_seat user) ∙ h
+drained_seat user seated (Err fault.HistoryFull) h = ready_seat user ∙ sym (draining_seat user) ∙ h
+drained_seat user seated (Err fault.NotEntered) h = refl
+drained_seat user seated (Err fault.AlreadyEntered) h = refl
 
 answers_by : (e : Event) (seated : Bool) (s : Stage) (user : Option (List ℕ)) (o : Result Reply Fault) → has_seat_at s user ≡ seated → AskedAt e user s → Answers e seated s user o
 answers_by e seated stage.Entering user o h (name, e_is, u) = subst (λ k. Answers k seated stage.Entering user o) (sym e_is) (entry_seat user name seated o u)

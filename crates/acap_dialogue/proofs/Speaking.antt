@@ -196,7 +196,10 @@ says_at (stage.LoggingIn tag user) (Err fault.NotEntered) e = refl
 says_at (stage.LoggingIn tag user) (Err fault.AlreadyEntered) e = refl
 says_at (stage.LoggingIn tag user) (Err fault.HistoryFull) e = refl
 says_at stage.Draining (Ok reply) e = refl
-says_at stage.Draining (Err f) e = refl
+says_at stage.Draining (Err fault.Memory) e = refl
+says_at stage.Draining (Err fault.NotEntered) e = refl
+says_at stage.Draining (Err fault.AlreadyEntered) e = refl
+says_at stage.Draining (Err fault.HistoryFull) e = refl
 says_at stage.Closed o e = cc
 
 -- ---- where nothing is next, nothing has changed

@@ -70,8 +70,10 @@ pub record AnswerExamples : Type 0 where
   pub login_no_memory : after_answer (talking None logging []) (Err fault.Memory) ≡ then_says None (codes "A1 NO (TRYLATER) \"No memory\"")
   pub login_history_full : after_answer (talking None logging []) (Err fault.HistoryFull) ≡ then_says None (codes "A1 NO (TRYLATER) \"History is full\"")
   pub login_seat : map (λ f. after_answer (talking None logging []) (Err f)) (fault.NotEntered ∷ fault.AlreadyEntered ∷ []) ≡ replicate 2 (then_ends None [])
-  -- a drain that is refused says nothing
-  pub drained : map (after_answer (talking joe stage.Draining [])) (Ok (plain (said.Drained [])) ∷ Err fault.Memory ∷ Err fault.NotEntered ∷ []) ≡ replicate 3 (next.Say [], talking joe stage.Ready [])
+  -- a drain that is refused says nothing, and where the seat isn't the session's own it ends
+  pub drained : map (after_answer (talking joe stage.Draining [])) (Ok (plain (said.Drained [])) ∷ Err fault.Memory ∷ Err fault.HistoryFull ∷ [])
+      ≡ replicate 3 (next.Say [], talking joe stage.Ready [])
+  pub drain_seat : map (λ f. after_answer (talking joe stage.Draining []) (Err f)) (fault.NotEntered ∷ fault.AlreadyEntered ∷ []) ≡ replicate 2 (then_ends joe [])
 
 -- ---- what is said to an answer of the lexer
 

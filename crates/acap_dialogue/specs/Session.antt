@@ -84,10 +84,14 @@ abbrev pub login_user : List ℕ → Option (List ℕ) → Result Reply Fault �
 login_user name user (Ok reply) = Some name
 login_user name user (Err fault) = user
 
--- that of a drain is said as it is; a drain that is refused says nothing
+-- that of a drain is said as it is; one that is refused memory, or that a full history refuses, says nothing, and a
+-- session whose seat isn't its own is closed without a word
 abbrev pub drain_said : Result Reply Fault → Next × Stage
 drain_said (Ok reply) = says None reply.said
-drain_said (Err fault) = (next.Say [], stage.Ready)
+drain_said (Err fault.Memory) = (next.Say [], stage.Ready)
+drain_said (Err fault.HistoryFull) = (next.Say [], stage.Ready)
+drain_said (Err fault.NotEntered) = (next.Close [], stage.Closed)
+drain_said (Err fault.AlreadyEntered) = (next.Close [], stage.Closed)
 
 -- by what the session had asked: what is said, and who its user is then
 abbrev pub answer_said : Stage → Result Reply Fault → Next × Stage

@@ -87,7 +87,7 @@ fn log_in(
     }
 }
 
-// What is pending is said as it is, and nothing where it was refused.
+// What is pending is said as it is, and nothing where it was refused; a session whose seat isn't its own is closed.
 fn say_pending(
     outcome: Result<Reply, Fault>,
     stage: &mut Stage,
@@ -98,9 +98,13 @@ fn say_pending(
 {
     match outcome {
         Ok(reply) => says(None, &reply.said, stage, out),
-        Err(_) => {
+        Err(Fault::Memory) | Err(Fault::HistoryFull) => {
             *stage = Stage::Ready;
             Ok(Heard::Said)
+        }
+        Err(Fault::NotEntered) | Err(Fault::AlreadyEntered) => {
+            *stage = Stage::Closed;
+            Ok(Heard::Closes)
         }
     }
 }

@@ -275,8 +275,9 @@ impl Session {
         }
     }
 
-    /// What is pending is awaited no longer.
+    /// What is pending is awaited no longer, where it was.
     pub fn end_drain(&mut self)
+        requires { self.old.stage ≡ stages.Draining }
         ensures { self.new ≡ record self.old { stage = stages.Ready } }
     {
         self.stage = Stage::Ready;

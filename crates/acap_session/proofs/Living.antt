@@ -5,10 +5,13 @@ use Rattle.std.specs.List.{list_all}
 use Rattle.std.specs.Option.{option_and_then}
 use Rattle.std.proofs.lemmas.Bool.{and_parts, eqb-true, eqb-false}
 use Rattle.acap_commands.specs.declared.command.Command.{Command}
+use Rattle.acap_commands.specs.declared.command.Command.TheVariants as command
 use Rattle.acap_commands.specs.declared.event.Event.{Event}
 use Rattle.acap_commands.specs.declared.event.Event.TheVariants as event
 use Rattle.acap_commands.specs.declared.fault.Fault.{Fault}
 use Rattle.acap_commands.specs.declared.reply.Reply.{Reply}
+use Rattle.acap_commands.specs.declared.said.Said.{Said}
+use Rattle.acap_commands.specs.declared.said.Said.TheVariants as said
 use Rattle.acap_dialogue.specs.Saying.{heard_of}
 use Rattle.acap_dialogue.specs.Session.{after_answer, has_seat, session_next, session_drain}
 use Rattle.acap_dialogue.specs.Talking.{Talking, beginning}
@@ -20,14 +23,21 @@ use Rattle.acap_entries.specs.Names.{is_user_name}
 use Rattle.acap_grammar.specs.Grammar.{command_of}
 use Rattle.acap_lexer.specs.Token.{Token}
 use Rattle.acap_login.specs.Login.{User}
-use Rattle.acap_machine.specs.Client.{Client, View, IsFresh, live_at, with_rows, IsHeld, HeldLaw, SeenLaw}
+use Rattle.acap_machine.specs.Client.{Client, View, IsFresh, client_after_tolds, live_at, with_rows, IsHeld, HeldLaw, SeenLaw}
 use Rattle.acap_machine.specs.Following.{is_named, IsCurrentMachine, CurrentLaw}
 use Rattle.acap_machine.specs.Machine.{Machine}
 use Rattle.acap_machine.specs.Runs.{outcome_of, machine_after}
 use Rattle.acap_machine.specs.Stepping.{step_of}
+use Rattle.acap_notices.specs.Holding.{holding, holding_after_all}
+use Rattle.acap_notices.specs.declared.notice.Notice.{Notice}
+use Rattle.acap_notices.specs.declared.told.Told.{Told}
+use Rattle.acap_notices.specs.declared.told.Told.TheVariants as told_as
+use Rattle.acap_search.specs.Matches.{Match}
+use Rattle.acap_views.specs.Contexts.{Kept, Live}
+use Rattle.acap_views.specs.Current.{IsCurrentKept, rows}
 use Rattle.acap_session.specs.Laws.{asked_by}
 use Rattle.acap_dialogue.specs.Running.{event_in}
-use Rattle.acap_session.specs.Live.{asked_in, told_with, told_in, client_told, whole_told, told_all, tells_in, client_in, whole_in, is_named_deed, are_named, Telling, IsTelling, start, all_steps, after, client, LiveLaw}
+use Rattle.acap_session.specs.Live.{asked_in, told_with, told_in, client_told, whole_told, told_all, tells_in, client_in, whole_in, is_named_deed, are_named, Telling, IsReading, IsTelling, start, all_steps, after, client, client_amid, LiveLaw}
 use Rattle.acap_session.specs.Places.{Place, place_at}
 use Rattle.acap_session.specs.Turning.{Scene, scene, event_outcome, left_at, left_by, turn_by, turn_of, drain_of}
 use Rattle.acap_session.specs.World as world
@@ -91,6 +101,15 @@ apart seat other e =
       | true ↦ λ t. absurd (eqb-false other seat e (sym (eqb-true seat other t)))
       | false ↦ λ t. refl
     ] refl
+
+-- what was asked, and what was answered, where something was
+abbrev event_told : Event → Option (Event × Said) → Event
+event_told other None = other
+event_told other (Some told) = told.0
+
+abbrev words_told : Said → Option (Event × Said) → Said
+words_told other None = other
+words_told other (Some told) = told.1
 
 -- ---- the machine stays current, and the client of each context holds what it was told
 
@@ -160,18 +179,40 @@ module _ (current : CurrentLaw) (law : HeldLaw) where
         let stepped = ap (λ k. step_of m k e o.clock) at in
         after_told m e o.clock (step_of m o.seat e o.clock) x (sym stepped) is t l
 
-    left_told : (m : Machine) (o : Occasion) (r : Result (Reply × Machine) Fault) (x : View) → o.seat ≡ seat → step_of m o.seat event.Leave o.clock ≡ r
-        → (live_at m seat name ≡ Some x → IsFresh m seat x)
-        → live_at (machine_after m r) seat name ≡ Some x → IsFresh (machine_after m r) seat x
-    left_told m o (Ok stepped) x at f h l =
+    -- what is so where the context is live is so too where the session leaves then, which has no context
+    left_told : (Holds : Machine → Type 0) (m : Machine) (o : Occasion) (r : Result (Reply × Machine) Fault) (x : View) → o.seat ≡ seat → step_of m o.seat event.Leave o.clock ≡ r
+        → (live_at m seat name ≡ Some x → Holds m)
+        → live_at (machine_after m r) seat name ≡ Some x → Holds (machine_after m r)
+    left_told Holds m o (Ok stepped) x at f h l =
         let none = law.left m seat o.clock stepped.0 stepped.1 name (ap (λ k. step_of m k event.Leave o.clock) (sym at) ∙ f) in
         absurd (let n : None ≡ Some x = sym none ∙ l in cc)
-    left_told m o (Err fault) x at f h l = h l
+    left_told Holds m o (Err fault) x at f h l = h l
 
-    behind_told : (m : Machine) (o : Occasion) (left : Bool) (x : View) → o.seat ≡ seat → (live_at m seat name ≡ Some x → IsFresh m seat x)
-        → live_at (left_by left o m) seat name ≡ Some x → IsFresh (left_by left o m) seat x
-    behind_told m o true x at h l = left_told m o (step_of m o.seat event.Leave o.clock) x at refl h l
-    behind_told m o false x at h l = h l
+    behind_told : (Holds : Machine → Type 0) (m : Machine) (o : Occasion) (left : Bool) (x : View) → o.seat ≡ seat → (live_at m seat name ≡ Some x → Holds m)
+        → live_at (left_by left o m) seat name ≡ Some x → Holds (left_by left o m)
+    behind_told Holds m o true x at h l = left_told Holds m o (step_of m o.seat event.Leave o.clock) x at refl h l
+    behind_told Holds m o false x at h l = h l
+
+    -- a client that has read as far as a MODTIME
+    after_modtime : (m : Machine) (e : Event) (clock : ℤ) (r : Result (Reply × Machine) Fault) (names : List (List ℕ)) (whole : Bool) (held : Client) (read unread : List Told) (moment : ℤ) (x : View)
+        → step_of m seat e clock ≡ r → IsCurrentMachine m → IsHeld (live_at m seat name) whole held → whole ≡ true
+        → told_with e (outcome_of r) ≡ Some (event.Command (command.UpdateContext names), said.Updated (read ++ told_as.Upto name moment ∷ unread))
+        → live_at (machine_after m r) seat name ≡ Some x → (client_after_tolds name read held ≡ with_rows x) × IsFresh (machine_after m r) seat x
+    after_modtime m e clock (Ok stepped) names whole held read unread moment x f is h w t l =
+        let asked = ap (event_told e) t in
+        let words = ap (words_told stepped.0.said) t in
+        law.modtimes m seat names clock stepped.0 stepped.1 name whole held read unread moment (ap (λ k. step_of m seat k clock) (sym asked) ∙ f) is h words x l w
+    after_modtime m e clock (Err fault) names whole held read unread moment x f is h w t l = absurd cc
+
+    by_modtime : (m : Machine) (o : Occasion) (refused : Bool) (asked : Option Event) (names : List (List ℕ)) (whole : Bool) (held : Client) (read unread : List Told) (moment : ℤ) (x : View)
+        → o.seat ≡ seat → IsCurrentMachine m → IsHeld (live_at m seat name) whole held → whole ≡ true
+        → option_and_then (λ e. option_and_then (told_with e) (option_map (λ e. outcome_of (event_outcome refused m o e)) asked)) asked
+        ≡ Some (event.Command (command.UpdateContext names), said.Updated (read ++ told_as.Upto name moment ∷ unread))
+        → live_at (machine_by asked o refused m) seat name ≡ Some x → (client_after_tolds name read held ≡ with_rows x) × IsFresh (machine_by asked o refused m) seat x
+    by_modtime m o refused None names whole held read unread moment x at is h w t l = absurd cc
+    by_modtime m o true (Some e) names whole held read unread moment x at is h w t l = absurd cc
+    by_modtime m o false (Some e) names whole held read unread moment x at is h w t l =
+        after_modtime m e o.clock (step_of m o.seat e o.clock) names whole held read unread moment x (sym (ap (λ k. step_of m k e o.clock) at)) is h w t l
 
     -- ---- one step, and all
 
@@ -193,7 +234,19 @@ module _ (current : CurrentLaw) (law : HeldLaw) where
         let at = eqb-true x.occasion.seat seat both.0 in
         let asked = asked_in w x in
         subst (λ (n : Machine). live_at n seat name ≡ Some v → IsFresh n seat v) (sym moved.is)
-        (behind_told (machine_by asked x.occasion x.refused w.machine) x.occasion moved.left v at (by_told w.machine x.occasion x.refused asked v at is both.1)) l
+        (behind_told (λ n. IsFresh n seat v) (machine_by asked x.occasion x.refused w.machine) x.occasion moved.left v at (by_told w.machine x.occasion x.refused asked v at is both.1)) l
+
+    step_modtime : (w : World) (x : Step) (names : List (List ℕ)) (whole : Bool) (held : Client) (read unread : List Told) (moment : ℤ) (v : View)
+        → x.occasion.seat ≡ seat → IsCurrentMachine w.machine → IsHeld (live_at w.machine seat name) whole held → whole ≡ true
+        → told_in w x ≡ Some (event.Command (command.UpdateContext names), said.Updated (read ++ told_as.Upto name moment ∷ unread))
+        → live_at (did x.occasion x.refused x.deed w).machine seat name ≡ Some v
+        → (client_after_tolds name read held ≡ with_rows v) × IsFresh (did x.occasion x.refused x.deed w).machine seat v
+    step_modtime w x names whole held read unread moment v at is h all t l =
+        let moved = moved_in x.occasion x.refused x.deed w in
+        let asked = asked_in w x in
+        subst (λ (n : Machine). live_at n seat name ≡ Some v → (client_after_tolds name read held ≡ with_rows v) × IsFresh n seat v) (sym moved.is)
+        (behind_told (λ n. (client_after_tolds name read held ≡ with_rows v) × IsFresh n seat v) (machine_by asked x.occasion x.refused w.machine) x.occasion moved.left v at
+        (by_modtime w.machine x.occasion x.refused asked names whole held read unread moment v at is h all t)) l
 
     module _ (formed : (tokens : List Token) (c : Command) → command_of tokens ≡ Ok c → is_named (event.Command c) ≡ true) where
       step_current : (w : World) (x : Step) → NamedWorld w → is_named_deed x.deed ≡ true → IsCurrentMachine w.machine → IsCurrentMachine (did x.occasion x.refused x.deed w).machine
@@ -244,10 +297,34 @@ module _ (current : CurrentLaw) (law : HeldLaw) (seen : SeenLaw) (formed : (toke
             (step_told current law t.seat t.name (world_after t.steps (start t)) t.last x before is.tells (ap (λ (w : World). live_at w.machine t.seat t.name) (sym end) ∙ is.live)),
       )
 
+  modtimes : (t : Telling) (x : View) (names : List (List ℕ)) (read unread : List Told) (moment : ℤ) → IsReading t x names read unread moment
+      → (client_amid t read ≡ with_rows x) × IsFresh (after t).machine t.seat x
+  modtimes t x names read unread moment is =
+      let both = and_parts (list_all (λ user. is_user_name user.0) t.users) _ is.named in
+      let named = named_front t.steps (t.last ∷ []) both.1 in
+      let begins = new_named t.realm t.users t.host both.0 in
+      let before = all_current current law t.seat t.name formed t.steps (start t) begins named (current.begins t.realm) in
+      let held = all_held current law t.seat t.name formed t.steps (start t) false None begins named (current.begins t.realm) (λ y l e. absurd cc) in
+      let end = run_behind t.steps (t.last ∷ []) (start t) in
+      subst (λ (w : World). (client_amid t read ≡ with_rows x) × IsFresh w.machine t.seat x) (sym end)
+      (step_modtime current law t.seat t.name (world_after t.steps (start t)) t.last names (whole_in t.seat t.name t.steps (start t) false) (client_in t.seat t.name t.steps (start t) None)
+      read unread moment x is.own before held is.whole is.told (ap (λ (w : World). live_at w.machine t.seat t.name) (sym end) ∙ is.live))
+
+  leads : (fresh : List Match) (enumerated : Bool) (kept : Kept) (shown now : List Match) (pending : List Notice) → kept ≡ Live shown now pending → IsCurrentKept fresh enumerated kept
+      → holding_after_all (holding enumerated (rows shown)) pending ≡ Some (holding enumerated (rows fresh))
+  leads fresh enumerated kept shown now pending e i =
+      let is = subst (IsCurrentKept fresh enumerated) e i in
+      is.leads ∙ ap (λ ms. Some (holding enumerated (rows ms))) is.fresh_now
+
   pub live_law : LiveLaw
   live_law = record {
     holds = holds;
+    follows = λ realm users host steps seat name occupant context shown now pending named sits there live.
+        let both = and_parts (list_all (λ user. is_user_name user.0) users) _ named in
+        let is = all_current current law seat name formed steps (new_world realm users host) (new_named realm users host both.0) both.1 (current.begins realm) in
+        leads _ context.enumerated context.kept shown now pending live ((is.sound.current.all seat occupant sits).each name context there).kept;
     told = told;
+    modtimes = modtimes;
     seen = λ t u x y is other sought positions alike.
         (told t x is).0
         ∙ (seen (after t).machine (after u).machine t.seat u.seat x y (told t x is).1 (told u y other).1 sought positions alike

@@ -144,7 +144,10 @@ replied_good (stage.LoggingIn tag user) (Err fault.NotEntered) named = record { 
 replied_good (stage.LoggingIn tag user) (Err fault.AlreadyEntered) named = record { asks = λ e f. absurd cc; stage = refl }
 replied_good (stage.LoggingIn tag user) (Err fault.HistoryFull) named = record { asks = λ e f. absurd cc; stage = refl }
 replied_good stage.Draining (Ok reply) named = record { asks = λ e f. absurd cc; stage = refl }
-replied_good stage.Draining (Err fault) named = record { asks = λ e f. absurd cc; stage = refl }
+replied_good stage.Draining (Err fault.Memory) named = record { asks = λ e f. absurd cc; stage = refl }
+replied_good stage.Draining (Err fault.NotEntered) named = record { asks = λ e f. absurd cc; stage = refl }
+replied_good stage.Draining (Err fault.AlreadyEntered) named = record { asks = λ e f. absurd cc; stage = refl }
+replied_good stage.Draining (Err fault.HistoryFull) named = record { asks = λ e f. absurd cc; stage = refl }
 replied_good stage.Closed r named = record { asks = λ e f. absurd cc; stage = refl }
 
 user_named : (s : Stage) (user : Option (List ℕ)) (r : Result Reply Fault) → stage_named s ≡ true → has_name user ≡ true → has_name (answer_user s user r) ≡ true

@@ -74,6 +74,20 @@ first_open users o refused s e c =
     let k = first_turn users o refused s e in
     k ∙ first_open_by users o refused s s.talk.user (ap (λ (x : Turn × Scene). is_closed x.1.talk.stage) (sym k) ∙ c) ∙ sym (first_turn users o false s e)
 
+-- a user is let in where nobody has the seat
+let_in : (o : Occasion) (m : Machine) (out : List ℕ) (t : Talking) (name : List ℕ) (x : Option (List ℕ)) → x ≡ None → is_closed (welcomed_by o m out t (seating m o.seat name x)).1.talk.stage ≡ false
+unfolding after_answer
+let_in o m out t name None e = refl
+let_in o m out t name (Some other) e = absurd cc
+
+stays_by : (users : List User) (o : Occasion) (s : Scene) (user : Option (List ℕ)) → user_at s.machine o.seat ≡ None → is_closed (first_by users o false s user).1.talk.stage ≡ false
+unfolding opening
+stays_by users o s None e = refl
+stays_by users o s (Some name) e = let_in o s.machine s.out s.talk name (user_at s.machine o.seat) e
+
+pub first_stays : (users : List User) (o : Occasion) (s : Scene) → s.talk.stage ≡ stage.Opening → user_at s.machine o.seat ≡ None → is_closed (turn_of users o false s).1.talk.stage ≡ false
+first_stays users o s e f = ap (λ (x : Turn × Scene). is_closed x.1.talk.stage) (first_turn users o false s e) ∙ stays_by users o s s.talk.user f
+
 no_seat : (t : Talking) → t.stage ≡ stage.Opening → has_seat t ≡ false
 no_seat t e = ap (λ s. has_seat_at s t.user) e
 

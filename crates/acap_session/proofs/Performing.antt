@@ -163,24 +163,6 @@ match_then (Err e) P Q F G go fails p = fails e p
 
 -- ---- a drain
 
-drain_awaits_for : (u : Option (List ℕ)) (t new : Talking) → (drain_in true, new) ≡ drain_for u t → is_asked new.stage ≡ true
-drain_awaits_for None t new e = let k = ap (λ p. p.0) e in cc
-drain_awaits_for (Some user) t new e = ap (λ p. is_asked p.1.stage) e
-
-drain_awaits : (s : Stage) (t new : Talking) → (drain_in true, new) ≡ drain_at s t → is_asked new.stage ≡ true
-drain_awaits stage.Opening t new e = let k = ap (λ p. p.0) e in cc
-drain_awaits stage.Entering t new e = let k = ap (λ p. p.0) e in cc
-drain_awaits stage.Ready t new e = drain_awaits_for t.user t new e
-drain_awaits (stage.Asked tag) t new e = let k = ap (λ p. p.0) e in cc
-drain_awaits (stage.Challenged tag challenge) t new e = let k = ap (λ p. p.0) e in cc
-drain_awaits (stage.LoggingIn tag user) t new e = let k = ap (λ p. p.0) e in cc
-drain_awaits stage.Draining t new e = let k = ap (λ p. p.0) e in cc
-drain_awaits stage.Closed t new e = let k = ap (λ p. p.0) e in cc
-
-pub drain_asks : (t new : Talking) → (drain_in true, new) ≡ session_drain t → is_asked new.stage ≡ true
-unfolding session_drain
-drain_asks t new e = drain_awaits t.stage t new e
-
 -- a drain that was asked for, and what it comes to
 pub drained_by : (o : Occasion) (s : Scene) (t : Talking) (came : Turn) (new : Scene) (refused : Bool) → (drain_in true, t) ≡ session_drain s.talk → refused ≡ false → (came, new) ≡ asked_of o refused s.machine s.out t events.Drain → (came, new) ≡ drain_of o false s
 unfolding drain_of
@@ -192,6 +174,7 @@ not_drained o s t e = ap (turn_by o false s) e
 
 -- who may ask for it has the seat, and is ready
 record IsReady (t new : Talking) : Type 0 where
+  pub awaits : new.stage ≡ stage.Draining
   pub seat : has_seat new ≡ true
   pub again : record new { stage = stage.Ready } ≡ t
 
@@ -200,6 +183,7 @@ ready_for None t new r f e = absurd (let k = ap (λ p. p.0) e in cc)
 ready_for (Some user) t new r f e =
     let n : new ≡ record t { stage = stage.Draining } = ap (λ p. p.1) e in
     record {
+      awaits = ap (λ (q : Talking). q.stage) n;
       seat = ap (λ (q : Talking). has_seat q) n ∙ ap (has_seat_at stage.Draining) f;
       again = ap (λ (q : Talking). let w : Talking = record q { stage = stage.Ready } in w) n ∙ ap (λ x. let w : Talking = record t { stage = x } in w) (sym r);
     }
@@ -217,6 +201,9 @@ ready_at stage.Closed t new r e = absurd (let k = ap (λ p. p.0) e in cc)
 is_ready : (t new : Talking) → (drain_in true, new) ≡ session_drain t → IsReady t new
 unfolding session_drain
 is_ready t new e = ready_at t.stage t new refl e
+
+pub draining : (t new : Talking) → (drain_in true, new) ≡ session_drain t → new.stage ≡ stage.Draining
+draining t new e = (is_ready t new e).awaits
 
 -- a drain that was refused memory leaves all as it was
 pub undrained : (s : Scene) (t again : Talking) (m : Machine) (outcome : Result Reply Fault) → (drain_in true, t) ≡ session_drain s.talk → is_refused outcome ≡ true → OnErr outcome (m ≡ s.machine) → again ≡ record t { stage = stage.Ready } → scene m again s.out ≡ s

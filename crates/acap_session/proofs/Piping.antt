@@ -139,7 +139,7 @@ added_pre xs out (next.Close octets) = append_assoc xs out octets
 shown_pre : (xs : List ℕ) (o : Occasion) (seated : Bool) (m : Machine) (out : List ℕ) (x : Next × Talking) → turn_and_scene o seated m (xs ++ out) x ≡ pre xs (turn_and_scene o seated m out x)
 shown_pre xs o seated m out x = ap (λ (ys : List ℕ). let k : Turn × Scene = (turn_in x.0, record { machine = left_after x.0 seated o m; talk = x.1; out = ys }) in k) (added_pre xs out x.0)
 
-turn_pre_by : (xs : List ℕ) (o : Occasion) (refused : Bool) (s : Scene) (n : Next) (t : Talking) → turn_by o refused (prefixed xs s) (n, t) ≡ pre xs (turn_by o refused s (n, t))
+pub turn_pre_by : (xs : List ℕ) (o : Occasion) (refused : Bool) (s : Scene) (n : Next) (t : Talking) → turn_by o refused (prefixed xs s) (n, t) ≡ pre xs (turn_by o refused s (n, t))
 turn_pre_by xs o refused s next.More t = shown_pre xs o (has_seat s.talk) s.machine s.out (next.More, t)
 turn_pre_by xs o refused s (next.Say octets) t = shown_pre xs o (has_seat s.talk) s.machine s.out (next.Say octets, t)
 turn_pre_by xs o refused s (next.Ask event) t =
@@ -147,7 +147,7 @@ turn_pre_by xs o refused s (next.Ask event) t =
     shown_pre xs o (has_seat t || is_ok r) (machine_after s.machine r) s.out (after_answer t (outcome_of r))
 turn_pre_by xs o refused s (next.Close octets) t = shown_pre xs o (has_seat s.talk) s.machine s.out (next.Close octets, t)
 
-turn_pre : (users : List User) (xs : List ℕ) (o : Occasion) (refused : Bool) (s : Scene) → turn_of users o refused (prefixed xs s) ≡ pre xs (turn_of users o refused s)
+pub turn_pre : (users : List User) (xs : List ℕ) (o : Occasion) (refused : Bool) (s : Scene) → turn_of users o refused (prefixed xs s) ≡ pre xs (turn_of users o refused s)
 unfolding turn_of
 turn_pre users xs o refused s = let x = session_next users o.nonce o.clock s.talk in turn_pre_by xs o refused s x.0 x.1
 
@@ -155,7 +155,7 @@ pub turns_pre : (users : List User) (xs : List ℕ) (refused : List Bool) (s : S
 turns_pre users xs [] s = refl
 turns_pre users xs (r ∷ refused) s = ap (λ (k : Turn × Scene). turns users refused k.1) (turn_pre users xs always r s) ∙ turns_pre users xs refused (turn_of users always r s).1
 
-fed_pre : (users : List User) (xs : List ℕ) (x : Fed) (s : Scene) → after_piece users x (prefixed xs s) ≡ prefixed xs (after_piece users x s)
+pub fed_pre : (users : List User) (xs : List ℕ) (x : Fed) (s : Scene) → after_piece users x (prefixed xs s) ≡ prefixed xs (after_piece users x s)
 fed_pre users xs x s = turns_pre users xs x.1 (hears x.0 s)
 
 pub all_pre : (users : List User) (xs : List ℕ) (a : List Fed) (s : Scene) → fed_all users a (prefixed xs s) ≡ prefixed xs (fed_all users a s)

@@ -1,10 +1,10 @@
 -- Turns at a seat of a world, one after another, and what is offered there.
-use Rattle.std.proofs.Common.{◌≡◌, inl, inr, ℕ, ℤ, ◌+◌, ◌*◌, ◌<◌, ◌≤◌, Bool, true, false, List, [], ◌∷◌, ◌++◌, drop, Option, Some, None, Ok, refl, sym, ap, subst, ◌∙◌, arith}
+use Rattle.std.proofs.Common.{◌≡◌, inl, inr, ℕ, ℤ, ◌+◌, ◌*◌, ◌<◌, ◌≤◌, Bool, true, false, List, [], ◌∷◌, ◌++◌, drop, if◌then◌else◌, length, Option, Some, None, Ok, refl, sym, ap, subst, ◌∙◌, arith, length-drop}
 use Rattle.std.specs.Option.{is_some}
-use Rattle.acap_lexer.specs.Holding.{Held}
+use Rattle.acap_lexer.specs.Holding.{Held, held_limit}
 use Rattle.acap_login.specs.Login.{User}
 use Rattle.acap_session.specs.Places.{Place, place_at, if_open}
-use Rattle.acap_session.specs.Script.{turns, IsQuiet, IsQuietFor, IsOver, GoesOn, Hears, HasHeard, HasSettled, HasTurned, HasOffered, left_by}
+use Rattle.acap_session.specs.Script.{turns, IsQuiet, IsQuietFor, IsOver, GoesOn, Hears, HasHeard, HasRoomAt, HasSettled, HasTurned, HasOffered, Listens, TakesSome, left_by}
 use Rattle.acap_dialogue.specs.Session.{session_next, next_at, is_closed, is_hearing}
 use Rattle.acap_dialogue.specs.Talking.{Talking}
 use Rattle.acap_session.specs.Turning.{Scene, turn_of, IsTurn}
@@ -17,7 +17,8 @@ use Rattle.acap_dialogue.specs.declared.stage.Stage.TheVariants as stage
 use Rattle.acap_session.specs.declared.turn.Turn.{Turn}
 use Rattle.acap_session.specs.declared.turn.Turn.TheVariants as turn
 use Rattle.acap_session.proofs.Placing.{placed_there}
-use Rattle.acap_session.proofs.Turning.{turns_left, still, goes_on, held_kept, over, closed_is_quiet, fewer}
+use Rattle.acap_session.proofs.Turning.{turns_left, still, goes_on, held_kept, over, closed_is_quiet, fewer, room_left}
+use Rattle.acap_session.proofs.WorldSeats.{opened}
 
 -- ---- what stands at a seat after a turn
 
@@ -150,11 +151,75 @@ settles o goes old mid new a e h = one_turn o true old mid new a (going o goes m
 pub settles_fewer : (o : Occasion) (goes : Bool) (mid new : World) → goes ≡ true → HasTurned o goes mid new → turns_at (open_at new o.seat) < turns_at (open_at mid o.seat)
 settles_fewer o goes mid new e h = fewer_at o mid new (going o goes mid new e h)
 
+-- ---- a session that listens
+
+-- what is done to it leaves it listening, if it is open then
+abbrev Keeps : (Scene → Scene) → Type 0
+Keeps f = (s : Scene) → is_hearing s.talk.stage ≡ true → is_closed (f s).talk.stage ≡ false → is_hearing (f s).talk.stage ≡ true
+
+open_is : (y p : Place) (b : Bool) → is_closed y.talk.stage ≡ b → (if b then None else Some y) ≡ Some p → (y ≡ p) × (is_closed y.talk.stage ≡ false)
+open_is y p true c e = absurd cc
+open_is y p false c e = (cc, c)
+
+listens_set : (w : World) (k : ℕ) (s : Scene) → (is_closed s.talk.stage ≡ false → is_hearing s.talk.stage ≡ true) → Listens k (with_scene w k s)
+listens_set w k s h p e =
+    let there = sym (ap if_open (placed_there w.places k (place_of s))) ∙ e in
+    let is = open_is (place_of s) p (is_closed s.talk.stage) refl there in
+    ap (λ (y : Place). is_hearing y.talk.stage) (sym is.0) ∙ h is.1
+
+listens_step : (w : World) (k : ℕ) (f : Scene → Scene) (now : Option Place) → open_at w k ≡ now → Keeps f → Listens k w → Listens k (at_open w k f now)
+listens_step w k f None e keeps h = h
+listens_step w k f (Some p) e keeps h = listens_set w k (f (scene_of w p)) (λ o. keeps (scene_of w p) (h p e) o)
+
+turn_keeps : (users : List User) (o : Occasion) (s new : Scene) (came : Turn) → IsTurn users o s came new → is_hearing s.talk.stage ≡ true → is_closed new.talk.stage ≡ false → is_hearing new.talk.stage ≡ true
+turn_keeps users o s new turn.More k h c = ap (λ (q : Scene). is_hearing q.talk.stage) (still users o s new k).same ∙ h
+turn_keeps users o s new turn.Said k h c = goes_on users o s new k
+turn_keeps users o s new turn.Closed k h c = absurd (let both : true ≡ false = sym (over users o s new k) ∙ c in cc)
+
+listens_turn : (o : Occasion) (refused : Bool) (w : World) → Listens o.seat w → Listens o.seat (did o refused world.Turn w)
+unfolding did
+listens_turn o refused w h =
+    listens_step w o.seat (λ s. (turn_of w.users o refused s).1) (open_at w o.seat) refl
+    (λ s k c. turn_keeps w.users o s (turn_of w.users o refused s).1 (turn_of w.users o refused s).0 (record { refused = refused; is = refl }) k c) h
+
+listens_piece : (o : Occasion) (piece : List ℕ) (w : World) → Listens o.seat w → Listens o.seat (did o false (world.Piece piece) w)
+unfolding did
+listens_piece o piece w h = listens_step w o.seat (takes piece) (open_at w o.seat) refl (λ s k c. k) h
+
+listens_turns : (o : Occasion) (refused : List Bool) (w : World) → Listens o.seat w → Listens o.seat (turns o refused w)
+listens_turns o [] w h = h
+listens_turns o (x ∷ refused) w h = listens_turns o refused (did o x world.Turn w) (listens_turn o x w h)
+
+room_by : (o : Occasion) (w : World) (x : Option Place) (p : Place) → x ≡ Some p → IsQuietFor o w x → is_hearing p.talk.stage ≡ true → length p.talk.held.text < held_limit
+room_by o w None p e q h = absurd cc
+room_by o w (Some y) p e q h = let same : y ≡ p = cc in room_left w.users o.nonce o.clock p.talk h (subst (λ (z : Place). IsQuietFor o w (Some z)) same q)
+
+-- and where nothing is next it has room
+room_at : (o : Occasion) (w : World) → Listens o.seat w → IsQuiet o w → HasRoomAt o.seat w
+room_at o w h q p e = room_by o w (place_at w.places o.seat) p (opened (place_at w.places o.seat) p e).0 q (h p e)
+
+-- it listens still, and takes some of what is offered next
+pub record GoesOnListening (o : Occasion) (w : World) : Type 0 where
+  pub listens : Listens o.seat w
+  pub room : HasRoomAt o.seat w
+
+pub listens_on : (o : Occasion) (piece rest : List ℕ) (old new : World) → Listens o.seat old → HasOffered o piece old new rest → GoesOnListening o new
+listens_on o piece rest old new h k =
+    let on = subst (Listens o.seat) (sym k.settled.is) (listens_turns o k.settled.refused (did o false (world.Piece piece) old) (listens_piece o piece old h)) in
+    record { listens = on; room = room_at o new on k.settled.quiet }
+
 -- ---- what is offered
+
+-- where there is room some is taken
+pub takes_some : (seat : ℕ) (piece : List ℕ) (n : ℕ) (old mid : World) → Feeds seat piece old mid (Ok n) → TakesSome seat piece old n
+takes_some seat piece n old mid f room some = let less = room f.0 f.1 in let is = f.2 in omega (arith, less, some, is)
 
 pub piece_same : (o : Occasion) (refused : Bool) (piece : List ℕ) (w : World) → did o refused (world.Piece piece) w ≡ did o false (world.Piece piece) w
 unfolding did
 piece_same o refused piece w = refl
+
+pub fewer_behind : (rest behind : List ℕ) (n : ℕ) → behind ≡ drop n rest → 0 < length rest → 0 < n → length behind < length rest
+fewer_behind rest behind n e some taken = omega (arith, ap (λ (ys : List ℕ). length ys) e, length-drop n rest, some, taken)
 
 pub offered : (o : Occasion) (piece : List ℕ) (n : ℕ) (old mid new : World) → Feeds o.seat piece old mid (Ok n) → HasSettled o mid new → (is_some (open_at old o.seat) ≡ true) × HasOffered o piece old new (drop n piece)
 offered o piece n old mid new f s =

@@ -19,10 +19,9 @@ use Rattle.acap_script.specs.declared.line_fault.LineFault.{LineFault}
 use Rattle.acap_script.specs.declared.line_fault.LineFault.TheVariants as wrongs
 use Rattle.acap_script.specs.declared.seat_line.SeatLine.{SeatLine}
 use Rattle.acap_session.specs.declared.occasion.Occasion.{Occasion}
-use Rattle.acap_session.specs.declared.standing.Standing.{Standing}
 use Rattle.acap_session.specs.declared.standing.Standing.TheVariants as standing
 use Rattle.acap_session.proofs.ScriptOutput.{flat_snoc}
-use Rattle.acap_session.proofs.Sending.{all_front, appends_none, appends_then, front_then}
+use Rattle.acap_session.proofs.Sending.{appends_none, appends_then, front_then}
 
 -- ---- something is done at a seat
 
@@ -45,9 +44,6 @@ spoken_by line seat old left (Err wrongs.Memory) k = k
 
 pub spoken : (line : SeatLine) (seat : ℕ) (old : Script) (w left : World) (result : Result (Vec ℕ Global) LineFault) → w ≡ world_of old.standing → MaySay line (record { seat = seat; clock = old.clock; nonce = old.nonce }) w left result → MaySpeak seat line old (record old { standing = standing.Since left }) result
 spoken line seat old w left result e k = spoken_by line seat old left result (subst (λ (v : World). MaySay line (record { seat = seat; clock = old.clock; nonce = old.nonce }) v left result) e k)
-
-pub since : (x : Standing) (w v : World) → x ≡ standing.Since w → x ≡ standing.Since v → w ≡ v
-since x w v e f = ap (λ (s : Standing). world_of s) (sym e ∙ f)
 
 -- ---- lines behind lines
 
@@ -138,7 +134,7 @@ ended_there lines text held rest front behind line e f g =
     cut_there lines text held rest front behind line e f g ∙ ap (λ ys. lines_of lines ++ ys) (sym (append_assoc line (10 ∷ []) behind)) ∙ sym (append_assoc (lines_of lines) (line ++ 10 ∷ []) behind) ∙ ap (λ ys. ys ++ behind) (sym (flat_snoc (λ l. l ++ 10 ∷ []) lines line))
 
 -- memory was refused behind the lines that were done
-pub lines_cut : (text piece held rest : List ℕ) (number later : ℕ) (s t : Script) (old mid new : Option (List ℕ)) → IsRunning text piece held rest number later s t old mid → new ≡ mid → HasPartLines text s old new
+pub lines_cut : (text piece held rest : List ℕ) (number later : ℕ) (s t : Script) (old mid new : Option (List ℕ)) → IsRunning text piece held rest number later s t old mid → new ≡ mid → HasPartLines text s (Appends old new)
 lines_cut text piece held rest number later s t old mid new a e = record {
   lines = a.lines;
   behind = held ++ rest;
@@ -147,7 +143,7 @@ lines_cut text piece held rest number later s t old mid new a e = record {
   said = a.said;
   last = t;
   done = a.done;
-  sent = subst (λ (w : Option (List ℕ)). SendsFront old w a.said) (sym e) (all_front old mid a.said a.sent);
+  sent = subst (λ (w : Option (List ℕ)). Appends old w a.said) (sym e) a.sent;
 }
 
 line_run : (text piece held rest front behind line : List ℕ) (number later : ℕ) (s t u : Script) (old mid new : Option (List ℕ)) → IsRunning text piece held rest number later s t old mid → IsEnded rest front behind → line ≡ held ++ front → HasRunLine line t u mid new → IsRunning text piece [] behind number (later + 1) s u old new
@@ -288,8 +284,8 @@ piece_failed r0 r r1 w0 w w1 held piece number n s a c h = record {
   sent = appends_then w0 w w1 a.said h.said a.sent h.sent;
 }
 
-piece_cut : (r0 r r1 w0 w w1 : Option (List ℕ)) (held piece : List ℕ) (number : ℕ) (s : Script) → IsReading r0 r w0 w held number s → Consumes r r1 piece → HasPartLines (held ++ piece) s w w1 → HasBegun r0 r1 w0 w1
-piece_cut r0 r r1 w0 w w1 held piece number s a c h = record {
+piece_cut : (r0 r r1 w0 w : Option (List ℕ)) (held piece : List ℕ) (number : ℕ) (s : Script) (Later Sent : List ℕ → Type 0) → (a : IsReading r0 r w0 w held number s) → Consumes r r1 piece → HasPartLines (held ++ piece) s Later → ((said : List ℕ) → Later said → Sent (a.said ++ said)) → HasBegun r0 r1 Sent
+piece_cut r0 r r1 w0 w held piece number s Later Sent a c h sends = record {
   read = a.read ++ piece;
   consumed = consumes_then r0 r r1 a.read piece a.consumed c;
   lines = a.lines ++ h.lines;
@@ -301,14 +297,16 @@ piece_cut r0 r r1 w0 w w1 held piece number s a c h = record {
   written = a.said ++ h.said;
   last = h.last;
   done = done_append a.lines h.lines begins s h.last a.said h.said a.done h.done;
-  sent = front_then w0 w w1 a.said h.said a.sent h.sent;
+  sent = sends h.said h.sent;
 }
 
 run_fails : (r0 r r1 w0 w w1 : Option (List ℕ)) (held piece kept : List ℕ) (number later : ℕ) (s t : Script) (fault : ScriptFault) → IsReading r0 r w0 w held number s → Consumes r r1 piece → RunsLines (held ++ piece) kept number later s t w w1 (Err fault) → Runs r0 r1 w0 w1 (Err fault)
 run_fails r0 r r1 w0 w w1 held piece kept number later s t (faults.Line n) a c k = piece_failed r0 r r1 w0 w w1 held piece number n s a c k
 run_fails r0 r r1 w0 w w1 held piece kept number later s t faults.Read a c k = absurd k
-run_fails r0 r r1 w0 w w1 held piece kept number later s t faults.Write a c k = piece_cut r0 r r1 w0 w w1 held piece number s a c k
-run_fails r0 r r1 w0 w w1 held piece kept number later s t faults.Memory a c k = piece_cut r0 r r1 w0 w w1 held piece number s a c k
+run_fails r0 r r1 w0 w w1 held piece kept number later s t faults.Write a c k =
+    piece_cut r0 r r1 w0 w held piece number s (SendsFront w w1) (SendsFront w0 w1) a c k (λ said sent. front_then w0 w w1 a.said said a.sent sent)
+run_fails r0 r r1 w0 w w1 held piece kept number later s t faults.Memory a c k =
+    piece_cut r0 r r1 w0 w held piece number s (Appends w w1) (Appends w0 w1) a c k (λ said sent. appends_then w0 w w1 a.said said a.sent sent)
 
 pub pieces_fail : (r0 r r1 w0 w w1 : Option (List ℕ)) (held piece kept : List ℕ) (number later : ℕ) (s t : Script) (fault : ScriptFault) (result : Result (Unit {0}) ScriptFault) → IsErr result → IsErrAnd result (λ x. x ≡ fault) → IsReading r0 r w0 w held number s → Consumes r r1 piece → RunsLines (held ++ piece) kept number later s t w w1 (Err fault) → Runs r0 r1 w0 w1 result
 pieces_fail r0 r r1 w0 w w1 held piece kept number later s t fault (Ok done) p q a c k = absurd cc
@@ -396,11 +394,11 @@ ended_at r0 r r1 w0 w w1 (x ∷ held) number s t (Err faults.Memory) a c end k =
   written = a.said;
   last = s;
   done = a.done;
-  sent = subst (λ (q : Option (List ℕ)). SendsFront w0 q a.said) (sym k) (all_front w0 w a.said a.sent);
+  sent = subst (λ (q : Option (List ℕ)). Appends w0 q a.said) (sym k) a.sent;
 }
 
 -- memory was refused before the first line
-unbegun : (r w : Option (List ℕ)) → HasBegun r r w w
+unbegun : (r w : Option (List ℕ)) → HasBegun r r (Appends w w)
 unbegun r w = record {
   read = [];
   consumed = consumes_none r;
@@ -413,7 +411,7 @@ unbegun r w = record {
   written = [];
   last = begins;
   done = (refl, refl);
-  sent = all_front w w [] (appends_none w);
+  sent = appends_none w;
 }
 
 pub unbegun_runs : (r w : Option (List ℕ)) (result : Result (Unit {0}) ScriptFault) → IsErr result → IsErrAnd result (λ x. x ≡ faults.Memory) → Runs r r w w result

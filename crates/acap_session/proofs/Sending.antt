@@ -1,5 +1,5 @@
 -- What was written of octets.
-use Rattle.std.proofs.Common.{◌≡◌, ℕ, List, [], ◌++◌, take, drop, Option, Some, None, sym, ap, ◌∙◌, append_assoc}
+use Rattle.std.proofs.Common.{◌≡◌, ℕ, List, [], ◌++◌, take, drop, Option, Some, None, OnErr, OnOk, Result, Ok, Err, sym, ap, ◌∙◌, append_assoc}
 use Rattle.std.specs.Io.KnownBytes.{Appends, Keeps}
 use Rattle.std.proofs.lemmas.List.{append-nil, take-append-drop}
 use Rattle.acap_session.specs.Streams.{SendsFront}
@@ -41,8 +41,14 @@ more_sent a b c octets rest back n s p e = record {
 pub all_front : (a b : Option (List ℕ)) (octets : List ℕ) → Appends a b octets → SendsFront a b octets
 all_front a b octets p = record { front = octets; rest = []; is = sym (append-nil octets); sent = p }
 
-pub whole_front : (a b c : Option (List ℕ)) (octets : List ℕ) → Appends a b octets → Keeps b c → SendsFront a c octets
-whole_front a b c octets p k = all_front a c octets (appends_keeps a b c octets p k)
+-- by whether the last write failed
+pub sent_at_last : {T E : Type 0} (r : Result T E) (a b c : Option (List ℕ)) (octets : List ℕ) → Appends a b octets → Keeps b c → OnOk r (Appends a c octets)
+sent_at_last (Ok x) a b c octets p k = appends_keeps a b c octets p k
+sent_at_last (Err x) a b c octets p k = tt
+
+pub front_at_last : {T E : Type 0} (r : Result T E) (a b c : Option (List ℕ)) (octets : List ℕ) → Appends a b octets → Keeps b c → OnErr r (SendsFront a c octets)
+front_at_last (Ok x) a b c octets p k = tt
+front_at_last (Err x) a b c octets p k = all_front a c octets (appends_keeps a b c octets p k)
 
 -- behind others
 pub front_then : (a b c : Option (List ℕ)) (xs ys : List ℕ) → Appends a b xs → SendsFront b c ys → SendsFront a c (xs ++ ys)

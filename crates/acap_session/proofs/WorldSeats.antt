@@ -1,6 +1,6 @@
 -- Who has which seat after the steps of a world, and what its sessions have said.
 use Rattle.std.proofs.Common.{◌≡◌, ◌⊎◌, inl, inr, ℕ, ◌==◌, ◌||◌, Bool, true, false, not, if◌then◌else◌, List, [], ◌∷◌, ◌++◌, Option, Some, None, refl, sym, ap, subst, ◌∙◌, append_assoc}
-use Rattle.std.specs.Prelude.{flat_map, option_map}
+use Rattle.std.specs.Prelude.{flat_map, option_map, is_some, IsSome}
 use Rattle.std.proofs.lemmas.Bool.{and_parts, eqb-true, eqb-false}
 use Rattle.std.proofs.lemmas.Grind.{flat_map-append}
 use Rattle.std.proofs.lemmas.List.{append-nil, map-append}
@@ -15,8 +15,9 @@ use Rattle.acap_session.specs.Completing.{Call, called_at, called_by, all_called
 use Rattle.acap_session.specs.Laws.{reply_of}
 use Rattle.acap_dialogue.specs.Running.{event_in}
 use Rattle.acap_session.specs.Places.{Place, place_at, with_place, if_open}
+use Rattle.acap_session.specs.Script.{Listens}
 use Rattle.acap_session.specs.Seating.{SeatingLaw, occupant_by}
-use Rattle.acap_dialogue.specs.Session.{has_seat, has_seat_at, is_closed, session_next, session_drain}
+use Rattle.acap_dialogue.specs.Session.{has_seat, has_seat_at, is_closed, is_hearing, session_next, session_drain}
 use Rattle.acap_dialogue.specs.Talking.{Talking, beginning}
 use Rattle.acap_session.specs.Turning.{Scene, scene, event_outcome, turn_of, drain_of}
 use Rattle.acap_session.specs.World as world
@@ -28,16 +29,17 @@ use Rattle.acap_dialogue.specs.declared.stage.Stage.{Stage}
 use Rattle.acap_dialogue.specs.declared.stage.Stage.TheVariants as stage
 use Rattle.acap_session.proofs.Alone.{did_by, did_is, others_stay, place_of, placed_other}
 use Rattle.acap_session.proofs.Going.{At, Goes, next_goes, drain_goes, opening_goes, silent}
-use Rattle.acap_session.proofs.Placing.{placed_there}
+use Rattle.acap_session.proofs.Opening.{first_stays}
+use Rattle.acap_session.proofs.Placing.{open_some, placed_there}
 use Rattle.acap_session.proofs.Seating.{SameElse, Made, IsPlaced, asks_placed, left_else, left_empty, made, made_else, unseated}
 
 -- ---- how all sessions of a world stand
 
-abbrev AtPlace : Option Place → Option (List ℕ) → Type 0
+abbrev pub AtPlace : Option Place → Option (List ℕ) → Type 0
 AtPlace None has = has ≡ None
 AtPlace (Some p) has = At p.talk.stage p.talk.user has
 
-abbrev AllSeated : World → Type 0
+abbrev pub AllSeated : World → Type 0
 AllSeated w = (q : ℕ) → AtPlace (place_at w.places q) (user_at w.machine q)
 
 free_at : (x : Stage) (p : Place) (user : Option (List ℕ)) (has : Option (List ℕ)) → (if is_closed x then None else Some p) ≡ None → At x user has → has ≡ None
@@ -58,7 +60,7 @@ opened_by : (y p : Place) (b : Bool) → is_closed y.talk.stage ≡ b → (if b 
 opened_by y p true c e = absurd cc
 opened_by y p false c e = (e, λ k. let same : y ≡ p = cc in let shut : false ≡ true = sym c ∙ ap (λ (z : Place). is_closed z.talk.stage) same ∙ ap is_closed k in cc)
 
-opened : (x : Option Place) (p : Place) → if_open x ≡ Some p → (x ≡ Some p) × (p.talk.stage ≡ stage.Closed → ⊥)
+pub opened : (x : Option Place) (p : Place) → if_open x ≡ Some p → (x ≡ Some p) × (p.talk.stage ≡ stage.Closed → ⊥)
 opened None p e = absurd cc
 opened (Some y) p e = opened_by y p (is_closed y.talk.stage) refl e
 
@@ -151,12 +153,34 @@ step_seated x w a =
     subst AllSeated (sym (did_is x.occasion x.refused x.deed w))
     (after_effect w _ x.occasion.seat (effect_by x.occasion x.refused x.deed w (open_at w x.occasion.seat) refl a) a)
 
-run_seated : (steps : List Step) (w : World) → AllSeated w → AllSeated (world_after steps w)
+pub run_seated : (steps : List Step) (w : World) → AllSeated w → AllSeated (world_after steps w)
 run_seated [] w a = a
 run_seated (x ∷ steps) w a = run_seated steps (did x.occasion x.refused x.deed w) (step_seated x w a)
 
-new_seated : (realm : Realm) (users : List User) (host : List ℕ) → AllSeated (new_world realm users host)
+pub new_seated : (realm : Realm) (users : List User) (host : List ℕ) → AllSeated (new_world realm users host)
 new_seated realm users host q = nobody_at realm q
+
+-- ---- open sessions hear
+
+hearing_at : (x : Stage) (user : Option (List ℕ)) (has : Option (List ℕ)) → At x user has → (x ≡ stage.Closed → ⊥) → is_hearing x ≡ true
+hearing_at stage.Ready user has a o = refl
+hearing_at (stage.Challenged tag challenge) user has a o = refl
+hearing_at stage.Closed user has a o = absurd (o refl)
+hearing_at stage.Opening user has a o = absurd a
+hearing_at stage.Entering user has a o = absurd a
+hearing_at (stage.Asked tag) user has a o = absurd a
+hearing_at (stage.LoggingIn tag name) user has a o = absurd a
+hearing_at stage.Draining user has a o = absurd a
+
+hearing_as : (x : Option Place) (t : Talking) (has : Option (List ℕ)) → option_map (λ (y : Place). y.talk) x ≡ Some t → AtPlace x has → (t.stage ≡ stage.Closed → ⊥) → is_hearing t.stage ≡ true
+hearing_as None t has e a o = absurd cc
+hearing_as (Some q) t has e a o = let same : q.talk ≡ t = cc in hearing_at t.stage t.user has (subst (λ (u : Talking). At u.stage u.user has) same a) o
+
+-- also where some of what was said is taken
+pub listens_as : (seat : ℕ) (w v : World) → AllSeated w → option_map (λ (x : Place). x.talk) (place_at w.places seat) ≡ option_map (λ (x : Place). x.talk) (place_at v.places seat) → Listens seat v
+listens_as seat w v a same p e =
+    let there = opened (place_at v.places seat) p e in
+    hearing_as (place_at w.places seat) p.talk (user_at w.machine seat) (same ∙ ap (λ x. option_map (λ (y : Place). y.talk) x) there.0) (a seat) there.1
 
 -- ---- the law of seats
 
@@ -207,11 +231,22 @@ replied realm users host steps x =
     let w = world_after steps (new_world realm users host) in
     reply_by x.occasion x.refused x.deed w (open_at w x.occasion.seat) refl (run_seated steps (new_world realm users host) (new_seated realm users host))
 
+opened_there : (w : World) (k : ℕ) (s : Scene) → is_closed s.talk.stage ≡ false → IsSome (open_at (with_scene w k s) k)
+opened_there w k s e = ap (λ x. is_some (if_open x)) (placed_there w.places k (place_of s)) ∙ open_some (place_of s) ∙ ap not e
+
+opens : (o : Occasion) (user : Option (List ℕ)) (w : World) → AllSeated w → open_at w o.seat ≡ None → IsSome (open_at (did o false (world.Open user) w) o.seat)
+opens o user w a e =
+    let s = scene w.machine (beginning w.host user) (said_before (place_at w.places o.seat)) in
+    let made = did_is o false (world.Open user) w ∙ ap (did_by o false (world.Open user) w) e in
+    subst (λ v. IsSome (open_at v o.seat)) (sym made)
+    (opened_there w o.seat (turn_of w.users o false s).1 (first_stays w.users o s refl (free (place_at w.places o.seat) _ e (a o.seat))))
+
 pub seating : SeatingLaw
 seating = record {
   occupied = λ realm users host steps seat. occupant_is _ _ (run_seated steps (new_world realm users host) (new_seated realm users host) seat);
   never_empty = λ realm users host steps x e. subst IsPlaced e (replied realm users host steps x);
   never_taken = λ realm users host steps x e. subst IsPlaced e (replied realm users host steps x);
+  opens = λ realm users host steps o user e. opens o user (world_after steps (new_world realm users host)) (run_seated steps (new_world realm users host) (new_seated realm users host)) e;
 }
 
 -- ---- the law of completions

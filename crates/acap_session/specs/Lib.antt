@@ -5,10 +5,13 @@ pub mod PipeSteps
 pub mod Piping
 pub mod Places
 pub mod Script
+pub mod ScriptExamples
 pub mod ScriptOutput
 pub mod ScriptRun
+pub mod ScriptTaking
 pub mod Seating
 pub mod Setup
 pub mod Streams
+pub mod Taking
 pub mod Turning
 pub mod World

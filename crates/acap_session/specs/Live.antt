@@ -1,14 +1,27 @@
 -- The client of a context over all that happens in a world: it holds what a search finds [RFC 2244 sections 3.3 and 6.5].
-use Rattle.std.specs.Prelude.{◌≡◌, ℕ, ◌==◌, Bool, true, false, ◌&&◌, List, [], ◌∷◌, ◌++◌, Option, Some, None, Result, Ok, Err, if◌then◌else◌}
+use Rattle.std.specs.Prelude.{◌≡◌, ℕ, ℤ, ◌==◌, Bool, true, false, ◌&&◌, List, [], ◌∷◌, ◌++◌, Option, Some, None, Result, Ok, Err, if◌then◌else◌}
 use Rattle.std.specs.List.{list_all}
 use Rattle.std.specs.Option.{option_and_then}
+use Rattle.acap_commands.specs.declared.command.Command.TheVariants as command
 use Rattle.acap_commands.specs.declared.event.Event.{Event}
+use Rattle.acap_commands.specs.declared.event.Event.TheVariants as event
 use Rattle.acap_commands.specs.declared.fault.Fault.{Fault}
 use Rattle.acap_commands.specs.declared.reply.Reply.{Reply}
 use Rattle.acap_commands.specs.declared.said.Said.{Said}
+use Rattle.acap_commands.specs.declared.said.Said.TheVariants as said
 use Rattle.acap_entries.specs.Names.{is_user_name}
 use Rattle.acap_login.specs.Login.{User}
-use Rattle.acap_machine.specs.Client.{Client, View, IsFresh, IsSeenAlike, client_after, whole_after, tells, live_at, with_rows}
+use Rattle.acap_notices.specs.Holding.{holding, holding_after_all}
+use Rattle.acap_notices.specs.declared.notice.Notice.{Notice}
+use Rattle.acap_notices.specs.declared.told.Told.{Told}
+use Rattle.acap_notices.specs.declared.told.Told.TheVariants as told_as
+use Rattle.acap_search.specs.Fresh.{matches_of}
+use Rattle.acap_search.specs.Matches.{Match}
+use Rattle.acap_views.specs.Contexts.{Context, Live}
+use Rattle.acap_views.specs.Current.{rows}
+use Rattle.acap_views.specs.Seats.{Occupant}
+use Rattle.std.specs.FinMap as table
+use Rattle.acap_machine.specs.Client.{Client, View, IsFresh, IsSeenAlike, client_after, client_after_tolds, whole_after, tells, live_at, with_rows}
 use Rattle.acap_rights.specs.declared.realm.Realm.{Realm}
 use Rattle.acap_session.specs.Laws.{AloneLaw, asked_by, own_of}
 use Rattle.acap_session.specs.World as world
@@ -101,6 +114,24 @@ pub record IsTelling (t : Telling) (x : View) : Type 0 where
   pub live : live_at (after t).machine t.seat t.name ≡ Some x
   pub whole : whole_in t.seat t.name (all_steps t) (start t) false ≡ true
 
+-- In the last step of a run an UPDATECONTEXT is answered, and this MODTIME of the context stands in the reply after
+-- what was read of it; the client began with a whole list.
+pub record IsReading (t : Telling) (x : View) (names : List (List ℕ)) (read unread : List Told)
+    (moment : ℤ) : Type 0 where
+  pub named : are_named t.users (all_steps t) ≡ true
+  pub own : t.last.occasion.seat ≡ t.seat
+  pub told : told_in (world_after t.steps (start t)) t.last
+      ≡ Some (
+        event.Command (command.UpdateContext names),
+        said.Updated (read ++ told_as.Upto t.name moment ∷ unread),
+      )
+  pub live : live_at (after t).machine t.seat t.name ≡ Some x
+  pub whole : whole_in t.seat t.name t.steps (start t) false ≡ true
+
+-- what the client holds that has read so far
+abbrev pub client_amid : Telling → List Told → Client
+client_amid t read = client_after_tolds t.name read (client_in t.seat t.name t.steps (start t) None)
+
 pub record LiveLaw : Type 0 where
   -- whatever the sessions do, in whichever order: as long as the context is live, the client that began with a whole list met no
   -- notice that misfits, and holds the rows of the list that it was told last
@@ -108,8 +139,23 @@ pub record LiveLaw : Type 0 where
       let w = new_world realm users host in
       are_named users steps ≡ true → live_at (world_after steps w).machine seat name ≡ Some x → whole_in seat name steps w false ≡ true
       → client_in seat name steps w None ≡ with_rows x
+  -- and at every moment the notices that wait lead on from what it was told last to what a search finds now, and none
+  -- of them misfits
+  pub follows : (realm : Realm) (users : List User) (host : List ℕ) (steps : List Step) (seat : ℕ)
+      (name : List ℕ) (occupant : Occupant) (context : Context) (shown now : List Match) (pending : List Notice) →
+      let w = new_world realm users host in
+      let m = (world_after steps w).machine in
+      let found = matches_of m.store.records m.realm occupant.user context.sought in
+      are_named users steps ≡ true → table.get m.seats seat ≡ Some occupant
+      → table.get occupant.contexts name ≡ Some context → context.kept ≡ Live shown now pending
+      → holding_after_all (holding context.enumerated (rows shown)) pending
+      ≡ Some (holding context.enumerated (rows found))
   -- and where an UPDATECONTEXT of its name has just ended, or a drain, these are what a search finds then
   pub told : (t : Telling) (x : View) → IsTelling t x → (client t ≡ with_rows x) × IsFresh (after t).machine t.seat x
+  -- and so they are at each MODTIME of the context within a reply, for the client that has read so far
+  pub modtimes : (t : Telling) (x : View) (names : List (List ℕ)) (read unread : List Told) (moment : ℤ)
+      → IsReading t x names read unread moment
+      → (client_amid t read ≡ with_rows x) × IsFresh (after t).machine t.seat x
   -- every row, place and membership of which comes of what the user sees: two clients whose users see the same hold the same
   pub seen : (t u : Telling) (x y : View) → IsTelling t x → IsTelling u y → x.0 ≡ y.0 → x.1.0 ≡ y.1.0
       → IsSeenAlike (after t).machine t.seat (after u).machine u.seat x.0 → client t ≡ client u

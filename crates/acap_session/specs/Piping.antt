@@ -7,7 +7,7 @@ use Rattle.acap_login.specs.Login.{User}
 use Rattle.acap_machine.specs.Machine.{Machine, new_machine}
 use Rattle.acap_rights.specs.declared.realm.Realm.{Realm}
 use Rattle.acap_dialogue.specs.Session.{session_next, is_closed, is_hearing}
-use Rattle.acap_session.specs.Streams.{HasEndedReads, HasGiven, IfTold, SendsFront, ReaderTold}
+use Rattle.acap_session.specs.Streams.{HasEndedReads, HasEndedWrites, HasGiven, HasTaken, IfTold, SendsFront, ReaderTold, WriterTold}
 use Rattle.acap_dialogue.specs.Talking.{Talking, beginning}
 use Rattle.acap_session.specs.Turning.{Scene, scene, turn_of, IsTurn}
 use Rattle.acap_dialogue.specs.declared.next.Next.TheVariants as next
@@ -98,27 +98,38 @@ HasRead user None left old new = Unit {0}
 HasRead user (Some input) None old new = ⊥
 HasRead user (Some input) (Some left) old new = (read : List ℕ) × (written : List ℕ) × (input ≡ read ++ left) × IsWritten user read written × Appends old new written
 
--- The writer failed, or memory was refused: a front of what is to be written for a front of those octets that the
--- reader no longer has was written.
-pub record HasPart (user input left : List ℕ) (old new : Option (List ℕ)) : Type 0 where
-  pub read : List ℕ
-  pub unread : List ℕ
-  pub input_is : input ≡ read ++ (unread ++ left)
-  pub written : List ℕ
-  pub made : IsWritten user read written
-  pub sent : SendsFront old new written
+-- What was said by a moment amid the turns: some pieces were answered, one more was given while there was room for
+-- it, and some turns were made after it.
+pub record HasSaid (users : List User) (heard : List ℕ) (old : Scene) (said : List ℕ) : Type 0 where
+  pub pieces : List Fed
+  pub last : Fed
+  pub joined_is : heard ≡ octets_of_pieces pieces ++ last.0
+  pub answered : AreAnswered users pieces old
+  pub fits : 0 < length last.0 → MayTake last.0 (fed_all users pieces old).talk
+  pub is : said ≡ (after_piece users last (fed_all users pieces old)).out
 
-abbrev pub HasStarted : List ℕ → Option (List ℕ) → Option (List ℕ) → Option (List ℕ) → Option (List ℕ) → Type 0
-HasStarted user None left old new = Unit {0}
-HasStarted user (Some input) None old new = ⊥
-HasStarted user (Some input) (Some left) old new = HasPart user input left old new
+-- A session is cut short by a fault: not even its first turn was made, or what it has said since was sent so. What
+-- it heard is a prefix of those octets that the reader no longer has.
+pub record IsCutShort (user input left : List ℕ) (Sent : List ℕ → Type 0) : Type 0 where
+  pub heard : List ℕ
+  pub unheard : List ℕ
+  pub input_is : input ≡ heard ++ (unheard ++ left)
+  pub said : List ℕ
+  pub made : ((heard ≡ []) × (said ≡ [])) ⊎ HasSaid [] heard (after_enter user) said
+  pub sent : Sent said
 
--- by how it ended
+abbrev pub CutsShort : List ℕ → Option (List ℕ) → Option (List ℕ) → (List ℕ → Type 0) → Type 0
+CutsShort user None left Sent = Unit {0}
+CutsShort user (Some input) None Sent = ⊥
+CutsShort user (Some input) (Some left) Sent = IsCutShort user input left Sent
+
+-- By how it ended. Where memory is refused all that was said before is written; where the writer failed it has a
+-- prefix of what was said.
 abbrev pub Pipes : List ℕ → Option (List ℕ) → Option (List ℕ) → Option (List ℕ) → Option (List ℕ) → Result (Unit {0}) PipeFault → Type 0
 Pipes user input left old new (Ok done) = HasEnded user input old new
 Pipes user input left old new (Err faults.Read) = HasRead user input left old new
-Pipes user input left old new (Err faults.Write) = HasStarted user input left old new
-Pipes user input left old new (Err faults.Memory) = HasStarted user input left old new
+Pipes user input left old new (Err faults.Write) = CutsShort user input left (SendsFront old new)
+Pipes user input left old new (Err faults.Memory) = CutsShort user input left (Appends old new)
 
 -- of a reader and a writer, as they were and as they are left
 abbrev pub PipesFrom : {R W : Type 0} → List ℕ → (R → Option (List ℕ)) → R → R → (W → Option (List ℕ)) → W → W → Result (Unit {0}) PipeFault → Type 0
@@ -129,6 +140,11 @@ PipesFrom user remaining unread left contents old new = Pipes user (remaining un
 abbrev pub PipeReads : Option ReaderTold → Option ReaderTold → Result (Unit {0}) PipeFault → Type 0
 PipeReads old new (Err faults.Read) = IfTold HasEndedReads old new
 PipeReads old new other = IfTold HasGiven old new
+
+-- It answers that the writer failed only where it did, and where it did it answers nothing else.
+abbrev pub PipeWrites : Option WriterTold → Option WriterTold → Result (Unit {0}) PipeFault → Type 0
+PipeWrites old new (Err faults.Write) = IfTold HasEndedWrites old new
+PipeWrites old new other = IfTold HasTaken old new
 
 -- ---- words of the contracts of the loops
 
@@ -156,21 +172,28 @@ pub record IsFed (users : List User) (piece : List ℕ) (old new : Scene) : Type
   pub room : HasRoom new.talk
   pub all : is_closed new.talk.stage ≡ false → rest ≡ []
 
--- a front of what is said when all turns are made that can be made
-pub record Says (users : List User) (old : Scene) (said : List ℕ) : Type 0 where
-  pub refused : List Bool
-  pub more : List ℕ
-  pub quiet : IsQuiet users (turns users refused old)
-  pub is : (turns users refused old).out ≡ said ++ more
+-- what isn't written of what was said: something where the writer failed, nothing where memory was refused
+abbrev pub MayLack : PipeFault → List ℕ → Type 0
+MayLack faults.Read lacking = ⊥
+MayLack faults.Write lacking = ⊤
+MayLack faults.Memory lacking = lacking ≡ []
 
--- a front of what is said when parts of a piece were heard, as there was room
-pub record SaysTo (users : List User) (piece : List ℕ) (old : Scene) (said : List ℕ) : Type 0 where
-  pub parts : List Fed
+-- what some turns said, up to a fault
+pub record Says (fault : PipeFault) (users : List User) (old : Scene) (said : List ℕ) : Type 0 where
+  pub refused : List Bool
+  pub lacking : List ℕ
+  pub is : (turns users refused old).out ≡ said ++ lacking
+  pub lacks : MayLack fault lacking
+
+-- what is said to a piece that was heard in parts, up to a fault
+pub record SaysTo (fault : PipeFault) (users : List User) (piece : List ℕ) (old : Scene)
+    (said : List ℕ) : Type 0 where
+  pub heard : List ℕ
   pub rest : List ℕ
-  pub more : List ℕ
-  pub joined_is : piece ≡ octets_of_pieces parts ++ rest
-  pub answered : AreAnswered users parts old
-  pub is : (fed_all users parts old).out ≡ said ++ more
+  pub lacking : List ℕ
+  pub piece_is : piece ≡ heard ++ rest
+  pub made : HasSaid users heard old (said ++ lacking)
+  pub lacks : MayLack fault lacking
 
 -- What is said is written or waits to be. This holds of all of it, of which so much waits, where a front is written by now.
 pub record IsOut (old new : Option (List ℕ)) (waits : List ℕ) (Holds : List ℕ → Type 0) : Type 0 where
@@ -190,10 +213,11 @@ pub record HasAnswered (users : List User) (piece : List ℕ) (old new : Option 
   pub heard : IsFed users piece (scene m t []) (scene new_m new_t said)
   pub sent : Appends old new said
 
--- or a front of that
-pub record HasPartlyAnswered (users : List User) (piece : List ℕ) (old new : Option (List ℕ)) (m : Machine) (t : Talking) : Type 0 where
+-- or what was said up to a fault
+pub record HasPartlyAnswered (fault : PipeFault) (users : List User) (piece : List ℕ)
+    (old new : Option (List ℕ)) (m : Machine) (t : Talking) : Type 0 where
   pub front : List ℕ
-  pub said : SaysTo users piece (scene m t []) front
+  pub said : SaysTo fault users piece (scene m t []) front
   pub sent : Appends old new front
 
 -- a fault of the writer or of memory
@@ -230,20 +254,23 @@ pub record IsBegun (pipe : PipeState) : Type 0 where
 abbrev pub IsUnderWay : {W : Type 0} → (W → Option (List ℕ)) → W → W → List ℕ → List ℕ → Type 0
 IsUnderWay contents w0 w waits octets = IsOut (contents w0) (contents w) waits (λ said. said ≡ octets)
 
--- all turns were made that can be made; at a fault a front of what they say is written or waits
+-- all turns were made that can be made; at a fault what some said is written or waits
 abbrev pub Settles : {W : Type 0} → List User → (W → Option (List ℕ)) → W → W → PipeState → PipeState → Result (Unit {0}) PipeFault → Type 0
 Settles users contents w0 w old new (Ok done) = IsOut (contents w0) (contents w) new.out.items (λ said. IsSettled users (scene_of old) (scene new.state.machine new.session said))
-Settles users contents w0 w old new (Err fault) = IsOut (contents w0) (contents w) new.out.items (Says users (scene_of old))
+Settles users contents w0 w old new (Err fault) =
+    IsOut (contents w0) (contents w) new.out.items (Says fault users (scene_of old))
 
 -- a piece was heard, and at a fault so of that
 abbrev pub Takes : {W : Type 0} → List User → List ℕ → (W → Option (List ℕ)) → W → W → PipeState → PipeState → Result (Unit {0}) PipeFault → Type 0
 Takes users piece contents w0 w old new (Ok done) = IsOut (contents w0) (contents w) new.out.items (λ said. IsFed users piece (scene_of old) (scene new.state.machine new.session said))
-Takes users piece contents w0 w old new (Err fault) = IsOut (contents w0) (contents w) new.out.items (SaysTo users piece (scene_of old))
+Takes users piece contents w0 w old new (Err fault) =
+    IsOut (contents w0) (contents w) new.out.items (SaysTo fault users piece (scene_of old))
 
--- and what is said to it, or a front of that, was written
+-- and what is said to it, or what was said up to a fault, was written
 abbrev pub Answers : {W : Type 0} → List User → List ℕ → (W → Option (List ℕ)) → W → W → PipeState → PipeState → Result (Unit {0}) PipeFault → Type 0
 Answers users piece contents w0 w old new (Ok done) = HasAnswered users piece (contents w0) (contents w) old.state.machine old.session new.state.machine new.session
-Answers users piece contents w0 w old new (Err fault) = HasPartlyAnswered users piece (contents w0) (contents w) old.state.machine old.session
+Answers users piece contents w0 w old new (Err fault) =
+    HasPartlyAnswered fault users piece (contents w0) (contents w) old.state.machine old.session
 
 -- what is written for a user's session, from its first turn on
 abbrev pub Serves : {R W : Type 0} → (R → Option (List ℕ)) → R → R → (W → Option (List ℕ)) → W → W → PipeState → Result (Unit {0}) PipeFault → Type 0

@@ -1,13 +1,14 @@
 -- What a script does and writes, line by line.
-use Rattle.std.specs.Prelude.{◌≡◌, ◌≢◌, ◌⊎◌, ℕ, pos, List, [], ◌∷◌, ◌++◌, drop, Bool, true, false, not, Option, Some, None, Result, Ok, Err, IsSome, Vec, codes}
+use Rattle.std.specs.Prelude.{◌≡◌, ◌≢◌, ◌⊎◌, ℕ, pos, List, [], ◌∷◌, ◌++◌, ◌<◌, length, drop, Bool, true, false, not, Option, Some, None, Result, Ok, Err, IsSome, Vec, codes}
 use Rattle.std.specs.Option.{is_some}
 use Rattle.std.specs.declared.alloc.Global.{Global}
 use Rattle.acap_grammar.specs.Replies.{crlf}
+use Rattle.acap_lexer.specs.Holding.{held_limit}
 use Rattle.acap_rights.specs.declared.realm.Realm.{Realm}
 use Rattle.acap_session.specs.Places.{Place, place_at}
 use Rattle.acap_script.specs.Lines.{line_of}
 use Rattle.acap_session.specs.ScriptOutput.{Shows}
-use Rattle.acap_dialogue.specs.Session.{session_next}
+use Rattle.acap_dialogue.specs.Session.{is_hearing, session_next}
 use Rattle.acap_session.specs.World as world
 use Rattle.acap_session.specs.World.{World, HasTurnedAt, IsStep, did, new_world, open_at, output_taken, room_of, said_before}
 use Rattle.acap_script.specs.declared.line_fault.LineFault.{LineFault}
@@ -190,6 +191,17 @@ AreDone [] old out new = (out ≡ []) × (new ≡ old)
 AreDone (text ∷ texts) old out new = AndThen (λ later between. AreDone texts between later new) text old out
 
 -- ---- words of the contracts
+
+-- a session that is open at a seat hears what comes next
+abbrev pub Listens : ℕ → World → Type 0
+Listens seat w = (place : Place) → open_at w seat ≡ Some place → is_hearing place.talk.stage ≡ true
+
+-- and holds less than it may, so that it takes some octets of any piece that has some
+abbrev pub HasRoomAt : ℕ → World → Type 0
+HasRoomAt seat w = (place : Place) → open_at w seat ≡ Some place → length place.talk.held.text < held_limit
+
+abbrev pub TakesSome : ℕ → List ℕ → World → ℕ → Type 0
+TakesSome seat piece w taken = HasRoomAt seat w → 0 < length piece → 0 < taken
 
 -- a turn was made, or none where no session is open
 abbrev pub HasTurned : Occasion → Bool → World → World → Type 0

@@ -3,7 +3,7 @@ use Rattle.std.specs.Prelude.{◌≡◌, ◌⊎◌, ℕ, ◌+◌, ◌<◌, ◌==
 use Rattle.std.specs.Io.KnownBytes.{Appends, Consumes, IsAtEnd}
 use Rattle.std.specs.List.{list_any}
 use Rattle.acap_session.specs.Script.{AreDone, IsDone, begins, is_wrong}
-use Rattle.acap_session.specs.Streams.{HasEndedReads, HasGiven, IfTold, SendsFront, ReaderTold}
+use Rattle.acap_session.specs.Streams.{HasEndedReads, HasEndedWrites, HasGiven, HasTaken, IfTold, SendsFront, ReaderTold, WriterTold}
 use Rattle.acap_session.specs.declared.progress.Progress.{Progress}
 use Rattle.acap_session.specs.declared.script.Script.{Script}
 use Rattle.acap_session.specs.declared.script_fault.ScriptFault.{ScriptFault}
@@ -91,9 +91,9 @@ pub record HasFailed (number : ℕ) (unread left old new : Option (List ℕ)) : 
   pub is_wrong : is_wrong wrong last ≡ true
   pub sent : Appends old new written
 
--- the writer failed, or memory was refused: a front of the lines was done, the last one perhaps without an LF, and a front
--- of what they say was written
-pub record HasBegun (unread left old new : Option (List ℕ)) : Type 0 where
+-- The writer failed, or memory was refused: a prefix of the lines was done, the last one perhaps without an LF, and
+-- what they say was sent so.
+pub record HasBegun (unread left : Option (List ℕ)) (Sent : List ℕ → Type 0) : Type 0 where
   pub read : List ℕ
   pub consumed : Consumes unread left read
   pub lines : List (List ℕ)
@@ -105,15 +105,15 @@ pub record HasBegun (unread left old new : Option (List ℕ)) : Type 0 where
   pub written : List ℕ
   pub last : Script
   pub done : AreDone texts begins written last
-  pub sent : SendsFront old new written
+  pub sent : Sent written
 
--- by how it ended
+-- By how it ended. All that the lines say is written; where the writer failed it has a prefix of that.
 abbrev pub Runs : Option (List ℕ) → Option (List ℕ) → Option (List ℕ) → Option (List ℕ) → Result (Unit {0}) ScriptFault → Type 0
 Runs unread left old new (Ok done) = HasEnded unread left old new
 Runs unread left old new (Err (faults.Line n)) = HasFailed n unread left old new
 Runs unread left old new (Err faults.Read) = HasStopped unread left old new
-Runs unread left old new (Err faults.Write) = HasBegun unread left old new
-Runs unread left old new (Err faults.Memory) = HasBegun unread left old new
+Runs unread left old new (Err faults.Write) = HasBegun unread left (SendsFront old new)
+Runs unread left old new (Err faults.Memory) = HasBegun unread left (Appends old new)
 
 -- of a reader and a writer, as they were and as they are left
 abbrev pub RunsFrom : {R W : Type 0} → (R → Option (List ℕ)) → R → R → (W → Option (List ℕ)) → W → W → Result (Unit {0}) ScriptFault → Type 0
@@ -124,6 +124,11 @@ RunsFrom remaining unread left contents old new = Runs (remaining unread) (remai
 abbrev pub ScriptReads : Option ReaderTold → Option ReaderTold → Result (Unit {0}) ScriptFault → Type 0
 ScriptReads old new (Err faults.Read) = IfTold HasEndedReads old new
 ScriptReads old new other = IfTold HasGiven old new
+
+-- It answers that the writer failed only where it did, and where it did it answers nothing else.
+abbrev pub ScriptWrites : Option WriterTold → Option WriterTold → Result (Unit {0}) ScriptFault → Type 0
+ScriptWrites old new (Err faults.Write) = IfTold HasEndedWrites old new
+ScriptWrites old new other = IfTold HasTaken old new
 
 -- ---- words of the contracts of its parts
 
@@ -188,8 +193,8 @@ pub record HasFailedIn (text : List ℕ) (number n : ℕ) (s : Script) (old new 
   pub is_wrong : is_wrong wrong last ≡ true
   pub sent : Appends old new said
 
--- or some were done, and a front of what they say was written
-pub record HasPartLines (text : List ℕ) (s : Script) (old new : Option (List ℕ)) : Type 0 where
+-- or some were done, and what they say was sent so
+pub record HasPartLines (text : List ℕ) (s : Script) (Sent : List ℕ → Type 0) : Type 0 where
   pub lines : List (List ℕ)
   pub behind : List ℕ
   pub is : text ≡ lines_of lines ++ behind
@@ -197,14 +202,14 @@ pub record HasPartLines (text : List ℕ) (s : Script) (old new : Option (List �
   pub said : List ℕ
   pub last : Script
   pub done : AreDone lines s said last
-  pub sent : SendsFront old new said
+  pub sent : Sent said
 
 abbrev pub RunsLines : List ℕ → List ℕ → ℕ → ℕ → Script → Script → Option (List ℕ) → Option (List ℕ) → Result (Unit {0}) ScriptFault → Type 0
 RunsLines text rest number later s t old new (Ok done) = HasRunLines text rest number later s t old new
 RunsLines text rest number later s t old new (Err (faults.Line n)) = HasFailedIn text number n s old new
 RunsLines text rest number later s t old new (Err faults.Read) = ⊥
-RunsLines text rest number later s t old new (Err faults.Write) = HasPartLines text s old new
-RunsLines text rest number later s t old new (Err faults.Memory) = HasPartLines text s old new
+RunsLines text rest number later s t old new (Err faults.Write) = HasPartLines text s (SendsFront old new)
+RunsLines text rest number later s t old new (Err faults.Memory) = HasPartLines text s (Appends old new)
 
 -- what is held goes before the piece
 abbrev pub RunsPiece : {W : Type 0} → List ℕ → Progress → Progress → (W → Option (List ℕ)) → W → W → Result (Unit {0}) ScriptFault → Type 0

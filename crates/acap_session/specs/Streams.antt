@@ -1,5 +1,5 @@
 -- What is said of readers and writers: how often a reader was asked and failed, and what a writer has of octets.
-use Rattle.std.specs.Prelude.{◌≡◌, ◌⊎◌, ◌+◌, ℕ, List, ◌++◌, Bool, true, false, Option, Some, None, min}
+use Rattle.std.specs.Prelude.{◌≡◌, ◌⊎◌, ◌+◌, ◌≤◌, ℕ, List, ◌++◌, Bool, true, false, Option, Some, None, min}
 use Rattle.std.specs.Io.KnownBytes.{Appends}
 
 -- ---- what a reader tells
@@ -22,19 +22,41 @@ abbrev pub after_read : Bool → ReaderTold → ReaderTold
 after_read true t = after_reads 1 t
 after_read false t = record { reads = up_by 1 t.reads; failures = up_by 1 t.failures }
 
--- where a reader tells that, it is so
-abbrev pub IfTold : (ReaderTold → ReaderTold → Type 0) → Option ReaderTold → Option ReaderTold → Type 0
+-- where a reader or a writer tells that, it is so
+abbrev pub IfTold : {T : Type 0} → (T → T → Type 0) → Option T → Option T → Type 0
 IfTold Is None new = Unit {0}
 IfTold Is (Some old) None = ⊥
 IfTold Is (Some old) (Some new) = Is old new
 
--- no read failed
+-- no read failed, and there were 1,000,000,000 at most
 abbrev pub HasGiven : ReaderTold → ReaderTold → Type 0
-HasGiven old new = new.failures ≡ old.failures
+HasGiven old new = (new.failures ≡ old.failures) × (new.reads ≤ old.reads + 1000000000)
 
 -- one failed, or there were 1,000,000,000, none of which failed
 abbrev pub HasEndedReads : ReaderTold → ReaderTold → Type 0
-HasEndedReads old new = (new.failures ≡ up_by 1 old.failures) ⊎ (new ≡ after_reads 1000000000 old)
+HasEndedReads old new = ((new.failures ≡ up_by 1 old.failures) × (new.reads ≤ old.reads + 1000000000))
+    ⊎ (new ≡ after_reads 1000000000 old)
+
+-- ---- what a writer tells
+
+-- how often it was asked, and how often it failed, each counted up to the last number
+pub record WriterTold : Type 0 where
+  pub writes : ℕ
+  pub failures : ℕ
+
+-- after one time, at which it took what it took, or failed
+abbrev pub after_write : Bool → WriterTold → WriterTold
+after_write true t = record t { writes = up_by 1 t.writes }
+after_write false t = record { writes = up_by 1 t.writes; failures = up_by 1 t.failures }
+
+-- it didn't fail
+abbrev pub HasTaken : WriterTold → WriterTold → Type 0
+HasTaken old new = new.failures ≡ old.failures
+
+-- it failed once, or didn't, and was asked as often as can be counted
+abbrev pub HasEndedWrites : WriterTold → WriterTold → Type 0
+HasEndedWrites old new = (new.failures ≡ up_by 1 old.failures)
+    ⊎ ((new.failures ≡ old.failures) × (new.writes ≡ 18446744073709551615))
 
 -- ---- what was written
 

@@ -3,6 +3,9 @@ ghost use Rattle.acap_session.specs.Completing.{CompletionExamples, CompletionFo
 ghost use Rattle.acap_session.specs.Live.{LiveLaw};
 ghost use Rattle.acap_session.specs.Seating.{SeatingLaw};
 ghost use Rattle.acap_session.specs.PipeSteps.{PipeRuns};
+ghost use Rattle.acap_session.specs.ScriptExamples.{ScriptExamples};
+ghost use Rattle.acap_session.specs.ScriptTaking.{ScriptRuns};
+ghost use Rattle.acap_session.specs.Taking.{TakingLaw};
 ghost use Rattle.acap_session.specs.Laws.{PiecesJoin, TurnsKeep, CuttingLaw, JoiningLaw, OthersStay};
 ghost use Rattle.acap_session.specs.Laws.{SessionLaw, StepAlone, AloneLaw, RefusedTurns, WrittenLaw};
 
@@ -87,6 +90,25 @@ pub fn completion_examples()
 /// The last line of a reply that completes a command is `tag OK ..`, `tag NO ..` or `tag BAD ..` (RFC 2244 section 6.2).
 pub fn completion_form()
     ensures { CompletionForm }
+{}
+
+/// When what was said is taken from a seat makes no difference: the machine, the sessions and the replies are those
+/// of the run in which nothing is taken, whose octets are those that were taken and then those that are left
+/// (RFC 2244 section 2).
+pub fn taking_law()
+    ensures { TakingLaw }
+{}
+
+/// The lines of a script are such a run, of a world for which they set who may log in, the realm and the host; and
+/// what is taken after each line at a seat is what the script writes (RFC 2244 section 2).
+pub fn script_runs()
+    ensures { ScriptRuns }
+{}
+
+/// How a script cuts what a session says into lines, and that what comes after a close isn't heard (RFC 2244
+/// section 2).
+pub fn script_examples()
+    ensures { ScriptExamples }
 {}
 
 /// Whatever sessions do, and in whichever order: the client of a live context that begins with the whole list of the SEARCH which made

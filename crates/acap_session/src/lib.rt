@@ -26,9 +26,10 @@ mod world_fault;
 
 pub use acap_dialogue::{Next, Session, Stage};
 pub use input::{Input, ReadFailed};
-pub use pipe::{run_pipe, run_pipe_from};
+pub use output::{Output, WriteFailed, send_all};
+pub use pipe::run_pipe;
 pub use pipe_fault::PipeFault;
 pub use script_fault::ScriptFault;
-pub use script_run::{run_script, run_script_from};
+pub use script_run::run_script;
 pub use world::World;
 pub use world_fault::WorldFault;

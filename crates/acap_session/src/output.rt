@@ -1,43 +1,79 @@
-//! Writing octets, so that of a fault it is known what was written before it.
+//! What is written to.
 
-ghost use Rattle.std.specs.Prelude.{◌≤◌, length, take, IfOk, OnOk, OnErr};
-ghost use Rattle.acap_session.specs.Streams.{Sends, SendsFront};
+ghost use Rattle.std.specs.Prelude.{◌≡◌, ◌≤◌, ◌<◌, ℕ, List, Option, None, length, take, is_ok, option_map, IfOk, OnOk, OnErr};
+ghost use Rattle.acap_session.specs.Streams.{HasEndedWrites, HasTaken, IfTold, Sends, SendsFront};
+ghost use Rattle.std.specs.Io.KnownBytes.{Appends, Keeps};
 
 use std::io::{ErrorKind, Write};
 
 /// A write failed.
 #[derive(Clone, Copy, PartialEq, Eq)]
-pub(crate) struct WriteFailed;
+pub struct WriteFailed;
 
-// Writes a front of octets, and says how many that is: 0 where it is to be tried again. A writer that takes none has failed.
-fn write_front<W: Write>(writer: &mut W, octets: &[u8]) -> Result<usize, WriteFailed>
-    ensures sent { IfOk result (λ count. Sends W.contents writer.old writer.new (take count octets.now)) }
-    ensures bound { IfOk result (λ count. count ≤ length octets.now) }
-    ensures none { OnErr result (Sends W.contents writer.old writer.new (take 0 octets.now)) }
-{
-    match writer.write(octets) {
-        Ok(0) => Err(WriteFailed),
-        Ok(count) => Ok(count),
-        Err(error) => {
-            if error.kind() == ErrorKind::Interrupted {
-                return Ok(0);
+/// A writer that may tell how often it was asked, and how often it failed.
+pub trait Output {
+    ghost use Rattle.acap_session.specs.Streams.{WriterTold, after_write};
+
+    // The octets that it has, where they are known.
+    ghost contents: { Self → Option (List ℕ) } = { λ _. None };
+
+    // How often it was asked and how often it failed, where it tells that.
+    ghost told: { Self → Option WriterTold } = { λ _. None };
+
+    /// Takes a prefix of octets, and says how many: 0 where it is to be asked again, as after an interruption. One
+    /// that takes no more has failed.
+    fn write_prefix(&mut self, octets: &[u8]) -> Result<usize, WriteFailed>
+        requires { 0 < length octets.now }
+        ensures sent { IfOk result (λ count.
+            Appends (contents self.old) (contents self.new) (take count octets.now)) }
+        ensures bound { IfOk result (λ count. count ≤ length octets.now) }
+        ensures none { OnErr result (Keeps (contents self.old) (contents self.new)) }
+        ensures told { told self.new ≡ option_map (after_write (is_ok result)) (told self.old) };
+
+    /// Hands on what it took.
+    fn hand_on(&mut self) -> Result<(), WriteFailed>
+        ensures kept { Keeps (contents self.old) (contents self.new) }
+        ensures told { told self.new ≡ option_map (after_write (is_ok result)) (told self.old) };
+}
+
+/// What std writes to tells nothing of its failures.
+impl<W: Write> Output for W {
+    ghost contents = { λ w. W.contents w };
+
+    fn write_prefix(&mut self, octets: &[u8]) -> Result<usize, WriteFailed> {
+        match self.write(octets) {
+            Ok(0) => Err(WriteFailed),
+            Ok(count) => Ok(count),
+            Err(error) => {
+                if error.kind() == ErrorKind::Interrupted {
+                    return Ok(0);
+                }
+                Err(WriteFailed)
             }
-            Err(WriteFailed)
+        }
+    }
+
+    fn hand_on(&mut self) -> Result<(), WriteFailed> {
+        match self.flush() {
+            Ok(()) => Ok(()),
+            Err(_) => Err(WriteFailed),
         }
     }
 }
 
 // Writes all octets.
-fn write_all<W: Write>(writer: &mut W, octets: &[u8]) -> Result<(), WriteFailed>
+fn write_all<W: Output>(writer: &mut W, octets: &[u8]) -> Result<(), WriteFailed>
     ensures sent { OnOk result (Sends W.contents writer.old writer.new octets.now) }
     ensures front { OnErr result (SendsFront (W.contents writer.old) (W.contents writer.new) octets.now) }
+    ensures taken { OnOk result (IfTold HasTaken (W.told writer.old) (W.told writer.new)) }
+    ensures failed { OnErr result (IfTold HasEndedWrites (W.told writer.old) (W.told writer.new)) }
 {
     let mut rest = octets;
-    'writes: for _ in 0..u64::MAX {
+    'writes: for time in 0..u64::MAX {
         if rest.is_empty() {
             return Ok(());
         }
-        let count = write_front(writer, rest)?;
+        let count = writer.write_prefix(rest)?;
         let (_, behind) = rest.split_at(count);
         rest = behind;
     }
@@ -45,14 +81,13 @@ fn write_all<W: Write>(writer: &mut W, octets: &[u8]) -> Result<(), WriteFailed>
 }
 
 /// Writes all octets, so that whoever waits for them has them. An interrupted write is tried again. Where it fails a front of
-/// them was written.
-pub(crate) fn send_all<W: Write>(writer: &mut W, octets: &[u8]) -> Result<(), WriteFailed>
+/// them was written, and the writer counts a failure, or was asked 2^64 - 1 times.
+pub fn send_all<W: Output>(writer: &mut W, octets: &[u8]) -> Result<(), WriteFailed>
     ensures sent { OnOk result (Sends W.contents writer.old writer.new octets.now) }
     ensures front { OnErr result (SendsFront (W.contents writer.old) (W.contents writer.new) octets.now) }
+    ensures taken { OnOk result (IfTold HasTaken (W.told writer.old) (W.told writer.new)) }
+    ensures failed { OnErr result (IfTold HasEndedWrites (W.told writer.old) (W.told writer.new)) }
 {
     write_all(writer, octets)?;
-    let Ok(()) = writer.flush() else {
-        return Err(WriteFailed);
-    };
-    Ok(())
+    writer.hand_on()
 }

@@ -4,13 +4,13 @@ ghost use Rattle.std.specs.Prelude.{◌≡◌, [], IfErr, IfOk, OnErr, OnOk};
 ghost use Rattle.acap_session.specs.Piping as piping;
 ghost use Rattle.acap_session.specs.Piping.{Answers, Goes, HasRoom, HasTurned, IsBegun, IsLater};
 ghost use Rattle.acap_session.specs.Piping.{IsUnderWay, PipeReads};
-ghost use Rattle.acap_session.specs.Piping.{PipesFrom, Serves, Settles, Takes, begins, scene_of};
+ghost use Rattle.acap_session.specs.Piping.{PipeWrites, PipesFrom, Serves, Settles, Takes, begins, scene_of};
 ghost use Rattle.acap_session.specs.Streams.{Sends, SendsFront};
 ghost use Rattle.acap_session.specs.declared.pipe_fault.PipeFault.TheVariants as faults;
 
 use crate::input::Input;
 use crate::occasion::Occasion;
-use crate::output::send_all;
+use crate::output::{Output, send_all};
 use crate::pipe_fault::PipeFault;
 use crate::pipe_state::PipeState;
 use crate::turn::Turn;
@@ -21,7 +21,6 @@ use acap_login::Users;
 use acap_machine::State;
 use acap_rights::Realm;
 use std::alloc::Global;
-use std::io::{Read, Write};
 use std::sync::ledger::Ledger;
 
 /// After so many reads a session ends as if the reader had failed.
@@ -52,11 +51,12 @@ fn without_administrators(alloc: Global) -> Realm
 }
 
 // Writes all that waits, so that whoever waits for it has it. Nothing waits then, also where that failed.
-fn send<W: Write>(writer: &mut W, out: &mut Vec<u8>) -> Result<(), PipeFault>
+fn send<W: Output>(writer: &mut W, out: &mut Vec<u8>) -> Result<(), PipeFault>
     ensures sent { OnOk result (Sends W.contents writer.old writer.new out.old.items) }
     ensures front { OnErr result (SendsFront (W.contents writer.old) (W.contents writer.new) out.old.items) }
     ensures empty { out.new.items ≡ [] }
     ensures fault { IfErr result (λ fault. fault ≡ faults.Write) }
+    ensures writes { PipeWrites (W.told writer.old) (W.told writer.new) result }
 {
     let sent = send_all(writer, out);
     out.clear();
@@ -67,11 +67,12 @@ fn send<W: Write>(writer: &mut W, out: &mut Vec<u8>) -> Result<(), PipeFault>
 }
 
 // Writes what waits, where it is much.
-fn ease<W: Write>(writer: &mut W, out: &mut Vec<u8>) -> Result<(), PipeFault>
+fn ease<W: Output>(writer: &mut W, out: &mut Vec<u8>) -> Result<(), PipeFault>
     ensures said { OnOk result (IsUnderWay W.contents writer.old writer.new out.new.items out.old.items) }
     ensures front { OnErr result (SendsFront (W.contents writer.old) (W.contents writer.new) out.old.items) }
     ensures empty { OnErr result (out.new.items ≡ []) }
     ensures fault { IfErr result (λ fault. fault ≡ faults.Write) }
+    ensures writes { PipeWrites (W.told writer.old) (W.told writer.new) result }
 {
     if out.len() < MANY {
         return Ok(());
@@ -80,7 +81,7 @@ fn ease<W: Write>(writer: &mut W, out: &mut Vec<u8>) -> Result<(), PipeFault>
 }
 
 // Makes all turns that can be made. What they say waits, and is written as soon as it is much.
-fn settle<W: Write, L: Ledger>(
+fn settle<W: Output, L: Ledger>(
     pipe: &mut PipeState,
     users: &Users,
     writer: &mut W,
@@ -89,6 +90,7 @@ fn settle<W: Write, L: Ledger>(
     requires { Goes pipe.old.session }
     ensures made { Settles users.now W.contents writer.old writer.new pipe.old pipe.new result }
     ensures fault { IfErr result IsLater }
+    ensures writes { PipeWrites (W.told writer.old) (W.told writer.new) result }
 {
     'turns: loop {
         match turn(
@@ -107,7 +109,7 @@ fn settle<W: Write, L: Ledger>(
 }
 
 // Gives a session a piece, and makes all turns that can be made. What comes behind a close isn't heard.
-fn feed<W: Write, L: Ledger>(
+fn feed<W: Output, L: Ledger>(
     pipe: &mut PipeState,
     users: &Users,
     piece: &[u8],
@@ -117,6 +119,7 @@ fn feed<W: Write, L: Ledger>(
     requires { HasRoom pipe.old.session }
     ensures made { Takes users.now piece.now W.contents writer.old writer.new pipe.old pipe.new result }
     ensures fault { IfErr result IsLater }
+    ensures writes { PipeWrites (W.told writer.old) (W.told writer.new) result }
 {
     let mut rest = piece;
     'parts: while !rest.is_empty() && !pipe.session.is_closed() {
@@ -147,7 +150,7 @@ fn enter<L: Ledger>(pipe: &mut PipeState, users: &Users, steps: &mut Steps<L>) -
 }
 
 // Hears a piece, and writes what is said to it, also where memory is refused then.
-fn answer<W: Write, L: Ledger>(
+fn answer<W: Output, L: Ledger>(
     pipe: &mut PipeState,
     users: &Users,
     piece: &[u8],
@@ -159,6 +162,7 @@ fn answer<W: Write, L: Ledger>(
     ensures made { Answers users.now piece.now W.contents writer.old writer.new pipe.old pipe.new result }
     ensures empty { OnOk result (pipe.new.out.items ≡ []) }
     ensures fault { IfErr result IsLater }
+    ensures writes { PipeWrites (W.told writer.old) (W.told writer.new) result }
 {
     match feed(pipe, users, piece, writer, steps) {
         Ok(()) => send(writer, &mut pipe.out),
@@ -183,7 +187,7 @@ fn begin(alloc: Global, user: UserName) -> Result<PipeState, Memory>
 }
 
 // Greets, then reads piece by piece, and writes what is said to each before the next is read.
-fn serve<R: Input, W: Write, L: Ledger>(
+fn serve<R: Input, W: Output, L: Ledger>(
     pipe: &mut PipeState,
     users: &Users,
     reader: &mut R,
@@ -194,6 +198,7 @@ fn serve<R: Input, W: Write, L: Ledger>(
     requires nobody { users.now ≡ [] }
     ensures all { Serves R.remaining reader.old reader.new W.contents writer.old writer.new pipe.old result }
     ensures reads { PipeReads (R.told reader.old) (R.told reader.new) result }
+    ensures writes { PipeWrites (W.told writer.old) (W.told writer.new) result }
 {
     enter(pipe, users, steps)?;
     send(writer, &mut pipe.out)?;
@@ -219,7 +224,7 @@ fn serve<R: Input, W: Write, L: Ledger>(
 /// end of what is read; a command that isn't whole then is dropped. Where the reader fails, or has given 1,000,000,000
 /// times, what it gave before is answered. After a fault of the writer or of memory a front of what is to be written is
 /// written. Each entry that a search looks at counts as a step.
-pub fn run_pipe_from<R: Input, W: Write, L: Ledger>(
+pub fn run_pipe<R: Input, W: Output, L: Ledger>(
     alloc: Global,
     reader: &mut R,
     writer: &mut W,
@@ -228,21 +233,9 @@ pub fn run_pipe_from<R: Input, W: Write, L: Ledger>(
 ) -> Result<(), PipeFault>
     ensures pipes { PipesFrom user R.remaining reader.old reader.new W.contents writer.old writer.new result }
     ensures reads { PipeReads (R.told reader.old) (R.told reader.new) result }
+    ensures writes { PipeWrites (W.told writer.old) (W.told writer.new) result }
 {
     let users = Users::new(Vec::new(alloc));
     let mut pipe = begin(alloc, user)?;
     serve(&mut pipe, &users, reader, writer, steps)
-}
-
-/// The same over a reader of std, which doesn't tell of its failures.
-pub fn run_pipe<R: Read, W: Write, L: Ledger>(
-    alloc: Global,
-    reader: &mut R,
-    writer: &mut W,
-    user: UserName,
-    steps: &mut Steps<L>,
-) -> Result<(), PipeFault>
-    ensures { PipesFrom user R.remaining reader.old reader.new W.contents writer.old writer.new result }
-{
-    run_pipe_from(alloc, reader, writer, user, steps)
 }

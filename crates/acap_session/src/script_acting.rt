@@ -1,6 +1,6 @@
 //! What a line of a script does at a seat.
 
-ghost use Rattle.acap_session.specs.Script.{MayAct, MayOpen};
+ghost use Rattle.acap_session.specs.Script.{Listens, MayAct, MayOpen};
 ghost use Rattle.acap_script.specs.declared.seat_line.SeatLine.TheVariants as act;
 
 use crate::occasion::Occasion;
@@ -30,6 +30,7 @@ fn send<L: Ledger>(
     text: Octets,
     steps: &mut Steps<L>,
 ) -> Result<(), LineFault>
+    requires { Listens at.now.seat world.old }
     ensures { MayAct (act.Send text) at.now world.old world.new result }
 {
     let mut sent = text.into_vec();
@@ -78,6 +79,7 @@ pub(crate) fn do_at<L: Ledger>(
     line: SeatLine,
     steps: &mut Steps<L>,
 ) -> Result<(), LineFault>
+    requires { Listens at.now.seat world.old }
     ensures { MayAct line at.now world.old world.new result }
 {
     match line {

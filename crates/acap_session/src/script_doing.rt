@@ -2,10 +2,10 @@
 
 ghost use Rattle.std.specs.Prelude.{◌≡◌, true, Err, IfOk};
 ghost use Rattle.acap_session.specs.Script.{Does, Done, IsDone, MaySay, MaySet, MaySpeak};
-ghost use Rattle.acap_session.specs.Script.{begins, fits, is_wrong};
+ghost use Rattle.acap_session.specs.Script.{Listens, begins, fits, is_wrong};
 ghost use Rattle.acap_session.specs.Script.{with_administrator, with_host, with_member, with_user, world_of};
+ghost use Rattle.acap_session.specs.ScriptTaking.{IsReached};
 ghost use Rattle.acap_script.specs.declared.line_fault.LineFault.TheVariants as faults;
-ghost use Rattle.acap_session.specs.declared.standing.Standing.TheVariants as standings;
 
 use crate::occasion::Occasion;
 use crate::script::Script;
@@ -32,16 +32,12 @@ pub(crate) fn begin(alloc: Global) -> Result<Script, Memory>
     })
 }
 
-// Makes the world of what was set, if there is none yet.
-fn make_world(alloc: Global, standing: &mut Standing)
-    ensures { standing.new ≡ standings.Since (world_of standing.old) }
+// Takes out the world, which is made of what was set if there is none yet.
+fn take_world(alloc: Global, standing: &mut Standing) -> World
+    ensures { result ≡ world_of standing.old }
 {
-    let Standing::Before(setup) = standing else {
-        return;
-    };
     let nothing = Setup::new(alloc, Octets::from_vec(Vec::new(alloc)));
-    let world = mem::replace(setup, nothing).into_world(alloc);
-    *standing = Standing::Since(world);
+    mem::replace(standing, Standing::Before(nothing)).into_world(alloc)
 }
 
 // One more may log in.
@@ -110,6 +106,7 @@ fn speak_at<L: Ledger>(
     line: SeatLine,
     steps: &mut Steps<L>,
 ) -> Result<Vec<u8>, LineFault>
+    requires { Listens at.now.seat world.old }
     ensures { MaySay line at.now world.old world.new result }
 {
     do_at(world, at, line, steps)?;
@@ -126,6 +123,7 @@ fn speak<L: Ledger>(
     line: SeatLine,
     steps: &mut Steps<L>,
 ) -> Result<Vec<u8>, LineFault>
+    requires { IsReached script.old }
     ensures { MaySpeak seat line script.old script.new result }
 {
     let at = Occasion {
@@ -133,11 +131,10 @@ fn speak<L: Ledger>(
         clock: script.clock,
         nonce: script.nonce,
     };
-    make_world(alloc, &mut script.standing);
-    let Standing::Since(world) = &mut script.standing else {
-        return Err(LineFault::Memory);
-    };
-    speak_at(alloc, world, &at, line, steps)
+    let mut world = take_world(alloc, &mut script.standing);
+    let said = speak_at(alloc, &mut world, &at, line, steps);
+    script.standing = Standing::Since(world);
+    said
 }
 
 // Does a line, and gives what it says.
@@ -147,6 +144,7 @@ fn do_line<L: Ledger>(
     line: ScriptLine,
     steps: &mut Steps<L>,
 ) -> Result<Vec<u8>, LineFault>
+    requires { IsReached script.old }
     ensures { Done (fits line script.old.standing) (λ out. Does line script.old out.items script.new) result }
 {
     match line {
@@ -174,6 +172,7 @@ pub(crate) fn do_text<L: Ledger>(
     text: &[u8],
     steps: &mut Steps<L>,
 ) -> Result<Vec<u8>, LineFault>
+    requires { IsReached script.old }
     ensures ok { IfOk result (λ out. IsDone text.now script.old out.items script.new) }
     ensures wrong { (result ≡ Err faults.Wrong) → is_wrong text.now script.old ≡ true }
 {

@@ -2,7 +2,7 @@
 
 ghost use Rattle.std.specs.Prelude.{◌≡◌, ◌≤◌, length, is_some, IfOk, OnOk};
 ghost use Rattle.acap_script.specs.declared.seat_line.SeatLine.TheVariants as act;
-ghost use Rattle.acap_session.specs.Script.{HasSettled, HasTurned, MayAct, MayOffer};
+ghost use Rattle.acap_session.specs.Script.{HasSettled, HasTurned, Listens, MayAct, MayOffer, TakesSome};
 ghost use Rattle.acap_session.specs.World.{open_at};
 
 use crate::occasion::Occasion;
@@ -43,6 +43,7 @@ fn offer<L: Ledger>(
     steps: &mut Steps<L>,
 ) -> Result<usize, LineFault>
     ensures offered { MayOffer octets.now at.now world.old world.new result }
+    ensures some { IfOk result (TakesSome at.now.seat octets.now world.old) }
     ensures within { IfOk result (λ taken. taken ≤ length octets.now) }
 {
     let taken = world.piece(at.seat, octets)?;
@@ -63,6 +64,7 @@ pub(crate) fn hear<L: Ledger>(
     octets: &[u8],
     steps: &mut Steps<L>,
 ) -> Result<(), LineFault>
+    requires { Listens at.now.seat world.old }
     ensures { MayAct (act.Raw octets.now) at.now world.old world.new result }
 {
     let taken = offer(world, at, octets, steps)?;
@@ -73,9 +75,6 @@ pub(crate) fn hear<L: Ledger>(
             return Ok(());
         }
         let taken = offer(world, at, rest, steps)?;
-        if taken == 0 {
-            return Err(LineFault::Memory);
-        }
         let (_, behind) = rest.split_at(taken);
         rest = behind;
     }

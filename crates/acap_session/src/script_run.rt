@@ -4,12 +4,13 @@ ghost use Rattle.std.specs.Prelude.{◌≡◌, ◌+◌, ◌^◌, ◌<◌, ◌≤
 ghost use Rattle.std.specs.Prelude.{OnOk};
 ghost use Rattle.acap_session.specs.ScriptRun.{EndsAt, IsLine, IsUnread, RunsFrom, RunsLastTo};
 ghost use Rattle.acap_session.specs.ScriptRun.{RunsLineTo, RunsPiece};
-ghost use Rattle.acap_session.specs.ScriptRun.{ScriptReads};
+ghost use Rattle.acap_session.specs.ScriptRun.{ScriptReads, ScriptWrites};
+ghost use Rattle.acap_session.specs.ScriptTaking.{IsReached};
 ghost use Rattle.acap_session.specs.Streams.{Sends, SendsFront};
 ghost use Rattle.acap_session.specs.declared.script_fault.ScriptFault.TheVariants as faults;
 
 use crate::input::Input;
-use crate::output::send_all;
+use crate::output::{Output, send_all};
 use crate::progress::Progress;
 use crate::script::Script;
 use crate::script_doing::{begin, do_text};
@@ -17,7 +18,6 @@ use crate::script_fault::ScriptFault;
 use acap_entries::{Memory, Steps};
 use acap_script::LineFault;
 use std::alloc::Global;
-use std::io::{Read, Write};
 use std::sync::ledger::Ledger;
 
 /// After so many reads a script ends as if the reader had failed.
@@ -37,10 +37,11 @@ fn end_of(text: &[u8]) -> Option<usize>
 }
 
 // Writes all that is to be written, so that whoever waits for it has it.
-fn send<W: Write>(writer: &mut W, out: &[u8]) -> Result<(), ScriptFault>
+fn send<W: Output>(writer: &mut W, out: &[u8]) -> Result<(), ScriptFault>
     ensures sent { OnOk result (Sends W.contents writer.old writer.new out.now) }
     ensures front { OnErr result (SendsFront (W.contents writer.old) (W.contents writer.new) out.now) }
     ensures fault { IfErr result (λ fault. fault ≡ faults.Write) }
+    ensures writes { ScriptWrites (W.told writer.old) (W.told writer.new) result }
 {
     match send_all(writer, out) {
         Ok(()) => Ok(()),
@@ -49,7 +50,7 @@ fn send<W: Write>(writer: &mut W, out: &[u8]) -> Result<(), ScriptFault>
 }
 
 // Does the line with that number, and writes what it says.
-fn run_line<W: Write, L: Ledger>(
+fn run_line<W: Output, L: Ledger>(
     alloc: Global,
     script: &mut Script,
     text: &[u8],
@@ -57,7 +58,9 @@ fn run_line<W: Write, L: Ledger>(
     writer: &mut W,
     steps: &mut Steps<L>,
 ) -> Result<(), ScriptFault>
-    ensures { RunsLineTo text.now number script.old script.new W.contents writer.old writer.new result }
+    requires { IsReached script.old }
+    ensures ran { RunsLineTo text.now number script.old script.new W.contents writer.old writer.new result }
+    ensures writes { ScriptWrites (W.told writer.old) (W.told writer.new) result }
 {
     match do_text(alloc, script, text, steps) {
         Ok(out) => send(writer, out.as_slice()),
@@ -67,17 +70,19 @@ fn run_line<W: Write, L: Ledger>(
 }
 
 // Does the lines that a piece ends, the first of which begins with what is held, and holds what stands behind them.
-fn run_lines<W: Write, L: Ledger>(
+fn run_lines<W: Output, L: Ledger>(
     alloc: Global,
     progress: &mut Progress,
     piece: &[u8],
     writer: &mut W,
     steps: &mut Steps<L>,
 ) -> Result<(), ScriptFault>
+    requires reached { IsReached progress.old.script }
     requires line { IsLine progress.old.held.items }
     requires count { progress.old.number + length piece.now < 2 ^ 64 }
     ensures ran { RunsPiece piece.now progress.old progress.new W.contents writer.old writer.new result }
     ensures count { OnOk result (progress.new.number ≤ progress.old.number + length piece.now) }
+    ensures writes { ScriptWrites (W.told writer.old) (W.told writer.new) result }
 {
     let mut rest = piece;
     'lines: while let Some(place) = end_of(rest) {
@@ -105,7 +110,7 @@ fn run_lines<W: Write, L: Ledger>(
 }
 
 // Does the last line, which has no LF, if there is one.
-fn run_last<W: Write, L: Ledger>(
+fn run_last<W: Output, L: Ledger>(
     alloc: Global,
     script: &mut Script,
     text: &[u8],
@@ -113,7 +118,9 @@ fn run_last<W: Write, L: Ledger>(
     writer: &mut W,
     steps: &mut Steps<L>,
 ) -> Result<(), ScriptFault>
-    ensures { RunsLastTo text.now number script.old script.new W.contents writer.old writer.new result }
+    requires { IsReached script.old }
+    ensures ran { RunsLastTo text.now number script.old script.new W.contents writer.old writer.new result }
+    ensures writes { ScriptWrites (W.told writer.old) (W.told writer.new) result }
 {
     if text.is_empty() {
         return Ok(());
@@ -134,7 +141,7 @@ fn begin_reading(alloc: Global) -> Result<Progress, Memory>
 }
 
 // Does the lines of all that is read.
-fn run_all<R: Input, W: Write, L: Ledger>(
+fn run_all<R: Input, W: Output, L: Ledger>(
     alloc: Global,
     progress: &mut Progress,
     reader: &mut R,
@@ -144,6 +151,7 @@ fn run_all<R: Input, W: Write, L: Ledger>(
     requires { IsUnread progress.old }
     ensures runs { RunsFrom R.remaining reader.old reader.new W.contents writer.old writer.new result }
     ensures reads { ScriptReads (R.told reader.old) (R.told reader.new) result }
+    ensures writes { ScriptWrites (W.told writer.old) (W.told writer.new) result }
 {
     let mut buffer = [0u8; 4096];
     'reads: for time in 0..READS {
@@ -170,7 +178,7 @@ fn run_all<R: Input, W: Write, L: Ledger>(
 /// before the next line is read. Where the reader fails, or has given 1,000,000,000 times, the lines that had ended by then
 /// are done; where a line is wrong, those before it. After a fault of the writer or of memory a front of the lines is done,
 /// and a front of what they say is written. Each entry that a search looks at counts as a step.
-pub fn run_script_from<R: Input, W: Write, L: Ledger>(
+pub fn run_script<R: Input, W: Output, L: Ledger>(
     alloc: Global,
     reader: &mut R,
     writer: &mut W,
@@ -178,19 +186,8 @@ pub fn run_script_from<R: Input, W: Write, L: Ledger>(
 ) -> Result<(), ScriptFault>
     ensures runs { RunsFrom R.remaining reader.old reader.new W.contents writer.old writer.new result }
     ensures reads { ScriptReads (R.told reader.old) (R.told reader.new) result }
+    ensures writes { ScriptWrites (W.told writer.old) (W.told writer.new) result }
 {
     let mut progress = begin_reading(alloc)?;
     run_all(alloc, &mut progress, reader, writer, steps)
-}
-
-/// The same over a reader of std, which doesn't tell of its failures.
-pub fn run_script<R: Read, W: Write, L: Ledger>(
-    alloc: Global,
-    reader: &mut R,
-    writer: &mut W,
-    steps: &mut Steps<L>,
-) -> Result<(), ScriptFault>
-    ensures { RunsFrom R.remaining reader.old reader.new W.contents writer.old writer.new result }
-{
-    run_script_from(alloc, reader, writer, steps)
 }

@@ -1,6 +1,7 @@
 //! One machine, and the sessions of its seats.
 
-ghost use Rattle.std.specs.Prelude.{◌≡◌, is_some};
+ghost use Rattle.std.specs.Prelude.{◌≡◌, true, is_some};
+ghost use Rattle.acap_login.specs.Login.{are_named};
 ghost use Rattle.acap_session.specs.Places.{place_at};
 ghost use Rattle.acap_session.specs.World.{Drains, Feeds, Leaves, Opens, Turns, new_world, open_at};
 ghost use Rattle.acap_session.specs.World.{output_taken, said_before};
@@ -58,6 +59,13 @@ impl World {
             state: State::new(alloc, realm),
             places: Vec::new(alloc),
         }
+    }
+
+    /// Who may log in has a user's name: does nothing.
+    pub fn form_law(&self)
+        ensures { are_named self.now.users ≡ true }
+    {
+        self.users.form_law();
     }
 
     /// The machine.

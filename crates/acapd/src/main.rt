@@ -8,6 +8,7 @@ use acap_entries::Steps;
 use acap_serving::{ServeFault, serve};
 use std::alloc::AllocGlobal;
 use std::fs::Files;
+use std::io::ErrorKind;
 use std::marker::Brand;
 use std::net::{Net, TcpListener, TcpStream};
 use std::process::ExitCode;
@@ -65,8 +66,11 @@ where
         &mut rt.stderr(),
         &mut steps,
         |file| serve(handle, file.as_str()).map_err(fault_of),
-    )?;
-    Ok(ExitCode::from(status))
+    );
+    match status {
+        Ok(status) => Ok(ExitCode::from(status)),
+        Err(_) => Err(io::Error::from(ErrorKind::Other)),
+    }
 }
 
 fn main(rt: HostRuntime) -> io::Result<ExitCode> {

@@ -1,11 +1,14 @@
-use Rattle.std.proofs.Common.{◌≡◌, inl, inr, subst, sym, ◌∙◌}
-use Rattle.acap_dialogue.specs.Session.{session_drain, drain_in}
+use Rattle.std.proofs.Common.{◌≡◌, inl, inr, ap, subst, sym, ◌∙◌}
+use Rattle.acap_dialogue.specs.Session.{session_drain, drain_in, is_asked}
 use Rattle.acap_session.specs.Turning.{scene}
-use Rattle.acap_session.proofs.Performing.{asked_by, cut_drain, drain_asks, drained_by, match_then, not_drained, performed_by, stood, undrained}
+use Rattle.acap_session.proofs.Performing.{asked_by, cut_drain, draining, drained_by, match_then, not_drained, performed_by, stood, undrained}
 use Rattle.acap_session.proofs.turns.drain.Goals as goal
 
 pub conclude-requires : goal.conclude-requires
-conclude-requires g c = drain_asks c.args.session.now c.begin_drain.new.self (subst (λ b. (drain_in b, c.begin_drain.new.self) ≡ session_drain c.args.session.now) c.if-not-begin_drain.false c.begin_drain.ensures)
+conclude-requires g c = ap is_asked (draining c.args.session.now c.begin_drain.new.self (subst (λ b. (drain_in b, c.begin_drain.new.self) ≡ session_drain c.args.session.now) c.if-not-begin_drain.false c.begin_drain.ensures))
+
+pub end_drain-requires : goal.end_drain-requires
+end_drain-requires g c = draining c.args.session.now c.begin_drain.new.self (subst (λ b. (drain_in b, c.begin_drain.new.self) ≡ session_drain c.args.session.now) c.if-not-begin_drain.false c.begin_drain.ensures)
 
 pub returns-then-not-begin_drain : goal.returns-then-not-begin_drain
 returns-then-not-begin_drain g c =
