@@ -2,6 +2,7 @@
 """Makes random scripts with contexts, and follows each context as its client would.
 
     python3 bench/follow.py PROGRAM [--seed N] [--scripts N] [--ignore WORD]
+    python3 bench/follow.py PROGRAM --compare OTHER [--seed N] [--scripts N]
 
 A script has several users at several seats, datasets that inherit, access lists, contexts of all kinds, and changes. PROGRAM
 (`acapd script`) is sent one line after the other. From the rows of each SEARCH that makes a context with NOTIFY, notices are
@@ -11,6 +12,8 @@ over the context must find the same. The first difference is shown, with a scrip
 
     --seed N       the seed of the first script (1); the next ones have N + 1 and so on
     --scripts N    how many (1,000)
+    --compare OTHER  gives each whole script to both programs instead, and compares what they print, octet by octet, what
+                     they report on standard error, and their statuses
     --ignore WORD  doesn't apply notices of this kind, ADDTO, REMOVEFROM or CHANGE: then a difference must be found
 """
 import argparse
@@ -170,6 +173,34 @@ def shortened(asked, lines):
     return lines
 
 
+# ---- two programs
+
+def output(program, script):
+    """What a program prints and reports for a script, and its status."""
+    done = subprocess.run([program, "script"], input=script, capture_output=True, timeout=60)
+    return done.stdout, done.stderr, done.returncode
+
+
+def differs(asked, lines):
+    """Whether two programs differ over a script."""
+    script = "".join(line + "\n" for line in lines).encode()
+    return output(asked.program, script) != output(asked.compare, script)
+
+
+def compare(asked):
+    """Compares two programs over all scripts, and ends at the first difference."""
+    count = 0
+    for seed in range(asked.seed, asked.seed + asked.scripts):
+        lines = list(Maker(seed).lines())
+        if differs(asked, lines):
+            for at in reversed(range(len(lines))):
+                fewer = lines[:at] + lines[at + 1:]
+                lines = fewer if differs(asked, fewer) else lines
+            sys.exit(f"seed {seed}, shortened:\n" + "\n".join(lines))
+        count += len(lines)
+    print(f"{asked.scripts} scripts of {count} lines: both programs print and report the same, and end with the same status")
+
+
 # ---- random scripts
 
 SEATS = {"1": "joe", "2": "ann", "3": "bob", "4": "joe", "5": "root"}
@@ -279,8 +310,11 @@ def main():
     words.add_argument("program")
     words.add_argument("--seed", type=int, default=1)
     words.add_argument("--scripts", type=int, default=1000)
+    words.add_argument("--compare", metavar="OTHER")
     words.add_argument("--ignore", choices=["ADDTO", "REMOVEFROM", "CHANGE"])
     asked, counts = words.parse_args(), collections.Counter()
+    if asked.compare:
+        return compare(asked)
     for seed in range(asked.seed, asked.seed + asked.scripts):
         lines = list(Maker(seed).lines())
         if follow(asked, lines, counts)[0]:
