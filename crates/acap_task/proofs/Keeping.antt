@@ -23,7 +23,7 @@ use Rattle.acap_dialogue.specs.declared.stage.Stage.{Stage}
 use Rattle.acap_dialogue.specs.declared.stage.Stage.TheVariants as stage
 use Rattle.acap_dialogue.proofs.Running.{run_snoc, pieces_snoc, clocks_snoc, nonces_snoc, drains_snoc, faults_snoc, calls_snoc, calls_then}
 use Rattle.acap_dialogue.proofs.Speaking.{same_talk}
-use Rattle.acap_task.specs.Kept.{Agrees, IsPicked, IsUntold, Kept, Roles, as_told, count_told, fault_of, shape}
+use Rattle.acap_task.specs.Kept.{Agrees, AllMove, IsPicked, IsUntold, Kept, Moves, Roles, as_told, count_told, fault_of, shape}
 use Rattle.acap_task.specs.Progress.{Progress, no_progress}
 use Rattle.acap_task.specs.Told.{WireTold, DeskTold, SourceTold, BellTold, after_call, after_ring, gives_moment, gives_nonce, up}
 use Rattle.acap_task.specs.Turns.{Acts, Drains, DrainsAs, Ends, Idles, KeepsAll, Leaves, Rings, Settles, Turns, fault_in, is_entering, reply_in, seats}
@@ -50,6 +50,7 @@ kept_first {w} {d} {s} {b} {k} roles talk lost begins is untold =
       moments = [];
       numbers = [];
       ran = refl;
+      moved = tt;
       steps_are = refl;
       talk_is = λ whole. sym (begins whole);
       seated_is = refl;
@@ -68,6 +69,9 @@ kept_first {w} {d} {s} {b} {k} roles talk lost begins is untold =
     })
 
 -- ---- one step
+
+some_same : {A : Type 0} {x y : A} → Some x ≡ Some y → x ≡ y
+some_same e = cc
 
 -- octets are owed, or memory is refused for them
 abbrev pub Owes : Progress → List ℕ → Progress → Type 0
@@ -88,16 +92,24 @@ told_snoc roles ds x at ran =
     ∙ map-append as_told (calls roles.users ds (begin roles)) (calls_then roles.users x (after_steps roles.users ds (begin roles)))
     ∙ ap (λ o. map as_told (calls roles.users ds (begin roles)) ++ map as_told (calls_then roles.users x o)) ran
 
+-- one more step that came to something
+pub moved_on : (users : List User) (ds : List Did) (x : Did) (o : Option At) (at : At) → option_and_then (after_steps users ds) o ≡ Some at
+    → AllMove users ds o → Moves users x at → AllMove users (ds ++ x ∷ []) o
+moved_on users [] x None at ran all moves = tt
+moved_on users [] x (Some start) at ran all moves = (subst (Moves users x) (some_same (sym ran)) moves, tt)
+moved_on users (y ∷ ys) x None at ran all moves = tt
+moved_on users (y ∷ ys) x (Some start) at ran all moves = (all.0, moved_on users ys x (did users y start) at ran all.1 moves)
+
 pub kept_step : {roles : Roles} {w v : WireTold} {d e : DeskTold} {s t : SourceTold} {b c : BellTold} {k l : Progress}
     (h : Kept roles w d s b k) (x : Did) (at : At) (text unread : List ℕ) (moments : List ℤ) (numbers : List ℕ)
-    → did roles.users x h.at ≡ Some at → (l.lost ≡ false → at.talk ≡ l.talk) → at.seated ≡ l.seated → at.out ≡ h.at.out ++ text
+    → did roles.users x h.at ≡ Some at → Moves roles.users x h.at → (l.lost ≡ false → at.talk ≡ l.talk) → at.seated ≡ l.seated → at.out ≡ h.at.out ++ text
     → k.lost ≡ false → Owes k text l → l.steps ≡ k.steps ++ shape x ∷ []
     → (l.lost ≡ false → unread ≡ []) → Agrees v.taken ((pieces h.dids ++ octets_in x) ++ unread) → v.put ≡ w.put
     → Goes d e (calls_in roles.users x h.at) (faults_in x)
     → Agrees t.moments moments → Agrees t.nonces numbers → IsPicked (clocks h.dids ++ clocks_in x) moments → IsPicked (nonces h.dids ++ nonces_in x) numbers
     → Agrees c.rings (count_told (drains h.dids + drains_in x))
     → Kept roles v e t c l
-kept_step {roles} {w} {v} {d} {e} {s} {t} {b} {c} {k} {l} h x at text unread moments numbers does talk seated out whole owes steps all taken put goes gave numbered clocked nonced rings =
+kept_step {roles} {w} {v} {d} {e} {s} {t} {b} {c} {k} {l} h x at text unread moments numbers does moves talk seated out whole owes steps all taken put goes gave numbered clocked nonced rings =
     let left = owed_missing k l text whole owes in
     let said : at.out ≡ h.written ++ (l.owed ++ left.0) =
     out ∙ ap (λ ys. ys ++ text) h.said_is ∙ ap (λ ys. (h.written ++ (k.owed ++ ys)) ++ text) (h.whole whole)
@@ -111,6 +123,7 @@ kept_step {roles} {w} {v} {d} {e} {s} {t} {b} {c} {k} {l} h x at text unread mom
       moments = moments;
       numbers = numbers;
       ran = run_snoc roles.users h.dids x (begin roles) ∙ ap (option_and_then (did roles.users x)) h.ran ∙ does;
+      moved = moved_on roles.users h.dids x (Some (begin roles)) h.at h.ran h.moved moves;
       steps_are = shapes_snoc h.dids x ∙ ap (λ ss. ss ++ shape x ∷ []) h.steps_are ∙ sym steps;
       talk_is = talk;
       seated_is = seated;
@@ -276,14 +289,14 @@ no_more xs ys = ap (λ zs. zs ++ ys) (sym (append-nil xs))
 module _ {roles : Roles} {w : WireTold} {d e : DeskTold} {s : SourceTold} {b : BellTold} {k l : Progress} where
   -- a turn, by what it leaves and says
   turn_step : (h : Kept roles w d s b k) (clock : ℤ) (nonce : ℕ) (x : Next × Talking) (asked left : Outcome) (at : At) (text : List ℕ)
-      → session_next roles.users nonce clock h.at.talk ≡ x → after_turn h.at x asked left ≡ Some at
+      → session_next roles.users nonce clock h.at.talk ≡ x → (x.0 ≡ next.More → ⊥) → after_turn h.at x asked left ≡ Some at
       → (l.lost ≡ false → at.talk ≡ l.talk) → at.seated ≡ l.seated → at.out ≡ h.at.out ++ text
       → k.lost ≡ false → Owes k text l → l.steps ≡ k.steps ++ shape (Turn clock nonce asked left) ∷ []
       → Goes d e (calls_with clock (event_in x) asked left) (fault_count asked + fault_count left)
       → Kept roles w e (gives_nonce (gives_moment s clock) nonce) b l
-  turn_step h clock nonce x asked left at text is does talk seated out whole owes steps goes =
+  turn_step h clock nonce x asked left at text is some does talk seated out whole owes steps goes =
       kept_step h (Turn clock nonce asked left) at text h.unread (h.moments ++ clock ∷ []) (h.numbers ++ nonce ∷ [])
-      (did_turn roles.users clock nonce asked left h.at x is ∙ does) talk seated out whole owes steps (λ _. h.all_read whole)
+      (did_turn roles.users clock nonce asked left h.at x is ∙ does) (λ e. some (ap (λ y. y.0) (sym is) ∙ e)) talk seated out whole owes steps (λ _. h.all_read whole)
       (agrees_as w.taken _ _ (no_more (pieces h.dids) h.unread) h.taken_is) refl
       (subst (λ cs. Goes d e cs (fault_count asked + fault_count left)) (sym (turn_calls roles.users clock nonce asked left h.at x is)) goes)
       (agrees_adds s.moments h.moments (clock ∷ []) h.moments_are) (agrees_adds s.nonces h.numbers (nonce ∷ []) h.numbers_are)
@@ -304,6 +317,7 @@ module _ {roles : Roles} {w : WireTold} {d e : DeskTold} {s : SourceTold} {b : B
         moments = h.moments ++ clock ∷ [];
         numbers = h.numbers ++ nonce ∷ [];
         ran = h.ran;
+        moved = h.moved;
         steps_are = h.steps_are;
         talk_is = h.talk_is;
         seated_is = h.seated_is;
@@ -330,7 +344,7 @@ module _ {roles : Roles} {w : WireTold} {d e : DeskTold} {s : SourceTold} {b : B
       turn_none h clock nonce (made.1 ∙ ap (λ x. record k { talk = x }) same) made.2
   acted h clock nonce was (next.Say octets) t is whole made =
       let from = ap (session_next roles.users nonce clock) (h.talk_is whole) ∙ is in
-      turn_step h clock nonce (next.Say octets, t) None None (record { talk = t; out = h.at.out ++ octets; seated = h.at.seated }) octets from refl
+      turn_step h clock nonce (next.Say octets, t) None None (record { talk = t; out = h.at.out ++ octets; seated = h.at.seated }) octets from (λ e. cc) refl
       (λ _. sym made.2.0) (h.seated_is ∙ sym made.2.3) refl whole (inl (made.2.1, made.2.2)) made.1
       (goes_nowhere d e made.3)
   acted h clock nonce was (next.Close octets) t is whole made =
@@ -339,7 +353,7 @@ module _ {roles : Roles} {w : WireTold} {d e : DeskTold} {s : SourceTold} {b : B
       × KeepsAll (record k { talk = t; owed = k.owed ++ octets; seated = false }) l = made.1 in
       let at : At = record { talk = t; out = h.at.out ++ octets; seated = false } in
       let left = has_left k.seated clock d m.0 e at m.2 in
-      turn_step h clock nonce (next.Close octets, t) None left.outcome at octets from (ap (λ y. leaving y left.outcome at) h.seated_is ∙ left.made)
+      turn_step h clock nonce (next.Close octets, t) None left.outcome at octets from (λ e. cc) (ap (λ y. leaving y left.outcome at) h.seated_is ∙ left.made)
       (λ _. sym m.3.0) (sym m.3.3) refl whole (inl (m.3.1, m.3.2))
       (m.1 ∙ ap (λ y. k.steps ++ y ∷ []) (shape_turn clock nonce None m.0 None left.outcome refl left.shown))
       (goes_on (goes_nowhere d d refl) left.goes)
@@ -348,7 +362,7 @@ module _ {roles : Roles} {w : WireTold} {d e : DeskTold} {s : SourceTold} {b : B
       let m : (asked : Option Fault) × (left : Option Fault) × (l.steps ≡ k.steps ++ step.Turn clock nonce asked left ∷ [])
       × Settles event clock (record k { talk = t }) d asked left l e = made.1 in
       let q = settles {k = record k { talk = t }} {l = l} {d = d} {e = e} {clock = clock} {asked = m.0} {left = m.1} event h.at.out whole m.3 in
-      turn_step h clock nonce (next.Ask event, t) (Some q.outcome) q.gone (after_saying h.at.out (behind event q.outcome k.seated t)) (text_of (after_answer t q.outcome).0) from
+      turn_step h clock nonce (next.Ask event, t) (Some q.outcome) q.gone (after_saying h.at.out (behind event q.outcome k.seated t)) (text_of (after_answer t q.outcome).0) from (λ e. cc)
       (ap (λ z. leaving (is_left (behind event q.outcome z t)) q.gone (after_saying h.at.out (behind event q.outcome z t))) h.seated_is ∙ q.made)
       q.talk q.seat (added_text h.at.out (after_answer t q.outcome).0) whole q.owes
       (m.2 ∙ ap (λ y. k.steps ++ y ∷ []) (shape_turn clock nonce m.0 m.1 (Some q.outcome) q.gone q.asked_shown q.left_shown))
@@ -394,6 +408,7 @@ module _ {roles : Roles} {w : WireTold} {d e : DeskTold} {s t : SourceTold} {b :
         moments = given.0;
         numbers = given.1;
         ran = h.ran;
+        moved = h.moved;
         steps_are = h.steps_are ∙ sym made.steps;
         talk_is = λ f. h.talk_is (made.talk f).1 ∙ sym (made.talk f).0;
         seated_is = h.seated_is ∙ sym made.seated;
@@ -470,7 +485,7 @@ module _ {roles : Roles} {w : WireTold} {d e : DeskTold} {s : SourceTold} {b : B
       → Kept roles w e (gives_moment s clock) (after_ring b (Ready ring.Rung)) l
   drain_step h clock x asked left at text is does talk seated out whole owes steps goes =
       kept_step h (Drain clock asked left) at text h.unread (h.moments ++ clock ∷ []) h.numbers
-      (did_drain roles.users clock asked left h.at x is ∙ does) talk seated out whole owes steps (λ _. h.all_read whole)
+      (did_drain roles.users clock asked left h.at x is ∙ does) tt talk seated out whole owes steps (λ _. h.all_read whole)
       (agrees_as w.taken _ _ (no_more (pieces h.dids) h.unread) h.taken_is) refl
       (subst (λ cs. Goes d e cs (fault_count asked + fault_count left)) (sym (drain_calls roles.users clock asked left h.at x is)) goes)
       (agrees_adds s.moments h.moments (clock ∷ []) h.moments_are) h.numbers_are
@@ -518,6 +533,7 @@ module _ {roles : Roles} {w : WireTold} {d e : DeskTold} {s t : SourceTold} {b :
         moments = h.moments;
         numbers = h.numbers;
         ran = h.ran;
+        moved = h.moved;
         steps_are = h.steps_are;
         talk_is = h.talk_is;
         seated_is = h.seated_is;

@@ -19,7 +19,7 @@ use Rattle.acap_task.specs.Waiting.{EndsAt, IsOver}
 use Rattle.acap_task.specs.declared.step.Step.TheVariants as step
 use Rattle.acap_task.specs.declared.task_end.TaskEnd.{TaskEnd}
 use Rattle.acap_task.specs.declared.wire_fault.WireFault.{WireFault}
-use Rattle.acap_task.proofs.Keeping.{begin, kept_step, shapes_snoc, shown_as, told_snoc}
+use Rattle.acap_task.proofs.Keeping.{begin, kept_step, moved_on, shapes_snoc, shown_as, told_snoc}
 use Rattle.acap_task.proofs.Telling.{agrees_adds, agrees_as, goes_by_call, goes_nowhere, picked_more}
 
 -- ---- what is written
@@ -36,6 +36,7 @@ module _ {roles : Roles} {w v : WireTold} {d : DeskTold} {s : SourceTold} {b : B
     moments = h.moments;
     numbers = h.numbers;
     ran = h.ran;
+    moved = h.moved;
     steps_are = h.steps_are;
     talk_is = h.talk_is;
     seated_is = h.seated_is;
@@ -64,6 +65,7 @@ module _ {roles : Roles} {w v : WireTold} {d : DeskTold} {s : SourceTold} {b : B
     moments = h.moments;
     numbers = h.numbers;
     ran = h.ran;
+    moved = h.moved;
     steps_are = h.steps_are;
     talk_is = h.talk_is;
     seated_is = h.seated_is;
@@ -107,7 +109,7 @@ module _ {roles : Roles} {w v : WireTold} {d : DeskTold} {s : SourceTold} {b : B
       → l.owed ≡ k.owed → l.seated ≡ k.seated → l.talk ≡ taking k.talk octets → l.steps ≡ k.steps ++ step.Piece (length octets) ∷ [] → l.lost ≡ k.lost
       → Kept roles v d s b l
   took_kept h octets taken put whole owed seated talk steps lost =
-      kept_step h (Piece octets) (record h.at { talk = taking h.at.talk octets }) [] [] h.moments h.numbers (did_piece roles.users octets h.at)
+      kept_step h (Piece octets) (record h.at { talk = taking h.at.talk octets }) [] [] h.moments h.numbers (did_piece roles.users octets h.at) tt
       (λ _. ap (λ t. taking t octets) (h.talk_is whole) ∙ sym talk) (h.seated_is ∙ sym seated) (sym (append-nil h.at.out)) whole
       (inl (owed ∙ sym (append-nil k.owed), lost)) steps (λ _. refl)
       (subst (λ o. Agrees o ((pieces h.dids ++ octets) ++ [])) (sym taken) (agrees_as (adds w.taken octets) _ _ (sym (append-nil (pieces h.dids ++ octets)))
@@ -129,6 +131,7 @@ module _ {roles : Roles} {w v : WireTold} {d : DeskTold} {s : SourceTold} {b : B
     moments = h.moments;
     numbers = h.numbers;
     ran = h.ran;
+    moved = h.moved;
     steps_are = h.steps_are ∙ sym steps;
     talk_is = λ f. absurd (cc (f, lost));
     seated_is = h.seated_is ∙ sym seated;
@@ -195,6 +198,7 @@ module _ {roles : Roles} {w : WireTold} {d e : DeskTold} {s t : SourceTold} {b :
             ∙ ap (option_and_then (did roles.users (Leave clock (Some (reply_in outcome))))) h.ran
             ∙ did_leave roles.users clock (Some (reply_in outcome)) h.at
             ∙ ap (λ z. leaving z (Some (reply_in outcome)) (record { talk = over h.at.talk; out = h.at.out; seated = false })) (h.seated_is ∙ seated);
+        moved = moved_on roles.users h.dids (Leave clock (Some (reply_in outcome))) (Some (begin roles)) h.at h.ran h.moved tt;
         steps_are = shapes_snoc h.dids (Leave clock (Some (reply_in outcome))) ∙ (λ i. h.steps_are i ++ step.Leave clock (sym (shown_as outcome) i) ∷ []);
         talk_is = λ f. ap over (h.talk_is f);
         seated_is = refl;

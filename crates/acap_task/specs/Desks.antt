@@ -1,5 +1,5 @@
 -- A desk in memory.
-use Rattle.std.specs.Prelude.{◌≡◌, ◌⊎◌, ℕ, ℤ, List, [], ◌∷◌, ◌++◌, Option, Result, Ok, Err, refl}
+use Rattle.std.specs.Prelude.{◌≡◌, ◌⊎◌, ℕ, ℤ, List, [], ◌∷◌, ◌++◌, Bool, true, false, map, Option, Some, Result, Ok, Err, refl}
 use Rattle.std.specs.Coded.{Coded, code_by, coded×, coded_list, coded_option, coded_result, coded_ℕ}
 use Rattle.acap_commands.specs.contracts.fault.Fault as refusal
 use Rattle.acap_commands.specs.declared.fault.Fault.{Fault}
@@ -8,9 +8,12 @@ use Rattle.acap_locked.specs.contracts.answer.Answer as answer
 use Rattle.acap_locked.specs.contracts.call.Call as call
 use Rattle.acap_locked.specs.declared.answer.Answer.{Answer}
 use Rattle.acap_commands.specs.declared.event.Event.{Event}
+use Rattle.acap_commands.specs.declared.event.Event.TheVariants as event
 use Rattle.acap_commands.specs.declared.reply.Reply.{Reply}
+use Rattle.acap_locked.specs.Calls.{Gains}
 use Rattle.acap_locked.specs.Notes.{call_of}
 use Rattle.acap_locked.specs.declared.call.Call.{Call}
+use Rattle.acap_locked.specs.declared.held.Held.{Held}
 use Rattle.acap_locked.specs.declared.item.PassItem.{PassItem}
 use Rattle.acap_task.specs.Told.{DeskTold}
 
@@ -39,6 +42,18 @@ desk_code = coded× told_code (coded_list (coded_result answer.the_row.coded ref
 abbrev pub exchange_of : PassItem → Call
 exchange_of i = i.exchange
 
+-- what it tells of its record
+abbrev pub desk_told : List PassItem → ℕ → DeskTold
+desk_told calls faults = record { calls = Some (map exchange_of calls); faults = faults }
+
+-- whether a Leave is owed after a call: where it was the Leave that was refused
+abbrev pub owes_after : Event → Result Answer Fault → Bool → Bool
+owes_after event.Leave (Ok answer) owed = false
+owes_after event.Leave (Err fault) owed = true
+owes_after (event.Enter user) outcome owed = owed
+owes_after (event.Command command) outcome owed = owed
+owes_after event.Drain outcome owed = owed
+
 -- one list ends with the other
 pub record EndsWith (long short : List PassItem) : Type 0 where
   pub front : List PassItem
@@ -54,3 +69,8 @@ pub record HasCalled (event : Event) (now : ℤ) (reply : Reply) (items kept new
   pub call : item.exchange ≡ call_of event now reply
   pub in_record : new_kept ≡ kept ++ item ∷ []
   pub in_pass : (new_items ≡ items ++ item ∷ []) ⊎ (new_items ≡ item ∷ [])
+
+-- a pass has one call more, a Leave at that moment
+pub record HasLeft (now : ℤ) (old new : Held) : Type 0 where
+  pub answer : Answer
+  pub gains : Gains old event.Leave now answer new

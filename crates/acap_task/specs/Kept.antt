@@ -3,7 +3,9 @@ use Rattle.std.specs.Prelude.{◌≡◌, ◌⊎◌, ℕ, ℤ, min, List, [], ◌
 use Rattle.acap_login.specs.Login.{User}
 use Rattle.acap_commands.specs.declared.fault.Fault.{Fault}
 use Rattle.acap_dialogue.specs.Running as running
-use Rattle.acap_dialogue.specs.Running.{At, Did, Piece, Turn, Drain, Leave, Outcome, calls, clocks, drains, faults, nonces, pieces, after_steps, start}
+use Rattle.acap_dialogue.specs.Session.{session_next}
+use Rattle.acap_dialogue.specs.declared.next.Next.TheVariants as next
+use Rattle.acap_dialogue.specs.Running.{At, Did, Piece, Turn, Drain, Leave, Outcome, calls, clocks, did, drains, faults, nonces, pieces, after_steps, start}
 use Rattle.acap_locked.specs.Notes.{call_of}
 use Rattle.acap_locked.specs.declared.call.Call.{Call}
 use Rattle.acap_task.specs.Progress.{Progress}
@@ -56,6 +58,18 @@ IsPicked {A} used (g ∷ gs) = IsPicked used gs ⊎ ((rest : List A) × (used �
 
 -- ---- what is kept
 
+-- a turn that is noted came to something
+abbrev pub Moves : List User → Did → At → Type 0
+Moves users (Turn clock nonce asked left) at = (session_next users nonce clock at.talk).0 ≡ next.More → ⊥
+Moves users (Piece octets) at = Unit {0}
+Moves users (Drain clock asked left) at = Unit {0}
+Moves users (Leave clock left) at = Unit {0}
+
+abbrev pub AllMove : List User → List Did → Option At → Type 0
+AllMove users [] o = Unit {0}
+AllMove users (d ∷ ds) None = Unit {0}
+AllMove users (d ∷ ds) (Some at) = Moves users d at × AllMove users ds (did users d at)
+
 -- There is a run of the session of which the steps are those that are kept, each with all that it used. Its octets are those that were
 -- read, in their order, but for some that memory was refused for. Its moments and nonces were given, in their order and none twice. Its
 -- drains are the bell's rings. Its events that were answered are the desk's calls, and its faults as many as the desk counts. What was
@@ -69,6 +83,7 @@ pub record Kept (roles : Roles) (w : WireTold) (d : DeskTold) (s : SourceTold) (
   pub moments : List ℤ
   pub numbers : List ℕ
   pub ran : after_steps roles.users dids (start roles.host roles.user) ≡ Some at
+  pub moved : AllMove roles.users dids (Some (start roles.host roles.user))
   pub steps_are : map shape dids ≡ k.steps
   pub talk_is : k.lost ≡ false → at.talk ≡ k.talk
   pub seated_is : at.seated ≡ k.seated

@@ -1,5 +1,5 @@
 -- Where a session that runs waits, and how it ends.
-use Rattle.std.specs.Prelude.{◌≡◌, ◌⊎◌, ℕ, ℤ, ◌+◌, ◌<◌, ◌≤◌, List, [], true, false, Option, Some, None, Result, Ok, Err}
+use Rattle.std.specs.Prelude.{◌≡◌, ◌⊎◌, ℕ, ℤ, ◌+◌, ◌<◌, ◌≤◌, List, [], length, true, false, Option, Some, None, Result, Ok, Err}
 use Rattle.futures.specs.declared.task.Poll.{Poll}
 use Rattle.futures.specs.declared.task.Poll.TheVariants.{Ready, Pending}
 use Rattle.acap_login.specs.Login.{User}
@@ -38,6 +38,10 @@ pub record Later (w v : WireTold) (b c : BellTold) : Type 0 where
 
 -- ---- where a poll leaves a session waiting
 
+-- it waits for its writer, which wasn't ready, and owes it octets
+abbrev pub Stalls : WireTold → WireTold → Progress → Type 0
+Stalls w v new = Rose w.write_waits v.write_waits × (0 < length new.owed)
+
 -- it waits for its client: the reader wasn't ready, a further turn comes to nothing, and all that was said is written
 pub record Hears (users : List User) (w v : WireTold) (new : Progress) : Type 0 where
   pub reader : Rose w.read_waits v.read_waits
@@ -50,13 +54,13 @@ pub record Listens (users : List User) (w v : WireTold) (b c : BellTold) (new : 
   pub hears : Hears users w v new
   pub bell : Rose b.waits c.waits ⊎ (c.ended ≡ true)
 
--- the writer wasn't ready; or it waits for its client; or at least 64 steps were made, each a turn, a drain or a piece that isn't empty
+-- it waits for its writer; or for its client; or at least 64 steps were made, each a turn, a drain or a piece that isn't empty
 abbrev pub Waits : List User → WireTold → WireTold → BellTold → BellTold → Progress → Progress → Type 0
-Waits users w v b c old new = Rose w.write_waits v.write_waits ⊎ (Listens users w v b c new ⊎ (done old.steps + 64 ≤ done new.steps))
+Waits users w v b c old new = Stalls w v new ⊎ (Listens users w v b c new ⊎ (done old.steps + 64 ≤ done new.steps))
 
 -- the same of one round
 abbrev pub Stops : List User → WireTold → WireTold → BellTold → BellTold → Progress → Type 0
-Stops users w v b c new = Rose w.write_waits v.write_waits ⊎ Listens users w v b c new
+Stops users w v b c new = Stalls w v new ⊎ Listens users w v b c new
 
 -- all that is owed is written, or the writer fails
 pub record Flushes (w v : WireTold) (old new : Progress) : Type 0 where

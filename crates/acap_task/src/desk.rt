@@ -1,5 +1,5 @@
 //! What answers events.
-ghost use Rattle.std.specs.Prelude.{◌≡◌};
+ghost use Rattle.std.specs.Prelude.{◌≡◌, ℕ};
 
 use acap_commands::{Event, Fault};
 use acap_entries::Moment;
@@ -12,7 +12,11 @@ pub trait Desk: Drop {
     // What the desk tells of its past.
     ghost told: { Self → DeskTold };
 
+    // The number of the seat at which it calls, the same from call to call; 0 where it has none.
+    ghost seat: { Self → ℕ } = { λ _. 0 };
+
     /// Performs one event, when the clock shows that moment.
     fn call(&mut self, event: Event, moment: Moment) -> Result<Answer, Fault>
-        ensures told { told self.new ≡ after_call (told self.old) event moment result };
+        ensures told { told self.new ≡ after_call (told self.old) event moment result }
+        ensures seat { seat self.new ≡ seat self.old };
 }

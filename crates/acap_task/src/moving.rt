@@ -25,7 +25,8 @@ pub(crate) fn write<W: Wire>(
     cx: &mut Context<'_>,
     course: &mut Course,
 ) -> Poll<Result<usize, WireFault>>
-    requires { HasRoomToLeave course.old }
+    requires room { HasRoomToLeave course.old }
+    requires owed { 0 < length course.old.owed }
     ensures written { Writes (W.told wire.old) (progress course.old) result (W.told wire.new)
         (progress course.new) }
     ensures room { HasRoomToLeave course.new }
@@ -62,7 +63,8 @@ pub(crate) fn read<W: Wire>(
     course: &mut Course,
     buffer: &mut [u8],
 ) -> Poll<Result<usize, WireFault>>
-    requires { HasRoom course.old }
+    requires room { HasRoom course.old }
+    requires lent { (0 < room_in course.old.session) × (0 < length buffer.old) }
     ensures reads { Reads (W.told wire.old) (progress course.old) result (W.told wire.new)
         (progress course.new) }
     ensures room { HasRoomToLeave course.new }
@@ -93,6 +95,7 @@ pub(crate) fn ring<B: Bell, D: Desk, S: Source>(
     ensures bell { B.told bell.new ≡ after_ring (B.told bell.old) result }
     ensures rings { Rings result (progress course.old) (D.told desk.old) (S.told source.old)
         (progress course.new) (D.told desk.new) (S.told source.new) }
+    ensures seat { D.seat desk.new ≡ D.seat desk.old }
     ensures room { HasRoomToLeave course.new }
     ensures silent { IfSilent result (HasRoom course.new) }
     ensures armed { OnPending result (IsArmed cx.new) }

@@ -26,7 +26,8 @@ pub struct PassDesk<'a, S: Site, L: Ledger, R: Wait, N: Ringer> {
     pub calls: Vec<PassItem>,
     /// How many were answered with a fault, up to the last number.
     pub faults: u64,
-    owes_leave: bool,
+    /// Whether the last Leave was refused.
+    pub owes_leave: bool,
     ghost ends: { ∥ EndsAlike calls.items pass.items ∥₁ },
 }
 
@@ -50,6 +51,7 @@ fn call_with<S: Site, L: Ledger, R: Wait>(
     ensures ok { IfOk result (λ answer. HasCalled event moment answer.reply pass.old.items calls.old.items
         pass.new.items calls.new.items) }
     ensures err { OnErr result ((pass.new ≡ pass.old) × (calls.new.items ≡ calls.old.items)) }
+    ensures seat { pass.new.seat ≡ pass.old.seat }
 {
     calls.reserve(1)?;
     let mut answer = served.call(rt, pass, event, moment)?;
@@ -61,7 +63,8 @@ fn call_with<S: Site, L: Ledger, R: Wait>(
 }
 
 impl<'a, S: Site, L: Ledger, R: Wait, N: Ringer> PassDesk<'a, S, L, R, N> {
-    ghost use Rattle.std.specs.Prelude.{◌≡◌, [], IfOk, IfErr};
+    ghost use Rattle.std.specs.Prelude.{◌≡◌, [], false, true, IfOk, IfErr};
+    ghost use Rattle.acap_task.specs.Desks.{HasLeft};
 
     /// A desk that has made no call. Takes no memory.
     pub fn new(
@@ -71,7 +74,8 @@ impl<'a, S: Site, L: Ledger, R: Wait, N: Ringer> PassDesk<'a, S, L, R, N> {
         ringer: &'a N,
         pass: Pass<S>,
     ) -> PassDesk<'a, S, L, R, N>
-        ensures { (result.calls.items ≡ []) × (result.faults ≡ 0) × (result.pass ≡ pass) }
+        ensures { (result.calls.items ≡ []) × (result.faults ≡ 0) × (result.pass ≡ pass)
+            × (result.owes_leave ≡ false) }
     {
         PassDesk {
             rt,
@@ -94,7 +98,10 @@ impl<'a, S: Site, L: Ledger, R: Wait, N: Ringer> PassDesk<'a, S, L, R, N> {
         place: Seating<S>,
         now: Moment,
     ) -> Result<PassDesk<'a, S, L, R, N>, Seating<S>>
-        ensures ok { IfOk result (λ desk. (desk.calls.items ≡ []) × (desk.faults ≡ 0)) }
+        ensures ok { IfOk result (λ desk. (desk.calls.items ≡ []) × (desk.faults ≡ 0) × (desk.owes_leave ≡ false)) }
+        ensures free { IfOk result (λ desk. place.owes_leave ≡ false → desk.pass ≡ place.pass) }
+        ensures seat { IfOk result (λ desk. desk.pass.seat ≡ place.pass.seat) }
+        ensures left { IfOk result (λ desk. place.owes_leave ≡ true → HasLeft now place.pass desk.pass) }
         ensures err { IfErr result (λ kept. kept ≡ place) }
     {
         let Seating { pass, owes_leave } = place;
@@ -110,7 +117,7 @@ impl<'a, S: Site, L: Ledger, R: Wait, N: Ringer> PassDesk<'a, S, L, R, N> {
 
     /// The place, for another session.
     pub fn into_seating(self) -> Seating<S>
-        ensures { result.pass ≡ self.entry.pass }
+        ensures { (result.pass ≡ self.entry.pass) × (result.owes_leave ≡ self.entry.owes_leave) }
     {
         Seating {
             pass: self.pass,
@@ -120,12 +127,24 @@ impl<'a, S: Site, L: Ledger, R: Wait, N: Ringer> PassDesk<'a, S, L, R, N> {
 }
 
 impl<S: Site, L: Ledger, R: Wait, N: Ringer> Desk for PassDesk<'_, S, L, R, N> {
-    ghost use Rattle.std.specs.Prelude.{Some, map};
-    ghost use Rattle.acap_task.specs.Desks.{exchange_of};
+    ghost use Rattle.std.specs.Prelude.{◌≡◌, IfOk, OnErr};
+    ghost use Rattle.acap_task.specs.Desks.{HasCalled, desk_told, owes_after};
+    ghost use Rattle.acap_task.specs.Told.{after_call};
 
-    ghost told = { λ d. record { calls = Some (map exchange_of d.calls.items); faults = d.faults } };
+    ghost told = { λ d. desk_told d.calls.items d.faults };
 
-    fn call(&mut self, event: Event, moment: Moment) -> Result<Answer, Fault> {
+    ghost seat = { λ d. d.pass.seat };
+
+    fn call(&mut self, event: Event, moment: Moment) -> Result<Answer, Fault>
+        ensures told { desk_told self.new.calls.items self.new.faults
+            ≡ after_call (desk_told self.old.calls.items self.old.faults) event moment result }
+        ensures ok { IfOk result (λ answer. HasCalled event moment answer.reply self.old.pass.items
+            self.old.calls.items self.new.pass.items self.new.calls.items) }
+        ensures err { OnErr result
+            ((self.new.pass ≡ self.old.pass) × (self.new.calls.items ≡ self.old.calls.items)) }
+        ensures seat { self.new.pass.seat ≡ self.old.pass.seat }
+        ensures owes { self.new.owes_leave ≡ owes_after event result self.old.owes_leave }
+    {
         let leaves = matches!(event, Event::Leave);
         let outcome = call_with(
             self.rt,

@@ -19,19 +19,20 @@ impl<W: Wire, D: Desk, S: Source, B: Bell> Running<'_, W, D, S, B> {
     ghost use Rattle.futures.specs.Poll.{IfReady, OnPending};
     ghost use Rattle.futures.specs.Task.{IsArmed, Keeps};
     ghost use Rattle.acap_task.specs.Progress.{HasRoom, progress};
-    ghost use Rattle.acap_task.specs.Waiting.{Comes, EndsAs, Flushes, Hears, IfWritten, IsQuiet, Later, Rose};
+    ghost use Rattle.acap_task.specs.Waiting.{Comes, EndsAs, Flushes, Hears, IfWritten, IsQuiet, Later, Stalls};
     ghost use Rattle.acap_task.specs.Waiting.{Stops, Waits};
 
     // Writes all that is owed.
     fn flush(&mut self, cx: &mut Context<'_>) -> Poll<Result<(), WireFault>>
         ensures parties { self.new.parties ≡ self.old.parties }
+        ensures seat { D.seat self.new.desk ≡ D.seat self.old.desk }
         ensures bell { self.new.bell ≡ self.old.bell }
         ensures flushed { Flushes (W.told self.old.wire) (W.told self.new.wire)
             (progress self.old.course) (progress self.new.course) }
         ensures written { IfReady result (λ r. IfWritten r (W.told self.old.wire) (W.told self.new.wire)
             (progress self.new.course)) }
         ensures stuck { OnPending result
-            (Rose (W.told self.old.wire).write_waits (W.told self.new.wire).write_waits) }
+            (Stalls (W.told self.old.wire) (W.told self.new.wire) (progress self.new.course)) }
         ensures armed { OnPending result (IsArmed cx.new) }
         ensures kept { Keeps cx.old cx.new }
     {
@@ -51,6 +52,7 @@ impl<W: Wire, D: Desk, S: Source, B: Bell> Running<'_, W, D, S, B> {
         requires paid { self.old.course.owed ≡ [] }
         requires quiet { IsQuiet self.old.parties.users.now self.old.course.session }
         ensures parties { self.new.parties ≡ self.old.parties }
+        ensures seat { D.seat self.new.desk ≡ D.seat self.old.desk }
         ensures comes { IfReady result (λ end. Comes end self.new.parties.users.now (W.told self.new.wire)
             (progress self.old.course) (progress self.new.course)) }
         ensures hears { OnPending result (Hears self.new.parties.users.now
@@ -80,6 +82,7 @@ impl<W: Wire, D: Desk, S: Source, B: Bell> Running<'_, W, D, S, B> {
         requires paid { self.old.course.owed ≡ [] }
         requires quiet { IsQuiet self.old.parties.users.now self.old.course.session }
         ensures parties { self.new.parties ≡ self.old.parties }
+        ensures seat { D.seat self.new.desk ≡ D.seat self.old.desk }
         ensures comes { IfReady result (λ end. Comes end self.new.parties.users.now (W.told self.new.wire)
             (progress self.old.course) (progress self.new.course)) }
         ensures stops { OnPending result (Stops self.new.parties.users.now (W.told self.old.wire)
@@ -99,6 +102,7 @@ impl<W: Wire, D: Desk, S: Source, B: Bell> Running<'_, W, D, S, B> {
     // Writes all that is owed, and then makes a turn, or listens where nothing is next.
     fn round(&mut self, cx: &mut Context<'_>) -> Poll<Option<TaskEnd>>
         ensures parties { self.new.parties ≡ self.old.parties }
+        ensures seat { D.seat self.new.desk ≡ D.seat self.old.desk }
         ensures comes { IfReady result (λ end. Comes end self.new.parties.users.now (W.told self.new.wire)
             (progress self.old.course) (progress self.new.course)) }
         ensures stops { OnPending result (Stops self.new.parties.users.now (W.told self.old.wire)
@@ -127,6 +131,7 @@ impl<W: Wire, D: Desk, S: Source, B: Bell> Running<'_, W, D, S, B> {
     /// Goes on until something isn't ready, at most 64 rounds.
     pub(crate) fn advance(&mut self, cx: &mut Context<'_>) -> Poll<TaskEnd>
         ensures parties { self.new.parties ≡ self.old.parties }
+        ensures seat { D.seat self.new.desk ≡ D.seat self.old.desk }
         ensures ends { IfReady result (λ end. EndsAs end self.new.parties.users.now (W.told self.new.wire)
             (progress self.new.course)) }
         ensures waits { OnPending result (Waits self.new.parties.users.now

@@ -8,8 +8,12 @@ use crate::bell::Bell;
 use crate::conn::Conn;
 use crate::course::Course;
 use crate::desk::Desk;
+use crate::desk_record::DeskRecord;
 use crate::parties::Parties;
+use crate::pass_desk::PassDesk;
 use crate::ring::Ring;
+use crate::ringer::Ringer;
+use crate::seating::Seating;
 use crate::source::Source;
 use crate::turned::Turned;
 use crate::wire::Wire;
@@ -17,9 +21,12 @@ use crate::wire_fault::WireFault;
 use crate::{moving, turning};
 use acap_dialogue::Session;
 use acap_entries::{Copying, Memory, Octets, UserName};
+use acap_locked::Site;
 use acap_login::Users;
 use futures::task::{Context, Poll};
 use std::alloc::Global;
+use std::sync::Wait;
+use std::sync::ledger::Ledger;
 
 // How many octets are read at once.
 const READ: usize = 8_192;
@@ -80,8 +87,9 @@ impl<'u, W: Wire, D: Desk, S: Source, B: Bell> Running<'u, W, D, S, B> {
         host: Octets,
     ) -> Running<'u, W, D, S, B>
         requires { IsUntold (W.told conn.wire) (D.told desk) (S.told conn.source) (B.told bell) }
-        ensures { (result.parties.users ≡ users.entry) × (result.parties.host ≡ host)
+        ensures parties { (result.parties.users ≡ users.entry) × (result.parties.host ≡ host)
             × (result.parties.user ≡ conn.user) }
+        ensures seat { D.seat result.desk ≡ D.seat desk }
     {
         let Conn { wire, user, source } = conn;
         let (session, lost) = begin(alloc, &host, &user);
@@ -99,15 +107,17 @@ impl<'u, W: Wire, D: Desk, S: Source, B: Bell> Running<'u, W, D, S, B> {
 }
 
 impl<W: Wire, D: Desk, S: Source, B: Bell> Running<'_, W, D, S, B> {
-    ghost use Rattle.std.specs.Prelude.{◌≡◌, IfOk, false};
+    ghost use Rattle.std.specs.Prelude.{◌≡◌, ◌<◌, IfOk, false, true, length};
     ghost use Rattle.futures.specs.Poll.{OnPending};
     ghost use Rattle.futures.specs.Task.{IsArmed, Keeps};
+    ghost use Rattle.acap_dialogue.specs.Telling.{room_in};
     ghost use Rattle.acap_task.specs.Progress.{HasRoom, IfNothing, progress};
     ghost use Rattle.acap_task.specs.Turns.{Reads, Turns, Writes};
 
     /// One turn, with the event that it asks. Fails only for want of memory, now or before.
     pub(crate) fn turn(&mut self) -> Result<Turned, Memory>
         ensures parties { self.new.parties ≡ self.old.parties }
+        ensures seat { D.seat self.new.desk ≡ D.seat self.old.desk }
         ensures same { (self.new.wire ≡ self.old.wire) × (self.new.bell ≡ self.old.bell) }
         ensures turned { IfOk result (λ was. Turns self.old.parties.users.now was
             (progress self.old.course) (D.told self.old.desk) (S.told self.old.source)
@@ -124,7 +134,9 @@ impl<W: Wire, D: Desk, S: Source, B: Bell> Running<'_, W, D, S, B> {
 
     /// Writes some of what is owed.
     pub(crate) fn write(&mut self, cx: &mut Context<'_>) -> Poll<Result<usize, WireFault>>
+        requires { 0 < length self.old.course.owed }
         ensures parties { self.new.parties ≡ self.old.parties }
+        ensures seat { D.seat self.new.desk ≡ D.seat self.old.desk }
         ensures same { self.new.bell ≡ self.old.bell }
         ensures written { Writes (W.told self.old.wire) (progress self.old.course) result
             (W.told self.new.wire) (progress self.new.course) }
@@ -138,7 +150,9 @@ impl<W: Wire, D: Desk, S: Source, B: Bell> Running<'_, W, D, S, B> {
     pub(crate) fn read(&mut self, cx: &mut Context<'_>) -> Poll<Result<usize, WireFault>>
         requires room { HasRoom self.old.course }
         requires whole { self.old.course.lost ≡ false }
+        requires lent { (0 < room_in self.old.course.session) × (0 < length self.old.buffer.items) }
         ensures parties { self.new.parties ≡ self.old.parties }
+        ensures seat { D.seat self.new.desk ≡ D.seat self.old.desk }
         ensures same { self.new.bell ≡ self.old.bell }
         ensures reads { Reads (W.told self.old.wire) (progress self.old.course) result
             (W.told self.new.wire) (progress self.new.course) }
@@ -151,8 +165,10 @@ impl<W: Wire, D: Desk, S: Source, B: Bell> Running<'_, W, D, S, B> {
     /// Makes the buffer into which octets are read, if there is none yet: whether octets can be read at all.
     pub(crate) fn is_readable(&mut self) -> bool
         ensures parties { self.new.parties ≡ self.old.parties }
+        ensures seat { D.seat self.new.desk ≡ D.seat self.old.desk }
         ensures same { (self.new.wire ≡ self.old.wire) × (self.new.bell ≡ self.old.bell)
             × (self.new.course ≡ self.old.course) }
+        ensures lent { result ≡ true → (0 < room_in self.new.course.session) × (0 < length self.new.buffer.items) }
     {
         if self.buffer.is_empty() && self.buffer.resize(READ, 0).is_err() {
             return false;
@@ -175,6 +191,7 @@ impl<W: Wire, D: Desk, S: Source, B: Bell> Running<'_, W, D, S, B> {
         requires room { HasRoom self.old.course }
         requires whole { self.old.course.lost ≡ false }
         ensures parties { self.new.parties ≡ self.old.parties }
+        ensures seat { D.seat self.new.desk ≡ D.seat self.old.desk }
         ensures same { self.new.wire ≡ self.old.wire }
         ensures bell { B.told self.new.bell ≡ after_ring (B.told self.old.bell) result }
         ensures rings { Rings result
@@ -196,11 +213,63 @@ impl<W: Wire, D: Desk, S: Source, B: Bell> Running<'_, W, D, S, B> {
     /// The session's end: its seat is left, if it has one.
     pub(crate) fn leave(&mut self)
         ensures parties { self.new.parties ≡ self.old.parties }
+        ensures seat { D.seat self.new.desk ≡ D.seat self.old.desk }
         ensures same { (self.new.wire ≡ self.old.wire) × (self.new.bell ≡ self.old.bell) }
         ensures left { LeavesAtEnd self.old.course.seated
             (progress self.old.course) (D.told self.old.desk) (S.told self.old.source)
             (progress self.new.course) (D.told self.new.desk) (S.told self.new.source) }
     {
         turning::leave_at_end(&mut self.course, &mut self.desk, &mut self.source)
+    }
+}
+
+impl<'u, W, C, L, R, N, S, B> Running<'u, W, PassDesk<'_, C, L, R, N>, S, B>
+where
+    W: Wire,
+    C: Site,
+    L: Ledger,
+    R: Wait,
+    N: Ringer,
+    S: Source,
+    B: Bell,
+{
+    ghost use Rattle.std.specs.Prelude.{◌≡◌};
+
+    /// The same session with the record of its desk, and the place that the desk had.
+    pub(crate) fn into_record(self) -> (Running<'u, W, DeskRecord, S, B>, Seating<C>)
+        ensures parties { result.0.parties ≡ self.entry.parties }
+        ensures same { (result.0.wire ≡ self.entry.wire) × (result.0.source ≡ self.entry.source)
+            × (result.0.bell ≡ self.entry.bell) × (result.0.course ≡ self.entry.course) }
+        ensures kept { (result.0.desk.calls ≡ self.entry.desk.calls)
+            × (result.0.desk.faults ≡ self.entry.desk.faults) }
+        ensures place { (result.1.pass ≡ self.entry.desk.pass)
+            × (result.1.owes_leave ≡ self.entry.desk.owes_leave) }
+    {
+        let Running {
+            wire,
+            desk,
+            source,
+            bell,
+            parties,
+            course,
+            buffer,
+        } = self;
+        let PassDesk {
+            pass,
+            calls,
+            faults,
+            owes_leave,
+            ..
+        } = desk;
+        let running = Running {
+            wire,
+            desk: DeskRecord { calls, faults },
+            source,
+            bell,
+            parties,
+            course,
+            buffer,
+        };
+        (running, Seating { pass, owes_leave })
     }
 }

@@ -68,6 +68,7 @@ impl<'u, W: Wire, D: Desk, S: Source, B: Bell> SessionTask<'u, W, D, S, B> {
         ensures count { (result.polls ≡ 0) × (result.turns ≡ turns) × IsSome result.running }
         ensures parties { IfSome result.running (λ r. (r.parties.users ≡ users.entry)
             × (r.parties.host ≡ host) × (r.parties.user ≡ conn.user)) }
+        ensures seat { IfSome result.running (λ r. D.seat r.desk ≡ D.seat desk) }
     {
         SessionTask {
             running: Some(Running::new(alloc, conn, desk, bell, users, host)),
@@ -87,8 +88,9 @@ fn end_as<'u, W: Wire, D: Desk, S: Source, B: Bell>(
     requires polls { polls ≤ turns }
     requires ends { EndsAt end running.parties.users.now (W.told running.wire) (progress running.course)
         polls turns }
-    ensures count { (result.turns ≡ turns) × (result.polls ≡ polls) }
+    ensures count { (result.turns ≡ turns) × (result.polls ≡ polls) × (result.end ≡ end) }
     ensures parties { result.running.parties ≡ running.entry.parties }
+    ensures seat { D.seat result.running.desk ≡ D.seat running.entry.desk }
 {
     let mut running = running;
     running.leave();
@@ -101,21 +103,26 @@ fn end_as<'u, W: Wire, D: Desk, S: Source, B: Bell>(
 }
 
 impl<'u, W: Wire, D: Desk, S: Source, B: Bell> SessionTask<'u, W, D, S, B> {
-    ghost use Rattle.std.specs.Prelude.{◌≡◌, ◌<◌, ◌≤◌, IfSome, IsSomeAnd};
+    ghost use Rattle.std.specs.Prelude.{◌≡◌, ◌<◌, ◌≤◌, ◌+◌, IfSome, IsSomeAnd};
     ghost use Rattle.futures.specs.Poll.{IfReady, OnPending};
     ghost use Rattle.futures.specs.Task.{IsArmed, Keeps};
     ghost use Rattle.acap_task.specs.Progress.{progress};
     ghost use Rattle.acap_task.specs.Waiting.{Waits};
+    ghost use Rattle.acap_task.specs.declared.task_end.TaskEnd.TheVariants as ends;
 
-    /// One poll. Where it leaves the session waiting, the writer wasn't ready; or nothing is left to be done until its client or its
-    /// bell is ready; or at least 64 steps were made, so that others come to their turns. The last poll that the session may have ends it.
+    /// One poll, which is counted. Where it leaves the session waiting, octets are owed to a writer that wasn't ready; or nothing is left to
+    /// be done until its client or its bell is ready; or at least 64 steps were made, so that others come to their turns. The last poll
+    /// that the session may have ends it.
     pub fn go_on(&mut self, cx: &mut Context<'_>) -> Poll<Over<'u, W, D, S, B>>
-        ensures over { IfReady result (λ over. (over.turns ≡ self.old.turns) × (self.old.polls < over.polls)
+        ensures over { IfReady result (λ over. (over.turns ≡ self.old.turns) × (over.polls ≡ self.old.polls + 1)
             × IfSome self.old.running (λ r. over.running.parties ≡ r.parties)) }
-        ensures count { OnPending result
-            ((self.new.turns ≡ self.old.turns) × (self.old.polls ≤ self.new.polls)) }
+        ensures seat { IfReady result (λ over.
+            IfSome self.old.running (λ r. D.seat over.running.desk ≡ D.seat r.desk)) }
+        ensures count { OnPending result ((self.new.turns ≡ self.old.turns) × (self.old.polls ≤ self.new.polls)
+            × IfSome self.old.running (λ _. self.new.polls ≡ self.old.polls + 1)) }
         ensures waits { OnPending result (IfSome self.old.running (λ r. IsSomeAnd self.new.running (λ q.
-            (q.parties ≡ r.parties) × Waits q.parties.users.now (W.told r.wire) (W.told q.wire)
+            (q.parties ≡ r.parties) × (D.seat q.desk ≡ D.seat r.desk)
+            × Waits q.parties.users.now (W.told r.wire) (W.told q.wire)
             (B.told r.bell) (B.told q.bell) (progress r.course) (progress q.course)))) }
         ensures armed { OnPending result (IsArmed cx.new) }
         ensures kept { Keeps cx.old cx.new }
@@ -135,15 +142,47 @@ impl<'u, W: Wire, D: Desk, S: Source, B: Bell> SessionTask<'u, W, D, S, B> {
             Poll::Pending => Poll::Ready(end_as(running, TaskEnd::TurnsSpent, polls, turns)),
         }
     }
+
+    /// Ends the session before its next poll, for want of memory: its seat is left, if it has one. `None` where it has ended already.
+    pub fn end(self) -> Option<Over<'u, W, D, S, B>>
+        ensures { IfSome self.entry.running (λ r. IsSomeAnd result (λ over. (over.end ≡ ends.Memory)
+            × (over.running.parties ≡ r.parties) × (D.seat over.running.desk ≡ D.seat r.desk))) }
+    {
+        let SessionTask {
+            running,
+            polls,
+            turns,
+        } = self;
+        Some(end_as(running?, TaskEnd::Memory, polls, turns))
+    }
 }
 
 impl<'u, W: Wire, D: Desk, S: Source, B: Bell> Future for SessionTask<'u, W, D, S, B> {
+    ghost use Rattle.std.specs.Prelude.{◌≡◌, ◌<◌, ◌≤◌, ◌+◌, IfSome, IsSomeAnd};
+    ghost use Rattle.futures.specs.Poll.{IfReady, OnPending};
+    ghost use Rattle.futures.specs.Task.{Covers, Keeps};
+    ghost use Rattle.acap_task.specs.Progress.{progress};
+    ghost use Rattle.acap_task.specs.Waiting.{Waits};
+
     type Output = Over<'u, W, D, S, B>;
 
     ghost gives = { λ t over. (over.turns ≡ t.turns) × (t.polls < over.polls)
         × IfSome t.running (λ r. over.running.parties ≡ r.parties) };
 
-    fn poll(&mut self, cx: &mut Context<'_>) -> Poll<Over<'u, W, D, S, B>> {
+    fn poll(&mut self, cx: &mut Context<'_>) -> Poll<Over<'u, W, D, S, B>>
+        ensures over { IfReady result (λ over. (over.turns ≡ self.old.turns) × (over.polls ≡ self.old.polls + 1)
+            × IfSome self.old.running (λ r. over.running.parties ≡ r.parties)) }
+        ensures seat { IfReady result (λ over.
+            IfSome self.old.running (λ r. D.seat over.running.desk ≡ D.seat r.desk)) }
+        ensures count { OnPending result ((self.new.turns ≡ self.old.turns) × (self.old.polls ≤ self.new.polls)
+            × IfSome self.old.running (λ _. self.new.polls ≡ self.old.polls + 1)) }
+        ensures waits { OnPending result (IfSome self.old.running (λ r. IsSomeAnd self.new.running (λ q.
+            (q.parties ≡ r.parties) × (D.seat q.desk ≡ D.seat r.desk)
+            × Waits q.parties.users.now (W.told r.wire) (W.told q.wire)
+            (B.told r.bell) (B.told q.bell) (progress r.course) (progress q.course)))) }
+        ensures registered { OnPending result (Covers cx.new (λ _. ⊥)) }
+        ensures kept { Keeps cx.old cx.new }
+    {
         self.go_on(cx)
     }
 }

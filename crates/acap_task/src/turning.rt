@@ -56,6 +56,7 @@ fn seats(enters: bool, outcome: &Result<Answer, Fault>, seated: bool) -> bool
 // The seat is left, if there is one.
 fn leave<D: Desk>(seated: &mut bool, desk: &mut D, clock: Moment) -> Option<Fault>
     ensures left { Leaves seated.old clock (D.told desk.old) result (D.told desk.new) }
+    ensures seat { D.seat desk.new ≡ D.seat desk.old }
     ensures seated { seated.new ≡ false }
 {
     if !*seated {
@@ -76,6 +77,7 @@ fn say_to<D: Desk>(
     requires { is_asked course.old.session.stage ≡ true }
     ensures said { SaysTo (after_answer course.old.session outcome) clock
         (progress course.old) (D.told desk.old) result (progress course.new) (D.told desk.new) }
+    ensures seat { D.seat desk.new ≡ D.seat desk.old }
     ensures steps { course.new.steps ≡ course.old.steps }
 {
     match course.owed.reply(&mut course.session, outcome) {
@@ -98,6 +100,7 @@ fn settle<D: Desk>(
     requires { is_asked course.old.session.stage ≡ true }
     ensures settled { Settles event clock (progress course.old) (D.told desk.old) result.0 result.1
         (progress course.new) (D.told desk.new) }
+    ensures seat { D.seat desk.new ≡ D.seat desk.old }
     ensures steps { course.new.steps ≡ course.old.steps }
 {
     let enters = is_entering(&event);
@@ -120,6 +123,7 @@ fn act<D: Desk>(
     requires room { HasRoom course.old }
     ensures acts { Acts heard clock nonce (progress course.old) (D.told desk.old) result
         (progress course.new) (D.told desk.new) }
+    ensures seat { D.seat desk.new ≡ D.seat desk.old }
     ensures room { HasRoomToLeave course.new }
     ensures more { IfNothing result (HasRoom course.new) }
 {
@@ -150,6 +154,7 @@ pub(crate) fn turn<D: Desk, S: Source>(
         (S.told source.old) (progress course.new) (D.told desk.new) (S.told source.new)) }
     ensures idle { OnErr result (Idles (progress course.old) (D.told desk.old) (S.told source.old)
         (progress course.new) (D.told desk.new) (S.told source.new)) }
+    ensures seat { D.seat desk.new ≡ D.seat desk.old }
     ensures room { HasRoomToLeave course.new }
     ensures more { IfOk result (λ was. IfNothing was (HasRoom course.new)) }
 {
@@ -173,6 +178,7 @@ pub(crate) fn drain<D: Desk, S: Source>(course: &mut Course, desk: &mut D, sourc
     requires { HasRoom course.old }
     ensures drains { Drains (progress course.old) (D.told desk.old) (S.told source.old)
         (progress course.new) (D.told desk.new) (S.told source.new) }
+    ensures seat { D.seat desk.new ≡ D.seat desk.old }
     ensures room { HasRoomToLeave course.new }
 {
     let clock = source.moment();
@@ -190,6 +196,7 @@ pub(crate) fn leave_at_end<D: Desk, S: Source>(course: &mut Course, desk: &mut D
     requires { HasRoomToLeave course.old }
     ensures left { LeavesAtEnd course.old.seated (progress course.old) (D.told desk.old) (S.told source.old)
         (progress course.new) (D.told desk.new) (S.told source.new) }
+    ensures seat { D.seat desk.new ≡ D.seat desk.old }
     ensures room { HasRoomToLeave course.new }
 {
     if !course.seated {

@@ -1,5 +1,5 @@
 //! Octets from a client and to it.
-ghost use Rattle.std.specs.Prelude.{◌≡◌, ◌≤◌, ℕ, length, IfOk};
+ghost use Rattle.std.specs.Prelude.{◌≡◌, ◌<◌, ◌≤◌, ℕ, length, IfOk};
 ghost use Rattle.futures.specs.Task.{Covers, Keeps};
 ghost use Rattle.futures.specs.Poll.{IfReady, OnPending};
 
@@ -20,12 +20,13 @@ pub trait Wire: Drop {
     // What the wire tells of its past.
     ghost told: { Self → WireTold };
 
-    /// Reads octets into the front of the buffer, and says how many; none means that there will be no more, or no room was lent.
+    /// Reads octets into the front of the buffer, and says how many; none means that there will be no more.
     fn poll_read(
         &mut self,
         cx: &mut Context<'_>,
         buffer: &mut [u8],
     ) -> Poll<Result<usize, WireFault>>
+        requires { 0 < length buffer.old }
         ensures bound { IfReady result (λ r. IfOk r (λ n. n ≤ length buffer.new)) }
         ensures told { told self.new ≡ after_read (told self.old) result buffer.new }
         ensures registered { OnPending result (Covers cx.new (read_needs self.new)) }
@@ -33,6 +34,7 @@ pub trait Wire: Drop {
 
     /// Writes octets from the front of these, and says how many. A writer that takes none of them has failed.
     fn poll_write(&mut self, cx: &mut Context<'_>, octets: &[u8]) -> Poll<Result<usize, WireFault>>
+        requires { 0 < length octets.now }
         ensures bound { IfReady result (λ r. IfOk r (λ n. n ≤ length octets.now)) }
         ensures told { told self.new ≡ after_write (told self.old) result octets.now }
         ensures registered { OnPending result (Covers cx.new (write_needs self.new)) }

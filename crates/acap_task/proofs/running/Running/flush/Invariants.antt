@@ -8,6 +8,7 @@ abbrev pub invariant-loop-self : goal.invariant-loop-self
 invariant-loop-self g l = record {
   kept : Keeps l.fn.cx l.cx;
   parties : l.self.parties ≡ l.fn.self.parties;
+  seat : g.D.Desk.seat l.self.desk ≡ g.D.Desk.seat l.fn.self.desk;
   bell : l.self.bell ≡ l.fn.self.bell;
   flushed : Flushes (g.W.Wire.told l.fn.self.wire) (g.W.Wire.told l.self.wire) (progress l.fn.self.course) (progress l.self.course);
   waits : (g.W.Wire.told l.self.wire).write_waits ≡ (g.W.Wire.told l.fn.self.wire).write_waits;
