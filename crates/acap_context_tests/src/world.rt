@@ -3,7 +3,7 @@
 use crate::wrong::Wrong;
 use acap_commands::{Command, Event, Said, Tolds};
 use acap_entries::{Memory, Moment, Seat, Steps, UserName};
-use acap_grammar::{GrammarError, parse};
+use acap_grammar::{GrammarFault, parse};
 use acap_lexer::{Lexed, Lexer, Mode};
 use acap_machine::State;
 use acap_rights::Realm;
@@ -32,7 +32,7 @@ fn command_of(alloc: Global, line: &[u8]) -> Result<Command, Wrong> {
     match lexer.next(Mode::Command) {
         Ok(Lexed::Line(tokens)) => match parse(alloc, &tokens) {
             Ok(command) => Ok(command),
-            Err(GrammarError::Memory) => Err(Wrong::Memory),
+            Err(GrammarFault::Memory) => Err(Wrong::Memory),
             Err(_) => Err(Wrong::Unread),
         },
         _ => Err(Wrong::Unread),

@@ -14,7 +14,7 @@ use Rattle.acap_lexer.specs.declared.lexed.Lexed.TheVariants as lexed
 use Rattle.acap_lexer.specs.declared.mode.Mode.TheVariants as mode
 use Rattle.acap_login.specs.Login.{User, challenge_of}
 use Rattle.acap_grammar.specs.Grammar.{command_of}
-use Rattle.acap_grammar.specs.declared.grammar_fault.GrammarFault.{GrammarFault}
+use Rattle.acap_grammar.specs.declared.command_fault.CommandFault.{CommandFault}
 use Rattle.acap_commands.specs.declared.command.Command.{Command}
 use Rattle.acap_commands.specs.declared.command.Command.TheVariants as command
 use Rattle.acap_commands.specs.declared.event.Event.{Event}
@@ -164,7 +164,7 @@ command_fine l tag (command.DeletedSince dataset since) = asks_fine l.user tag (
 command_fine l tag (command.FreeContext name) = asks_fine l.user tag (command.FreeContext name)
 command_fine l tag (command.UpdateContext names) = asks_fine l.user tag (command.UpdateContext names)
 
-line_fine : (l : Listening) (tag : Option (List ℕ)) (r : Result Command GrammarFault) → Fine l.user (heard_line l tag r)
+line_fine : (l : Listening) (tag : Option (List ℕ)) (r : Result Command CommandFault) → Fine l.user (heard_line l tag r)
 line_fine l tag (Ok c) = command_fine l tag c
 line_fine l tag (Err f) = ready_seat l.user
 

@@ -17,7 +17,7 @@ use Rattle.acap_login.specs.Login.{User}
 use Rattle.acap_grammar.specs.Grammar.{command_of}
 use Rattle.acap_commands.specs.declared.command.Command.{Command}
 use Rattle.acap_commands.specs.declared.command.Command.TheVariants as command
-use Rattle.acap_grammar.specs.declared.grammar_fault.GrammarFault.{GrammarFault}
+use Rattle.acap_grammar.specs.declared.command_fault.CommandFault.{CommandFault}
 use Rattle.acap_commands.specs.declared.reply.Reply.{Reply}
 use Rattle.acap_commands.specs.declared.fault.Fault.{Fault}
 use Rattle.acap_commands.specs.declared.fault.Fault.TheVariants as fault
@@ -74,7 +74,7 @@ command_speaks l tag (command.DeletedSince dataset since) = asks_speaks l.user t
 command_speaks l tag (command.FreeContext name) = asks_speaks l.user tag (command.FreeContext name)
 command_speaks l tag (command.UpdateContext names) = asks_speaks l.user tag (command.UpdateContext names)
 
-line_speaks : (l : Listening) (tag : Option (List ℕ)) (r : Result Command GrammarFault) → Speaks (heard_line l tag r).0 (heard_line l tag r).1
+line_speaks : (l : Listening) (tag : Option (List ℕ)) (r : Result Command CommandFault) → Speaks (heard_line l tag r).0 (heard_line l tag r).1
 line_speaks l tag (Ok c) = command_speaks l tag c
 line_speaks l tag (Err f) = refl
 

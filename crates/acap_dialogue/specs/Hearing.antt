@@ -14,7 +14,7 @@ use Rattle.acap_grammar.specs.Refusals.{of_lexical, of_grammar}
 use Rattle.acap_grammar.specs.Replies.{octets_of, crlf}
 use Rattle.acap_commands.specs.declared.command.Command.{Command}
 use Rattle.acap_commands.specs.declared.command.Command.TheVariants as command
-use Rattle.acap_grammar.specs.declared.grammar_fault.GrammarFault.{GrammarFault}
+use Rattle.acap_grammar.specs.declared.command_fault.CommandFault.{CommandFault}
 use Rattle.acap_commands.specs.declared.refusal.Refusal.{Refusal}
 use Rattle.acap_commands.specs.declared.refusal.Refusal.TheVariants as refusals
 use Rattle.acap_commands.specs.declared.said.Said.{Said}
@@ -70,7 +70,7 @@ heard_command l tag command.Logout = closes tag said.GoodBye
 heard_command l tag (command.Authenticate mechanism) = login_or_refusal l tag mechanism
 heard_command l tag wanted = asks l.user tag wanted
 
-abbrev pub heard_line : Listening → Option (List ℕ) → Result Command GrammarFault → Next × Stage
+abbrev pub heard_line : Listening → Option (List ℕ) → Result Command CommandFault → Next × Stage
 heard_line l tag (Ok command) = heard_command l tag command
 heard_line l tag (Err fault) = refuses tag (of_grammar fault)
 

@@ -14,7 +14,7 @@ use crate::listener::Listener;
 use crate::stage::Stage;
 use acap_commands::{Command, Event, Refusal, Said, Verb};
 use acap_entries::{Copying, Memory, Moment, Octets, UserName, Value};
-use acap_grammar::{GrammarError, is_noop, lexical_refusal, parse, render_said};
+use acap_grammar::{GrammarFault, is_noop, lexical_refusal, parse, render_said};
 use acap_lexer::{Lexed, Tag, Tokens};
 use acap_login::challenge;
 use std::alloc::Global;
@@ -177,8 +177,8 @@ pub(crate) fn hear_line(
     }
     match parse(listener.alloc, tokens) {
         Ok(command) => hear_command(listener, tag, command, stage, out),
-        Err(GrammarError::Memory) => Err(Memory),
-        Err(GrammarError::Fault(fault)) => {
+        Err(GrammarFault::Memory) => Err(Memory),
+        Err(GrammarFault::Fault(fault)) => {
             says(tag, &Said::Refused(Refusal::from(fault)), stage, out)
         }
     }

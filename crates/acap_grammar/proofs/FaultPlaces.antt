@@ -6,8 +6,8 @@ use Rattle.acap_order.specs.declared.comparator.Comparator.{Comparator}
 use Rattle.acap_commands.specs.EntryOrder as entry_order
 use Rattle.acap_commands.specs.Modifiers as plain_modifiers
 use Rattle.acap_commands.specs.declared.command.Command.{Command}
-use Rattle.acap_grammar.specs.declared.grammar_fault.GrammarFault.{GrammarFault}
-use Rattle.acap_grammar.specs.declared.grammar_fault.GrammarFault.TheVariants as fault
+use Rattle.acap_grammar.specs.declared.command_fault.CommandFault.{CommandFault}
+use Rattle.acap_grammar.specs.declared.command_fault.CommandFault.TheVariants as fault
 use Rattle.acap_commands.specs.declared.make_context.MakeContext.{MakeContext}
 use Rattle.acap_commands.specs.declared.relation.Relation.{Relation}
 use Rattle.acap_commands.specs.declared.relation.Relation.TheVariants as relation
@@ -366,19 +366,19 @@ index_of front t left = omega (arith, length-append front (t ∷ left))
 parts : {A B : Type 0} (a c : A) (b d : B) → ◌≡◌ {A = Option (A × B)} (Some (a, b)) (Some (c, d)) → (a ≡ c) × (b ≡ d)
 parts {A} {B} a c b d e = let p : ◌≡◌ {A = A × B} (a, b) (c, d) = cc in (ap (λ (x : A × B). x.0) p, ap (λ (x : A × B). x.1) p)
 
-cut_there : (tokens others front : List Token) (t : Token) (left : List Token) (i : ℕ) (e f : GrammarFault) → tokens ≡ front ++ t ∷ left → length front ≡ i → f ≡ e
+cut_there : (tokens others front : List Token) (t : Token) (left : List Token) (i : ℕ) (e f : CommandFault) → tokens ≡ front ++ t ∷ left → length front ≡ i → f ≡ e
     → grammar.command_at (front ++ t ∷ others) ≡ fault_here (t ∷ others) f → fault_at (take (i + 1) tokens ++ others) ≡ Some (e, i)
 cut_there tokens others front t left i e f whole index same is = rw (whole, ← index, taken front t left others, is, index_of front t others, same) refl
 
-told : (tokens : List Token) (r : Result Command Fault) (e : GrammarFault) (i : ℕ) → place_in tokens r ≡ Some (e, i) → grammar.without_place r ≡ Err e
+told : (tokens : List Token) (r : Result Command Fault) (e : CommandFault) (i : ℕ) → place_in tokens r ≡ Some (e, i) → grammar.without_place r ≡ Err e
 told tokens (Ok c) e i p = absurd cc
 told tokens (Err d) e i p = ap Err (parts _ _ _ _ p).0
 
-within : (tokens : List Token) (r : Result Command Fault) (e : GrammarFault) (i : ℕ) → place_in tokens r ≡ Some (e, i) → i ≤ length tokens
+within : (tokens : List Token) (r : Result Command Fault) (e : CommandFault) (i : ℕ) → place_in tokens r ≡ Some (e, i) → i ≤ length tokens
 within tokens (Ok c) e i p = absurd cc
 within tokens (Err d) e i p = let same : length tokens - length d.left ≡ i = (parts _ _ _ _ p).1 in omega arith
 
-first : (tokens others : List Token) (r : Result Command Fault) (e : GrammarFault) (i : ℕ) → grammar.command_at tokens ≡ r → place_in tokens r ≡ Some (e, i) → i < length tokens → fault_at (take (i + 1) tokens ++ others) ≡ Some (e, i)
+first : (tokens others : List Token) (r : Result Command Fault) (e : CommandFault) (i : ℕ) → grammar.command_at tokens ≡ r → place_in tokens r ≡ Some (e, i) → i < length tokens → fault_at (take (i + 1) tokens ++ others) ≡ Some (e, i)
 first tokens others (Ok c) e i m p lt = absurd cc
 first tokens others (Err d) e i m p lt = by_left d.left refl where
   by_left : (left : List Token) → d.left ≡ left → fault_at (take (i + 1) tokens ++ others) ≡ Some (e, i)
@@ -389,11 +389,11 @@ first tokens others (Err d) e i m p lt = by_left d.left refl where
       let index : length g.front ≡ i = omega (arith, ap (λ (ts : List Token). length ts) l, ap (λ (ts : List Token). length ts) g.whole, length-append g.front (t ∷ left)) in
       cut_there tokens others g.front t left i e d.fault g.whole index (parts _ _ _ _ p).0 (g.same others)
 
-missing : (tokens : List Token) (r : Result Command Fault) (e : GrammarFault) → grammar.command_at tokens ≡ r → place_in tokens r ≡ Some (e, length tokens) → (e ≡ fault.Arguments) ⊎ (e ≡ fault.UnknownCommand)
+missing : (tokens : List Token) (r : Result Command Fault) (e : CommandFault) → grammar.command_at tokens ≡ r → place_in tokens r ≡ Some (e, length tokens) → (e ≡ fault.Arguments) ⊎ (e ≡ fault.UnknownCommand)
 missing tokens (Ok c) e m p = absurd cc
 missing tokens (Err d) e m p = by_left d.left refl where
   by_left : (left : List Token) → d.left ≡ left → (e ≡ fault.Arguments) ⊎ (e ≡ fault.UnknownCommand)
-  by_left [] l = let same : d.fault ≡ e = (parts _ _ _ _ p).0 in subst (λ (x : GrammarFault). (x ≡ fault.Arguments) ⊎ (x ≡ fault.UnknownCommand)) same (line_end tokens d m l)
+  by_left [] l = let same : d.fault ≡ e = (parts _ _ _ _ p).0 in subst (λ (x : CommandFault). (x ≡ fault.Arguments) ⊎ (x ≡ fault.UnknownCommand)) same (line_end tokens d m l)
   by_left (t ∷ left) l =
       let g = line_place tokens d t left m l in
       let same : length tokens - length d.left ≡ length tokens = (parts _ _ _ _ p).1 in

@@ -16,7 +16,7 @@ use Rattle.acap_lexer.proofs.SpelledTokens.{longest}
 use Rattle.acap_entries.specs.Names.{is_slash, slash, dot, star, percent, nul, has, begins_with, ends_with, is_component, components, dataset_len, dataset_of, name_of, is_entry_name, step_count, is_path, is_dataset_argument, is_attribute, is_context_name, with_slash}
 use Rattle.acap_entries.specs.declared.path.Path.{Path}
 use Rattle.acap_entries.proofs.NameLemmas.{closed_by_slash, part_count, path_has_dataset, same_parts, taken_closed}
-use Rattle.acap_grammar.specs.declared.grammar_fault.GrammarFault.{GrammarFault}
+use Rattle.acap_grammar.specs.declared.command_fault.CommandFault.{CommandFault}
 use Rattle.acap_commands.specs.declared.return_name.ReturnName.{ReturnName}
 use Rattle.acap_commands.specs.declared.return_name.ReturnName.TheVariants as name
 use Rattle.acap_commands.specs.declared.target.Target.{Target}
@@ -438,7 +438,7 @@ IsTarget of = Names target_named (target_text of) of × IsFormedTarget of
 pub target_is : (text : List ℕ) (of : Target) → target_named text ≡ Ok of → IsTarget of
 unfolding target_named context_named
 target_is text of e = by_slash (begins_with slash text) refl e where
-  by_dataset : (r : Result (List ℕ) GrammarFault) → dataset_named text ≡ r → (r >>= λ dataset. Ok (target.Dataset dataset)) ≡ Ok of → IsTarget of
+  by_dataset : (r : Result (List ℕ) CommandFault) → dataset_named text ≡ r → (r >>= λ dataset. Ok (target.Dataset dataset)) ≡ Ok of → IsTarget of
   by_dataset (Err f) m k = absurd cc
   by_dataset (Ok d) m k =
       let same : target.Dataset d ≡ of = cc in

@@ -4,8 +4,8 @@ use Rattle.std.specs.Prelude.{if◌then◌else◌, option_map, is_none}
 use Rattle.std.specs.Str.{str_eq_ignore_ascii_case}
 use Rattle.acap_lexer.specs.declared.kind.Kind.{Kind}
 use Rattle.acap_lexer.specs.Token.{Token}
-use Rattle.acap_grammar.specs.declared.grammar_fault.GrammarFault.{GrammarFault}
-use Rattle.acap_grammar.specs.declared.grammar_fault.GrammarFault.TheVariants as fault
+use Rattle.acap_grammar.specs.declared.command_fault.CommandFault.{CommandFault}
+use Rattle.acap_grammar.specs.declared.command_fault.CommandFault.TheVariants as fault
 use Rattle.acap_grammar.specs.Outcome.{◌>>=◌, Fault, Read, fault_here, verdict_at}
 use Rattle.acap_grammar.specs.Several.{several, some_of, in_parenthesis}
 use Rattle.acap_grammar.specs.Marks as mark
@@ -208,15 +208,15 @@ ending = record { only = λ t a b. refl }
 
 -- ---- strings and names
 
-by_string : {A : Type 0} (named : List ℕ → Result A GrammarFault) (t : Token) → At (named_at named) t
+by_string : {A : Type 0} (named : List ℕ → Result A CommandFault) (t : Token) → At (named_at named) t
 unfolding named_at mark.string_at
 by_string {A} named t = by_kind (mark.is_string t.kind) refl (named t.value) refl where
-  by_kind : (b : Bool) → mark.is_string t.kind ≡ b → (r : Result A GrammarFault) → named t.value ≡ r → At (named_at named) t
+  by_kind : (b : Bool) → mark.is_string t.kind ≡ b → (r : Result A CommandFault) → named t.value ≡ r → At (named_at named) t
   by_kind false e r n = Stops (fault_here [] fault.Arguments) (λ rest. rw e refl)
   by_kind true e (Ok x) n = Goes (λ rest. Ok (x, rest)) (value x) (λ rest. rw (e, n) refl)
   by_kind true e (Err f) n = Stops (fault_here [] f) (λ rest. rw (e, n) refl)
 
-pub named : {A : Type 0} (read : List ℕ → Result A GrammarFault) → Looks (named_at read)
+pub named : {A : Type 0} (read : List ℕ → Result A CommandFault) → Looks (named_at read)
 unfolding named_at mark.string_at
 named read = by_token _ (begins _ refl) (by_string read)
 
@@ -228,13 +228,13 @@ string = by_token _ (begins _ refl) (λ t. by_kind t (mark.is_string t.kind) ref
   by_kind t true e = Goes (λ rest. Ok (t.value, rest)) (value t.value) (λ rest. rw e refl)
 
 -- a name that didn't stand before
-pub new_name : {A B : Type 0} (read : List ℕ → Result A GrammarFault) (stood : A → Bool) (f : A → List Token → Read B) → ((x : A) → Looks (f x))
+pub new_name : {A B : Type 0} (read : List ℕ → Result A CommandFault) (stood : A → Bool) (f : A → List Token → Read B) → ((x : A) → Looks (f x))
     → Looks (λ ts. named_at read ts >>= λ x. verdict_at ts (once (stood x.0)) >>= λ new. f x.0 x.1)
 unfolding named_at mark.string_at
 new_name {A} {B} read stood f p = by_token _ (begins _ refl) at where
   at : (t : Token) → At (λ ts. named_at read ts >>= λ x. verdict_at ts (once (stood x.0)) >>= λ new. f x.0 x.1) t
   at t = by_kind (mark.is_string t.kind) refl (read t.value) refl where
-    by_kind : (b : Bool) → mark.is_string t.kind ≡ b → (r : Result A GrammarFault) → read t.value ≡ r → At (λ ts. named_at read ts >>= λ x. verdict_at ts (once (stood x.0)) >>= λ new. f x.0 x.1) t
+    by_kind : (b : Bool) → mark.is_string t.kind ≡ b → (r : Result A CommandFault) → read t.value ≡ r → At (λ ts. named_at read ts >>= λ x. verdict_at ts (once (stood x.0)) >>= λ new. f x.0 x.1) t
     by_kind false e r n = Stops (fault_here [] fault.Arguments) (λ rest. rw e refl)
     by_kind true e (Err d) n = Stops (fault_here [] d) (λ rest. rw (e, n) refl)
     by_kind true e (Ok x) n = by_stood (stood x) refl where
@@ -266,7 +266,7 @@ worded {W} {A} table g none some = by_token _ (begins _ (none [])) (λ t. by_kin
   ]
 
 -- what is judged of a word, before what stands behind it
-pub judged_first : {A : Type 0} (judgement : Result (Unit {0}) GrammarFault) (next : List Token → Read A) → Looks next → (t : Token) → At (λ ts. verdict_at ts judgement >>= λ new. next (drop 1 ts)) t
+pub judged_first : {A : Type 0} (judgement : Result (Unit {0}) CommandFault) (next : List Token → Read A) → Looks next → (t : Token) → At (λ ts. verdict_at ts judgement >>= λ new. next (drop 1 ts)) t
 judged_first (Ok x) next p t = Goes next p (λ rest. refl)
 judged_first (Err f) next p t = Stops (fault_here [] f) (λ rest. refl)
 

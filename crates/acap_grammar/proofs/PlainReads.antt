@@ -10,8 +10,8 @@ use Rattle.acap_order.specs.declared.comparator.Comparator.{Comparator}
 use Rattle.acap_commands.specs.EntryOrder as entry_order
 use Rattle.acap_commands.specs.Modifiers as plain_modifiers
 use Rattle.acap_commands.specs.declared.command.Command.{Command}
-use Rattle.acap_grammar.specs.declared.grammar_fault.GrammarFault.{GrammarFault}
-use Rattle.acap_grammar.specs.declared.grammar_fault.GrammarFault.TheVariants as fault
+use Rattle.acap_grammar.specs.declared.command_fault.CommandFault.{CommandFault}
+use Rattle.acap_grammar.specs.declared.command_fault.CommandFault.TheVariants as fault
 use Rattle.acap_commands.specs.declared.make_context.MakeContext.{MakeContext}
 use Rattle.acap_commands.specs.declared.relation.Relation.{Relation}
 use Rattle.acap_commands.specs.declared.relation.Relation.TheVariants as relation
@@ -95,7 +95,7 @@ bind_all {A} {B} read f p q = record { same = λ ts. rw (p.same ts) (by_read ts 
 bind : {A B : Type 0} (read : List Token → Read A) (f : A × List Token → Read B) → Blind read → ((x : A) → Blind (λ ts. f (x, ts))) → Blind (λ ts. read ts >>= f)
 bind read f p q = bind_all read (λ ts x. f x) p (λ x ts rest. (q x).same rest)
 
-judged_same : {A : Type 0} (judgement : Result (Unit {0}) GrammarFault) (read : List Token → Read A) → Blind read → (ts rest : List Token)
+judged_same : {A : Type 0} (judgement : Result (Unit {0}) CommandFault) (read : List Token → Read A) → Blind read → (ts rest : List Token)
     → (verdict_at (map plain ts) judgement >>= λ new. read (map plain rest)) ≡ plain_read (verdict_at ts judgement >>= λ new. read rest)
 judged_same (Ok x) read p ts rest = p.same rest
 judged_same (Err e) read p ts rest = refl
@@ -147,17 +147,17 @@ string = record { same = same } where
   same [] = refl
   same (t ∷ rest) = rw (strings_kind t.kind) (by_kind t rest (mark.is_string t.kind))
 
-judged_name : {A : Type 0} (judgement : Result A GrammarFault) (ts rest : List Token)
+judged_name : {A : Type 0} (judgement : Result A CommandFault) (ts rest : List Token)
     → (verdict_at (map plain ts) judgement >>= λ x. Ok (x, map plain rest)) ≡ plain_read (verdict_at ts judgement >>= λ x. Ok (x, rest))
 judged_name (Ok x) ts rest = refl
 judged_name (Err e) ts rest = refl
 
-named : {A : Type 0} (read : List ℕ → Result A GrammarFault) → Blind (argument.named_at read)
+named : {A : Type 0} (read : List ℕ → Result A CommandFault) → Blind (argument.named_at read)
 unfolding argument.named_at
 named read = bind_all _ _ string (λ text ts rest. judged_name (read text) ts rest)
 
 -- a name that didn't stand before
-new_name : {A B : Type 0} (read : List ℕ → Result A GrammarFault) (stood : A → Bool) (f : A → List Token → Read B) → ((x : A) → Blind (f x))
+new_name : {A B : Type 0} (read : List ℕ → Result A CommandFault) (stood : A → Bool) (f : A → List Token → Read B) → ((x : A) → Blind (f x))
     → Blind (λ ts. argument.named_at read ts >>= λ x. verdict_at ts (storing.once (stood x.0)) >>= λ new. f x.0 x.1)
 new_name read stood f p = bind_all _ _ (named read) (λ x ts rest. judged_same (storing.once (stood x)) (f x) (p x) ts rest)
 
@@ -203,7 +203,7 @@ worded {W} {A} table g none some = record { same = λ ts. rw (word_same table ts
   by_word ts None = none.same ts
   by_word ts (Some x) = some x.0 ts x.1
 
-missing : {A : Type 0} (e : GrammarFault) → Blind {A = A} (λ ts. fault_here ts e)
+missing : {A : Type 0} (e : CommandFault) → Blind {A = A} (λ ts. fault_here ts e)
 missing e = record { same = λ ts. refl }
 
 -- what is read where a word stands first, and where not

@@ -20,8 +20,8 @@ use Rattle.acap_commands.specs.EntryOrder as entry_order
 use Rattle.acap_commands.specs.Modifiers as plain_modifiers
 use Rattle.acap_commands.specs.declared.command.Command.{Command}
 use Rattle.acap_commands.specs.declared.command.Command.TheVariants as command
-use Rattle.acap_grammar.specs.declared.grammar_fault.GrammarFault.{GrammarFault}
-use Rattle.acap_grammar.specs.declared.grammar_fault.GrammarFault.TheVariants as fault
+use Rattle.acap_grammar.specs.declared.command_fault.CommandFault.{CommandFault}
+use Rattle.acap_grammar.specs.declared.command_fault.CommandFault.TheVariants as fault
 use Rattle.acap_commands.specs.declared.metadata.Metadata.{Metadata}
 use Rattle.acap_commands.specs.declared.object_name.ObjectName.TheVariants as object_name
 use Rattle.acap_commands.specs.declared.relation.Relation.{Relation}
@@ -106,11 +106,11 @@ time_is t n = by_time (time_of n.text) refl n.is where
 comparator_is : (r : Relation) (c : Comparator) → IsNamed (argument.comparator_for r) c → argument.is_of_texts r && is_numeric c.collation ≡ false
 unfolding argument.comparator_for
 comparator_is r c n = by_name (argument.comparator_named n.text) n.is where
-  by_test : (d : Comparator) (b : Bool) → argument.is_of_texts r && is_numeric d.collation ≡ b → ◌≡◌ {A = Result Comparator GrammarFault} (if b then Err fault.BadComparator else Ok d) (Ok c) → argument.is_of_texts r && is_numeric c.collation ≡ false
+  by_test : (d : Comparator) (b : Bool) → argument.is_of_texts r && is_numeric d.collation ≡ b → ◌≡◌ {A = Result Comparator CommandFault} (if b then Err fault.BadComparator else Ok d) (Ok c) → argument.is_of_texts r && is_numeric c.collation ≡ false
   by_test d true m e = absurd cc
   by_test d false m e = let same : d ≡ c = cc in subst (λ (x : Comparator). argument.is_of_texts r && is_numeric x.collation ≡ false) same m
 
-  by_name : (j : Result Comparator GrammarFault) → (j >>= λ d. if argument.is_of_texts r && is_numeric d.collation then Err fault.BadComparator else Ok d) ≡ Ok c → argument.is_of_texts r && is_numeric c.collation ≡ false
+  by_name : (j : Result Comparator CommandFault) → (j >>= λ d. if argument.is_of_texts r && is_numeric d.collation then Err fault.BadComparator else Ok d) ≡ Ok c → argument.is_of_texts r && is_numeric c.collation ≡ false
   by_name (Ok d) e = by_test d _ refl e
   by_name (Err f) e = absurd cc
 

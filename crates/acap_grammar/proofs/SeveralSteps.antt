@@ -1,7 +1,7 @@
 -- One item more, and then those behind it.
 use Rattle.std.proofs.Common.{◌≡◌, ℕ, suc, ◌+◌, ◌-◌, ◌<◌, Bool, false, List, Ok, refl, arith}
 use Rattle.acap_lexer.specs.Token.{Token}
-use Rattle.acap_grammar.specs.declared.grammar_error.GrammarError.{GrammarError}
+use Rattle.acap_grammar.specs.declared.grammar_fault.GrammarFault.{GrammarFault}
 use Rattle.acap_grammar.specs.Outcome.{Read, Refuses}
 use Rattle.acap_grammar.specs.Several.{several}
 
@@ -14,7 +14,7 @@ goes_on over fits item count i seen more tokens left lt c e =
     rw (k, ← c, e) refl
 
 -- no item is read
-pub fails : {A : Type 0} (e : GrammarError) (over fits : List Token → Bool) (item : A → List Token → Read A) (count i : ℕ) (seen : A) (tokens : List Token) (total : Read A)
+pub fails : {A : Type 0} (e : GrammarFault) (over fits : List Token → Bool) (item : A → List Token → Read A) (count i : ℕ) (seen : A) (tokens : List Token) (total : Read A)
     → i < count → false ≡ over tokens → Refuses e (item seen tokens) → several over fits item (count - i) seen tokens ≡ total → Refuses e total
 unfolding several
 fails e over fits item count i seen tokens total lt c h so_far fault is =

@@ -4,7 +4,7 @@ use Rattle.std.specs.Prelude.{if◌then◌else◌}
 use Rattle.std.proofs.lemmas.List.{append-nil}
 use Rattle.acap_lexer.specs.declared.kind.Kind.{Kind}
 use Rattle.acap_lexer.specs.Token.{Token}
-use Rattle.acap_grammar.specs.declared.grammar_fault.GrammarFault.{GrammarFault}
+use Rattle.acap_grammar.specs.declared.command_fault.CommandFault.{CommandFault}
 use Rattle.acap_grammar.specs.Outcome.{◌>>=◌, Fault, Read, verdict_at}
 use Rattle.acap_grammar.specs.Several.{several, some_of, in_parenthesis}
 use Rattle.acap_grammar.specs.Marks as mark
@@ -51,14 +51,14 @@ behind {A} P is f p = record { gives = λ ts x e. by_mark x (mark.behind is ts) 
 -- ---- names
 
 -- a text that is read so
-pub record IsNamed {A : Type 0} (read : List ℕ → Result A GrammarFault) (x : A) : Type 0 where
+pub record IsNamed {A : Type 0} (read : List ℕ → Result A CommandFault) (x : A) : Type 0 where
   pub text : List ℕ
   pub is : read text ≡ Ok x
 
-pub named : {A : Type 0} (read : List ℕ → Result A GrammarFault) → Yields (named_at read) (IsNamed read)
+pub named : {A : Type 0} (read : List ℕ → Result A CommandFault) → Yields (named_at read) (IsNamed read)
 unfolding named_at
 named {A} read = record { gives = λ ts x e. by_string ts x (mark.string_at ts) e } where
-  by_judge : (ts : List Token) (x : A × List Token) (t : List ℕ × List Token) (j : Result A GrammarFault) → read t.0 ≡ j → (verdict_at ts j >>= λ n. Ok (n, t.1)) ≡ Ok x → IsNamed read x.0
+  by_judge : (ts : List Token) (x : A × List Token) (t : List ℕ × List Token) (j : Result A CommandFault) → read t.0 ≡ j → (verdict_at ts j >>= λ n. Ok (n, t.1)) ≡ Ok x → IsNamed read x.0
   by_judge ts x t (Ok n) m e =
       let same : (n, t.1) ≡ x = cc in
       record { text = t.0; is = m ∙ ap (λ (z : A × List Token). Ok z.0) same }
@@ -74,7 +74,7 @@ past_once false ts r y e = (refl, e)
 past_once true ts r y e = absurd cc
 
 -- a name that didn't stand before
-pub new_name : {A B : Type 0} (Q : B → Type 0) (read : List ℕ → Result A GrammarFault) (stood : A → Bool) (f : A → List Token → Read B)
+pub new_name : {A B : Type 0} (Q : B → Type 0) (read : List ℕ → Result A CommandFault) (stood : A → Bool) (f : A → List Token → Read B)
     → ((x : A) → IsNamed read x → stood x ≡ false → Yields (f x) Q) → Yields (λ ts. named_at read ts >>= λ x. verdict_at ts (once (stood x.0)) >>= λ new. f x.0 x.1) Q
 new_name Q read stood f p =
     bind_all (IsNamed read) Q _ _ (named read) (λ x h ts rest y e. let o = past_once (stood x) ts (f x rest) y e in (p x h o.0).gives rest y o.1)

@@ -10,8 +10,8 @@ use Rattle.acap_order.specs.declared.comparator.Comparator.{Comparator}
 use Rattle.acap_entries.specs.Names.{is_path, is_attribute, is_dataset_argument, is_entry_name, is_context_name, dataset_of, name_of, with_slash, begins_with, slash}
 use Rattle.acap_entries.specs.Times.{time_of}
 use Rattle.acap_entries.specs.declared.path.Path.{Path}
-use Rattle.acap_grammar.specs.declared.grammar_fault.GrammarFault.{GrammarFault}
-use Rattle.acap_grammar.specs.declared.grammar_fault.GrammarFault.TheVariants as fault
+use Rattle.acap_grammar.specs.declared.command_fault.CommandFault.{CommandFault}
+use Rattle.acap_grammar.specs.declared.command_fault.CommandFault.TheVariants as fault
 use Rattle.acap_commands.specs.declared.object_name.ObjectName.{ObjectName}
 use Rattle.acap_commands.specs.declared.object_name.ObjectName.TheVariants as object_name
 use Rattle.acap_commands.specs.declared.relation.Relation.{Relation}
@@ -22,39 +22,39 @@ use Rattle.acap_grammar.specs.Outcome.{◌>>=◌, Read, fault_here, verdict_at}
 use Rattle.acap_grammar.specs.Marks.{is_word, is_open, is_close, starts, behind, string_at}
 
 -- what is there, or else a fault
-abbrev pub or_fault : {A : Type 0} → GrammarFault → Option A → Result A GrammarFault
+abbrev pub or_fault : {A : Type 0} → CommandFault → Option A → Result A CommandFault
 or_fault fault None = Err fault
 or_fault fault (Some x) = Ok x
 
 -- a text, if it is such a name
-abbrev pub if_named : {A : Type 0} → Bool → A → Result A GrammarFault
+abbrev pub if_named : {A : Type 0} → Bool → A → Result A CommandFault
 if_named good name = if good then Ok name else Err fault.BadName
 
 -- names as they are sent
-unfoldable pub path_named : List ℕ → Result Path GrammarFault
+unfoldable pub path_named : List ℕ → Result Path CommandFault
 path_named text = if_named (is_path text) (record { dataset = dataset_of text; name = name_of text })
 
-unfoldable pub attribute_named : List ℕ → Result (List ℕ) GrammarFault
+unfoldable pub attribute_named : List ℕ → Result (List ℕ) CommandFault
 attribute_named text = if_named (is_attribute text) text
 
-unfoldable pub dataset_named : List ℕ → Result (List ℕ) GrammarFault
+unfoldable pub dataset_named : List ℕ → Result (List ℕ) CommandFault
 dataset_named text = if_named (is_dataset_argument text) (with_slash text)
 
-unfoldable pub context_named : List ℕ → Result (List ℕ) GrammarFault
+unfoldable pub context_named : List ℕ → Result (List ℕ) CommandFault
 context_named text = if_named (is_context_name text) text
 
 -- the name of an entry in a dataset: together they are a path as it may be sent
-unfoldable pub entry_named : List ℕ → List ℕ → Result (List ℕ) GrammarFault
+unfoldable pub entry_named : List ℕ → List ℕ → Result (List ℕ) CommandFault
 entry_named dataset text = if_named (is_entry_name text && is_path (dataset ++ text)) text
 
 -- what is looked through: a name that begins `/` is a dataset's
-unfoldable pub target_named : List ℕ → Result Target GrammarFault
+unfoldable pub target_named : List ℕ → Result Target CommandFault
 target_named text =
     if begins_with slash text then (dataset_named text >>= λ dataset. Ok (target.Dataset dataset))
     else (context_named text >>= λ name. Ok (target.Context name))
 
 -- a string that is such a name
-unfoldable pub named_at : {A : Type 0} → (List ℕ → Result A GrammarFault) → List Token → Read A
+unfoldable pub named_at : {A : Type 0} → (List ℕ → Result A CommandFault) → List Token → Read A
 named_at named tokens = do
   text ← string_at tokens
   name ← verdict_at tokens (named text.0)
@@ -71,11 +71,11 @@ number_at (t ∷ rest) =
     else fault_here (t ∷ rest) fault.Arguments
 
 -- a time
-abbrev pub time_named : List ℕ → Result ℤ GrammarFault
+abbrev pub time_named : List ℕ → Result ℤ CommandFault
 time_named text = or_fault fault.BadTime (time_of text)
 
 -- a comparator
-abbrev pub comparator_named : List ℕ → Result Comparator GrammarFault
+abbrev pub comparator_named : List ℕ → Result Comparator CommandFault
 comparator_named text = or_fault fault.BadComparator (comparator_of text)
 
 -- numbers have no fronts and no parts
@@ -85,7 +85,7 @@ is_of_texts relation.Contains = true
 is_of_texts _ = false
 
 -- a comparator for a relation
-unfoldable pub comparator_for : Relation → List ℕ → Result Comparator GrammarFault
+unfoldable pub comparator_for : Relation → List ℕ → Result Comparator CommandFault
 comparator_for relation text = do
   comparator ← comparator_named text
   if is_of_texts relation && is_numeric comparator.collation then Err fault.BadComparator else Ok comparator

@@ -4,8 +4,8 @@ use Rattle.std.specs.Prelude.{ℕ, List, [], ◌∷◌, ◌++◌, drop, codes, O
 use Rattle.acap_lexer.specs.Token.{Token}
 use Rattle.acap_commands.specs.declared.command.Command.{Command}
 use Rattle.acap_commands.specs.declared.command.Command.TheVariants as command
-use Rattle.acap_grammar.specs.declared.grammar_fault.GrammarFault.{GrammarFault}
-use Rattle.acap_grammar.specs.declared.grammar_fault.GrammarFault.TheVariants as fault
+use Rattle.acap_grammar.specs.declared.command_fault.CommandFault.{CommandFault}
+use Rattle.acap_grammar.specs.declared.command_fault.CommandFault.TheVariants as fault
 use Rattle.acap_commands.specs.declared.verb.Verb.{Verb}
 use Rattle.acap_commands.specs.declared.verb.Verb.TheVariants as verb
 use Rattle.acap_grammar.specs.Outcome.{◌>>=◌, Fault, Read, fault_here}
@@ -95,9 +95,9 @@ abbrev pub command_at : List Token → Result Command Fault
 command_at tokens = command_by (drop 1 tokens) (word_at verbs (drop 1 tokens))
 
 -- the same without the place
-abbrev pub without_place : {A : Type 0} → Result A Fault → Result A GrammarFault
+abbrev pub without_place : {A : Type 0} → Result A Fault → Result A CommandFault
 without_place (Ok x) = Ok x
 without_place (Err e) = Err e.fault
 
-unfoldable pub command_of : List Token → Result Command GrammarFault
+unfoldable pub command_of : List Token → Result Command CommandFault
 command_of tokens = without_place (command_at tokens)

@@ -2,7 +2,7 @@
 use Rattle.std.specs.Prelude.{ℕ, zero, suc, List, [], ◌∷◌, codes, Option, Some, None, Ok, if◌then◌else◌}
 use Rattle.acap_lexer.specs.Token.{Token}
 use Rattle.acap_order.specs.declared.comparator.Comparator.{Comparator}
-use Rattle.acap_grammar.specs.declared.grammar_fault.GrammarFault.TheVariants as fault
+use Rattle.acap_grammar.specs.declared.command_fault.CommandFault.TheVariants as fault
 use Rattle.acap_commands.specs.declared.relation.Relation.{Relation}
 use Rattle.acap_commands.specs.declared.relation.Relation.TheVariants as relation
 use Rattle.acap_commands.specs.declared.test.Test.{Test}

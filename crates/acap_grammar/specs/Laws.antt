@@ -10,8 +10,8 @@ use Rattle.acap_entries.specs.declared.row.Row.{Row}
 use Rattle.acap_commands.specs.declared.command.Command.{Command}
 use Rattle.acap_commands.specs.declared.command.Command.TheVariants as command
 use Rattle.acap_commands.specs.declared.given.Given.TheVariants as given
-use Rattle.acap_grammar.specs.declared.grammar_fault.GrammarFault.{GrammarFault}
-use Rattle.acap_grammar.specs.declared.grammar_fault.GrammarFault.TheVariants as fault
+use Rattle.acap_grammar.specs.declared.command_fault.CommandFault.{CommandFault}
+use Rattle.acap_grammar.specs.declared.command_fault.CommandFault.TheVariants as fault
 use Rattle.acap_commands.specs.declared.metadata.Metadata.TheVariants as metadata
 use Rattle.acap_commands.specs.declared.object_name.ObjectName.TheVariants as object_name
 use Rattle.acap_commands.specs.declared.reply.Reply.{Reply}
@@ -34,28 +34,28 @@ use Rattle.acap_commands.specs.Modifiers.{unconditional}
 use Rattle.acap_commands.specs.Wanted.{One}
 
 -- the first fault from the left of a line that is no command
-abbrev pub fault_in : Result Command GrammarFault → Option GrammarFault
+abbrev pub fault_in : Result Command CommandFault → Option CommandFault
 fault_in (Ok c) = None
 fault_in (Err e) = Some e
 
-abbrev pub fault_of : List Token → Option GrammarFault
+abbrev pub fault_of : List Token → Option CommandFault
 fault_of tokens = fault_in (command_of tokens)
 
 -- the fault of a line and the index of the token at which it lies, or the number of tokens where it lies at the end
-abbrev pub place_in : List Token → Result Command Fault → Option (GrammarFault × ℕ)
+abbrev pub place_in : List Token → Result Command Fault → Option (CommandFault × ℕ)
 place_in tokens (Ok c) = None
 place_in tokens (Err e) = Some (e.fault, length tokens - length e.left)
 
-abbrev pub fault_at : List Token → Option (GrammarFault × ℕ)
+abbrev pub fault_at : List Token → Option (CommandFault × ℕ)
 fault_at tokens = place_in tokens (command_at tokens)
 
 -- the fault is the first from the left: what stands behind its token changes nothing, and it lies at the end only where
 -- an argument or the verb is missing
 pub record FirstFault : Type 0 where
-  pub told : (tokens : List Token) (e : GrammarFault) (i : ℕ) → fault_at tokens ≡ Some (e, i) → command_of tokens ≡ Err e
-  pub within : (tokens : List Token) (e : GrammarFault) (i : ℕ) → fault_at tokens ≡ Some (e, i) → i ≤ length tokens
-  pub first : (tokens others : List Token) (e : GrammarFault) (i : ℕ) → fault_at tokens ≡ Some (e, i) → i < length tokens → fault_at (take (i + 1) tokens ++ others) ≡ Some (e, i)
-  pub missing : (tokens : List Token) (e : GrammarFault) → fault_at tokens ≡ Some (e, length tokens) → (e ≡ fault.Arguments) ⊎ (e ≡ fault.UnknownCommand)
+  pub told : (tokens : List Token) (e : CommandFault) (i : ℕ) → fault_at tokens ≡ Some (e, i) → command_of tokens ≡ Err e
+  pub within : (tokens : List Token) (e : CommandFault) (i : ℕ) → fault_at tokens ≡ Some (e, i) → i ≤ length tokens
+  pub first : (tokens others : List Token) (e : CommandFault) (i : ℕ) → fault_at tokens ≡ Some (e, i) → i < length tokens → fault_at (take (i + 1) tokens ++ others) ≡ Some (e, i)
+  pub missing : (tokens : List Token) (e : CommandFault) → fault_at tokens ≡ Some (e, length tokens) → (e ≡ fault.Arguments) ⊎ (e ≡ fault.UnknownCommand)
 
 -- a token that lies there
 abbrev pub at : Kind → List ℕ → ℕ → ℕ → Token

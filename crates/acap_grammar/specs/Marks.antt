@@ -4,7 +4,7 @@ use Rattle.std.specs.Str.{bytes_eq, str_eq_ignore_ascii_case}
 use Rattle.acap_lexer.specs.declared.kind.Kind.{Kind}
 use Rattle.acap_lexer.specs.declared.kind.Kind.TheVariants as kind
 use Rattle.acap_lexer.specs.Token.{Token}
-use Rattle.acap_grammar.specs.declared.grammar_fault.GrammarFault.TheVariants as fault
+use Rattle.acap_grammar.specs.declared.command_fault.CommandFault.TheVariants as fault
 use Rattle.acap_grammar.specs.Outcome.{Fault, Read, fault_here}
 
 -- a string is sent quoted or as a literal

@@ -4,8 +4,8 @@ use Rattle.acap_lexer.specs.declared.fault.LexFault.{LexFault}
 use Rattle.acap_lexer.specs.declared.fault.LexFault.TheVariants as lexical
 use Rattle.acap_lexer.specs.Printing.{printed_form}
 use Rattle.acap_entries.specs.declared.path.Path.{Path}
-use Rattle.acap_grammar.specs.declared.grammar_fault.GrammarFault.{GrammarFault}
-use Rattle.acap_grammar.specs.declared.grammar_fault.GrammarFault.TheVariants as fault
+use Rattle.acap_grammar.specs.declared.command_fault.CommandFault.{CommandFault}
+use Rattle.acap_grammar.specs.declared.command_fault.CommandFault.TheVariants as fault
 use Rattle.acap_commands.specs.declared.object_name.ObjectName.{ObjectName}
 use Rattle.acap_commands.specs.declared.object_name.ObjectName.TheVariants as object_name
 use Rattle.acap_commands.specs.declared.refusal.Refusal.{Refusal}
@@ -20,7 +20,7 @@ of_lexical lexical.CommandTooLong = refusal.CommandTooLong
 of_lexical lexical.LineTooLong = refusal.LineTooLong
 
 -- the refusal of a command with this fault
-abbrev pub of_grammar : GrammarFault → Refusal
+abbrev pub of_grammar : CommandFault → Refusal
 of_grammar fault.UnknownCommand = refusal.UnknownCommand
 of_grammar fault.Arguments = refusal.Arguments
 of_grammar fault.NotPermittedTwice = refusal.NotPermittedTwice

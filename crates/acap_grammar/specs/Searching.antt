@@ -2,8 +2,8 @@
 use Rattle.std.specs.Prelude.{ℕ, List, [], ◌∷◌, ◌++◌, ◌-◌, ◌==◌, length, take, codes, is_none, is_some, Bool, true, false, ◌&&◌, ◌||◌, Option, Some, None, Result, Ok, Err, if◌then◌else◌}
 use Rattle.acap_lexer.specs.Token.{Token}
 use Rattle.acap_entries.specs.Names.{is_attribute, ends_with, star}
-use Rattle.acap_grammar.specs.declared.grammar_fault.GrammarFault.{GrammarFault}
-use Rattle.acap_grammar.specs.declared.grammar_fault.GrammarFault.TheVariants as fault
+use Rattle.acap_grammar.specs.declared.command_fault.CommandFault.{CommandFault}
+use Rattle.acap_grammar.specs.declared.command_fault.CommandFault.TheVariants as fault
 use Rattle.acap_commands.specs.declared.limit.Limit.{Limit}
 use Rattle.acap_commands.specs.declared.make_context.MakeContext.{MakeContext}
 use Rattle.acap_commands.specs.declared.metadata.Metadata.{Metadata}
@@ -30,7 +30,7 @@ use Rattle.acap_grammar.specs.Keys.{key_at}
 -- ---- RETURN
 
 -- an attribute, or with a `*` at its end those whose names begin so, all of them for `*` alone
-unfoldable pub return_named : List ℕ → Result ReturnName GrammarFault
+unfoldable pub return_named : List ℕ → Result ReturnName CommandFault
 return_named text =
     if ends_with star text
     then (let front = take (length text - 1) text in if_named (length front == 0 || is_attribute front) (name.Beginning front))
@@ -41,7 +41,7 @@ metadata_names =
     (codes "acl", metadata.Acl) ∷ (codes "attribute", metadata.Attribute) ∷ (codes "myrights", metadata.MyRights) ∷ (codes "size", metadata.Size)
     ∷ (codes "value", metadata.Value) ∷ []
 
-abbrev pub metadata_named : List ℕ → Result Metadata GrammarFault
+abbrev pub metadata_named : List ℕ → Result Metadata CommandFault
 metadata_named text = or_fault fault.Arguments (text_in metadata_names text)
 
 -- metadata, behind those before; they may be repeated
@@ -151,7 +151,7 @@ is_context (target.Dataset dataset) = false
 is_context (target.Context name) = true
 
 -- a modifier that may stand over what is looked through, and didn't stand before
-abbrev pub may_modify : Scope → SearchWord → Result (Unit {0}) GrammarFault
+abbrev pub may_modify : Scope → SearchWord → Result (Unit {0}) CommandFault
 may_modify s word = if is_context s.target && is_of_datasets word then Err fault.Arguments else once (has_modifier s.modifiers word)
 
 abbrev pub modifier_by : Scope → List Token → Option (SearchWord × List Token) → Read Scope

@@ -7,7 +7,7 @@ use Rattle.acap_order.specs.Ranks.{is_numeric}
 use Rattle.acap_entries.specs.Moments.{IsMoment}
 use Rattle.acap_commands.specs.declared.command.Command.{Command}
 use Rattle.acap_commands.specs.declared.command.Command.TheVariants as command
-use Rattle.acap_grammar.specs.declared.grammar_fault.GrammarFault.{GrammarFault}
+use Rattle.acap_grammar.specs.declared.command_fault.CommandFault.{CommandFault}
 use Rattle.acap_commands.specs.declared.limit.Limit.{Limit}
 use Rattle.acap_commands.specs.declared.make_context.MakeContext.{MakeContext}
 use Rattle.acap_commands.specs.declared.object_name.ObjectName.{ObjectName}
@@ -33,7 +33,7 @@ use Rattle.acap_commands.specs.Wanted.{Wanted, One, And, Or, Not}
 -- ---- in general
 
 -- a text that is read as this name
-abbrev pub Names : {A : Type 0} → (List ℕ → Result A GrammarFault) → List ℕ → A → Type 0
+abbrev pub Names : {A : Type 0} → (List ℕ → Result A CommandFault) → List ℕ → A → Type 0
 Names named text name = named text ≡ Ok name
 
 abbrev pub IsNumber : ℕ → Type 0

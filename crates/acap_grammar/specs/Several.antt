@@ -1,7 +1,7 @@
 -- Items that are read one after the other [RFC 2244 section 8].
 use Rattle.std.specs.Prelude.{ℕ, zero, suc, ◌-◌, List, Bool, Ok, if◌then◌else◌}
 use Rattle.acap_lexer.specs.Token.{Token}
-use Rattle.acap_grammar.specs.declared.grammar_fault.GrammarFault.TheVariants as fault
+use Rattle.acap_grammar.specs.declared.command_fault.CommandFault.TheVariants as fault
 use Rattle.acap_grammar.specs.Outcome.{◌>>=◌, Read, fault_here}
 use Rattle.acap_grammar.specs.Marks.{is_open, is_close, is_string, starts, behind}
 

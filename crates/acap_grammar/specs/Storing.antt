@@ -9,8 +9,8 @@ use Rattle.acap_commands.specs.EntryOrder.{has_path}
 use Rattle.acap_commands.specs.Modifiers.{unconditional}
 use Rattle.acap_commands.specs.declared.given.Given.{Given}
 use Rattle.acap_commands.specs.declared.given.Given.TheVariants as given
-use Rattle.acap_grammar.specs.declared.grammar_fault.GrammarFault.{GrammarFault}
-use Rattle.acap_grammar.specs.declared.grammar_fault.GrammarFault.TheVariants as fault
+use Rattle.acap_grammar.specs.declared.command_fault.CommandFault.{CommandFault}
+use Rattle.acap_grammar.specs.declared.command_fault.CommandFault.TheVariants as fault
 use Rattle.acap_commands.specs.declared.store_entry.StoreEntry.{StoreEntry}
 use Rattle.acap_commands.specs.declared.store_item.StoreItem.{StoreItem}
 use Rattle.acap_commands.specs.declared.store_metadata.StoreMetadata.{StoreMetadata}
@@ -27,7 +27,7 @@ use Rattle.acap_grammar.specs.Arguments.{or_fault, path_named, attribute_named, 
 -- ---- what may stand once
 
 -- a fault where it stood before
-abbrev pub once : Bool → Result (Unit {0}) GrammarFault
+abbrev pub once : Bool → Result (Unit {0}) CommandFault
 once stood = if stood then Err fault.NotPermittedTwice else Ok tt
 
 -- whether an item with this attribute, or one with the same metadata, stands among those before
@@ -72,7 +72,7 @@ given_at tokens =
 abbrev pub store_metadata : List (List ℕ × StoreMetadata)
 store_metadata = (codes "value", metadata.Value) ∷ (codes "acl", metadata.Acl) ∷ []
 
-abbrev pub metadata_named : List ℕ → Result StoreMetadata GrammarFault
+abbrev pub metadata_named : List ℕ → Result StoreMetadata CommandFault
 metadata_named text = or_fault fault.Arguments (text_in store_metadata text)
 
 -- one thing more for an attribute, behind what is given before

@@ -1,7 +1,7 @@
 //! The arguments of commands: names, numbers, times, comparators and objects (RFC 2244 sections 2.2, 3, 6 and 8).
 
 ghost use Rattle.std.specs.Prelude.{◌≡◌, ◌++◌, ℕ, List, Result, IfOk, MatchResult};
-ghost use Rattle.acap_grammar.specs.declared.grammar_fault.GrammarFault.{GrammarFault as FaultOf};
+ghost use Rattle.acap_grammar.specs.declared.command_fault.CommandFault.{CommandFault as FaultOf};
 ghost use Rattle.acap_grammar.specs.Outcome.{Gives, Reads};
 ghost use Rattle.std.specs.List.{list_all};
 ghost use Rattle.std.specs.Char.{is_ascii_digit};
@@ -9,8 +9,8 @@ ghost use Rattle.acap_entries.specs.Names.{is_path as is_path_text};
 ghost use Rattle.acap_grammar.specs.Arguments as argument;
 ghost use Rattle.acap_grammar.specs.Unnamed.{name_error};
 
+use crate::command_fault::CommandFault;
 use crate::cursor::{Cursor, Piece};
-use crate::grammar_error::GrammarError;
 use crate::grammar_fault::GrammarFault;
 use acap_commands::{ObjectName, Relation, Target};
 use acap_entries::{
@@ -28,13 +28,13 @@ pub(crate) trait Named: Drop + Sized {
     ghost named: { List ℕ → Result Self FaultOf };
 
     /// What a text is read as.
-    fn of_text(alloc: Global, text: &[u8]) -> Result<Self, GrammarError>
+    fn of_text(alloc: Global, text: &[u8]) -> Result<Self, GrammarFault>
         ensures { Gives result (named text.now) };
 }
 
 /// What the string that stands first is read as.
 #[tactic(auto, unfolding(crate::specs::Arguments::named_at))]
-pub(crate) fn name_at<N: Named>(cursor: &mut Cursor<'_>) -> Result<N, GrammarError>
+pub(crate) fn name_at<N: Named>(cursor: &mut Cursor<'_>) -> Result<N, GrammarFault>
     ensures { Reads result cursor.new (argument.named_at N.named cursor.old) }
 {
     let text = cursor.string()?;
@@ -42,13 +42,13 @@ pub(crate) fn name_at<N: Named>(cursor: &mut Cursor<'_>) -> Result<N, GrammarErr
 }
 
 // A name, or why it wasn't read.
-fn accept_name<T: Drop>(read: Result<T, NameFault>) -> Result<T, GrammarError>
+fn accept_name<T: Drop>(read: Result<T, NameFault>) -> Result<T, GrammarFault>
     ensures { MatchResult read (λ name. result ≡ Ok name) (λ fault. result ≡ Err (name_error fault)) }
 {
     match read {
         Ok(name) => Ok(name),
-        Err(NameFault::BadName) => Err(GrammarError::Fault(GrammarFault::BadName)),
-        Err(NameFault::Memory) => Err(GrammarError::Memory),
+        Err(NameFault::BadName) => Err(GrammarFault::Fault(CommandFault::BadName)),
+        Err(NameFault::Memory) => Err(GrammarFault::Memory),
     }
 }
 
@@ -56,7 +56,7 @@ impl Named for Path {
     ghost named = { argument.path_named };
 
     #[tactic(auto, unfolding(crate::specs::Arguments::path_named))]
-    fn of_text(alloc: Global, text: &[u8]) -> Result<Path, GrammarError> {
+    fn of_text(alloc: Global, text: &[u8]) -> Result<Path, GrammarFault> {
         accept_name(Path::read(alloc, text))
     }
 }
@@ -65,7 +65,7 @@ impl Named for Attribute {
     ghost named = { argument.attribute_named };
 
     #[tactic(auto, unfolding(crate::specs::Arguments::attribute_named))]
-    fn of_text(alloc: Global, text: &[u8]) -> Result<Attribute, GrammarError> {
+    fn of_text(alloc: Global, text: &[u8]) -> Result<Attribute, GrammarFault> {
         accept_name(Attribute::read(alloc, text))
     }
 }
@@ -74,7 +74,7 @@ impl Named for Dataset {
     ghost named = { argument.dataset_named };
 
     #[tactic(auto, unfolding(crate::specs::Arguments::dataset_named))]
-    fn of_text(alloc: Global, text: &[u8]) -> Result<Dataset, GrammarError> {
+    fn of_text(alloc: Global, text: &[u8]) -> Result<Dataset, GrammarFault> {
         accept_name(Dataset::read(alloc, text))
     }
 }
@@ -83,7 +83,7 @@ impl Named for ContextName {
     ghost named = { argument.context_named };
 
     #[tactic(auto, unfolding(crate::specs::Arguments::context_named))]
-    fn of_text(alloc: Global, text: &[u8]) -> Result<ContextName, GrammarError> {
+    fn of_text(alloc: Global, text: &[u8]) -> Result<ContextName, GrammarFault> {
         accept_name(ContextName::read(alloc, text))
     }
 }
@@ -92,7 +92,7 @@ impl Named for Target {
     ghost named = { argument.target_named };
 
     #[tactic(auto, unfolding(crate::specs::Arguments::target_named))]
-    fn of_text(alloc: Global, text: &[u8]) -> Result<Target, GrammarError> {
+    fn of_text(alloc: Global, text: &[u8]) -> Result<Target, GrammarFault> {
         if begins_with(text, b'/') {
             Ok(Target::Dataset(Dataset::of_text(alloc, text)?))
         } else {
@@ -104,10 +104,10 @@ impl Named for Target {
 impl Named for Moment {
     ghost named = { argument.time_named };
 
-    fn of_text(_alloc: Global, text: &[u8]) -> Result<Moment, GrammarError> {
+    fn of_text(_alloc: Global, text: &[u8]) -> Result<Moment, GrammarFault> {
         match read_time(text) {
             Some(moment) => Ok(moment),
-            None => Err(GrammarError::Fault(GrammarFault::BadTime)),
+            None => Err(GrammarFault::Fault(CommandFault::BadTime)),
         }
     }
 }
@@ -115,10 +115,10 @@ impl Named for Moment {
 impl Named for Comparator {
     ghost named = { argument.comparator_named };
 
-    fn of_text(_alloc: Global, text: &[u8]) -> Result<Comparator, GrammarError> {
+    fn of_text(_alloc: Global, text: &[u8]) -> Result<Comparator, GrammarFault> {
         match Comparator::read(text) {
             Some(comparator) => Ok(comparator),
-            None => Err(GrammarError::Fault(GrammarFault::BadComparator)),
+            None => Err(GrammarFault::Fault(CommandFault::BadComparator)),
         }
     }
 }
@@ -144,7 +144,7 @@ fn number_in(text: &[u8]) -> Option<u32>
 
 /// A number.
 #[tactic(auto, unfolding(crate::specs::Arguments::number_at))]
-pub(crate) fn number_at(cursor: &mut Cursor<'_>) -> Result<u32, GrammarError>
+pub(crate) fn number_at(cursor: &mut Cursor<'_>) -> Result<u32, GrammarFault>
     ensures { Reads result cursor.new (argument.number_at cursor.old) }
 {
     let Some(
@@ -155,12 +155,12 @@ pub(crate) fn number_at(cursor: &mut Cursor<'_>) -> Result<u32, GrammarError>
         },
     ) = cursor.first()
     else {
-        return Err(GrammarError::Fault(GrammarFault::Arguments));
+        return Err(GrammarFault::Fault(CommandFault::Arguments));
     };
     cursor.pass();
     match number_in(value) {
         Some(number) => Ok(number),
-        None => Err(GrammarError::Fault(GrammarFault::Arguments)),
+        None => Err(GrammarFault::Fault(CommandFault::Arguments)),
     }
 }
 
@@ -178,12 +178,12 @@ fn comparator_for(
     alloc: Global,
     relation: Relation,
     text: &[u8],
-) -> Result<Comparator, GrammarError>
+) -> Result<Comparator, GrammarFault>
     ensures { Gives result (argument.comparator_for relation text.now) }
 {
     let comparator = Comparator::of_text(alloc, text)?;
     if is_of_texts(relation) && comparator.is_numeric() {
-        return Err(GrammarError::Fault(GrammarFault::BadComparator));
+        return Err(GrammarFault::Fault(CommandFault::BadComparator));
     }
     Ok(comparator)
 }
@@ -193,7 +193,7 @@ fn comparator_for(
 pub(crate) fn comparator_for_at(
     relation: Relation,
     cursor: &mut Cursor<'_>,
-) -> Result<Comparator, GrammarError>
+) -> Result<Comparator, GrammarFault>
     ensures { Reads result cursor.new (argument.named_at (argument.comparator_for relation) cursor.old) }
 {
     let text = cursor.string()?;
@@ -212,18 +212,18 @@ fn is_path_of(alloc: Global, dataset: &Dataset, name: &[u8]) -> Result<bool, Mem
 }
 
 #[tactic(auto, unfolding(crate::specs::Arguments::entry_named))]
-fn read_entry_name(alloc: Global, dataset: &Dataset, text: &[u8]) -> Result<EntryName, GrammarError>
+fn read_entry_name(alloc: Global, dataset: &Dataset, text: &[u8]) -> Result<EntryName, GrammarFault>
     ensures { Gives result (argument.entry_named dataset.now text.now) }
 {
     let name = accept_name(EntryName::read(alloc, text))?;
     if !is_path_of(alloc, dataset, text)? {
-        return Err(GrammarError::Fault(GrammarFault::BadName));
+        return Err(GrammarFault::Fault(CommandFault::BadName));
     }
     Ok(name)
 }
 
 #[tactic(auto, unfolding(crate::specs::Arguments::named_at))]
-fn entry_name_at(dataset: &Dataset, cursor: &mut Cursor<'_>) -> Result<EntryName, GrammarError>
+fn entry_name_at(dataset: &Dataset, cursor: &mut Cursor<'_>) -> Result<EntryName, GrammarFault>
     ensures { Reads result cursor.new (argument.named_at (argument.entry_named dataset.now) cursor.old) }
 {
     let text = cursor.string()?;
@@ -236,7 +236,7 @@ fn entry_part(
     dataset: Dataset,
     attribute: Attribute,
     cursor: &mut Cursor<'_>,
-) -> Result<ObjectName, GrammarError>
+) -> Result<ObjectName, GrammarFault>
     ensures { Reads result cursor.new (argument.entry_part dataset attribute cursor.old) }
 {
     if cursor.closes() {
@@ -252,7 +252,7 @@ fn entry_part(
 
 // An object behind its dataset: an attribute, and the name of an entry behind it, where they are there.
 #[tactic(auto, unfolding(crate::specs::Arguments::attribute_part))]
-fn attribute_part(dataset: Dataset, cursor: &mut Cursor<'_>) -> Result<ObjectName, GrammarError>
+fn attribute_part(dataset: Dataset, cursor: &mut Cursor<'_>) -> Result<ObjectName, GrammarFault>
     ensures { Reads result cursor.new (argument.attribute_part dataset cursor.old) }
 {
     if cursor.closes() {
@@ -264,7 +264,7 @@ fn attribute_part(dataset: Dataset, cursor: &mut Cursor<'_>) -> Result<ObjectNam
 
 /// An object: `(` dataset [attribute [entry name]] `)` (RFC 2244 section 3.5).
 #[tactic(auto, unfolding(crate::specs::Arguments::object_at))]
-pub(crate) fn object_at(cursor: &mut Cursor<'_>) -> Result<ObjectName, GrammarError>
+pub(crate) fn object_at(cursor: &mut Cursor<'_>) -> Result<ObjectName, GrammarFault>
     ensures { Reads result cursor.new (argument.object_at cursor.old) }
 {
     cursor.pass_open()?;

@@ -5,7 +5,7 @@ ghost use Rattle.acap_grammar.specs.Outcome.{Finds, Passes, Reads, ReadsBy};
 ghost use Rattle.acap_grammar.specs.Marks.{is_open, is_close, is_string, ends, starts, behind, string_at, behind_word, word_at};
 ghost use Rattle.acap_grammar.specs.Rows.{kind_of, IsFirst};
 
-use crate::grammar_error::GrammarError;
+use crate::command_fault::CommandFault;
 use crate::grammar_fault::GrammarFault;
 use crate::words::Spelled;
 use acap_entries::Value;
@@ -142,7 +142,7 @@ impl<'a> Cursor<'a> {
 
 impl<'a> Cursor<'a> {
     #[tactic(auto, unfolding(crate::specs::Marks::string_at))]
-    pub(crate) fn string(&mut self) -> Result<&'a [u8], GrammarError>
+    pub(crate) fn string(&mut self) -> Result<&'a [u8], GrammarFault>
         ensures { ReadsBy (λ text left. (text.now, left)) result self.new (string_at self.old) }
     {
         match self.first() {
@@ -156,13 +156,13 @@ impl<'a> Cursor<'a> {
                 self.pass();
                 Ok(value)
             }
-            _ => Err(GrammarError::Fault(GrammarFault::Arguments)),
+            _ => Err(GrammarFault::Fault(CommandFault::Arguments)),
         }
     }
 
     /// Any string, as a value.
     #[tactic(auto, unfolding(crate::specs::Marks::string_at))]
-    pub(crate) fn value(&mut self) -> Result<Value, GrammarError>
+    pub(crate) fn value(&mut self) -> Result<Value, GrammarFault>
         ensures { Reads result self.new (string_at self.old) }
     {
         let text = self.string()?;
@@ -170,7 +170,7 @@ impl<'a> Cursor<'a> {
     }
 
     #[tactic(auto, unfolding(crate::specs::Marks::behind))]
-    pub(crate) fn pass_open(&mut self) -> Result<(), GrammarError>
+    pub(crate) fn pass_open(&mut self) -> Result<(), GrammarFault>
         ensures { ReadsBy (λ _ left. left) result self.new (behind is_open self.old) }
     {
         match self.kind() {
@@ -178,12 +178,12 @@ impl<'a> Cursor<'a> {
                 self.pass();
                 Ok(())
             }
-            _ => Err(GrammarError::Fault(GrammarFault::Arguments)),
+            _ => Err(GrammarFault::Fault(CommandFault::Arguments)),
         }
     }
 
     #[tactic(auto, unfolding(crate::specs::Marks::behind))]
-    pub(crate) fn pass_close(&mut self) -> Result<(), GrammarError>
+    pub(crate) fn pass_close(&mut self) -> Result<(), GrammarFault>
         ensures { ReadsBy (λ _ left. left) result self.new (behind is_close self.old) }
     {
         match self.kind() {
@@ -191,13 +191,13 @@ impl<'a> Cursor<'a> {
                 self.pass();
                 Ok(())
             }
-            _ => Err(GrammarError::Fault(GrammarFault::Arguments)),
+            _ => Err(GrammarFault::Fault(CommandFault::Arguments)),
         }
     }
 
     /// What was read, where a parenthesis closes behind it. Of any type, as letting a large one go is slow to
     /// prove.
-    pub(crate) fn closed<T: Drop>(&mut self, read: T) -> Result<T, GrammarError>
+    pub(crate) fn closed<T: Drop>(&mut self, read: T) -> Result<T, GrammarFault>
         ensures left { ReadsBy (λ _ left. left) result self.new (behind is_close self.old) }
         ensures same { IfOk result (λ given. given ≡ read) }
     {

@@ -1,22 +1,36 @@
-//! What is wrong with a command.
+//! Why a command wasn't read.
 
-/// Why tokens stand for no command: the first fault from the left (RFC 2244 sections 2.2 and 8).
+use crate::command_fault::CommandFault;
+use acap_entries::Memory;
+use std::alloc::AllocFailed;
+
+/// Why a command wasn't read: a fault of its own, or want of memory.
 #[derive(Clone, Copy, PartialEq, Eq)]
 pub enum GrammarFault {
-    /// No verb, or none that is known.
-    UnknownCommand,
-    /// Another shape than the verb's: a token of the wrong kind, one too few or one too many.
-    Arguments,
-    /// What may stand once stands again: a modifier, a path of a STORE, an attribute of an entry.
-    NotPermittedTwice,
-    /// A string that is no such name.
-    BadName,
-    /// A string that is no time.
-    BadTime,
-    /// A string that is no comparator, or none that may stand there.
-    BadComparator,
-    /// A key of more than 32 levels.
-    TooDeep,
-    /// More items than may stand in one list.
-    TooMany,
+    /// The first fault from the left (RFC 2244 sections 2.2 and 8).
+    Fault(CommandFault),
+    /// Memory was refused.
+    Memory,
+}
+
+impl From<Memory> for GrammarFault {
+    ghost use Rattle.std.specs.Prelude.{◌≡◌};
+    ghost use Rattle.acap_grammar.specs.declared.grammar_fault.GrammarFault.TheVariants as error;
+
+    ghost from_gives = { λ _ e. e ≡ error.Memory };
+
+    fn from(_error: Memory) -> GrammarFault {
+        GrammarFault::Memory
+    }
+}
+
+impl<T: Drop> From<AllocFailed<T>> for GrammarFault {
+    ghost use Rattle.std.specs.Prelude.{◌≡◌};
+    ghost use Rattle.acap_grammar.specs.declared.grammar_fault.GrammarFault.TheVariants as error;
+
+    ghost from_gives = { λ _ e. e ≡ error.Memory };
+
+    fn from(_error: AllocFailed<T>) -> GrammarFault {
+        GrammarFault::Memory
+    }
 }

@@ -4,12 +4,12 @@ ghost use Rattle.std.specs.Prelude.{◌≡◌, Ok, Err, MatchResult, if◌then�
 ghost use Rattle.acap_commands.specs.Wanted.{One};
 ghost use Rattle.acap_grammar.specs.Outcome.{Reads};
 ghost use Rattle.acap_grammar.specs.Marks.{ends};
-ghost use Rattle.acap_grammar.specs.declared.grammar_fault.GrammarFault.TheVariants as fault;
+ghost use Rattle.acap_grammar.specs.declared.command_fault.CommandFault.TheVariants as fault;
 ghost use Rattle.acap_grammar.specs.Keys as keys;
 
 use crate::arguments::{comparator_for_at, name_at, number_at};
+use crate::command_fault::CommandFault;
 use crate::cursor::Cursor;
-use crate::grammar_error::GrammarError;
 use crate::grammar_fault::GrammarFault;
 use crate::words::KeyWord;
 use acap_commands::{Key, Relation, Test};
@@ -23,7 +23,7 @@ fn value_part(
     attribute: Attribute,
     comparator: Comparator,
     cursor: &mut Cursor<'_>,
-) -> Result<Test, GrammarError>
+) -> Result<Test, GrammarFault>
     ensures { Reads result cursor.new (keys.value_part relation attribute comparator cursor.old) }
 {
     match relation {
@@ -37,7 +37,7 @@ fn value_part(
 
 // Behind a relation: attribute comparator string.
 #[tactic(auto, unfolding(crate::specs::Keys::meets_at))]
-fn meets_at(relation: Relation, cursor: &mut Cursor<'_>) -> Result<Test, GrammarError>
+fn meets_at(relation: Relation, cursor: &mut Cursor<'_>) -> Result<Test, GrammarFault>
     ensures { Reads result cursor.new (keys.meets_at relation cursor.old) }
 {
     let attribute = name_at(cursor)?;
@@ -47,7 +47,7 @@ fn meets_at(relation: Relation, cursor: &mut Cursor<'_>) -> Result<Test, Grammar
 
 // Behind RANGE: number number time.
 #[tactic(auto, unfolding(crate::specs::Keys::range_at))]
-fn range_at(cursor: &mut Cursor<'_>) -> Result<Test, GrammarError>
+fn range_at(cursor: &mut Cursor<'_>) -> Result<Test, GrammarFault>
     ensures { Reads result cursor.new (keys.range_at cursor.old) }
 {
     let first = number_at(cursor)?;
@@ -57,25 +57,25 @@ fn range_at(cursor: &mut Cursor<'_>) -> Result<Test, GrammarError>
 }
 
 // What is wrong where one level too many would begin.
-fn too_deep(cursor: &Cursor<'_>) -> GrammarFault
+fn too_deep(cursor: &Cursor<'_>) -> CommandFault
     ensures { result ≡ (if ends cursor.now then fault.Arguments else fault.TooDeep) }
 {
     if cursor.ends() {
-        GrammarFault::Arguments
+        CommandFault::Arguments
     } else {
-        GrammarFault::TooDeep
+        CommandFault::TooDeep
     }
 }
 
 // One test as a key.
-fn one_of(test: Result<Test, GrammarError>) -> Result<Key, GrammarError>
+fn one_of(test: Result<Test, GrammarFault>) -> Result<Key, GrammarFault>
     ensures { MatchResult test (λ test. result ≡ Ok (One test)) (λ e. result ≡ Err e) }
 {
     Ok(Key::one(test?))
 }
 
 // Both keys, where there is a second. Of any type, as letting a key go is slow to prove.
-fn both<T: Drop>(first: T, second: Result<T, GrammarError>) -> Result<(T, T), GrammarError>
+fn both<T: Drop>(first: T, second: Result<T, GrammarFault>) -> Result<(T, T), GrammarFault>
     ensures { MatchResult second (λ second. result ≡ Ok (first, second)) (λ e. result ≡ Err e) }
 {
     Ok((first, second?))
@@ -83,14 +83,14 @@ fn both<T: Drop>(first: T, second: Result<T, GrammarError>) -> Result<(T, T), Gr
 
 /// A key of so many levels at most.
 #[tactic(auto, unfolding(crate::specs::Keys::key_at, crate::specs::Keys::key_behind))]
-pub(crate) fn key_at(levels: u32, cursor: &mut Cursor<'_>) -> Result<Key, GrammarError>
+pub(crate) fn key_at(levels: u32, cursor: &mut Cursor<'_>) -> Result<Key, GrammarFault>
     ensures { Reads result cursor.new (keys.key_at levels cursor.old) }
 {
     if levels == 0 {
-        return Err(GrammarError::Fault(too_deep(cursor)));
+        return Err(GrammarFault::Fault(too_deep(cursor)));
     }
     let Some(word) = cursor.word() else {
-        return Err(GrammarError::Fault(GrammarFault::Arguments));
+        return Err(GrammarFault::Fault(CommandFault::Arguments));
     };
     let alloc = cursor.alloc();
     match word {

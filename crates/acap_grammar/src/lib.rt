@@ -3,10 +3,10 @@
 
 mod arguments;
 mod codes;
+mod command_fault;
 mod cursor;
 mod data;
 mod gathered;
-mod grammar_error;
 mod grammar_fault;
 mod keys;
 mod laws;
@@ -27,8 +27,13 @@ pub use acap_commands::{
     StoreMetadata, StoreModifiers, Target, Test, Tolds, Verb,
 };
 pub use acap_entries::{Copying, Memory};
-pub use grammar_error::GrammarError;
+pub use command_fault::CommandFault;
 pub use grammar_fault::GrammarFault;
+pub use laws::{
+    command_examples, fault_examples, first_fault, limit_examples, line_examples, line_faults,
+    names_law, places_law, reply_examples, sendable_law, spelled_commands, spelled_texts,
+    text_examples, told_examples,
+};
 pub use parsing::{is_noop, parse};
 pub use refusing::lexical_refusal;
 pub use rendering::{render, render_said};

@@ -7,8 +7,8 @@ ghost use Rattle.acap_grammar.specs.Arguments.{object_at as object_in};
 ghost use Rattle.acap_grammar.specs.Grammar as grammar;
 
 use crate::arguments::{name_at, object_at};
+use crate::command_fault::CommandFault;
 use crate::cursor::Cursor;
-use crate::grammar_error::GrammarError;
 use crate::grammar_fault::GrammarFault;
 use crate::searching::search_at;
 use crate::several::{Gather, Series, some_of};
@@ -19,7 +19,7 @@ use acap_lexer::Tokens;
 use std::alloc::Global;
 
 // An object, in a box.
-fn boxed_object_at(cursor: &mut Cursor<'_>) -> Result<Boxed<ObjectName>, GrammarError>
+fn boxed_object_at(cursor: &mut Cursor<'_>) -> Result<Boxed<ObjectName>, GrammarFault>
     ensures { Reads result cursor.new (object_in cursor.old) }
 {
     let object = object_at(cursor)?;
@@ -28,7 +28,7 @@ fn boxed_object_at(cursor: &mut Cursor<'_>) -> Result<Boxed<ObjectName>, Grammar
 
 // Behind SETACL: object identifier rights.
 #[tactic(auto, unfolding(crate::specs::Grammar::set_acl_at))]
-fn set_acl_at(cursor: &mut Cursor<'_>) -> Result<Command, GrammarError>
+fn set_acl_at(cursor: &mut Cursor<'_>) -> Result<Command, GrammarFault>
     ensures { Reads result cursor.new (grammar.set_acl_at cursor.old) }
 {
     let object = boxed_object_at(cursor)?;
@@ -38,7 +38,7 @@ fn set_acl_at(cursor: &mut Cursor<'_>) -> Result<Command, GrammarError>
 }
 
 // Behind DELETEACL and its object: [identifier].
-fn identifier_part(cursor: &mut Cursor<'_>) -> Result<Option<Value>, GrammarError>
+fn identifier_part(cursor: &mut Cursor<'_>) -> Result<Option<Value>, GrammarFault>
     ensures { Reads result cursor.new (grammar.identifier_part cursor.old) }
 {
     if cursor.ends() {
@@ -49,7 +49,7 @@ fn identifier_part(cursor: &mut Cursor<'_>) -> Result<Option<Value>, GrammarErro
 
 // Behind DELETEACL: object [identifier].
 #[tactic(auto, unfolding(crate::specs::Grammar::delete_acl_at))]
-fn delete_acl_at(cursor: &mut Cursor<'_>) -> Result<Command, GrammarError>
+fn delete_acl_at(cursor: &mut Cursor<'_>) -> Result<Command, GrammarFault>
     ensures { Reads result cursor.new (grammar.delete_acl_at cursor.old) }
 {
     let object = boxed_object_at(cursor)?;
@@ -59,7 +59,7 @@ fn delete_acl_at(cursor: &mut Cursor<'_>) -> Result<Command, GrammarError>
 
 // Behind LISTRIGHTS: object identifier.
 #[tactic(auto, unfolding(crate::specs::Grammar::list_rights_at))]
-fn list_rights_at(cursor: &mut Cursor<'_>) -> Result<Command, GrammarError>
+fn list_rights_at(cursor: &mut Cursor<'_>) -> Result<Command, GrammarFault>
     ensures { Reads result cursor.new (grammar.list_rights_at cursor.old) }
 {
     let object = boxed_object_at(cursor)?;
@@ -69,7 +69,7 @@ fn list_rights_at(cursor: &mut Cursor<'_>) -> Result<Command, GrammarError>
 
 // Behind DELETEDSINCE: dataset time.
 #[tactic(auto, unfolding(crate::specs::Grammar::deleted_since_at))]
-fn deleted_since_at(cursor: &mut Cursor<'_>) -> Result<Command, GrammarError>
+fn deleted_since_at(cursor: &mut Cursor<'_>) -> Result<Command, GrammarFault>
     ensures { Reads result cursor.new (grammar.deleted_since_at cursor.old) }
 {
     let dataset: Dataset = name_at(cursor)?;
@@ -81,7 +81,7 @@ impl Gather for ContextNames {
     ghost item = { grammar.context_at };
 
     #[tactic(auto, unfolding(crate::specs::Grammar::context_at))]
-    fn gather(self, cursor: &mut Cursor<'_>) -> Result<ContextNames, GrammarError> {
+    fn gather(self, cursor: &mut Cursor<'_>) -> Result<ContextNames, GrammarFault> {
         let name: ContextName = name_at(cursor)?;
         let mut all = self;
         all.push(name)?;
@@ -90,7 +90,7 @@ impl Gather for ContextNames {
 }
 
 #[tactic(auto, unfolding(crate::specs::Grammar::contexts_at))]
-fn contexts_at(cursor: &mut Cursor<'_>) -> Result<ContextNames, GrammarError>
+fn contexts_at(cursor: &mut Cursor<'_>) -> Result<ContextNames, GrammarFault>
     ensures { Reads result cursor.new (grammar.contexts_at cursor.old) }
 {
     let none = ContextNames::new(cursor.alloc());
@@ -99,7 +99,7 @@ fn contexts_at(cursor: &mut Cursor<'_>) -> Result<ContextNames, GrammarError>
 
 // What stands behind a verb.
 #[tactic(auto, unfolding(crate::specs::Grammar::arguments_at))]
-fn arguments_at(verb: Verb, cursor: &mut Cursor<'_>) -> Result<Command, GrammarError>
+fn arguments_at(verb: Verb, cursor: &mut Cursor<'_>) -> Result<Command, GrammarFault>
     ensures { Reads result cursor.new (grammar.arguments_at verb cursor.old) }
 {
     match verb {
@@ -137,17 +137,17 @@ pub fn is_noop(alloc: Global, tokens: &Tokens) -> bool
 /// `NotPermittedTwice`, `BadName`, `BadTime`, `BadComparator`, `TooDeep` and `TooMany` for what stands behind it;
 /// `Memory` where memory was refused.
 #[tactic(auto, unfolding(crate::specs::Grammar::command_of))]
-pub fn parse(alloc: Global, tokens: &Tokens) -> Result<Command, GrammarError>
+pub fn parse(alloc: Global, tokens: &Tokens) -> Result<Command, GrammarFault>
     ensures { Gives result (grammar.command_of tokens.now) }
 {
     let mut cursor = Cursor::new(alloc, tokens, 1);
     let Some(verb) = cursor.word() else {
-        return Err(GrammarError::Fault(GrammarFault::UnknownCommand));
+        return Err(GrammarFault::Fault(CommandFault::UnknownCommand));
     };
     let command = arguments_at(verb, &mut cursor)?;
     if cursor.ends() {
         Ok(command)
     } else {
-        Err(GrammarError::Fault(GrammarFault::Arguments))
+        Err(GrammarFault::Fault(CommandFault::Arguments))
     }
 }

@@ -3,7 +3,7 @@
 ghost use Rattle.std.specs.Prelude.{◌≡◌};
 ghost use Rattle.acap_grammar.specs.Refusals.{of_lexical, of_grammar, text_of};
 
-use crate::grammar_fault::GrammarFault;
+use crate::command_fault::CommandFault;
 use acap_commands::Refusal;
 use acap_lexer::LexFault;
 
@@ -20,19 +20,19 @@ pub fn lexical_refusal(fault: LexFault) -> Refusal
     }
 }
 
-impl From<GrammarFault> for Refusal {
+impl From<CommandFault> for Refusal {
     ghost from_gives = { λ fault refusal. refusal ≡ of_grammar fault };
 
-    fn from(fault: GrammarFault) -> Refusal {
+    fn from(fault: CommandFault) -> Refusal {
         match fault {
-            GrammarFault::UnknownCommand => Refusal::UnknownCommand,
-            GrammarFault::Arguments => Refusal::Arguments,
-            GrammarFault::NotPermittedTwice => Refusal::NotPermittedTwice,
-            GrammarFault::BadName => Refusal::BadName,
-            GrammarFault::BadTime => Refusal::BadTime,
-            GrammarFault::BadComparator => Refusal::BadComparator,
-            GrammarFault::TooDeep => Refusal::TooDeep,
-            GrammarFault::TooMany => Refusal::TooMany,
+            CommandFault::UnknownCommand => Refusal::UnknownCommand,
+            CommandFault::Arguments => Refusal::Arguments,
+            CommandFault::NotPermittedTwice => Refusal::NotPermittedTwice,
+            CommandFault::BadName => Refusal::BadName,
+            CommandFault::BadTime => Refusal::BadTime,
+            CommandFault::BadComparator => Refusal::BadComparator,
+            CommandFault::TooDeep => Refusal::TooDeep,
+            CommandFault::TooMany => Refusal::TooMany,
         }
     }
 }

@@ -5,8 +5,8 @@ ghost use Rattle.acap_grammar.specs.Outcome.{Gives, Reads, ReadsBy};
 ghost use Rattle.acap_grammar.specs.Searching as searching;
 
 use crate::arguments::{Named, name_at, number_at};
+use crate::command_fault::CommandFault;
 use crate::cursor::Cursor;
-use crate::grammar_error::GrammarError;
 use crate::grammar_fault::GrammarFault;
 use crate::keys::key_at;
 use crate::several::{Gather, Series, read_enclosed, several};
@@ -26,13 +26,13 @@ impl Named for ReturnName {
     ghost named = { searching.return_named };
 
     #[tactic(auto, unfolding(crate::specs::Searching::return_named))]
-    fn of_text(alloc: Global, text: &[u8]) -> Result<ReturnName, GrammarError> {
+    fn of_text(alloc: Global, text: &[u8]) -> Result<ReturnName, GrammarFault> {
         if !ends_with(text, b'*') {
             return Ok(ReturnName::Named(Attribute::of_text(alloc, text)?));
         }
         let front = &text[..text.len() - 1];
         if !front.is_empty() && !is_attribute(front) {
-            return Err(GrammarError::Fault(GrammarFault::BadName));
+            return Err(GrammarFault::Fault(CommandFault::BadName));
         }
         Ok(ReturnName::Beginning(Value::from_slice(alloc, front)?))
     }
@@ -41,10 +41,10 @@ impl Named for ReturnName {
 impl Named for Metadata {
     ghost named = { searching.metadata_named };
 
-    fn of_text(_alloc: Global, text: &[u8]) -> Result<Metadata, GrammarError> {
+    fn of_text(_alloc: Global, text: &[u8]) -> Result<Metadata, GrammarFault> {
         match find_text(&METADATA, text) {
             Some(metadata) => Ok(metadata),
-            None => Err(GrammarError::Fault(GrammarFault::Arguments)),
+            None => Err(GrammarFault::Fault(CommandFault::Arguments)),
         }
     }
 }
@@ -53,7 +53,7 @@ impl Gather for MetadataList {
     ghost item = { searching.metadata_at };
 
     #[tactic(auto, unfolding(crate::specs::Searching::metadata_at))]
-    fn gather(self, cursor: &mut Cursor<'_>) -> Result<MetadataList, GrammarError> {
+    fn gather(self, cursor: &mut Cursor<'_>) -> Result<MetadataList, GrammarFault> {
         let metadata: Metadata = name_at(cursor)?;
         let mut all = self;
         all.push(metadata)?;
@@ -74,7 +74,7 @@ fn default_metadata(alloc: Global, name: &ReturnName) -> Result<MetadataList, Me
 }
 
 #[tactic(auto, unfolding(crate::specs::Searching::metadata_part))]
-fn metadata_part(name: &ReturnName, cursor: &mut Cursor<'_>) -> Result<MetadataList, GrammarError>
+fn metadata_part(name: &ReturnName, cursor: &mut Cursor<'_>) -> Result<MetadataList, GrammarFault>
     ensures { Reads result cursor.new (searching.metadata_part name.now cursor.old) }
 {
     if cursor.opens() {
@@ -87,7 +87,7 @@ impl Gather for Returns {
     ghost item = { searching.return_at };
 
     #[tactic(auto, unfolding(crate::specs::Searching::return_at))]
-    fn gather(self, cursor: &mut Cursor<'_>) -> Result<Returns, GrammarError> {
+    fn gather(self, cursor: &mut Cursor<'_>) -> Result<Returns, GrammarFault> {
         let name: ReturnName = name_at(cursor)?;
         let metadata = metadata_part(&name, cursor)?;
         let mut all = self;
@@ -97,7 +97,7 @@ impl Gather for Returns {
 }
 
 #[tactic(auto, unfolding(crate::specs::Searching::returns_at))]
-fn returns_at(cursor: &mut Cursor<'_>) -> Result<Returns, GrammarError>
+fn returns_at(cursor: &mut Cursor<'_>) -> Result<Returns, GrammarFault>
     ensures { Reads result cursor.new (searching.returns_at cursor.old) }
 {
     cursor.pass_open()?;
@@ -112,7 +112,7 @@ impl Gather for SortItems {
     ghost item = { searching.sort_at };
 
     #[tactic(auto, unfolding(crate::specs::Searching::sort_at))]
-    fn gather(self, cursor: &mut Cursor<'_>) -> Result<SortItems, GrammarError> {
+    fn gather(self, cursor: &mut Cursor<'_>) -> Result<SortItems, GrammarFault> {
         let attribute: Attribute = name_at(cursor)?;
         let comparator: Comparator = name_at(cursor)?;
         let mut all = self;
@@ -125,7 +125,7 @@ impl Gather for SortItems {
 }
 
 #[tactic(auto, unfolding(crate::specs::Searching::sorts_at))]
-fn sorts_at(cursor: &mut Cursor<'_>) -> Result<SortItems, GrammarError>
+fn sorts_at(cursor: &mut Cursor<'_>) -> Result<SortItems, GrammarFault>
     ensures { Reads result cursor.new (searching.sorts_at cursor.old) }
 {
     read_enclosed(SortItems::new(cursor.alloc()), 16, cursor)
@@ -134,7 +134,7 @@ fn sorts_at(cursor: &mut Cursor<'_>) -> Result<SortItems, GrammarError>
 // ---- the other modifiers
 
 #[tactic(auto, unfolding(crate::specs::Searching::limit_at))]
-fn limit_at(cursor: &mut Cursor<'_>) -> Result<Limit, GrammarError>
+fn limit_at(cursor: &mut Cursor<'_>) -> Result<Limit, GrammarFault>
     ensures { Reads result cursor.new (searching.limit_at cursor.old) }
 {
     let over = number_at(cursor)?;
@@ -151,7 +151,7 @@ fn flag_at(word: &[u8], cursor: &mut Cursor<'_>) -> bool
 }
 
 #[tactic(auto, unfolding(crate::specs::Searching::make_context_at))]
-fn make_context_at(cursor: &mut Cursor<'_>) -> Result<MakeContext, GrammarError>
+fn make_context_at(cursor: &mut Cursor<'_>) -> Result<MakeContext, GrammarFault>
     ensures { Reads result cursor.new (searching.make_context_at cursor.old) }
 {
     let enumerate = flag_at(b"ENUMERATE", cursor);
@@ -174,7 +174,7 @@ pub(crate) struct Scope {
 }
 
 // Puts what is read in its place. Of any type, as letting a large one go is slow to prove.
-fn put<T: Drop>(place: &mut Option<T>, read: Result<T, GrammarError>) -> Result<(), GrammarError>
+fn put<T: Drop>(place: &mut Option<T>, read: Result<T, GrammarFault>) -> Result<(), GrammarFault>
     ensures { MatchResult read (λ x. (result ≡ Ok tt) × (place.new ≡ Some x)) (λ e. result ≡ Err e) }
 {
     *place = Some(read?);
@@ -187,7 +187,7 @@ fn modify(
     modifiers: &mut SearchModifiers,
     word: SearchWord,
     cursor: &mut Cursor<'_>,
-) -> Result<(), GrammarError>
+) -> Result<(), GrammarFault>
     ensures { ReadsBy (λ _ left. (modifiers.new, left))
         result cursor.new (searching.behind_modifier modifiers.old word cursor.old) }
 {
@@ -237,23 +237,23 @@ fn has_modifier(modifiers: &SearchModifiers, word: SearchWord) -> bool
 
 impl Scope {
     // A modifier that may stand over what is looked through, and didn't stand before.
-    fn may_modify(&self, word: SearchWord) -> Result<(), GrammarError>
+    fn may_modify(&self, word: SearchWord) -> Result<(), GrammarFault>
         ensures { Gives result (searching.may_modify self.now word) }
     {
         if is_context(&self.target) && is_of_datasets(word) {
-            return Err(GrammarError::Fault(GrammarFault::Arguments));
+            return Err(GrammarFault::Fault(CommandFault::Arguments));
         }
         once(has_modifier(&self.modifiers, word))
     }
 
     // One modifier more.
     #[tactic(auto, unfolding(crate::specs::Searching::modifier_at))]
-    fn modify(&mut self, cursor: &mut Cursor<'_>) -> Result<(), GrammarError>
+    fn modify(&mut self, cursor: &mut Cursor<'_>) -> Result<(), GrammarFault>
         ensures { ReadsBy (λ _ left. (self.new, left))
             result cursor.new (searching.modifier_at self.old cursor.old) }
     {
         let Some(word) = cursor.word() else {
-            return Err(GrammarError::Fault(GrammarFault::Arguments));
+            return Err(GrammarFault::Fault(CommandFault::Arguments));
         };
         self.may_modify(word)?;
         modify(&mut self.modifiers, word, cursor)
@@ -263,7 +263,7 @@ impl Scope {
 impl Gather for Scope {
     ghost item = { searching.modifier_at };
 
-    fn gather(self, cursor: &mut Cursor<'_>) -> Result<Scope, GrammarError> {
+    fn gather(self, cursor: &mut Cursor<'_>) -> Result<Scope, GrammarFault> {
         let mut scope = self;
         scope.modify(cursor)?;
         Ok(scope)
@@ -271,7 +271,7 @@ impl Gather for Scope {
 }
 
 #[tactic(auto, unfolding(crate::specs::Searching::modifiers_at))]
-fn modifiers_at(target: Target, cursor: &mut Cursor<'_>) -> Result<Scope, GrammarError>
+fn modifiers_at(target: Target, cursor: &mut Cursor<'_>) -> Result<Scope, GrammarFault>
     ensures { Reads result cursor.new (searching.modifiers_at target cursor.old) }
 {
     let scope = Scope {
@@ -283,7 +283,7 @@ fn modifiers_at(target: Target, cursor: &mut Cursor<'_>) -> Result<Scope, Gramma
 
 /// What stands behind SEARCH.
 #[tactic(auto, unfolding(crate::specs::Searching::search_at))]
-pub(crate) fn search_at(cursor: &mut Cursor<'_>) -> Result<Search, GrammarError>
+pub(crate) fn search_at(cursor: &mut Cursor<'_>) -> Result<Search, GrammarFault>
     ensures { Reads result cursor.new (searching.search_at cursor.old) }
 {
     let target: Target = name_at(cursor)?;

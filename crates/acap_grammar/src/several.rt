@@ -6,8 +6,8 @@ ghost use Rattle.acap_grammar.specs.Outcome.{Read, Reads};
 ghost use Rattle.acap_grammar.specs.Series.{over, fits};
 ghost use Rattle.acap_grammar.specs.Several.{several, some_of, strings_enclosed};
 
+use crate::command_fault::CommandFault;
 use crate::cursor::Cursor;
-use crate::grammar_error::GrammarError;
 use crate::grammar_fault::GrammarFault;
 use crate::words::{SearchWord, StoreWord};
 
@@ -57,7 +57,7 @@ pub(crate) trait Gather: Drop + Sized {
     ghost item: { Self → List Token → Read Self };
 
     /// One item more.
-    fn gather(self, cursor: &mut Cursor<'_>) -> Result<Self, GrammarError>
+    fn gather(self, cursor: &mut Cursor<'_>) -> Result<Self, GrammarFault>
         ensures { Reads result cursor.new (item self cursor.old) };
 }
 
@@ -68,7 +68,7 @@ pub(crate) fn several<S: Gather>(
     seen: S,
     room: u32,
     cursor: &mut Cursor<'_>,
-) -> Result<S, GrammarError>
+) -> Result<S, GrammarFault>
     ensures { Reads result cursor.new (several (over series) (fits series) S.item room seen cursor.old) }
 {
     let mut all = seen;
@@ -82,9 +82,9 @@ pub(crate) fn several<S: Gather>(
         return Ok(all);
     }
     if series.may_start(cursor) {
-        return Err(GrammarError::Fault(GrammarFault::TooMany));
+        return Err(GrammarFault::Fault(CommandFault::TooMany));
     }
-    Err(GrammarError::Fault(GrammarFault::Arguments))
+    Err(GrammarFault::Fault(CommandFault::Arguments))
 }
 
 /// One item or more, and so many at most.
@@ -94,7 +94,7 @@ pub(crate) fn some_of<S: Gather>(
     none: S,
     most: u32,
     cursor: &mut Cursor<'_>,
-) -> Result<S, GrammarError>
+) -> Result<S, GrammarFault>
     requires { 0 < most }
     ensures { Reads result cursor.new (some_of (over series) (fits series) S.item most none cursor.old) }
 {
@@ -108,7 +108,7 @@ pub(crate) fn read_enclosed<S: Gather>(
     none: S,
     most: u32,
     cursor: &mut Cursor<'_>,
-) -> Result<S, GrammarError>
+) -> Result<S, GrammarFault>
     requires { 0 < most }
     ensures { Reads result cursor.new (strings_enclosed S.item most none cursor.old) }
 {

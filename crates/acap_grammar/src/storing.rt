@@ -7,9 +7,9 @@ ghost use Rattle.acap_grammar.specs.Storing as storing;
 ghost use Rattle.acap_grammar.specs.Storing.{with_gift};
 
 use crate::arguments::{Named, name_at};
+use crate::command_fault::CommandFault;
 use crate::cursor::Cursor;
 use crate::gathered::{GatheredEntries, GatheredItems};
-use crate::grammar_error::GrammarError;
 use crate::grammar_fault::GrammarFault;
 use crate::several::{Gather, Series, read_enclosed, several, some_of};
 use crate::words::{STORE_METADATA, StoreWord, find_text};
@@ -23,11 +23,11 @@ use std::alloc::Global;
 // ---- what may stand once
 
 /// Goes on where what may stand once didn't stand before.
-pub(crate) fn once(stood: bool) -> Result<(), GrammarError>
+pub(crate) fn once(stood: bool) -> Result<(), GrammarFault>
     ensures { Gives result (storing.once stood) }
 {
     if stood {
-        Err(GrammarError::Fault(GrammarFault::NotPermittedTwice))
+        Err(GrammarFault::Fault(CommandFault::NotPermittedTwice))
     } else {
         Ok(())
     }
@@ -37,7 +37,7 @@ pub(crate) fn once(stood: bool) -> Result<(), GrammarError>
 
 // The strings up to the parenthesis that closes them.
 #[tactic(auto, unfolding(crate::specs::Storing::strings_at))]
-fn strings_at(cursor: &mut Cursor<'_>) -> Result<Values, GrammarError>
+fn strings_at(cursor: &mut Cursor<'_>) -> Result<Values, GrammarFault>
     ensures { Reads result cursor.new (storing.strings_at [] cursor.old) }
 {
     let mut strings = Values::new(cursor.alloc());
@@ -48,10 +48,10 @@ fn strings_at(cursor: &mut Cursor<'_>) -> Result<Values, GrammarError>
             Kind::Quoted | Kind::Literal => {
                 strings.push(Value::from_slice(cursor.alloc(), piece.value)?)?;
             }
-            _ => return Err(GrammarError::Fault(GrammarFault::Arguments)),
+            _ => return Err(GrammarFault::Fault(CommandFault::Arguments)),
         }
     }
-    Err(GrammarError::Fault(GrammarFault::Arguments))
+    Err(GrammarFault::Fault(CommandFault::Arguments))
 }
 
 // NIL or DEFAULT.
@@ -70,7 +70,7 @@ fn given_word(cursor: &mut Cursor<'_>) -> Option<Given>
 
 // A string, NIL or DEFAULT.
 #[tactic(auto, unfolding(crate::specs::Storing::plain_at))]
-fn plain_at(cursor: &mut Cursor<'_>) -> Result<Given, GrammarError>
+fn plain_at(cursor: &mut Cursor<'_>) -> Result<Given, GrammarFault>
     ensures { Reads result cursor.new (storing.plain_at cursor.old) }
 {
     if cursor.starts_string() {
@@ -78,13 +78,13 @@ fn plain_at(cursor: &mut Cursor<'_>) -> Result<Given, GrammarError>
     }
     match given_word(cursor) {
         Some(given) => Ok(given),
-        None => Err(GrammarError::Fault(GrammarFault::Arguments)),
+        None => Err(GrammarFault::Fault(CommandFault::Arguments)),
     }
 }
 
 // One of these, or a list.
 #[tactic(auto, unfolding(crate::specs::Storing::given_at))]
-fn given_at(cursor: &mut Cursor<'_>) -> Result<Given, GrammarError>
+fn given_at(cursor: &mut Cursor<'_>) -> Result<Given, GrammarFault>
     ensures { Reads result cursor.new (storing.given_at cursor.old) }
 {
     if cursor.opens() {
@@ -100,10 +100,10 @@ fn given_at(cursor: &mut Cursor<'_>) -> Result<Given, GrammarError>
 impl Named for StoreMetadata {
     ghost named = { storing.metadata_named };
 
-    fn of_text(_alloc: Global, text: &[u8]) -> Result<StoreMetadata, GrammarError> {
+    fn of_text(_alloc: Global, text: &[u8]) -> Result<StoreMetadata, GrammarFault> {
         match find_text(&STORE_METADATA, text) {
             Some(metadata) => Ok(metadata),
-            None => Err(GrammarError::Fault(GrammarFault::Arguments)),
+            None => Err(GrammarFault::Fault(CommandFault::Arguments)),
         }
     }
 }
@@ -149,7 +149,7 @@ impl Gather for Gifts {
     ghost item = { storing.gift_at };
 
     #[tactic(auto, unfolding(crate::specs::Storing::gift_at))]
-    fn gather(self, cursor: &mut Cursor<'_>) -> Result<Gifts, GrammarError> {
+    fn gather(self, cursor: &mut Cursor<'_>) -> Result<Gifts, GrammarFault> {
         let metadata: StoreMetadata = name_at(cursor)?;
         once(self.items.has_item(&self.attribute, metadata))?;
         let given = given_at(cursor)?;
@@ -159,7 +159,7 @@ impl Gather for Gifts {
 
 // Behind an attribute: what its value is given, or its metadata.
 #[tactic(auto, unfolding(crate::specs::Storing::gifts_at))]
-fn gifts_at(seen: Gifts, cursor: &mut Cursor<'_>) -> Result<GatheredItems, GrammarError>
+fn gifts_at(seen: Gifts, cursor: &mut Cursor<'_>) -> Result<GatheredItems, GrammarFault>
     ensures { Reads result cursor.new (storing.gifts_at seen cursor.old) }
 {
     if cursor.opens() {
@@ -174,7 +174,7 @@ impl Gather for GatheredItems {
     ghost item = { storing.item_at };
 
     #[tactic(auto, unfolding(crate::specs::Storing::item_at))]
-    fn gather(self, cursor: &mut Cursor<'_>) -> Result<GatheredItems, GrammarError> {
+    fn gather(self, cursor: &mut Cursor<'_>) -> Result<GatheredItems, GrammarFault> {
         let attribute: Attribute = name_at(cursor)?;
         once(self.has_attribute(&attribute))?;
         let seen = Gifts {
@@ -186,7 +186,7 @@ impl Gather for GatheredItems {
 }
 
 #[tactic(auto, unfolding(crate::specs::Storing::items_at))]
-fn items_at(cursor: &mut Cursor<'_>) -> Result<StoreItems, GrammarError>
+fn items_at(cursor: &mut Cursor<'_>) -> Result<StoreItems, GrammarFault>
     ensures { Reads result cursor.new (storing.items_at cursor.old) }
 {
     let none = GatheredItems::new(cursor.alloc());
@@ -212,7 +212,7 @@ fn condition(
     seen: StoreModifiers,
     word: StoreWord,
     cursor: &mut Cursor<'_>,
-) -> Result<StoreModifiers, GrammarError>
+) -> Result<StoreModifiers, GrammarFault>
     ensures { Reads result cursor.new (storing.behind_condition seen word cursor.old) }
 {
     match word {
@@ -231,9 +231,9 @@ impl Gather for StoreModifiers {
     ghost item = { storing.condition_at };
 
     #[tactic(auto, unfolding(crate::specs::Storing::condition_at))]
-    fn gather(self, cursor: &mut Cursor<'_>) -> Result<StoreModifiers, GrammarError> {
+    fn gather(self, cursor: &mut Cursor<'_>) -> Result<StoreModifiers, GrammarFault> {
         let Some(word) = cursor.word() else {
-            return Err(GrammarError::Fault(GrammarFault::Arguments));
+            return Err(GrammarFault::Fault(CommandFault::Arguments));
         };
         once(has_condition(&self, word))?;
         condition(self, word, cursor)
@@ -241,7 +241,7 @@ impl Gather for StoreModifiers {
 }
 
 #[tactic(auto, unfolding(crate::specs::Storing::conditions_at))]
-fn conditions_at(cursor: &mut Cursor<'_>) -> Result<StoreModifiers, GrammarError>
+fn conditions_at(cursor: &mut Cursor<'_>) -> Result<StoreModifiers, GrammarFault>
     ensures { Reads result cursor.new (storing.conditions_at cursor.old) }
 {
     // Written out: behind a call of `none` the prover misses the option in it.
@@ -255,7 +255,7 @@ fn conditions_at(cursor: &mut Cursor<'_>) -> Result<StoreModifiers, GrammarError
 // ---- entries
 
 #[tactic(auto, unfolding(crate::specs::Storing::path_at))]
-fn new_path_at(seen: &GatheredEntries, cursor: &mut Cursor<'_>) -> Result<Path, GrammarError>
+fn new_path_at(seen: &GatheredEntries, cursor: &mut Cursor<'_>) -> Result<Path, GrammarFault>
     ensures { Reads result cursor.new (storing.path_at seen.now cursor.old) }
 {
     let path: Path = name_at(cursor)?;
@@ -265,7 +265,7 @@ fn new_path_at(seen: &GatheredEntries, cursor: &mut Cursor<'_>) -> Result<Path, 
 
 // One entry more. Those before are only looked at here: letting them go at each fault is slow to prove.
 #[tactic(auto, unfolding(crate::specs::Storing::entry_at))]
-fn entry_at(seen: &GatheredEntries, cursor: &mut Cursor<'_>) -> Result<StoreEntry, GrammarError>
+fn entry_at(seen: &GatheredEntries, cursor: &mut Cursor<'_>) -> Result<StoreEntry, GrammarFault>
     ensures { ReadsBy (λ entry left. (seen.now ++ entry ∷ [], left))
         result cursor.new (storing.entry_at seen.now cursor.old) }
 {
@@ -283,7 +283,7 @@ fn entry_at(seen: &GatheredEntries, cursor: &mut Cursor<'_>) -> Result<StoreEntr
 impl Gather for GatheredEntries {
     ghost item = { storing.entry_at };
 
-    fn gather(self, cursor: &mut Cursor<'_>) -> Result<GatheredEntries, GrammarError> {
+    fn gather(self, cursor: &mut Cursor<'_>) -> Result<GatheredEntries, GrammarFault> {
         let entry = entry_at(&self, cursor)?;
         Ok(self.with(cursor.alloc(), entry)?)
     }
@@ -291,7 +291,7 @@ impl Gather for GatheredEntries {
 
 /// The entries up to the end of the line.
 #[tactic(auto, unfolding(crate::specs::Storing::entries_at))]
-pub(crate) fn entries_at(cursor: &mut Cursor<'_>) -> Result<Entries, GrammarError>
+pub(crate) fn entries_at(cursor: &mut Cursor<'_>) -> Result<Entries, GrammarFault>
     ensures { Reads result cursor.new (storing.entries_at cursor.old) }
 {
     let none = GatheredEntries::new(cursor.alloc());

@@ -32,8 +32,8 @@ mod tokens;
 pub use fault::{LexFault, Memory};
 pub use kind::Kind;
 pub use laws::{
-    examples, goes_by_stages, keeps_items, keeps_waits, leaves_room, reads_parts, reads_quoted,
-    reads_spellings, takes_octets,
+    examples, goes_by_stages, held_examples, keeps_items, keeps_waits, leaves_room, limit_examples,
+    octet_examples, printed_examples, reads_parts, reads_quoted, reads_spellings, takes_octets,
 };
 pub use lexed::{Lexed, Tag};
 pub use lexer::Lexer;

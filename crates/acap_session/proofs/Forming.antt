@@ -19,14 +19,14 @@ use Rattle.acap_grammar.specs.Arguments.{dataset_named, entry_named, path_named}
 use Rattle.acap_grammar.specs.Grammar.{command_of}
 use Rattle.acap_grammar.specs.Sendable.{Names, Each, IsEntry, IsObject, IsSendable}
 use Rattle.acap_grammar.specs.Spelling.{dataset_text}
-use Rattle.acap_grammar.specs.declared.grammar_fault.GrammarFault.{GrammarFault}
+use Rattle.acap_grammar.specs.declared.command_fault.CommandFault.{CommandFault}
 use Rattle.acap_lexer.specs.Token.{Token}
 use Rattle.acap_machine.proofs.NamedLemmas.{IsWellNamed, list_formed}
 use Rattle.acap_machine.specs.Following.{is_named}
 
 -- ---- what is read as a name
 
-good_if : {A : Type 0} (b : Bool) (made name : A) (fault : GrammarFault) → (if b then Ok made else Err fault) ≡ Ok name → (b ≡ true) × (made ≡ name)
+good_if : {A : Type 0} (b : Bool) (made name : A) (fault : CommandFault) → (if b then Ok made else Err fault) ≡ Ok name → (b ≡ true) × (made ≡ name)
 good_if true made name fault e = (refl, cc)
 good_if false made name fault e = absurd cc
 

@@ -24,8 +24,8 @@ use Rattle.acap_grammar.specs.Refusals.{of_grammar, of_lexical}
 use Rattle.acap_grammar.specs.Replies.{octets_of, said_form, challenge_form}
 use Rattle.acap_commands.specs.declared.command.Command.{Command}
 use Rattle.acap_commands.specs.declared.command.Command.TheVariants as command
-use Rattle.acap_grammar.specs.declared.grammar_fault.GrammarFault.{GrammarFault}
-use Rattle.acap_grammar.specs.declared.grammar_fault.GrammarFault.TheVariants as fault
+use Rattle.acap_grammar.specs.declared.command_fault.CommandFault.{CommandFault}
+use Rattle.acap_grammar.specs.declared.command_fault.CommandFault.TheVariants as fault
 use Rattle.acap_commands.specs.declared.refusal.Refusal.TheVariants as refusals
 use Rattle.acap_commands.specs.declared.reply.Reply.{Reply}
 use Rattle.acap_commands.specs.declared.said.Said.TheVariants as said
@@ -132,7 +132,7 @@ ready_octets = refl
 pub continues : (b : List Call) (fatal : Option LexFault) (x : Stage) → IsLeft fatal x b → AreCompleted b ready_line fatal x
 continues b fatal x left = subst (λ o. AreCompleted b o fatal x) (sym ready_octets) (waits b (record { tag = None; said = said.Challenge (codes "Ready") }) fatal x refl left)
 
-grammar_completes : (f : GrammarFault) → completes (said.Refused (of_grammar f)) ≡ true
+grammar_completes : (f : CommandFault) → completes (said.Refused (of_grammar f)) ≡ true
 grammar_completes fault.UnknownCommand = refl
 grammar_completes fault.Arguments = refl
 grammar_completes fault.NotPermittedTwice = refl
@@ -189,7 +189,7 @@ command_goes l tag (command.DeletedSince dataset since) seated fatal e = asks_go
 command_goes l tag (command.FreeContext name) seated fatal e = asks_goes l.user tag (command.FreeContext name) seated fatal e
 command_goes l tag (command.UpdateContext names) seated fatal e = asks_goes l.user tag (command.UpdateContext names) seated fatal e
 
-line_goes : (l : Listening) (tag : Option (List ℕ)) (r : Result Command GrammarFault) (seated : Option (List ℕ)) (fatal : Option LexFault) →
+line_goes : (l : Listening) (tag : Option (List ℕ)) (r : Result Command CommandFault) (seated : Option (List ℕ)) (fatal : Option LexFault) →
     seated ≡ l.user → GoesTo (record { tag = tag; is_login = is_login r } ∷ []) l.user seated fatal (heard_line l tag r)
 line_goes l tag (Ok c) seated fatal e = command_goes l tag c seated fatal e
 line_goes l tag (Err f) seated fatal e =

@@ -23,7 +23,7 @@ use Rattle.acap_dialogue.specs.declared.stage.Stage.{Stage}
 use Rattle.acap_dialogue.specs.declared.stage.Stage.TheVariants as stage
 use Rattle.acap_entries.specs.Names.{is_user_name}
 use Rattle.acap_grammar.specs.Grammar.{command_of}
-use Rattle.acap_grammar.specs.declared.grammar_fault.GrammarFault.{GrammarFault}
+use Rattle.acap_grammar.specs.declared.command_fault.CommandFault.{CommandFault}
 use Rattle.acap_lexer.specs.Held.{next_of}
 use Rattle.acap_lexer.specs.Token.{Token}
 use Rattle.acap_lexer.specs.declared.kind.Kind.{Kind}
@@ -230,7 +230,7 @@ module _ (formed : (tokens : List Token) (c : Command) → command_of tokens ≡
   command_good l tag (command.FreeContext name) named = asks_good l.user tag _ named
   command_good l tag (command.UpdateContext names) named = asks_good l.user tag _ named
 
-  heard_line_good : (l : Listening) (tag : Option (List ℕ)) (tokens : List Token) (r : Result Command GrammarFault) → command_of tokens ≡ r → Good (heard_line l tag r)
+  heard_line_good : (l : Listening) (tag : Option (List ℕ)) (tokens : List Token) (r : Result Command CommandFault) → command_of tokens ≡ r → Good (heard_line l tag r)
   heard_line_good l tag tokens (Ok c) e = command_good l tag c (formed tokens c e)
   heard_line_good l tag tokens (Err fault) e = record { asks = λ e f. absurd cc; stage = refl }
 

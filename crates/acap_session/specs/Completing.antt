@@ -22,7 +22,7 @@ use Rattle.acap_commands.specs.declared.said.Said.TheVariants as said
 use Rattle.acap_commands.specs.declared.status.Status.{Status}
 use Rattle.acap_commands.specs.declared.status.Status.TheVariants as status
 use Rattle.acap_commands.specs.declared.verb.Verb.TheVariants as verb
-use Rattle.acap_grammar.specs.declared.grammar_fault.GrammarFault.{GrammarFault}
+use Rattle.acap_grammar.specs.declared.command_fault.CommandFault.{CommandFault}
 use Rattle.acap_machine.specs.Completing.{completes}
 use Rattle.acap_rights.specs.declared.realm.Realm.{Realm}
 use Rattle.acap_dialogue.specs.Hearing.{tag_of}
@@ -48,7 +48,7 @@ abbrev pub login_call : Option (List ℕ) → Call
 login_call tag = record { tag = tag; is_login = true }
 
 -- AUTHENTICATE is one
-abbrev pub is_login : Result Command GrammarFault → Bool
+abbrev pub is_login : Result Command CommandFault → Bool
 is_login (Ok (command.Authenticate mechanism)) = true
 is_login other = false
 
