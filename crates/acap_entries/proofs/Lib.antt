@@ -1,3 +1,4 @@
+pub mod EntryLemmas
 pub mod SortedLemmas
 pub mod LeafLemmas
 pub mod RankLemmas

@@ -1,6 +1,6 @@
 //! The tree of records.
-ghost use Rattle.std.specs.Prelude.{◌≡◌, ◌≤◌, IfOk, OnOk};
-ghost use Rattle.std.specs.Option.{option_copied};
+ghost use Rattle.std.specs.Prelude.{◌≡◌, ◌≤◌, IfOk, IfSome, OnOk};
+ghost use Rattle.std.specs.Option.{option_copied, option_map};
 ghost use Rattle.std.specs.FinMap as map;
 ghost use Rattle.acap_entries.specs.FullPaths.{AreWellFormed, path_of};
 ghost use Rattle.acap_entries.specs.Store.{empty_store};
@@ -14,7 +14,7 @@ use crate::dataset::Dataset;
 use crate::deletion::Deletion;
 use crate::deletions::Deletions;
 use crate::keys::{Edge, PathText, Whole};
-use crate::leaves::{Leaves, find};
+use crate::leaves::{Leaves, entry, find};
 use crate::listing::Listing;
 use crate::memory::Memory;
 use crate::moment::Moment;
@@ -106,6 +106,17 @@ impl Tree {
     {
         let record = find(self.entries.as_slice(), &PathText { dataset, name })?;
         Some(record.get())
+    }
+
+    /// The path and the record at the path that is given by its octets, if there is one.
+    pub fn entry(&self, dataset: &[u8], name: &[u8]) -> Option<(&Path, &Record)>
+        ensures path { IfSome result (λ e. e.0.now ≡ path_of dataset.now name.now) }
+        ensures record { option_map (λ e. e.1.now) result ≡ map.get self.now.store.records (path_of dataset.now name.now) }
+    {
+        match entry(self.entries.as_slice(), &PathText { dataset, name }) {
+            Some((path, record)) => Some((path, record.get())),
+            None => None,
+        }
     }
 
     /// Whether a dataset exists: `/` does, and any other where its own entry in the parent has `subdataset` `(".")`
