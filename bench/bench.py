@@ -99,6 +99,12 @@ def inputs():
     heir = lines(['STORE ("/c/~/" "dataset.inherit" "/option/user/joe/")'])
     of_heir = 'SEARCH "/c/~/" RETURN ("option.a0") ALL'
     yield "SEARCH of 10,000 entries, all inherited", "us", filled(10_000, 1) + heir, lines([of_heir] * 20), 20
+    named = lambda dataset, name: f'SEARCH "{dataset}" RETURN ("option.a0") EQUAL "entry" "i;octet" "{name}"'
+    for count in (1_000, 10_000, 60_000):
+        asked = lines(named("/option/~/", f"e{shuffled.randrange(count):06}") for _ in range(20_000))
+        yield f"SEARCH of one by its name among {count:,}", "us", filled(count), asked, 20_000
+    asked = lines(named("/c/~/", f"e{shuffled.randrange(10_000):06}") for _ in range(200))
+    yield "SEARCH of one by its name among 10,000, all inherited", "us", filled(10_000, 1) + heir, asked, 200
     yield "SEARCH of 2,000 rows of 1,000 octets", "us", filled(2000, 1, 1000), lines([search(1)] * 80), 80
     for name, octets in (
         ("short tokens", line_of(" ab (cd ef) ghi") * 2500),

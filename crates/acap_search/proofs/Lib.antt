@@ -7,6 +7,7 @@ pub mod GatheredLemmas
 pub mod GroundLemmas
 pub mod HitLemmas
 pub mod ListedLemmas
+pub mod NamedLemmas
 pub mod NearLemmas
 pub mod OnceLemmas
 pub mod OrderLemmas

@@ -12,6 +12,7 @@ pub mod Keys
 pub mod Laws
 pub mod Lying
 pub mod Matches
+pub mod Named
 pub mod Near
 pub mod Once
 pub mod Places

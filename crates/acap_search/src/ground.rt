@@ -8,6 +8,7 @@ ghost use Rattle.acap_search.specs.Near as near;
 ghost use Rattle.acap_search.specs.Views.{found_at, spot_in};
 ghost use Rattle.acap_search.specs.Walks as walks;
 
+use crate::dataset_walk::base_of;
 use crate::finding::Finding;
 use crate::front::Front;
 use crate::kept::Kept;
@@ -16,7 +17,6 @@ use crate::plain::is_alone;
 use crate::query::Sought;
 use crate::quest::Quest;
 use crate::scope::looks_in;
-use crate::searching::base_of;
 use crate::spot::Spot;
 use crate::tuples::finding_at;
 use crate::viewer::Viewer;

@@ -4,6 +4,7 @@ ghost use Rattle.acap_search.specs.Examples.{KeyExamples, OrderExamples, ScopeEx
 ghost use Rattle.acap_search.specs.Once.{OnceLaw, ScopeLaw};
 ghost use Rattle.acap_search.specs.Withheld.{WithheldLaw};
 ghost use Rattle.acap_search.specs.Laws.{AclLaw, FreshLaw, SeenLaw, SightLaw, StarLaw, PlaceLaw, TupleLaw};
+ghost use Rattle.acap_search.specs.Named.{NameLaw};
 ghost use Rattle.acap_search.specs.Touched.{TouchedLaw};
 
 use acap_inherit::{names_law, nothing_law, reading_law, unread_law};
@@ -52,6 +53,11 @@ pub fn tuple_law()
     nothing_law();
     names_law();
 }
+
+/// An entry that a key wants which gives the only name has that name (RFC 2244 section 6.4.1).
+pub fn name_law()
+    ensures { NameLaw }
+{}
 
 /// What a change doesn't touch is found, or not, as before it (RFC 2244 sections 5.1, 5.2 and 6.4.1).
 pub fn touched_law()

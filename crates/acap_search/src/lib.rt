@@ -5,6 +5,7 @@
 mod context;
 mod context_laws;
 mod cutting;
+mod dataset_walk;
 mod finding;
 mod footing;
 mod front;
@@ -16,6 +17,8 @@ mod laws;
 mod looking;
 mod lying;
 mod matching;
+mod named;
+mod names_count;
 mod near;
 mod ordering;
 mod placed;
@@ -42,9 +45,9 @@ pub use context_laws::{context_examples, hit_law, within_law};
 pub use cutting::{Cut, cut_by};
 pub use hit::{Hit, Hits, first_rows};
 pub use laws::{
-    acl_law, fresh_law, key_examples, limit_examples, once_law, order_examples, place_law,
-    row_examples, scope_examples, scope_law, seen_law, sight_examples, sight_law, star_law,
-    touched_law, tuple_law, withheld_law,
+    acl_law, fresh_law, key_examples, limit_examples, name_law, once_law, order_examples,
+    place_law, row_examples, scope_examples, scope_law, seen_law, sight_examples, sight_law,
+    star_law, touched_law, tuple_law, withheld_law,
 };
 pub use matching::matches;
 pub use placed::{Placed, Standing};
@@ -53,7 +56,7 @@ pub use query::{Asked, Query, Sought};
 pub use rank::{Rank, SortPlace, SortPlaces};
 pub use refusal::SearchRefusal;
 pub use scope::{Scope, looks_in};
-pub use searching::{fresh, seek};
+pub use searching::fresh;
 pub use showing::Showing;
 pub use telling::{Excerpt, tell};
 pub use tuples::row_of;

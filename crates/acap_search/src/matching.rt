@@ -59,15 +59,15 @@ fn meets(
     }
 }
 
-// Whether strings are compared by their octets, whatever the sign.
-fn is_octet(comparator: &Comparator) -> bool
+/// Whether strings are compared by their octets, whatever the sign.
+pub(crate) fn is_octet(comparator: &Comparator) -> bool
     ensures { result ≡ rule.is_octet comparator.now.collation }
 {
     matches!(comparator.collation, Collation::Octet)
 }
 
-// Whether the relation is that of EQUAL.
-fn is_equal(relation: Relation) -> bool
+/// Whether the relation is that of EQUAL.
+pub(crate) fn is_equal(relation: Relation) -> bool
     ensures { result ≡ rule.is_equal relation }
 {
     matches!(relation, Relation::Equal)

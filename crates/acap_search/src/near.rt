@@ -4,8 +4,8 @@ ghost use Rattle.std.specs.Option.{option_copied};
 ghost use Rattle.acap_inherit.specs.Records.{record_at};
 ghost use Rattle.acap_search.specs.Fronts.{IsFront};
 
+use crate::dataset_walk::base_of;
 use crate::front::Front;
-use crate::searching::base_of;
 use crate::viewer::Viewer;
 use acap_entries::{EntryName, Moment, Record, Records};
 use std::marker::Model;

@@ -1,34 +1,23 @@
 //! Searches over datasets.
-ghost use Rattle.std.specs.Prelude.{◌≡◌, ◌+◌, IfOk, IsTrue, None, OnOk};
-ghost use Rattle.std.specs.List.{filter};
-ghost use Rattle.std.specs.FinMap as map;
+ghost use Rattle.std.specs.Prelude.{◌≡◌, IfOk, IsTrue, None, OnOk};
 ghost use Rattle.acap_search.specs.Counting.{IsCounted, paths_count};
 ghost use Rattle.acap_search.specs.Fresh as rule;
-ghost use Rattle.acap_search.specs.Fresh.{IsAnswer, matches_of};
-ghost use Rattle.acap_search.specs.Gathering.{IsGathered, with_more, none_yet, with_one};
-ghost use Rattle.acap_search.specs.Near as near;
-ghost use Rattle.acap_search.specs.Views.{found_at, spot_in};
+ghost use Rattle.acap_search.specs.Fresh.{IsAnswer};
+ghost use Rattle.acap_search.specs.Gathering.{IsGathered, with_more, none_yet};
 ghost use Rattle.acap_search.specs.Walks as walks;
 
+use crate::dataset_walk::add_in;
 use crate::finding::hits_of;
-use crate::front::Front;
 use crate::gathered::Gathered;
 use crate::hit::Hits;
-use crate::kept::Kept;
-use crate::near::Near;
-use crate::plain::is_alone;
-use crate::query::{Query, Sought};
+use crate::query::Query;
 use crate::quest::Quest;
 use crate::reaching::find_reached;
 use crate::refusal::SearchRefusal;
-use crate::spot::Spot;
-use crate::viewer::Viewer;
 use acap_commands::{Key, Node, Test};
-use acap_entries::{
-    Dataset, EntryName, Listing, Memory, Path, Record, Records, Steps, Tree, UserName,
-};
-use acap_inherit::{Lineage, chain, names_law, names_on};
-use acap_rights::{Realm, SharedRights, shared_rights};
+use acap_entries::{Memory, Path, Record, Steps, Tree, UserName};
+use acap_inherit::names_law;
+use acap_rights::Realm;
 use std::alloc::Global;
 use std::sync::ledger::Ledger;
 
@@ -53,110 +42,6 @@ pub(crate) fn is_over(most: Option<u32>, count: usize) -> bool
         Some(most) => (most as usize) < count,
         None => false,
     }
-}
-
-// Adds what is found among the records of a dataset that inherits nothing.
-#[tactic(auto, using(crate::proofs::GatheredLemmas::gathered_next))]
-fn add_own<'a: 'b, 'b, L: Ledger>(
-    alloc: Global,
-    by: &'b Viewer<'b, Tree>,
-    entries: Listing<'a>,
-    shared: &'b SharedRights,
-    sought: &Sought,
-    found: &mut Gathered<'a>,
-    steps: &mut Steps<L>,
-) -> Result<(), Memory>
-    requires plain { near.IsPlain by.now shared.now }
-    requires all { entries ≡ filter (near.lies_in by.now.dataset) (map.entries by.now.records) }
-    ensures count { IsCounted result steps.old steps.new (walks.names_count by.now) }
-    ensures found { OnOk result (found.new ≡ with_more found.old (walks.hits_along by.now sought.now)) }
-{
-    for (path, entry) in entries {
-        let spot = Spot {
-            by,
-            name: &path.name,
-            kept: Some(Kept { entry, shared }),
-        };
-        found.add_at(alloc, &spot, Some(path), sought, steps)?;
-    }
-    Ok(())
-}
-
-/// The second dataset of a chain, which is the one that most is inherited from; in a chain of one that.
-pub(crate) fn base_of<'a>(chain: &Lineage<'a>) -> &'a [u8] {
-    match chain.names() {
-        [_, base, ..] => *base,
-        names => names[0],
-    }
-}
-
-// Adds what is found at a name along a chain, with its records at hand.
-fn add_near<'a, L: Ledger>(
-    alloc: Global,
-    by: &Viewer<'_, Tree>,
-    near: &Near<'_, Tree>,
-    name: &EntryName,
-    sought: &Sought,
-    found: &mut Gathered<'a>,
-    steps: &mut Steps<L>,
-) -> Result<(), Memory>
-    requires { near.now.records ≡ by.now.records }
-    ensures count { steps.new ≡ steps.old + 1 }
-    ensures found { OnOk result
-        (found.new ≡ with_one found.old (found_at sought.now None (spot_in by.now name.now))) }
-{
-    let nearer = by.over(near);
-    let spot = Spot::far(&nearer, name);
-    found.add_at(alloc, &spot, None, sought, steps)
-}
-
-// Adds what is found at all names along a chain.
-#[tactic(auto, using(crate::proofs::GatheredLemmas::gathered_none, crate::proofs::GatheredLemmas::gathered_next))]
-fn add_far<'a, L: Ledger>(
-    alloc: Global,
-    by: &Viewer<'_, Tree>,
-    sought: &Sought,
-    found: &mut Gathered<'a>,
-    steps: &mut Steps<L>,
-) -> Result<(), Memory>
-    ensures count { IsCounted result steps.old steps.new (walks.names_count by.now) }
-    ensures found { OnOk result (found.new ≡ with_more found.old (walks.hits_along by.now sought.now)) }
-{
-    let own = Front::of(by.records, by.dataset.as_slice());
-    let base = Front::of(by.records, base_of(&by.chain));
-    for name in names_on(by.records, &by.chain) {
-        let near = Near::new(by.records, own, base, name.as_slice());
-        add_near(alloc, by, &near, name, sought, found, steps)?;
-    }
-    Ok(())
-}
-
-// Adds what is found in one dataset, whose chain is made once.
-#[tactic(auto, unfolding(crate::specs::Walks::hits_in, crate::specs::Walks::count_in))]
-fn add_in<'a, L: Ledger>(
-    alloc: Global,
-    search: &Quest<'a>,
-    dataset: &Dataset,
-    found: &mut Gathered<'a>,
-    steps: &mut Steps<L>,
-) -> Result<(), Memory>
-    ensures count { IsCounted result steps.old steps.new (walks.count_in search.now dataset.now) }
-    ensures found { OnOk result (found.new ≡ with_more found.old (walks.hits_in search.now dataset.now)) }
-{
-    let sought = search.sought;
-    let by = Viewer {
-        records: search.tree,
-        realm: search.realm,
-        user: search.user,
-        dataset,
-        chain: chain(search.tree, dataset, sought.no_inherit),
-    };
-    if !is_alone(&by.chain, dataset.as_slice()) {
-        return add_far(alloc, &by, sought, found, steps);
-    }
-    let shared = shared_rights(alloc, by.records, by.realm, by.user, dataset.as_slice())?;
-    let entries = search.tree.entries_of(dataset.as_slice());
-    add_own(alloc, &by, entries, &shared, sought, found, steps)
 }
 
 // Adds what is found in the dataset that an entry makes, where that is reached in so many levels.
@@ -251,30 +136,6 @@ fn find_by<'a, L: Ledger>(
     let found = walk(alloc, search, false, steps)?;
     let sorted = found.sort()?;
     Ok(sorted)
-}
-
-/// All that is sought: every entry that the user sees and the key wants, in order (RFC 2244 section 6.4.1). Nothing is refused, since
-/// a context's list is this one too: RANGE finds nothing. Fails only for want of memory. Each path in the scope at which a record
-/// is or may be inherited counts as a step.
-pub fn seek<L: Ledger>(
-    alloc: Global,
-    tree: &Tree,
-    realm: &Realm,
-    user: &UserName,
-    sought: &Sought,
-    steps: &mut Steps<L>,
-) -> Result<Hits, Memory>
-    ensures count { IsCounted result steps.old steps.new (paths_count tree.now.store sought.now) }
-    ensures found { IfOk result (λ h. h ≡ matches_of tree.now.store.records realm.now user.now sought.now) }
-{
-    let search = Quest {
-        tree,
-        realm,
-        user,
-        sought,
-    };
-    let found = find_by(alloc, &search, false, steps)?;
-    Ok(Hits::from_vec(hits_of(alloc, found.into_findings(alloc))?))
 }
 
 /// What is answered to a search over a dataset, whose paths need not be made, or the rows alone.

@@ -2,7 +2,7 @@ use Rattle.std.proofs.Common.{◌≡◌, ◌+◌, ◌≤◌, length, map}
 use Rattle.acap_search.specs.Gathering.{with_more}
 use Rattle.acap_search.specs.Near.{AreKept}
 use Rattle.acap_search.specs.Walks.{hits_at, names_count}
-use Rattle.acap_search.proofs.searching.add_own.Given as goal
+use Rattle.acap_search.proofs.dataset_walk.add_own.Given as goal
 
 abbrev pub invariant-loop-path : goal.invariant-loop-path
 invariant-loop-path g l = record {

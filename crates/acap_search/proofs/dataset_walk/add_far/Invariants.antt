@@ -1,7 +1,7 @@
 use Rattle.std.proofs.Common.{◌≡◌, ◌+◌, ◌≤◌, length}
 use Rattle.acap_search.specs.Gathering.{with_more}
 use Rattle.acap_search.specs.Walks.{hits_at, names_count}
-use Rattle.acap_search.proofs.searching.add_far.Given as goal
+use Rattle.acap_search.proofs.dataset_walk.add_far.Given as goal
 
 abbrev pub invariant-loop-name : goal.invariant-loop-name
 invariant-loop-name g l = record {

@@ -2,7 +2,7 @@ use Rattle.std.proofs.Common.{◌+◌, ap, arith, length, refl, sym, ◌∙◌, 
 use Rattle.std.proofs.lemmas.List.{length-map}
 use Rattle.acap_search.proofs.GatheredLemmas.{own_walked}
 use Rattle.acap_search.proofs.NearLemmas.{names_alone, all_kept}
-use Rattle.acap_search.proofs.searching.add_own.Goals as goal
+use Rattle.acap_search.proofs.dataset_walk.add_own.Goals as goal
 
 pub loop-path-init : goal.loop-path-init
 loop-path-init g c = record {

@@ -1,0 +1,178 @@
+//! What a search finds in one dataset: among its own records, among all names along its chain, or at the only name that the key can hold
+//! for.
+ghost use Rattle.std.specs.Prelude.{◌≡◌, ◌+◌, ◌<◌, None, OnOk, Some};
+ghost use Rattle.std.specs.List.{filter};
+ghost use Rattle.std.specs.FinMap as map;
+ghost use Rattle.acap_search.specs.Counting.{IsCounted};
+ghost use Rattle.acap_search.specs.Gathering.{with_more, with_one};
+ghost use Rattle.acap_search.specs.Named as naming;
+ghost use Rattle.acap_search.specs.Near as near;
+ghost use Rattle.acap_search.specs.Views.{found_at, spot_in};
+ghost use Rattle.acap_search.specs.Walks as walks;
+
+use crate::front::Front;
+use crate::gathered::Gathered;
+use crate::kept::Kept;
+use crate::named::{find_name, only_name};
+use crate::names_count::{count_all, count_others};
+use crate::near::{Near, near_by};
+use crate::plain::is_alone;
+use crate::query::Sought;
+use crate::quest::Quest;
+use crate::spot::Spot;
+use crate::viewer::Viewer;
+use acap_entries::{Dataset, EntryName, Listing, Memory, Path, Record, Records, Steps, Tree};
+use acap_inherit::{Lineage, chain, names_law, names_on};
+use acap_rights::{SharedRights, shared_rights};
+use std::alloc::Global;
+use std::sync::ledger::Ledger;
+
+// Adds what is found among the records of a dataset that inherits nothing.
+#[tactic(auto, using(crate::proofs::GatheredLemmas::gathered_next))]
+fn add_own<'a: 'b, 'b, L: Ledger>(
+    alloc: Global,
+    by: &'b Viewer<'b, Tree>,
+    entries: Listing<'a>,
+    shared: &'b SharedRights,
+    sought: &Sought,
+    found: &mut Gathered<'a>,
+    steps: &mut Steps<L>,
+) -> Result<(), Memory>
+    requires plain { near.IsPlain by.now shared.now }
+    requires all { entries ≡ filter (near.lies_in by.now.dataset) (map.entries by.now.records) }
+    ensures count { IsCounted result steps.old steps.new (walks.names_count by.now) }
+    ensures found { OnOk result (found.new ≡ with_more found.old (walks.hits_along by.now sought.now)) }
+{
+    for (path, entry) in entries {
+        let spot = Spot {
+            by,
+            name: &path.name,
+            kept: Some(Kept { entry, shared }),
+        };
+        found.add_at(alloc, &spot, Some(path), sought, steps)?;
+    }
+    Ok(())
+}
+
+/// The second dataset of a chain, which is the one that most is inherited from; in a chain of one that.
+pub(crate) fn base_of<'a>(chain: &Lineage<'a>) -> &'a [u8] {
+    match chain.names() {
+        [_, base, ..] => *base,
+        names => names[0],
+    }
+}
+
+// Adds what is found at a name along a chain, with its records at hand.
+fn add_near<'a, L: Ledger>(
+    alloc: Global,
+    by: &Viewer<'_, Tree>,
+    near: &Near<'_, Tree>,
+    name: &EntryName,
+    sought: &Sought,
+    found: &mut Gathered<'a>,
+    steps: &mut Steps<L>,
+) -> Result<(), Memory>
+    requires { near.now.records ≡ by.now.records }
+    ensures count { steps.new ≡ steps.old + 1 }
+    ensures found { OnOk result
+        (found.new ≡ with_one found.old (found_at sought.now None (spot_in by.now name.now))) }
+{
+    let nearer = by.over(near);
+    let spot = Spot::far(&nearer, name);
+    found.add_at(alloc, &spot, None, sought, steps)
+}
+
+// Adds what is found at all names along a chain.
+#[tactic(auto, using(crate::proofs::GatheredLemmas::gathered_none, crate::proofs::GatheredLemmas::gathered_next))]
+fn add_far<'a, L: Ledger>(
+    alloc: Global,
+    by: &Viewer<'_, Tree>,
+    sought: &Sought,
+    found: &mut Gathered<'a>,
+    steps: &mut Steps<L>,
+) -> Result<(), Memory>
+    ensures count { IsCounted result steps.old steps.new (walks.names_count by.now) }
+    ensures found { OnOk result (found.new ≡ with_more found.old (walks.hits_along by.now sought.now)) }
+{
+    let own = Front::of(by.records, by.dataset.as_slice());
+    let base = Front::of(by.records, base_of(&by.chain));
+    for name in names_on(by.records, &by.chain) {
+        let near = Near::new(by.records, own, base, name.as_slice());
+        add_near(alloc, by, &near, name, sought, found, steps)?;
+    }
+    Ok(())
+}
+
+// Adds what is found at the only name that the key can hold for, and counts the others, at which nothing is found.
+fn add_named<'a, L: Ledger>(
+    alloc: Global,
+    by: &Viewer<'_, Tree>,
+    name: &EntryName,
+    sought: &Sought,
+    found: &mut Gathered<'a>,
+    steps: &mut Steps<L>,
+) -> Result<(), Memory>
+    requires { 0 < walks.names_count by.now }
+    ensures count { IsCounted result steps.old steps.new (walks.names_count by.now) }
+    ensures found { OnOk result
+        (found.new ≡ with_one found.old (found_at sought.now None (spot_in by.now name.now))) }
+{
+    count_others(by, steps);
+    let near = near_by(by, name);
+    add_near(alloc, by, &near, name, sought, found, steps)
+}
+
+// Adds what is found where the key gives the only name that it can hold for: one entry is looked at.
+#[tactic(auto, using(crate::proofs::GatheredLemmas::gathered_none))]
+fn add_only<'a, L: Ledger>(
+    alloc: Global,
+    by: &Viewer<'_, Tree>,
+    name: &[u8],
+    sought: &Sought,
+    found: &mut Gathered<'a>,
+    steps: &mut Steps<L>,
+) -> Result<(), Memory>
+    requires { naming.only_name sought.now.key ≡ Some name.now }
+    ensures count { IsCounted result steps.old steps.new (walks.names_count by.now) }
+    ensures found { OnOk result (found.new ≡ with_more found.old (walks.hits_along by.now sought.now)) }
+{
+    names_law();
+    match find_name(by.records, &by.chain, name) {
+        Some(name) => add_named(alloc, by, name, sought, found, steps),
+        None => {
+            count_all(by, steps);
+            Ok(())
+        }
+    }
+}
+
+/// Adds what is found in one dataset, whose chain is made once.
+#[tactic(auto, unfolding(crate::specs::Walks::hits_in, crate::specs::Walks::count_in))]
+pub(crate) fn add_in<'a, L: Ledger>(
+    alloc: Global,
+    search: &Quest<'a>,
+    dataset: &Dataset,
+    found: &mut Gathered<'a>,
+    steps: &mut Steps<L>,
+) -> Result<(), Memory>
+    ensures count { IsCounted result steps.old steps.new (walks.count_in search.now dataset.now) }
+    ensures found { OnOk result (found.new ≡ with_more found.old (walks.hits_in search.now dataset.now)) }
+{
+    let sought = search.sought;
+    let by = Viewer {
+        records: search.tree,
+        realm: search.realm,
+        user: search.user,
+        dataset,
+        chain: chain(search.tree, dataset, sought.no_inherit),
+    };
+    if let Some(name) = only_name(&sought.key) {
+        return add_only(alloc, &by, name, sought, found, steps);
+    }
+    if !is_alone(&by.chain, dataset.as_slice()) {
+        return add_far(alloc, &by, sought, found, steps);
+    }
+    let shared = shared_rights(alloc, by.records, by.realm, by.user, dataset.as_slice())?;
+    let entries = search.tree.entries_of(dataset.as_slice());
+    add_own(alloc, &by, entries, &shared, sought, found, steps)
+}
