@@ -93,17 +93,6 @@ impl Views {
         put_in_room(&mut self.seats, seat, sitting);
     }
 
-    /// A user takes a seat, and has no context there (RFC 2244 section 2). Fails only for want of memory, and then nothing has
-    /// changed.
-    pub fn enter(&mut self, seat: Seat, user: UserName) -> Result<(), Memory>
-        ensures ok { OnOk result (seats_in self.new ≡ rule.with_user (seats_in self.old) seat user) }
-        ensures err { OnErr result (seats_in self.new ≡ seats_in self.old) }
-    {
-        self.reserve_seat()?;
-        self.take_seat(seat, user);
-        Ok(())
-    }
-
     /// Who sits at a seat leaves it, and takes all contexts along (RFC 2244 section 2). Takes no memory.
     pub fn leave(&mut self, seat: Seat)
         ensures { seats_in self.new ≡ rule.without_user (seats_in self.old) seat }
