@@ -7,14 +7,14 @@ use Rattle.acap_machine.specs.Stepping.{Stepped, step_of, IsFault}
 use Rattle.acap_views.specs.Waiting.{waiting}
 use Rattle.acap_locked.specs.declared.answer.Answer.{Answer}
 use Rattle.acap_locked.specs.declared.held.Held.{Held}
-use Rattle.acap_locked.specs.declared.item.PassItem.{PassItem}
+use Rattle.acap_locked.specs.declared.item.Item.{Item}
 use Rattle.acap_locked.specs.Epochs.{held_in, Turns}
 use Rattle.acap_locked.specs.Notes.{call_of, entry_of, item_of}
 use Rattle.acap_locked.specs.Rings.{flags_left, rings_of}
 use Rattle.acap_locked.specs.Shelf.{Shelf}
 
 -- what a pass holds, with one item more
-abbrev pub with_item : Held → PassItem → Held
+abbrev pub with_item : Held → Item → Held
 with_item h item = record h { items = h.items ++ item ∷ [] }
 
 -- the pass has one more item, which is the caller's event and moment and the answer's place and reply, and the caller is given it too

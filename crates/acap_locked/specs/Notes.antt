@@ -4,7 +4,7 @@ use Rattle.acap_commands.specs.declared.event.Event.{Event}
 use Rattle.acap_commands.specs.declared.reply.Reply.{Reply}
 use Rattle.acap_locked.specs.declared.call.Call.{Call}
 use Rattle.acap_locked.specs.declared.entry.Entry.{Entry}
-use Rattle.acap_locked.specs.declared.item.PassItem.{PassItem}
+use Rattle.acap_locked.specs.declared.item.Item.{Item}
 
 abbrev pub call_of : Event → ℤ → Reply → Call
 call_of event now reply = record { event = event; moment = now; reply = reply }
@@ -12,5 +12,5 @@ call_of event now reply = record { event = event; moment = now; reply = reply }
 abbrev pub entry_of : ℕ → Call → Entry
 entry_of seat call = record { seat = seat; exchange = call }
 
-abbrev pub item_of : ℕ → ℕ → Call → PassItem
+abbrev pub item_of : ℕ → ℕ → Call → Item
 item_of epoch place call = record { epoch = epoch; place = place; exchange = call }

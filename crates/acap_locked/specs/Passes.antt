@@ -3,7 +3,7 @@ use Rattle.std.specs.Prelude.{◌≡◌, ◌==◌, ◌+◌, ◌<◌, ℕ, zero, 
 use Rattle.std.specs.List.{list_any}
 use Rattle.acap_locked.specs.declared.entry.Entry.{Entry}
 use Rattle.acap_locked.specs.declared.held.Held.{Held}
-use Rattle.acap_locked.specs.declared.item.PassItem.{PassItem}
+use Rattle.acap_locked.specs.declared.item.Item.{Item}
 use Rattle.acap_locked.specs.Epochs.{held_in}
 use Rattle.acap_locked.specs.Notes.{item_of}
 
@@ -17,7 +17,7 @@ new_passes zero = []
 new_passes (suc n) = new_passes n ++ new_pass n ∷ []
 
 -- the calls of a seat, from a place on, as its pass notes them
-abbrev pub items_from : ℕ → ℕ → ℕ → List Entry → List PassItem
+abbrev pub items_from : ℕ → ℕ → ℕ → List Entry → List Item
 items_from epoch seat place [] = []
 items_from epoch seat place (e ∷ es) =
     if e.seat == seat then item_of epoch place e.exchange ∷ items_from epoch seat (place + 1) es else items_from epoch seat (place + 1) es

@@ -1,5 +1,5 @@
 //! What a call answers.
-use crate::item::PassItem;
+use crate::item::Item;
 use acap_commands::Reply;
 
 /// What a call answers.
@@ -12,7 +12,7 @@ pub struct Answer {
     /// The reply of the machine.
     pub reply: Reply,
     /// The pass's new item, for the caller's own record: there is one in every answer of a book, until the caller takes it.
-    pub kept: Option<PassItem>,
+    pub kept: Option<Item>,
     /// The seats to be rung, since a drain has something to tell there: a bit for each, the lowest for the first.
     pub rings: u64,
 }

@@ -2,7 +2,7 @@
 ghost use Rattle.std.specs.Prelude.{◌≡◌, ◌↔◌, IsTrue};
 
 use acap_commands::{Event, Reply};
-use acap_entries::Moment;
+use acap_entries::{Copying, Memory, Moment};
 
 /// One call: an event, when it came, and its reply.
 #[derive(Drop)]
@@ -23,5 +23,17 @@ impl Call {
         self.event.equals(&other.event)
             && self.moment == other.moment
             && self.reply.equals(&other.reply)
+    }
+}
+
+impl Copying for Call {
+    fn copy(&self) -> Result<Call, Memory> {
+        let event = self.event.copy()?;
+        let reply = self.reply.copy()?;
+        Ok(Call {
+            event,
+            moment: self.moment,
+            reply,
+        })
     }
 }

@@ -9,7 +9,7 @@ ghost use Rattle.acap_locked.specs.Passes.{SameBelow, IsUnequal, Stands, is_of};
 
 use crate::entry::Entry;
 use crate::held::Held;
-use crate::item::PassItem;
+use crate::item::Item;
 use crate::lists::HeldList;
 use crate::pass::{Pass, SEATS};
 use crate::retiring::renew;
@@ -44,14 +44,14 @@ pub(crate) fn find_missing<S: Site>(passes: &[Pass<S>]) -> Option<Seat>
 }
 
 // Whether the item is this call's.
-fn is_item(item: &PassItem, epoch: u64, place: u64, entry: &Entry) -> bool
+fn is_item(item: &Item, epoch: u64, place: u64, entry: &Entry) -> bool
     ensures { IsTrue result ↔ (item.now ≡ item_of epoch place entry.now.exchange) }
 {
     item.epoch == epoch && item.place == place && item.exchange.equals(&entry.exchange)
 }
 
 // Whether these are the seat's calls.
-fn agrees(epoch: u64, seat: Seat, items: &[PassItem], history: &[Entry]) -> bool
+fn agrees(epoch: u64, seat: Seat, items: &[Item], history: &[Entry]) -> bool
     ensures { IsTrue result ↔ (items.now ≡ items_from epoch seat 0 history.now) }
 {
     let mut rest = items;

@@ -1,6 +1,6 @@
 //! One call of a history.
 use crate::exchange::Exchange;
-use acap_entries::Seat;
+use acap_entries::{Copying, Memory, Seat};
 
 /// One call of a history.
 #[derive(Drop)]
@@ -9,4 +9,15 @@ pub struct Entry {
     pub seat: Seat,
     /// The call.
     pub exchange: Exchange,
+}
+
+/// The same call once more: its event and its reply are shared.
+impl Copying for Entry {
+    fn copy(&self) -> Result<Entry, Memory> {
+        let exchange = self.exchange.copy()?;
+        Ok(Entry {
+            seat: self.seat,
+            exchange,
+        })
+    }
 }

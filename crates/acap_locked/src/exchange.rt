@@ -2,7 +2,7 @@
 ghost use Rattle.std.specs.Prelude.{◌≡◌, ◌↔◌, IsTrue, IfOk};
 
 use crate::call::Call;
-use acap_entries::Memory;
+use acap_entries::{Copying, Memory};
 use std::alloc::Global;
 use std::marker::Model;
 use std::sync::Arc;
@@ -54,5 +54,12 @@ impl Exchange {
         ensures { IsTrue result ↔ (self.now ≡ other.now) }
     {
         self.call().equals(other.call())
+    }
+}
+
+/// A copy shares its call, and fails only where that is held too often already.
+impl Copying for Exchange {
+    fn copy(&self) -> Result<Exchange, Memory> {
+        self.share()
     }
 }

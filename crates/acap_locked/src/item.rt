@@ -3,11 +3,11 @@ ghost use Rattle.std.specs.Prelude.{◌≡◌};
 
 use crate::exchange::Exchange;
 use acap_commands::{Event, Reply};
-use acap_entries::Moment;
+use acap_entries::{Copying, Memory, Moment};
 
 /// One call of a pass.
 #[derive(Drop)]
-pub struct PassItem {
+pub struct Item {
     /// The number of the epoch in which it was made, from 0.
     pub epoch: u64,
     /// Its place in the history of that epoch, from 0.
@@ -16,7 +16,7 @@ pub struct PassItem {
     pub exchange: Exchange,
 }
 
-impl PassItem {
+impl Item {
     /// The event.
     pub fn event(&self) -> &Event
         ensures { result.now ≡ self.now.exchange.event }
@@ -36,5 +36,17 @@ impl PassItem {
         ensures { result.now ≡ self.now.exchange.reply }
     {
         &self.exchange.call().reply
+    }
+}
+
+/// The same call once more: its event and its reply are shared.
+impl Copying for Item {
+    fn copy(&self) -> Result<Item, Memory> {
+        let exchange = self.exchange.copy()?;
+        Ok(Item {
+            epoch: self.epoch,
+            place: self.place,
+            exchange,
+        })
     }
 }

@@ -31,7 +31,7 @@ pub use close_fault::CloseFault;
 pub use entry::Entry;
 pub use exchange::Exchange;
 pub use held::Held;
-pub use item::PassItem;
+pub use item::Item;
 pub use lists::{Counts, Entries, HeldList, ItemList};
 pub use pass::Pass;
 pub use report::Report;

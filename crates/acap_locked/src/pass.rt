@@ -2,7 +2,7 @@
 ghost use Rattle.std.specs.Prelude.{◌≡◌, IfOk};
 ghost use Rattle.acap_locked.specs.Passes.{new_pass, new_passes};
 
-use crate::item::PassItem;
+use crate::item::Item;
 use crate::site::Site;
 use acap_entries::{Memory, Seat};
 use std::alloc::Global;
@@ -18,7 +18,7 @@ pub(crate) const SEATS: u8 = 64;
 pub struct Pass<S: Site> {
     pub(crate) seat: Seat,
     pub(crate) share: Share<S>,
-    pub(crate) items: Vec<PassItem>,
+    pub(crate) items: Vec<Item>,
     pub(crate) epoch: u64,
     pub(crate) retired: u64,
 }
@@ -65,7 +65,7 @@ impl<S: Site> Pass<S> {
     }
 
     /// The calls that were made through it in the epoch of the last of them, in their order.
-    pub fn items(&self) -> &[PassItem]
+    pub fn items(&self) -> &[Item]
         ensures { result.now ≡ self.now.items }
     {
         self.items.as_slice()

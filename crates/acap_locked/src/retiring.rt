@@ -4,11 +4,11 @@ ghost use Rattle.std.specs.Prelude.{vec_len, vec_capacity};
 ghost use Rattle.acap_locked.specs.Epochs.{retire};
 
 use crate::entry::Entry;
-use crate::item::PassItem;
+use crate::item::Item;
 use crate::room::push_in_room;
 
 /// Lets the items of an older epoch go, and counts them. Takes no memory, and keeps the room.
-pub(crate) fn renew(items: &mut Vec<PassItem>, retired: &mut u64, epoch: &mut u64, current: u64)
+pub(crate) fn renew(items: &mut Vec<Item>, retired: &mut u64, epoch: &mut u64, current: u64)
     requires { retired.old + length items.old.items < 2 ^ 64 }
     ensures items { items.new.items ≡ (if epoch.old == current then items.old.items else []) }
     ensures retired { retired.new
@@ -26,11 +26,11 @@ pub(crate) fn renew(items: &mut Vec<PassItem>, retired: &mut u64, epoch: &mut u6
 
 /// Adds an item of this epoch, in room that is there, and lets those of an older one go. Takes no memory.
 pub(crate) fn gain(
-    items: &mut Vec<PassItem>,
+    items: &mut Vec<Item>,
     retired: &mut u64,
     epoch: &mut u64,
     current: u64,
-    item: PassItem,
+    item: Item,
 )
     requires room { vec_len items.old < vec_capacity items.old }
     requires fits { retired.old + length items.old.items < 2 ^ 64 }

@@ -4,7 +4,7 @@ ghost use Rattle.acap_locked.specs.Notes.{entry_of, item_of};
 
 use crate::entry::Entry;
 use crate::exchange::Exchange;
-use crate::item::PassItem;
+use crate::item::Item;
 use acap_entries::{Memory, Seat};
 
 /// Where a call is written down.
@@ -24,9 +24,9 @@ pub(crate) struct Written {
     /// The history's.
     pub(crate) entry: Entry,
     /// The pass's.
-    pub(crate) item: PassItem,
+    pub(crate) item: Item,
     /// The caller's.
-    pub(crate) kept: PassItem,
+    pub(crate) kept: Item,
 }
 
 /// All three, of the same call. Fails only for want of memory.
@@ -36,12 +36,12 @@ pub(crate) fn write_down(mark: Mark, exchange: Exchange) -> Result<Written, Memo
     ensures kept { IfOk result (λ made. made.kept ≡ item_of mark.epoch mark.place exchange) }
 {
     let Mark { seat, epoch, place } = mark;
-    let item = PassItem {
+    let item = Item {
         epoch,
         place,
         exchange: exchange.share()?,
     };
-    let kept = PassItem {
+    let kept = Item {
         epoch,
         place,
         exchange: exchange.share()?,

@@ -6,7 +6,7 @@ ghost use Rattle.acap_locked.specs.Shelf.{no_machine};
 
 use acap_commands::Event;
 use acap_entries::{Moment, Octets, Steps, UserName};
-use acap_locked::{Pass, PassItem, Served, Site};
+use acap_locked::{Pass, Item, Served, Site};
 use acap_login::Users;
 use acap_machine::State;
 use acap_rights::Realm;
@@ -159,7 +159,7 @@ where
 }
 
 // Whether there is an Enter among these calls, and whether the last one is a Leave, or there is none.
-fn ends_of(calls: &[PassItem]) -> (bool, bool) {
+fn ends_of(calls: &[Item]) -> (bool, bool) {
     let entered = calls
         .iter()
         .any(|item| matches!(item.event(), Event::Enter(_)));

@@ -3,13 +3,13 @@ use Rattle.std.proofs.Common.{◌≡◌, ◌==◌, ◌+◌, ℕ, Bool, true, fal
 use Rattle.std.proofs.lemmas.List.{map-append}
 use Rattle.acap_locked.specs.declared.call.Call.{Call}
 use Rattle.acap_locked.specs.declared.entry.Entry.{Entry}
-use Rattle.acap_locked.specs.declared.item.PassItem.{PassItem}
+use Rattle.acap_locked.specs.declared.item.Item.{Item}
 use Rattle.acap_locked.specs.Notes.{item_of}
 use Rattle.acap_locked.specs.Passes.{items_from}
 use Rattle.acap_task.specs.Desks.{exchange_of}
 use Rattle.acap_task.specs.Histories.{HistoryLaw, calls_at}
 
-one_more : (b : Bool) (epoch place : ℕ) (e : Entry) (items : List PassItem) (calls : List Call) → map exchange_of items ≡ calls
+one_more : (b : Bool) (epoch place : ℕ) (e : Entry) (items : List Item) (calls : List Call) → map exchange_of items ≡ calls
     → map exchange_of (if b then item_of epoch place e.exchange ∷ items else items) ≡ (if b then e.exchange ∷ calls else calls)
 one_more true epoch place e items calls is = ap (λ xs. e.exchange ∷ xs) is
 one_more false epoch place e items calls is = is

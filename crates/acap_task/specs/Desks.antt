@@ -14,7 +14,7 @@ use Rattle.acap_locked.specs.Calls.{Gains}
 use Rattle.acap_locked.specs.Notes.{call_of}
 use Rattle.acap_locked.specs.declared.call.Call.{Call}
 use Rattle.acap_locked.specs.declared.held.Held.{Held}
-use Rattle.acap_locked.specs.declared.item.PassItem.{PassItem}
+use Rattle.acap_locked.specs.declared.item.Item.{Item}
 use Rattle.acap_task.specs.Told.{DeskTold}
 
 -- why a call is not answered: its answer is that fault, or there is none left, or memory was refused
@@ -39,11 +39,11 @@ desk_code = coded× told_code (coded_list (coded_result answer.the_row.coded ref
 -- ---- a desk with a pass
 
 -- the call of an item
-abbrev pub exchange_of : PassItem → Call
+abbrev pub exchange_of : Item → Call
 exchange_of i = i.exchange
 
 -- what it tells of its record
-abbrev pub desk_told : List PassItem → ℕ → DeskTold
+abbrev pub desk_told : List Item → ℕ → DeskTold
 desk_told calls faults = record { calls = Some (map exchange_of calls); faults = faults }
 
 -- whether a Leave is owed after a call: where it was the Leave that was refused
@@ -55,17 +55,17 @@ owes_after (event.Command command) outcome owed = owed
 owes_after event.Drain outcome owed = owed
 
 -- one list ends with the other
-pub record EndsWith (long short : List PassItem) : Type 0 where
-  pub front : List PassItem
+pub record EndsWith (long short : List Item) : Type 0 where
+  pub front : List Item
   pub is : long ≡ front ++ short
 
 -- of two lists the shorter is how the other ends
-abbrev pub EndsAlike : List PassItem → List PassItem → Type 0
+abbrev pub EndsAlike : List Item → List Item → Type 0
 EndsAlike one other = EndsWith one other ⊎ EndsWith other one
 
 -- One more call stands in the record, and in the pass, which may have let go of all before it.
-pub record HasCalled (event : Event) (now : ℤ) (reply : Reply) (items kept new_items new_kept : List PassItem) : Type 0 where
-  pub item : PassItem
+pub record HasCalled (event : Event) (now : ℤ) (reply : Reply) (items kept new_items new_kept : List Item) : Type 0 where
+  pub item : Item
   pub call : item.exchange ≡ call_of event now reply
   pub in_record : new_kept ≡ kept ++ item ∷ []
   pub in_pass : (new_items ≡ items ++ item ∷ []) ⊎ (new_items ≡ item ∷ [])

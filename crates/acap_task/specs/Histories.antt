@@ -2,7 +2,7 @@
 use Rattle.std.specs.Prelude.{◌≡◌, ◌⊎◌, ◌==◌, ℕ, List, [], ◌∷◌, ◌++◌, map, if◌then◌else◌}
 use Rattle.acap_locked.specs.declared.call.Call.{Call}
 use Rattle.acap_locked.specs.declared.entry.Entry.{Entry}
-use Rattle.acap_locked.specs.declared.item.PassItem.{PassItem}
+use Rattle.acap_locked.specs.declared.item.Item.{Item}
 use Rattle.acap_locked.specs.Passes.{items_from}
 use Rattle.acap_task.specs.Desks.{EndsAlike, exchange_of}
 
@@ -19,5 +19,5 @@ pub record IsLastOf (short long : List Call) : Type 0 where
 -- Where a pass has exactly its seat's calls in the history, as it has when the book is closed, a session's own record of its calls ends with
 -- all calls of the seat, or is how these end: whichever is shorter.
 abbrev pub HistoryLaw : Type 0
-HistoryLaw = (calls items : List PassItem) (epoch seat : ℕ) (history : List Entry) → EndsAlike calls items → items ≡ items_from epoch seat 0 history →
+HistoryLaw = (calls items : List Item) (epoch seat : ℕ) (history : List Entry) → EndsAlike calls items → items ≡ items_from epoch seat 0 history →
     IsLastOf (calls_at seat history) (map exchange_of calls) ⊎ IsLastOf (map exchange_of calls) (calls_at seat history)

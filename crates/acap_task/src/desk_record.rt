@@ -11,7 +11,7 @@ use crate::task::Over;
 use crate::wire::Wire;
 use acap_commands::{Event, Fault};
 use acap_entries::Moment;
-use acap_locked::{Answer, PassItem, Site};
+use acap_locked::{Answer, Item, Site};
 use std::sync::Wait;
 use std::sync::ledger::Ledger;
 
@@ -19,9 +19,11 @@ use std::sync::ledger::Ledger;
 #[derive(Drop)]
 pub struct DeskRecord {
     /// The calls of the session that were answered, in their order.
-    pub calls: Vec<PassItem>,
+    pub calls: Vec<Item>,
     /// How many were answered with a fault, up to the last number.
     pub faults: u64,
+    /// Whether the last Leave was refused, so that the place that was given back owes one.
+    pub owes_leave: bool,
 }
 
 impl Desk for DeskRecord {
@@ -59,7 +61,8 @@ where
         ensures kept { (result.0.running.desk.calls ≡ self.entry.running.desk.calls)
             × (result.0.running.desk.faults ≡ self.entry.running.desk.faults) }
         ensures place { (result.1.pass ≡ self.entry.running.desk.pass)
-            × (result.1.owes_leave ≡ self.entry.running.desk.owes_leave) }
+            × (result.1.owes_leave ≡ self.entry.running.desk.owes_leave)
+            × (result.0.running.desk.owes_leave ≡ self.entry.running.desk.owes_leave) }
     {
         let Over {
             running,

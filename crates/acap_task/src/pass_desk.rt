@@ -8,7 +8,7 @@ use crate::ringer::Ringer;
 use crate::seating::Seating;
 use acap_commands::{Event, Fault};
 use acap_entries::Moment;
-use acap_locked::{Answer, Pass, PassItem, Served, Site};
+use acap_locked::{Answer, Item, Pass, Served, Site};
 use std::alloc::Global;
 use std::sync::Wait;
 use std::sync::ledger::Ledger;
@@ -23,7 +23,7 @@ pub struct PassDesk<'a, S: Site, L: Ledger, R: Wait, N: Ringer> {
     /// The pass.
     pub pass: Pass<S>,
     /// The calls of the session that were answered, in their order.
-    pub calls: Vec<PassItem>,
+    pub calls: Vec<Item>,
     /// How many were answered with a fault, up to the last number.
     pub faults: u64,
     /// Whether the last Leave was refused.
@@ -32,7 +32,7 @@ pub struct PassDesk<'a, S: Site, L: Ledger, R: Wait, N: Ringer> {
 }
 
 // Puts an item into room for it.
-fn push_in_room(items: &mut Vec<PassItem>, item: PassItem)
+fn push_in_room(items: &mut Vec<Item>, item: Item)
     requires { vec_len items.old < vec_capacity items.old }
     ensures { items.new.items ≡ items.old.items ++ item ∷ [] }
 {
@@ -44,7 +44,7 @@ fn call_with<S: Site, L: Ledger, R: Wait>(
     rt: &R,
     served: &Served<S, L>,
     pass: &mut Pass<S>,
-    calls: &mut Vec<PassItem>,
+    calls: &mut Vec<Item>,
     event: Event,
     moment: Moment,
 ) -> Result<Answer, Fault>

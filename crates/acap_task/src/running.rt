@@ -243,7 +243,8 @@ where
         ensures kept { (result.0.desk.calls ≡ self.entry.desk.calls)
             × (result.0.desk.faults ≡ self.entry.desk.faults) }
         ensures place { (result.1.pass ≡ self.entry.desk.pass)
-            × (result.1.owes_leave ≡ self.entry.desk.owes_leave) }
+            × (result.1.owes_leave ≡ self.entry.desk.owes_leave)
+            × (result.0.desk.owes_leave ≡ self.entry.desk.owes_leave) }
     {
         let Running {
             wire,
@@ -263,7 +264,11 @@ where
         } = desk;
         let running = Running {
             wire,
-            desk: DeskRecord { calls, faults },
+            desk: DeskRecord {
+                calls,
+                faults,
+                owes_leave,
+            },
             source,
             bell,
             parties,
