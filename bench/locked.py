@@ -1,20 +1,19 @@
 #!/usr/bin/env python3
-"""Makes calls through the passes of one served machine (`acap_locked`), and checks what is answered and what closing tells.
+"""Makes calls through the passes of one served machine (`acap_locked`), and checks what is answered and what closing tells: where no
+further epoch can begin, and where memory is refused. Rows of calls to which neither happens are tests (`acap_serving_tests`, `calls.rt`).
 
-    python3 bench/locked.py rows              # calls, passes that are missing, bells, epochs and threads
     python3 bench/locked.py last              # what is answered where no further epoch can begin
     python3 bench/locked.py build PROGRAM     # proves the program, and builds it without checks
     python3 bench/locked.py refuse PROGRAM    # each allocation of a call, or of closing, is refused in turn
     python3 bench/locked.py figures PROGRAM   # time and memory
 
-It clones the repository and adds a program to the clone. `rows` and `last` run it there by `rt try`: unproved, with checks at run
-time. `build` uses what `rt check` has proved of the crates below.
+It clones the repository and adds a program to the clone. `last` runs it there by `rt try`: unproved, with checks at run time. `build`
+uses what `rt check` has proved of the crates below.
 
 A row is a list of lines. `N enter USER`, `N drain`, `N drains COUNT`, `N leave` and `N COMMAND` are calls through pass N; what is
 printed of one is the pass, the epoch, the place, the seats that are rung (a bit for each), and the reply. `now CALL` tells the time of
-the call, and makes it once more where memory is refused; `once CALL` doesn't. `threads COUNT` makes so many drains through each of the
-last two passes, in two threads. `without N` takes pass N away. At the end the book is closed with the passes that are
-left, and with `now close` the closing is marked as `now` marks a call.
+the call, and makes it once more where memory is refused; `once CALL` doesn't. At the end the book is closed with all passes, and with
+`now close` the closing is marked as `now` marks a call.
 """
 import argparse
 import difflib
@@ -44,9 +43,8 @@ use std::marker::Brand;
 use std::process::ExitCode;
 use std::sync::Wait;
 use std::sync::ledger::{Blank, Ledger};
-use std::thread::Threads;
 use std::time::Instant;
-use std::{env, fs, io, thread};
+use std::{env, fs, io};
 
 fn command_of(alloc: Global, line: &[u8]) -> Result<Command, Memory> {
     let mut lexer = Lexer::new(alloc);
@@ -182,56 +180,6 @@ fn drains<S: Site, L: Ledger>(
     last
 }
 
-// What a thread does, and what it leaves.
-trait Work {
-    fn run(self) -> Self;
-}
-
-// So many drains through a pass.
-#[derive(Drop)]
-struct Drainer<'a, R: Wait, S: Site, L: Ledger> {
-    rt: &'a R,
-    served: &'a Served<S, L>,
-    pass: Pass<S>,
-    count: u64,
-    done: bool,
-}
-
-impl<R: Wait, S: Site, L: Ledger> Work for Drainer<'_, R, S, L> {
-    fn run(self) -> Self {
-        let mut work = self;
-        let count = work.count;
-        work.done = drains(work.rt, work.served, &mut work.pass, count).is_ok();
-        work
-    }
-}
-
-// Does both, each in a thread of its own.
-fn both<R: Threads, W: Work + Send + Drop>(rt: &R, a: W, b: W) -> (W, W) {
-    thread::join(rt, move || a.run(), move || b.run())
-}
-
-fn two_threads<S: Site + Send + Sync, L: Ledger + Send + Sync, R: Threads + Wait + Sync>(
-    rt: &HostRuntime,
-    handle: &R,
-    served: &Served<S, L>,
-    passes: &mut Vec<Pass<S>>,
-    count: u64,
-) -> io::Result<()> {
-    let (Some(a), Some(b)) = (passes.pop(), passes.pop()) else {
-        return println!(rt; "no passes");
-    };
-    let (a, b) = both(
-        handle,
-        Drainer { rt: handle, served, pass: a, count, done: false },
-        Drainer { rt: handle, served, pass: b, count, done: false },
-    );
-    println!(rt; "threads: {} {}", a.done, b.done)?;
-    passes.push(b.pass)?;
-    passes.push(a.pass)?;
-    Ok(())
-}
-
 // The calls of a short history.
 fn tell_history(rt: &HostRuntime, history: &[Entry]) -> io::Result<()> {
     if history.len() > 100 {
@@ -276,30 +224,20 @@ fn tell_report(rt: &HostRuntime, report: Result<Report, CloseFault>) -> io::Resu
     tell_history(rt, report.history.as_slice())
 }
 
-fn run_line<S: Site + Send + Sync, L: Ledger + Send + Sync, R: Threads + Wait + Sync>(
+fn run_line<S: Site, L: Ledger>(
     rt: &HostRuntime,
-    handle: &R,
+    handle: &impl Wait,
     served: &Served<S, L>,
-    passes: &mut Vec<Pass<S>>,
+    passes: &mut [Pass<S>],
     line: &str,
 ) -> io::Result<()> {
     let Some((word, text)) = line.split_once(" ") else {
         return Ok(());
     };
-    if word == "threads" {
-        return two_threads(rt, handle, served, passes, text.parse::<u64>().unwrap_or(0));
-    }
     let (word, text, mark) = match (word, text.split_once(" ")) {
         ("now" | "once", Some((number, text))) => (number, text, word),
         _ => (word, text, ""),
     };
-    if word == "without" {
-        let number = text.parse::<usize>().unwrap_or(0);
-        if number < passes.len() {
-            let _ = passes.remove(number);
-        }
-        return Ok(());
-    }
     let number = word.parse::<usize>().unwrap_or(0);
     let Some(pass) = passes.get_mut(number) else {
         return println!(rt; "no pass");
@@ -314,7 +252,7 @@ fn run_line<S: Site + Send + Sync, L: Ledger + Send + Sync, R: Threads + Wait + 
     tell(rt, number, answer)
 }
 
-fn run<S: Site + Send + Sync, L: Ledger + Send + Sync, R: Threads + Wait + Sync>(
+fn run<S: Site, L: Ledger, R: Wait>(
     rt: &HostRuntime,
     handle: &R,
     blank: Blank,
@@ -356,7 +294,7 @@ fn run<S: Site + Send + Sync, L: Ledger + Send + Sync, R: Threads + Wait + Sync>
 }
 
 // The calls of one file.
-fn one_day<R: Threads + Wait + Sync>(rt: &HostRuntime, handle: &R, file: &str) -> io::Result<()> {
+fn one_day<R: Wait>(rt: &HostRuntime, handle: &R, file: &str) -> io::Result<()> {
     let alloc = rt.alloc();
     let state = State::new(alloc, Realm::new(Vec::new(alloc), Vec::new(alloc)));
     println!(rt; "-- {file}")?;
@@ -364,7 +302,7 @@ fn one_day<R: Threads + Wait + Sync>(rt: &HostRuntime, handle: &R, file: &str) -
     run::<Brand, Brand, R>(rt, handle, Blank::new(64), state, Blank::new(1), text)
 }
 
-fn days<R: Threads + Wait + Sync>(rt: &HostRuntime, handle: &R) -> io::Result<()> {
+fn days<R: Wait>(rt: &HostRuntime, handle: &R) -> io::Result<()> {
     let mut words = env::args(rt)?;
     let _program = words.next();
     for word in words {
@@ -380,48 +318,7 @@ fn main(rt: HostRuntime) -> io::Result<ExitCode> {
 """
 
 PROOFS = {
-    "Lib.antt": "mod Threads\n",
-    "Threads.antt": r"""
--- What is handed to a thread may cross threads.
-use denote.Param.Send.{IsSend, IsSync, sendable}
-use denote.Param.SendFields.{declared_send}
-use denote.Ref.{NamedLft}
-use denote.RattleType.{RattleType}
-use Rattle.std.specs.declared.sync.ledger.Ledger as ledger
-use Rattle.acap_locked.proofs.CrossingCalls.{pass_send}
-use Rattle.acap_locked.proofs.CrossingServed.{served_sync}
-use Rattle.acap_locked.specs.declared.site.Site as site
-use Rattle.locked_runs.specs.contracts.Drainer as drainer
-
-module _ (ℓ : NamedLft) (R S L : RattleType) (g : site.Ghosts S.Denot) (h : ledger.Ghosts S.Denot) where
-  pub drainer_send : (l : ledger.Ghosts L.Denot) → IsSync R → IsSend (drainer.the_row ℓ R S L g h l)
-  drainer_send l r = declared_send (drainer.the_type ℓ R S L g h l) (
-    search (r, sendable) depth 20,
-    (
-      search (served_sync S g h L l, sendable) depth 20,
-      (pass_send S g h, (search sendable depth 20, (search sendable depth 20, tt))),
-    ),
-  )
-""",
-    "two_threads/Answers.antt": r"""
-use denote.Exit as exit
-use denote.Param.{param}
-use denote.Param.Send.{param_send, arg_send}
-use denote.Ref.{NamedLft}
-use mir.Syntax.{named}
-use Rattle.locked_runs.proofs.Threads.{drainer_send}
-use Rattle.locked_runs.specs.contracts.Drainer as drainer
-use Rattle.locked_runs.proofs.two_threads.Goals as goal
-
-pub both-a-requires-send-W : goal.both-a-requires-send-W
-both-a-requires-send-W g c κs within =
-    let ℓ : NamedLft = record { mir = named 2; lft = κs.1.1.0 } in
-    let R = param 2 g.row.R in
-    let S = param 0 g.row.S in
-    let L = param 1 g.row.L in
-    param_send 1 _ (arg_send _ exit.no (drainer.the_row ℓ R S L g.S.Site g.S.Ledger g.L.Ledger)
-    (drainer_send ℓ R S L g.S.Site g.S.Ledger g.L.Ledger c.type_bounds.sync-R))
-""",
+    "Lib.antt": "",
     "one_day/Invariants.antt": r"""
 use Rattle.locked_runs.proofs.one_day.Given as goal
 
@@ -438,47 +335,15 @@ ghosts-run-L-Ledger g a = record { name = a.counter.name; parts = a.counter.part
 
 HELLO = '* ACAP (IMPLEMENTATION "acapd") (SASL "CRAM-MD5") (CONTEXTLIMIT "200")'
 
+# Joe stores at one seat, and finds it at another.
 CALLS = [
-    ("0 enter joe", f"0: 0 0 0 {HELLO}"),
-    ('0 A1 STORE ("/option/~/n" "option.value" "mono")', '0: 0 1 0 * OK "STORE done"'),
-    ("0 leave", "0: 0 2 0"),
-    ("1 enter joe", f"1: 0 3 0 {HELLO}"),
-    ('1 A2 SEARCH "/option/~/" RETURN ("option.value") ALL',
-     '1: 0 4 0 * ENTRY "n" "mono"', '* MODTIME "00000101000000000001"', '* OK "SEARCH done"'),
-    ("1 leave", "1: 0 5 0"),
+    "0 enter joe",
+    '0 A1 STORE ("/option/~/font" "option.value" "mono")',
+    "0 leave",
+    "1 enter joe",
+    '1 A2 SEARCH "/option/~/" RETURN ("option.value") ALL',
+    "1 leave",
 ]
-
-# Seat 1 is rung once, and again after its own drain alone.
-RINGS = [
-    ("0 enter joe", f"0: 0 0 0 {HELLO}"),
-    ("1 enter joe", f"1: 0 1 0 {HELLO}"),
-    ('0 A1 STORE ("/option/~/n" "option.value" "mono")', '0: 0 2 0 * OK "STORE done"'),
-    ('1 B1 SEARCH "/option/~/" MAKECONTEXT NOTIFY "c" RETURN ("option.value") NOT EQUAL "entry" "i;octet" ""',
-     '1: 0 3 0 * ENTRY "n" "mono"', '* MODTIME "00000101000000000001"', '* OK "SEARCH done"'),
-    ('0 A2 STORE ("/option/~/n" "option.value" "serif")', '0: 0 4 2 * OK "STORE done"'),
-    ('0 A3 STORE ("/option/~/n" "option.value" "sans")', '0: 0 5 0 * OK "STORE done"'),
-    ('1 B2 UPDATECONTEXT "c"', '1: 0 6 0 * CHANGE "c" "n" 0 0 "serif"', '* CHANGE "c" "n" 0 0 "sans"',
-     '* MODTIME "c" "00000101000000000003"', '* OK "UPDATECONTEXT done"'),
-    ('0 A4 STORE ("/option/~/n" "option.value" "x")', '0: 0 7 0 * OK "STORE done"'),
-    ("1 drain", '1: 0 8 0 * CHANGE "c" "n" 0 0 "x"'),
-    ('0 A5 STORE ("/option/~/n" "option.value" "y")', '0: 0 9 2 * OK "STORE done"'),
-]
-
-ROWS = {
-    "served by calls": (CALLS, ["closed: epoch 0, 6 calls", "pass 0: 3 items, 0 retired", "pass 1: 3 items, 0 retired"]),
-    "a pass is missing": (CALLS + [("without 1",)], ["missing 1"]),
-    "a seat is rung once": (RINGS, ["closed: epoch 0, 10 calls", "pass 0: 6 items, 0 retired", "pass 1: 4 items, 0 retired"]),
-    "a fault leaves no item": ([("5 drain", "5: not entered"), ("5 enter ann", f"5: 0 0 0 {HELLO}"), ("5 enter ann", "5: already entered")],
-                               ["closed: epoch 0, 1 calls", "pass 5: 1 items, 0 retired"]),
-    # 500,000 calls make a history long: the next one begins an epoch, and the seat stays entered
-    "an epoch begins": ([("0 enter joe", f"0: 0 0 0 {HELLO}"), ("0 drains 499999", "0: 0 499999 0"), ("0 drain", "0: 1 0 0")],
-                        ["closed: epoch 1, 1 calls", "pass 0: 1 items, 500000 retired", "retired: 500000"]),
-    "two epochs": ([("0 enter joe", f"0: 0 0 0 {HELLO}"), ("0 drains 999999", "0: 1 499999 0"), ("0 drain", "0: 2 0 0")],
-                   ["closed: epoch 2, 1 calls", "pass 0: 1 items, 1000000 retired", "retired: 1000000"]),
-    "two threads": ([("62 enter joe", f"62: 0 0 0 {HELLO}"), ("63 enter ann", f"63: 0 1 0 {HELLO}"), ("threads 200", "threads: true true")],
-                    ["closed: epoch 0, 402 calls", "pass 62: 201 items, 0 retired", "pass 63: 201 items, 0 retired"]),
-}
-
 
 # The history is never emptied: the book begins at the last epoch.
 LAST = ("epoch: 0,\n            base,", "epoch: MOST,\n            base,")
@@ -687,7 +552,7 @@ def refuse(path):
         for name, call in REFUSED.items():
             refuse_each(program, name, PREPARED, call, AFTER)
         refuse_epoch(program)
-        refuse_run(program, [call[0] for call in CALLS])
+        refuse_run(program, CALLS)
 
 
 # ---- figures
@@ -748,16 +613,15 @@ def give_libraries(top, clone):
         shutil.copytree(out, clone / out.relative_to(top), symlinks=True)
 
 
-def tell_rows(top, rows, patch=None):
-    """Whether the program prints of each row what is wanted, run in a clone, where the book is patched."""
+def tell_rows(top, rows, patch):
+    """Whether the program prints of each row what is wanted, run in a clone where the book is patched."""
     with tempfile.TemporaryDirectory() as folder:
         clone, crate = add_program(top, folder)
-        if patch:
-            book = clone / "crates/acap_locked/src/book.rt"
-            text = book.read_text()
-            if text.count(patch[0]) != 1:
-                sys.exit("bench/locked.py: what is patched doesn't stand in book.rt")
-            book.write_text(text.replace(*patch))
+        book = clone / "crates/acap_locked/src/book.rt"
+        text = book.read_text()
+        if text.count(patch[0]) != 1:
+            sys.exit("bench/locked.py: what is patched doesn't stand in book.rt")
+        book.write_text(text.replace(*patch))
         files = []
         for number, (calls, _) in enumerate(rows.values()):
             file = pathlib.Path(folder) / f"row{number}"
@@ -793,12 +657,12 @@ def build(top, program):
 
 def main():
     words = argparse.ArgumentParser()
-    words.add_argument("what", choices=["rows", "last", "build", "refuse", "figures"])
+    words.add_argument("what", choices=["last", "build", "refuse", "figures"])
     words.add_argument("program", nargs="?")
     given = words.parse_args()
     top = pathlib.Path(__file__).resolve().parent.parent
-    if given.what in ("rows", "last"):
-        sys.exit(not (tell_rows(top, ROWS) if given.what == "rows" else tell_rows(top, LAST_ROWS, LAST)))
+    if given.what == "last":
+        sys.exit(not tell_rows(top, LAST_ROWS, LAST))
     if not given.program:
         words.error("no program is named")
     if given.what == "build":

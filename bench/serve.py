@@ -462,6 +462,42 @@ def _(server):
         same(answer(one_more(server), "NOOP"), ["OK", b"NOOP done"])
 
 
+def parting(server, octets, heard, times=100):
+    """Each time a new client sends these octets, reads until the server closes, and must have heard what is wanted."""
+    for number in range(times):
+        client = server.connect()
+        with contextlib.suppress(ConnectionResetError, BrokenPipeError):  # it sends more than the server reads
+            client.send(octets)
+        told = client.rest()
+        if not heard(told):
+            raise AssertionError(f"client {number} of {times} heard {told[-200:]}")
+        client.close()
+    return f"{times} of {times} heard all"
+
+
+@check("200,000 octets after a LOGOUT")
+def _(server):
+    end = b'* BYE "Good bye"\r\nA1 OK "LOGOUT done"\r\n'
+    return parting(server, b"A1 LOGOUT\r\n" + b"x" * 200_000, lambda told: told.endswith(end))
+
+
+@check("50 wrong lines and 200,000 octets without a line's end")
+def _(server):
+    def heard(told):
+        _, *lines, rest = told.split(b"\r\n")
+        return rest == b"" and len(lines) == 51 and lines[-1].startswith(b"* BYE")
+
+    return parting(server, b"\r\n" * 50 + b"x" * 200_000, heard)
+
+
+@check("a 65th that sent first")
+def _(server):
+    clients = [server.greeted() for _ in range(SEATS)]
+    told = parting(server, b"A1 NOOP\r\n" * 1_000, lambda told: told == FULL)
+    same([answer(client, "NOOP") for client in clients], [["OK", b"NOOP done"]] * SEATS)
+    return told
+
+
 @check("300,000 octets of garbage")
 def _(server):
     for seed, octets in enumerate([range(256), b'"{}()\\\r\n A1+NOP', b"abc \r\n"]):

@@ -1,63 +1,116 @@
 #!/usr/bin/env python3
 """Wrong bodies of the server that no contract refuses: in a clone each is put in place of the right one, and a test must then fail.
+Then bodies whose workers end: a server with them must still greet its clients, for as long as a worker is left.
 
-    python3 bench/threads.py
+    python3 bench/threads.py [BODY..]
 
-The tests are those of `acap_serving_tests` on several workers, run by `rt try --test`. Without an edit all of them must say `ok`.
+The tests are those of `acap_serving_tests` on several workers (`together.rt`), run by `rt try --test`. Without an edit all of them must
+say `ok`. BODY is part of the name of a body: then those alone are tried.
 """
+import contextlib
+import os
 import pathlib
 import re
+import signal
+import socket
 import subprocess
 import sys
 import tempfile
+import time
 
-SESSIONS, SLOT = "crates/acap_serving/src/sessions.rt", "crates/acap_serving/src/slot.rt"
-WORK = "crates/acap_serving/src/work.rt"
+SRC = "crates/acap_serving/src"
+CREW, DEALING, WORK = f"{SRC}/crew.rt", f"{SRC}/dealing.rt", f"{SRC}/work.rt"
+TOGETHER = {"lib", "gate", "stage", "together", "workers"}
 GATE, FLAGS = "a_session_waits_within_a_literal_until_another_is_answered", "two_sessions_are_polled_at_one_time"
 
-ONE_THREAD = (SESSIONS, "turn = if turn < workers - 1 { turn + 1 } else { 0 };", "turn = 0;")
-ONE_AT_A_TIME = (WORK, "const SESSIONS: usize = 64;", "const SESSIONS: usize = 1;")
+ONE_THREAD = (DEALING, "    crews.rotate_left(1);\n", "")
+ONE_THREAD_BACK = (DEALING, "    crews.rotate_right(1);\n", "")
+ONE_AT_A_TIME = (WORK, "const FUTURES: usize = 128;", "const FUTURES: usize = 1;")
 
-# A lock of all sessions is held for as long as one of them is polled: while it reads, parses and prints.
-HELD = [
-    (SLOT, "    pub(crate) slot: &'a mut Slot<'u, W, D, O, B>,\n", "    pub(crate) slot: &'a mut Slot<'u, W, D, O, B>,\n    pub(crate) polled: &'a std::sync::atomic::AtomicBool,\n"),
-    (SLOT, "        match self.slot.task.poll(cx) {\n", """        for _ in 0..1_000_000_000u32 {
-            if !self.polled.swap(true, std::sync::atomic::Ordering::SeqCst) {
-                break;
-            }
-            std::thread::yield_now();
-        }
-        let polled = self.slot.task.poll(cx);
-        self.polled.store(false, std::sync::atomic::Ordering::SeqCst);
-        match polled {
-"""),
-    (SESSIONS, "            crew.push(Occupied { slot })?;\n", "            crew.push(Occupied { slot, polled })?;\n"),
-    (SESSIONS, "    workers: usize,\n) -> Result<Vec<Vec<Occupied<'a, 'u, W, D, O, B>>>, Memory>\n",
-     "    workers: usize,\n    polled: &'a std::sync::atomic::AtomicBool,\n) -> Result<Vec<Vec<Occupied<'a, 'u, W, D, O, B>>>, Memory>\n"),
-    (SESSIONS, "    let Ok(crews) = deal(rt.alloc(), slots, workers) else {\n",
-     "    let polled = std::sync::atomic::AtomicBool::new(false);\n    let Ok(crews) = deal(rt.alloc(), slots, workers, &polled) else {\n"),
+# One lock for the sessions of all workers.
+FLAG = "std::sync::atomic::AtomicBool"
+CREWS = "/// The sessions of one worker while they are polled."
+LOCK = [
+    (CREW, CREWS, f"""fn hold(held: &{FLAG}) {{
+    for _ in 0..1_000_000_000u32 {{
+        if !held.swap(true, std::sync::atomic::Ordering::SeqCst) {{
+            return;
+        }}
+        thread::yield_now();
+    }}
+}}
+
+fn let_go(held: &{FLAG}) {{
+    held.store(false, std::sync::atomic::Ordering::SeqCst);
+}}
+
+{CREWS}"""),
+    (CREW, "    let threads = crews.len().max(1);\n", f"    let threads = crews.len().max(1);\n    let held = {FLAG}::new(false);\n"),
+    (CREW, "        &|_, crew| run_crew(rt, crew),\n", "        &|_, crew| run_crew(rt, crew, &held),\n"),
+    (CREW, "fn run_crew<R, T>(rt: &R, crew: &mut Vec<T>)\n", f"fn run_crew<R, T>(rt: &R, crew: &mut Vec<T>, held: &{FLAG})\n"),
+    (CREW, "(rt, sessions);\n", "(rt, sessions, held);\n"),
+    (CREW, "fn run<R, T, K>(rt: &R, sessions: Vec<T>) -> Vec<T>\n", f"fn run<R, T, K>(rt: &R, sessions: Vec<T>, held: &{FLAG}) -> Vec<T>\n"),
 ]
+RUN = "    let _ = poll_all(rt, &crew, count);\n"
+# It is held for as long as a session is polled: while it reads, parses and prints.
+WHILE_POLLED = LOCK + [
+    (CREW, RUN, RUN.replace("count", "count, held")),
+    (CREW, "&RefCell<Crew<T, K>>, count: usize)", f"&RefCell<Crew<T, K>>, count: usize, held: &{FLAG})"),
+    (CREW, "members(rt.alloc(), crew, count)?", "members(rt.alloc(), crew, count, held)?"),
+    (CREW, "    count: usize,\n)", f"    count: usize,\n    held: &'a {FLAG},\n)"),
+    (CREW, "Member { crew, number }", "Member { crew, number, held }"),
+    (CREW, "    number: usize,\n}", f"    number: usize,\n    held: &'a {FLAG},\n}}"),
+    (CREW, "            Ok(mut crew) => crew.advance(self.number, cx),\n", """            Ok(mut crew) => {
+                hold(self.held);
+                let polled = crew.advance(self.number, cx);
+                let_go(self.held);
+                polled
+            }
+"""),
+]
+# It is held from the first poll of a worker's sessions until the last of them has ended: also while a session waits for more octets.
+WHILE_OPEN = LOCK + [(CREW, RUN, f"    hold(held);\n{RUN}    let_go(held);\n")]
 
 # What is changed, and the tests that must fail then.
 BODIES = {
     "as it is": ([], set()),
-    "all sessions on one thread": ([ONE_THREAD], {FLAGS}),
-    "one session after the other": ([ONE_THREAD, ONE_AT_A_TIME], {GATE, FLAGS}),
-    "a lock is held while a session is polled": (HELD, {FLAGS}),
+    "all sessions on one thread": ([ONE_THREAD, ONE_THREAD_BACK], {GATE, FLAGS}),
+    "one session after the other": ([ONE_THREAD, ONE_THREAD_BACK, ONE_AT_A_TIME], {GATE, FLAGS}),
+    "a lock is held while a session is polled": (WHILE_POLLED, {GATE, FLAGS}),
+    "a lock is held from a session's beginning to its end": (WHILE_OPEN, {GATE, FLAGS}),
 }
+
+COUNT = "    let all = stream.buffer_unordered(rt.alloc(), FUTURES)?.count();\n"
+THIRD = (WORK, COUNT, COUNT.replace("stream.", "stream.take(3)."))
+FIRST = (WORK, COUNT, COUNT.replace(".count()", ".take(1).count()"))
+GREETING, FULL = b"* ACAP ", b'* BYE "Too many sessions"\r\n'
+WORKERS, SEATS = 16, 64
+
+
+def leave(clone):
+    """Leaves of the tests those of several workers, and what they stand on: the others take long without a proof."""
+    src = clone / "crates/acap_serving_tests/src"
+    root = (src / "lib.rt").read_text()
+    for file in src.glob("*.rt"):
+        if file.stem not in TOGETHER:
+            file.unlink()
+            root = root.replace(f"#[cfg(test)]\nmod {file.stem};\n", "")
+    (src / "lib.rt").write_text(root)
 
 
 def failed(clone):
     """The tests that fail, of those of several workers."""
-    done = subprocess.run(["rt", "try", "--test", "--seconds", "120"], cwd=clone / "crates/acap_serving_tests", capture_output=True, text=True)
+    leave(clone)
+    done = subprocess.run(["rt", "try", "--test", "--seconds", "1200"], cwd=clone / "crates/acap_serving_tests", capture_output=True, text=True)
     told = dict(re.findall(r"^test together::(\w+) \.\.\. (\w+)", done.stdout + done.stderr, flags=re.M))
     if not {GATE, FLAGS} <= told.keys():
         sys.exit(f"{done.stdout[-2000:]}{done.stderr[-2000:]}\nbench/threads.py: the tests didn't run")
     return {name for name, word in told.items() if word != "ok"}
 
 
-def tell(name, edits, wanted, top):
-    """Whether exactly these tests fail of a clone with the edits."""
+@contextlib.contextmanager
+def cloned(edits, top):
+    """A clone with edits."""
     with tempfile.TemporaryDirectory() as folder:
         clone = pathlib.Path(folder) / "clone"
         subprocess.run(["git", "clone", "-q", str(top), str(clone)], check=True)
@@ -66,15 +119,133 @@ def tell(name, edits, wanted, top):
             if text.count(old) != 1:
                 sys.exit(f"bench/threads.py: what is changed doesn't stand in {file}: {old}")
             (clone / file).write_text(text.replace(old, new))
+        yield clone
+
+
+def tell(name, edits, wanted, top):
+    """Whether exactly these tests fail of a clone with the edits."""
+    with cloned(edits, top) as clone:
         found = failed(clone)
     right = found == wanted
     print(f"{name}: {', '.join(sorted(found)) or 'no test'} fails: {'as wanted' if right else 'WRONG'}", flush=True)
     return right
 
 
+# ---- workers that end
+
+def hear(client):
+    """The first line that a client is told, or what came before the server closed."""
+    line = b""
+    with contextlib.suppress(ConnectionResetError):
+        while not line.endswith(b"\n") and (octets := client.recv(1)):
+            line += octets
+    return line
+
+
+class Server:
+    """A server of a clone, which `rt try` builds without a proof and runs."""
+
+    def __init__(self, clone):
+        with socket.socket() as it:
+            it.bind(("127.0.0.1", 0))
+            self.port = it.getsockname()[1]
+        file = clone / "settings.toml"
+        words = [f'listen = "127.0.0.1:{self.port}"', 'host = "localhost"', f"workers = {WORKERS}", "turns = 1000000", "sessions = 0"]
+        file.write_text("\n".join(words + ['administrators = ["root"]', "[users]", 'joe = "secret"']) + "\n")
+        command = ["rt", "try", "--seconds", "600", "--", "serve", str(file)]
+        self.process = subprocess.Popen(command, cwd=clone / "crates/acapd", stdout=subprocess.PIPE, stderr=subprocess.STDOUT, text=True, start_new_session=True)
+
+    def connect(self):
+        """A client, and the first line that it is told. It waits until the server listens."""
+        for _ in range(60_000):
+            with contextlib.suppress(ConnectionRefusedError):
+                client = socket.create_connection(("127.0.0.1", self.port), timeout=20)
+                return client, hear(client)
+            if self.process.poll() is not None:
+                break
+            time.sleep(0.02)
+        sys.exit(f"{self.process.communicate()[0][-2000:]}\nbench/threads.py: the server didn't listen")
+
+    def end(self):
+        """What it prints when it ends of itself."""
+        return self.process.communicate(timeout=60)[0]
+
+    def close(self):
+        """Ends what was started here, and nothing else."""
+        if self.process.poll() is None:
+            os.killpg(self.process.pid, signal.SIGTERM)
+            self.process.communicate()
+
+
+def ends_at_the_third(server):
+    """Forty clients come one after the other, and then others until no worker is left: the server ends as it does without memory."""
+    for _ in range(40):
+        client, told = server.connect()
+        with client:
+            if not told.startswith(GREETING):
+                return f"a client is told {told}"
+            client.sendall(b"A1 LOGOUT\r\n")
+            while client.recv(4_096):
+                pass
+    for _ in range(40):
+        with contextlib.suppress(OSError):
+            client = socket.create_connection(("127.0.0.1", server.port), timeout=5)
+            with client:
+                hear(client)
+                client.sendall(b"A1 LOGOUT\r\n")
+                while client.recv(4_096):
+                    pass
+    told = server.end()
+    return None if "acapd: no memory" in told and "status=1" in told else f"it ends with {told[-500:]}"
+
+
+def ends_at_the_first(server):
+    """Each worker ends once its first session has. Its others are cut off, and their seats come back."""
+    clients = [server.connect() for _ in range(3 * WORKERS)]
+    for client, _ in clients[:WORKERS - 1]:
+        client.sendall(b"A1 LOGOUT\r\n")
+        while client.recv(4_096):
+            pass
+    left = clients[WORKERS - 1::WORKERS]
+    for client in clients[WORKERS:]:
+        if client not in left and client[0].recv(1) != b"":
+            return "a session goes on whose worker has ended"
+    time.sleep(1)
+    more = [server.connect() for _ in range(SEATS - len(left) + 1)]
+    told = [line for _, line in more]
+    if not all(line.startswith(GREETING) for line in told[:-1]) or told[-1] != FULL:
+        return f"{sum(line.startswith(GREETING) for line in told)} of {len(told) - 1} seats have come back"
+    return None
+
+
+# What is changed, and what must be true of a server then.
+SERVED = {
+    "each worker ends at its third session": ([THIRD], ends_at_the_third),
+    "each worker ends when its first session does": ([FIRST], ends_at_the_first),
+}
+
+
+def serves(name, edits, check, top):
+    """Whether a server of a clone with the edits does what it should."""
+    with cloned(edits, top) as clone:
+        server = Server(clone)
+        try:
+            fault = check(server)
+        finally:
+            server.close()
+    print(f"{name}: {'as wanted' if fault is None else f'WRONG: {fault}'}", flush=True)
+    return fault is None
+
+
 def main():
-    top = pathlib.Path(__file__).resolve().parent.parent
-    sys.exit(not all([tell(name, *body, top) for name, body in BODIES.items()]))
+    top, wanted = pathlib.Path(__file__).resolve().parent.parent, sys.argv[1:]
+
+    def is_wanted(name):
+        return not wanted or any(word in name for word in wanted)
+
+    right = [tell(name, *body, top) for name, body in BODIES.items() if is_wanted(name)]
+    right += [serves(name, *body, top) for name, body in SERVED.items() if is_wanted(name)]
+    sys.exit(not all(right))
 
 
 if __name__ == "__main__":

@@ -1,2 +1,4 @@
+pub mod Collected
+pub mod Dealt
 pub mod Threads
 pub mod Untold

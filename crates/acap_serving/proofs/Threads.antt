@@ -1,6 +1,6 @@
 -- What the threads of a server hand over and look at together may cross threads.
 use denote.Param.Send.{IsSend, IsSync, sendable}
-use denote.Param.SendFields.{declared_send, declared_sync}
+use denote.Param.SendFields.{declared_send, declared_sync, variants_send}
 use denote.RattleType.{RattleType}
 use denote.Ref.{NamedLft}
 use Rattle.std.proofs.Crossing.{crosses}
@@ -35,7 +35,10 @@ module _ (S : RattleType) (g : site.Ghosts S.Denot) (h : ledger.Ghosts S.Denot) 
   place_send = declared_send (place.the_type S g h) (seating_send, (search (of_receiver.the_send, crosses, sendable) depth 60 fits 20000, tt))
 
   job_send : IsSend (job.the_row S g h)
-  job_send = declared_send (job.the_type S g h) (place_send, (search (crosses, sendable) depth 60 fits 20000, tt))
+  job_send = variants_send (job.enum S g h) (
+    (place_send, (search (crosses, sendable) depth 60 fits 20000, tt)),
+    ((search (crosses, sendable) depth 60 fits 20000, tt), tt),
+  )
 
   pub jobs_send : IsSend (receiver.the_row (job.the_row S g h))
   jobs_send = search (of_receiver.the_send, job_send, crosses, sendable) depth 60 fits 20000
@@ -43,7 +46,13 @@ module _ (S : RattleType) (g : site.Ghosts S.Denot) (h : ledger.Ghosts S.Denot) 
   hall_send : IsSend (hall.the_row S g h)
   hall_send = declared_send (hall.the_type S g h) (
     search (place_send, crosses, sendable) depth 60 fits 20000,
-    (search sendable depth 20, (search sendable depth 20, (search sendable depth 20, tt))),
+    (
+      search sendable depth 20,
+      (
+        search sendable depth 20,
+        (search sendable depth 20, (search (job_send, crosses, sendable) depth 60 fits 20000, (search sendable depth 20, tt))),
+      ),
+    ),
   )
 
   module _ (ℓ : NamedLft) (L R : RattleType) (l : ledger.Ghosts L.Denot) where

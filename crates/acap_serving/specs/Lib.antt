@@ -1,3 +1,5 @@
+pub mod Dealing
 pub mod Devices
+pub mod Ends
 pub mod Faults
 pub mod Histories

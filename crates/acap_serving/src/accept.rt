@@ -1,11 +1,11 @@
-//! The thread that accepts.
+//! What accepts streams.
 use crate::hall::{Hall, Job};
 use acap_locked::Site;
 use mio::net::TcpListener;
 use mio::{Events, Poll};
 use std::alloc::Global;
 use std::io::Write;
-use std::net::TcpStream;
+use std::net::{Shutdown, TcpStream};
 use std::sync::{Mutex, Wait};
 use std::time::{Clock, Duration};
 use std::{io, thread};
@@ -18,22 +18,42 @@ const REFUSAL: &[u8] = b"* BYE \"Too many sessions\"\r\n";
 /// How long is waited where the system refuses something.
 const MILLIS: u64 = 10;
 
-/// What the thread that accepts has: the listener and the waits for it, and a channel to each worker.
+/// Accepts streams, and hands each to a worker (RFC 2244 section 2): the listener and the waits for it, and a channel to each worker. It
+/// runs on the thread that started the workers, and not as a future of one of them.
 #[derive(Drop)]
-pub(crate) struct Porch<S: Site> {
-    pub(crate) poll: Poll,
-    pub(crate) events: Events<Global>,
-    pub(crate) listener: TcpListener,
-    pub(crate) workers: Vec<UnboundedSender<Job<S>>>,
+pub struct AcceptTask<S: Site> {
+    poll: Poll,
+    events: Events<Global>,
+    listener: TcpListener,
+    workers: Vec<UnboundedSender<Job<S>>>,
+    turn: usize,
 }
 
-// Tells a client that no place is free. What the socket doesn't take at once is not written.
-fn refuse(stream: TcpStream) {
-    let _ = (&stream).write(REFUSAL);
+// Tells a client that it isn't served. What the socket doesn't take at once is not written.
+fn refuse(stream: &TcpStream) {
+    let mut writer = stream;
+    let _ = writer.write(REFUSAL);
+    let _ = stream.shutdown(Shutdown::Write);
 }
 
-impl<S: Site> Porch<S> {
-    // Waits until somebody knocks, a worker begins or a session ends.
+impl<S: Site> AcceptTask<S> {
+    /// One for that listener, whose events these are, and those workers.
+    pub(crate) fn new(
+        poll: Poll,
+        events: Events<Global>,
+        listener: TcpListener,
+        workers: Vec<UnboundedSender<Job<S>>>,
+    ) -> AcceptTask<S> {
+        AcceptTask {
+            poll,
+            events,
+            listener,
+            workers,
+            turn: 0,
+        }
+    }
+
+    // Waits until somebody knocks, a worker begins or ends, or a session ends.
     fn wait<R: Clock>(&mut self, rt: &R) {
         if self.poll.poll(&mut self.events, None).is_err() {
             thread::sleep(rt, Duration::from_millis(MILLIS));
@@ -52,43 +72,83 @@ impl<S: Site> Porch<S> {
         unreachable!()
     }
 
-    // Moves a stream to the worker whose turn it is, with a free place, if there is one. Says whose turn is next.
-    fn seat<R: Wait>(
-        &self,
-        rt: &R,
-        hall: &Mutex<Hall<S>>,
-        turn: usize,
-        stream: TcpStream,
-    ) -> usize {
-        let taken = hall.lock(rt).take();
-        let Some(place) = taken else {
-            refuse(stream);
-            return turn;
+    // The worker whose turn it is; then it is the next one's.
+    fn next(&mut self) -> Option<&UnboundedSender<Job<S>>> {
+        let turn = if self.turn < self.workers.len() {
+            self.turn
+        } else {
+            0
         };
-        let job = Job { place, stream };
-        let turn = if turn < self.workers.len() { turn } else { 0 };
-        let Some(worker) = self.workers.get(turn) else {
-            hall.lock(rt).give(job.place);
-            return turn;
-        };
-        if let Err(SendError::Closed(job) | SendError::OutOfMemory(job)) = worker.send(job) {
-            hall.lock(rt).give(job.place);
-        }
-        turn + 1
+        self.turn = turn + 1;
+        self.workers.get(turn)
     }
 
-    /// Accepts streams until so many sessions have ended, with 0 for ever. Where the system refuses a stream it waits 10 ms.
-    pub(crate) fn accept<R: Wait + Clock>(&mut self, rt: &R, hall: &Mutex<Hall<S>>, sessions: u64) {
-        let mut turn = 0;
+    // Hands a job to the next worker that takes it. Where none does, its client is refused.
+    fn hand<R: Wait>(&mut self, rt: &R, hall: &Mutex<Hall<S>>, job: Job<S>) {
+        let mut job = job;
+        for _ in 0..self.workers.len() {
+            let Some(worker) = self.next() else {
+                break;
+            };
+            match worker.send(job) {
+                Ok(()) => return,
+                Err(SendError::Closed(back) | SendError::OutOfMemory(back)) => job = back,
+            }
+        }
+        if let Job::Serve(_, stream) = &job {
+            refuse(stream);
+        }
+        hall.lock(rt).drop_job(job);
+    }
+
+    // Hands a stream to a worker, with a free place. Where there is none, the client is refused, and the worker reads on to the stream's
+    // end, if there aren't too many of them.
+    fn seat<R: Wait>(&mut self, rt: &R, hall: &Mutex<Hall<S>>, stream: TcpStream) {
+        let taken = hall.lock(rt).take();
+        if let Some(place) = taken {
+            return self.hand(rt, hall, Job::Serve(place, stream));
+        }
+        refuse(&stream);
+        let may = hall.lock(rt).may_part();
+        if may {
+            self.hand(rt, hall, Job::Part(stream));
+        }
+    }
+
+    // Hands on the jobs that workers left.
+    fn hand_on<R: Wait>(&mut self, rt: &R, hall: &Mutex<Hall<S>>) {
         for _ in rt.forever() {
-            if hall.lock(rt).is_over(sessions) {
+            let left = hall.lock(rt).left();
+            let Some(job) = left else {
                 return;
+            };
+            self.hand(rt, hall, job);
+        }
+    }
+
+    /// Accepts streams until so many sessions have ended, with 0 for ever. Where the system refuses a stream it waits 10 ms. Says whether
+    /// a worker is left.
+    pub(crate) fn accept<R: Wait + Clock>(
+        &mut self,
+        rt: &R,
+        hall: &Mutex<Hall<S>>,
+        sessions: u64,
+    ) -> bool {
+        let workers = self.workers.len() as u64;
+        for _ in rt.forever() {
+            self.hand_on(rt, hall);
+            if hall.lock(rt).is_over(sessions) {
+                return true;
+            }
+            if hall.lock(rt).is_deserted(workers) {
+                return false;
             }
             match self.listener.accept() {
-                Ok((stream, _)) => turn = self.seat(rt, hall, turn, TcpStream::from(stream)),
+                Ok((stream, _)) => self.seat(rt, hall, TcpStream::from(stream)),
                 Err(error) if error.kind() == io::ErrorKind::WouldBlock => self.wait(rt),
                 Err(_) => thread::sleep(rt, Duration::from_millis(MILLIS)),
             }
         }
+        unreachable!()
     }
 }

@@ -18,11 +18,15 @@ fn has_seat(seats: u64, seat: Seat) -> bool {
 }
 
 impl Bells {
+    ghost use Rattle.std.specs.Prelude.{◌≡◌, IfOk, length, vec_len};
+
     /// A bell for the seat of each pass, and in the same order what hears it. Fails only for want of memory.
     pub fn new<S: Site>(
         alloc: Global,
         passes: &[Pass<S>],
-    ) -> Result<(Bells, Vec<UnboundedReceiver<()>>), Memory> {
+    ) -> Result<(Bells, Vec<UnboundedReceiver<()>>), Memory>
+        ensures { IfOk result (λ made. vec_len made.1 ≡ length passes.now) }
+    {
         let mut senders = Vec::with_capacity(alloc, passes.len())?;
         let mut receivers = Vec::with_capacity(alloc, passes.len())?;
         for pass in passes {

@@ -6,8 +6,15 @@ use acap_entries::Memory;
 use acap_locked::{Pass, Site};
 use acap_task::{Seating, count_up};
 use std::alloc::Global;
+use std::collections::VecDeque;
 use std::net::TcpStream;
 use tokio::sync::mpsc::UnboundedReceiver;
+
+/// So many streams at most are read to their ends at once, after their sessions.
+const STREAMS: u64 = 64;
+
+/// So many jobs at most wait at once: one for each place, and one for each of those streams.
+const JOBS: usize = 128;
 
 /// What one session after another has at a seat: the pass, and what hears the seat's bell.
 #[derive(Drop)]
@@ -16,21 +23,25 @@ pub(crate) struct SeatPlace<S: Site> {
     pub(crate) rings: UnboundedReceiver<()>,
 }
 
-/// A client's stream, and the place where it is served.
+/// What a worker is to do with a client's stream.
 #[derive(Drop)]
-pub(crate) struct Job<S: Site> {
-    pub(crate) place: SeatPlace<S>,
-    pub(crate) stream: TcpStream,
+pub(crate) enum Job<S: Site> {
+    /// To serve it at this place.
+    Serve(SeatPlace<S>, TcpStream),
+    /// To read it to its end: its client was refused.
+    Part(TcpStream),
 }
 
-/// The places that are free, each at the number of its seat; how many sessions have ended; how many workers have begun, and whether
-/// one could not. It takes no memory once it is made.
+/// The places that are free, each at the number of its seat; how many sessions have ended; how many workers have begun, and how many
+/// have ended; the jobs that a worker left when it ended; how many streams are read to their ends. It takes no memory once it is made.
 #[derive(Drop)]
 pub(crate) struct Hall<S: Site> {
     free: Vec<Option<SeatPlace<S>>>,
     ended: u64,
     begun: u64,
-    refused: bool,
+    gone: u64,
+    left: VecDeque<Job<S>>,
+    parting: u64,
     ghost seats: { length free.items ≡ 64 },
 }
 
@@ -55,11 +66,14 @@ impl<S: Site> Hall<S> {
     // A hall without a place. Fails only for want of memory.
     fn empty(alloc: Global) -> Result<Hall<S>, Memory> {
         let free = vec_of_none(alloc)?;
+        let left = VecDeque::with_capacity(alloc, JOBS)?;
         Ok(Hall {
             free,
             ended: 0,
             begun: 0,
-            refused: false,
+            gone: 0,
+            left,
+            parting: 0,
         })
     }
 
@@ -92,26 +106,6 @@ impl<S: Site> Hall<S> {
         sessions > 0 && self.ended >= sessions
     }
 
-    /// Notes that a worker has begun, or that one could not.
-    pub(crate) fn note(&mut self, begun: bool) {
-        if begun {
-            self.begun = count_up(self.begun);
-        } else {
-            self.refused = true;
-        }
-    }
-
-    /// Whether so many workers have begun, once that is known: not where one could not.
-    pub(crate) fn has_begun(&self, workers: u64) -> Option<bool> {
-        if self.refused {
-            Some(false)
-        } else if self.begun >= workers {
-            Some(true)
-        } else {
-            None
-        }
-    }
-
     /// The passes of the places that are free, in the order of the seats. Fails only for want of memory.
     pub(crate) fn into_passes(self, alloc: Global) -> Result<Vec<Pass<S>>, Memory> {
         let mut passes = Vec::with_capacity(alloc, 64)?;
@@ -121,6 +115,78 @@ impl<S: Site> Hall<S> {
             }
         }
         Ok(passes)
+    }
+}
+
+impl<S: Site> Hall<S> {
+    ghost use Rattle.std.specs.Prelude.{◌≡◌, ◌≤◌, ◌↔◌, IsTrue};
+    ghost use Rattle.acap_task.specs.Told.{up};
+
+    /// Notes that a worker has begun.
+    pub(crate) fn begin(&mut self)
+        ensures { self.new.begun ≡ up self.old.begun }
+    {
+        self.begun = count_up(self.begun);
+    }
+
+    /// Notes that a worker has ended, or could not begin.
+    pub(crate) fn go(&mut self)
+        ensures { self.new.gone ≡ up self.old.gone }
+    {
+        self.gone = count_up(self.gone);
+    }
+
+    /// Whether so many workers have begun, once that is known: not where one has ended by then.
+    pub(crate) fn has_begun(&self, workers: u64) -> Option<bool> {
+        if self.gone > 0 {
+            Some(false)
+        } else if self.begun >= workers {
+            Some(true)
+        } else {
+            None
+        }
+    }
+
+    /// Whether so many workers have ended.
+    pub(crate) fn is_deserted(&self, workers: u64) -> bool
+        ensures { IsTrue result ↔ workers ≤ self.now.gone }
+    {
+        self.gone >= workers
+    }
+
+    /// Takes a job that a worker left, for another. Where there is no room for it, its place is free again.
+    pub(crate) fn leave(&mut self, job: Job<S>) {
+        match self.left.push_back(job) {
+            Ok(()) => {}
+            Err(full) => self.drop_job(full.value),
+        }
+    }
+
+    /// The first job that was left, if one was.
+    pub(crate) fn left(&mut self) -> Option<Job<S>> {
+        self.left.pop_front()
+    }
+
+    /// Lets a job go: its place is free again, and its stream is closed.
+    pub(crate) fn drop_job(&mut self, job: Job<S>) {
+        match job {
+            Job::Serve(place, _stream) => self.give(place),
+            Job::Part(_stream) => self.part(),
+        }
+    }
+
+    /// Whether one more stream may be read to its end.
+    pub(crate) fn may_part(&mut self) -> bool {
+        let may = self.parting < STREAMS;
+        if may {
+            self.parting += 1;
+        }
+        may
+    }
+
+    /// Notes that a stream is read to its end no longer.
+    pub(crate) fn part(&mut self) {
+        self.parting = self.parting.saturating_sub(1);
     }
 }
 

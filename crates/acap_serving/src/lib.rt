@@ -4,10 +4,16 @@
 mod accept;
 mod bells;
 mod channel_bell;
+mod collecting;
+mod crew;
+mod dealing;
 mod fault;
 mod hall;
 mod host_source;
+mod leaving;
 mod office;
+mod parting;
+mod seating;
 mod serving;
 mod sessions;
 mod setup;
@@ -19,6 +25,7 @@ mod tcp_wire;
 mod telling;
 mod work;
 
+pub use accept::AcceptTask;
 pub use bells::Bells;
 pub use channel_bell::ChannelBell;
 pub use fault::ServeFault;

@@ -3,7 +3,7 @@ ghost use denote.Param.Send.{IsSend, IsSync};
 ghost use Rattle.std.specs.Prelude.{◌≡◌, ◌<◌, IfOk};
 ghost use Rattle.acap_serving.specs.Histories.{IsReported, first_machine};
 
-use crate::accept::Porch;
+use crate::accept::AcceptTask;
 use crate::bells::Bells;
 use crate::fault::ServeFault;
 use crate::hall::{Hall, Job};
@@ -61,12 +61,13 @@ fn wait_for<R: Net>(rt: &R, listener: &mut mio::net::TcpListener) -> io::Result<
     Ok((poll, waker))
 }
 
-// Serves sessions until so many have ended: what comes by a channel is worked off on a thread of its own. Says whether all threads began.
+// Serves sessions until so many have ended: what comes by a channel is worked off on a thread of its own. Says whether all threads began,
+// and one was left.
 fn serve_sessions<R, S, K, J>(
     rt: &R,
     keeper: &K,
     hall: &Mutex<Hall<S>>,
-    porch: Porch<S>,
+    task: AcceptTask<S>,
     channels: Vec<J>,
     sessions: u64,
 ) -> bool
@@ -82,17 +83,13 @@ where
         move |scope|
             requires { IsSync R.row × IsSync K.row × IsSend J.row }
         {
-            let mut porch = porch;
+            let mut task = task;
             for jobs in channels {
                 if scope.spawn(move || keeper.work(jobs)).is_err() {
-                    hall.lock(rt).note(false);
+                    hall.lock(rt).go();
                 }
             }
-            let begun = porch.has_begun(rt, hall);
-            if begun {
-                porch.accept(rt, hall, sessions);
-            }
-            begun
+            task.has_begun(rt, hall) && task.accept(rt, hall, sessions)
         },
     )
 }
@@ -149,12 +146,8 @@ where
     let mut listener = mio::net::TcpListener::from_std(listener);
     let (poll, waker) = wait_for(rt, &mut listener).map_err(ServeFault::of_listening)?;
     let (workers, receivers) = channels(alloc, terms.workers)?;
-    let porch = Porch {
-        poll,
-        events: Events::with_capacity(alloc, EVENTS)?,
-        listener,
-        workers,
-    };
+    let events = Events::with_capacity(alloc, EVENTS)?;
+    let task = AcceptTask::new(poll, events, listener, workers);
     let hall = Mutex::new(hall);
     let office = Office {
         rt,
@@ -166,7 +159,7 @@ where
         host: &terms.host,
         turns: terms.turns,
     };
-    if !serve_sessions(rt, &office, &hall, porch, receivers, terms.sessions) {
+    if !serve_sessions(rt, &office, &hall, task, receivers, terms.sessions) {
         return Err(ServeFault::Memory);
     }
     Ok(hall.into_inner().into_passes(alloc)?)

@@ -1,52 +1,41 @@
 //! Sessions that are there already, on several threads.
 ghost use denote.Param.Send.{IsSend, IsSync};
-ghost use Rattle.std.specs.Prelude.{◌≡◌, ◌<◌, ◌≤◌, length, All, IfErr, OnOk};
+ghost use Rattle.std.specs.Prelude.{◌≡◌, ◌<◌, ◌≤◌, ◌++◌, [], false, length, map, vec_len, vec_capacity, All, IfErr, IfOk, OnOk, OnErr, drop, take, replicate, ◌+◌};
 ghost use Rattle.acap_serving.specs.Devices.{IsReady};
+ghost use Rattle.acap_serving.specs.Ends.{between};
 ghost use Rattle.acap_serving.specs.Faults.{IfTooMany};
 
 use crate::bells::Bells;
 use crate::channel_bell::ChannelBell;
-use crate::slot::{Ending, Occupied, SessionSlot, Slot, into_parts};
-use crate::work::run_stream;
-use acap_entries::{Copying, Memory, Octets};
+use crate::collecting::{Lists, collect, part, put_back};
+use crate::crew::run_crews;
+use crate::dealing::no_crews;
+use crate::seating::{Berth, Venue, berths, fill};
+use crate::slot::{Ending, Slot};
+use acap_entries::{Memory, Octets};
 use acap_locked::{Pass, Served, Site};
 use acap_login::Users;
-use acap_task::{Bell, Conn, Desk, PassDesk, Running, SessionTask, Source, TaskEnd, Wire};
-use futures::stream;
+use acap_task::{Bell, Conn, Desk, DeskRecord, Over, Seating, Source, Wire};
 use std::alloc::{AllocGlobal, Global};
 use std::net::{Net, TcpListener, TcpStream};
 use std::random::RandomSource;
 use std::sync::Wait;
 use std::sync::ledger::Ledger;
-use std::thread;
 use std::thread::Threads;
 use std::time::Clock;
-use std::vec::IntoIter;
-use tokio::runtime::LocalRuntime;
-use tokio::sync::mpsc::UnboundedReceiver;
 
-/// What a session gave back.
-#[derive(Drop)]
-pub struct Done<W, O> {
-    /// Its wire.
-    pub wire: W,
-    /// Its source.
-    pub source: O,
-    /// How it ended.
-    pub end: TaskEnd,
-    /// How often it was polled.
-    pub polls: u64,
-}
+/// A session that ended: how, what it stood on but for its pass, its steps, and the record of its calls.
+pub type Done<'u, W, O> = Over<'u, W, DeskRecord, O, ChannelBell>;
 
 /// What sessions left.
 #[derive(Drop)]
-pub struct Ran<S: Site, L: Ledger, W, O> {
+pub struct Ran<'u, S: Site, L: Ledger, W: Wire, O: Source> {
     /// The machine.
     pub served: Served<S, L>,
-    /// All passes, in their order.
-    pub passes: Vec<Pass<S>>,
+    /// All passes, in their order, each with whether it owes a Leave.
+    pub passes: Vec<Seating<S>>,
     /// The sessions, in their order.
-    pub done: Vec<Done<W, O>>,
+    pub done: Vec<Done<'u, W, O>>,
 }
 
 /// Why no session was run.
@@ -93,60 +82,15 @@ impl<S: Site, L: Ledger, W, O> NotRun<S, L, W, O> {
     }
 }
 
-// The desk of a session.
-type DeskOf<'a, R, S, L> = PassDesk<'a, S, L, R, Bells>;
+// Crews without sessions, room for how sessions end, and passes that are left over.
+type Stock<'u, S, W, D, O, B> = (
+    Vec<Vec<Slot<'u, W, D, O, B>>>,
+    Vec<Over<'u, W, D, O, B>>,
+    Vec<Pass<S>>,
+);
 
-// The slot of a session.
-type SlotOf<'a, R, S, L, W, O> = SessionSlot<'a, W, DeskOf<'a, R, S, L>, O, ChannelBell>;
-
-// Runs the sessions of one worker on this thread until all have ended; those for which a runtime or memory is refused stay as they are.
-fn run_crew<R, T, E>(rt: &R, crew: Vec<Occupied<'_, T, E>>)
-where
-    R: Wait + Clock + Net + RandomSource + AllocGlobal,
-    T: Ending<Left = E>,
-    E: Drop,
-{
-    let Ok(mut runtime) = LocalRuntime::new(rt) else {
-        return;
-    };
-    let _ = run_stream(rt, &mut runtime, stream::iter(crew));
-}
-
-// Deals slots out to so many workers, one to each in turn. Fails only for want of memory.
-fn deal<'a, T, E>(
-    alloc: Global,
-    slots: &'a mut Vec<Slot<T, E>>,
-    workers: usize,
-) -> Result<Vec<Vec<Occupied<'a, T, E>>>, Memory>
-    requires { 0 < workers }
-{
-    let mut crews = no_crews(alloc, workers)?;
-    let mut turn = 0;
-    let slots = slots.iter_mut();
-    for slot in slots {
-        if let Some(crew) = crews.get_mut(turn) {
-            crew.push(Occupied { slot })?;
-        }
-        turn = if turn < workers - 1 { turn + 1 } else { 0 };
-    }
-    Ok(crews)
-}
-
-// So many lists of nothing. Fails only for want of memory.
-fn no_crews<T: Drop>(alloc: Global, workers: usize) -> Result<Vec<Vec<T>>, Memory> {
-    let mut crews = Vec::with_capacity(alloc, workers)?;
-    for _ in 0..workers {
-        crews.push(Vec::new(alloc))?;
-    }
-    Ok(crews)
-}
-
-// Runs the sessions of slots on so many workers until all have ended. Those of a worker that can't be started stay as they are.
-fn run_slots<'u, R, W, D, O, B>(
-    rt: &R,
-    slots: &mut Vec<SessionSlot<'u, W, D, O, B>>,
-    workers: usize,
-)
+// Runs the sessions of each crew on a worker of its own.
+fn run_slots<'u, R, W, D, O, B>(rt: &R, crews: &mut Vec<Vec<Slot<'u, W, D, O, B>>>)
 where
     R: Threads
         + Wait
@@ -159,196 +103,47 @@ where
     D: Desk + Send,
     O: Source + Send,
     B: Bell + Send,
-    requires { 0 < workers }
+    ensures same { map (λ crew. map (⟦<Slot<'u, W, D, O, B> as Ending>⟧.whose) crew.items) crews.new.items
+        ≡ map (λ crew. map (⟦<Slot<'u, W, D, O, B> as Ending>⟧.whose) crew.items) crews.old.items }
+    ensures len { vec_len crews.new ≡ vec_len crews.old }
 {
-    let Ok(crews) = deal(rt.alloc(), slots, workers) else {
-        return;
-    };
-    thread::scope(
-        thread::scope_env(),
-        rt,
-        move |scope|
-            requires { IsSync R.row × IsSend W.row × IsSend D.row × IsSend O.row × IsSend B.row }
-        {
-            for crew in crews {
-                let _ = scope.spawn(move || run_crew(rt, crew));
-            }
-        },
-    );
+    run_crews(rt, crews);
 }
 
-// What sessions need beside what was handed in.
-#[derive(Drop)]
-struct Stock {
-    bells: Bells,
-    rings: Vec<UnboundedReceiver<()>>,
-    hosts: Vec<Octets>,
-}
-
-impl Stock {
-    // That of so many sessions. Fails only for want of memory.
-    fn new<S: Site>(
-        alloc: Global,
-        passes: &[Pass<S>],
-        count: usize,
-        host: &Octets,
-    ) -> Result<Stock, Memory> {
-        let (bells, rings) = Bells::new(alloc, passes)?;
-        let mut hosts = Vec::with_capacity(alloc, count)?;
-        for _ in 0..count {
-            hosts.push(host.copy()?)?;
-        }
-        Ok(Stock {
-            bells,
-            rings,
-            hosts,
-        })
-    }
-}
-
-// Room for all that is given back.
-#[derive(Drop)]
-struct Lists<S: Site, W, O> {
-    left: Vec<Pass<S>>,
-    done: Vec<Done<W, O>>,
-}
-
-impl<S: Site, W, O> Lists<S, W, O> {
-    // That for so many sessions and passes. Fails only for want of memory.
-    fn new(alloc: Global, sessions: usize, passes: usize) -> Result<Lists<S, W, O>, Memory> {
-        Ok(Lists {
-            left: Vec::with_capacity(alloc, passes)?,
-            done: Vec::with_capacity(alloc, sessions)?,
-        })
-    }
-}
-
-// What all sessions share.
-#[derive(Drop)]
-struct Venue<'a, R, S: Site, L: Ledger> {
-    rt: &'a R,
-    served: &'a Served<S, L>,
-    bells: &'a Bells,
-    users: &'a Users,
-    turns: u64,
-    ghost some: { 0 < turns },
-}
-
-// A session in its slot.
-#[tactic(auto, using(crate::proofs::Untold::untold_with))]
-fn slot_of<'a, R, S, L, W, O>(
-    venue: &Venue<'a, R, S, L>,
-    pass: Pass<S>,
-    rings: UnboundedReceiver<()>,
-    host: Octets,
-    conn: Conn<W, O>,
-) -> SlotOf<'a, R, S, L, W, O>
-where
-    R: Wait + AllocGlobal,
-    S: Site,
-    L: Ledger,
-    W: Wire,
-    O: Source,
-    requires untold { IsReady (W.told conn.wire) (O.told conn.source) }
+// Crews for so many sessions, room for how these end, and the passes that are left over. Fails only for want of memory; all passes stay
+// then.
+fn stock<'u, S: Site, W: Wire, D: Desk, O: Source, B: Bell>(
+    alloc: Global,
+    workers: usize,
+    count: usize,
+    passes: &mut Vec<Pass<S>>,
+) -> Result<Stock<'u, S, W, D, O, B>, Memory>
+    requires { count ≤ vec_len passes.old }
+    ensures len { IfOk result (λ made. vec_len made.0 ≡ workers) }
+    ensures none { IfOk result (λ made. map (λ crew. crew.items) made.0.items ≡ replicate workers []) }
+    ensures room { IfOk result (λ made. All (λ crew. vec_len crew + count ≤ vec_capacity crew) made.0.items) }
+    ensures overs { IfOk result (λ made. (made.1.items ≡ []) × (count ≤ vec_capacity made.1)) }
+    ensures spare { IfOk result (λ made. (made.2.items ≡ drop count passes.old.items)
+        × (vec_len made.2 + count ≡ vec_len passes.old)) }
+    ensures first { OnOk result ((passes.new.items ≡ take count passes.old.items)
+        × (vec_len passes.new ≡ count)) }
+    ensures err { OnErr result (passes.new ≡ passes.old) }
 {
-    let alloc = venue.rt.alloc();
-    let desk = PassDesk::new(alloc, venue.rt, venue.served, venue.bells, pass);
-    let bell = ChannelBell::new(rings);
-    let task = SessionTask::new(alloc, conn, desk, bell, venue.users, host, venue.turns);
-    Slot { task, over: None }
+    let crews = no_crews(alloc, workers, count)?;
+    let overs = Vec::with_capacity(alloc, count)?;
+    let spare = passes.split_off(count)?;
+    Ok((crews, overs, spare))
 }
 
-// Puts an item into room that is there; where there is none, it is let go.
-fn put<T: Drop>(list: &mut Vec<T>, item: T) {
-    let _ = list.push(item);
-}
-
-// Puts each session into a slot, in room.
-fn fill<'a, R, S, L, W, O>(
-    venue: &Venue<'a, R, S, L>,
-    passes: &mut IntoIter<Pass<S>>,
-    stock: (Vec<UnboundedReceiver<()>>, Vec<Octets>),
-    conns: Vec<Conn<W, O>>,
-    slots: &mut Vec<SlotOf<'a, R, S, L, W, O>>,
-)
-where
-    R: Wait + AllocGlobal,
-    S: Site,
-    L: Ledger,
-    W: Wire,
-    O: Source,
-    requires untold { All (λ conn. IsReady (W.told conn.wire) (O.told conn.source)) conns.items }
-{
-    let (rings, hosts) = stock;
-    let mut rings = rings.into_iter();
-    let mut hosts = hosts.into_iter();
-    for conn in conns {
-        if let (Some(pass), Some(rings), Some(host)) = (passes.next(), rings.next(), hosts.next()) {
-            put(slots, slot_of(venue, pass, rings, host, conn));
-        }
-    }
-}
-
-// What a session gave back, and its pass.
-fn parts<'a, R, S, L, W, O>(slot: SlotOf<'a, R, S, L, W, O>) -> Option<(Done<W, O>, Pass<S>)>
-where
-    R: Wait,
-    S: Site,
-    L: Ledger,
-    W: Wire,
-    O: Source,
-{
-    let (running, end, polls) = into_parts(slot)?;
-    let Running {
-        wire,
-        desk,
-        source,
-        ..
-    } = running;
-    let done = Done {
-        wire,
-        source,
-        end,
-        polls,
-    };
-    Some((done, desk.into_seating().pass))
-}
-
-// Collects what the sessions of slots gave back, and the passes that had none, into room for all.
-fn collect<'a, R, S, L, W, O>(
-    slots: Vec<SlotOf<'a, R, S, L, W, O>>,
-    passes: IntoIter<Pass<S>>,
-    lists: Lists<S, W, O>,
-) -> Lists<S, W, O>
-where
-    R: Wait,
-    S: Site,
-    L: Ledger,
-    W: Wire,
-    O: Source,
-{
-    let Lists { mut left, mut done } = lists;
-    for slot in slots {
-        if let Some((one, pass)) = parts(slot) {
-            put(&mut done, one);
-            put(&mut left, pass);
-        }
-    }
-    for pass in passes {
-        put(&mut left, pass);
-    }
-    Lists { left, done }
-}
-
-// Runs sessions, and gives what they gave back. Where memory is refused before the first of them begins, passes and conns come back.
-fn run_in<'a, R, S, L, W, O>(
-    venue: &Venue<'a, R, S, L>,
+// Runs sessions, and gives what they left. Where memory is refused before the first of them begins, passes and conns come back.
+fn run_in<'u, 'b, R, S, L, W, O>(
+    venue: &Venue<'u, 'b, R, S, L>,
     passes: Vec<Pass<S>>,
     conns: Vec<Conn<W, O>>,
-    stock: (Vec<UnboundedReceiver<()>>, Vec<Octets>),
+    berths: Vec<Berth>,
     workers: usize,
-    lists: Lists<S, W, O>,
-) -> Result<Lists<S, W, O>, (Vec<Pass<S>>, Vec<Conn<W, O>>)>
+    lists: Lists<'u, S, W, O>,
+) -> Result<Lists<'u, S, W, O>, (Vec<Pass<S>>, Vec<Conn<W, O>>)>
 where
     R: Threads
         + Wait
@@ -362,32 +157,62 @@ where
     W: Wire + Send,
     O: Source + Send,
     requires workers { 0 < workers }
+    requires few { vec_len conns ≤ vec_len passes }
+    requires berths { vec_len berths ≡ vec_len conns }
+    requires hosts { All (λ berth. berth.host ≡ venue.now.host.now) berths.items }
     requires untold { All (λ conn. IsReady (W.told conn.wire) (O.told conn.source)) conns.items }
-    ensures { IfErr result (λ back. (back.0.items ≡ passes.items) × (back.1.items ≡ conns.items)) }
+    requires lists { (lists.done.items ≡ []) × (lists.passes.items ≡ [])
+        × (vec_len conns ≤ vec_capacity lists.done) × (vec_len passes ≤ vec_capacity lists.passes) }
+    ensures ends { IfOk result (λ made. map (λ end. end.running.parties) made.done.items
+        ≡ map (λ conn. between venue.now.users venue.now.host.now conn.user) conns.items) }
+    ensures seats { IfOk result (λ made. map (λ place. place.pass.seat) made.passes.items
+        ≡ map (λ pass. pass.seat) passes.items) }
+    ensures owes { IfOk result (λ made. map (λ place. place.owes_leave) made.passes.items
+        ≡ map (λ end. end.running.desk.owes_leave) made.done.items
+        ++ map (λ _. false) (drop (length conns.items) passes.items)) }
+    ensures err { IfErr result (λ back. (back.0.items ≡ passes.items) × (back.1.items ≡ conns.items)) }
 {
-    let Ok(mut slots) = Vec::with_capacity(venue.rt.alloc(), conns.len()) else {
+    let count = conns.len();
+    let mut passes = passes;
+    let Ok((mut crews, overs, spare)) = stock(venue.rt.alloc(), workers, count, &mut passes) else {
         return Err((passes, conns));
     };
-    let mut passes = passes.into_iter();
-    fill(venue, &mut passes, stock, conns, &mut slots);
-    run_slots(venue.rt, &mut slots, workers);
-    Ok(collect(slots, passes, lists))
+    fill(venue, passes, conns, berths, &mut crews);
+    run_slots(venue.rt, &mut crews);
+    let overs = collect(crews, count, overs);
+    Ok(put_back(part(overs, lists), spare))
+}
+
+// Room for what sessions leave. Fails only for want of memory.
+fn room<'u, S: Site, W: Wire, O: Source>(
+    alloc: Global,
+    sessions: usize,
+    passes: usize,
+) -> Result<Lists<'u, S, W, O>, Memory>
+    ensures { IfOk result (λ lists. (lists.done.items ≡ []) × (lists.passes.items ≡ [])
+        × (sessions ≤ vec_capacity lists.done) × (passes ≤ vec_capacity lists.passes)) }
+{
+    Ok(Lists {
+        passes: Vec::with_capacity(alloc, passes)?,
+        done: Vec::with_capacity(alloc, sessions)?,
+    })
 }
 
 /// Runs sessions, session i on worker i modulo `workers`, each worker a thread with a runtime of its own, until all have ended. Session
-/// i has pass i, and may make `turns` polls. A session whose worker can't be started ends with `Memory`. Nothing is run, and all comes
-/// back, where there are more sessions than passes, or memory is refused before the first of them begins. How sessions end is told by
-/// no clause, since that is known by other threads.
-pub fn run_sessions<'a, R, S, L, W, O>(
-    rt: &'a R,
+/// i has pass i, and may make `turns` polls. What each of them leaves comes back in their order, and so do the passes. A session that has
+/// not ended when its worker has, or whose worker has no runtime, ends with `Memory`, after its Leave. Where the system refuses a thread,
+/// the worker runs on the one that was to start it. Nothing is run, and all comes back, where there are more sessions than passes, or
+/// memory is refused before the first of them begins.
+pub fn run_sessions<'u, R, S, L, W, O>(
+    rt: &R,
     served: Served<S, L>,
     passes: Vec<Pass<S>>,
     conns: Vec<Conn<W, O>>,
     workers: usize,
-    users: &'a Users,
+    users: &'u Users,
     host: &Octets,
     turns: u64,
-) -> Result<Ran<S, L, W, O>, NotRun<S, L, W, O>>
+) -> Result<Ran<'u, S, L, W, O>, NotRun<S, L, W, O>>
 where
     R: Threads
         + Wait
@@ -404,38 +229,33 @@ where
     requires turns { 0 < turns }
     requires untold { All (λ conn. IsReady (W.told conn.wire) (O.told conn.source)) conns.items }
     ensures few { OnOk result (length conns.items ≤ length passes.items) }
+    ensures ends { IfOk result (λ ran. map (λ end. end.running.parties) ran.done.items
+        ≡ map (λ conn. between users.entry host.now conn.user) conns.items) }
+    ensures seats { IfOk result (λ ran. map (λ place. place.pass.seat) ran.passes.items
+        ≡ map (λ pass. pass.seat) passes.items) }
+    ensures owes { IfOk result (λ ran. map (λ place. place.owes_leave) ran.passes.items
+        ≡ map (λ end. end.running.desk.owes_leave) ran.done.items
+        ++ map (λ _. false) (drop (length conns.items) passes.items)) }
     ensures many { IfErr result (λ n. IfTooMany n.fault (length passes.items < length conns.items)) }
     ensures served { IfErr result (λ n. n.served ≡ served) }
     ensures passes { IfErr result (λ n. n.passes.items ≡ passes.items) }
     ensures conns { IfErr result (λ n. n.conns.items ≡ conns.items) }
 {
     let alloc = rt.alloc();
-    if conns.len() > passes.len() {
+    let count = conns.len();
+    if count > passes.len() {
         return Err(NotRun::new(RunFault::TooManySessions, served, passes, conns));
     }
-    let stock = Stock::new(alloc, &passes, conns.len(), host);
-    let lists = Lists::new(alloc, conns.len(), passes.len());
-    let (Ok(stock), Ok(lists)) = (stock, lists) else {
+    let stock = berths(alloc, &passes, count, host);
+    let lists = room(alloc, count, passes.len());
+    let (Ok((bells, berths)), Ok(lists)) = (stock, lists) else {
         return Err(NotRun::new(RunFault::Memory, served, passes, conns));
     };
-    let Stock {
-        bells,
-        rings,
-        hosts,
-    } = stock;
-    let stock = (rings, hosts);
-    let venue = Venue {
-        rt,
-        served: &served,
-        bells: &bells,
-        users,
-        turns,
-    };
-    let ran = run_in(&venue, passes, conns, stock, workers, lists);
-    match ran {
-        Ok(Lists { left, done }) => Ok(Ran {
+    let venue = Venue::new(rt, &served, &bells, users, host, turns);
+    match run_in(&venue, passes, conns, berths, workers, lists) {
+        Ok(Lists { passes, done }) => Ok(Ran {
             served,
-            passes: left,
+            passes,
             done,
         }),
         Err((passes, conns)) => Err(NotRun::new(RunFault::Memory, served, passes, conns)),

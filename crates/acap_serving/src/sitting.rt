@@ -1,6 +1,8 @@
-//! The sessions of one worker.
+//! The clients of one worker.
 use crate::hall::Job;
-use crate::office::{Done, Office, Task};
+use crate::leaving::Leaving;
+use crate::office::{Office, Task};
+use crate::parting::Parting;
 use acap_locked::Site;
 use futures::task::{Context, Poll};
 use futures::{Future, Stream, ready};
@@ -9,42 +11,94 @@ use std::random::RandomSource;
 use std::sync::Wait;
 use std::sync::ledger::Ledger;
 use std::time::Clock;
-use tokio::reactor::Handle;
+use tokio::runtime::Handle;
 use tokio::sync::mpsc::UnboundedReceiver;
+use tokio::time::Sleep;
 
 /// So many jobs at which no session begins are looked at in one poll.
 const BUDGET: u32 = 64;
 
-/// A session with the office that takes its place back.
-#[derive(Drop)]
-pub(crate) struct Sitting<'a, R: Wait, S: Site, L: Ledger, T> {
+/// A client at a worker: its session, and then its stream until that is closed. Where it is let go before, as when the worker's runtime
+/// ends, the session is ended then, and its place comes back.
+pub(crate) struct Sitting<'a, R: Wait, S: Site, L: Ledger, T: Leaving<S>> {
     office: &'a Office<'a, R, S, L>,
-    task: T,
+    task: Option<T>,
+    timer: Option<Sleep>,
+    parting: Option<Parting>,
 }
 
-impl<'a, R, S, L, T> Future for Sitting<'a, R, S, L, T>
-where
-    R: Wait + Clock + RandomSource + AllocGlobal,
-    S: Site,
-    L: Ledger,
-    T: Future<Output = Done<'a, R, S, L>>,
-{
+impl<'a, R: Wait, S: Site, L: Ledger, T: Leaving<S>> Sitting<'a, R, S, L, T> {
+    /// A session, with a timer for its stream's end.
+    pub(crate) fn new(
+        office: &'a Office<'a, R, S, L>,
+        task: T,
+        timer: Sleep,
+    ) -> Sitting<'a, R, S, L, T> {
+        Sitting {
+            office,
+            task: Some(task),
+            timer: Some(timer),
+            parting: None,
+        }
+    }
+
+    /// A stream that is read to its end.
+    pub(crate) fn parting(
+        office: &'a Office<'a, R, S, L>,
+        parting: Parting,
+    ) -> Sitting<'a, R, S, L, T> {
+        Sitting {
+            office,
+            task: None,
+            timer: None,
+            parting: Some(parting),
+        }
+    }
+}
+
+impl<R: Wait + Clock, S: Site, L: Ledger, T: Leaving<S>> Future for Sitting<'_, R, S, L, T> {
     type Output = ();
 
-    ghost can_poll = { λ s. T.can_poll s.task };
-
     fn poll(&mut self, cx: &mut Context<'_>) -> Poll<()> {
-        let done = ready!(self.task.poll(cx));
-        self.office.end(done);
+        if let Some(task) = &mut self.task {
+            let left = ready!(task.go_on(cx));
+            self.task = None;
+            let stream = self.office.end(left);
+            self.parting = self.office.part(stream, self.timer.take());
+        }
+        if let Some(parting) = &mut self.parting {
+            ready!(parting.go_on(cx));
+            self.parting = None;
+            self.office.has_parted();
+        }
         Poll::Ready(())
     }
 }
 
-/// The sessions of the jobs of a channel, as the jobs come. That the worker has begun is noted at the first look.
+impl<R: Wait, S: Site, L: Ledger, T: Leaving<S>> Drop for Sitting<'_, R, S, L, T> {
+    fn drop(self) {
+        let Sitting {
+            office,
+            task,
+            timer,
+            parting,
+        } = self;
+        drop(timer);
+        if let Some(task) = task {
+            office.cut_off(task.end());
+        }
+        if let Some(parting) = parting {
+            drop(parting);
+            office.has_parted();
+        }
+    }
+}
+
+/// The clients of the jobs of a channel, as the jobs come. That the worker has begun is noted at the first look.
 #[derive(Drop)]
 pub(crate) struct Sittings<'a, R: Wait, S: Site, L: Ledger> {
     office: &'a Office<'a, R, S, L>,
-    jobs: UnboundedReceiver<Job<S>>,
+    jobs: &'a mut UnboundedReceiver<Job<S>>,
     handle: Handle,
     begun: bool,
 }
@@ -55,10 +109,10 @@ where
     S: Site,
     L: Ledger,
 {
-    /// Those of the thread with that reactor.
+    /// Those of the thread with that runtime.
     pub(crate) fn new(
         office: &'a Office<'a, R, S, L>,
-        jobs: UnboundedReceiver<Job<S>>,
+        jobs: &'a mut UnboundedReceiver<Job<S>>,
         handle: Handle,
     ) -> Sittings<'a, R, S, L> {
         Sittings {
@@ -73,7 +127,7 @@ where
     fn begin(&mut self) {
         if !self.begun {
             self.begun = true;
-            self.office.note(true);
+            self.office.begin_worker();
         }
     }
 }
@@ -95,9 +149,8 @@ where
             let Some(job) = ready!(self.jobs.poll_recv(cx)) else {
                 return Poll::Ready(None);
             };
-            if let Some(task) = self.office.begin(job, &self.handle) {
-                let office = self.office;
-                return Poll::Ready(Some(Sitting { office, task }));
+            if let Some(sitting) = self.office.begin(job, &self.handle) {
+                return Poll::Ready(Some(sitting));
             }
         }
         cx.yield_now()

@@ -1,69 +1,92 @@
 //! A session that lies with whoever started its worker.
-ghost use Rattle.futures.specs.Poll.{OnPending};
+ghost use Rattle.std.specs.Prelude.{◌≡◌, ◌+◌, ◌≤◌, None, Some, IfSome, IsSomeAnd};
+ghost use Rattle.std.specs.Option.{option_map};
+ghost use Rattle.acap_serving.specs.Ends.{whose_of};
+ghost use Rattle.futures.specs.Poll.{IfReady, OnPending};
 ghost use Rattle.futures.specs.Task.{IsArmed, Keeps};
 
-use acap_task::{Bell, Desk, Over, Running, SessionTask, Source, TaskEnd, Wire};
-use futures::Future;
+use acap_task::{Bell, Desk, Over, SessionTask, Source, Wire};
 use futures::task::{Context, Poll};
 
 /// What is polled until it has ended, and may be polled at any time.
-pub(crate) trait Ending {
-    /// What is left of it then.
-    type Left;
+pub(crate) trait Ending: Drop {
+    ghost use Rattle.std.specs.Prelude.{Option};
+    ghost use Rattle.acap_serving.specs.Ends.{Whose};
 
-    /// One poll.
-    fn advance(&mut self, cx: &mut Context<'_>) -> Poll<Self::Left>
+    // Whose it is, if it is anybody's.
+    ghost whose: { Self → Option Whose };
+
+    /// One poll, which leaves it whose it was.
+    fn advance(&mut self, cx: &mut Context<'_>) -> Poll<()>
+        ensures same { whose self.new ≡ whose self.old }
         ensures armed { OnPending result (IsArmed cx.new) }
         ensures kept { Keeps cx.old cx.new };
-}
-
-impl<'u, W: Wire, D: Desk, O: Source, B: Bell> Ending for SessionTask<'u, W, D, O, B> {
-    type Left = Over<'u, W, D, O, B>;
-
-    fn advance(&mut self, cx: &mut Context<'_>) -> Poll<Over<'u, W, D, O, B>> {
-        self.go_on(cx)
-    }
 }
 
 /// A session, and what is left of it once it has ended. It lies with whoever started the workers, so that none is lost where a worker
 /// can't be started.
 #[derive(Drop)]
-pub(crate) struct Slot<T, E> {
-    pub(crate) task: T,
-    pub(crate) over: Option<E>,
+pub(crate) struct Slot<'u, W: Wire, D: Desk, O: Source, B: Bell> {
+    task: SessionTask<'u, W, D, O, B>,
+    over: Option<Over<'u, W, D, O, B>>,
 }
 
-/// The slot of a session that stands on these.
-pub(crate) type SessionSlot<'u, W, D, O, B> = Slot<
-    SessionTask<'u, W, D, O, B>,
-    Over<'u, W, D, O, B>,
->;
+impl<'u, W: Wire, D: Desk, O: Source, B: Bell> Slot<'u, W, D, O, B> {
+    /// The slot of a session that has not ended.
+    pub(crate) fn new(task: SessionTask<'u, W, D, O, B>) -> Slot<'u, W, D, O, B>
+        ensures { (result.task ≡ task.entry) × (result.over ≡ None) }
+    {
+        Slot { task, over: None }
+    }
 
-/// What the session of a slot stood on, how it ended, and how often it was polled. One that has not ended ends with `Memory`. `None`
-/// where there is nothing any more that it stands on, which no session comes to without an end.
-pub(crate) fn into_parts<'u, W: Wire, D: Desk, O: Source, B: Bell>(
-    slot: SessionSlot<'u, W, D, O, B>,
-) -> Option<(Running<'u, W, D, O, B>, TaskEnd, u64)> {
-    let Slot { task, over } = slot;
-    match over {
-        Some(over) => Some((over.running, over.end, over.polls)),
-        None => Some((task.running?, TaskEnd::Memory, task.polls)),
+    /// How its session ended. One that has not ended ends with `Memory`, after its Leave. `None` where there is no session.
+    pub(crate) fn into_over(self) -> Option<Over<'u, W, D, O, B>>
+        ensures over { IfSome self.entry.over (λ o. result ≡ Some o) }
+        ensures task { self.entry.over ≡ None → IfSome self.entry.task.running (λ r. IsSomeAnd result (λ o.
+            (o.running.parties ≡ r.parties) × (D.seat o.running.desk ≡ D.seat r.desk))) }
+    {
+        let Slot { task, over } = self;
+        match over {
+            Some(over) => Some(over),
+            None => task.end(),
+        }
     }
 }
 
-/// The session of a slot as a future.
-#[derive(Drop)]
-pub(crate) struct Occupied<'a, T, E> {
-    pub(crate) slot: &'a mut Slot<T, E>,
-}
+impl<W: Wire, D: Desk, O: Source, B: Bell> Ending for Slot<'_, W, D, O, B> {
+    ghost use Rattle.std.specs.Prelude.{◌≡◌, ◌+◌, ◌≤◌, None, IfSome, IsSomeAnd};
+    ghost use Rattle.std.specs.Option.{option_map};
+    ghost use Rattle.acap_serving.specs.Ends.{whose_of};
+    ghost use Rattle.futures.specs.Poll.{IfReady, OnPending};
+    ghost use Rattle.futures.specs.Task.{IsArmed, Keeps};
+    ghost use Rattle.acap_task.specs.Progress.{progress};
+    ghost use Rattle.acap_task.specs.Waiting.{Waits};
 
-impl<T: Ending<Left = E>, E: Drop> Future for Occupied<'_, T, E> {
-    type Output = ();
+    ghost whose = { λ s. whose_of (option_map (λ o. (o.running.parties, D.seat o.running.desk)) s.over)
+        (option_map (λ r. (r.parties, D.seat r.desk)) s.task.running) };
 
-    fn poll(&mut self, cx: &mut Context<'_>) -> Poll<()> {
-        match self.slot.task.advance(cx) {
+    fn advance(&mut self, cx: &mut Context<'_>) -> Poll<()>
+        ensures same { whose_of (option_map (λ o. (o.running.parties, D.seat o.running.desk)) self.new.over)
+            (option_map (λ r. (r.parties, D.seat r.desk)) self.new.task.running)
+            ≡ whose_of (option_map (λ o. (o.running.parties, D.seat o.running.desk)) self.old.over)
+            (option_map (λ r. (r.parties, D.seat r.desk)) self.old.task.running) }
+        ensures over { IfReady result (λ _. self.old.over ≡ None → IfSome self.old.task.running (λ r.
+            IsSomeAnd self.new.over (λ o. (o.turns ≡ self.old.task.turns)
+            × (o.polls ≡ self.old.task.polls + 1) × (o.running.parties ≡ r.parties)))) }
+        ensures count { OnPending result ((self.new.task.turns ≡ self.old.task.turns)
+            × IfSome self.old.task.running (λ _. self.new.task.polls ≡ self.old.task.polls + 1)) }
+        ensures waits { OnPending result (IfSome self.old.task.running (λ r. IsSomeAnd self.new.task.running (λ q.
+            (q.parties ≡ r.parties) × Waits q.parties.users.now (W.told r.wire) (W.told q.wire)
+            (B.told r.bell) (B.told q.bell) (progress r.course) (progress q.course)))) }
+        ensures armed { OnPending result (IsArmed cx.new) }
+        ensures kept { Keeps cx.old cx.new }
+    {
+        if self.over.is_some() || self.task.running.is_none() {
+            return Poll::Ready(());
+        }
+        match self.task.go_on(cx) {
             Poll::Ready(over) => {
-                self.slot.over = Some(over);
+                self.over = Some(over);
                 Poll::Ready(())
             }
             Poll::Pending => Poll::Pending,

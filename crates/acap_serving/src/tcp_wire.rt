@@ -34,6 +34,11 @@ impl TcpWire {
             write_waits: 0,
         }
     }
+
+    /// The stream.
+    pub(crate) fn into_stream(self) -> TcpStream {
+        self.stream
+    }
 }
 
 impl Wire for TcpWire {

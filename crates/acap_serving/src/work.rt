@@ -16,8 +16,8 @@ use std::time::Clock;
 use tokio::runtime::LocalRuntime;
 use tokio::sync::mpsc::UnboundedReceiver;
 
-/// The most sessions at once.
-const SESSIONS: usize = 64;
+/// The most futures at once: 64 sessions, and 64 streams that are read to their ends.
+const FUTURES: usize = 128;
 
 /// Polls the futures of a stream until it ends and all of them have ended, each once it is woken.
 pub(crate) fn run_stream<R, T, F>(rt: &R, runtime: &mut LocalRuntime, stream: T) -> io::Result<()>
@@ -28,7 +28,7 @@ where
     requires stream { T.can_poll stream }
     requires items { AllItems (T.yields stream) F.can_poll }
 {
-    let all = stream.buffer_unordered(rt.alloc(), SESSIONS)?.count();
+    let all = stream.buffer_unordered(rt.alloc(), FUTURES)?.count();
     let _count = runtime.block_on(rt, all)?;
     Ok(())
 }
@@ -36,7 +36,7 @@ where
 // Serves the jobs of a channel until it ends and their sessions have ended.
 fn serve_jobs<R, S, L>(
     office: &Office<'_, R, S, L>,
-    jobs: UnboundedReceiver<Job<S>>,
+    jobs: &mut UnboundedReceiver<Job<S>>,
 ) -> io::Result<()>
 where
     R: Wait + Clock + Net + RandomSource + AllocGlobal,
@@ -44,7 +44,7 @@ where
     L: Ledger,
 {
     let mut runtime = LocalRuntime::new(office.rt)?;
-    let handle = runtime.handle().reactor().clone()?;
+    let handle = runtime.handle().clone()?;
     let sittings = Sittings::new(office, jobs, handle);
     run_stream(office.rt, &mut runtime, sittings)
 }
@@ -56,7 +56,8 @@ pub(crate) trait Working<J> {
 }
 
 /// A worker: a thread with a runtime of its own, which polls each session that comes by its channel once that is woken. It ends with
-/// the channel, when its sessions have ended.
+/// the channel, when its sessions have ended, or where its runtime can't go on: its sessions are ended then, and the jobs that it has
+/// not begun are left to others.
 impl<R, S, L> Working<UnboundedReceiver<Job<S>>> for Office<'_, R, S, L>
 where
     R: Wait + Clock + Net + RandomSource + AllocGlobal,
@@ -64,8 +65,15 @@ where
     L: Ledger,
 {
     fn work(&self, jobs: UnboundedReceiver<Job<S>>) {
-        if serve_jobs(self, jobs).is_err() {
-            self.note(false);
+        let mut jobs = jobs;
+        let _ = serve_jobs(self, &mut jobs);
+        jobs.close();
+        for _ in self.rt.forever() {
+            let Ok(job) = jobs.try_recv() else {
+                break;
+            };
+            self.leave(job);
         }
+        self.end_worker();
     }
 }

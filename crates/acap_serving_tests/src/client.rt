@@ -28,6 +28,11 @@ fn wrong(why: &'static str) -> io::Error {
     io::Error::other(why)
 }
 
+// The challenge that a line holds.
+fn challenge_in(line: &[u8]) -> Option<&[u8]> {
+    line.strip_prefix(b"+ \"")?.strip_suffix(b"\"\r\n")
+}
+
 // What a user answers to a challenge (RFC 2195), as a line.
 fn answer_of(alloc: Global, user: &[u8], secret: &[u8], challenge: &[u8]) -> io::Result<Vec<u8>> {
     let mut answer = Vec::from_slice(alloc, b"\"")?;
@@ -132,17 +137,20 @@ impl Client {
         Ok(self.heard.as_slice())
     }
 
-    /// Logs in (RFC 2195) once it was greeted, and says whether that was right.
-    pub(crate) fn logs_in(&mut self, user: &[u8], secret: &[u8]) -> io::Result<bool> {
+    /// Asks to log in (RFC 2195) once it was greeted, and hears the challenge.
+    pub(crate) fn challenge(&mut self) -> io::Result<Vec<u8>> {
         self.send(b"L1 AUTHENTICATE \"CRAM-MD5\"\r\n")?;
         let line = self.line()?;
-        let Some(challenge) = line.strip_prefix(b"+ \"") else {
-            return Ok(false);
-        };
-        let Some(challenge) = challenge.strip_suffix(b"\"\r\n") else {
-            return Ok(false);
-        };
-        let answer = answer_of(self.alloc, user, secret, challenge)?;
+        match challenge_in(&line) {
+            Some(challenge) => Ok(Vec::from_slice(self.alloc, challenge)?),
+            None => Err(wrong("no challenge")),
+        }
+    }
+
+    /// Logs in, and says whether that was right.
+    pub(crate) fn logs_in(&mut self, user: &[u8], secret: &[u8]) -> io::Result<bool> {
+        let challenge = self.challenge()?;
+        let answer = answer_of(self.alloc, user, secret, &challenge)?;
         self.is_told(&answer, b"L1 OK \"AUTHENTICATE done\"\r\n")
     }
 }

@@ -30,22 +30,42 @@ impl Source for OneMoment {
     }
 }
 
-/// What a reader waits for.
+/// Where a reader waits for the other session's flag, if anywhere.
 #[derive(Clone, Copy, PartialEq, Eq)]
 pub(crate) enum Stop {
-    /// Nothing.
+    /// Nowhere.
     Nowhere,
-    /// At this place of its text it is not ready until the other session's flag is set.
+    /// At this place of its text, from poll to poll: it isn't ready until the flag is set.
     At(usize),
-    /// It sets its own flag, and looks within one poll for that of the other session.
-    ForFlag,
+    /// At this place of its text, within one poll: it looks again and again.
+    Within(usize),
 }
 
-/// A wire over a text. It tells none of its octets, and sets its flag when it has written the answer to a NOOP.
+/// When a wire sets its own flag.
+#[derive(Clone, Copy, PartialEq, Eq)]
+pub(crate) enum Sign {
+    /// When its reader first waits.
+    Waiting,
+    /// When it has written this.
+    Written(&'static [u8]),
+}
+
+impl Sign {
+    // Whether the flag is to be set after such an output.
+    fn is_given(self, output: &[u8]) -> bool {
+        match self {
+            Sign::Waiting => false,
+            Sign::Written(end) => output.ends_with(end),
+        }
+    }
+}
+
+/// A wire over a text. It tells none of its octets.
 #[derive(Drop)]
 pub(crate) struct WaitingWire<'a> {
     text: &'a [u8],
     stop: Stop,
+    sign: Sign,
     mine: &'a AtomicBool,
     other: &'a AtomicBool,
     pub(crate) output: Vec<u8>,
@@ -56,19 +76,21 @@ pub(crate) struct WaitingWire<'a> {
 }
 
 impl<'a> WaitingWire<'a> {
-    /// A wire that waits so, with its own flag and that of the other session.
+    /// A wire that waits so, and sets its flag then. The flags are its own and that of the other session.
     pub(crate) fn new(
         text: &'a [u8],
         stop: Stop,
-        mine: &'a AtomicBool,
-        other: &'a AtomicBool,
+        sign: Sign,
+        flags: (&'a AtomicBool, &'a AtomicBool),
         output: Vec<u8>,
     ) -> WaitingWire<'a>
         ensures { ⟦<WaitingWire<'a> as Wire>⟧.told result ≡ silent_wire }
     {
+        let (mine, other) = flags;
         WaitingWire {
             text,
             stop,
+            sign,
             mine,
             other,
             output,
@@ -86,16 +108,18 @@ impl<'a> WaitingWire<'a> {
             × (self.new.write_faults ≡ self.old.write_faults) × (self.new.waits ≡ self.old.waits) }
     {
         let most = match self.stop {
-            Stop::At(place) => place,
-            Stop::Nowhere | Stop::ForFlag => self.text.len(),
+            Stop::At(place) | Stop::Within(place) => place,
+            Stop::Nowhere => self.text.len(),
         };
         let count = most.min(self.text.len()).min(buffer.len());
-        let (front, rest) = self.text.split_at(count);
-        buffer[..count].copy_from_slice(front);
-        self.text = rest;
-        if let Stop::At(place) = self.stop {
-            self.stop = Stop::At(place - count);
-        }
+        let (now, later) = self.text.split_at(count);
+        buffer[..count].copy_from_slice(now);
+        self.text = later;
+        self.stop = match self.stop {
+            Stop::At(place) => Stop::At(place - count),
+            Stop::Within(place) => Stop::Within(place - count),
+            Stop::Nowhere => Stop::Nowhere,
+        };
         count
     }
 }
@@ -119,35 +143,40 @@ enum Gate {
     Never,
 }
 
+// Whether a reader that has waited so often may go on at one poll, while other threads run.
+fn look(flag: &AtomicBool, waits: u64) -> Gate {
+    if flag.load(Ordering::SeqCst) {
+        return Gate::Open;
+    }
+    thread::yield_now();
+    if waits < TIMES {
+        Gate::Waits
+    } else {
+        Gate::Never
+    }
+}
+
 impl WaitingWire<'_> {
     // Whether it may go on, after it has done what it does while it waits.
     fn gate(&mut self) -> Gate
         ensures kept { (self.new.ended ≡ self.old.ended) × (self.new.faults ≡ self.old.faults)
             × (self.new.write_faults ≡ self.old.write_faults) × (self.new.waits ≡ self.old.waits) }
     {
-        match self.stop {
-            Stop::At(0) if !self.other.load(Ordering::SeqCst) => {
-                thread::yield_now();
-                if self.waits < TIMES {
-                    Gate::Waits
-                } else {
-                    Gate::Never
-                }
-            }
-            Stop::ForFlag => {
-                self.mine.store(true, Ordering::SeqCst);
-                if !is_seen(self.other) {
-                    return Gate::Never;
-                }
-                self.stop = Stop::Nowhere;
-                Gate::Open
-            }
-            Stop::At(0) => {
-                self.stop = Stop::Nowhere;
-                Gate::Open
-            }
-            Stop::At(_) | Stop::Nowhere => Gate::Open,
+        if !matches!(self.stop, Stop::At(0) | Stop::Within(0)) {
+            return Gate::Open;
         }
+        if self.sign == Sign::Waiting {
+            self.mine.store(true, Ordering::SeqCst);
+        }
+        let gate = match self.stop {
+            Stop::Within(_) if is_seen(self.other) => Gate::Open,
+            Stop::Within(_) => Gate::Never,
+            Stop::At(_) | Stop::Nowhere => look(self.other, self.waits),
+        };
+        if matches!(gate, Gate::Open) {
+            self.stop = Stop::Nowhere;
+        }
+        gate
     }
 }
 
@@ -202,7 +231,7 @@ impl Wire for WaitingWire<'_> {
             self.write_faults = count_up(self.write_faults);
             return Poll::Ready(Err(WireFault));
         }
-        if self.output.ends_with(b"OK \"NOOP done\"\r\n") {
+        if self.sign.is_given(&self.output) {
             self.mine.store(true, Ordering::SeqCst);
         }
         self.write_faults = faults_after(self.write_faults, octets.len());

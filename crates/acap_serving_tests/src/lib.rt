@@ -3,6 +3,10 @@
 #![tactic(auto)]
 
 #[cfg(test)]
+mod calling;
+#[cfg(test)]
+mod calls;
+#[cfg(test)]
 mod client;
 #[cfg(test)]
 mod failing;
@@ -13,10 +17,18 @@ mod meeting;
 #[cfg(test)]
 mod pieces;
 #[cfg(test)]
+mod places;
+#[cfg(test)]
+mod ringing;
+#[cfg(test)]
 mod server;
 #[cfg(test)]
 mod serving;
 #[cfg(test)]
+mod sources;
+#[cfg(test)]
 mod stage;
 #[cfg(test)]
 mod together;
+#[cfg(test)]
+mod workers;

@@ -1,9 +1,11 @@
 //! Meetings: who comes to a server, what each client says, and what it must be told.
 use crate::client::Client;
+use crate::sources::{are_challenged, is_dated};
 use crate::stage::HELLO;
 use std::alloc::AllocGlobal;
 use std::io;
 use std::net::{Net, SocketAddr, TcpListener, TcpStream};
+use std::time::Clock;
 
 /// What a client is told for which there is no place.
 const FULL: &[u8] = b"* BYE \"Too many sessions\"\r\n";
@@ -29,6 +31,8 @@ pub(crate) enum Deed {
     IsDeaf,
     /// It sends 300,000 octets of garbage, or as many as the server takes.
     IsNoisy,
+    /// It stores, waits a second, and stores again: the moments of both are as far apart.
+    IsDated,
 }
 
 /// What happens at a meeting. Clients have numbers from 0 on, in the order in which they come.
@@ -44,11 +48,13 @@ pub(crate) enum Step {
     LogsIn(&'static [u8], &'static [u8]),
     /// The last that came goes away without a word.
     GoesAway,
+    /// The clients with these numbers ask to log in, one after the other: no nonce comes twice.
+    AreChallenged(&'static [usize]),
     /// The client with that number does this.
     By(usize, Deed),
 }
 
-// Puts a client behind the others.
+// Puts a client after the others.
 fn put<T: Drop>(clients: &mut Vec<T>, client: T) -> io::Result<()> {
     match clients.push(client) {
         Ok(()) => Ok(()),
@@ -151,7 +157,7 @@ impl Client {
     }
 
     // Does what it should, and says whether it heard what it should.
-    fn does(&mut self, deed: Deed) -> io::Result<bool> {
+    fn does<R: Clock>(&mut self, rt: &R, deed: Deed) -> io::Result<bool> {
         match deed {
             Deed::Sends(times, octets) => self.send_times(times, octets)?,
             Deed::SendsSlowly(octets) => self.send_slowly(octets)?,
@@ -162,6 +168,7 @@ impl Client {
             Deed::IsLeft => return Ok(self.rest()?.is_empty()),
             Deed::IsDeaf => flood(self)?,
             Deed::IsNoisy => throw(self),
+            Deed::IsDated => return is_dated(rt, self),
         }
         Ok(true)
     }
@@ -171,7 +178,7 @@ impl Step {
     // Whether the step came true.
     fn comes_true<R>(self, rt: &R, at: SocketAddr, clients: &mut Vec<Client>) -> io::Result<bool>
     where
-        R: Net<Listener = TcpListener, Stream = TcpStream> + AllocGlobal,
+        R: Clock + Net<Listener = TcpListener, Stream = TcpStream> + AllocGlobal,
     {
         match self {
             Step::Come(count) => come(rt, at, count, clients)?,
@@ -185,9 +192,10 @@ impl Step {
                 };
             }
             Step::GoesAway => drop(clients.pop()),
+            Step::AreChallenged(numbers) => return are_challenged(rt.alloc(), clients, numbers),
             Step::By(number, deed) => {
                 return match clients.get_mut(number) {
-                    Some(client) => client.does(deed),
+                    Some(client) => client.does(rt, deed),
                     None => Ok(false),
                 };
             }
@@ -209,7 +217,7 @@ pub(crate) struct Meeting {
 // Whether all steps come true, one after the other.
 fn come_true<R>(steps: &[Step], rt: &R, at: SocketAddr) -> io::Result<bool>
 where
-    R: Net<Listener = TcpListener, Stream = TcpStream> + AllocGlobal,
+    R: Clock + Net<Listener = TcpListener, Stream = TcpStream> + AllocGlobal,
 {
     let mut clients = Vec::new(rt.alloc());
     for step in steps {
@@ -224,7 +232,7 @@ impl Meeting {
     /// Whether all steps of all rounds come true, at that address.
     pub(crate) fn comes_true<R>(&self, rt: &R, at: SocketAddr) -> io::Result<bool>
     where
-        R: Net<Listener = TcpListener, Stream = TcpStream> + AllocGlobal,
+        R: Clock + Net<Listener = TcpListener, Stream = TcpStream> + AllocGlobal,
     {
         for _ in 0..self.rounds {
             if !come_true(self.steps, rt, at)? {

@@ -29,7 +29,7 @@ const JOE: Step = Step::LogsIn(b"joe", b"secret");
 /// Ann logs in.
 const ANN: Step = Step::LogsIn(b"ann", b"hush");
 
-const MEETINGS: [Meeting; 6] = [
+const MEETINGS: [Meeting; 8] = [
     Meeting {
         name: "one stores, and another finds it and is told of a change",
         start: None,
@@ -125,6 +125,20 @@ const MEETINGS: [Meeting; 6] = [
             Step::By(2, Deed::IsNoisy),
             Step::By(1, NOOP),
         ],
+    },
+    Meeting {
+        name: "no two logins have the same nonce",
+        start: None,
+        sessions: 2,
+        rounds: 1,
+        steps: &[Step::Come(2), Step::AreChallenged(&[0, 1, 1])],
+    },
+    Meeting {
+        name: "the moments of two STOREs are as far apart as the two",
+        start: None,
+        sessions: 1,
+        rounds: 1,
+        steps: &[JOE, Step::By(0, Deed::IsDated)],
     },
     Meeting {
         name: "a place is used again",

@@ -6,7 +6,7 @@ ghost use Rattle.acap_locked.specs.Shelf.{no_machine};
 
 use acap_commands::Event;
 use acap_entries::{Moment, Octets, Steps, UserName};
-use acap_locked::{Pass, Item, Served, Site};
+use acap_locked::{Item, Pass, Served, Site};
 use acap_login::Users;
 use acap_machine::State;
 use acap_rights::Realm;

@@ -1,207 +1,148 @@
 //! Tests of sessions on several workers.
-ghost use Rattle.std.specs.Prelude.{◌≡◌, ◌<◌, All, IfOk, None};
+ghost use Rattle.std.specs.Prelude.{◌≡◌, None};
 ghost use Rattle.acap_serving.specs.Devices.{silent_wire};
 
-use crate::gate::{OneMoment, Stop, WaitingWire};
-use crate::stage::HELLO;
-use acap_entries::{Memory, Octets, Steps, UserName};
-use acap_locked::{Pass, Served, Site};
-use acap_login::Users;
-use acap_machine::State;
-use acap_rights::Realm;
-use acap_serving::{Ran, run_sessions};
-use acap_task::{Conn, TaskEnd, Wire};
+use crate::gate::{Sign, Stop, WaitingWire};
+use crate::workers::{Outcome, conn_of, is_told, run_all};
+use acap_entries::Memory;
+use acap_task::Wire;
 use std::alloc::{AllocGlobal, Global};
-use std::marker::Brand;
 use std::net::{Net, TcpListener, TcpStream};
 use std::random::RandomSource;
 use std::sync::Wait;
 use std::sync::atomic::AtomicBool;
-use std::sync::ledger::{Blank, Ledger};
 use std::test::Fail;
 use std::thread::Threads;
 use std::time::Clock;
 
-/// With so many polls a session ends.
-const TURNS: u64 = 10_000_000;
-
-/// What sessions came to: how each ended and what it was told, and how many events the history has.
-#[derive(Drop)]
-struct Outcome {
-    told: Vec<(TaskEnd, Vec<u8>)>,
-    events: usize,
+/// One of two sessions: its user, what it sends, where its reader waits, when it sets its flag, and what should be answered after the
+/// greeting.
+#[derive(Clone, Copy)]
+struct Side {
+    user: &'static [u8],
+    text: &'static [u8],
+    stop: Stop,
+    sign: Sign,
+    told: &'static [u8],
 }
 
-// A session of a user over a wire.
-fn conn_of<'a>(
-    alloc: Global,
-    user: &[u8],
-    wire: WaitingWire<'a>,
-) -> Result<Conn<WaitingWire<'a>, OneMoment>, Memory>
-    ensures { IfOk result (λ conn. conn.wire ≡ wire.entry) }
-{
-    match UserName::read(alloc, user) {
-        Ok(user) => Ok(Conn {
-            wire,
-            user: Some(user),
-            source: OneMoment,
-        }),
-        Err(_) => Err(Memory),
-    }
+/// Two sessions, each on a worker of its own.
+#[derive(Clone, Copy)]
+struct Pair {
+    one: Side,
+    other: Side,
 }
 
-// How many events the history of a machine has, if it can be closed.
-fn events_of<S: Site, L: Ledger>(served: Served<S, L>, passes: Vec<Pass<S>>) -> Option<usize> {
-    match served.close(passes) {
-        Ok(report) => Some(report.history.len()),
-        Err(_) => None,
-    }
-}
+/// Joe stops within a literal, after `hel`, and sets his flag there. He goes on once the other's is set.
+const JOE: Side = Side {
+    user: b"joe",
+    text: b"A1 STORE (\"/option/~/e\" \"option.value\" {5+}\r\nhello)\r\nA2 SEARCH \"/option/~/\" RETURN (\"modtime\") ALL\r\n",
+    stop: Stop::At(48),
+    sign: Sign::Waiting,
+    told: b"A1 OK \"STORE done\"\r\nA2 ENTRY \"e\" \"00000101000000000002\"\r\nA2 MODTIME \"00000101000000000002\"\r\nA2 OK \"SEARCH done\"\r\n",
+};
 
-// What sessions came to, where their machine can be closed.
-fn outcome_of<'w, S: Site, L: Ledger>(
-    alloc: Global,
-    ran: Ran<S, L, WaitingWire<'w>, OneMoment>,
-) -> Result<Option<Outcome>, Memory> {
-    let Ran {
-        served,
-        passes,
-        done,
-    } = ran;
-    let mut told = Vec::with_capacity(alloc, done.len())?;
-    for one in done {
-        told.push((one.end, one.wire.output)).map_err(|_| Memory)?;
-    }
-    Ok(events_of(served, passes).map(|events| Outcome { told, events }))
-}
+/// Ann begins once the other's flag is set, and sets hers when both her commands are answered.
+const ANN: Side = Side {
+    user: b"ann",
+    text: b"B1 STORE (\"/option/~/e\" \"option.value\" \"x\")\r\nB2 SEARCH \"/option/~/\" RETURN (\"option.value\") ALL\r\n",
+    stop: Stop::At(0),
+    sign: Sign::Written(b"B2 OK \"SEARCH done\"\r\n"),
+    told: b"B1 OK \"STORE done\"\r\nB2 ENTRY \"e\" \"x\"\r\nB2 MODTIME \"00000101000000000001\"\r\nB2 OK \"SEARCH done\"\r\n",
+};
 
-// Runs sessions on so many workers over a new machine, and closes it.
-fn run_on<'w, R, S, L>(
-    rt: &R,
-    blank: Blank,
-    state: State,
-    counter: Blank,
-    conns: Vec<Conn<WaitingWire<'w>, OneMoment>>,
-    workers: usize,
-) -> Result<Option<Outcome>, Memory>
-where
-    R: Threads
-        + Wait
-        + Clock
-        + Net<Listener = TcpListener, Stream = TcpStream>
-        + RandomSource
-        + AllocGlobal
-        + Sync,
-    S: Site + Send + Sync,
-    L: Ledger + Send + Sync,
-    requires name { blank.name ≡ S.name }
-    requires parts { blank.parts ≡ S.parts }
-    requires seats { blank.parts ≡ 64 }
-    requires base { state.machine ≡ S.base }
-    requires counter_name { counter.name ≡ L.name }
-    requires counter_parts { counter.parts ≡ L.parts }
-    requires some { 0 < L.parts }
-    requires workers { 0 < workers }
-    requires untold { All (λ conn. ⟦<WaitingWire<'w> as Wire>⟧.told conn.wire ≡ silent_wire) conns.items }
-{
-    let alloc = rt.alloc();
-    let steps = Steps::<L>::new(counter);
-    let Ok((served, passes)) = Served::<S, L>::new(alloc, blank, state, steps) else {
-        return Err(Memory);
-    };
-    let users = Users::new(Vec::new(alloc));
-    let Ok(host) = Octets::from_slice(alloc, b"localhost") else {
-        return Err(Memory);
-    };
-    let ran = run_sessions(rt, served, passes, conns, workers, &users, &host, TURNS);
-    match ran {
-        Ok(ran) => outcome_of(alloc, ran),
-        Err(_) => Ok(None),
-    }
-}
-
-// The same in a ledger of its own.
-fn run_all<'w, R>(
-    rt: &R,
-    conns: Vec<Conn<WaitingWire<'w>, OneMoment>>,
-    workers: usize,
-) -> Result<Option<Outcome>, Memory>
-where
-    R: Threads
-        + Wait
-        + Clock
-        + Net<Listener = TcpListener, Stream = TcpStream>
-        + RandomSource
-        + AllocGlobal
-        + Sync,
-    requires workers { 0 < workers }
-    requires untold { All (λ conn. ⟦<WaitingWire<'w> as Wire>⟧.told conn.wire ≡ silent_wire) conns.items }
-{
-    let alloc = rt.alloc();
-    let state = State::new(alloc, Realm::new(Vec::new(alloc), Vec::new(alloc)));
-    run_on::<R, Brand, Brand>(rt, Blank::new(64), state, Blank::new(1), conns, workers)
-}
-
-// Whether a session ended so, and was told this behind the greeting.
-fn is_told(one: &(TaskEnd, Vec<u8>), wanted: &[u8]) -> bool {
-    match one.1.strip_prefix(HELLO) {
-        Some(told) => one.0 == TaskEnd::Ended && told == wanted,
-        None => false,
-    }
-}
-
-// Two sessions, which were told that.
-fn both_are_told(outcome: Option<Outcome>, one: &[u8], other: &[u8]) -> bool {
-    match outcome {
-        Some(Outcome { told, events: _ }) => match told.as_slice() {
-            [first, second] => is_told(first, one) && is_told(second, other),
-            _ => false,
+/// Who stops within a literal, from poll to poll and within one poll, and who is answered meanwhile.
+const GATES: [Pair; 2] = [
+    Pair {
+        one: JOE,
+        other: ANN,
+    },
+    Pair {
+        one: Side {
+            stop: Stop::Within(48),
+            ..JOE
         },
-        None => false,
+        other: ANN,
+    },
+];
+
+/// Each sets its flag, and then looks within one poll for that of the other.
+const FLAGS: Pair = Pair {
+    one: Side {
+        user: b"joe",
+        text: b"A1 NOOP\r\n",
+        stop: Stop::Within(0),
+        sign: Sign::Waiting,
+        told: b"A1 OK \"NOOP done\"\r\n",
+    },
+    other: Side {
+        user: b"ann",
+        text: b"B1 NOOP\r\n",
+        stop: Stop::Within(0),
+        sign: Sign::Waiting,
+        told: b"B1 OK \"NOOP done\"\r\n",
+    },
+};
+
+// A wire of that side, with its own flag and that of the other.
+fn wire_of<'a>(
+    side: Side,
+    mine: &'a AtomicBool,
+    other: &'a AtomicBool,
+    output: Vec<u8>,
+) -> WaitingWire<'a>
+    ensures { ⟦<WaitingWire<'a> as Wire>⟧.told result ≡ silent_wire }
+{
+    WaitingWire::new(side.text, side.stop, side.sign, (mine, other), output)
+}
+
+impl Pair {
+    // Whether both were told what they should be.
+    fn is_told(&self, outcome: Option<Outcome>) -> bool {
+        match outcome {
+            Some(Outcome { told, .. }) => match told.as_slice() {
+                [one, other] => is_told(one, self.one.told) && is_told(other, self.other.told),
+                _ => false,
+            },
+            None => false,
+        }
+    }
+
+    // Whether both are told what they should be, on two workers.
+    fn comes_true<R>(&self, rt: &R) -> Result<bool, Memory>
+    where
+        R: Threads
+            + Wait
+            + Clock
+            + Net<Listener = TcpListener, Stream = TcpStream>
+            + RandomSource
+            + AllocGlobal
+            + Sync,
+    {
+        let alloc = rt.alloc();
+        let (one, other) = (AtomicBool::new(false), AtomicBool::new(false));
+        let first = wire_of(self.one, &one, &other, Vec::new(alloc));
+        let second = wire_of(self.other, &other, &one, Vec::new(alloc));
+        let mut conns = Vec::new(alloc);
+        conns.push(conn_of(alloc, self.one.user, first)?)?;
+        conns.push(conn_of(alloc, self.other.user, second)?)?;
+        Ok(self.is_told(run_all(rt, conns, 2)?))
     }
 }
 
-// A session that stopped within a literal is no hindrance to another: it goes on once that one was answered.
+// A session that stops within a literal doesn't hold up another, which stores and searches: it goes on once that one is answered.
 #[test]
 fn a_session_waits_within_a_literal_until_another_is_answered(rt: HostRuntime) -> Result<(), Fail> {
-    let alloc = rt.alloc();
-    let text = b"A1 STORE (\"/option/~/e\" \"option.value\" {5+}\r\nhello)\r\n";
-    let (mine, other) = (AtomicBool::new(false), AtomicBool::new(false));
-    let stop = Stop::At(text.len() - 5);
-    let first = WaitingWire::new(text, stop, &mine, &other, Vec::new(alloc));
-    let second = WaitingWire::new(
-        b"B1 NOOP\r\n",
-        Stop::Nowhere,
-        &other,
-        &mine,
-        Vec::new(alloc),
-    );
-    let mut conns = Vec::new(alloc);
-    conns.push(conn_of(alloc, b"joe", first)?)?;
-    conns.push(conn_of(alloc, b"ann", second)?)?;
-    let came = run_all(&rt, conns, 2)?;
-    assert!(rt;
-        both_are_told(
-            came,
-            b"A1 OK \"STORE done\"\r\n",
-            b"B1 OK \"NOOP done\"\r\n"
-        )
-    );
+    for pair in &GATES {
+        assert!(rt; pair.comes_true(&rt)?);
+    }
     Ok(())
 }
 
-// Two sessions are polled at one time: each reader sees the other's flag within one poll.
+// Two sessions are polled at the same time: each reader sees the other's flag within one poll.
 #[test]
 fn two_sessions_are_polled_at_one_time(rt: HostRuntime) -> Result<(), Fail> {
-    let alloc = rt.alloc();
-    let (one, two) = (AtomicBool::new(false), AtomicBool::new(false));
-    let first = WaitingWire::new(b"A1 NOOP\r\n", Stop::ForFlag, &one, &two, Vec::new(alloc));
-    let second = WaitingWire::new(b"B1 NOOP\r\n", Stop::ForFlag, &two, &one, Vec::new(alloc));
-    let mut conns = Vec::new(alloc);
-    conns.push(conn_of(alloc, b"joe", first)?)?;
-    conns.push(conn_of(alloc, b"ann", second)?)?;
-    let came = run_all(&rt, conns, 2)?;
-    assert!(rt; both_are_told(came, b"A1 OK \"NOOP done\"\r\n", b"B1 OK \"NOOP done\"\r\n"));
+    assert!(rt; FLAGS.comes_true(&rt)?);
     Ok(())
 }
 
@@ -229,14 +170,19 @@ fn a_crowd_is_answered(rt: HostRuntime) -> Result<(), Fail> {
     let mut conns = Vec::new(alloc);
     for number in 0..64 {
         let user = format!(in alloc; "u{number}")?;
-        let wire = WaitingWire::new(&said, Stop::Nowhere, &flag, &flag, Vec::new(alloc));
+        let flags = (&flag, &flag);
+        let wire = WaitingWire::new(&said, Stop::Nowhere, Sign::Waiting, flags, Vec::new(alloc));
         conns.push(conn_of(alloc, user.as_bytes(), wire)?)?;
     }
     let Some(came) = run_all(&rt, conns, 16)? else {
         return Err(Fail::new("not run or not closed"));
     };
     assert_eq!(rt; came.told.len(), 64);
-    assert!(rt; came.told.iter().all(|one| is_told(one, &answered)));
+    assert!(rt;
+        came.told
+            .iter()
+            .all(|one| is_told(one, &answered) && one.calls == 52)
+    );
     assert_eq!(rt; came.events, 64 * 52);
     Ok(())
 }

@@ -1,4 +1,4 @@
-use Rattle.acap_serving_tests.proofs.failing.a_bell_is_answered_and_the_last_poll_ends_a_session.Given as goal
+use Rattle.acap_serving_tests.proofs.ringing.a_bell_is_answered_and_the_last_poll_ends_a_session.Given as goal
 
 abbrev pub ghosts-is_rung-S-Ledger : goal.ghosts-is_rung-S-Ledger
 ghosts-is_rung-S-Ledger g a = record { name = a.blank.name; parts = a.blank.parts }

@@ -1,4 +1,4 @@
-use Rattle.acap_serving_tests.proofs.together.run_all.Given as goal
+use Rattle.acap_serving_tests.proofs.workers.run_all.Given as goal
 
 abbrev pub ghosts-run_on-S-Ledger : goal.ghosts-run_on-S-Ledger
 ghosts-run_on-S-Ledger g a = record { name = a.blank.name; parts = a.blank.parts }
