@@ -13,7 +13,8 @@ use Rattle.acap_session.specs.Streams.{WriterTold}
 use Rattle.acap_session.specs.declared.output.WriteFailed.{WriteFailed}
 use Rattle.acap_session.specs.declared.pipe_fault.PipeFault.{PipeFault}
 use Rattle.acap_session.specs.declared.script_fault.ScriptFault.{ScriptFault}
-use Rattle.acap_calls.specs.Faults.{line_of, of_pipe, of_script, usage}
+use Rattle.acap_serving.specs.declared.fault.ServeFault.{ServeFault}
+use Rattle.acap_calls.specs.Faults.{line_of, of_pipe, of_script, of_server, usage}
 use Rattle.acap_calls.specs.Printing.{Prints, Streams, Writer, writer_of}
 use Rattle.acap_calls.specs.declared.call.Call.{Call}
 use Rattle.acap_calls.specs.declared.call.Call.TheVariants as call
@@ -94,13 +95,13 @@ pub record DoesScript (old new : Streams) (result : Result ℕ WriteFailed) : Ty
 
 -- a server that can end so, called with that file, and how it ended
 abbrev pub Server : Type 1
-Server = String Global → Result (Unit {0}) Fault → Type 0
+Server = String Global → Result (Unit {0}) ServeFault → Type 0
 
 pub record DoesServe (server : Server) (file : String Global) (old new : Writer)
     (result : Result ℕ WriteFailed) : Type 0 where
-  pub done : Result (Unit {0}) Fault
+  pub done : Result (Unit {0}) ServeFault
   pub served : server file done
-  pub ends : Ends (fault_in (λ f. f) done) old new result
+  pub ends : Ends (fault_in of_server done) old new result
 
 -- nothing is read, nor written to standard output
 abbrev pub IsUntouched : Streams → Streams → Type 0

@@ -4,6 +4,8 @@ use Rattle.acap_session.specs.declared.pipe_fault.PipeFault.{PipeFault}
 use Rattle.acap_session.specs.declared.pipe_fault.PipeFault.TheVariants as pipe
 use Rattle.acap_session.specs.declared.script_fault.ScriptFault.{ScriptFault}
 use Rattle.acap_session.specs.declared.script_fault.ScriptFault.TheVariants as script
+use Rattle.acap_serving.specs.declared.fault.ServeFault.{ServeFault}
+use Rattle.acap_serving.specs.declared.fault.ServeFault.TheVariants as server
 use Rattle.acap_calls.specs.declared.fault.Fault.{Fault}
 use Rattle.acap_calls.specs.declared.fault.Fault.TheVariants as fault
 
@@ -17,6 +19,13 @@ of_script (script.Line n) = fault.Line n
 of_script script.Read = fault.Read
 of_script script.Write = fault.Write
 of_script script.Memory = fault.Memory
+
+abbrev pub of_server : ServeFault → Fault
+of_server server.Read = fault.Read
+of_server server.Settings = fault.Settings
+of_server server.Listen = fault.Listen
+of_server server.Unequal = fault.Unequal
+of_server server.Memory = fault.Memory
 
 -- that of a call with no words or wrong ones
 abbrev pub usage : List ℕ

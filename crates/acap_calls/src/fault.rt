@@ -1,5 +1,6 @@
 //! Why the program could not go on.
 
+use acap_serving::ServeFault;
 use acap_session::{PipeFault, ScriptFault};
 
 /// Why the program could not go on.
@@ -48,6 +49,23 @@ impl From<ScriptFault> for Fault {
             ScriptFault::Read => Fault::Read,
             ScriptFault::Write => Fault::Write,
             ScriptFault::Memory => Fault::Memory,
+        }
+    }
+}
+
+impl From<ServeFault> for Fault {
+    ghost use Rattle.std.specs.Prelude.{◌≡◌};
+    ghost use Rattle.acap_calls.specs.Faults.{of_server};
+
+    ghost from_gives = { λ fault made. made ≡ of_server fault };
+
+    fn from(fault: ServeFault) -> Fault {
+        match fault {
+            ServeFault::Read => Fault::Read,
+            ServeFault::Settings => Fault::Settings,
+            ServeFault::Listen => Fault::Listen,
+            ServeFault::Unequal => Fault::Unequal,
+            ServeFault::Memory => Fault::Memory,
         }
     }
 }

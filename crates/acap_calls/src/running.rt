@@ -9,6 +9,7 @@ use crate::calls::read_call;
 use crate::fault::Fault;
 use crate::faults::{refuse, report};
 use acap_entries::Steps;
+use acap_serving::ServeFault;
 use acap_session::{Input, Output, PipeFault, ScriptFault, WriteFailed, run_pipe, run_script};
 use std::alloc::Global;
 use std::io::ErrorKind;
@@ -40,14 +41,14 @@ fn end_script<E: Output>(done: Result<(), ScriptFault>, errors: &mut E) -> Resul
 // A server.
 fn serve<V, E: Output>(serve: V, file: String, errors: &mut E) -> Result<u8, WriteFailed>
 where
-    V: FnOnce(String) -> Result<(), Fault>,
+    V: FnOnce(String) -> Result<(), ServeFault>,
     requires { V.pre serve file }
     ensures { DoesServe (V.post serve) file (writer_of E.contents E.told errors.old)
         (writer_of E.contents E.told errors.new) result }
 {
     match serve(file) {
         Ok(()) => Ok(DONE),
-        Err(fault) => report(fault, errors),
+        Err(fault) => report(Fault::from(fault), errors),
     }
 }
 
@@ -65,7 +66,7 @@ pub fn run_call<R: Input, W: Output, E: Output, L: Ledger, V>(
     server: V,
 ) -> Result<u8, WriteFailed>
 where
-    V: FnOnce(String) -> Result<(), Fault>,
+    V: FnOnce(String) -> Result<(), ServeFault>,
     requires { (file : _) → V.pre server file }
     ensures { Calls (V.post server) (words_of words.now)
         (streams (reader_of R.remaining R.told reader.old) (writer_of W.contents W.told writer.old)

@@ -3,8 +3,9 @@
 use crate::difference::{Lines, first_lines};
 use crate::pieces::{PieceSizes, Pieces};
 use crate::row_file::{FileRow, RowKind};
-use acap_calls::{Fault, run_call};
+use acap_calls::run_call;
 use acap_entries::{Memory, Steps, UserName};
+use acap_serving::ServeFault;
 use acap_session::{ScriptFault, run_pipe, run_script};
 use std::alloc::Global;
 use std::sync::ledger::Ledger;
@@ -106,7 +107,7 @@ fn make_call<L: Ledger>(
         &mut text,
         &mut told,
         steps,
-        |_file| Err(Fault::Listen),
+        |_file| Err(ServeFault::Listen),
     ) {
         Ok(status) => {
             text.extend_from_slice(told.as_slice())?;

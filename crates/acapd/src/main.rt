@@ -3,9 +3,9 @@
 
 ghost use Rattle.std.specs.Prelude.{◌≡◌, ◌<◌};
 
-use acap_calls::{Fault, run_call};
+use acap_calls::run_call;
 use acap_entries::Steps;
-use acap_serving::{ServeFault, serve};
+use acap_serving::serve;
 use std::alloc::AllocGlobal;
 use std::fs::Files;
 use std::io::ErrorKind;
@@ -28,17 +28,6 @@ fn words(rt: &HostRuntime) -> io::Result<Vec<String>> {
         listed.push(word)?;
     }
     Ok(listed)
-}
-
-// Why a server ended, as a fault of the program.
-fn fault_of(fault: ServeFault) -> Fault {
-    match fault {
-        ServeFault::Read => Fault::Read,
-        ServeFault::Settings => Fault::Settings,
-        ServeFault::Listen => Fault::Listen,
-        ServeFault::Unequal => Fault::Unequal,
-        ServeFault::Memory => Fault::Memory,
-    }
 }
 
 // Does what the words behind the program's name ask for. What its searches look at is counted. A server is given the handle.
@@ -65,7 +54,7 @@ where
         &mut io::writer(rt),
         &mut rt.stderr(),
         &mut steps,
-        |file| serve(handle, file.as_str()).map_err(fault_of),
+        |file| serve(handle, file.as_str()),
     );
     match status {
         Ok(status) => Ok(ExitCode::from(status)),
