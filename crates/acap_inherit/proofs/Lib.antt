@@ -1,4 +1,3 @@
-mod AfterNames
 mod ChainLaws
 mod ChainSteps
 mod ExampleLemmas

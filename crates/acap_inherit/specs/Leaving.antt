@@ -6,9 +6,7 @@ use Rattle.acap_entries.specs.Store.{Store}
 use Rattle.acap_entries.specs.declared.after.After.{After}
 use Rattle.acap_entries.specs.declared.change.Change.{Change}
 use Rattle.acap_entries.specs.declared.path.Path.{Path}
-use Rattle.acap_inherit.specs.EntryNames.{names_on}
 use Rattle.acap_inherit.specs.Index.{IsIndexOf, links_written, index_with}
-use Rattle.acap_inherit.specs.NamesAfter.{name_left, names_left_written, names_left_stored, names_left}
 use Rattle.acap_inherit.specs.Touched.{in_order, touched_paths, touched_at, datasets_touched}
 use Rattle.acap_inherit.specs.Touching.{paths_along, paths_below, paths_in, paths_stored, paths_found, touched_dataset, datasets_found}
 use Rattle.acap_inherit.specs.declared.link.Link.{Link}
@@ -30,10 +28,6 @@ AreTouchedDatasets change old made =
 -- what makes the index of afterwards of that of before
 abbrev pub IsPrepared : Change → Store → List Link → List Link × List Link → Type 0
 IsPrepared change old links made = ForStoreAfter change old (λ new. IsIndexOf new.records (index_with made links))
-
--- the names along a chain
-abbrev pub AreNamesAfter : Change → Store → List (List ℕ) → List (List ℕ) → Type 0
-AreNamesAfter change old chain names = ForStoreAfter change old (λ new. names ≡ names_on new.records chain)
 
 -- the pairs of the datasets whose management entries a change writes, as a store has them
 abbrev pub links_in : Change → Store → List Link
@@ -65,15 +59,3 @@ paths_left_in change old dataset = in_order (paths_in change.writes old.records 
 
 abbrev pub datasets_left : Change → Store → List (List ℕ) → List TouchedDataset
 datasets_left change old datasets = datasets_found change.writes old.records (records_left change old) datasets
-
-abbrev pub name_ahead : After → List ℕ → List ℕ → List (List ℕ)
-name_ahead after member name = name_left (records_ahead after) member name
-
-abbrev pub written_ahead : After → List ℕ → List (List ℕ)
-written_ahead after member = names_left_written after.writes.now (records_ahead after) member
-
-abbrev pub stored_ahead : After → List ℕ → List (List ℕ)
-stored_ahead after member = names_left_stored (records_before after) (records_ahead after) member
-
-abbrev pub names_left_by : Change → Store → List (List ℕ) → List (List ℕ)
-names_left_by change old chain = names_left change.writes old.records (records_left change old) chain

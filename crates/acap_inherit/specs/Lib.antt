@@ -5,7 +5,6 @@ pub mod Index
 pub mod Laws
 pub mod Leaving
 pub mod Merging
-pub mod NamesAfter
 pub mod Records
 pub mod Resolving
 pub mod Touched

@@ -7,7 +7,6 @@ mod found;
 mod full_path;
 mod heirs;
 mod laws;
-mod left_names;
 mod lent;
 mod lineage;
 mod link;
@@ -28,7 +27,6 @@ pub use laws::{
     names_law, nothing_law, over_base_examples, reading_law, repeat_law, touched_examples,
     touched_paths_law, unread_law,
 };
-pub use left_names::names_after;
 pub use lent::Lent;
 pub use lineage::Lineage;
 pub use link::Link;

@@ -7,6 +7,4 @@ mod lexer;
 #[cfg(test)]
 mod ranked;
 #[cfg(test)]
-mod seeking;
-#[cfg(test)]
 mod settings;
