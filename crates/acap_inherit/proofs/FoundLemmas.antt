@@ -20,13 +20,14 @@ use Rattle.acap_inherit.specs.EntryNames.{names_in}
 use Rattle.acap_inherit.specs.Index.{is_linked, is_base, IsIndexOf, heirs_in}
 use Rattle.acap_inherit.specs.Records.{record_at}
 use Rattle.acap_inherit.specs.Touched.{is_written, is_written_on, has_record_on, is_reached, is_touched, ordered_among, in_order, touched_paths}
-use Rattle.acap_inherit.specs.Touching.{datasets_written, with_heirs, datasets_reached, path_at, paths_written, paths_stored, paths_of_member, paths_along, paths_below, paths_in, paths_found}
+use Rattle.acap_inherit.specs.Touching.{changes, datasets_each, datasets_written, with_heirs, datasets_reached, path_at, path_written, paths_written, paths_stored, paths_of_member, paths_along, paths_below, paths_in, paths_found}
 use Rattle.acap_inherit.specs.declared.link.Link.{Link}
-use Rattle.acap_inherit.proofs.IndexLemmas.{any_with, either_and, never, base_kept}
+use Rattle.acap_inherit.proofs.IndexLemmas.{any_with, and_true, either_and, never, base_kept}
 use Rattle.acap_inherit.proofs.MergeLemmas.{is_name, first_of, second_of}
 use Rattle.acap_inherit.proofs.NamesLaws.{tied_parts, listed}
 use Rattle.acap_inherit.proofs.TouchedLemmas.{is_path, by_parts, any_weaker, absorbed, any_order, order_rises, touched_is}
 use Rattle.acap_inherit.proofs.UnreadLaws.{unwritten, unwritten_on, same_chain}
+use Rattle.acap_inherit.proofs.WrittenLemmas.{paths_of, changes_at}
 
 -- ---- tests
 
@@ -146,58 +147,63 @@ all_levels (suc k) records links index level acc d =
     ∙ ap (λ b. is_in d acc || b) (sym (first_one (suc k) records (λ m. is_in m level) d)))))
 
 -- whether something is written in a dataset
-abbrev pub wrote : Written → List ℕ → Bool
-wrote written d = is_in d (datasets_written written)
+abbrev pub wrote : Written → Stored → List ℕ → Bool
+wrote written old d = is_in d (datasets_written written old)
 
-pub reached_datasets : (written : Written) (records : Stored) (links : List Link) → IsIndexOf records links → (d : List ℕ) → is_in d (datasets_reached written links) ≡ list_any (wrote written) (chain_of records d false)
-reached_datasets written records links index d = all_levels 7 records links index (datasets_written written) [] d
+pub reached_datasets : (written : Written) (old : Stored) (links : List Link) → IsIndexOf old links → (d : List ℕ) → is_in d (datasets_reached written old links) ≡ list_any (wrote written old) (chain_of old d false)
+reached_datasets written old links index d = all_levels 7 old links index (datasets_written written old) [] d
 
-pub keys_of_datasets : (d : List ℕ) (ps : List Path) (es : List (Path × Fate)) → each (λ (e : Path × Fate). e.0) es ≡ ps → is_in d (each (λ (e : Path × Fate). e.0.dataset) es) ≡ list_any (λ (p : Path). is_name d p.dataset) ps
+keys_of_datasets : (d : List ℕ) (ps : List Path) (es : List (Path × Fate)) → each (λ (e : Path × Fate). e.0) es ≡ ps → is_in d (each (λ (e : Path × Fate). e.0.dataset) es) ≡ list_any (λ (p : Path). is_name d p.dataset) ps
 keys_of_datasets d ps [] e = ap (list_any (λ (p : Path). is_name d p.dataset)) e
 keys_of_datasets d ps (w ∷ es) e = ap (λ b. is_name d w.0.dataset || b) (keys_of_datasets d (each (λ (e : Path × Fate). e.0) es) es refl) ∙ ap (list_any (λ (p : Path). is_name d p.dataset)) e
 
-writes_in : (written : Written) (m n : List ℕ) → is_written written m n ≡ true → wrote written m ≡ true
-writes_in written m n e =
-    any_among octets_cmp nat_list_cmp_total m (each (λ w. w.0.dataset) (map.entries written)) []
-    ∙ (or_false (is_in m (each (λ w. w.0.dataset) (map.entries written)))
-    ∙ (keys_of_datasets m (map.keys written) (map.entries written) refl
-    ∙ any_weaker (eq_by_cmp path_cmp (path_at m n)) (λ (p : Path). is_name m p.dataset) (λ p t. first_of (is_name m p.dataset) (is_name n p.name) (sym (tied_parts (octets_cmp m p.dataset) (octets_cmp n p.name)) ∙ t)) (map.keys written) (sym (map.contains_key-keys written (path_at m n)) ∙ e)))
+-- the datasets of the writes that put or remove a record
+pub wrote_at : (written : Written) (old : Stored) (m : List ℕ) → wrote written old m ≡ list_any (λ (p : Path). is_name m p.dataset) (paths_of (filter (changes old) (map.entries written)))
+wrote_at written old m =
+    any_among octets_cmp nat_list_cmp_total m (datasets_each written old) []
+    ∙ (or_false (is_in m (datasets_each written old))
+    ∙ keys_of_datasets m (paths_of (filter (changes old) (map.entries written))) (filter (changes old) (map.entries written)) refl)
+
+writes_in : (written : Written) (old : Stored) (m n : List ℕ) → is_written written old m n ≡ true → wrote written old m ≡ true
+writes_in written old m n e =
+    wrote_at written old m
+    ∙ any_weaker (eq_by_cmp path_cmp (path_at m n)) (λ (p : Path). is_name m p.dataset) (λ p t. first_of (is_name m p.dataset) (is_name n p.name) (sym (tied_parts (octets_cmp m p.dataset) (octets_cmp n p.name)) ∙ t)) (paths_of (filter (changes old) (map.entries written))) (changes_at written old (path_at m n) ∙ e)
 
 -- ---- chains before and after
 
 -- what is written along the new chain stands beyond a written dataset of the old one
-wrote_before : (k : ℕ) (written : Written) (old new : Stored) → IsPathByPath written old new → (d : List ℕ) → list_any (wrote written) (chain_within k new d) ≡ true → list_any (wrote written) (chain_within k old d) ≡ true
+wrote_before : (k : ℕ) (written : Written) (old new : Stored) → IsPathByPath written old new → (d : List ℕ) → list_any (wrote written old) (chain_within k new d) ≡ true → list_any (wrote written old) (chain_within k old d) ≡ true
 unfolding chain_within
 wrote_before zero written old new h d e = e
 wrote_before (suc k) written old new h d e =
-    elim (wrote written d) as (λ b. wrote written d ≡ b → (b || list_any (wrote written) (onward (base_at new d) (chain_within k new))) ≡ true → (b || list_any (wrote written) (onward (base_at old d) (chain_within k old))) ≡ true) [
+    elim (wrote written old d) as (λ b. wrote written old d ≡ b → (b || list_any (wrote written old) (onward (base_at new d) (chain_within k new))) ≡ true → (b || list_any (wrote written old) (onward (base_at old d) (chain_within k old))) ≡ true) [
       | true ↦ λ _ _. refl
       | false ↦ λ none e.
-          let kept : base_at old d ≡ base_at new d = base_kept written old new h d (unless (is_written written d []) (wrote written d) (writes_in written d []) none) in
-          ap (λ base. list_any (wrote written) (onward base (chain_within k old))) kept
-          ∙ elim (base_at new d) as (λ base. list_any (wrote written) (onward base (chain_within k new)) ≡ true → list_any (wrote written) (onward base (chain_within k old)) ≡ true) [
+          let kept : base_at old d ≡ base_at new d = base_kept written old new h d (unless (is_written written old d []) (wrote written old d) (writes_in written old d []) none) in
+          ap (λ base. list_any (wrote written old) (onward base (chain_within k old))) kept
+          ∙ elim (base_at new d) as (λ base. list_any (wrote written old) (onward base (chain_within k new)) ≡ true → list_any (wrote written old) (onward base (chain_within k old)) ≡ true) [
             | None ↦ λ e. e
             | Some base ↦ λ e. wrote_before k written old new h base e
           ] e
     ] refl e
 
-reach_wrote : (written : Written) (records : Stored) (chain : List (List ℕ)) (name : List ℕ) → is_reached written records chain name ≡ true → list_any (wrote written) chain ≡ true
-reach_wrote written records chain name e =
-    elim (is_written_on written chain name) as (λ b. is_written_on written chain name ≡ b → (b || (is_written_on written chain [] && has_record_on records chain name)) ≡ true → list_any (wrote written) chain ≡ true) [
-      | true ↦ λ w _. any_weaker (λ m. is_written written m name) (wrote written) (λ m is. writes_in written m name is) chain w
-      | false ↦ λ _ e. any_weaker (λ m. is_written written m []) (wrote written) (λ m is. writes_in written m [] is) chain (first_of _ _ e)
+reach_wrote : (written : Written) (old records : Stored) (chain : List (List ℕ)) (name : List ℕ) → is_reached written old records chain name ≡ true → list_any (wrote written old) chain ≡ true
+reach_wrote written old records chain name e =
+    elim (is_written_on written old chain name) as (λ b. is_written_on written old chain name ≡ b → (b || (is_written_on written old chain [] && has_record_on records chain name)) ≡ true → list_any (wrote written old) chain ≡ true) [
+      | true ↦ λ w _. any_weaker (λ m. is_written written old m name) (wrote written old) (λ m is. writes_in written old m name is) chain w
+      | false ↦ λ _ e. any_weaker (λ m. is_written written old m []) (wrote written old) (λ m is. writes_in written old m [] is) chain (first_of _ _ e)
     ] refl e
 
 -- where management entries of the old chain are written, those of the new one are, and the other way round
-managed_alike : (written : Written) (old new : Stored) → IsPathByPath written old new → (d : List ℕ) → is_written_on written (chain_of old d false) [] ≡ false
+managed_alike : (written : Written) (old new : Stored) → IsPathByPath written old new → (d : List ℕ) → is_written_on written old (chain_of old d false) [] ≡ false
     → (chain_of old d false ≡ chain_of new d false)
 managed_alike written old new h d e = same_chain old new d (unwritten_on written old new h (chain_of old d false) [] e)
 
-managed_back : (written : Written) (old new : Stored) → IsPathByPath written old new → (d : List ℕ) → is_written_on written (chain_of new d false) [] ≡ false → is_written_on written (chain_of old d false) [] ≡ false
+managed_back : (written : Written) (old new : Stored) → IsPathByPath written old new → (d : List ℕ) → is_written_on written old (chain_of new d false) [] ≡ false → is_written_on written old (chain_of old d false) [] ≡ false
 managed_back written old new h d e =
     let kept = unwritten_on written old new h (chain_of new d false) [] e in
     let same = same_chain new old d (λ m k. sym (kept m k)) in
-    ap (λ chain. is_written_on written chain []) (sym same) ∙ e
+    ap (λ chain. is_written_on written old chain []) (sym same) ∙ e
 
 -- ---- the paths of one dataset
 
@@ -207,29 +213,42 @@ in_paths p ps = list_any (is_path p) ps
 by_names : (p : Path) (d n : List ℕ) → is_path p (path_at d n) ≡ (is_name p.dataset d && is_name p.name n)
 by_names p d n = by_parts p (path_at d n) ∙ (λ i. texts_ties p.dataset d i && texts_ties p.name n i)
 
-written_one : (p : Path) (d m : List ℕ) (w : Path × Fate) → in_paths p (if octets_eq m w.0.dataset then path_at d w.0.name ∷ [] else []) ≡ (is_name p.dataset d && eq_by_cmp path_cmp (path_at m p.name) w.0)
-written_one p d m w =
-    ap (λ b. in_paths p (if b then path_at d w.0.name ∷ [] else [])) (texts_ties m w.0.dataset)
-    ∙ (elim (is_name m w.0.dataset) as (λ b. in_paths p (if b then path_at d w.0.name ∷ [] else []) ≡ (is_name p.dataset d && (b && is_name p.name w.0.name))) [
-      | true ↦ or_false _ ∙ by_names p d w.0.name
+written_one : (old : Stored) (p : Path) (d m : List ℕ) (w : Path × Fate) → in_paths p (path_written old d m w) ≡ (is_name p.dataset d && (eq_by_cmp path_cmp (path_at m p.name) w.0 && changes old w))
+written_one old p d m w =
+    ap (λ b. in_paths p (if b && changes old w then path_at d w.0.name ∷ [] else [])) (texts_ties m w.0.dataset)
+    ∙ (elim (is_name m w.0.dataset) as (λ b. in_paths p (if b && changes old w then path_at d w.0.name ∷ [] else []) ≡ (is_name p.dataset d && ((b && is_name p.name w.0.name) && changes old w))) [
+      | true ↦ elim (changes old w) as (λ c. in_paths p (if c then path_at d w.0.name ∷ [] else []) ≡ (is_name p.dataset d && (is_name p.name w.0.name && c))) [
+        | true ↦ or_false _ ∙ (by_names p d w.0.name ∙ ap (λ b. is_name p.dataset d && b) (sym (and_true (is_name p.name w.0.name))))
+        | false ↦ never (is_name p.dataset d) ∙ ap (λ b. is_name p.dataset d && b) (never (is_name p.name w.0.name))
+      ]
       | false ↦ never (is_name p.dataset d)
     ]
-    ∙ ap (λ b. is_name p.dataset d && b) (sym (tied_parts (octets_cmp m w.0.dataset) (octets_cmp p.name w.0.name))))
+    ∙ ap (λ b. is_name p.dataset d && (b && changes old w)) (sym (tied_parts (octets_cmp m w.0.dataset) (octets_cmp p.name w.0.name))))
 
 and_or : (a b c : Bool) → ((a && b) || (a && c)) ≡ (a && (b || c))
 and_or true b c = refl
 and_or false b c = refl
 
-written_all : (p : Path) (d m : List ℕ) (es : List (Path × Fate)) → in_paths p (flat_map (λ w. if octets_eq m w.0.dataset then path_at d w.0.name ∷ [] else []) es) ≡ (is_name p.dataset d && list_any (eq_by_cmp path_cmp (path_at m p.name)) (each (λ e. e.0) es))
-written_all p d m [] = never (is_name p.dataset d)
-written_all p d m (w ∷ es) =
-    list_any-append (is_path p) (if octets_eq m w.0.dataset then path_at d w.0.name ∷ [] else []) (flat_map (λ w. if octets_eq m w.0.dataset then path_at d w.0.name ∷ [] else []) es)
-    ∙ ((λ i. written_one p d m w i || written_all p d m es i)
-    ∙ and_or (is_name p.dataset d) (eq_by_cmp path_cmp (path_at m p.name) w.0) (list_any (eq_by_cmp path_cmp (path_at m p.name)) (each (λ e. e.0) es)))
+one_kept : (old : Stored) (q : Path → Bool) (w : Path × Fate) (es : List (Path × Fate)) → ((q w.0 && changes old w) || list_any q (paths_of (filter (changes old) es))) ≡ list_any q (paths_of (filter (changes old) (w ∷ es)))
+one_kept old q w es =
+    let others = filter (changes old) es in
+    elim (changes old w) as (λ c. ((q w.0 && c) || list_any q (paths_of others)) ≡ list_any q (paths_of (cond c (w ∷ others) others))) [
+      | true ↦ ap (λ b. b || list_any q (paths_of others)) (and_true (q w.0))
+      | false ↦ ap (λ b. b || list_any q (paths_of others)) (sym (never (q w.0)))
+    ]
 
-in_written : (written : Written) (p : Path) (d m : List ℕ) → in_paths p (paths_written written d m) ≡ (is_name p.dataset d && is_written written m p.name)
-in_written written p d m =
-    written_all p d m (map.entries written) ∙ ap (λ b. is_name p.dataset d && b) (sym (map.contains_key-keys written (path_at m p.name)))
+written_all : (old : Stored) (p : Path) (d m : List ℕ) (es : List (Path × Fate)) → in_paths p (flat_map (path_written old d m) es) ≡ (is_name p.dataset d && list_any (eq_by_cmp path_cmp (path_at m p.name)) (paths_of (filter (changes old) es)))
+written_all old p d m [] = never (is_name p.dataset d)
+written_all old p d m (w ∷ es) =
+    let is = eq_by_cmp path_cmp (path_at m p.name) in
+    list_any-append (is_path p) (path_written old d m w) (flat_map (path_written old d m) es)
+    ∙ ((λ i. written_one old p d m w i || written_all old p d m es i)
+    ∙ (and_or (is_name p.dataset d) (is w.0 && changes old w) (list_any is (paths_of (filter (changes old) es)))
+    ∙ ap (λ b. is_name p.dataset d && b) (one_kept old is w es)))
+
+in_written : (written : Written) (old : Stored) (p : Path) (d m : List ℕ) → in_paths p (paths_written written old d m) ≡ (is_name p.dataset d && is_written written old m p.name)
+in_written written old p d m =
+    written_all old p d m (map.entries written) ∙ ap (λ b. is_name p.dataset d && b) (changes_at written old (path_at m p.name))
 
 named_paths : (p : Path) (d : List ℕ) (names : List (List ℕ)) → in_paths p (each (path_at d) names) ≡ (is_name p.dataset d && is_in p.name names)
 named_paths p d [] = never (is_name p.dataset d)
@@ -238,62 +257,62 @@ named_paths p d (n ∷ names) = (λ i. by_names p d n i || named_paths p d names
 in_stored : (old : Stored) (p : Path) (d m : List ℕ) → in_paths p (paths_stored old d m) ≡ (is_name p.dataset d && is_some (record_at old m p.name))
 in_stored old p d m = named_paths p d (names_in old m) ∙ ap (λ b. is_name p.dataset d && b) (listed old p.name m)
 
-in_member : (written : Written) (old : Stored) (all : Bool) (p : Path) (d m : List ℕ) → in_paths p (paths_of_member written old all d m) ≡ (is_name p.dataset d && (is_written written m p.name || (all && is_some (record_at old m p.name))))
+in_member : (written : Written) (old : Stored) (all : Bool) (p : Path) (d m : List ℕ) → in_paths p (paths_of_member written old all d m) ≡ (is_name p.dataset d && (is_written written old m p.name || (all && is_some (record_at old m p.name))))
 in_member written old all p d m =
-    list_any-append (is_path p) (paths_written written d m) (if all then paths_stored old d m else [])
-    ∙ ((λ i. in_written written p d m i || in_paths p (if all then paths_stored old d m else []))
-    ∙ (ap (λ b. (is_name p.dataset d && is_written written m p.name) || b) (elim all as (λ all. in_paths p (if all then paths_stored old d m else []) ≡ (is_name p.dataset d && (all && is_some (record_at old m p.name)))) [ true ↦ in_stored old p d m | false ↦ never (is_name p.dataset d) ])
-    ∙ and_or (is_name p.dataset d) (is_written written m p.name) (all && is_some (record_at old m p.name))))
+    list_any-append (is_path p) (paths_written written old d m) (if all then paths_stored old d m else [])
+    ∙ ((λ i. in_written written old p d m i || in_paths p (if all then paths_stored old d m else []))
+    ∙ (ap (λ b. (is_name p.dataset d && is_written written old m p.name) || b) (elim all as (λ all. in_paths p (if all then paths_stored old d m else []) ≡ (is_name p.dataset d && (all && is_some (record_at old m p.name)))) [ true ↦ in_stored old p d m | false ↦ never (is_name p.dataset d) ])
+    ∙ and_or (is_name p.dataset d) (is_written written old m p.name) (all && is_some (record_at old m p.name))))
 
 in_along : (written : Written) (old : Stored) (all : Bool) (p : Path) (d : List ℕ) (chain : List (List ℕ)) → in_paths p (paths_along written old all d chain)
-    ≡ (is_name p.dataset d && list_any (λ m. is_written written m p.name || (all && is_some (record_at old m p.name))) chain)
+    ≡ (is_name p.dataset d && list_any (λ m. is_written written old m p.name || (all && is_some (record_at old m p.name))) chain)
 in_along written old all p d [] = never (is_name p.dataset d)
 in_along written old all p d (m ∷ chain) =
     list_any-append (is_path p) (paths_of_member written old all d m) (paths_along written old all d chain)
     ∙ ((λ i. in_member written old all p d m i || in_along written old all p d chain i)
-    ∙ and_or (is_name p.dataset d) (is_written written m p.name || (all && is_some (record_at old m p.name))) (list_any (λ m. is_written written m p.name || (all && is_some (record_at old m p.name))) chain))
+    ∙ and_or (is_name p.dataset d) (is_written written old m p.name || (all && is_some (record_at old m p.name))) (list_any (λ m. is_written written old m p.name || (all && is_some (record_at old m p.name))) chain))
 
 any_or : (p q : List ℕ → Bool) (xs : List (List ℕ)) → list_any (λ x. p x || q x) xs ≡ (list_any p xs || list_any q xs)
 any_or p q [] = refl
 any_or p q (x ∷ xs) = ap (λ b. (p x || q x) || b) (any_or p q xs) ∙ crossed_or (p x) (q x) (list_any p xs) (list_any q xs)
 
 -- a record that isn't written is there afterwards just where it was
-same_or : (written : Written) (old new : Stored) → IsPathByPath written old new → (m n : List ℕ) → (is_written written m n || is_some (record_at old m n)) ≡ (is_written written m n || is_some (record_at new m n))
+same_or : (written : Written) (old new : Stored) → IsPathByPath written old new → (m n : List ℕ) → (is_written written old m n || is_some (record_at old m n)) ≡ (is_written written old m n || is_some (record_at new m n))
 same_or written old new h m n =
-    elim (is_written written m n) as (λ b. is_written written m n ≡ b → (b || is_some (record_at old m n)) ≡ (b || is_some (record_at new m n))) [
+    elim (is_written written old m n) as (λ b. is_written written old m n ≡ b → (b || is_some (record_at old m n)) ≡ (b || is_some (record_at new m n))) [
       | true ↦ λ _. refl
       | false ↦ λ e. ap is_some (unwritten written old new h m n e)
     ] refl
 
 reach_of : Written → Stored → Stored → List ℕ → List ℕ → Bool
-reach_of written old new d n = is_reached written old (chain_of old d false) n || is_reached written new (chain_of new d false) n
+reach_of written old new d n = is_reached written old old (chain_of old d false) n || is_reached written old new (chain_of new d false) n
 
 -- where no management entry is written, the names that are written along the one chain
-unmanaged : (written : Written) (old new : Stored) → IsPathByPath written old new → (d n : List ℕ) → is_written_on written (chain_of old d false) [] ≡ false
-    → list_any (λ m. is_written written m n || (false && is_some (record_at old m n))) (chain_of old d false) ≡ reach_of written old new d n
+unmanaged : (written : Written) (old new : Stored) → IsPathByPath written old new → (d n : List ℕ) → is_written_on written old (chain_of old d false) [] ≡ false
+    → list_any (λ m. is_written written old m n || (false && is_some (record_at old m n))) (chain_of old d false) ≡ reach_of written old new d n
 unfolding reach_of
 unmanaged written old new h d n e =
-    let w = is_written_on written (chain_of old d false) n in
+    let w = is_written_on written old (chain_of old d false) n in
     let same = managed_alike written old new h d e in
-    (λ i. list_any (λ m. or_false (is_written written m n) i) (chain_of old d false))
+    (λ i. list_any (λ m. or_false (is_written written old m n) i) (chain_of old d false))
     ∙ (twice_or w
-    ∙ sym ((λ i. (w || (e i && has_record_on old (chain_of old d false) n)) || (is_written_on written (sym same i) n || (is_written_on written (sym same i) [] && has_record_on new (sym same i) n)))
+    ∙ sym ((λ i. (w || (e i && has_record_on old (chain_of old d false) n)) || (is_written_on written old (sym same i) n || (is_written_on written old (sym same i) [] && has_record_on new (sym same i) n)))
     ∙ ap (λ b. (w || false) || (w || (b && has_record_on new (chain_of old d false) n))) e))
 
 -- and else all that have a record
-all_managed : (written : Written) (old new : Stored) → IsPathByPath written old new → (d n : List ℕ) → is_written_on written (chain_of old d false) [] ≡ true
-    → (list_any (λ m. is_written written m n || is_some (record_at old m n)) (chain_of old d false) || list_any (λ m. is_written written m n || is_some (record_at old m n)) (chain_of new d false)) ≡ reach_of written old new d n
+all_managed : (written : Written) (old new : Stored) → IsPathByPath written old new → (d n : List ℕ) → is_written_on written old (chain_of old d false) [] ≡ true
+    → (list_any (λ m. is_written written old m n || is_some (record_at old m n)) (chain_of old d false) || list_any (λ m. is_written written old m n || is_some (record_at old m n)) (chain_of new d false)) ≡ reach_of written old new d n
 unfolding reach_of
 all_managed written old new h d n e =
-    let after : is_written_on written (chain_of new d false) [] ≡ true =
-    unless_not (is_written_on written (chain_of new d false) []) (is_written_on written (chain_of old d false) []) (managed_back written old new h d) e in
-    (λ i. any_or (λ m. is_written written m n) (λ m. is_some (record_at old m n)) (chain_of old d false) i || list_any (λ m. same_or written old new h m n i) (chain_of new d false))
-    ∙ (ap (λ b. (is_written_on written (chain_of old d false) n || has_record_on old (chain_of old d false) n) || b) (any_or (λ m. is_written written m n) (λ m. is_some (record_at new m n)) (chain_of new d false))
-    ∙ sym (λ i. (is_written_on written (chain_of old d false) n || (e i && has_record_on old (chain_of old d false) n)) || (is_written_on written (chain_of new d false) n || (after i && has_record_on new (chain_of new d false) n))))
+    let after : is_written_on written old (chain_of new d false) [] ≡ true =
+    unless_not (is_written_on written old (chain_of new d false) []) (is_written_on written old (chain_of old d false) []) (managed_back written old new h d) e in
+    (λ i. any_or (λ m. is_written written old m n) (λ m. is_some (record_at old m n)) (chain_of old d false) i || list_any (λ m. same_or written old new h m n i) (chain_of new d false))
+    ∙ (ap (λ b. (is_written_on written old (chain_of old d false) n || has_record_on old (chain_of old d false) n) || b) (any_or (λ m. is_written written old m n) (λ m. is_some (record_at new m n)) (chain_of new d false))
+    ∙ sym (λ i. (is_written_on written old (chain_of old d false) n || (e i && has_record_on old (chain_of old d false) n)) || (is_written_on written old (chain_of new d false) n || (after i && has_record_on new (chain_of new d false) n))))
 
 in_below : (written : Written) (old new : Stored) → IsPathByPath written old new → (p : Path) (d : List ℕ) → in_paths p (paths_below written old new d) ≡ (is_name p.dataset d && reach_of written old new d p.name)
 in_below written old new h p d =
-    elim (is_written_on written (chain_of old d false) []) as (λ b. is_written_on written (chain_of old d false) [] ≡ b → in_paths p (if b then paths_along written old true d (chain_of old d false) ++ paths_along written old true d (chain_of new d false) else paths_along written old false d (chain_of old d false)) ≡ (is_name p.dataset d && reach_of written old new d p.name)) [
+    elim (is_written_on written old (chain_of old d false) []) as (λ b. is_written_on written old (chain_of old d false) [] ≡ b → in_paths p (if b then paths_along written old true d (chain_of old d false) ++ paths_along written old true d (chain_of new d false) else paths_along written old false d (chain_of old d false)) ≡ (is_name p.dataset d && reach_of written old new d p.name)) [
       | true ↦ λ e.
           list_any-append (is_path p) (paths_along written old true d (chain_of old d false)) (paths_along written old true d (chain_of new d false))
           ∙ ((λ i. in_along written old true p d (chain_of old d false) i || in_along written old true p d (chain_of new d false) i)
@@ -322,22 +341,22 @@ in_datasets written old new h p (d ∷ ds) =
 
 -- ---- all of them
 
-pub touched_reached : (written : Written) (old new : Stored) (links : List Link) → IsPathByPath written old new → IsIndexOf old links → (p : Path) → is_touched written old new p ≡ true → is_in p.dataset (datasets_reached written links) ≡ true
+pub touched_reached : (written : Written) (old new : Stored) (links : List Link) → IsPathByPath written old new → IsIndexOf old links → (p : Path) → is_touched written old new p ≡ true → is_in p.dataset (datasets_reached written old links) ≡ true
 unfolding is_touched
 touched_reached written old new links h index p e =
     reached_datasets written old links index p.dataset
-    ∙ elim (is_reached written old (chain_of old p.dataset false) p.name) as (λ b. is_reached written old (chain_of old p.dataset false) p.name ≡ b → (b || is_reached written new (chain_of new p.dataset false) p.name) ≡ true → list_any (wrote written) (chain_of old p.dataset false) ≡ true) [
-      | true ↦ λ r _. reach_wrote written old (chain_of old p.dataset false) p.name r
-      | false ↦ λ _ r. wrote_before 8 written old new h p.dataset (reach_wrote written new (chain_of new p.dataset false) p.name r)
+    ∙ elim (is_reached written old old (chain_of old p.dataset false) p.name) as (λ b. is_reached written old old (chain_of old p.dataset false) p.name ≡ b → (b || is_reached written old new (chain_of new p.dataset false) p.name) ≡ true → list_any (wrote written old) (chain_of old p.dataset false) ≡ true) [
+      | true ↦ λ r _. reach_wrote written old old (chain_of old p.dataset false) p.name r
+      | false ↦ λ _ r. wrote_before 8 written old new h p.dataset (reach_wrote written old new (chain_of new p.dataset false) p.name r)
     ] refl (second_of (dataset_exists new p.dataset) _ e)
 
 pub found_touched : (change : Change) (old new : Store) (links : List Link) (left : Stored) (datasets : List (List ℕ)) (paths : List Path) → IsIndexOf old.records links → IsStoreAfter change old new → left ≡ new.records
-    → datasets ≡ datasets_reached change.writes links → paths ≡ paths_found change.writes old.records left datasets → paths ≡ touched_paths change.writes old.records new.records
+    → datasets ≡ datasets_reached change.writes old.records links → paths ≡ paths_found change.writes old.records left datasets → paths ≡ touched_paths change.writes old.records new.records
 found_touched change old new links left datasets paths index h same d e =
-    let found = flat_map (paths_in change.writes old.records new.records) (datasets_reached change.writes links) in
+    let found = flat_map (paths_in change.writes old.records new.records) (datasets_reached change.writes old.records links) in
     e
     ∙ ((λ i. paths_found change.writes old.records (same i) (d i))
     ∙ touched_is change.writes old.records new.records h.paths (in_order found) (order_rises found) (λ p.
     any_order p found
-    ∙ (in_datasets change.writes old.records new.records h.paths p (datasets_reached change.writes links)
-    ∙ absorbed (is_in p.dataset (datasets_reached change.writes links)) (is_touched change.writes old.records new.records p) (touched_reached change.writes old.records new.records links h.paths index p))))
+    ∙ (in_datasets change.writes old.records new.records h.paths p (datasets_reached change.writes old.records links)
+    ∙ absorbed (is_in p.dataset (datasets_reached change.writes old.records links)) (is_touched change.writes old.records new.records p) (touched_reached change.writes old.records new.records links h.paths index p))))

@@ -26,6 +26,7 @@ use Rattle.acap_inherit.specs.Touched.{is_written}
 use Rattle.acap_inherit.specs.declared.link.Link.{Link}
 use Rattle.acap_inherit.proofs.NamesLaws.{tied_parts}
 use Rattle.acap_inherit.proofs.UnreadLaws.{unwritten}
+use Rattle.acap_inherit.proofs.WrittenLemmas.{has_fate, no_fate}
 
 pub link_total : IsTotalOrder link_cmp
 link_total = then_total (on_texts (λ (l : Link). l.base)) (on_texts (λ (l : Link). l.heir))
@@ -171,7 +172,7 @@ all_written records (w ∷ es) base heir =
     ∙ ((λ i. one_written records w.0.dataset w.0.name base heir i || all_written records es base heir i)
     ∙ either_and (eq_by_cmp path_cmp (managed heir) w.0) (list_any (eq_by_cmp path_cmp (managed heir)) (each (λ e. e.0) es)) (is_base (base_at records heir) base))
 
-pub linked_written : (written : Written) (records : Stored) (base heir : List ℕ) → is_linked (links_written written records) base heir ≡ (is_written written heir [] && is_base (base_at records heir) base)
+pub linked_written : (written : Written) (records : Stored) (base heir : List ℕ) → is_linked (links_written written records) base heir ≡ (has_fate written heir [] && is_base (base_at records heir) base)
 linked_written written records base heir =
     all_written records (map.entries written) base heir
     ∙ ap (λ b. b && is_base (base_at records heir) base) (sym (map.contains_key-keys written (managed heir)))
@@ -185,7 +186,7 @@ settles true false true h = refl
 settles true false false h = refl
 settles false old new h = h refl
 
-pub base_kept : (written : Written) (old new : Stored) → IsPathByPath written old new → (heir : List ℕ) → is_written written heir [] ≡ false → base_at old heir ≡ base_at new heir
+pub base_kept : (written : Written) (old new : Stored) → IsPathByPath written old new → (heir : List ℕ) → is_written written old heir [] ≡ false → base_at old heir ≡ base_at new heir
 base_kept written old new h heir e = let same = unwritten written old new h heir [] e in rw same refl
 
 pub settled_index : (written : Written) (old new : Stored) (links : List Link) → IsPathByPath written old new → IsIndexOf old links → IsIndexOf new (index_with (links_written written old, links_written written new) links)
@@ -196,7 +197,7 @@ settled_index written old new links h index = record {
       linked_with put (without_all taken links) base heir
       ∙ (ap (λ b. is_linked put base heir || b) (linked_without taken links base heir)
       ∙ ((λ i. linked_written written new base heir i || (not (linked_written written old base heir i) && index.each base heir i))
-      ∙ settles (is_written written heir []) (is_base (base_at old heir) base) (is_base (base_at new heir) base) (λ e. ap (λ found. is_base found base) (base_kept written old new h heir e))));
+      ∙ settles (has_fate written heir []) (is_base (base_at old heir) base) (is_base (base_at new heir) base) (λ e. ap (λ found. is_base found base) (base_kept written old new h heir (no_fate written old heir [] e)))));
 }
 
 nothing_named : (heir : List ℕ) → base_at map.empty heir ≡ None

@@ -16,3 +16,4 @@ mod Sampling
 mod TouchedLemmas
 mod TouchedSamples
 pub mod UnreadLaws
+pub mod WrittenLemmas

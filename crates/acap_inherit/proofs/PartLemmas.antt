@@ -23,14 +23,15 @@ use Rattle.acap_entries.proofs.StoreLemmas.{octets_same, path_same, path_cmp_tot
 use Rattle.acap_inherit.specs.Chains.{chain_of}
 use Rattle.acap_inherit.specs.Index.{IsIndexOf, heirs_in}
 use Rattle.acap_inherit.specs.Touched.{is_written, is_written_on, is_touched, by_octets, octets_total, ordered_among, in_order, touched_paths, datasets_touched, touched_at}
-use Rattle.acap_inherit.specs.Touching.{datasets_written, with_heirs, datasets_reached, path_at, paths_in, touched_dataset, datasets_found}
+use Rattle.acap_inherit.specs.Touching.{changes, datasets_written, with_heirs, datasets_reached, path_at, paths_in, touched_dataset, datasets_found}
 use Rattle.acap_inherit.specs.declared.link.Link.{Link}
 use Rattle.acap_inherit.specs.declared.touched_dataset.TouchedDataset.{TouchedDataset}
-use Rattle.acap_inherit.proofs.FoundLemmas.{any_among, is_in, wrote, reached_datasets, keys_of_datasets, or_false, in_dataset, touched_reached, name_turned}
+use Rattle.acap_inherit.proofs.FoundLemmas.{any_among, is_in, wrote, reached_datasets, wrote_at, or_false, in_dataset, touched_reached, name_turned}
 use Rattle.acap_inherit.proofs.IndexLemmas.{never}
 use Rattle.acap_inherit.proofs.MergeLemmas.{is_name, or_left, or_right, first_of, second_of, both_of}
 use Rattle.acap_inherit.proofs.NameLemmas.{yes}
 use Rattle.acap_inherit.proofs.TouchedLemmas.{is_path, same_paths, alike_if, any_weaker, any_order, order_rises, same_list, any_touched, touched_rises, equal, absorbed}
+use Rattle.acap_inherit.proofs.WrittenLemmas.{paths_of, changes_at}
 
 -- ---- parts of lists in an order
 
@@ -115,25 +116,21 @@ any_each q f [] = refl
 any_each q f (x ∷ xs) = ap (λ b. q (f x) || b) (any_each q f xs)
 
 -- a written dataset has a written name
-name_written : (written : Written) (m : List ℕ) → wrote written m ≡ true → (n : List ℕ) × (is_written written m n ≡ true)
-name_written written m e =
-    let listed : list_any (λ (p : Path). is_name m p.dataset) (map.keys written) ≡ true =
-    sym (any_among octets_cmp nat_list_cmp_total m (each (λ w. w.0.dataset) (map.entries written)) []
-    ∙ (or_false (is_in m (each (λ w. w.0.dataset) (map.entries written)))
-    ∙ keys_of_datasets m (map.keys written) (map.entries written) refl)) ∙ e in
-    let p = any_member path_cmp path_cmp_total path_same (λ (p : Path). is_name m p.dataset) (map.keys written) listed in
+name_written : (written : Written) (old : Stored) (m : List ℕ) → wrote written old m ≡ true → (n : List ℕ) × (is_written written old m n ≡ true)
+name_written written old m e =
+    let p = any_member path_cmp path_cmp_total path_same (λ (p : Path). is_name m p.dataset) (paths_of (filter (changes old) (map.entries written))) (sym (wrote_at written old m) ∙ e) in
     let same = octets_same m p.0.dataset (equal _ p.1) in
-    (p.0.name, ap (λ d. is_written written d p.0.name) same ∙ (map.contains_key-keys written p.0 ∙ p.2))
+    (p.0.name, ap (λ d. is_written written old d p.0.name) same ∙ (sym (changes_at written old p.0) ∙ p.2))
 
-name_along : (written : Written) (chain : List (List ℕ)) → list_any (wrote written) chain ≡ true → (n : List ℕ) × (is_written_on written chain n ≡ true)
-name_along written [] e = cc
-name_along written (m ∷ chain) e =
-    elim (wrote written m) as (λ b. wrote written m ≡ b → (b || list_any (wrote written) chain) ≡ true → (n : List ℕ) × (is_written_on written (m ∷ chain) n ≡ true)) [
-      | true ↦ λ w _. let n = name_written written m w in (n.0, or_left _ _ n.1)
-      | false ↦ λ _ e. let n = name_along written chain e in (n.0, or_right _ _ n.1)
+name_along : (written : Written) (old : Stored) (chain : List (List ℕ)) → list_any (wrote written old) chain ≡ true → (n : List ℕ) × (is_written_on written old chain n ≡ true)
+name_along written old [] e = cc
+name_along written old (m ∷ chain) e =
+    elim (wrote written old m) as (λ b. wrote written old m ≡ b → (b || list_any (wrote written old) chain) ≡ true → (n : List ℕ) × (is_written_on written old (m ∷ chain) n ≡ true)) [
+      | true ↦ λ w _. let n = name_written written old m w in (n.0, or_left _ _ n.1)
+      | false ↦ λ _ e. let n = name_along written old chain e in (n.0, or_right _ _ n.1)
     ] refl e
 
-touched_somewhere : (written : Written) (old new : Stored) (d n : List ℕ) → dataset_exists new d ≡ true → is_written_on written (chain_of old d false) n ≡ true → is_touched written old new (path_at d n) ≡ true
+touched_somewhere : (written : Written) (old new : Stored) (d n : List ℕ) → dataset_exists new d ≡ true → is_written_on written old (chain_of old d false) n ≡ true → is_touched written old new (path_at d n) ≡ true
 unfolding is_touched
 touched_somewhere written old new d n e w = both_of _ _ e (or_left _ _ (or_left _ _ w))
 
@@ -142,29 +139,29 @@ unfolding is_touched
 touched_exists written old new p e = first_of _ _ e
 
 touched_dataset_in : (written : Written) (old new : Stored) (links : List Link) → IsPathByPath written old new → IsIndexOf old links → (d : List ℕ)
-    → list_any (λ (p : Path). is_name d p.dataset) (touched_paths written old new) ≡ (is_in d (datasets_reached written links) && dataset_exists new d)
+    → list_any (λ (p : Path). is_name d p.dataset) (touched_paths written old new) ≡ (is_in d (datasets_reached written old links) && dataset_exists new d)
 touched_dataset_in written old new links h index d =
     alike_if _ _
     (λ e.
     let p = any_member by_octets octets_total same_paths (λ (p : Path). is_name d p.dataset) (touched_paths written old new) e in
     let is : is_touched written old new p.0 ≡ true = sym (any_touched written old new h p.0) ∙ p.2 in
     let same = octets_same d p.0.dataset (equal _ p.1) in
-    ap (λ k. is_in k (datasets_reached written links) && dataset_exists new k) same
+    ap (λ k. is_in k (datasets_reached written old links) && dataset_exists new k) same
     ∙ both_of _ _ (touched_reached written old new links h index p.0 is) (touched_exists written old new p.0 is))
     (λ e.
-    let n = name_along written (chain_of old d false) (sym (reached_datasets written old links index d) ∙ first_of _ _ e) in
+    let n = name_along written old (chain_of old d false) (sym (reached_datasets written old links index d) ∙ first_of _ _ e) in
     let is = touched_somewhere written old new d n.0 (second_of _ _ e) n.1 in
     any_weaker (is_path (path_at d n.0)) (λ (p : Path). is_name d p.dataset) (λ p t. ap (λ (q : Path). is_name d q.dataset) (sym (same_paths (path_at d n.0) p (equal _ t))) ∙ ap is_eq (tied_itself nat_list_cmp_total d))
     (touched_paths written old new) (any_touched written old new h (path_at d n.0) ∙ is))
 
-part_datasets : (written : Written) (old new : Stored) (links : List Link) → IsPathByPath written old new → IsIndexOf old links → filter (dataset_exists new) (datasets_reached written links) ≡ datasets_touched written old new
+part_datasets : (written : Written) (old new : Stored) (links : List Link) → IsPathByPath written old new → IsIndexOf old links → filter (dataset_exists new) (datasets_reached written old links) ≡ datasets_touched written old new
 part_datasets written old new links h index =
-    same_list octets_cmp nat_list_cmp_total octets_same (filter (dataset_exists new) (datasets_reached written links)) (datasets_touched written old new)
-    (kept_rises octets_cmp nat_list_cmp_total octets_same (dataset_exists new) (datasets_reached written links)
-    (heirs_rise 7 links (datasets_written written) [] (none_rises octets_cmp nat_list_cmp_total octets_same)))
+    same_list octets_cmp nat_list_cmp_total octets_same (filter (dataset_exists new) (datasets_reached written old links)) (datasets_touched written old new)
+    (kept_rises octets_cmp nat_list_cmp_total octets_same (dataset_exists new) (datasets_reached written old links)
+    (heirs_rise 7 links (datasets_written written old) [] (none_rises octets_cmp nat_list_cmp_total octets_same)))
     (among_rises octets_cmp nat_list_cmp_total octets_same (each (λ (p : Path). p.dataset) (touched_paths written old new)) [] (none_rises octets_cmp nat_list_cmp_total octets_same))
     (λ d.
-    any_part octets_cmp nat_list_cmp_total octets_same (dataset_exists new) d (datasets_reached written links)
+    any_part octets_cmp nat_list_cmp_total octets_same (dataset_exists new) d (datasets_reached written old links)
     ∙ (sym (touched_dataset_in written old new links h index d)
     ∙ sym (any_among octets_cmp nat_list_cmp_total d (each (λ (p : Path). p.dataset) (touched_paths written old new)) []
     ∙ (or_false _ ∙ any_each (is_name d) (λ (p : Path). p.dataset) (touched_paths written old new)))))
@@ -178,12 +175,12 @@ each_part p f (x ∷ xs) =
     ]
 
 pub found_in : (change : Change) (old new : Store) (links : List Link) (left : Stored) (datasets : List (List ℕ)) (made : List TouchedDataset) → IsIndexOf old.records links → IsStoreAfter change old new → left ≡ new.records
-    → datasets ≡ datasets_reached change.writes links → made ≡ datasets_found change.writes old.records left datasets
+    → datasets ≡ datasets_reached change.writes old.records links → made ≡ datasets_found change.writes old.records left datasets
     → made ≡ each (touched_dataset change.writes old.records) (datasets_touched change.writes old.records new.records)
 found_in change old new links left datasets made index h same d e =
     e
     ∙ ((λ i. datasets_found change.writes old.records (same i) (d i))
-    ∙ (each_part (dataset_exists new.records) (touched_dataset change.writes old.records) (datasets_reached change.writes links)
+    ∙ (each_part (dataset_exists new.records) (touched_dataset change.writes old.records) (datasets_reached change.writes old.records links)
     ∙ ap (each (touched_dataset change.writes old.records)) (part_datasets change.writes old.records new.records links h.paths index)))
 
 -- ---- all datasets together

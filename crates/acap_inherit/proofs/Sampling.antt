@@ -18,7 +18,7 @@ use Rattle.acap_entries.specs.declared.record.Record.{Record}
 use Rattle.acap_entries.proofs.StoreLemmas.{path_cmp_total}
 use Rattle.acap_inherit.specs.Chains.{name_in, onward, chain_within, chain_of}
 use Rattle.acap_inherit.specs.Records.{record_at, cell_in}
-use Rattle.acap_inherit.specs.Touched.{is_written, is_reached, is_touched, paths_known, paths_across, in_order, touched_paths}
+use Rattle.acap_inherit.specs.Touched.{is_change, is_written, is_reached, is_touched, paths_known, paths_across, in_order, touched_paths}
 use Rattle.acap_inherit.specs.TouchedExamples.{Attributes, present, store_of, fate_of, writes_of, at}
 
 -- ---- what is looked up: the cells of a record by attribute, if there is one
@@ -74,15 +74,15 @@ is_found : (found : Option Record) → is_some found ≡ is_some (option_map cel
 is_found None = refl
 is_found (Some e) = refl
 
-reached_seen : (written : Written) (records : Stored) (d name : List ℕ) → is_reached written records (chain_of records d false) name ≡ reached_by (is_written written) (look records) (within_by 8 (look records) d) name
-reached_seen written records d name =
-    ap (λ chain. is_reached written records chain name) (within_seen 8 records d)
-    ∙ (λ i. let chain = within_by 8 (look records) d in list_any (λ m. is_written written m name) chain || (list_any (λ m. is_written written m []) chain && list_any (λ m. is_found (record_at records m name) i) chain))
+reached_seen : (written : Written) (old records : Stored) (d name : List ℕ) → is_reached written old records (chain_of records d false) name ≡ reached_by (is_written written old) (look records) (within_by 8 (look records) d) name
+reached_seen written old records d name =
+    ap (λ chain. is_reached written old records chain name) (within_seen 8 records d)
+    ∙ (λ i. let chain = within_by 8 (look records) d in list_any (λ m. is_written written old m name) chain || (list_any (λ m. is_written written old m []) chain && list_any (λ m. is_found (record_at records m name) i) chain))
 
-touched_seen : (written : Written) (old new : Stored) (p : Path) → is_touched written old new p ≡ touched_by (is_written written) (look old) (look new) p
+touched_seen : (written : Written) (old new : Stored) (p : Path) → is_touched written old new p ≡ touched_by (is_written written old) (look old) (look new) p
 unfolding is_touched
 touched_seen written old new p =
-    λ i. (octets_eq p.dataset (slash ∷ []) || exists_found new (own_entry p.dataset) i) && (reached_seen written old p.dataset p.name i || reached_seen written new p.dataset p.name i)
+    λ i. (octets_eq p.dataset (slash ∷ []) || exists_found new (own_entry p.dataset) i) && (reached_seen written old old p.dataset p.name i || reached_seen written old new p.dataset p.name i)
 
 -- ---- stores that are written out
 
@@ -123,15 +123,25 @@ rows_seen rows d n =
 fate_found : (writes : List (Path × Option Attributes)) (p : Path) → map.get (writes_of writes) p ≡ option_map fate_of (find path_cmp p writes)
 fate_found writes p = map.get-from_entries path_cmp_total (each (λ row. (row.0, fate_of row.1)) writes) p ∙ find_each path_cmp fate_of p writes
 
-some_fate : (found : Option (Option Attributes)) → is_some (option_map fate_of found) ≡ is_some found
-some_fate None = refl
-some_fate (Some row) = refl
+abbrev pub change_row : Option (Option Attributes) → Bool → Bool
+change_row None before = false
+change_row (Some None) before = before
+change_row (Some (Some attributes)) before = true
 
-abbrev pub writes_by : List (Path × Option Attributes) → List ℕ → List ℕ → Bool
-writes_by writes d n = is_some (find path_cmp (at d n) writes)
+row_changes : (found : Option (Option Attributes)) (before : Option Record) → is_change (option_map fate_of found) before ≡ change_row found (is_some before)
+row_changes None before = refl
+row_changes (Some None) before = refl
+row_changes (Some (Some attributes)) before = refl
 
-writes_seen : (writes : List (Path × Option Attributes)) (d n : List ℕ) → is_written (writes_of writes) d n ≡ writes_by writes d n
-writes_seen writes d n = ap is_some (fate_found writes (at d n)) ∙ some_fate (find path_cmp (at d n) writes)
+abbrev pub writes_by : List (Path × Option Attributes) → List (Path × Attributes) → List ℕ → List ℕ → Bool
+writes_by writes rows d n = change_row (find path_cmp (at d n) writes) (is_some (rows_by rows d n))
+
+writes_seen : (writes : List (Path × Option Attributes)) (rows : List (Path × Attributes)) (d n : List ℕ) → is_written (writes_of writes) (store_of rows) d n ≡ writes_by writes rows d n
+writes_seen writes rows d n =
+    let before = record_at (store_of rows) d n in
+    ap (λ fate. is_change fate before) (fate_found writes (at d n))
+    ∙ (row_changes (find path_cmp (at d n) writes) before
+    ∙ ap (change_row (find path_cmp (at d n) writes)) (is_found before ∙ ap is_some (rows_seen rows d n)))
 
 abbrev pub after_row : Option (Option Attributes) → Option (List ℕ → Option Cell) → Option (List ℕ → Option Cell)
 after_row None old = old
@@ -152,12 +162,12 @@ after_seen writes rows new h d n =
     ∙ ap (after_row (find path_cmp (at d n) writes)) (rows_seen rows d n))
 
 abbrev pub is_touched_in : List (Path × Attributes) → List (Path × Option Attributes) → Path → Bool
-is_touched_in rows writes p = touched_by (writes_by writes) (rows_by rows) (after_by writes rows) p
+is_touched_in rows writes p = touched_by (writes_by writes rows) (rows_by rows) (after_by writes rows) p
 
 pub one_computed : (rows : List (Path × Attributes)) (writes : List (Path × Option Attributes)) (new : Stored) → IsPathByPath (writes_of writes) (store_of rows) new → (p : Path) → is_touched (writes_of writes) (store_of rows) new p ≡ is_touched_in rows writes p
 one_computed rows writes new h p =
     touched_seen (writes_of writes) (store_of rows) new p
-    ∙ (λ i. touched_by (λ d n. writes_seen writes d n i) (λ d n. rows_seen rows d n i) (λ d n. after_seen writes rows new h d n i) p)
+    ∙ (λ i. touched_by (λ d n. writes_seen writes rows d n i) (λ d n. rows_seen rows d n i) (λ d n. after_seen writes rows new h d n i) p)
 
 abbrev pub known_in : List (Path × Attributes) → List (Path × Option Attributes) → List Path
 known_in rows writes =

@@ -30,6 +30,7 @@ use Rattle.acap_inherit.specs.Touched.{is_written, is_written_on, has_record_on,
 use Rattle.acap_inherit.proofs.IndexLemmas.{any_with, either_and, never}
 use Rattle.acap_inherit.proofs.MergeLemmas.{marked, itself, or_left, or_right, first_of, second_of, both_of}
 use Rattle.acap_inherit.proofs.UnreadLaws.{chain_alone}
+use Rattle.acap_inherit.proofs.WrittenLemmas.{has_fate, written_fate}
 
 -- ---- tests
 
@@ -166,9 +167,9 @@ any_crossed p (d ∷ ds) ns =
 
 -- ---- what is touched is in question
 
--- whether a path is written or has a record before
+-- whether anything is to be done at a path, or it has a record before
 abbrev pub is_known : Written → Stored → List ℕ → List ℕ → Bool
-is_known written old m n = is_written written m n || is_some (record_at old m n)
+is_known written old m n = has_fate written m n || is_some (record_at old m n)
 
 abbrev path_at : List ℕ → List ℕ → Path
 path_at m n = record { dataset = m; name = n }
@@ -177,7 +178,7 @@ known_by : (written : Written) (old : Stored) (test : Path → Bool) (m n : List
 known_by written old test m n h e =
     let tests : (x : Path) → eq_by_cmp path_cmp (path_at m n) x ≡ true → test x ≡ true = λ x t. subst (λ y. test y ≡ true) (path_same (path_at m n) x (equal _ t)) h in
     list_any-append test (map.keys old) (map.keys written)
-    ∙ elim (is_written written m n) as (λ b. is_written written m n ≡ b → (b || is_some (record_at old m n)) ≡ true → (list_any test (map.keys old) || list_any test (map.keys written)) ≡ true) [
+    ∙ elim (has_fate written m n) as (λ b. has_fate written m n ≡ b → (b || is_some (record_at old m n)) ≡ true → (list_any test (map.keys old) || list_any test (map.keys written)) ≡ true) [
       | true ↦ λ w _. or_right _ _ (any_weaker _ test tests (map.keys written) (sym (map.contains_key-keys written (path_at m n)) ∙ w))
       | false ↦ λ _ r. or_left _ _ (any_weaker _ test tests (map.keys old) (sym (map.contains_key-keys old (path_at m n)) ∙ r))
     ] refl e
@@ -193,10 +194,10 @@ known_after written old new h m n e =
       | None ↦ λ none. ap is_some (sym (h.at_path (path_at m n) ∙ ap (λ (found : Option Fate). after_fate found (record_at old m n)) none)) ∙ e
     ] refl
 
-reach_name : (written : Written) (old records : Stored) → IsKnown written old records → (p : Path) (chain : List (List ℕ)) → is_reached written records chain p.name ≡ true → list_any (of_name p) (paths_known written old) ≡ true
+reach_name : (written : Written) (old records : Stored) → IsKnown written old records → (p : Path) (chain : List (List ℕ)) → is_reached written old records chain p.name ≡ true → list_any (of_name p) (paths_known written old) ≡ true
 reach_name written old records k p chain e =
-    elim (is_written_on written chain p.name) as (λ b. is_written_on written chain p.name ≡ b → (b || (is_written_on written chain [] && has_record_on records chain p.name)) ≡ true → list_any (of_name p) (paths_known written old) ≡ true) [
-      | true ↦ λ w _. let m = any_one (λ m. is_written written m p.name) chain w in known_by written old (of_name p) m.0 p.name (itself p.name) (or_left _ _ m.1)
+    elim (is_written_on written old chain p.name) as (λ b. is_written_on written old chain p.name ≡ b → (b || (is_written_on written old chain [] && has_record_on records chain p.name)) ≡ true → list_any (of_name p) (paths_known written old) ≡ true) [
+      | true ↦ λ w _. let m = any_one (λ m. is_written written old m p.name) chain w in known_by written old (of_name p) m.0 p.name (itself p.name) (or_left _ _ (written_fate written old m.0 p.name m.1))
       | false ↦ λ _ e. let m = any_one (λ m. is_some (record_at records m p.name)) chain (second_of _ _ e) in known_by written old (of_name p) m.0 p.name (itself p.name) (k m.0 p.name m.1)
     ] refl e
 
@@ -204,16 +205,16 @@ or_none : (a : Bool) → (a || false) ≡ true → a ≡ true
 or_none true e = refl
 or_none false e = e
 
-reach_dataset : (written : Written) (old records : Stored) → IsKnown written old records → (p : Path) → is_reached written records (chain_of records p.dataset false) p.name ≡ true → list_any (in_dataset p) (paths_known written old) ≡ true
+reach_dataset : (written : Written) (old records : Stored) → IsKnown written old records → (p : Path) → is_reached written old records (chain_of records p.dataset false) p.name ≡ true → list_any (in_dataset p) (paths_known written old) ≡ true
 reach_dataset written old records k p e =
     elim (record_at records p.dataset []) as (λ (found : Option Record). record_at records p.dataset [] ≡ found → list_any (in_dataset p) (paths_known written old) ≡ true) [
       | Some entry ↦ λ is. known_by written old (in_dataset p) p.dataset [] (itself p.dataset) (k p.dataset [] (ap is_some is))
       | None ↦ λ none.
-          let w = is_written written p.dataset [] in
-          let alone : is_reached written records (p.dataset ∷ []) p.name ≡ true = ap (λ chain. is_reached written records chain p.name) (sym (chain_alone records p.dataset none)) ∙ e in
-          elim (is_written written p.dataset p.name) as (λ b. is_written written p.dataset p.name ≡ b → ((b || false) || ((w || false) && has_record_on records (p.dataset ∷ []) p.name)) ≡ true → list_any (in_dataset p) (paths_known written old) ≡ true) [
-            | true ↦ λ is _. known_by written old (in_dataset p) p.dataset p.name (itself p.dataset) (or_left _ _ is)
-            | false ↦ λ _ e. known_by written old (in_dataset p) p.dataset [] (itself p.dataset) (or_left w (is_some (record_at old p.dataset [])) (or_none w (first_of (w || false) (has_record_on records (p.dataset ∷ []) p.name) e)))
+          let w = is_written written old p.dataset [] in
+          let alone : is_reached written old records (p.dataset ∷ []) p.name ≡ true = ap (λ chain. is_reached written old records chain p.name) (sym (chain_alone records p.dataset none)) ∙ e in
+          elim (is_written written old p.dataset p.name) as (λ b. is_written written old p.dataset p.name ≡ b → ((b || false) || ((w || false) && has_record_on records (p.dataset ∷ []) p.name)) ≡ true → list_any (in_dataset p) (paths_known written old) ≡ true) [
+            | true ↦ λ is _. known_by written old (in_dataset p) p.dataset p.name (itself p.dataset) (or_left _ _ (written_fate written old p.dataset p.name is))
+            | false ↦ λ _ e. known_by written old (in_dataset p) p.dataset [] (itself p.dataset) (or_left (has_fate written p.dataset []) (is_some (record_at old p.dataset [])) (written_fate written old p.dataset [] (or_none w (first_of (w || false) (has_record_on records (p.dataset ∷ []) p.name) e))))
           ] refl alone
     ] refl
 
@@ -224,7 +225,7 @@ touched_known written old new h p e =
     let before : IsKnown written old old = λ m n r. or_right _ _ r in
     let after = known_after written old new h in
     any_crossed p (paths_known written old) (paths_known written old)
-    ∙ elim (is_reached written old (chain_of old p.dataset false) p.name) as (λ b. is_reached written old (chain_of old p.dataset false) p.name ≡ b → (b || is_reached written new (chain_of new p.dataset false) p.name) ≡ true → (list_any (in_dataset p) (paths_known written old) && list_any (of_name p) (paths_known written old)) ≡ true) [
+    ∙ elim (is_reached written old old (chain_of old p.dataset false) p.name) as (λ b. is_reached written old old (chain_of old p.dataset false) p.name ≡ b → (b || is_reached written old new (chain_of new p.dataset false) p.name) ≡ true → (list_any (in_dataset p) (paths_known written old) && list_any (of_name p) (paths_known written old)) ≡ true) [
       | true ↦ λ r _. both_of _ _ (reach_dataset written old old before p r) (reach_name written old old before p _ r)
       | false ↦ λ _ r. both_of _ _ (reach_dataset written old new after p r) (reach_name written old new after p _ r)
     ] refl reached

@@ -28,6 +28,9 @@ touched_examples = record {
   made = all_touched (dataset (codes "a") ∷ []) (new_row (dataset (codes "b")) ∷ new_row (entry b x) ∷ []) refl;
   not_made = all_touched (dataset (codes "a") ∷ []) (new_row (entry b x) ∷ []) refl;
   uncovered = all_touched (three ++ inherits b a ∷ entry a x ∷ entry b x ∷ []) (no_row b x ∷ []) refl;
+  not_there = all_touched (three ++ inherits b a ∷ entry a x ∷ []) (no_row b x ∷ no_row a y ∷ []) refl;
+  not_managed = all_touched (three ++ entry a x ∷ []) (no_row a [] ∷ []) refl;
+  parted = all_touched (three ++ inherits b a ∷ entry a x ∷ entry b y ∷ []) (no_row b [] ∷ []) refl;
   managed = all_touched (three ++ entry a x ∷ entry b y ∷ []) (new_row (lists a) ∷ []) refl;
   ordered = all_touched (three ++ (at (codes "/a/") (codes "b"), (codes "subdataset", Multi (codes "." ∷ [])) ∷ []) ∷ []) (new_row (entry (codes "/a/b/") x) ∷ new_row (entry a (codes "b!")) ∷ []) refl;
 }

@@ -5,7 +5,7 @@ use Rattle.std.specs.List.{list_any, Contains}
 use Rattle.std.specs.FinMap as map
 use Rattle.acap_entries.specs.Datasets.{dataset_exists}
 use Rattle.acap_entries.specs.Sound.{IsHoused}
-use Rattle.acap_entries.specs.Store.{Stored, Written, IsPathByPath, after_fate}
+use Rattle.acap_entries.specs.Store.{Stored, Written, IsPathByPath}
 use Rattle.acap_entries.specs.declared.path.Path.{Path}
 use Rattle.acap_inherit.specs.Chains.{base_at, onward, chain_within, chain_of}
 use Rattle.acap_inherit.specs.Laws.{AgreeOn}
@@ -15,6 +15,7 @@ use Rattle.acap_inherit.specs.Touched.{is_written, is_written_on, has_record_on,
 use Rattle.acap_inherit.specs.TouchedLaws.{IsStep, IsReadAlike, IsNowhere, IsAnsweredAlike, UnreadLaw}
 use Rattle.acap_inherit.proofs.FirstLaws.{here, there}
 use Rattle.acap_inherit.proofs.ReadingLaws.{nothing_law, reading_law, of_members_for, of_members}
+use Rattle.acap_inherit.proofs.WrittenLemmas.{unchanged}
 
 -- ---- tests that fail
 
@@ -43,13 +44,12 @@ absent (Some x) e = cc
 
 -- ---- what isn't written stays
 
-pub unwritten : (written : Written) (old new : Stored) → IsPathByPath written old new → (m n : List ℕ) → is_written written m n ≡ false → record_at old m n ≡ record_at new m n
+pub unwritten : (written : Written) (old new : Stored) → IsPathByPath written old new → (m n : List ℕ) → is_written written old m n ≡ false → record_at old m n ≡ record_at new m n
 unwritten written old new h m n e =
-    let p : Path = record { dataset = m; name = n } in
-    sym (h.at_path p ∙ ap (λ fate. after_fate fate (map.get old p)) (absent (map.get written p) e))
+    let p : Path = record { dataset = m; name = n } in unchanged (map.get written p) (map.get old p) e ∙ sym (h.at_path p)
 
-pub unwritten_on : (written : Written) (old new : Stored) → IsPathByPath written old new → (chain : List (List ℕ)) (n : List ℕ) → is_written_on written chain n ≡ false → AgreeOn old new chain n
-unwritten_on written old new h chain n e = λ m k. unwritten written old new h m n (none_of (λ m. is_written written m n) chain e m k)
+pub unwritten_on : (written : Written) (old new : Stored) → IsPathByPath written old new → (chain : List (List ℕ)) (n : List ℕ) → is_written_on written old chain n ≡ false → AgreeOn old new chain n
+unwritten_on written old new h chain n e = λ m k. unwritten written old new h m n (none_of (λ m. is_written written old m n) chain e m k)
 
 turned : (old new : Stored) (chain : List (List ℕ)) (n : List ℕ) → AgreeOn old new chain n → AgreeOn new old chain n
 turned old new chain n h = λ m k. sym (h m k)
@@ -57,13 +57,13 @@ turned old new chain n h = λ m k. sym (h m k)
 pub same_chain : (old new : Stored) (dataset : List ℕ) → AgreeOn old new (chain_of old dataset false) [] → chain_of old dataset false ≡ chain_of new dataset false
 same_chain old new dataset h = reading_law.chain old new dataset false (λ m k. h m (of_take 7 (chain_of old dataset false) m k))
 
-by_old : (written : Written) (old new : Stored) → IsPathByPath written old new → (dataset name : List ℕ) → is_written_on written (chain_of old dataset false) name ≡ false → is_written_on written (chain_of old dataset false) [] ≡ false
+by_old : (written : Written) (old new : Stored) → IsPathByPath written old new → (dataset name : List ℕ) → is_written_on written old (chain_of old dataset false) name ≡ false → is_written_on written old (chain_of old dataset false) [] ≡ false
     → IsReadAlike old new dataset name
 by_old written old new h dataset name e f =
     let kept = unwritten_on written old new h (chain_of old dataset false) [] f in
     record { chain = same_chain old new dataset kept; records = unwritten_on written old new h (chain_of old dataset false) name e; management = kept }
 
-by_new : (written : Written) (old new : Stored) → IsPathByPath written old new → (dataset name : List ℕ) → is_written_on written (chain_of new dataset false) name ≡ false → is_written_on written (chain_of new dataset false) [] ≡ false
+by_new : (written : Written) (old new : Stored) → IsPathByPath written old new → (dataset name : List ℕ) → is_written_on written old (chain_of new dataset false) name ≡ false → is_written_on written old (chain_of new dataset false) [] ≡ false
     → IsReadAlike old new dataset name
 by_new written old new h dataset name e f =
     let kept = unwritten_on written old new h (chain_of new dataset false) [] f in
@@ -105,14 +105,14 @@ gone written old new step dataset name e = record {
 
 -- ---- a path that is not touched
 
-by_reach : (written : Written) (old new : Stored) → IsPathByPath written old new → (dataset name : List ℕ) → is_reached written old (chain_of old dataset false) name ≡ false → is_reached written new (chain_of new dataset false) name ≡ false
+by_reach : (written : Written) (old new : Stored) → IsPathByPath written old new → (dataset name : List ℕ) → is_reached written old old (chain_of old dataset false) name ≡ false → is_reached written old new (chain_of new dataset false) name ≡ false
     → IsReadAlike old new dataset name ⊎ IsNowhere old new dataset name
 by_reach written old new h dataset name e f =
     let before = neither _ _ e in
     let after = neither _ _ f in
-    elim (is_written_on written (chain_of old dataset false) []) as (λ b. is_written_on written (chain_of old dataset false) [] ≡ b → (b && has_record_on old (chain_of old dataset false) name) ≡ false → IsReadAlike old new dataset name ⊎ IsNowhere old new dataset name) [
+    elim (is_written_on written old (chain_of old dataset false) []) as (λ b. is_written_on written old (chain_of old dataset false) [] ≡ b → (b && has_record_on old (chain_of old dataset false) name) ≡ false → IsReadAlike old new dataset name ⊎ IsNowhere old new dataset name) [
       | false ↦ λ k _. inl (by_old written old new h dataset name before.0 k)
-      | true ↦ λ _ r. elim (is_written_on written (chain_of new dataset false) []) as (λ b. is_written_on written (chain_of new dataset false) [] ≡ b → (b && has_record_on new (chain_of new dataset false) name) ≡ false → IsReadAlike old new dataset name ⊎ IsNowhere old new dataset name) [
+      | true ↦ λ _ r. elim (is_written_on written old (chain_of new dataset false) []) as (λ b. is_written_on written old (chain_of new dataset false) [] ≡ b → (b && has_record_on new (chain_of new dataset false) name) ≡ false → IsReadAlike old new dataset name ⊎ IsNowhere old new dataset name) [
         | false ↦ λ k _. inl (by_new written old new h dataset name after.0 k)
         | true ↦ λ _ s. inr (record { before = r; after = s })
       ] refl after.1
@@ -121,7 +121,7 @@ by_reach written old new h dataset name e f =
 read_alike : (written : Written) (old new : Stored) → IsStep written old new → (p : Path) → is_touched written old new p ≡ false → IsReadAlike old new p.dataset p.name ⊎ IsNowhere old new p.dataset p.name
 unfolding is_touched
 read_alike written old new step p e =
-    elim (dataset_exists new p.dataset) as (λ b. dataset_exists new p.dataset ≡ b → (b && (is_reached written old (chain_of old p.dataset false) p.name || is_reached written new (chain_of new p.dataset false) p.name)) ≡ false → IsReadAlike old new p.dataset p.name ⊎ IsNowhere old new p.dataset p.name) [
+    elim (dataset_exists new p.dataset) as (λ b. dataset_exists new p.dataset ≡ b → (b && (is_reached written old old (chain_of old p.dataset false) p.name || is_reached written old new (chain_of new p.dataset false) p.name)) ≡ false → IsReadAlike old new p.dataset p.name ⊎ IsNowhere old new p.dataset p.name) [
       | false ↦ λ is _. inr (gone written old new step p.dataset p.name is)
       | true ↦ λ _ r. let both = neither _ _ r in by_reach written old new step.paths p.dataset p.name both.0 both.1
     ] refl e

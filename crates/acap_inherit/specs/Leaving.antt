@@ -7,8 +7,8 @@ use Rattle.acap_entries.specs.declared.after.After.{After}
 use Rattle.acap_entries.specs.declared.change.Change.{Change}
 use Rattle.acap_entries.specs.declared.path.Path.{Path}
 use Rattle.acap_inherit.specs.Index.{IsIndexOf, links_written, index_with}
-use Rattle.acap_inherit.specs.Touched.{in_order, touched_paths, touched_at, datasets_touched}
-use Rattle.acap_inherit.specs.Touching.{paths_along, paths_below, paths_in, paths_stored, paths_found, touched_dataset, datasets_found}
+use Rattle.acap_inherit.specs.Touched.{is_written_on, in_order, touched_paths, touched_at, datasets_touched}
+use Rattle.acap_inherit.specs.Touching.{paths_along, paths_below, paths_in, paths_stored, paths_written, paths_found, touched_dataset, datasets_reached, datasets_found}
 use Rattle.acap_inherit.specs.declared.link.Link.{Link}
 use Rattle.acap_inherit.specs.declared.touched_dataset.TouchedDataset.{TouchedDataset}
 
@@ -38,6 +38,12 @@ links_in change store = links_written change.writes store.records
 abbrev pub paths_kept : Store → List ℕ → List ℕ → List Path
 paths_kept old dataset member = paths_stored old.records dataset member
 
+abbrev pub written_along : After → List ℕ → List ℕ → List Path
+written_along after dataset member = paths_written after.writes.now (records_before after) dataset member
+
+abbrev pub is_managed : After → List (List ℕ) → Bool
+is_managed after chain = is_written_on after.writes.now (records_before after) chain []
+
 abbrev pub along : After → Bool → List ℕ → List (List ℕ) → List Path
 along after all dataset chain = paths_along after.writes.now (records_before after) all dataset chain
 
@@ -50,6 +56,9 @@ in_ahead after dataset = paths_in after.writes.now (records_before after) (recor
 abbrev pub dataset_ahead : After → List ℕ → List TouchedDataset
 dataset_ahead after dataset =
     if dataset_exists (records_ahead after) dataset then touched_dataset after.writes.now (records_before after) dataset ∷ [] else []
+
+abbrev pub datasets_before : Change → Store → List Link → List (List ℕ)
+datasets_before change old links = datasets_reached change.writes old.records links
 
 abbrev pub paths_left : Change → Store → List (List ℕ) → List Path
 paths_left change old datasets = paths_found change.writes old.records (records_left change old) datasets

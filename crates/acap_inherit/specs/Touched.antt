@@ -1,5 +1,5 @@
 -- Which entries may show something else after a change than before it [RFC 2244 sections 5.1 and 5.2].
-use Rattle.std.specs.Prelude.{ℕ, Bool, false, ◌&&◌, ◌||◌, List, [], ◌∷◌, ◌++◌, map as each, is_some}
+use Rattle.std.specs.Prelude.{ℕ, Bool, true, false, ◌&&◌, ◌||◌, List, [], ◌∷◌, ◌++◌, map as each, Option, None, Some, is_some}
 use Rattle.std.specs.FinMap as map
 use Rattle.std.specs.List.{filter, flat_map, list_any}
 use Rattle.std.specs.declared.cmp.Ordering.{Ordering}
@@ -11,34 +11,44 @@ use Rattle.acap_entries.specs.FullPaths.{full_path, full_path_cmp}
 use Rattle.acap_entries.specs.Orders.{octets_cmp, octets_eq}
 use Rattle.acap_entries.specs.Ranks.{with_item}
 use Rattle.acap_entries.specs.Store.{Stored, Written}
+use Rattle.acap_entries.specs.declared.fate.Fate.{Fate}
+use Rattle.acap_entries.specs.declared.fate.Fate.TheVariants.{Put, Remove}
 use Rattle.acap_entries.specs.declared.path.Path.{Path}
+use Rattle.acap_entries.specs.declared.record.Record.{Record}
 use Rattle.acap_inherit.specs.Chains.{chain_of}
 use Rattle.acap_inherit.specs.Records.{record_at}
 
--- whether a record, or the removal of one, is written at a path
-abbrev pub is_written : Written → List ℕ → List ℕ → Bool
-is_written written dataset name = is_some (map.get written (record { dataset = dataset; name = name }))
+-- whether a record is put at a path, or the one that was there removed: to remove a record where there is none does neither
+abbrev pub is_change : Option Fate → Option Record → Bool
+is_change None before = false
+is_change (Some (Put entry)) before = true
+is_change (Some Remove) before = is_some before
+
+-- whether writes do one of these at a path of a store
+abbrev pub is_written : Written → Stored → List ℕ → List ℕ → Bool
+is_written written old dataset name =
+    is_change (map.get written (record { dataset = dataset; name = name })) (record_at old dataset name)
 
 -- whether that is so in a dataset of a chain
-abbrev pub is_written_on : Written → List (List ℕ) → List ℕ → Bool
-is_written_on written chain name = list_any (λ member. is_written written member name) chain
+abbrev pub is_written_on : Written → Stored → List (List ℕ) → List ℕ → Bool
+is_written_on written old chain name = list_any (λ member. is_written written old member name) chain
 
 -- whether an entry has a record in a dataset of a chain
 abbrev pub has_record_on : Stored → List (List ℕ) → List ℕ → Bool
 has_record_on records chain name = list_any (λ member. is_some (record_at records member name)) chain
 
--- whether writes change what is read of an entry along a chain: they write its record there, or a management entry of the chain where the
--- entry has a record
-abbrev pub is_reached : Written → Stored → List (List ℕ) → List ℕ → Bool
-is_reached written records chain name =
-    is_written_on written chain name || (is_written_on written chain [] && has_record_on records chain name)
+-- whether writes in a store change what is read of an entry along a chain, before them or after: its record there is put or removed, or that
+-- of a management entry of the chain is, and the entry has a record there in the store that is read
+abbrev pub is_reached : Written → Stored → Stored → List (List ℕ) → List ℕ → Bool
+is_reached written old records chain name =
+    is_written_on written old chain name || (is_written_on written old chain [] && has_record_on records chain name)
 
 -- whether a change touches a path: its dataset exists afterwards, and it is reached along the chain that there was, or along the one that there is
 -- afterwards. The chain is that with what is inherited, also for who asks for the dataset alone
 unfoldable pub is_touched : Written → Stored → Stored → Path → Bool
 is_touched written old new p =
     dataset_exists new p.dataset
-    && (is_reached written old (chain_of old p.dataset false) p.name || is_reached written new (chain_of new p.dataset false) p.name)
+    && (is_reached written old old (chain_of old p.dataset false) p.name || is_reached written old new (chain_of new p.dataset false) p.name)
 
 -- the paths in question: any dataset that has a record or gets one, with any name of which that is so
 abbrev pub paths_known : Written → Stored → List Path

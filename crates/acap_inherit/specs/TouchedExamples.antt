@@ -117,6 +117,11 @@ pub record TouchedExamples : Type 0 where
   pub not_made : Touches (dataset (codes "a") ∷ []) (new_row (entry b x) ∷ []) []
   -- the removal of a record over a base's
   pub uncovered : Touches (three ++ inherits b a ∷ entry a x ∷ entry b x ∷ []) (no_row b x ∷ []) (at b x ∷ [])
+  -- the removal of a record that isn't there touches nothing, also where a base has one
+  pub not_there : Touches (three ++ inherits b a ∷ entry a x ∷ []) (no_row b x ∷ no_row a y ∷ []) []
+  -- of a management entry likewise, whatever is in its dataset; the removal of one that is there touches all that was seen through it
+  pub not_managed : Touches (three ++ entry a x ∷ []) (no_row a [] ∷ []) []
+  pub parted : Touches (three ++ inherits b a ∷ entry a x ∷ entry b y ∷ []) (no_row b [] ∷ []) (at b [] ∷ at b x ∷ at b y ∷ [])
   -- a management entry of a dataset that inherits nothing
   pub managed : Touches (three ++ entry a x ∷ entry b y ∷ []) (new_row (lists a) ∷ []) (at a [] ∷ at a x ∷ [])
   -- the order is that of full octets, in which `!` comes before `/`

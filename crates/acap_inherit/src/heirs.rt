@@ -1,13 +1,14 @@
 //! Which datasets inherit from some, by the index.
-ghost use Rattle.std.specs.Prelude.{◌≡◌, ◌++◌, [], map, IfOk, OnOk};
-ghost use Rattle.std.specs.FinMap as table;
+ghost use Rattle.std.specs.Prelude.{◌≡◌, ◌++◌, [], IfOk, OnOk};
 ghost use Rattle.std.specs.List.{flat_map};
 ghost use Rattle.acap_inherit.specs.Index.{heirs_in};
+ghost use Rattle.acap_inherit.specs.Leaving.{datasets_before};
 ghost use Rattle.acap_inherit.specs.Touched.{ordered_among};
 ghost use Rattle.acap_inherit.specs.Touching as rule;
 
 use crate::link::Link;
-use acap_entries::{Boxed, Copying, Dataset, Memory, Probe, Ranked, Writes};
+use crate::written::is_change;
+use acap_entries::{Boxed, Change, Copying, Dataset, Memory, Probe, Ranked, Tree, Writes};
 use std::alloc::Global;
 use std::cmp::Ordering;
 
@@ -87,23 +88,29 @@ pub(crate) fn put_among<T: Ord + Drop>(
     Ok(())
 }
 
-// Copies of the datasets in which something is written, one for each record.
-fn copy_written(alloc: Global, writes: &Writes) -> Result<Vec<Boxed<Dataset>>, Memory>
-    ensures { IfOk result (λ datasets. datasets.items ≡ map (λ w. w.0.dataset) (table.entries writes.now)) }
+// Copies of the datasets in which a record is put or removed, one for each record.
+fn copy_written(alloc: Global, tree: &Tree, writes: &Writes) -> Result<Vec<Boxed<Dataset>>, Memory>
+    ensures { IfOk result (λ made. made.items ≡ rule.datasets_each writes.now tree.now.store.records) }
 {
     let mut datasets = Vec::new(alloc);
-    for (path, _) in writes.entries() {
-        datasets.push(box_copy(alloc, &path.dataset)?)?;
+    for (path, fate) in writes.entries() {
+        if is_change(tree, path, fate) {
+            datasets.push(box_copy(alloc, &path.dataset)?)?;
+        }
     }
     Ok(datasets)
 }
 
-// Each dataset in which something is written.
-fn datasets_written(alloc: Global, writes: &Writes) -> Result<Vec<Boxed<Dataset>>, Memory>
-    ensures { IfOk result (λ datasets. datasets.items ≡ rule.datasets_written writes.now) }
+// Each dataset in which a record is put or removed.
+fn datasets_written(
+    alloc: Global,
+    tree: &Tree,
+    writes: &Writes,
+) -> Result<Vec<Boxed<Dataset>>, Memory>
+    ensures { IfOk result (λ made. made.items ≡ rule.datasets_written writes.now tree.now.store.records) }
 {
     let mut ranked = Ranked::new(alloc);
-    put_among(&mut ranked, copy_written(alloc, writes)?)?;
+    put_among(&mut ranked, copy_written(alloc, tree, writes)?)?;
     let mut datasets = Vec::with_capacity(alloc, ranked.len())?;
     for dataset in ranked.iter() {
         datasets.push(box_copy(alloc, dataset.get())?)?;
@@ -131,13 +138,14 @@ fn with_heirs(
     Ok(found)
 }
 
-/// The datasets on whose chains, as they are before it, a change writes something. Fails only for want of memory.
+/// The datasets on whose chains, as they are before it, a change puts or removes a record. Fails only for want of memory.
 pub(crate) fn datasets_reached(
-    alloc: Global,
+    tree: &Tree,
+    change: &Change,
     links: &Ranked<Boxed<Link>>,
-    writes: &Writes,
 ) -> Result<Ranked<Boxed<Dataset>>, Memory>
-    ensures { IfOk result (λ found. found.0 ≡ rule.datasets_reached writes.now links.now.0) }
+    ensures { IfOk result (λ found. found.0 ≡ datasets_before change.now tree.now.store links.now.0) }
 {
-    with_heirs(links, datasets_written(alloc, writes)?)
+    let alloc = change.deleted.allocator();
+    with_heirs(links, datasets_written(alloc, tree, &change.writes)?)
 }

@@ -18,6 +18,7 @@ mod resolved;
 mod resolving;
 mod touched_dataset;
 mod touching;
+mod written;
 
 pub use chains::chain;
 pub use entry_names::{EntryNames, names_on};

@@ -97,8 +97,7 @@ impl Resolved {
         requires { IsIndexOf tree.now.store.records self.now.0 }
         ensures { IfOk result (AreTouched change.now tree.now.store) }
     {
-        let alloc = change.deleted.allocator();
-        let datasets = datasets_reached(alloc, &self.links, &change.writes)?;
+        let datasets = datasets_reached(tree, change, &self.links)?;
         paths_found(tree, change, &datasets)
     }
 
@@ -109,8 +108,7 @@ impl Resolved {
         requires { IsIndexOf tree.now.store.records self.now.0 }
         ensures { IfOk result (λ made. AreTouchedDatasets change.now tree.now.store made.items) }
     {
-        let alloc = change.deleted.allocator();
-        let datasets = datasets_reached(alloc, &self.links, &change.writes)?;
+        let datasets = datasets_reached(tree, change, &self.links)?;
         datasets_found(tree, change, &datasets)
     }
 

@@ -3,17 +3,17 @@ ghost use Rattle.std.specs.Prelude.{◌≡◌, ◌++◌, [], ◌∷◌, IfOk, On
 ghost use Rattle.acap_entries.specs.Made.{IsMade};
 ghost use Rattle.acap_inherit.specs.Leaving as rule;
 ghost use Rattle.acap_inherit.specs.Leaving.{paths_kept};
-ghost use Rattle.acap_inherit.specs.Touched.{is_written_on, in_order};
-ghost use Rattle.acap_inherit.specs.Touching.{path_at, paths_written};
+ghost use Rattle.acap_inherit.specs.Touched.{in_order};
+ghost use Rattle.acap_inherit.specs.Touching.{path_at};
 
 use crate::chains::chain;
 use crate::full_path::FullPath;
 use crate::heirs::put_among;
 use crate::lineage::Lineage;
 use crate::touched_dataset::TouchedDataset;
+use crate::written::{is_change, is_written};
 use acap_entries::{
     After, Boxed, Change, Copying, Dataset, EntryName, Memory, Path, Paths, Ranked, Records, Tree,
-    Writes,
 };
 
 // Adds a path.
@@ -33,15 +33,15 @@ fn add_path(
 
 // Adds the paths of a dataset whose names are written in a member of its chain.
 fn add_written(
-    writes: &Writes,
+    after: &After<'_>,
     member: &[u8],
     dataset: &Dataset,
     to: &mut Vec<Boxed<FullPath>>,
 ) -> Result<(), Memory>
-    ensures { OnOk result (to.new.items ≡ to.old.items ++ paths_written writes.now dataset.now member.now) }
+    ensures { OnOk result (to.new.items ≡ to.old.items ++ rule.written_along after.now dataset.now member.now) }
 {
-    for (path, _) in writes.entries() {
-        if member == path.dataset.as_slice() {
+    for (path, fate) in after.writes.entries() {
+        if member == path.dataset.as_slice() && is_change(after.tree, path, fate) {
             add_path(dataset, &path.name, to)?;
         }
     }
@@ -74,7 +74,7 @@ fn add_along(
     ensures { OnOk result (to.new.items ≡ to.old.items ++ rule.along after.now all dataset.now members.now) }
 {
     for member in members.names() {
-        add_written(after.writes, member, dataset, to)?;
+        add_written(after, member, dataset, to)?;
         if all {
             add_stored(after.tree, member, dataset, to)?;
         }
@@ -83,11 +83,11 @@ fn add_along(
 }
 
 // Whether the management entry of a member of a chain is written.
-fn is_managed(writes: &Writes, members: &Lineage<'_>) -> bool
-    ensures { result ≡ is_written_on writes.now members.now [] }
+fn is_managed(after: &After<'_>, members: &Lineage<'_>) -> bool
+    ensures { result ≡ rule.is_managed after.now members.now }
 {
     for member in members.names() {
-        if writes.find(member, b"").is_some() {
+        if is_written(after.tree, after.writes, member, b"") {
             return true;
         }
     }
@@ -103,7 +103,7 @@ fn add_below(
     ensures { OnOk result (to.new.items ≡ to.old.items ++ rule.below_ahead after.now dataset.now) }
 {
     let before = chain(after.tree, dataset, false);
-    let all = is_managed(after.writes, &before);
+    let all = is_managed(after, &before);
     add_along(after, &before, all, dataset, to)?;
     if all {
         let members = chain(after, dataset, false);
@@ -193,7 +193,7 @@ fn add_dataset(
     if !after.dataset_exists(dataset.as_slice()) {
         return Ok(());
     }
-    let all = is_managed(after.writes, &chain(after.tree, dataset, false));
+    let all = is_managed(after, &chain(after.tree, dataset, false));
     let dataset = dataset.copy()?;
     made.push(TouchedDataset { dataset, all })?;
     Ok(())

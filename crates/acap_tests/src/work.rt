@@ -12,7 +12,8 @@ use std::marker::Brand;
 use std::sync::ledger::{Blank, Ledger};
 
 // How many touched entries are looked at for each of these: a context on a dataset that inherits ten entries;
-// then two on a dataset of 1,000 entries, and one on another.
+// then two on a dataset of 1,000 entries, and one on another. The removal of an entry that never was touches nothing, but the
+// dataset that it would be in comes to be.
 const EVENTS: &str =
     r#"0 A1 STORE ("/option/~/b/0" "k" "1") ("/option/~/b/1" "k" "1") ("/option/~/b/2" "k" "1") ("/option/~/b/3" "k" "1") ("/option/~/b/4" "k" "1") ("/option/~/b/5" "k" "1") ("/option/~/b/6" "k" "1") ("/option/~/b/7" "k" "1") ("/option/~/b/8" "k" "1") ("/option/~/b/9" "k" "1")
 0 A1 STORE ("/option/~/h/" "dataset.inherit" "/option/~/b/") ("/option/~/h/own" "k" "1")
@@ -26,8 +27,12 @@ const EVENTS: &str =
 0 A1 SEARCH "/option/~/" MAKECONTEXT NOTIFY "other" RETURN ("*") ALL
 2 A1 STORE ("/option/~/d/500" "k" "2")
 4 A1 STORE ("/option/~/d/5" "k" "0") ("/option/~/d/600" "entry" NIL)
+0 A1 STORE ("/option/~/d/never" "entry" DEFAULT)
 0 A1 UPDATECONTEXT "v" "w"
 1 A1 STORE ("/option/~/other" "k" "1")
+0 A1 STORE ("/option/~/never" "entry" DEFAULT)
+1 A1 STORE ("/option/~/n/never" "entry" DEFAULT)
+0 A1 STORE ("/option/~/n/never" "entry" DEFAULT)
 0 drain"#;
 
 // The event of a text: `drain`, or a command's line.

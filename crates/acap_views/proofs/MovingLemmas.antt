@@ -28,6 +28,7 @@ use Rattle.acap_inherit.specs.Laws.{NothingLaw, NamesLaw}
 use Rattle.acap_inherit.specs.Records.{record_at}
 use Rattle.acap_inherit.specs.Touched.{by_octets, octets_total, is_written, is_written_on, has_record_on, is_reached, is_touched, touched_paths}
 use Rattle.acap_inherit.specs.TouchedLaws.{TouchedPathsLaw}
+use Rattle.acap_inherit.proofs.WrittenLemmas.{written_fate}
 use Rattle.acap_moves.specs.Hits.{Name, is_among, IsAscending}
 use Rattle.acap_moves.specs.Moves.{moves_to, after_moves, moves_notices}
 use Rattle.acap_rights.specs.declared.realm.Realm.{Realm}
@@ -86,15 +87,15 @@ record_name records sound chain n h =
     let r = there_is (record_at records d.0 n) d.1 in
     (form_law.split _ (sound.formed _ r.0 r.1)).name
 
-written_name : (written : Written) → AreWellFormed written → (chain : List (List ℕ)) (n : List ℕ) → is_written_on written chain n ≡ true → has slash n ≡ false
-written_name written formed chain n h =
-    let d = any_of (λ member. is_written written member n) chain h in
-    let r = there_is (map.get written (record { dataset = d.0; name = n })) d.1 in
+written_name : (written : Written) (old : Stored) → AreWellFormed written → (chain : List (List ℕ)) (n : List ℕ) → is_written_on written old chain n ≡ true → has slash n ≡ false
+written_name written old formed chain n h =
+    let d = any_of (λ member. is_written written old member n) chain h in
+    let r = there_is (map.get written (record { dataset = d.0; name = n })) (written_fate written old d.0 n d.1) in
     (form_law.split _ (formed _ r.0 r.1)).name
 
-reached_name : (written : Written) → AreWellFormed written → (records : Stored) → IsSoundStore records → (chain : List (List ℕ)) (n : List ℕ) → is_reached written records chain n ≡ true → has slash n ≡ false
-reached_name written formed records sound chain n h =
-    one_of (is_written_on written chain n) _ h (written_name written formed chain n) (λ k. record_name records sound chain n (second_so _ _ k))
+reached_name : (written : Written) (old : Stored) → AreWellFormed written → (records : Stored) → IsSoundStore records → (chain : List (List ℕ)) (n : List ℕ) → is_reached written old records chain n ≡ true → has slash n ≡ false
+reached_name written old formed records sound chain n h =
+    one_of (is_written_on written old chain n) _ h (written_name written old formed chain n) (λ k. record_name records sound chain n (second_so _ _ k))
 
 both_equal : (a b : Ordering) → ordering_then a b ≡ Equal → (a ≡ Equal) × (b ≡ Equal)
 both_equal Less b e = absurd (cc (e))
@@ -160,9 +161,9 @@ module _ (nothing : NothingLaw) (names : NamesLaw) (listed : TouchedPathsLaw) (s
   unfolding is_touched
   touched_split p e = record {
     dataset = closed new.records p.dataset (first_so _ _ e);
-    name = one_of (is_reached written old.records (chain_of old.records p.dataset false) p.name) _ (second_so _ _ e)
-        (reached_name written taken.formed old.records taken.sound.old_sound _ p.name)
-        (reached_name written taken.formed new.records taken.sound.new_sound _ p.name);
+    name = one_of (is_reached written old.records old.records (chain_of old.records p.dataset false) p.name) _ (second_so _ _ e)
+        (reached_name written old.records taken.formed old.records taken.sound.old_sound _ p.name)
+        (reached_name written old.records taken.formed new.records taken.sound.new_sound _ p.name);
   }
 
   in_touched : (p : Path) → is_touched written old.records new.records p ≡ true → Contains (touched_paths written old.records new.records) p

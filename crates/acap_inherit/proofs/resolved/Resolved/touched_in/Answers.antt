@@ -10,4 +10,4 @@ pub returns : goal.returns
 returns c =
     IfOk-weaker c.datasets_found.result _ _ (λ made e new h.
     found_in c.args.change.now c.args.tree.now.store new c.args.self.now.0 _ c.in_ok-datasets.datasets.0 made.items c.requires h ((read_ahead c.args.change.now c.args.tree.now.store).records new h)
-    (c.in_ok-datasets.ensures ∙ ap (λ (links : List Link × ℕ). datasets_reached c.args.change.now.writes links.0) c.self.view_is) e) c.datasets_found.ensures
+    (c.in_ok-datasets.ensures ∙ ap (λ (links : List Link × ℕ). datasets_reached c.args.change.now.writes c.args.tree.now.store.records links.0) c.self.view_is) e) c.datasets_found.ensures

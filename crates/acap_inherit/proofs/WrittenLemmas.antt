@@ -1,0 +1,118 @@
+-- At which paths a change puts or removes a record, and what stays at the others.
+use Rattle.std.proofs.Common.{◌≡◌, ℕ, Bool, true, false, cond, T, ◌&&◌, ◌||◌, List, [], ◌∷◌, map as each, Option, Some, None, refl, sym, ap, ◌∙◌}
+use Rattle.std.specs.Prelude.{is_some, filter}
+use Rattle.std.specs.FinMap as map
+use Rattle.std.specs.FinMap.{find, is_sorted}
+use Rattle.std.specs.FinMap.Entries.{below_all}
+use Rattle.std.specs.List.{list_any}
+use Rattle.std.specs.declared.cmp.Ordering.{Ordering}
+use Rattle.std.specs.declared.cmp.Ordering.TheVariants.{Less, Equal, Greater}
+use Rattle.std.specs.Ordering.{eq_by_cmp, is_eq, is_lt}
+use Rattle.acap_entries.specs.Store.{Stored, Written, path_cmp, after_fate}
+use Rattle.acap_entries.specs.declared.fate.Fate.{Fate}
+use Rattle.acap_entries.specs.declared.fate.Fate.TheVariants.{Put, Remove}
+use Rattle.acap_entries.specs.declared.path.Path.{Path}
+use Rattle.acap_entries.specs.declared.record.Record.{Record}
+use Rattle.acap_entries.proofs.StoreLemmas.{path_same}
+use Rattle.acap_inherit.specs.Records.{record_at}
+use Rattle.acap_inherit.specs.Touched.{is_change, is_written}
+use Rattle.acap_inherit.specs.Touching.{changes}
+
+-- ---- one path
+
+-- what is there stays where it isn't changed
+pub unchanged : (fate : Option Fate) (before : Option Record) → is_change fate before ≡ false → before ≡ after_fate fate before
+unchanged None before e = refl
+unchanged (Some (Put entry)) before e = cc
+unchanged (Some Remove) None e = refl
+unchanged (Some Remove) (Some entry) e = cc
+
+-- whether anything is to be done at a path, if only the removal of nothing
+abbrev pub has_fate : Written → List ℕ → List ℕ → Bool
+has_fate written m n = is_some (map.get written (record { dataset = m; name = n }))
+
+fate_there : (fate : Option Fate) (before : Option Record) → is_change fate before ≡ true → is_some fate ≡ true
+fate_there None before e = e
+fate_there (Some fate) before e = refl
+
+pub written_fate : (written : Written) (old : Stored) (m n : List ℕ) → is_written written old m n ≡ true → has_fate written m n ≡ true
+written_fate written old m n e = fate_there (map.get written (record { dataset = m; name = n })) (record_at old m n) e
+
+fate_none : (fate : Option Fate) (before : Option Record) → is_some fate ≡ false → is_change fate before ≡ false
+fate_none None before e = refl
+fate_none (Some fate) before e = cc
+
+pub no_fate : (written : Written) (old : Stored) (m n : List ℕ) → has_fate written m n ≡ false → is_written written old m n ≡ false
+no_fate written old m n e = fate_none (map.get written (record { dataset = m; name = n })) (record_at old m n) e
+
+-- ---- all paths
+
+-- the writes that put or remove a record, and the paths of these
+abbrev changing : Stored → List (Path × Fate) → List (Path × Fate)
+changing old es = filter (changes old) es
+
+abbrev pub paths_of : List (Path × Fate) → List Path
+paths_of es = each (λ (e : Path × Fate). e.0) es
+
+is_at : Path → Path → Bool
+is_at p = eq_by_cmp path_cmp p
+
+tied : (r : Ordering) → is_eq r ≡ true → r ≡ Equal
+tied Less e = cc
+tied Equal e = refl
+tied Greater e = cc
+
+first_true : (a b : Bool) → (a && b) ≡ true → a ≡ true
+first_true true b e = refl
+first_true false b e = e
+
+second_true : (a b : Bool) → (a && b) ≡ true → b ≡ true
+second_true true b e = e
+second_true false b e = cc
+
+less : (r : Ordering) → is_lt r ≡ true → is_eq r ≡ false
+less Less e = refl
+less Equal e = cc
+less Greater e = cc
+
+none_beyond : (old : Stored) (p : Path) (es : List (Path × Fate)) → below_all path_cmp p es ≡ true → list_any (is_at p) (paths_of (changing old es)) ≡ false
+unfolding is_at
+none_beyond old p [] e = refl
+none_beyond old p (w ∷ es) e =
+    let rest = none_beyond old p es (second_true _ _ e) in
+    elim (changes old w) as (λ b. list_any (is_at p) (paths_of (cond b (w ∷ changing old es) (changing old es))) ≡ false) [
+      | true ↦ ap (λ b. b || list_any (is_at p) (paths_of (changing old es))) (less (path_cmp p w.0) (first_true _ _ e)) ∙ rest
+      | false ↦ rest
+    ]
+
+sorted_changes : (old : Stored) (p : Path) (es : List (Path × Fate)) → is_sorted path_cmp es ≡ true → list_any (is_at p) (paths_of (changing old es)) ≡ is_change (find path_cmp p es) (map.get old p)
+unfolding is_at
+sorted_changes old p [] e = refl
+sorted_changes old p (w ∷ es) e =
+    let rest = changing old es in
+    elim (eq_by_cmp path_cmp p w.0) as (λ t. eq_by_cmp path_cmp p w.0 ≡ t → list_any (is_at p) (paths_of (cond (changes old w) (w ∷ rest) rest)) ≡ is_change (cond t (Some w.1) (find path_cmp p es)) (map.get old p)) [
+      | true ↦ λ t.
+          let same : p ≡ w.0 = path_same p w.0 (tied _ t) in
+          let none = none_beyond old p es (ap (λ q. below_all path_cmp q es) same ∙ first_true _ _ e) in
+          elim (changes old w) as (λ b. list_any (is_at p) (paths_of (cond b (w ∷ rest) rest)) ≡ b) [
+            | true ↦ ap (λ b. b || list_any (is_at p) (paths_of rest)) t
+            | false ↦ none
+          ]
+          ∙ ap (λ q. is_change (Some w.1) (map.get old q)) (sym same)
+      | false ↦ λ t.
+          elim (changes old w) as (λ b. list_any (is_at p) (paths_of (cond b (w ∷ rest) rest)) ≡ list_any (is_at p) (paths_of rest)) [
+            | true ↦ ap (λ b. b || list_any (is_at p) (paths_of rest)) t
+            | false ↦ refl
+          ]
+          ∙ sorted_changes old p es (second_true _ _ e)
+    ] refl
+
+so : (b : Bool) → T b → b ≡ true
+so true t = refl
+so false t = absurd t
+
+pub changes_at : (written : Written) (old : Stored) (p : Path) → list_any (eq_by_cmp path_cmp p) (paths_of (filter (changes old) (map.entries written))) ≡ is_written written old p.dataset p.name
+unfolding is_at
+changes_at written old p =
+    sorted_changes old p (map.entries written) (so _ (map.entries_sorted written))
+    ∙ ap (λ fate. is_change fate (map.get old p)) (sym (map.get-entries written p))

@@ -1,0 +1,28 @@
+//! Which writes of a change put a record, or remove one.
+ghost use Rattle.std.specs.Prelude.{◌≡◌, Some};
+ghost use Rattle.std.specs.FinMap as map;
+ghost use Rattle.acap_inherit.specs.Touched as rule;
+ghost use Rattle.acap_inherit.specs.Touching.{changes};
+
+use acap_entries::{Fate, Path, Tree, Writes};
+
+/// Whether a write puts a record, or removes one that is there.
+pub(crate) fn is_change(tree: &Tree, path: &Path, fate: &Fate) -> bool
+    ensures { result ≡ changes tree.now.store.records (path.now, fate.now) }
+{
+    match fate {
+        Fate::Put(_) => true,
+        Fate::Remove => tree.get(path).is_some(),
+    }
+}
+
+/// Whether writes do so at a path that is given by its octets.
+pub(crate) fn is_written(tree: &Tree, writes: &Writes, dataset: &[u8], name: &[u8]) -> bool
+    ensures { result ≡ rule.is_written writes.now tree.now.store.records dataset.now name.now }
+{
+    match writes.find(dataset, name) {
+        Some(Fate::Put(_)) => true,
+        Some(Fate::Remove) => tree.find(dataset, name).is_some(),
+        None => false,
+    }
+}
