@@ -214,7 +214,7 @@ turn_none : (w : World) (o : Occasion) (refused : Bool) → open_at w o.seat ≡
 unfolding did
 turn_none w o refused e = ap (at_open w o.seat (λ z. (turn_of w.users o refused z).1)) e
 
-piece_none : (w : World) (o : Occasion) (k : ℕ) (refused : Bool) (x : List ℕ) → o.seat ≡ k → open_at w k ≡ None → did o refused (world.Piece x) w ≡ w
+pub piece_none : (w : World) (o : Occasion) (k : ℕ) (refused : Bool) (x : List ℕ) → o.seat ≡ k → open_at w k ≡ None → did o refused (world.Piece x) w ≡ w
 unfolding did
 piece_none w o k refused x h e = ap (λ j. at_open w j (takes x) (open_at w j)) h ∙ ap (at_open w k (takes x)) e
 

@@ -15,11 +15,14 @@ pub mod Placing
 pub mod Reading
 pub mod Refusing
 pub mod ScriptActing
+pub mod ScriptCutting
 pub mod ScriptExamples
 pub mod ScriptHearing
 pub mod ScriptOutput
 pub mod ScriptRunning
+pub mod ScriptSettling
 pub mod ScriptTaking
+pub mod ScriptWriting
 pub mod Seating
 pub mod Sending
 pub mod Taking

@@ -1,10 +1,10 @@
 -- What was written where a session between a reader and a writer ends by a fault.
-use Rattle.std.proofs.Common.{◌≡◌, inl, inr, ℕ, ◌<◌, List, [], ◌++◌, length, take, drop, Option, Some, None, Result, Ok, Err, IfErr, IsErr, IsErrAnd, OnErr, OnOk, refl, sym, ap, subst, ◌∙◌, append_assoc, arith}
+use Rattle.std.proofs.Common.{◌≡◌, inl, inr, ℕ, List, [], ◌++◌, take, drop, Option, Some, None, Result, Ok, Err, IfErr, IsErr, IsErrAnd, OnErr, OnOk, refl, sym, ap, subst, ◌∙◌, append_assoc, arith}
 use Rattle.std.specs.Io.KnownBytes.{Appends, Consumes}
 use Rattle.std.proofs.lemmas.List.{append-nil, take-append-drop}
 use Rattle.acap_login.specs.Login.{User}
 use Rattle.acap_machine.specs.Machine.{Machine}
-use Rattle.acap_session.specs.Piping.{Fed, after_piece, fed_all, turns, hears, octets_of_pieces, always, begins, after_enter, AreAnswered, CutsShort, HasPartlyAnswered, HasSaid, HasTurned, IsCutShort, IsFed, IsLater, IsOut, IsSoFar, MayLack, MayTake, PipeReads, Pipes, Says, SaysTo, SoFar, Answers, Settles, Takes, scene_of}
+use Rattle.acap_session.specs.Piping.{Fed, after_piece, fed_all, octets_of_pieces, always, begins, after_enter, AreAnswered, CutsShort, HasPartlyAnswered, HasSaid, HasTurned, IsCutShort, IsFed, IsLater, IsOut, IsSoFar, MayTake, PipeReads, Pipes, Says, SaysTo, SoFar, Answers, Settles, Takes, scene_of}
 use Rattle.acap_session.specs.Streams.{HasGiven, IfTold, Sends, SendsFront, ReaderTold}
 use Rattle.acap_dialogue.specs.Talking.{Talking}
 use Rattle.acap_session.specs.Turning.{Scene, scene, IsTurn}

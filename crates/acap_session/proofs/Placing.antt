@@ -134,7 +134,7 @@ same_placed [] k place e = absurd cc
 same_placed (x ∷ xs) zero place e = ap (λ y. y ∷ xs) (sym e)
 same_placed (x ∷ xs) (suc k) place e = ap (λ ys. x ∷ ys) (same_placed xs k place e)
 
-same_scene : (w : World) (k : ℕ) (place : Place) → open_at w k ≡ Some place → with_scene w k (scene_of w place) ≡ w
+pub same_scene : (w : World) (k : ℕ) (place : Place) → open_at w k ≡ Some place → with_scene w k (scene_of w place) ≡ w
 same_scene w k place e = ap (λ ys. record w { places = ys }) (same_placed w.places k place (open_is (place_at w.places k) place e))
 
 drain_left : (w v : World) (o : Occasion) (place : Place) (s : Scene) → open_at w o.seat ≡ Some place → v ≡ with_scene w o.seat s → (s ≡ scene_of w place) ⊎ CutInDraining o (scene_of w place) s → (v ≡ w) ⊎ IsCutAt o (CutInDraining o (scene_of w place)) w v

@@ -1,5 +1,5 @@
 -- Turns at a seat of a world, one after another, and what is offered there.
-use Rattle.std.proofs.Common.{◌≡◌, inl, inr, ℕ, ℤ, ◌+◌, ◌*◌, ◌<◌, ◌≤◌, Bool, true, false, List, [], ◌∷◌, ◌++◌, drop, if◌then◌else◌, length, Option, Some, None, Ok, refl, sym, ap, subst, ◌∙◌, arith, length-drop}
+use Rattle.std.proofs.Common.{◌≡◌, inl, inr, ℕ, ℤ, ◌+◌, ◌<◌, ◌≤◌, Bool, true, false, List, [], ◌∷◌, ◌++◌, drop, if◌then◌else◌, length, Option, Some, None, Ok, refl, sym, ap, subst, ◌∙◌, arith, length-drop}
 use Rattle.std.specs.Option.{is_some}
 use Rattle.acap_lexer.specs.Holding.{Held, held_limit}
 use Rattle.acap_login.specs.Login.{User}
@@ -38,7 +38,7 @@ unheard false = 1
 
 abbrev pub turns_at : Option Place → ℕ
 turns_at None = 0
-turns_at (Some p) = 1 + (2 * turns_left p.talk + unheard (is_hearing p.talk.stage))
+turns_at (Some p) = 1 + (turns_left p.talk + unheard (is_hearing p.talk.stage))
 
 turns_by : (p : Place) (b : Bool) → is_closed p.talk.stage ≡ b → turns_at (if_open (Some p)) ≤ turns_at (Some p)
 turns_by p true e = rw e (omega arith)
@@ -126,7 +126,7 @@ closed_by : (p : Place) (b : Bool) → is_closed p.talk.stage ≡ b → if_open 
 closed_by p true e f = e
 closed_by p false e f = absurd (let k = rw e at f in cc)
 
-quiet_none : (o : Occasion) (w : World) (x : Option Place) → if_open x ≡ None → IsQuietFor o w x
+pub quiet_none : (o : Occasion) (w : World) (x : Option Place) → if_open x ≡ None → IsQuietFor o w x
 quiet_none o w None e = tt
 quiet_none o w (Some p) e = closed_is_quiet w.users o.nonce o.clock p.talk (closed_by p (is_closed p.talk.stage) refl e)
 
@@ -182,11 +182,11 @@ listens_turn o refused w h =
     listens_step w o.seat (λ s. (turn_of w.users o refused s).1) (open_at w o.seat) refl
     (λ s k c. turn_keeps w.users o s (turn_of w.users o refused s).1 (turn_of w.users o refused s).0 (record { refused = refused; is = refl }) k c) h
 
-listens_piece : (o : Occasion) (piece : List ℕ) (w : World) → Listens o.seat w → Listens o.seat (did o false (world.Piece piece) w)
+pub listens_piece : (o : Occasion) (piece : List ℕ) (w : World) → Listens o.seat w → Listens o.seat (did o false (world.Piece piece) w)
 unfolding did
 listens_piece o piece w h = listens_step w o.seat (takes piece) (open_at w o.seat) refl (λ s k c. k) h
 
-listens_turns : (o : Occasion) (refused : List Bool) (w : World) → Listens o.seat w → Listens o.seat (turns o refused w)
+pub listens_turns : (o : Occasion) (refused : List Bool) (w : World) → Listens o.seat w → Listens o.seat (turns o refused w)
 listens_turns o [] w h = h
 listens_turns o (x ∷ refused) w h = listens_turns o refused (did o x world.Turn w) (listens_turn o x w h)
 
@@ -195,7 +195,7 @@ room_by o w None p e q h = absurd cc
 room_by o w (Some y) p e q h = let same : y ≡ p = cc in room_left w.users o.nonce o.clock p.talk h (subst (λ (z : Place). IsQuietFor o w (Some z)) same q)
 
 -- and where nothing is next it has room
-room_at : (o : Occasion) (w : World) → Listens o.seat w → IsQuiet o w → HasRoomAt o.seat w
+pub room_at : (o : Occasion) (w : World) → Listens o.seat w → IsQuiet o w → HasRoomAt o.seat w
 room_at o w h q p e = room_by o w (place_at w.places o.seat) p (opened (place_at w.places o.seat) p e).0 q (h p e)
 
 -- it listens still, and takes some of what is offered next

@@ -1,9 +1,8 @@
 -- The lines of a script are a run of a world in which what was said is taken.
-use Rattle.std.proofs.Common.{◌≡◌, inl, inr, ℕ, Bool, true, false, List, [], ◌∷◌, ◌++◌, Option, Some, None, refl, sym, ap, subst, ◌∙◌, append_assoc}
+use Rattle.std.proofs.Common.{◌≡◌, inl, inr, ℕ, Bool, true, false, List, [], ◌∷◌, ◌++◌, Some, None, refl, sym, ap, subst, ◌∙◌, append_assoc}
 use Rattle.std.proofs.lemmas.List.{append-nil}
 use Rattle.acap_grammar.specs.Replies.{crlf}
-use Rattle.acap_session.specs.Places.{place_at}
-use Rattle.acap_session.specs.Script.{Acts, AreDone, Does, HasHeard, Hears, IsDone, Listens, Sets, Speaks, begins, fits, is_before, realm_of, turns, with_setup, without_nonce, world_of}
+use Rattle.acap_session.specs.Script.{Acts, AreDone, Does, Hears, IsDone, Listens, Sets, Speaks, begins, fits, is_before, realm_of, turns, with_setup, without_nonce, world_of}
 use Rattle.acap_session.specs.ScriptOutput.{Shows}
 use Rattle.acap_session.specs.ScriptTaking.{ComesOf, IsOfRun, IsReached, ScriptRuns, ShowsTaken}
 use Rattle.acap_session.specs.Setup.{Setup}

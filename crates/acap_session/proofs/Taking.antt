@@ -1,16 +1,16 @@
 -- When what was said is taken makes no difference.
-use Rattle.std.proofs.Common.{◌≡◌, inl, inr, ℕ, Bool, true, false, cond, ◌==◌, List, [], ◌∷◌, ◌++◌, Option, Some, None, refl, sym, ap, subst, ◌∙◌, if◌then◌else◌, append_assoc}
-use Rattle.std.specs.Prelude.{◌≢◌, ◌⊎◌, option_map}
+use Rattle.std.proofs.Common.{◌≡◌, inl, inr, ℕ, Bool, true, false, ◌==◌, List, [], ◌∷◌, ◌++◌, Option, Some, None, refl, sym, ap, subst, ◌∙◌, if◌then◌else◌, append_assoc}
+use Rattle.std.specs.Prelude.{◌⊎◌, option_map}
 use Rattle.std.specs.Option.{option_and_then}
 use Rattle.std.proofs.lemmas.Bool.{eqb-true, eqb-false}
 use Rattle.std.proofs.lemmas.List.{append-nil}
 use Rattle.acap_dialogue.specs.Session.{is_closed, session_drain}
-use Rattle.acap_dialogue.specs.Talking.{Talking, beginning}
+use Rattle.acap_dialogue.specs.Talking.{beginning}
 use Rattle.acap_commands.specs.declared.event.Event.{Event}
-use Rattle.acap_session.specs.Laws.{OwnStep, asked_by, own_at, own_of}
-use Rattle.acap_session.specs.Live.{told_in, told_with}
+use Rattle.acap_session.specs.Laws.{OwnStep, asked_by, own_at}
+use Rattle.acap_session.specs.Live.{told_with}
 use Rattle.acap_session.specs.Places.{Place, Places, place_at, with_place, if_open}
-use Rattle.acap_session.specs.Taking.{Act, Makes, Takes, acted, world_acted, steps_among, said_at, talk_at, taken_by, taken_in, IsTakenFrom, TakingLaw}
+use Rattle.acap_session.specs.Taking.{Act, Makes, Takes, world_acted, steps_among, said_at, taken_by, taken_in, IsTakenFrom, TakingLaw}
 use Rattle.acap_session.specs.Turning.{Scene, scene, turn_of, drain_of}
 use Rattle.acap_session.specs.World as world
 use Rattle.acap_session.specs.World.{World, Deed, Step, did, ends, open_at, output_taken, said_before, scene_of, taken_from, takes, with_scene, world_after}

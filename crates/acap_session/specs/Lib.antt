@@ -9,6 +9,7 @@ pub mod ScriptExamples
 pub mod ScriptOutput
 pub mod ScriptRun
 pub mod ScriptTaking
+pub mod ScriptWriting
 pub mod Seating
 pub mod Setup
 pub mod Streams

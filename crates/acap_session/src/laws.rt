@@ -5,6 +5,7 @@ ghost use Rattle.acap_session.specs.Seating.{SeatingLaw};
 ghost use Rattle.acap_session.specs.PipeSteps.{PipeRuns};
 ghost use Rattle.acap_session.specs.ScriptExamples.{ScriptExamples};
 ghost use Rattle.acap_session.specs.ScriptTaking.{ScriptRuns};
+ghost use Rattle.acap_session.specs.ScriptWriting.{ScriptLaw};
 ghost use Rattle.acap_session.specs.Taking.{TakingLaw};
 ghost use Rattle.acap_session.specs.Laws.{PiecesJoin, TurnsKeep, CuttingLaw, JoiningLaw, OthersStay};
 ghost use Rattle.acap_session.specs.Laws.{SessionLaw, StepAlone, AloneLaw, RefusedTurns, WrittenLaw};
@@ -105,8 +106,15 @@ pub fn script_runs()
     ensures { ScriptRuns }
 {}
 
-/// How a script cuts what a session says into lines, and that what comes after a close isn't heard (RFC 2244
-/// section 2).
+/// What a script writes is a function of what it reads: its lines, one after the other, and what is printed of the session
+/// at the seat of each. Where no event is refused memory a script writes exactly that, and ends at the line that this
+/// function finds wrong, if it finds one (RFC 2244 section 2).
+pub fn script_law()
+    ensures { ScriptLaw }
+{}
+
+/// What whole scripts write; how what a session says is cut into lines; that octets for which there was no room are offered
+/// again; and that what comes after a close isn't heard (RFC 2244 section 2).
 pub fn script_examples()
     ensures { ScriptExamples }
 {}

@@ -176,8 +176,10 @@ fn run_all<R: Input, W: Output, L: Ledger>(
 
 /// Runs the script that is read, over a world of its own, and writes what its sessions say: what a line says is written
 /// before the next line is read. Where the reader fails, or has given 1,000,000,000 times, the lines that had ended by then
-/// are done; where a line is wrong, those before it. After a fault of the writer or of memory a front of the lines is done,
-/// and a front of what they say is written. Each entry that a search looks at counts as a step.
+/// are done; where a line is wrong, those before it. Where no event is refused memory, what it writes is a function of what
+/// it reads (`laws::script_law`). After a fault of the writer or of memory a prefix of the lines is done; what they say is
+/// written where memory was refused, and a prefix of it where the writer failed. Each entry that a search looks at counts as
+/// a step.
 pub fn run_script<R: Input, W: Output, L: Ledger>(
     alloc: Global,
     reader: &mut R,
