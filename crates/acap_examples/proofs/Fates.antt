@@ -91,7 +91,7 @@ shows_then t ended rest w v before held h users none way g k is =
     record {
       view = seen.view;
       premises = record {
-        named = (λ i. users i && sym (ap (λ (f : Fate). f.named) end) i);
+        named = (users, sym (ap (λ (f : Fate). f.named) end));
         tells = subst (λ (u : World). tells_in t.seat t.name u t.last ≡ true) at.front (g.tells k);
         live = ap (λ (u : World). live_at u.machine t.seat t.name) (sym world) ∙ seen.is;
         whole = sym (ap (λ (f : Fate). f.whole) end) ∙ ap is_some is;

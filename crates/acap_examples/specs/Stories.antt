@@ -8,7 +8,7 @@ use Rattle.acap_examples.specs.declared.step.Step.{Step}
 use Rattle.acap_examples.specs.declared.story.Story.{Story}
 use Rattle.acap_machine.specs.Client.{View}
 use Rattle.acap_notices.specs.Holding.{Holding, HasRows}
-use Rattle.acap_session.specs.Live.{Telling, IsTelling, client}
+use Rattle.acap_session.specs.Live.{AreNamed, Telling, IsTelling, client}
 use Rattle.acap_session.specs.World as world
 
 -- a step as one of a world: no event is refused memory
@@ -41,7 +41,7 @@ telling_of story = record {
 -- all premises of the law of clients hold of a run, and the client holds that
 pub record Shows (t : Telling) (held : Holding) : Type 0 where
   pub view : View
-  pub premises : IsTelling t view
+  pub premises : IsTelling AreNamed t view
   pub holds : client t ≡ Some held
 
 -- and that is these rows: in their order with positions, by name without

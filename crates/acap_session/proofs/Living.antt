@@ -19,10 +19,9 @@ use Rattle.acap_dialogue.specs.declared.heard.Heard.{Heard}
 use Rattle.acap_dialogue.specs.declared.heard.Heard.TheVariants as heard
 use Rattle.acap_dialogue.specs.declared.next.Next.{Next}
 use Rattle.acap_dialogue.specs.declared.next.Next.TheVariants as next
-use Rattle.acap_entries.specs.Names.{is_user_name}
 use Rattle.acap_grammar.specs.Grammar.{command_of}
 use Rattle.acap_lexer.specs.Token.{Token}
-use Rattle.acap_login.specs.Login.{User}
+use Rattle.acap_login.specs.Login.{User, are_named}
 use Rattle.acap_machine.specs.Client.{Client, View, IsFresh, client_after_tolds, live_at, with_rows, IsHeld, HeldLaw, SeenLaw}
 use Rattle.acap_machine.specs.Following.{is_named, IsCurrentMachine, CurrentLaw}
 use Rattle.acap_machine.specs.Machine.{Machine}
@@ -37,7 +36,7 @@ use Rattle.acap_views.specs.Contexts.{Kept, Live}
 use Rattle.acap_views.specs.Current.{IsCurrentKept, rows}
 use Rattle.acap_session.specs.Laws.{asked_by}
 use Rattle.acap_dialogue.specs.Running.{event_in}
-use Rattle.acap_session.specs.Live.{asked_in, told_with, told_in, client_told, whole_told, told_all, tells_in, client_in, whole_in, is_named_deed, are_named, Telling, IsReading, IsTelling, start, all_steps, after, client, client_amid, LiveLaw}
+use Rattle.acap_session.specs.Live.{asked_in, told_with, told_in, client_told, whole_told, told_all, tells_in, client_in, whole_in, is_named_deed, AreNamed, LiveLawFor, LiveLawOf, MayLogIn, Telling, IsReading, IsTelling, start, all_steps, after, client, client_amid, LiveLaw}
 use Rattle.acap_session.specs.Places.{Place, place_at}
 use Rattle.acap_session.specs.Turning.{Scene, scene, event_outcome, left_at, left_by, turn_by, turn_of, drain_of}
 use Rattle.acap_session.specs.World as world
@@ -280,29 +279,26 @@ named_front (x ∷ xs) ys named =
     (λ i. both.0 i && named_front xs ys both.1 i)
 
 module _ (current : CurrentLaw) (law : HeldLaw) (seen : SeenLaw) (formed : (tokens : List Token) (c : Command) → command_of tokens ≡ Ok c → is_named (event.Command c) ≡ true) where
-  holds : (realm : Realm) (users : List User) (host : List ℕ) (steps : List Step) (seat : ℕ) (name : List ℕ) (x : View) → are_named users steps ≡ true
+  holds : (realm : Realm) (users : List User) (host : List ℕ) (steps : List Step) (seat : ℕ) (name : List ℕ) (x : View) → AreNamed users steps
       → live_at (world_after steps (new_world realm users host)).machine seat name ≡ Some x → whole_in seat name steps (new_world realm users host) false ≡ true
       → client_in seat name steps (new_world realm users host) None ≡ with_rows x
   holds realm users host steps seat name x named live whole =
-      let both = and_parts (list_all (λ user. is_user_name user.0) users) _ named in
-      all_held current law seat name formed steps (new_world realm users host) false None (new_named realm users host both.0) both.1 (current.begins realm) (λ y l e. absurd cc) x live whole
+      all_held current law seat name formed steps (new_world realm users host) false None (new_named realm users host named.0) named.1 (current.begins realm) (λ y l e. absurd cc) x live whole
 
-  told : (t : Telling) (x : View) → IsTelling t x → (client t ≡ with_rows x) × IsFresh (after t).machine t.seat x
+  told : (t : Telling) (x : View) → IsTelling AreNamed t x → (client t ≡ with_rows x) × IsFresh (after t).machine t.seat x
   told t x is =
-      let both = and_parts (list_all (λ user. is_user_name user.0) t.users) _ is.named in
-      let before = all_current current law t.seat t.name formed t.steps (start t) (new_named t.realm t.users t.host both.0) (named_front t.steps (t.last ∷ []) both.1) (current.begins t.realm) in
+      let before = all_current current law t.seat t.name formed t.steps (start t) (new_named t.realm t.users t.host is.named.0) (named_front t.steps (t.last ∷ []) is.named.1) (current.begins t.realm) in
       let end = run_behind t.steps (t.last ∷ []) (start t) in (
         holds t.realm t.users t.host (all_steps t) t.seat t.name x is.named is.live is.whole,
         subst (λ (w : World). IsFresh w.machine t.seat x) (sym end)
             (step_told current law t.seat t.name (world_after t.steps (start t)) t.last x before is.tells (ap (λ (w : World). live_at w.machine t.seat t.name) (sym end) ∙ is.live)),
       )
 
-  modtimes : (t : Telling) (x : View) (names : List (List ℕ)) (read unread : List Told) (moment : ℤ) → IsReading t x names read unread moment
+  modtimes : (t : Telling) (x : View) (names : List (List ℕ)) (read unread : List Told) (moment : ℤ) → IsReading AreNamed t x names read unread moment
       → (client_amid t read ≡ with_rows x) × IsFresh (after t).machine t.seat x
   modtimes t x names read unread moment is =
-      let both = and_parts (list_all (λ user. is_user_name user.0) t.users) _ is.named in
-      let named = named_front t.steps (t.last ∷ []) both.1 in
-      let begins = new_named t.realm t.users t.host both.0 in
+      let named = named_front t.steps (t.last ∷ []) is.named.1 in
+      let begins = new_named t.realm t.users t.host is.named.0 in
       let before = all_current current law t.seat t.name formed t.steps (start t) begins named (current.begins t.realm) in
       let held = all_held current law t.seat t.name formed t.steps (start t) false None begins named (current.begins t.realm) (λ y l e. absurd cc) in
       let end = run_behind t.steps (t.last ∷ []) (start t) in
@@ -320,8 +316,7 @@ module _ (current : CurrentLaw) (law : HeldLaw) (seen : SeenLaw) (formed : (toke
   live_law = record {
     holds = holds;
     follows = λ realm users host steps seat name occupant context shown now pending named sits there live.
-        let both = and_parts (list_all (λ user. is_user_name user.0) users) _ named in
-        let is = all_current current law seat name formed steps (new_world realm users host) (new_named realm users host both.0) both.1 (current.begins realm) in
+        let is = all_current current law seat name formed steps (new_world realm users host) (new_named realm users host named.0) named.1 (current.begins realm) in
         leads _ context.enumerated context.kept shown now pending live ((is.sound.current.all seat occupant sits).each name context there).kept;
     told = told;
     modtimes = modtimes;
@@ -331,3 +326,29 @@ module _ (current : CurrentLaw) (law : HeldLaw) (seen : SeenLaw) (formed : (toke
         ∙ sym (told u y other).0);
     octets = alone;
   }
+
+-- ---- runs that are named in another way, by which they're named in the first
+
+told_so : (A B : List User → List Step → Type 0) → ((users : List User) (steps : List Step) → B users steps → A users steps)
+    → (t : Telling) (x : View) → IsTelling B t x → IsTelling A t x
+told_so A B so t x is = record { named = so t.users (all_steps t) is.named; tells = is.tells; live = is.live; whole = is.whole }
+
+read_so : (A B : List User → List Step → Type 0) → ((users : List User) (steps : List Step) → B users steps → A users steps)
+    → (t : Telling) (x : View) (names : List (List ℕ)) (read unread : List Told) (moment : ℤ) → IsReading B t x names read unread moment → IsReading A t x names read unread moment
+read_so A B so t x names read unread moment is =
+    record { named = so t.users (all_steps t) is.named; own = is.own; told = is.told; live = is.live; whole = is.whole }
+
+law_so : (A B : List User → List Step → Type 0) → ((users : List User) (steps : List Step) → B users steps → A users steps) → LiveLawOf A → LiveLawOf B
+law_so A B so law = record {
+  holds = λ realm users host steps seat name x named. law.holds realm users host steps seat name x (so users steps named);
+  follows = λ realm users host steps seat name occupant context shown now pending named.
+      law.follows realm users host steps seat name occupant context shown now pending (so users steps named);
+  told = λ t x is. law.told t x (told_so A B so t x is);
+  modtimes = λ t x names read unread moment is. law.modtimes t x names read unread moment (read_so A B so t x names read unread moment is);
+  seen = λ t u x y is other. law.seen t u x y (told_so A B so t x is) (told_so A B so u y other);
+  octets = law.octets;
+}
+
+-- of users who are known to have names
+pub law_for : (those : List User) → are_named those ≡ true → LiveLaw → LiveLawFor those
+law_for those named law = law_so AreNamed (MayLogIn those) (λ users steps k. (subst (λ us. are_named us ≡ true) (sym k.0) named, k.1)) law

@@ -10,7 +10,7 @@ use Rattle.acap_commands.specs.declared.reply.Reply.{Reply}
 use Rattle.acap_commands.specs.declared.said.Said.{Said}
 use Rattle.acap_commands.specs.declared.said.Said.TheVariants as said
 use Rattle.acap_entries.specs.Names.{is_user_name}
-use Rattle.acap_login.specs.Login.{User}
+use Rattle.acap_login.specs.Login.{User, are_named}
 use Rattle.acap_notices.specs.Holding.{holding, holding_after_all}
 use Rattle.acap_notices.specs.declared.notice.Notice.{Notice}
 use Rattle.acap_notices.specs.declared.told.Told.{Told}
@@ -64,7 +64,7 @@ whole_in seat name (x ∷ xs) w whole =
 
 -- ---- the law
 
--- who may log in, and whose sessions open, have names of users
+-- those whose sessions open have names of users
 abbrev pub has_name : Option (List ℕ) → Bool
 has_name None = true
 has_name (Some user) = is_user_name user
@@ -73,8 +73,12 @@ abbrev pub is_named_deed : Deed → Bool
 is_named_deed (world.Open user) = has_name user
 is_named_deed other = true
 
-abbrev pub are_named : List User → List Step → Bool
-are_named users steps = list_all (λ user. is_user_name user.0) users && list_all (λ x. is_named_deed x.deed) steps
+abbrev pub all_open_named : List Step → Bool
+all_open_named steps = list_all (λ x. is_named_deed x.deed) steps
+
+-- and so have those who may log in
+abbrev pub AreNamed : List User → List Step → Type 0
+AreNamed users steps = (are_named users ≡ true) × (all_open_named steps ≡ true)
 
 -- whether the client of that context is told all in this step
 abbrev pub told_all : List ℕ → Option (Event × Said) → Bool
@@ -107,18 +111,18 @@ after t = world_after (all_steps t) (start t)
 abbrev pub client : Telling → Client
 client t = client_in t.seat t.name (all_steps t) (start t) None
 
--- the context is live, and its client began with a whole list
-pub record IsTelling (t : Telling) (x : View) : Type 0 where
-  pub named : are_named t.users (all_steps t) ≡ true
+-- the context is live, and its client began with a whole list; who may log in and who opens sessions is named so
+pub record IsTelling (Named : List User → List Step → Type 0) (t : Telling) (x : View) : Type 0 where
+  pub named : Named t.users (all_steps t)
   pub tells : tells_in t.seat t.name (world_after t.steps (start t)) t.last ≡ true
   pub live : live_at (after t).machine t.seat t.name ≡ Some x
   pub whole : whole_in t.seat t.name (all_steps t) (start t) false ≡ true
 
 -- In the last step of a run an UPDATECONTEXT is answered, and this MODTIME of the context stands in the reply after
 -- what was read of it; the client began with a whole list.
-pub record IsReading (t : Telling) (x : View) (names : List (List ℕ)) (read unread : List Told)
-    (moment : ℤ) : Type 0 where
-  pub named : are_named t.users (all_steps t) ≡ true
+pub record IsReading (Named : List User → List Step → Type 0) (t : Telling) (x : View) (names : List (List ℕ))
+    (read unread : List Told) (moment : ℤ) : Type 0 where
+  pub named : Named t.users (all_steps t)
   pub own : t.last.occasion.seat ≡ t.seat
   pub told : told_in (world_after t.steps (start t)) t.last
       ≡ Some (
@@ -132,12 +136,13 @@ pub record IsReading (t : Telling) (x : View) (names : List (List ℕ)) (read un
 abbrev pub client_amid : Telling → List Told → Client
 client_amid t read = client_after_tolds t.name read (client_in t.seat t.name t.steps (start t) None)
 
-pub record LiveLaw : Type 0 where
+-- of all runs whose users and steps are named so
+pub record LiveLawOf (Named : List User → List Step → Type 0) : Type 0 where
   -- whatever the sessions do, in whichever order: as long as the context is live, the client that began with a whole list met no
   -- notice that misfits, and holds the rows of the list that it was told last
   pub holds : (realm : Realm) (users : List User) (host : List ℕ) (steps : List Step) (seat : ℕ) (name : List ℕ) (x : View) →
       let w = new_world realm users host in
-      are_named users steps ≡ true → live_at (world_after steps w).machine seat name ≡ Some x → whole_in seat name steps w false ≡ true
+      Named users steps → live_at (world_after steps w).machine seat name ≡ Some x → whole_in seat name steps w false ≡ true
       → client_in seat name steps w None ≡ with_rows x
   -- and at every moment the notices that wait lead on from what it was told last to what a search finds now, and none
   -- of them misfits
@@ -146,18 +151,29 @@ pub record LiveLaw : Type 0 where
       let w = new_world realm users host in
       let m = (world_after steps w).machine in
       let found = matches_of m.store.records m.realm occupant.user context.sought in
-      are_named users steps ≡ true → table.get m.seats seat ≡ Some occupant
+      Named users steps → table.get m.seats seat ≡ Some occupant
       → table.get occupant.contexts name ≡ Some context → context.kept ≡ Live shown now pending
       → holding_after_all (holding context.enumerated (rows shown)) pending
       ≡ Some (holding context.enumerated (rows found))
   -- and where an UPDATECONTEXT of its name has just ended, or a drain, these are what a search finds then
-  pub told : (t : Telling) (x : View) → IsTelling t x → (client t ≡ with_rows x) × IsFresh (after t).machine t.seat x
+  pub told : (t : Telling) (x : View) → IsTelling Named t x → (client t ≡ with_rows x) × IsFresh (after t).machine t.seat x
   -- and so they are at each MODTIME of the context within a reply, for the client that has read so far
   pub modtimes : (t : Telling) (x : View) (names : List (List ℕ)) (read unread : List Told) (moment : ℤ)
-      → IsReading t x names read unread moment
+      → IsReading Named t x names read unread moment
       → (client_amid t read ≡ with_rows x) × IsFresh (after t).machine t.seat x
   -- every row, place and membership of which comes of what the user sees: two clients whose users see the same hold the same
-  pub seen : (t u : Telling) (x y : View) → IsTelling t x → IsTelling u y → x.0 ≡ y.0 → x.1.0 ≡ y.1.0
+  pub seen : (t u : Telling) (x y : View) → IsTelling Named t x → IsTelling Named u y → x.0 ≡ y.0 → x.1.0 ≡ y.1.0
       → IsSeenAlike (after t).machine t.seat (after u).machine u.seat x.0 → client t ≡ client u
   -- what is said at a seat comes of its steps and of these replies
   pub octets : AloneLaw
+
+-- who may log in, and whose sessions open, have names of users
+abbrev pub LiveLaw : Type 0
+LiveLaw = LiveLawOf AreNamed
+
+-- Of runs of a world in which these may log in. That they have names of users is no premise.
+abbrev pub MayLogIn : List User → List User → List Step → Type 0
+MayLogIn those users steps = (users ≡ those) × (all_open_named steps ≡ true)
+
+abbrev pub LiveLawFor : List User → Type 0
+LiveLawFor those = LiveLawOf (MayLogIn those)

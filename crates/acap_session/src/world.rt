@@ -2,10 +2,12 @@
 
 ghost use Rattle.std.specs.Prelude.{◌≡◌, true, is_some};
 ghost use Rattle.acap_login.specs.Login.{are_named};
+ghost use Rattle.acap_session.specs.Live.{LiveLawFor};
 ghost use Rattle.acap_session.specs.Places.{place_at};
 ghost use Rattle.acap_session.specs.World.{Drains, Feeds, Leaves, Opens, Turns, new_world, open_at};
 ghost use Rattle.acap_session.specs.World.{output_taken, said_before};
 
+use crate::laws::live_law;
 use crate::occasion::Occasion;
 use crate::place::{Place, begin, reach};
 use crate::world_fault::WorldFault;
@@ -66,6 +68,15 @@ impl World {
         ensures { are_named self.now.users ≡ true }
     {
         self.users.form_law();
+    }
+
+    /// The law of live views for runs in which those may log in who may here, of which it isn't assumed that they have users'
+    /// names: does nothing.
+    pub fn live_law(&self)
+        ensures { LiveLawFor self.now.users }
+    {
+        self.form_law();
+        live_law();
     }
 
     /// The machine.
