@@ -2,6 +2,10 @@
 #![tactic(auto)]
 
 #[cfg(test)]
+mod counting;
+#[cfg(test)]
+mod failing;
+#[cfg(test)]
 mod machine;
 #[cfg(test)]
 mod pipe;
