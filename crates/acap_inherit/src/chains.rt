@@ -1,5 +1,5 @@
 //! From which datasets the entries of a dataset are.
-ghost use Rattle.std.specs.Prelude.{◌≡◌};
+ghost use Rattle.std.specs.Prelude.{◌≡◌, false};
 ghost use Rattle.std.specs.Option.{option_copied};
 ghost use Rattle.acap_inherit.specs.Chains as rule;
 
@@ -36,9 +36,20 @@ fn follow_bases<'a, R: Records>(records: &'a R, dataset: &'a [u8]) -> Lineage<'a
 }
 
 /// The dataset, then the one that the `dataset.inherit` of its management entry names, and so on, at most eight names in
-/// all, whether these datasets exist or come twice; where nothing is to be inherited, the dataset alone (RFC 2244
-/// sections 5.1 and 5.2). Takes no memory.
-pub fn chain<'a, R: Records>(records: &'a R, dataset: &'a Dataset, no_inherit: bool) -> Lineage<'a>
+/// all, whether these datasets exist or come twice (RFC 2244 sections 5.1 and 5.2). Takes no memory.
+pub fn chain<'a, R: Records>(records: &'a R, dataset: &'a Dataset) -> Lineage<'a>
+    ensures { result ≡ rule.chain_of (R.store records.now).records dataset.now false }
+{
+    follow_bases(records, dataset.as_slice())
+}
+
+/// The chain of a dataset, or the dataset alone where nothing is to be inherited, as under NOINHERIT (RFC 2244 section
+/// 6.4.1). Takes no memory.
+pub fn chain_unless<'a, R: Records>(
+    records: &'a R,
+    dataset: &'a Dataset,
+    no_inherit: bool,
+) -> Lineage<'a>
     ensures { result ≡ rule.chain_of (R.store records.now).records dataset.now no_inherit }
 {
     if no_inherit {

@@ -20,7 +20,7 @@ mod touched_dataset;
 mod touching;
 mod written;
 
-pub use chains::chain;
+pub use chains::{chain, chain_unless};
 pub use entry_names::{EntryNames, names_on};
 pub use found::Found;
 pub use laws::{
@@ -33,6 +33,6 @@ pub use lineage::Lineage;
 pub use link::Link;
 pub use prepared::Prepared;
 pub use resolved::Resolved;
-pub use resolving::{entry_exists, modtime, resolve};
+pub use resolving::{entry_exists, lookup, modtime, resolve};
 pub use touched_dataset::TouchedDataset;
 pub use touching::touched_at;

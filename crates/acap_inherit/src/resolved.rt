@@ -5,13 +5,13 @@ ghost use Rattle.acap_inherit.specs.Index.{IsIndexOf, index_with};
 ghost use Rattle.acap_inherit.specs.Leaving.{IsPrepared, AreTouched, AreTouchedDatasets};
 ghost use Rattle.acap_inherit.specs.Values.{Resolves};
 
-use crate::chains::chain;
+use crate::chains::chain_unless;
 use crate::found::Found;
 use crate::heirs::datasets_reached;
 use crate::link::Link;
 use crate::linking::{links_written, put_all, take_all};
 use crate::prepared::Prepared;
-use crate::resolving::resolve;
+use crate::resolving::lookup;
 use crate::touched_dataset::TouchedDataset;
 use crate::touching::{datasets_found, paths_found};
 use acap_entries::{After, Boxed, Change, Dataset, Memory, Paths, Ranked, Records, Tree};
@@ -45,8 +45,8 @@ impl Resolved {
         }
     }
 
-    /// What an attribute of an entry resolves to, as `resolve` says it: along the chain, of which each dataset is looked up.
-    /// Takes no memory (RFC 2244 sections 5.1 and 5.2).
+    /// What an attribute of an entry resolves to, as `resolve` answers it, or in the dataset alone where nothing is to be
+    /// inherited. Each dataset of the chain is looked up. Takes no memory (RFC 2244 sections 5.1 and 5.2).
     pub fn get<'a, R: Records>(
         &self,
         records: &'a R,
@@ -57,8 +57,8 @@ impl Resolved {
     ) -> Found<'a>
         ensures { Resolves (R.store records.now) dataset.now no_inherit name.now attribute.now result }
     {
-        let members = chain(records, dataset, no_inherit);
-        resolve(records, &members, name, attribute)
+        let chain = chain_unless(records, dataset, no_inherit);
+        lookup(records, &chain, name, attribute)
     }
 
     /// What a change of the store does to the index, made before the change is committed. Fails only for want of memory.

@@ -1,15 +1,16 @@
 //! What attributes of entries resolve to along chains.
-ghost use Rattle.std.specs.Prelude.{◌≡◌, Some, None};
+ghost use Rattle.std.specs.Prelude.{◌≡◌, false, Some, None};
 ghost use Rattle.std.specs.Int.{int_max};
 ghost use Rattle.std.specs.Option.{option_copied, option_map_or};
 ghost use Rattle.acap_inherit.specs.Records as kept;
 ghost use Rattle.acap_inherit.specs.Resolving as rule;
-ghost use Rattle.acap_inherit.specs.Values.{entry_along, found_of, modtime_along, names_of, value_along};
+ghost use Rattle.acap_inherit.specs.Values.{Resolves, entry_along, found_of, modtime_along, names_of, value_along};
 
+use crate::chains::chain;
 use crate::found::Found;
 use crate::lent::Lent;
 use crate::lineage::Lineage;
-use acap_entries::{Cell, Moment, Record, Records, stamp};
+use acap_entries::{Cell, Dataset, Moment, Record, Records, stamp};
 
 // What a record has for an attribute.
 pub(crate) fn cell_in<'a>(entry: &'a Record, attribute: &[u8]) -> Option<&'a Cell>
@@ -160,7 +161,7 @@ fn lend_stamp<'a>(chain: &Lineage<'a>, moment: Option<Moment>) -> Found<'a>
 /// dataset; `subdataset` and all of the management entry, whose name is empty, are those of the first dataset alone. Takes
 /// no memory.
 #[tactic(auto, unfolding(crate::specs::Resolving::lookup))]
-pub fn resolve<'a, R: Records>(
+pub fn lookup<'a, R: Records>(
     records: &'a R,
     chain: &Lineage<'a>,
     name: &'a [u8],
@@ -175,6 +176,20 @@ pub fn resolve<'a, R: Records>(
     } else {
         value_on(records, members_of(chain, name, attribute), name, attribute)
     }
+}
+
+/// What an attribute of an entry of a dataset resolves to: as `lookup` along the dataset's chain (RFC 2244 sections 3.1.1
+/// and 5.1). Takes no memory.
+pub fn resolve<'a, R: Records>(
+    records: &'a R,
+    dataset: &'a Dataset,
+    name: &'a [u8],
+    attribute: &[u8],
+) -> Found<'a>
+    ensures { Resolves (R.store records.now) dataset.now false name.now attribute.now result }
+{
+    let chain = chain(records, dataset);
+    lookup(records, &chain, name, attribute)
 }
 
 /// Whether an entry exists: whether its first record along the chain is present. Takes no memory.

@@ -15,6 +15,7 @@ use crate::written::{is_change, is_written};
 use acap_entries::{
     After, Boxed, Change, Copying, Dataset, EntryName, Memory, Path, Paths, Ranked, Records, Tree,
 };
+use std::alloc::Global;
 
 // Adds a path.
 fn add_path(
@@ -102,11 +103,11 @@ fn add_below(
 ) -> Result<(), Memory>
     ensures { OnOk result (to.new.items ≡ to.old.items ++ rule.below_ahead after.now dataset.now) }
 {
-    let before = chain(after.tree, dataset, false);
+    let before = chain(after.tree, dataset);
     let all = is_managed(after, &before);
     add_along(after, &before, all, dataset, to)?;
     if all {
-        let members = chain(after, dataset, false);
+        let members = chain(after, dataset);
         add_along(after, &members, true, dataset, to)?;
     }
     Ok(())
@@ -165,21 +166,26 @@ pub(crate) fn paths_found(
 }
 
 // The touched paths of one dataset.
-fn paths_at(tree: &Tree, change: &Change, dataset: &Dataset) -> Result<Paths, Memory>
+fn paths_at(alloc: Global, tree: &Tree, change: &Change, dataset: &Dataset) -> Result<Paths, Memory>
     ensures { IsMade (rule.paths_left_in change.now tree.now.store dataset.now) result }
 {
     let after = After::of(tree, change);
-    let mut found = Vec::new(change.deleted.allocator());
+    let mut found = Vec::new(alloc);
     add_touched(&after, dataset, &mut found)?;
     in_order(found)
 }
 
 /// The paths of one dataset that a change touches, in the order of their names. Looks at the dataset's chains alone, and
 /// fails only for want of memory.
-pub fn touched_at(tree: &Tree, change: &Change, dataset: &Dataset) -> Result<Paths, Memory>
+pub fn touched_at(
+    alloc: Global,
+    tree: &Tree,
+    change: &Change,
+    dataset: &Dataset,
+) -> Result<Paths, Memory>
     ensures { IfOk result (rule.AreTouchedAt change.now tree.now.store dataset.now) }
 {
-    paths_at(tree, change, dataset)
+    paths_at(alloc, tree, change, dataset)
 }
 
 // Adds a dataset, if it exists afterwards.
@@ -193,7 +199,7 @@ fn add_dataset(
     if !after.dataset_exists(dataset.as_slice()) {
         return Ok(());
     }
-    let all = is_managed(after, &chain(after.tree, dataset, false));
+    let all = is_managed(after, &chain(after.tree, dataset));
     let dataset = dataset.copy()?;
     made.push(TouchedDataset { dataset, all })?;
     Ok(())

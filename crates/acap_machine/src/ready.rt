@@ -11,7 +11,7 @@ pub struct Ready {
     pub(crate) seat: Seat,
     pub(crate) deed: Deed,
     pub(crate) reply: Reply,
-    pub(crate) work: usize,
+    pub(crate) work: u64,
 }
 
 impl Model for Ready {

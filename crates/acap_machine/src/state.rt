@@ -23,7 +23,7 @@ pub struct State {
     pub(crate) tree: Tree,
     pub(crate) index: Resolved,
     pub(crate) views: Views,
-    pub(crate) work: usize,
+    pub(crate) work: u64,
 }
 
 // By hand, so that no other crate takes a machine apart to drop it.
@@ -103,7 +103,7 @@ impl State {
     }
 
     /// How many touched entries were looked at for contexts in the last event that was performed: none in a SEARCH.
-    pub fn work(&self) -> usize
+    pub fn work(&self) -> u64
         ensures { result ≡ self.now.work }
     {
         self.work

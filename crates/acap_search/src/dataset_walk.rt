@@ -22,7 +22,7 @@ use crate::quest::Quest;
 use crate::spot::Spot;
 use crate::viewer::Viewer;
 use acap_entries::{Dataset, EntryName, Listing, Memory, Path, Record, Records, Steps, Tree};
-use acap_inherit::{Lineage, chain, names_law, names_on};
+use acap_inherit::{Lineage, chain_unless, names_law, names_on};
 use acap_rights::{SharedRights, shared_rights};
 use std::alloc::Global;
 use std::sync::ledger::Ledger;
@@ -164,7 +164,7 @@ pub(crate) fn add_in<'a, L: Ledger>(
         realm: search.realm,
         user: search.user,
         dataset,
-        chain: chain(search.tree, dataset, sought.no_inherit),
+        chain: chain_unless(search.tree, dataset, sought.no_inherit),
     };
     if let Some(name) = only_name(&sought.key) {
         return add_only(alloc, &by, name, sought, found, steps);

@@ -21,7 +21,7 @@ use crate::spot::Spot;
 use crate::tuples::finding_at;
 use crate::viewer::Viewer;
 use acap_entries::{Dataset, EntryName, Listing, Memory, Path, Record, Records, Steps, Tree};
-use acap_inherit::chain;
+use acap_inherit::chain_unless;
 use acap_rights::{SharedRights, shared_rights};
 use std::alloc::Global;
 use std::marker::Model;
@@ -116,7 +116,7 @@ impl<'a> Ground<'a> {
             realm: search.realm,
             user: search.user,
             dataset,
-            chain: chain(search.tree, dataset, sought.no_inherit),
+            chain: chain_unless(search.tree, dataset, sought.no_inherit),
         };
         let shared = share_rights(alloc, &by)?;
         let own = Front::of(by.records, dataset.as_slice());

@@ -9,7 +9,7 @@ ghost use Rattle.acap_search.specs.Views.{answers_of, is_readable_at, rights_in}
 use crate::spot::Spot;
 use crate::viewer::Viewer;
 use acap_entries::{Cell, EntryName, Record, Records, stamp};
-use acap_inherit::{Found, Lent, resolve};
+use acap_inherit::{Found, Lent, lookup};
 use acap_rights::{Object, Rights, rights_of};
 
 /// What a user sees of an attribute of an entry, as it is lent: nothing is copied (RFC 2244 section 3.5).
@@ -103,7 +103,7 @@ fn look_far<'a, R: Records>(spot: &Spot<'a, R>, attribute: &[u8]) -> Shown<'a>
     let by = spot.by;
     let name = spot.name.as_slice();
     let rights = rights_on(by, by.dataset.as_slice(), attribute, name);
-    match resolve(by.records, &by.chain, name, attribute) {
+    match lookup(by.records, &by.chain, name, attribute) {
         Found::At { dataset, value } => {
             let there = rights_there(by, rights, dataset, attribute, name);
             Shown {

@@ -39,7 +39,7 @@ pub(crate) fn check_datasets(tree: &Tree, entries: &[StoreEntry]) -> Result<(), 
 fn modtime_at(tree: &Tree, path: &Path) -> Option<Moment>
     ensures { result ≡ rule.modtime_at tree.now.store.records path.now }
 {
-    let chain = chain(tree, &path.dataset, false);
+    let chain = chain(tree, &path.dataset);
     modtime(tree, &chain, path.name.as_slice())
 }
 

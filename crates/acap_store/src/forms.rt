@@ -50,14 +50,13 @@ pub(crate) fn is_ending(item: &StoreItem) -> bool
 pub(crate) fn is_nil_at<R: Records>(records: &R, path: &Path, attribute: &[u8]) -> bool
     ensures { result ≡ is_none (rule.resolved_at (R.store records.now).records path.now attribute.now) }
 {
-    let chain = chain(records, &path.dataset, false);
-    resolve(records, &chain, path.name.as_slice(), attribute).is_nil()
+    resolve(records, &path.dataset, path.name.as_slice(), attribute).is_nil()
 }
 
 /// Whether the entry at a path exists.
 pub(crate) fn exists_at<R: Records>(records: &R, path: &Path) -> bool
     ensures { result ≡ rule.exists_at (R.store records.now).records path.now }
 {
-    let chain = chain(records, &path.dataset, false);
+    let chain = chain(records, &path.dataset);
     entry_exists(records, &chain, path.name.as_slice())
 }

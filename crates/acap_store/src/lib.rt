@@ -22,6 +22,7 @@ mod subject;
 mod write;
 mod writing;
 
+pub use acap_commands::Refusal;
 pub use deleting::deleted_since;
 pub use laws::{
     change_examples, dataset_law, housed_law, item_examples, kept_law, later_law, limit_examples,

@@ -68,7 +68,7 @@ fn perform<L: Ledger>(
     state: &mut State,
     text: &[u8],
     steps: &mut Steps<L>,
-) -> Result<usize, Fault> {
+) -> Result<u64, Fault> {
     let event = event_of(alloc, text)?;
     let _reply = state.step(seat(0), event, Moment::first(), steps)?;
     Ok(state.work())
@@ -85,7 +85,7 @@ fn fill<L: Ledger>(alloc: Global, state: &mut State, steps: &mut Steps<L>) -> Re
 }
 
 // Whether a number is printed so.
-fn is_printed(alloc: Global, number: usize, text: &str) -> bool {
+fn is_printed(alloc: Global, number: u64, text: &str) -> bool {
     match number.to_string(alloc) {
         Ok(digits) => digits.as_str() == text,
         Err(_) => false,

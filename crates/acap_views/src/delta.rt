@@ -16,7 +16,7 @@ pub(crate) type Turns = Sequence<Shifts>;
 #[derive(Drop)]
 pub struct Delta {
     pub(crate) seats: Sequence<Turns>,
-    pub(crate) work: usize,
+    pub(crate) work: u64,
 }
 
 impl Model for Delta {
@@ -44,7 +44,7 @@ impl Delta {
     }
 
     /// How many entries were looked at for it: at most the touched ones in the scopes of live contexts, each once for each context.
-    pub fn work(&self) -> usize
+    pub fn work(&self) -> u64
         ensures { result ≡ self.now.work }
     {
         self.work

@@ -33,7 +33,7 @@ impl Views {
     fn all_turns<L: Ledger>(
         &self,
         ahead: &Ahead<'_>,
-        work: &mut usize,
+        work: &mut u64,
         steps: &mut Steps<L>,
     ) -> Result<Sequence<Turns>, Memory>
         ensures count { IsCounted result steps.old steps.new (rule.work_of ahead.now (seats_in self.now)) }

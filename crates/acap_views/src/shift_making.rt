@@ -14,7 +14,7 @@ use crate::scene::Scene;
 use crate::shift::{News, Shift};
 use crate::watch::Watch;
 use acap_entries::{Copying, Memory, Octets, Path, Paths, Steps, Value};
-use acap_inherit::chain;
+use acap_inherit::chain_unless;
 use acap_notices::MOST;
 use acap_search::{Hit, Placed, SortPlaces, Sought, Standing, Viewer, places_at, row_of};
 use std::alloc::Global;
@@ -49,7 +49,7 @@ fn places_before(alloc: Global, scene: &Scene<'_>, path: &Path) -> Result<SortPl
         realm: scene.realm,
         user: scene.user,
         dataset: &path.dataset,
-        chain: chain(tree, &path.dataset, sought.no_inherit),
+        chain: chain_unless(tree, &path.dataset, sought.no_inherit),
     };
     places_at(alloc, &by, &path.name, sought)
 }
@@ -71,7 +71,7 @@ fn find_after<L: Ledger>(
         realm: scene.realm,
         user: scene.user,
         dataset: &path.dataset,
-        chain: chain(after, &path.dataset, sought.no_inherit),
+        chain: chain_unless(after, &path.dataset, sought.no_inherit),
     };
     row_of(alloc, &by, &path.name, sought, None, steps)
 }

@@ -8,6 +8,7 @@ use crate::noted::Noted;
 use acap_entries::{Copying, Dataset, Memory, Path, Paths};
 use acap_inherit::{TouchedDataset, touched_at, touched_paths_law};
 use acap_search::{Sought, looks_in};
+use std::alloc::Global;
 
 // Whether a change touches something in a dataset.
 fn has_dataset(datasets: &[TouchedDataset], dataset: &Dataset) -> bool
@@ -57,6 +58,7 @@ fn known_paths<'n>(
 
 // Lists the touched entries of a dataset, and keeps them.
 fn note_paths<'a>(
+    alloc: Global,
     ahead: &Ahead<'_>,
     sought: &'a Sought,
     noted: &mut Option<Noted<'a>>,
@@ -65,7 +67,7 @@ fn note_paths<'a>(
     ensures noted { rule.IsNoted ahead.now noted.new }
     ensures paths { IfOk result (rule.AreLookedAt ahead.now sought.now) }
 {
-    let paths = touched_at(ahead.tree, ahead.change, &sought.dataset)?;
+    let paths = touched_at(alloc, ahead.tree, ahead.change, &sought.dataset)?;
     let dataset = sought.dataset.as_slice();
     *noted = Some(Noted {
         dataset,
@@ -76,6 +78,7 @@ fn note_paths<'a>(
 
 // The touched entries of the one dataset that a search without DEPTH looks through.
 fn in_dataset<'a>(
+    alloc: Global,
     ahead: &Ahead<'_>,
     sought: &'a Sought,
     noted: &mut Option<Noted<'a>>,
@@ -88,14 +91,15 @@ fn in_dataset<'a>(
         if let Some(paths) = known_paths(ahead, sought, noted) {
             return paths.copy();
         }
-        return note_paths(ahead, sought, noted);
+        return note_paths(alloc, ahead, sought, noted);
     }
-    Ok(Paths::new(ahead.change.deleted.allocator()))
+    Ok(Paths::new(alloc))
 }
 
 /// The touched entries that a search looks at, in the order of their full octets. Where it looks through one dataset, no name of
 /// another one is listed, and those that are listed are kept for the next search. Fails only for want of memory.
 pub(crate) fn list_touched<'a>(
+    alloc: Global,
     ahead: &Ahead<'_>,
     sought: &'a Sought,
     noted: &mut Option<Noted<'a>>,
@@ -106,7 +110,7 @@ pub(crate) fn list_touched<'a>(
 {
     touched_paths_law();
     if sought.depth.is_none() {
-        return in_dataset(ahead, sought, noted);
+        return in_dataset(alloc, ahead, sought, noted);
     }
     let paths = ahead.index.touched(ahead.tree, ahead.change)?;
     keep_looked_at(ahead, sought, paths)

@@ -23,10 +23,10 @@ use std::alloc::Global;
 use std::sync::ledger::Ledger;
 
 // How many more there are than so many. Memory could not hold more than are counted.
-fn and_more(count: usize, more: usize) -> Result<usize, Memory>
+fn and_more(count: u64, more: usize) -> Result<u64, Memory>
     ensures { IfOk result (λ sum. sum ≡ count + more) }
 {
-    match count.checked_add(more) {
+    match count.checked_add(more as u64) {
         Some(sum) => Ok(sum),
         None => Err(Memory),
     }
@@ -67,7 +67,7 @@ fn turn_of<'a, L: Ledger>(
     user: &UserName,
     context: &'a OpenContext,
     noted: &mut Option<Noted<'a>>,
-    work: &mut usize,
+    work: &mut u64,
     steps: &mut Steps<L>,
 ) -> Result<Shifts, Memory>
     requires { IsNoted ahead.now noted.old }
@@ -79,7 +79,7 @@ fn turn_of<'a, L: Ledger>(
     let sought = &context.sought;
     match &context.held {
         Held::Live(watch) => {
-            let paths = list_touched(ahead, sought, noted)?;
+            let paths = list_touched(alloc, ahead, sought, noted)?;
             *work = and_more(*work, paths.len())?;
             live_turn(alloc, ahead, user, sought, watch, paths, steps)
         }
@@ -112,7 +112,7 @@ pub(crate) fn turns_of<'a, L: Ledger>(
     ahead: &Ahead<'_>,
     sitting: &'a Sitting,
     noted: &mut Option<Noted<'a>>,
-    work: &mut usize,
+    work: &mut u64,
     steps: &mut Steps<L>,
 ) -> Result<Turns, Memory>
     requires { IsNoted ahead.now noted.old }

@@ -14,5 +14,5 @@ returns c =
       user = c.scene.inside.user.now;
       dataset = c.args.path.now.dataset;
       chain = chain;
-    }) c.args.path.now.name) (unwrap_or c.scene.inside.sought.now.sort [])) c.chain.ensures
+    }) c.args.path.now.name) (unwrap_or c.scene.inside.sought.now.sort [])) c.chain_unless.ensures
     ∙ ap (λ s. places_before s c.args.path.now) c.scene.view_is)) c.places_at.ensures
