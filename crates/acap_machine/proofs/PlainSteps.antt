@@ -93,7 +93,7 @@ module _ (m : Machine) (seat : ℕ) where
 
   made_if : (full : Bool) (words : Said) (new : Contexts) (refusal : Refusal)
       → cond full (said.Refused refusals.TryFreeContext, forgotten m) (words, forgotten (with_live m seat new))
-      ≡ forgotten_answer (seated_or m words (cond full (Err view.TryFree) (Ok (with_contexts m.seats seat new))))
+      ≡ forgotten_answer (seated_or m words (cond full (Err view.TryFreeContext) (Ok (with_contexts m.seats seat new))))
   made_if true words new refusal = refl
   made_if false words new refusal = refl
 

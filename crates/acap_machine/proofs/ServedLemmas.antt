@@ -116,7 +116,7 @@ search_good dataset refusal.WayTooMany = refl
 search_good dataset refusal.Memory = refl
 
 view_good : (why : ViewRefusal) → is_answer (status_of (view_refused_as why)) ≡ true
-view_good view.TryFree = refl
+view_good view.TryFreeContext = refl
 view_good view.NoContext = refl
 view_good view.FreedContext = refl
 view_good view.NotNotify = refl

@@ -82,7 +82,7 @@ refused_as dataset refusal.Memory = refusals.Memory
 
 -- what is asked of a context, and refused
 abbrev pub view_refused_as : ViewRefusal → Refusal
-view_refused_as view.TryFree = refusals.TryFreeContext
+view_refused_as view.TryFreeContext = refusals.TryFreeContext
 view_refused_as view.NoContext = refusals.NoContext
 view_refused_as view.FreedContext = refusals.FreedContext
 view_refused_as view.NotNotify = refusals.NotNotify

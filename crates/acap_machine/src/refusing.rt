@@ -50,7 +50,7 @@ pub(crate) fn refuse_view(refusal: ViewRefusal) -> Result<Said, Memory>
     ensures other { OnOk result (rule.is_view_memory refusal ≡ false) }
 {
     match refusal {
-        ViewRefusal::TryFree => Ok(Said::Refused(Refusal::TryFreeContext)),
+        ViewRefusal::TryFreeContext => Ok(Said::Refused(Refusal::TryFreeContext)),
         ViewRefusal::NoContext => Ok(Said::Refused(Refusal::NoContext)),
         ViewRefusal::FreedContext => Ok(Said::Refused(Refusal::FreedContext)),
         ViewRefusal::NotNotify => Ok(Said::Refused(Refusal::NotNotify)),

@@ -35,7 +35,7 @@ freed_yes seats new seat name e n =
 
 abbrev is_memory : Option ViewRefusal → Bool
 is_memory None = false
-is_memory (Some refusal.TryFree) = false
+is_memory (Some refusal.TryFreeContext) = false
 is_memory (Some refusal.NoContext) = false
 is_memory (Some refusal.FreedContext) = false
 is_memory (Some refusal.NotNotify) = false
@@ -59,7 +59,7 @@ no_memory contexts [] = refl
 no_memory contexts (name ∷ names) = or_memory (fault_at contexts name) (fault_of contexts names) (at_memory (table.get contexts name)) (no_memory contexts names)
 
 refused : {X Y : Type 0} (f : Option ViewRefusal) (x : Y) (meant : X → Y) (why : ViewRefusal) → is_memory f ≡ false → f ≡ Some why → IsAnswer (unless_faulty f x) meant (Err why)
-refused f x meant refusal.TryFree n e = ap (λ (o : Option ViewRefusal). unless_faulty o x) e
+refused f x meant refusal.TryFreeContext n e = ap (λ (o : Option ViewRefusal). unless_faulty o x) e
 refused f x meant refusal.NoContext n e = ap (λ (o : Option ViewRefusal). unless_faulty o x) e
 refused f x meant refusal.FreedContext n e = ap (λ (o : Option ViewRefusal). unless_faulty o x) e
 refused f x meant refusal.NotNotify n e = ap (λ (o : Option ViewRefusal). unless_faulty o x) e

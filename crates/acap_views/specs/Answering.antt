@@ -14,7 +14,7 @@ use Rattle.acap_views.specs.declared.refusal.ViewRefusal.TheVariants as refusal
 -- what is wanted is answered, or why it is refused. Memory is wanted only where nothing else refuses it
 abbrev pub IsAnswer : {X Y : Type 0} → Result Y ViewRefusal → (X → Y) → Result X ViewRefusal → Type 0
 IsAnswer wanted meant (Ok x) = wanted ≡ Ok (meant x)
-IsAnswer wanted meant (Err refusal.TryFree) = wanted ≡ Err refusal.TryFree
+IsAnswer wanted meant (Err refusal.TryFreeContext) = wanted ≡ Err refusal.TryFreeContext
 IsAnswer wanted meant (Err refusal.NoContext) = wanted ≡ Err refusal.NoContext
 IsAnswer wanted meant (Err refusal.FreedContext) = wanted ≡ Err refusal.FreedContext
 IsAnswer wanted meant (Err refusal.NotNotify) = wanted ≡ Err refusal.NotNotify

@@ -47,7 +47,7 @@ impl Views {
         self.seats[at].1.make_room()
     }
 
-    /// The context that a search makes at a seat, and room for it there: `TryFree` exactly where there is no place, before memory
+    /// The context that a search makes at a seat, and room for it there: `TryFreeContext` exactly where there is no place, before memory
     /// is asked for (RFC 2244 section 6.4.1). Nobody's contexts change.
     pub fn make_context(
         &mut self,
@@ -65,7 +65,7 @@ impl Views {
         ensures room { OnOk result (HasPlace self.new seat) }
     {
         if is_full(self.contexts(seat), &make.name) {
-            return Err(ViewRefusal::TryFree);
+            return Err(ViewRefusal::TryFreeContext);
         }
         let context = OpenContext::new(self.alloc, &make, sought, hits, last)?;
         self.reserve_context(seat)?;
@@ -85,7 +85,7 @@ impl Views {
         self.seats[at].1.put(new.name, new.context);
     }
 
-    /// Makes the context of a search at a seat; one of its name makes way. `TryFree` exactly where there is no place, before
+    /// Makes the context of a search at a seat; one of its name makes way. `TryFreeContext` exactly where there is no place, before
     /// memory is asked for. At a refusal nothing has changed (RFC 2244 section 6.4.1).
     pub fn open(
         &mut self,

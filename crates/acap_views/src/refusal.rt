@@ -8,7 +8,7 @@ use acap_entries::Memory;
 #[derive(Clone, Copy, PartialEq, Eq)]
 pub enum ViewRefusal {
     /// The session has as many contexts as it may.
-    TryFree,
+    TryFreeContext,
     /// The session has no context of this name.
     NoContext,
     /// The context was freed.
