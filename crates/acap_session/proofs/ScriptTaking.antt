@@ -70,8 +70,8 @@ hears_ran (r ∷ refused) o piece old new (quiet, inr (goes, h)) =
 
 -- what is done at a seat
 acts_ran : (does : SeatLine) (o : Occasion) (old new : World) → Acts does o old new → Ran old new
-acts_ran act.Open o old new e = one_step o false (world.Open None) old new e
-acts_ran (act.Enter user) o old new e = one_step o false (world.Open (Some user)) old new e
+acts_ran act.Open o old new e = one_step (without_nonce o) false (world.Open None) old new e
+acts_ran (act.Enter user) o old new e = one_step (without_nonce o) false (world.Open (Some user)) old new e
 acts_ran (act.Send text) o old new h = hears_ran h.refused o (text ++ crlf) old new h.heard
 acts_ran (act.Raw octets) o old new h = hears_ran h.refused o octets old new h.heard
 acts_ran (act.Piece octets) o old new e = one_step o false (world.Piece octets) old new e

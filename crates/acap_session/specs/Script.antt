@@ -79,14 +79,14 @@ may act.Turn is_open = is_open
 may act.Drain is_open = is_open
 may act.Leave is_open = is_open
 
--- no challenge is told by a drain or an end
+-- no challenge is sent by a session that opens, a drain or an end
 abbrev pub without_nonce : Occasion → Occasion
 without_nonce o = record o { nonce = 0 }
 
 -- Each is a step of the world, or some. No entering of a user and no drain is refused memory.
 abbrev pub Acts : SeatLine → Occasion → World → World → Type 0
-Acts act.Open o old new = new ≡ did o false (world.Open None) old
-Acts (act.Enter user) o old new = new ≡ did o false (world.Open (Some user)) old
+Acts act.Open o old new = new ≡ did (without_nonce o) false (world.Open None) old
+Acts (act.Enter user) o old new = new ≡ did (without_nonce o) false (world.Open (Some user)) old
 Acts (act.Send text) o old new = HasHeard o (text ++ crlf) old new
 Acts (act.Raw octets) o old new = HasHeard o octets old new
 Acts (act.Piece octets) o old new = new ≡ did o false (world.Piece octets) old
@@ -232,7 +232,7 @@ Done may does (Err faults.Memory) = Unit {0}
 
 -- so a session opens, something is done at a seat, or octets are offered there
 abbrev pub MayOpen : Option (List ℕ) → Occasion → World → World → Result (Unit {0}) LineFault → Type 0
-MayOpen user o old new = Done (not (is_some (open_at old o.seat))) (λ done. new ≡ did o false (world.Open user) old)
+MayOpen user o old new = Done (not (is_some (open_at old o.seat))) (λ done. new ≡ did (without_nonce o) false (world.Open user) old)
 
 abbrev pub MayAct : SeatLine → Occasion → World → World → Result (Unit {0}) LineFault → Type 0
 MayAct does o old new = Done (may does (is_some (open_at old o.seat))) (λ done. Acts does o old new)

@@ -82,8 +82,8 @@ heard o piece w = offered_again (length piece) o (left_by (open_at w o.seat) pie
 
 -- by the line
 abbrev pub done_at : SeatLine → Occasion → World → World
-done_at act.Open o w = did o false (world.Open None) w
-done_at (act.Enter user) o w = did o false (world.Open (Some user)) w
+done_at act.Open o w = did (without_nonce o) false (world.Open None) w
+done_at (act.Enter user) o w = did (without_nonce o) false (world.Open (Some user)) w
 done_at (act.Send text) o w = heard o (text ++ crlf) w
 done_at (act.Raw octets) o w = heard o octets w
 done_at (act.Piece octets) o w = did o false (world.Piece octets) w

@@ -19,7 +19,7 @@ fn open<L: Ledger>(
 ) -> Result<(), LineFault>
     ensures { MayOpen user at.now world.old world.new result }
 {
-    world.open(at.seat, user, at.clock, at.nonce, steps)?;
+    world.open(at.seat, user, at.clock, steps)?;
     Ok(())
 }
 
@@ -52,7 +52,7 @@ fn push(world: &mut World, at: &Occasion, octets: &[u8]) -> Result<(), LineFault
 fn turn<L: Ledger>(world: &mut World, at: &Occasion, steps: &mut Steps<L>) -> Result<(), LineFault>
     ensures { MayAct act.Turn at.now world.old world.new result }
 {
-    world.turn(at.seat, at.clock, at.nonce, steps)?;
+    world.turn(at.seat, at.nonce, at.clock, steps)?;
     Ok(())
 }
 

@@ -16,7 +16,7 @@ use std::sync::ledger::Ledger;
 fn turn<L: Ledger>(world: &mut World, at: &Occasion, steps: &mut Steps<L>) -> Result<bool, Memory>
     ensures { IfOk result (λ goes. HasTurned at.now goes world.old world.new) }
 {
-    match world.turn(at.seat, at.clock, at.nonce, steps) {
+    match world.turn(at.seat, at.nonce, at.clock, steps) {
         Ok(goes) => Ok(goes),
         Err(WorldFault::NoSeat) => Ok(false),
         Err(_) => Err(Memory),

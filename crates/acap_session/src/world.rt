@@ -98,17 +98,16 @@ impl World {
     }
 
     /// Opens a session at a seat, of that user if there is one, and makes its first turn: its user enters, and it greets.
-    /// `Taken` where one is open there. Where memory is refused nothing was done. Here and below each entry that a search of a
-    /// session looks at counts as a step.
+    /// `Taken` where one is open there. Where memory is refused nothing was done. `now` is what the clock shows. Here and
+    /// below each entry that a search of a session looks at counts as a step.
     pub fn open<L: Ledger>(
         &mut self,
         seat: Seat,
         user: Option<UserName>,
-        clock: Moment,
-        nonce: u64,
+        now: Moment,
         steps: &mut Steps<L>,
     ) -> Result<(), WorldFault>
-        ensures { Opens (record { seat = seat; clock = clock; nonce = nonce }) user self.old self.new result }
+        ensures { Opens (record { seat = seat; clock = now; nonce = 0 }) user self.old self.new result }
     {
         if self.is_open(seat) {
             return Err(WorldFault::Taken);
@@ -116,7 +115,11 @@ impl World {
         let host = self.host.copy()?;
         let count = self.places.len();
         reach(&mut self.places, seat)?;
-        let occasion = Occasion { seat, clock, nonce };
+        let occasion = Occasion {
+            seat,
+            clock: now,
+            nonce: 0,
+        };
         let index = usize::from(seat.number());
         let session = Session::new(self.alloc, host, user);
         let standing = &mut self.places[index];
@@ -151,22 +154,26 @@ impl World {
         }
     }
 
-    /// Makes one turn of a seat's session, keeps what it says, and tells whether it came to anything: where it didn't, more
-    /// octets are needed. `NoSeat` where none is open there; where memory is refused to the session it is closed, and an
+    /// Makes one turn of a seat's session, keeps what it says, and answers whether it came to anything: where it didn't, more
+    /// octets are needed. The nonce is the one of a challenge, if this turn sends one (RFC 2195 section 2). `NoSeat` where none is open there; where memory is refused to the session it is closed, and an
     /// event that it had asked stands.
     pub fn turn<L: Ledger>(
         &mut self,
         seat: Seat,
-        clock: Moment,
         nonce: u64,
+        now: Moment,
         steps: &mut Steps<L>,
     ) -> Result<bool, WorldFault>
-        ensures { Turns (record { seat = seat; clock = clock; nonce = nonce }) self.old self.new result }
+        ensures { Turns (record { seat = seat; clock = now; nonce = nonce }) self.old self.new result }
     {
         if !self.is_open(seat) {
             return Err(WorldFault::NoSeat);
         }
-        let occasion = Occasion { seat, clock, nonce };
+        let occasion = Occasion {
+            seat,
+            clock: now,
+            nonce,
+        };
         let index = usize::from(seat.number());
         match &mut self.places[index] {
             Some(place) => match place.turn(&mut self.state, &self.users, occasion, steps) {
@@ -183,17 +190,17 @@ impl World {
     pub fn drain<L: Ledger>(
         &mut self,
         seat: Seat,
-        clock: Moment,
+        now: Moment,
         steps: &mut Steps<L>,
     ) -> Result<(), WorldFault>
-        ensures { Drains (record { seat = seat; clock = clock; nonce = 0 }) self.old self.new result }
+        ensures { Drains (record { seat = seat; clock = now; nonce = 0 }) self.old self.new result }
     {
         if !self.is_open(seat) {
             return Err(WorldFault::NoSeat);
         }
         let occasion = Occasion {
             seat,
-            clock,
+            clock: now,
             nonce: 0,
         };
         let index = usize::from(seat.number());
@@ -227,17 +234,17 @@ impl World {
     pub fn leave<L: Ledger>(
         &mut self,
         seat: Seat,
-        clock: Moment,
+        now: Moment,
         steps: &mut Steps<L>,
     ) -> Result<(), WorldFault>
-        ensures { Leaves (record { seat = seat; clock = clock; nonce = 0 }) self.old self.new result }
+        ensures { Leaves (record { seat = seat; clock = now; nonce = 0 }) self.old self.new result }
     {
         if !self.is_open(seat) {
             return Err(WorldFault::NoSeat);
         }
         let occasion = Occasion {
             seat,
-            clock,
+            clock: now,
             nonce: 0,
         };
         let index = usize::from(seat.number());

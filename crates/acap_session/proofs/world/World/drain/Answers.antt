@@ -14,8 +14,8 @@ returns-after-drain g c =
     let there = open_there (the_view c.self.inside) c.from-index.result c.args.seat c.index_mut.result.now c.index_mut.result.now c.in-Some.place (c.from-index.ensures ∙ c.number.ensures.value) open_ c.index_mut.ensures.value c.in-Some.is in
     let put = put_is (the_view c.self.inside) c.drain.new.state.machine c.from-index.result c.args.seat c.drain.new.self (c.from-index.ensures ∙ c.number.ensures.value) open_ in
     elim c.match-drain.branch [
-      | in-Ok w ↦ drain_made c.args.self.now (the_view c.self.inside) _ (record { seat = c.args.seat; clock = c.args.clock; nonce = 0 }) c.in-Some.place _ (scene c.drain.new.state.machine c.drain.new.self.talk c.drain.new.self.out) c.match-drain.result _ c.self.view_is there put w.result-is w.in-Ok.ensures
-      | in-Err w ↦ drain_cut c.args.self.now (the_view c.self.inside) _ (record { seat = c.args.seat; clock = c.args.clock; nonce = 0 }) c.in-Some.place (scene c.drain.new.state.machine c.drain.new.self.talk c.drain.new.self.out) c.match-drain.result c.self.view_is there put w.result-is w.in-Err.ensures
+      | in-Ok w ↦ drain_made c.args.self.now (the_view c.self.inside) _ (record { seat = c.args.seat; clock = c.args.now; nonce = 0 }) c.in-Some.place _ (scene c.drain.new.state.machine c.drain.new.self.talk c.drain.new.self.out) c.match-drain.result _ c.self.view_is there put w.result-is w.in-Ok.ensures
+      | in-Err w ↦ drain_cut c.args.self.now (the_view c.self.inside) _ (record { seat = c.args.seat; clock = c.args.now; nonce = 0 }) c.in-Some.place (scene c.drain.new.state.machine c.drain.new.self.talk c.drain.new.self.out) c.match-drain.result c.self.view_is there put w.result-is w.in-Err.ensures
     ]
 
 pub returns-in-None : goal.returns-in-None

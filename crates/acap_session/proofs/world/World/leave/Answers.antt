@@ -16,4 +16,4 @@ returns-in-Some g c =
     let open_ = now_open (the_view c.self.inside) c.args.self.now c.args.seat c.is_open.result c.self.view_is c.if-not-is_open.false c.is_open.ensures in
     let there = open_there (the_view c.self.inside) c.from-index.result c.args.seat c.index_mut.result.now c.index_mut.result.now c.in-Some.place (c.from-index.ensures ∙ c.number.ensures.value) open_ c.index_mut.ensures.value c.in-Some.is in
     let put = put_is (the_view c.self.inside) c.end.new.state.machine c.from-index.result c.args.seat c.end.new.self (c.from-index.ensures ∙ c.number.ensures.value) open_ in
-    leave_made c.args.self.now (the_view c.self.inside) _ (record { seat = c.args.seat; clock = c.args.clock; nonce = 0 }) c.in-Some.place (scene c.end.new.state.machine c.end.new.self.talk c.end.new.self.out) c.self.view_is there put c.end.ensures
+    leave_made c.args.self.now (the_view c.self.inside) _ (record { seat = c.args.seat; clock = c.args.now; nonce = 0 }) c.in-Some.place (scene c.end.new.state.machine c.end.new.self.talk c.end.new.self.out) c.self.view_is there put c.end.ensures

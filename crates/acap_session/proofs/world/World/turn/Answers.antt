@@ -14,8 +14,8 @@ returns-after-turn g c =
     let there = open_there (the_view c.self.inside) c.from-index.result c.args.seat c.index_mut.result.now c.index_mut.result.now c.in-Some.place (c.from-index.ensures ∙ c.number.ensures.value) open_ c.index_mut.ensures.value c.in-Some.is in
     let put = put_is (the_view c.self.inside) c.turn.new.state.machine c.from-index.result c.args.seat c.turn.new.self (c.from-index.ensures ∙ c.number.ensures.value) open_ in
     elim c.match-turn.branch [
-      | in-Ok w ↦ turn_made c.args.self.now (the_view c.self.inside) _ (record { seat = c.args.seat; clock = c.args.clock; nonce = c.args.nonce }) c.in-Some.place _ (scene c.turn.new.state.machine c.turn.new.self.talk c.turn.new.self.out) _ c.match-turn.result c.self.view_is there put w.result-is w.went_on.ensures w.in-Ok.ensures
-      | in-Err w ↦ turn_cut c.args.self.now (the_view c.self.inside) _ (record { seat = c.args.seat; clock = c.args.clock; nonce = c.args.nonce }) c.in-Some.place (scene c.turn.new.state.machine c.turn.new.self.talk c.turn.new.self.out) c.match-turn.result c.self.view_is there put w.result-is w.in-Err.ensures
+      | in-Ok w ↦ turn_made c.args.self.now (the_view c.self.inside) _ (record { seat = c.args.seat; clock = c.args.now; nonce = c.args.nonce }) c.in-Some.place _ (scene c.turn.new.state.machine c.turn.new.self.talk c.turn.new.self.out) _ c.match-turn.result c.self.view_is there put w.result-is w.went_on.ensures w.in-Ok.ensures
+      | in-Err w ↦ turn_cut c.args.self.now (the_view c.self.inside) _ (record { seat = c.args.seat; clock = c.args.now; nonce = c.args.nonce }) c.in-Some.place (scene c.turn.new.state.machine c.turn.new.self.talk c.turn.new.self.out) c.match-turn.result c.self.view_is there put w.result-is w.in-Err.ensures
     ]
 
 pub returns-in-None : goal.returns-in-None
