@@ -280,6 +280,47 @@ module _ (records : Stored) (formed : AreWellFormed records) where
             (λ l. let m = maker scope.dataset depth d l in sym (ap (ends_with slash) m.1.1.1.1.1) ∙ closed_by_slash (full_path m.0.0))
       ]
 
+-- what has an own entry isn't the root
+not_root : (d : List ℕ) (own : Path) → own_entry d ≡ Some (own.dataset, own.name) → octets_eq d (slash ∷ []) ≡ false
+unfolding dataset_of
+not_root d own e =
+    elim (octets_eq d (slash ∷ [])) as (λ b. octets_eq d (slash ∷ []) ≡ b → b ≡ false) [
+      | true ↦ λ t. let root : own_entry d ≡ None = ap own_entry ((bytes_decides d (slash ∷ [])).0 t) in absurd (cc (root, e))
+      | false ↦ λ t. refl
+    ] refl
+
+-- the record of an existing dataset's own entry makes it
+maker_of : (o : Option Record) → option_map_or makes_dataset o false ≡ true → (r : Record) × ((o ≡ Some r) × (makes_dataset r ≡ true))
+maker_of None h = absurd (cc (h))
+maker_of (Some r) h = (r, (refl, h))
+
+made_there : (records : Stored) (formed : AreWellFormed records) (d : List ℕ) (own : Path) → own_entry d ≡ Some (own.dataset, own.name) → dataset_exists records d ≡ true
+    → (r : Record) × ((map.get records own ≡ Some r) × (makes_dataset r ≡ true))
+made_there records formed d own e exists =
+    maker_of (map.get records own) (ap (λ t. t || option_map_or makes_dataset (map.get records own) false) (sym (not_root d own e)) ∙ (sym (exists_own records formed d own e) ∙ exists))
+
+-- a dataset beneath some octets in one store is beneath them in each in which it exists
+beneath_too : (a b : Stored) → AreWellFormed a → AreWellFormed b → (dataset : List ℕ) (depth : ℕ) (d : List ℕ) → dataset_exists b d ≡ true
+    → Contains (beneath a dataset depth) d → Contains (beneath b dataset depth) d
+unfolding beneath
+beneath_too a b of_a of_b dataset depth d exists k =
+    let m = maker a of_a dataset depth d k in
+    let p : Path = m.0.0 in
+    let n = made_there b of_b d p (owned a of_a p m.0.1 d m.1.0 m.1.1.1.1.1) exists in
+    in_made (reached_by dataset depth) (filter (lies b of_b dataset) (map.entries b)) (p, n.0) d
+    (in_filter (lies b of_b dataset) (map.entries b) (p, n.0) (in_kept b p n.0 n.1.0) m.1.1.0)
+    ((λ i. cond (m.1.1.1.0 i) (cond (and_from (makes_dataset n.0) (is_component_name p.name) n.1.1 (second_so (makes_dataset m.0.1) (is_component_name p.name) m.1.1.1.1.0) i) (Some (full_path p ++ slash ∷ [])) None) None) ∙ ap Some m.1.1.1.1.1)
+
+pub looked_through_too : (a b : Stored) → AreWellFormed a → AreWellFormed b → (scope : Scope) (d : List ℕ) → dataset_exists b d ≡ true
+    → Contains (datasets_of a scope) d → Contains (datasets_of b scope) d
+looked_through_too a b of_a of_b scope d exists =
+    elim scope.depth as (λ depth. Contains (scope.dataset ∷ option_map_or (beneath a scope.dataset) depth []) d → Contains (scope.dataset ∷ option_map_or (beneath b scope.dataset) depth []) d) [
+      | None ↦ λ k. k
+      | Some depth ↦ λ k. either (first_or scope.dataset d (beneath a scope.dataset depth) k)
+          (λ s. at_first scope.dataset d (beneath b scope.dataset depth) s)
+          (λ l. there scope.dataset d (beneath b scope.dataset depth) (beneath_too a b of_a of_b scope.dataset depth d exists l))
+    ]
+
 -- ---- octets that begin another dataset
 
 pub same_number : (x y : ℕ) → x ≡ y → nat_eq x y ≡ true
@@ -371,24 +412,11 @@ module _ (records : Stored) (formed : AreWellFormed records) (scope : Scope) (en
         | Some depth ↦ λ e k. either (first_or scope.dataset d (beneath records scope.dataset depth) k) (λ s. inl (sym s)) (λ l. inr (beneath_by depth e l))
       ] refl
 
-  not_root : (own : Path) → own_entry d ≡ Some (own.dataset, own.name) → octets_eq d (slash ∷ []) ≡ false
-  unfolding dataset_of
-  not_root own e =
-      elim (octets_eq d (slash ∷ [])) as (λ b. octets_eq d (slash ∷ []) ≡ b → b ≡ false) [
-        | true ↦ λ t. let root : own_entry d ≡ None = ap own_entry ((bytes_decides d (slash ∷ [])).0 t) in absurd (cc (root, e))
-        | false ↦ λ t. refl
-      ] refl
-
-  -- the record of an existing dataset's own entry makes it
-  maker_of : (o : Option Record) → option_map_or makes_dataset o false ≡ true → (r : Record) × ((o ≡ Some r) × (makes_dataset r ≡ true))
-  maker_of None h = absurd (cc (h))
-  maker_of (Some r) h = (r, (refl, h))
-
   in_beneath : (b : IsBeneath records scope d) → (b.rest ≡ [] → ⊥) → Contains (beneath records scope.dataset b.depth) d
   unfolding beneath
   in_beneath b more =
       let own = (own_entry_law d b.own).0 b.entry in
-      let m = maker_of (map.get records b.own) (ap (λ t. t || option_map_or makes_dataset (map.get records b.own) false) (sym (not_root b.own b.entry)) ∙ (sym (exists_own records formed d b.own b.entry) ∙ b.exists)) in
+      let m = made_there records formed d b.own b.entry b.exists in
       let parts = prefix scope.dataset b.own.dataset b.own.name b.rest ends own.0.name more (b.whole ∙ (sym own.1 ∙ append_assoc b.own.dataset b.own.name (slash ∷ []))) in
       let behind : List ℕ = drop (length scope.dataset) b.own.dataset in
       let count : levels b.rest ≡ levels behind + 1 = sym (ap levels parts.1) ∙ (levels_more behind (b.own.name ++ slash ∷ []) ∙ ap (λ n. levels behind + n) (levels_name b.own.name own.0.name)) in

@@ -208,4 +208,5 @@ pub tuple_law : NothingLaw → NamesLaw → TupleLaw
 tuple_law nothing names = record {
   outside = λ records realm user sought path. outside nothing names records realm user sought path;
   inside = λ records realm user sought path. inside nothing names records realm user sought path;
+  found = λ records realm user sought path k. sym (inside nothing names records realm user sought path k);
 }

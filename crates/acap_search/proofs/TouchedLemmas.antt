@@ -25,14 +25,13 @@ use Rattle.acap_rights.specs.declared.realm.Realm.{Realm}
 use Rattle.acap_rights.specs.declared.rights.Rights.{Rights}
 use Rattle.acap_search.specs.Fresh.{IsSameAnswers, answers_on, sight_of, tuple_of}
 use Rattle.acap_search.specs.Laws.{TupleLaw}
-use Rattle.acap_search.specs.Once.{IsBeneath}
 use Rattle.acap_search.specs.Rows.{attributes_at, stars_of}
 use Rattle.acap_search.specs.Scopes.{Scope, scope_of, datasets_of}
 use Rattle.acap_search.specs.Sight.{may_read, may_test, is_held, cell_at, own_acl, rights_on, is_readable, is_seen}
 use Rattle.acap_search.specs.Touched.{AreSoundWrites, TouchedLaw}
 use Rattle.acap_search.specs.Tuples.{tuple_for}
 use Rattle.acap_search.specs.declared.query.Sought.{Sought}
-use Rattle.acap_search.proofs.OnceLemmas.{scope_law}
+use Rattle.acap_search.proofs.OnceLemmas.{looked_through_too, scope_law}
 use Rattle.acap_search.proofs.SeenLemmas.{here, either, same_name, not_any, unseen, all_seen, only_seen, tuple_law}
 use Rattle.acap_search.proofs.SightLemmas.{tuple_same}
 use Rattle.acap_search.proofs.Stars.{covers}
@@ -65,25 +64,17 @@ first_in records d false = here d _
 
 -- ---- which datasets are looked through
 
-module _ (written : Written) (old new : Stored) (step : AreSoundWrites written old new) (scope : Scope) (exists : dataset_exists old scope.dataset ≡ true) (d : List ℕ) where
-  by_members : {P : Type 0} → Contains (datasets_of old scope) d → (d ≡ scope.dataset → P) → (IsBeneath old scope d → P) → P
-  by_members k f g = either ((scope_law.members old scope d step.before exists).0 k) f g
-
-  moved : (a b : Stored) → IsBeneath a scope d → dataset_exists b d ≡ true → IsBeneath b scope d
-  moved a b is there = record { depth = is.depth; rest = is.rest; own = is.own; whole = is.whole; deep = is.deep; within = is.within; entry = is.entry; named = is.named; exists = there }
-
+module _ (written : Written) (old new : Stored) (step : AreSoundWrites written old new) (scope : Scope) (d : List ℕ) (is : dataset_exists old d ≡ true) where
   still : Contains (datasets_of old scope) d → Contains (datasets_of new scope) d
-  still k =
-      (scope_law.members new scope d step.after (step.stays scope.dataset exists)).1
-      (by_members k (λ e. inl e) (λ is. inr (moved old new is (step.stays d is.exists))))
+  still k = looked_through_too old new step.before.formed step.after.formed scope d (step.stays d is) k
 
-  had : dataset_exists old d ≡ true → Contains (datasets_of new scope) d → Contains (datasets_of old scope) d
-  had is k =
-      (scope_law.members old scope d step.before exists).1
-      (either ((scope_law.members new scope d step.after (step.stays scope.dataset exists)).0 k) (λ e. inl e) (λ below. inr (moved new old below is)))
+  had : Contains (datasets_of new scope) d → Contains (datasets_of old scope) d
+  had k = looked_through_too new old step.after.formed step.before.formed scope d is k
 
-  there_was : Contains (datasets_of old scope) d → dataset_exists old d ≡ true
-  there_was k = by_members k (λ e. ap (dataset_exists old) e ∙ exists) (λ is. is.exists)
+there_was : (written : Written) (old new : Stored) → AreSoundWrites written old new → (scope : Scope) → dataset_exists old scope.dataset ≡ true → (d : List ℕ)
+    → Contains (datasets_of old scope) d → dataset_exists old d ≡ true
+there_was written old new step scope exists d k =
+    either ((scope_law.members old scope d step.before exists).0 k) (λ e. ap (dataset_exists old) e ∙ exists) (λ is. is.exists)
 
 -- ---- the answers about an entry
 
@@ -167,7 +158,7 @@ module _ (nothing : NothingLaw) (names : NamesLaw) (unread : UnreadLaw) (written
   seen_same : IsReadAlike old new p.dataset p.name → (b : Bool) → is_seen (answers_on old realm user b p) ≡ is_seen (answers_on new realm user b p)
   seen_same alike b = let s = same_answers alike b in λ i. is_seen (record { read = λ a. s.read a i; test = λ a. s.test a i; acl = λ a. s.acl a i; rights = λ a. s.rights a i })
 
-  module _ (scope : Scope) (exists : dataset_exists old scope.dataset ≡ true) where
+  module _ (scope : Scope) where
     unsighted : {P : Type 0} (records : Stored) → has_record_on records (chain_of records p.dataset false) p.name ≡ false → Contains (sight_of records realm user scope).paths p → P
     unsighted records h k = absurd (cc (hidden records scope h, (only_seen nothing names records realm user scope p k).1))
 
@@ -176,12 +167,12 @@ module _ (nothing : NothingLaw) (names : NamesLaw) (unread : UnreadLaw) (written
         (λ none. (unsighted old none.before, unsighted new none.after))
         (λ r. (
           λ k. let s = only_seen nothing names old realm user scope p k in
-              all_seen nothing names new realm user scope p (still written old new step scope exists p.dataset s.0) (sym (seen_same r.0 scope.no_inherit) ∙ s.1),
+              all_seen nothing names new realm user scope p (still written old new step scope p.dataset r.1 s.0) (sym (seen_same r.0 scope.no_inherit) ∙ s.1),
           λ k. let s = only_seen nothing names new realm user scope p k in
-              all_seen nothing names old realm user scope p (had written old new step scope exists p.dataset r.1 s.0) (seen_same r.0 scope.no_inherit ∙ s.1),
+              all_seen nothing names old realm user scope p (had written old new step scope p.dataset r.1 s.0) (seen_same r.0 scope.no_inherit ∙ s.1),
         ))
 
-  module _ (sought : Sought) (exists : dataset_exists old sought.dataset ≡ true) where
+  module _ (sought : Sought) where
     tuples : TupleLaw
     tuples = tuple_law nothing names
 
@@ -206,15 +197,15 @@ module _ (nothing : NothingLaw) (names : NamesLaw) (unread : UnreadLaw) (written
     tuple_alike = either either_way
         (λ none. no_tuple old none.before ∙ sym (no_tuple new none.after))
         (λ r. either (in_or_out p.dataset (datasets_of old (scope_of sought)))
-        (λ k. both_inside r.0 k (still written old new step (scope_of sought) exists p.dataset k))
+        (λ k. both_inside r.0 k (still written old new step (scope_of sought) p.dataset r.1 k))
         (λ out. tuples.outside old realm user sought p out
-        ∙ sym (tuples.outside new realm user sought p (λ k. out (had written old new step (scope_of sought) exists p.dataset r.1 k)))))
+        ∙ sym (tuples.outside new realm user sought p (λ k. out (had written old new step (scope_of sought) p.dataset r.1 k)))))
 
 pub touched_law : NothingLaw → NamesLaw → UnreadLaw → TouchedLaw
 touched_law nothing names unread = record {
-  sight = λ written old new step realm user scope exists path e. sight_same nothing names unread written old new step realm user path e scope exists;
-  tuples = λ written old new step realm user sought exists path e. tuple_alike nothing names unread written old new step realm user path e sought exists;
-  datasets = λ written old new step scope exists dataset is.
-      (still written old new step scope exists dataset, had written old new step scope exists dataset is);
+  sight = λ written old new step realm user scope path e. sight_same nothing names unread written old new step realm user path e scope;
+  tuples = λ written old new step realm user sought path e. tuple_alike nothing names unread written old new step realm user path e sought;
+  datasets = λ written old new step scope dataset is.
+      (still written old new step scope dataset is, had written old new step scope dataset is);
   only = λ written old new step scope exists dataset. there_was written old new step scope exists dataset;
 }

@@ -12,6 +12,7 @@ use Rattle.acap_entries.specs.declared.path.Path.{Path}
 use Rattle.acap_commands.specs.declared.metadata.Metadata.{Metadata}
 use Rattle.acap_commands.specs.declared.return_item.ReturnItem.{ReturnItem}
 use Rattle.acap_commands.specs.declared.sort_item.SortItem.{SortItem}
+use Rattle.acap_inherit.specs.Chains.{chain_of}
 use Rattle.acap_inherit.specs.Records.{record_at}
 use Rattle.acap_rights.specs.contracts.realm.Realm as realm
 use Rattle.acap_rights.specs.declared.realm.Realm.{Realm}
@@ -31,6 +32,16 @@ pub record View : Type 0 where
   pub user : List ℕ
   pub dataset : List ℕ
   pub chain : List (List ℕ)
+
+-- a user, at the entries of a dataset along its chain, or in the dataset alone where nothing is to be inherited
+abbrev pub view_of : Stored → Realm → List ℕ → Bool → List ℕ → View
+view_of records realm user no_inherit dataset = record {
+  records = records;
+  realm = realm;
+  user = user;
+  dataset = dataset;
+  chain = chain_of records dataset no_inherit;
+}
 
 -- the entry of a name there
 pub record Spotted : Type 0 where

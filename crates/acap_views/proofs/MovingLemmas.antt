@@ -196,7 +196,7 @@ module _ (nothing : NothingLaw) (names : NamesLaw) (listed : TouchedPathsLaw) (s
   differs_touched p n =
       elim (is_touched written old.records new.records p) as (λ b. is_touched written old.records new.records p ≡ b → b ≡ true) [
         | true ↦ λ e. refl
-        | false ↦ λ e. absurd (n (unread.tuples written old.records new.records step realm user sought exists p e))
+        | false ↦ λ e. absurd (n (unread.tuples written old.records new.records step realm user sought p e))
       ] refl
 
   looked_into : (p : Path) → Contains (changed_paths sought before after) p → Contains datasets p.dataset
@@ -204,7 +204,7 @@ module _ (nothing : NothingLaw) (names : NamesLaw) (listed : TouchedPathsLaw) (s
       either (from_both before.paths _ p (from_filter _ _ p k).0)
       (λ l.
       let d = (seen.only old.records realm user (scope_of sought) p l).0 in
-      (unread.datasets written old.records new.records step (scope_of sought) exists p.dataset (unread.only written old.records new.records step (scope_of sought) exists p.dataset d)).0 d)
+      (unread.datasets written old.records new.records step (scope_of sought) p.dataset (unread.only written old.records new.records step (scope_of sought) exists p.dataset d)).0 d)
       (λ l. (seen.only new.records realm user (scope_of sought) p (from_filter _ after.paths p l).0).0)
 
   changed_looked : (p : Path) → Contains (changed_paths sought before after) p → Contains looked p
