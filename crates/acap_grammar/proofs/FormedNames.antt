@@ -374,6 +374,37 @@ made_good (c ∷ cs) h few octets =
 dataset_is_good : (d : List ℕ) → IsFormedDataset d → IsDataset d
 dataset_is_good d f = subst IsDataset (sym f.is.whole) (made_good f.components f.is.each f.few (subst (λ (t : List ℕ). length (dataset_text t) ≤ 1024) f.is.whole f.octets))
 
+-- with its closing slash too, where that is no octet too many
+closed_read : (cs : List (List ℕ)) → AllByRecursion IsComponent cs → length cs ≤ 16 → length (slash ∷ closed_each cs) ≤ 1024
+    → dataset_named (slash ∷ closed_each cs) ≡ Ok (slash ∷ closed_each cs)
+unfolding dataset_named
+closed_read cs h few octets =
+    let text : List ℕ = slash ∷ closed_each cs in
+    let are : components text ≡ cs = components_back cs h in
+    let a : IsArgument text = record {
+      size = le-leb (length text) 1024 octets;
+      begins = refl;
+      parts = ap (list_all is_component) are ∙ by_components cs h;
+      few = ap (λ (all : List (List ℕ)). nat_le (length all) 16) are ∙ le-leb (length cs) 16 few;
+    } in
+    rw (by_argument text a, ends_closed cs) refl
+
+closed_is_good : (d : List ℕ) → IsFormedDataset d → length d ≤ 1024 → dataset_named d ≡ Ok d
+closed_is_good d f octets =
+    subst (λ (t : List ℕ). dataset_named t ≡ Ok t) (sym f.is.whole)
+    (closed_read f.components f.is.each f.few (subst (λ (t : List ℕ). length t ≤ 1024) f.is.whole octets))
+
+sent_octets : (text d : List ℕ) → dataset_named text ≡ Ok d → length text ≤ 1024
+sent_octets text d e = leb-true (length text) 1024 (argument text (was_read text d e).good).size
+
+-- it was sent with its closing slash or without it
+sent_as : (text d : List ℕ) → begins_with slash text ≡ true → with_slash text ≡ d → (text ≡ d) ⊎ (text ≡ dataset_text d)
+sent_as [] d b e = absurd cc
+sent_as (x ∷ text) d b e = by_end (ends_with slash (x ∷ text)) e where
+  by_end : (t : Bool) → (if t then x ∷ text else x ∷ (text ++ slash ∷ [])) ≡ d → (x ∷ text ≡ d) ⊎ (x ∷ text ≡ dataset_text d)
+  by_end true f = inl f
+  by_end false f = inr (sym (shorter_text x text) ∙ ap dataset_text f)
+
 -- a dataset that was read is read back without its closing slash
 pub dataset_back : (text d : List ℕ) → dataset_named text ≡ Ok d → IsDataset d
 dataset_back text d e = dataset_is_good d (dataset_formed text d e)
@@ -520,4 +551,6 @@ names_law = record {
   );
   returned = λ text n. (returned_is text n, (λ h. ap return_named h.0 ∙ by_returned n h.1));
   dataset = λ d. (formed_dataset d, dataset_is_good d);
+  closed = λ d. ((λ e. (dataset_formed d d e, sent_octets d d e)), (λ h. closed_is_good d h.0 h.1));
+  sent = λ text d e. let w = was_read text d e in sent_as text d (argument text w.good).begins w.is;
 }

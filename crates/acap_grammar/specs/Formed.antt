@@ -84,14 +84,16 @@ abbrev pub IsFormedReturn : ReturnName → Type 0
 IsFormedReturn (name.Named attribute) = IsFormedAttribute attribute
 IsFormedReturn (name.Beginning front) = (front ≡ []) ⊎ IsFormedAttribute front
 
--- Exactly these are read as names: an attribute and a context as they are, a path as its octets, a dataset without its
--- closing slash, and what a RETURN names with a `*` behind the beginning of names.
+-- Exactly these are read as names: an attribute and a context as they are, a path as its octets, a dataset with its closing
+-- slash or without it, in 1,024 octets as it is sent, and what a RETURN names with a `*` after the beginning of names.
 pub record NamesLaw : Type 0 where
   pub attribute : (text a : List ℕ) → (attribute_named text ≡ Ok a) ↔ ((text ≡ a) × IsFormedAttribute a)
   pub context : (text c : List ℕ) → (context_named text ≡ Ok c) ↔ ((text ≡ c) × IsFormedContext c)
   pub path : (text : List ℕ) (p : Path) → (path_named text ≡ Ok p) ↔ ((text ≡ p.dataset ++ p.name) × IsFormed p)
   pub returned : (text : List ℕ) (n : ReturnName) → (return_named text ≡ Ok n) ↔ ((text ≡ return_text n) × IsFormedReturn n)
   pub dataset : (d : List ℕ) → (dataset_named (dataset_text d) ≡ Ok d) ↔ IsFormedDataset d
+  pub closed : (d : List ℕ) → (dataset_named d ≡ Ok d) ↔ (IsFormedDataset d × (length d ≤ 1024))
+  pub sent : (text d : List ℕ) → dataset_named text ≡ Ok d → (text ≡ d) ⊎ (text ≡ dataset_text d)
 
 -- ---- commands
 

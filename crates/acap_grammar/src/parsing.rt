@@ -1,6 +1,6 @@
 //! Commands from the tokens of a line.
 
-ghost use Rattle.std.specs.Prelude.{◌≡◌, Ok, true};
+ghost use Rattle.std.specs.Prelude.{◌≡◌, ◌↔◌, Ok, true};
 ghost use Rattle.acap_commands.specs.declared.command.Command.TheVariants as commands;
 ghost use Rattle.acap_grammar.specs.Outcome.{Gives, Reads};
 ghost use Rattle.acap_grammar.specs.Arguments.{object_at as object_in};
@@ -121,9 +121,9 @@ fn arguments_at(verb: Verb, cursor: &mut Cursor<'_>) -> Result<Command, GrammarF
     }
 }
 
-/// Whether the tokens of a line are known at once to stand for a NOOP, which needs nothing read. Takes no memory.
+/// Whether the tokens of a line stand for a NOOP (RFC 2244 section 6.2.1). Takes no memory.
 pub fn is_noop(alloc: Global, tokens: &Tokens) -> bool
-    ensures { result ≡ true → grammar.command_of tokens.now ≡ Ok commands.Noop }
+    ensures { (result ≡ true) ↔ (grammar.command_of tokens.now ≡ Ok commands.Noop) }
 {
     let mut cursor = Cursor::new(alloc, tokens, 1);
     if cursor.pass_word(b"NOOP") {
