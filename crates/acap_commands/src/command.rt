@@ -4,7 +4,7 @@ ghost use Rattle.std.specs.Prelude.{◌≡◌, ◌↔◌, IsTrue};
 use crate::lists::{ContextNames, Entries};
 use crate::object_name::ObjectName;
 use crate::search::Search;
-use acap_entries::{Boxed, ContextName, Copying, Dataset, Memory, Moment, Value};
+use acap_entries::{Boxed, ContextName, Copying, Dataset, Label, Memory, Moment};
 
 /// What a client asks for (RFC 2244 section 6).
 #[derive(Clone, Drop)]
@@ -14,19 +14,19 @@ pub enum Command {
     /// LOGOUT: the session is to end (section 6.2).
     Logout,
     /// AUTHENTICATE: a user is to be logged in by this mechanism, as sent (section 6.3.1).
-    Authenticate(Value),
+    Authenticate(Label),
     /// STORE: entries are to be changed, all or none (section 6.6.1).
     Store(Entries),
     /// SEARCH: entries are to be found (section 6.4.1). It stands in a box, so that the other commands are short.
     Search(Boxed<Search>),
     /// SETACL: the identifier is to have these rights on the object, both as sent (section 6.7). Objects stand in boxes too.
-    SetAcl(Boxed<ObjectName>, Value, Value),
+    SetAcl(Boxed<ObjectName>, Label, Label),
     /// DELETEACL: the identifier is to be taken off the object's list, or the whole list to be removed (section 6.7).
-    DeleteAcl(Boxed<ObjectName>, Option<Value>),
+    DeleteAcl(Boxed<ObjectName>, Option<Label>),
     /// MYRIGHTS: the rights are to be told that the user has on the object (section 6.7).
     MyRights(Boxed<ObjectName>),
     /// LISTRIGHTS: the rights are to be told that the identifier may have on the object (section 6.7).
-    ListRights(Boxed<ObjectName>, Value),
+    ListRights(Boxed<ObjectName>, Label),
     /// DELETEDSINCE: the entries of the dataset are to be told that were deleted later than the time (section 6.6.2).
     DeletedSince(Dataset, Moment),
     /// FREECONTEXT: the context is to be given up (section 6.5).

@@ -1,6 +1,6 @@
 //! The attributes that an item of RETURN names.
 
-use acap_entries::{Attribute, Copying, Memory, Value};
+use acap_entries::{Attribute, Copying, Label, Memory};
 
 /// Of which attributes an item of RETURN tells (RFC 2244 section 6.4.1).
 #[derive(Clone, PartialEq, Eq, Drop)]
@@ -8,7 +8,7 @@ pub enum ReturnName {
     /// The attribute of this name.
     Named(Attribute),
     /// A name with `*` at its end: those attributes whose names begin with what stands before it.
-    Beginning(Value),
+    Beginning(Label),
 }
 
 impl Copying for ReturnName {

@@ -2,7 +2,7 @@
 ghost use Rattle.std.specs.Prelude.{◌≡◌, ◌↔◌, IsTrue};
 
 use crate::relation::Relation;
-use acap_entries::{Attribute, Copying, Memory, Moment, Value};
+use acap_entries::{Attribute, Copying, Label, Memory, Moment};
 use acap_order::Comparator;
 
 /// What a key asks of an entry (RFC 2244 section 6.4.1).
@@ -13,7 +13,7 @@ pub enum Test {
     /// EQUAL with NIL: the attribute has no value.
     IsNil(Attribute, Comparator),
     /// EQUAL, COMPARE, COMPARESTRICT, PREFIX or SUBSTRING: a value of the attribute stands so to the string.
-    Meets(Relation, Attribute, Comparator, Value),
+    Meets(Relation, Attribute, Comparator, Label),
     /// RANGE: the entry stands in the context at a position from the first to the second, and no position was told
     /// anew since that time.
     Range(u32, u32, Moment),

@@ -13,7 +13,7 @@ use crate::heard::Heard;
 use crate::listener::Listener;
 use crate::stage::Stage;
 use acap_commands::{Command, Event, Refusal, Said, Verb};
-use acap_entries::{Copying, Memory, Moment, Octets, UserName, Value};
+use acap_entries::{Copying, Label, Memory, Moment, Octets, UserName};
 use acap_grammar::{GrammarFault, is_noop, lexical_refusal, parse, render_said};
 use acap_lexer::{Lexed, Tag, Tokens};
 use acap_login::challenge;
@@ -105,7 +105,7 @@ fn challenges(
 fn authenticates(
     listener: &Listener,
     tag: Option<&[u8]>,
-    mechanism: &Value,
+    mechanism: &Label,
     stage: &mut Stage,
     out: &mut Vec<u8>,
 ) -> Result<Heard, Memory>

@@ -1,9 +1,9 @@
 //! What an attribute has.
 
 use crate::copying::Copying;
-use crate::lists::Values;
 use crate::memory::Memory;
-use crate::text::Value;
+use crate::value::Value;
+use crate::values::Values;
 
 /// What an attribute has: NIL, one string, or a list of strings (RFC 2244 section 3.1).
 #[derive(Clone, PartialEq, Eq, Drop)]

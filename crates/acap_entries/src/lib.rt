@@ -48,6 +48,8 @@ mod table;
 mod text;
 mod times;
 mod tree;
+mod value;
+mod values;
 mod writes;
 
 pub use after::After;
@@ -68,7 +70,7 @@ pub use laws::{
     rank_law, removal_law, stamp_examples, stamp_law, time_examples, time_law, two_changes_law,
 };
 pub use listing::Listing;
-pub use lists::{CellList, CellLists, Items, Paths, Values};
+pub use lists::{CellList, CellLists, Items, Paths};
 pub use memory::Memory;
 pub use moment::Moment;
 pub use name_fault::NameFault;
@@ -90,8 +92,10 @@ pub use stamps::{civil_of, stamp};
 pub use steps::Steps;
 pub use table::{Acls, Cells, Table};
 pub use text::{
-    AnyOctets, Attribute, ContextName, EntryName, Named, Text, TextKind, UserName, Value,
+    AnyOctets, Attribute, ContextName, EntryName, Label, Named, Text, TextKind, UserName,
 };
 pub use times::read_time;
 pub use tree::Tree;
+pub use value::Value;
+pub use values::Values;
 pub use writes::Writes;

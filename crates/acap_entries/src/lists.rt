@@ -4,10 +4,6 @@ use crate::cell::Cell;
 use crate::item::Item;
 use crate::path::Path;
 use crate::sequence::Sequence;
-use crate::text::Value;
-
-/// A list of strings, as a multi-valued attribute or an access control list has (RFC 2244 section 3.1).
-pub type Values = Sequence<Value>;
 
 /// The items that are printed of an entry, in their order (RFC 2244 section 6.4.1).
 pub type Items = Sequence<Item>;

@@ -4,13 +4,13 @@ ghost use Rattle.std.specs.Prelude.{◌≡◌, ◌↔◌, IsTrue};
 use crate::copying::Copying;
 use crate::lists::Items;
 use crate::memory::Memory;
-use crate::text::Value;
+use crate::text::Label;
 
 /// What is printed of an entry: its name and an item for each of RETURN (RFC 2244 section 6.4.1).
 #[derive(Clone, PartialEq, Eq, Drop)]
 pub struct Row {
     /// The name as printed, or the full path.
-    pub name: Value,
+    pub name: Label,
     /// The items, in the order of RETURN.
     pub items: Items,
 }

@@ -7,10 +7,10 @@ ghost use Rattle.acap_entries.specs.Tables.{tables_eq, tables_equiv, tables_per}
 use crate::cell::Cell;
 use crate::copying::{Copying, copy_all};
 use crate::keys::{AttributeText, Probe, Whole};
-use crate::lists::Values;
 use crate::memory::Memory;
 use crate::sorted::{lookup, set_in, take_out};
 use crate::text::Attribute;
+use crate::values::Values;
 use std::alloc::Global;
 use std::marker::Model;
 

@@ -1,4 +1,4 @@
-//! The texts of a server: attributes, entries, users, contexts and values, each a string of octets of its own kind.
+//! The texts of a server: attributes, entries, users, contexts and labels, each a string of octets of its own kind.
 ghost use Rattle.std.specs.Prelude.{◌≡◌, ◌↔◌, ◌++◌, [], ℕ, List, Bool, nat_eq, refl};
 ghost use Rattle.std.specs.Prelude.{IfOk, OnOk, IsTrue, Err, Some, true, false};
 ghost use Rattle.std.specs.Cmp.Lexicographic.{pointwise, slice_cmp, texts_ties, texts_po};
@@ -30,8 +30,9 @@ pub type ContextName = Text<ContextKind>;
 /// The name of a user.
 pub type UserName = Text<UserKind>;
 
-/// A string of octets that an attribute may have (RFC 2244 section 3.1).
-pub type Value = Text<ValueKind>;
+/// Octets that are only printed or compared, as the name of a row or an identifier: no value that is kept. Few of them stand in
+/// place, and take no memory of their own.
+pub type Label = Text<LabelKind>;
 
 /// The octets of a dataset's name.
 pub(crate) type DatasetText = Text<DatasetKind>;
@@ -52,9 +53,9 @@ pub struct ContextKind;
 #[derive(Drop)]
 pub struct UserKind;
 
-/// The values of attributes.
+/// What is only printed or compared.
 #[derive(Drop)]
-pub struct ValueKind;
+pub struct LabelKind;
 
 /// The names of datasets.
 #[derive(Drop)]
@@ -308,11 +309,11 @@ impl Named for UserKind {
     }
 }
 
-impl TextKind for ValueKind {
+impl TextKind for LabelKind {
     ghost may_be = { λ octets. true };
 }
 
-impl AnyOctets for ValueKind {
+impl AnyOctets for LabelKind {
     ghost any = { λ octets. refl };
 }
 

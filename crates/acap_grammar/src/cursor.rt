@@ -8,7 +8,7 @@ ghost use Rattle.acap_grammar.specs.Rows.{kind_of, IsFirst};
 use crate::command_fault::CommandFault;
 use crate::grammar_fault::GrammarFault;
 use crate::words::Spelled;
-use acap_entries::Value;
+use acap_entries::{Label, Value};
 use acap_lexer::{Kind, Tokens};
 use std::alloc::Global;
 use std::marker::Model;
@@ -167,6 +167,15 @@ impl<'a> Cursor<'a> {
     {
         let text = self.string()?;
         Ok(Value::from_slice(self.alloc(), text)?)
+    }
+
+    /// Any string, to be printed or compared.
+    #[tactic(auto, unfolding(crate::specs::Marks::string_at))]
+    pub(crate) fn label(&mut self) -> Result<Label, GrammarFault>
+        ensures { Reads result self.new (string_at self.old) }
+    {
+        let text = self.string()?;
+        Ok(Label::from_slice(self.alloc(), text)?)
     }
 
     #[tactic(auto, unfolding(crate::specs::Marks::behind))]

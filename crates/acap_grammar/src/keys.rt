@@ -29,7 +29,7 @@ fn value_part(
     match relation {
         Relation::Equal if cursor.pass_word(b"NIL") => Ok(Test::IsNil(attribute, comparator)),
         _ => {
-            let value = cursor.value()?;
+            let value = cursor.label()?;
             Ok(Test::Meets(relation, attribute, comparator, value))
         }
     }

@@ -5,7 +5,7 @@ ghost use Rattle.acap_grammar.specs.Replies.{about_form, position_form, added_fo
 
 use crate::data::append_items;
 use crate::strings::append_string;
-use acap_entries::{ContextName, Memory, Moment, Row, Value, stamp};
+use acap_entries::{ContextName, Label, Memory, Moment, Row, stamp};
 use acap_notices::{Notice, Told};
 
 // A number behind a space.
@@ -50,7 +50,7 @@ fn append_added(
 #[tactic(auto, unfolding(crate::specs::Replies::removed_form))]
 fn append_removed(
     context: &ContextName,
-    entry: &Value,
+    entry: &Label,
     position: usize,
     out: &mut Vec<u8>,
 ) -> Result<(), Memory>

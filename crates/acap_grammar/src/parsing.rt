@@ -14,7 +14,7 @@ use crate::searching::search_at;
 use crate::several::{Gather, Series, some_of};
 use crate::storing::entries_at;
 use acap_commands::{Command, ContextNames, ObjectName, Verb};
-use acap_entries::{Boxed, ContextName, Dataset, Moment, Value};
+use acap_entries::{Boxed, ContextName, Dataset, Label, Moment};
 use acap_lexer::Tokens;
 use std::alloc::Global;
 
@@ -32,19 +32,19 @@ fn set_acl_at(cursor: &mut Cursor<'_>) -> Result<Command, GrammarFault>
     ensures { Reads result cursor.new (grammar.set_acl_at cursor.old) }
 {
     let object = boxed_object_at(cursor)?;
-    let identifier = cursor.value()?;
-    let rights = cursor.value()?;
+    let identifier = cursor.label()?;
+    let rights = cursor.label()?;
     Ok(Command::SetAcl(object, identifier, rights))
 }
 
 // Behind DELETEACL and its object: [identifier].
-fn identifier_part(cursor: &mut Cursor<'_>) -> Result<Option<Value>, GrammarFault>
+fn identifier_part(cursor: &mut Cursor<'_>) -> Result<Option<Label>, GrammarFault>
     ensures { Reads result cursor.new (grammar.identifier_part cursor.old) }
 {
     if cursor.ends() {
         return Ok(None);
     }
-    Ok(Some(cursor.value()?))
+    Ok(Some(cursor.label()?))
 }
 
 // Behind DELETEACL: object [identifier].
@@ -63,7 +63,7 @@ fn list_rights_at(cursor: &mut Cursor<'_>) -> Result<Command, GrammarFault>
     ensures { Reads result cursor.new (grammar.list_rights_at cursor.old) }
 {
     let object = boxed_object_at(cursor)?;
-    let identifier = cursor.value()?;
+    let identifier = cursor.label()?;
     Ok(Command::ListRights(object, identifier))
 }
 
@@ -105,7 +105,7 @@ fn arguments_at(verb: Verb, cursor: &mut Cursor<'_>) -> Result<Command, GrammarF
     match verb {
         Verb::Noop => Ok(Command::Noop),
         Verb::Logout => Ok(Command::Logout),
-        Verb::Authenticate => Ok(Command::Authenticate(cursor.value()?)),
+        Verb::Authenticate => Ok(Command::Authenticate(cursor.label()?)),
         Verb::Store => Ok(Command::Store(entries_at(cursor)?)),
         Verb::Search => {
             let search = search_at(cursor)?;

@@ -16,7 +16,7 @@ use acap_commands::{
     Limit, MakeContext, Metadata, MetadataList, ReturnItem, ReturnName, Returns, Search,
     SearchModifiers, SortItem, SortItems, Target,
 };
-use acap_entries::{Attribute, ContextName, Memory, Value, ends_with, is_attribute};
+use acap_entries::{Attribute, ContextName, Label, Memory, ends_with, is_attribute};
 use acap_order::Comparator;
 use std::alloc::Global;
 
@@ -34,7 +34,7 @@ impl Named for ReturnName {
         if !front.is_empty() && !is_attribute(front) {
             return Err(GrammarFault::Fault(CommandFault::BadName));
         }
-        Ok(ReturnName::Beginning(Value::from_slice(alloc, front)?))
+        Ok(ReturnName::Beginning(Label::from_slice(alloc, front)?))
     }
 }
 

@@ -16,7 +16,7 @@ use crate::words::{STORE_METADATA, StoreWord, find_text};
 use acap_commands::{
     Entries, Given, StoreEntry, StoreItem, StoreItems, StoreMetadata, StoreModifiers,
 };
-use acap_entries::{Attribute, Cell, Copying, Memory, Path, Value, Values};
+use acap_entries::{Attribute, Cell, Copying, Memory, Path, Sequence, Value, Values};
 use acap_lexer::Kind;
 use std::alloc::Global;
 
@@ -40,11 +40,11 @@ pub(crate) fn once(stood: bool) -> Result<(), GrammarFault>
 fn strings_at(cursor: &mut Cursor<'_>) -> Result<Values, GrammarFault>
     ensures { Reads result cursor.new (storing.strings_at [] cursor.old) }
 {
-    let mut strings = Values::new(cursor.alloc());
+    let mut strings = Sequence::new(cursor.alloc());
     while let Some(piece) = cursor.first() {
         cursor.pass();
         match piece.kind {
-            Kind::Close => return Ok(strings),
+            Kind::Close => return Ok(Values::new(strings)?),
             Kind::Quoted | Kind::Literal => {
                 strings.push(Value::from_slice(cursor.alloc(), piece.value)?)?;
             }

@@ -4,7 +4,7 @@ use Rattle.std.specs.Borrow.{Bor}
 use Rattle.acap_entries.specs.declared.cell.Cell.{Cell}
 use Rattle.acap_entries.specs.declared.cell.Cell.TheVariants as cell
 use Rattle.acap_inherit.specs.declared.lent.Lent.{Lent}
-use Rattle.acap_inherit.specs.declared.lent.Lent.TheVariants.{Single, Multi, Stamp}
+use Rattle.acap_inherit.specs.declared.lent.Lent.TheVariants.{Name, Single, Multi, Stamp}
 use Rattle.acap_inherit.specs.declared.found.Found.{Found}
 use Rattle.acap_inherit.specs.declared.found.Found.TheVariants.{Nil, At}
 use Rattle.acap_entries.specs.Store.{Store}
@@ -12,6 +12,7 @@ use Rattle.acap_inherit.specs.Chains.{chain_of}
 use Rattle.acap_inherit.specs.Resolving.{Resolution, value_on, entry_on, modtime_on, lookup}
 
 abbrev pub cell_of : Lent → Cell
+cell_of (Name text) = cell.Single text.now
 cell_of (Single text) = cell.Single text.now
 cell_of (Multi texts) = cell.Multi texts.now
 cell_of (Stamp digits) = cell.Single digits

@@ -5,14 +5,14 @@ ghost use Rattle.acap_inherit.specs.Leaving.{links_in};
 
 use crate::chains::base_of;
 use crate::link::Link;
-use acap_entries::{Boxed, Change, Copying, Dataset, Memory, Ranked, Records, Value, Whole};
+use acap_entries::{Boxed, Change, Copying, Dataset, Label, Memory, Ranked, Records, Whole};
 use std::alloc::Global;
 
 // A pair in a box.
 fn box_link(alloc: Global, base: &[u8], heir: &Dataset) -> Result<Boxed<Link>, Memory>
     ensures { IfOk result (λ made. made ≡ record { base = base.now; heir = heir.now }) }
 {
-    let base = Value::from_slice(alloc, base)?;
+    let base = Label::from_slice(alloc, base)?;
     let heir = heir.copy()?;
     Boxed::new(alloc, Link { base, heir })
 }

@@ -38,7 +38,7 @@ fn lying<'a>(cell: &'a Cell, dataset: &'a [u8]) -> Found<'a>
         Cell::Nil => Found::Nil,
         Cell::Single(value) => Found::At {
             dataset,
-            value: Lent::Single(value.as_slice()),
+            value: Lent::Single(value),
         },
         Cell::Multi(values) => Found::At {
             dataset,
@@ -78,7 +78,7 @@ fn find_name<'a>(entry: &Record, dataset: &'a [u8], name: &'a [u8]) -> Found<'a>
     }
     Found::At {
         dataset,
-        value: Lent::Single(name),
+        value: Lent::Name(name),
     }
 }
 

@@ -36,7 +36,7 @@ impl State {
         let user = self.user(seat)?;
         let object = object_for(user, object.into_value())?;
         let rights = rights_of(&self.tree, &self.realm, user, &lent_object(&object));
-        let letters = rights.letters(self.alloc)?;
+        let letters = rights.letters();
         Ok(Ready::saying(seat, Said::Rights(letters)))
     }
 

@@ -6,7 +6,7 @@ ghost use Rattle.acap_notices.specs.declared.notice.Notice.TheVariants.{AddTo, R
 
 use crate::held_fault::HeldFault;
 use crate::places::{has_position, is_held, stands_at};
-use acap_entries::{Copying, Row, Value};
+use acap_entries::{Copying, Label, Row};
 
 /// Puts in an entry that isn't held yet.
 #[tactic(auto, unfolding(crate::specs::Client::listed_after))]
@@ -28,7 +28,7 @@ pub(crate) fn add(rows: &mut Vec<Row>, position: usize, row: &Row) -> Result<(),
 
 /// Takes out an entry that stands at a position.
 #[tactic(auto, unfolding(crate::specs::Client::listed_after))]
-pub(crate) fn remove(rows: &mut Vec<Row>, entry: &Value, position: usize) -> Result<(), HeldFault>
+pub(crate) fn remove(rows: &mut Vec<Row>, entry: &Label, position: usize) -> Result<(), HeldFault>
     ensures ok { OnOk result (ListLeads rows.old.items (RemoveFrom entry.now position) rows.new.items) }
     ensures misfit { IsMisfit result ↔ ListMisfits rows.old.items (RemoveFrom entry.now position) }
     ensures err { OnErr result (rows.new.items ≡ rows.old.items) }

@@ -8,7 +8,7 @@ ghost use Rattle.acap_notices.specs.declared.notice.Notice.TheVariants.{AddTo, R
 use crate::held_fault::HeldFault;
 use crate::listed;
 use crate::places::position_of;
-use acap_entries::{Row, Value};
+use acap_entries::{Label, Row};
 
 /// Puts in an entry that isn't held yet.
 pub(crate) fn add(rows: &mut Vec<Row>, row: &Row) -> Result<(), HeldFault>
@@ -22,7 +22,7 @@ pub(crate) fn add(rows: &mut Vec<Row>, row: &Row) -> Result<(), HeldFault>
 }
 
 /// Takes out an entry that is held.
-pub(crate) fn remove(rows: &mut Vec<Row>, entry: &Value) -> Result<(), HeldFault>
+pub(crate) fn remove(rows: &mut Vec<Row>, entry: &Label) -> Result<(), HeldFault>
     requires { IsEachOnce rows.old.items }
     ensures ok { OnOk result (MapLeads rows.old.items (RemoveFrom entry.now 0) rows.new.items) }
     ensures misfit { IsMisfit result ↔ MapMisfits rows.old.items (RemoveFrom entry.now 0) }

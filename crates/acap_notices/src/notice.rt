@@ -1,6 +1,6 @@
 //! A change of one entry in the list of a live search.
 
-use acap_entries::{Copying, Memory, Row, Value};
+use acap_entries::{Copying, Label, Memory, Row};
 
 /// A change of one entry in the list of a live search. The entry is told by its name as it is printed, which is its row's. Positions
 /// are counted from 1, and are 0 where the context isn't enumerated (RFC 2244 section 6.5).
@@ -16,7 +16,7 @@ pub enum Notice {
     /// An entry has gone.
     RemoveFrom {
         /// Its name.
-        entry: Value,
+        entry: Label,
         /// Where it stood.
         position: usize,
     },

@@ -4,7 +4,7 @@ ghost use Rattle.acap_entries.specs.Orders.{octets_eq};
 ghost use Rattle.acap_notices.specs.Places as place;
 ghost use Rattle.acap_notices.specs.Rows as held;
 
-use acap_entries::{Row, Value};
+use acap_entries::{Label, Row};
 
 /// Whether no name comes twice. Takes a number of comparisons that is about half the square of the number of rows.
 pub fn is_each_once(rows: &[Row]) -> bool
@@ -21,14 +21,14 @@ pub fn is_each_once(rows: &[Row]) -> bool
 }
 
 /// Whether a row of the entry is among them.
-pub(crate) fn is_held(rows: &[Row], entry: &Value) -> bool
+pub(crate) fn is_held(rows: &[Row], entry: &Label) -> bool
     ensures { result ≡ held.is_held entry.now rows.now }
 {
     rows.iter().any(|row| *entry == row.name)
 }
 
 /// Whether the entry stands at the position.
-pub(crate) fn stands_at(rows: &[Row], entry: &Value, position: usize) -> bool
+pub(crate) fn stands_at(rows: &[Row], entry: &Label, position: usize) -> bool
     ensures stands { result ≡ held.stands_at entry.now position rows.now }
     ensures first { IsTrue result → 1 ≤ position }
     ensures last { IsTrue result → position ≤ length rows.now }
@@ -52,7 +52,7 @@ pub(crate) fn has_position(rows: &[Row], position: usize) -> bool
 }
 
 /// How many rows stand before the entry's, if it is held.
-fn place_of(rows: &[Row], entry: &Value) -> Option<usize>
+fn place_of(rows: &[Row], entry: &Label) -> Option<usize>
     ensures { result ≡ position (λ row. octets_eq entry.now row.name) rows.now }
 {
     rows.iter().position(|row| *entry == row.name)
@@ -60,7 +60,7 @@ fn place_of(rows: &[Row], entry: &Value) -> Option<usize>
 
 /// The position of the entry, or the one behind the last where it isn't held.
 #[tactic(auto, using(crate::proofs::RuleLemmas::place_or_end))]
-pub(crate) fn position_of(rows: &[Row], entry: &Value) -> usize
+pub(crate) fn position_of(rows: &[Row], entry: &Label) -> usize
     ensures { result ≡ place.place_of entry.now rows.now + 1 }
 {
     place_of(rows, entry).unwrap_or(rows.len()) + 1

@@ -8,14 +8,14 @@ ghost use Rattle.acap_rights.specs.declared.acl_fault.AclFault.TheVariants as Ac
 use crate::acl_fault::AclFault;
 use crate::forms::{copy_of, form_of};
 use crate::pairs::{is_acl, pair_of};
-use acap_entries::{Copying, Memory, Value, Values};
+use acap_entries::{Copying, Memory, Sequence, Value, Values};
 use std::alloc::Global;
 use std::marker::Model;
 
 /// An access control list (RFC 2244 section 3.5), as the strings that were sent.
 #[derive(Clone, PartialEq, Eq, Drop)]
 pub struct Acl {
-    strings: Values,
+    strings: Sequence<Value>,
 }
 
 impl Model for Acl {
@@ -30,7 +30,7 @@ impl Model for Acl {
 
 impl Acl {
     /// Any strings as they are, in the memory that they have. Whether they are a list tells `is_acl`.
-    pub fn new(strings: Values) -> Acl
+    pub fn new(strings: Sequence<Value>) -> Acl
         ensures { result ≡ strings }
     {
         Acl { strings }
@@ -56,11 +56,11 @@ impl Acl {
         self.strings.as_slice()
     }
 
-    /// The strings, in their memory.
-    pub fn into_values(self) -> Values
-        ensures { result ≡ self }
+    /// The strings as they are stored, in the memory that they have. Fails only for want of memory.
+    pub fn into_values(self) -> Result<Values, Memory>
+        ensures { IfOk result (λ values. values ≡ self) }
     {
-        self.strings
+        Values::new(self.strings)
     }
 
     /// The list that SETACL makes (RFC 2244 section 6.7): the letters stand for the identifier in the place of its first string,
@@ -76,7 +76,7 @@ impl Acl {
         drop_about(&mut strings, identifier);
         strings.insert(place, text)?;
         Ok(Acl {
-            strings: Values::from_vec(strings),
+            strings: Sequence::from_vec(strings),
         })
     }
 
@@ -87,7 +87,7 @@ impl Acl {
         let mut strings = self.strings.into_vec();
         drop_about(&mut strings, identifier);
         Acl {
-            strings: Values::from_vec(strings),
+            strings: Sequence::from_vec(strings),
         }
     }
 }

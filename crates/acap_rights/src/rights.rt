@@ -1,8 +1,8 @@
 //! The five rights.
-ghost use Rattle.std.specs.Prelude.{◌≡◌, ◌++◌, ◌∷◌, [], if◌then◌else◌, IfOk, OnOk};
+ghost use Rattle.std.specs.Prelude.{◌≡◌, if◌then◌else◌, IfOk};
 ghost use Rattle.acap_rights.specs.Rights as rule;
 
-use acap_entries::{Memory, Value, Values};
+use acap_entries::{Memory, Sequence, Value, Values};
 use std::alloc::Global;
 
 /// Some of the five rights (RFC 2244 section 3.5).
@@ -80,24 +80,51 @@ impl Rights {
         }
     }
 
-    // Their letters at the end of a text.
-    fn append_letters(self, text: &mut Vec<u8>) -> Result<(), Memory>
-        ensures { OnOk result (text.new.items ≡ text.old.items ++ rule.letters_of self) }
+    // Their letters, in the order `xrwia`.
+    fn text(self) -> &'static [u8]
+        ensures { result.now ≡ rule.letters_of self }
     {
-        append_if(text, self.x, b'x')?;
-        append_if(text, self.r, b'r')?;
-        append_if(text, self.w, b'w')?;
-        append_if(text, self.i, b'i')?;
-        append_if(text, self.a, b'a')
+        match (self.x, self.r, self.w, self.i, self.a) {
+            (false, false, false, false, false) => b"",
+            (false, false, false, false, true) => b"a",
+            (false, false, false, true, false) => b"i",
+            (false, false, false, true, true) => b"ia",
+            (false, false, true, false, false) => b"w",
+            (false, false, true, false, true) => b"wa",
+            (false, false, true, true, false) => b"wi",
+            (false, false, true, true, true) => b"wia",
+            (false, true, false, false, false) => b"r",
+            (false, true, false, false, true) => b"ra",
+            (false, true, false, true, false) => b"ri",
+            (false, true, false, true, true) => b"ria",
+            (false, true, true, false, false) => b"rw",
+            (false, true, true, false, true) => b"rwa",
+            (false, true, true, true, false) => b"rwi",
+            (false, true, true, true, true) => b"rwia",
+            (true, false, false, false, false) => b"x",
+            (true, false, false, false, true) => b"xa",
+            (true, false, false, true, false) => b"xi",
+            (true, false, false, true, true) => b"xia",
+            (true, false, true, false, false) => b"xw",
+            (true, false, true, false, true) => b"xwa",
+            (true, false, true, true, false) => b"xwi",
+            (true, false, true, true, true) => b"xwia",
+            (true, true, false, false, false) => b"xr",
+            (true, true, false, false, true) => b"xra",
+            (true, true, false, true, false) => b"xri",
+            (true, true, false, true, true) => b"xria",
+            (true, true, true, false, false) => b"xrw",
+            (true, true, true, false, true) => b"xrwa",
+            (true, true, true, true, false) => b"xrwi",
+            (true, true, true, true, true) => b"xrwia",
+        }
     }
 
-    /// Their letters, in the order `xrwia`. Fails only for want of memory.
-    pub fn letters(self, alloc: Global) -> Result<Value, Memory>
-        ensures { IfOk result (λ text. text ≡ rule.letters_of self) }
+    /// Their letters, in the order `xrwia`. Takes no memory.
+    pub fn letters(self) -> Value
+        ensures { result ≡ rule.letters_of self }
     {
-        let mut text = Vec::new(alloc);
-        self.append_letters(&mut text)?;
-        Value::from_slice(alloc, text.as_slice())
+        Value::from_static(self.text())
     }
 
     /// What LISTRIGHTS tells of an identifier that always has these (RFC 2244 section 6.7): their letters in one string, and
@@ -105,23 +132,11 @@ impl Rights {
     pub fn list(self, alloc: Global) -> Result<Values, Memory>
         ensures { IfOk result (λ list. list ≡ rule.rights_list self) }
     {
-        let mut list = Values::new(alloc);
-        list.push(self.letters(alloc)?)?;
-        let mut others = Vec::new(alloc);
-        Rights::all().less(self).append_letters(&mut others)?;
-        for letter in &others {
+        let mut list = Sequence::new(alloc);
+        list.push(self.letters())?;
+        for letter in Rights::all().less(self).text() {
             list.push(Value::from_slice(alloc, &[*letter])?)?;
         }
-        Ok(list)
+        Values::new(list)
     }
-}
-
-// The letter at the end of a text, where the test holds.
-fn append_if(text: &mut Vec<u8>, test: bool, letter: u8) -> Result<(), Memory>
-    ensures { OnOk result (text.new.items ≡ text.old.items ++ rule.if_held test (letter ∷ [])) }
-{
-    if test {
-        text.push(letter)?;
-    }
-    Ok(())
 }

@@ -79,6 +79,7 @@ pub(crate) fn is_nil(value: Option<Lent<'_>>) -> bool
     ensures { result ≡ rule.is_nil (shown.cell_of value.entry) }
 {
     match value {
+        Some(Lent::Name(_)) => false,
         Some(Lent::Single(_)) => false,
         Some(Lent::Stamp(_)) => false,
         Some(Lent::Multi(_)) => false,
@@ -128,7 +129,7 @@ fn lend(cell: &Cell) -> Option<Lent<'_>>
 {
     match cell {
         Cell::Nil => None,
-        Cell::Single(value) => Some(Lent::Single(value.as_slice())),
+        Cell::Single(value) => Some(Lent::Single(value)),
         Cell::Multi(values) => Some(Lent::Multi(values)),
     }
 }
@@ -139,7 +140,7 @@ fn own_value<'a>(entry: &'a Record, name: &'a EntryName, attribute: &[u8]) -> Op
 {
     if attribute == b"entry".as_slice() {
         return if entry.present {
-            Some(Lent::Single(name.as_slice()))
+            Some(Lent::Name(name.as_slice()))
         } else {
             None
         };

@@ -50,7 +50,8 @@ fn meets(
     ensures { result ≡ some_text (rule.stands_so relation comparator.now wanted.now) (cell_of value.entry) }
 {
     match value {
-        Some(Lent::Single(text)) => stands_so(relation, comparator, wanted, text),
+        Some(Lent::Name(text)) => stands_so(relation, comparator, wanted, text),
+        Some(Lent::Single(text)) => stands_so(relation, comparator, wanted, text.as_slice()),
         Some(Lent::Stamp(digits)) => stands_so(relation, comparator, wanted, &digits),
         Some(Lent::Multi(texts)) => {
             any_stands_so(relation, comparator, wanted, texts.as_slice())

@@ -1,14 +1,14 @@
 //! Where entries stand for SORT.
 
-use acap_entries::{Copying, Memory, Sequence, Value};
+use acap_entries::{Copying, Label, Memory, Sequence};
 
 /// What a string is compared by, made once for an entry and not for each comparison (RFC 2244 section 3.4).
 #[derive(Clone, PartialEq, Eq, Drop)]
 pub enum Rank {
     /// Its octets, or those in upper case.
-    Octets(Value),
+    Octets(Label),
     /// The digits of the number that it begins with, without zeros in front.
-    Number(Value),
+    Number(Label),
     /// It begins with no number.
     NoNumber,
 }

@@ -14,20 +14,20 @@ use crate::looking::read;
 use crate::rank::{Rank, SortPlace, SortPlaces};
 use crate::spot::Spot;
 use acap_commands::SortItem;
-use acap_entries::{Memory, Octets, Records, Value};
+use acap_entries::{Label, Memory, Octets, Records};
 use acap_inherit::Lent;
 use acap_order::{Collation, Comparator, Direction};
 use std::alloc::Global;
 
 // A string in upper case.
-fn upper_case_of(alloc: Global, text: &[u8]) -> Result<Value, Memory>
+fn upper_case_of(alloc: Global, text: &[u8]) -> Result<Label, Memory>
     ensures { IfOk result (λ made. made ≡ upper_case text.now) }
 {
     let mut octets = Vec::with_capacity(alloc, text.len())?;
     for octet in text {
         octets.push(octet.to_ascii_uppercase())?;
     }
-    Ok(Value::new(Octets::from_vec(octets)))
+    Ok(Label::new(Octets::from_vec(octets)))
 }
 
 // The digits that a string begins with.
@@ -60,7 +60,7 @@ fn number_rank(alloc: Global, digits: &[u8]) -> Result<Rank, Memory>
     if digits.is_empty() {
         return Ok(Rank::NoNumber);
     }
-    Ok(Rank::Number(Value::from_slice(alloc, significant(digits))?))
+    Ok(Rank::Number(Label::from_slice(alloc, significant(digits))?))
 }
 
 // What a string is compared by.
@@ -68,7 +68,7 @@ fn rank_of(alloc: Global, collation: Collation, text: &[u8]) -> Result<Rank, Mem
     ensures { IfOk result (λ rank. rank ≡ rule.rank_in collation text.now) }
 {
     match collation {
-        Collation::Octet => Ok(Rank::Octets(Value::from_slice(alloc, text)?)),
+        Collation::Octet => Ok(Rank::Octets(Label::from_slice(alloc, text)?)),
         Collation::AsciiCasemap => Ok(Rank::Octets(upper_case_of(alloc, text)?)),
         Collation::AsciiNumeric => number_rank(alloc, leading_digits(text)),
     }
@@ -93,7 +93,8 @@ fn place_of(
     ensures { IfOk result (λ place. place ≡ rule.place_in comparator.now (shown.cell_of value.entry)) }
 {
     let text = match &value {
-        Some(Lent::Single(text)) => *text,
+        Some(Lent::Name(text)) => *text,
+        Some(Lent::Single(text)) => text.as_slice(),
         Some(Lent::Stamp(digits)) => digits.as_slice(),
         Some(Lent::Multi(_)) => return Ok(SortPlace::Behind),
         None => return Ok(SortPlace::Behind),

@@ -9,8 +9,8 @@ use crate::looking::{is_nil, look, read};
 use crate::spot::Spot;
 use acap_commands::{Metadata, ReturnItem, ReturnName};
 use acap_entries::{
-    Attribute, Cell, CellList, CellLists, Cells, Copying, Item, Items, Memory, Records, Table,
-    Value, Values,
+    Attribute, Cell, CellList, CellLists, Cells, Copying, Item, Items, Memory, Octets, Records,
+    Sequence, Table, Value, Values,
 };
 use acap_inherit::Lent;
 use std::alloc::Global;
@@ -20,18 +20,18 @@ fn digits_of(alloc: Global, count: usize) -> Result<Value, Memory>
     ensures { IfOk result (λ made. made ≡ rule.digits count) }
 {
     let digits = count.to_string(alloc)?;
-    Value::from_slice(alloc, digits.as_bytes())
+    Value::new(Octets::from_vec(digits.into_bytes()))
 }
 
 // How many octets each of some strings has.
 fn list_sizes(alloc: Global, texts: &[Value]) -> Result<Values, Memory>
     ensures { IfOk result (λ made. made ≡ each rule.size_of texts.now) }
 {
-    let mut made = Values::new(alloc);
+    let mut made = Vec::with_capacity(alloc, texts.len())?;
     for text in texts {
         made.push(digits_of(alloc, text.as_slice().len())?)?;
     }
-    Ok(made)
+    Values::new(Sequence::from_vec(made))
 }
 
 // How many octets a value has.
@@ -39,7 +39,8 @@ fn sizes_of(alloc: Global, value: Option<Lent<'_>>) -> Result<Cell, Memory>
     ensures { IfOk result (λ cell. cell ≡ rule.sizes_of (shown.cell_of value.entry)) }
 {
     match value {
-        Some(Lent::Single(text)) => Ok(Cell::Single(digits_of(alloc, text.len())?)),
+        Some(Lent::Name(text)) => Ok(Cell::Single(digits_of(alloc, text.len())?)),
+        Some(Lent::Single(text)) => Ok(Cell::Single(digits_of(alloc, text.as_slice().len())?)),
         Some(Lent::Stamp(digits)) => Ok(Cell::Single(digits_of(alloc, digits.len())?)),
         Some(Lent::Multi(texts)) => Ok(Cell::Multi(list_sizes(alloc, texts.as_slice())?)),
         None => Ok(Cell::Nil),
@@ -51,7 +52,8 @@ fn value_of(alloc: Global, value: Option<Lent<'_>>) -> Result<Cell, Memory>
     ensures { IfOk result (λ cell. cell ≡ shown.cell_of value.entry) }
 {
     match value {
-        Some(Lent::Single(text)) => Ok(Cell::Single(Value::from_slice(alloc, text)?)),
+        Some(Lent::Name(text)) => Ok(Cell::Single(Value::from_slice(alloc, text)?)),
+        Some(Lent::Single(value)) => Ok(Cell::Single(value.copy()?)),
         Some(Lent::Stamp(digits)) => Ok(Cell::Single(Value::from_slice(alloc, &digits)?)),
         Some(Lent::Multi(texts)) => Ok(Cell::Multi(texts.copy()?)),
         None => Ok(Cell::Nil),
@@ -95,7 +97,7 @@ fn datum<R: Records>(
     match wanted {
         Metadata::Acl => seen_acl(spot, attribute),
         Metadata::Attribute => Ok(Cell::Single(Value::from_slice(alloc, attribute)?)),
-        Metadata::MyRights => Ok(Cell::Single(look(spot, attribute).rights.letters(alloc)?)),
+        Metadata::MyRights => Ok(Cell::Single(look(spot, attribute).rights.letters())),
         Metadata::Size => sizes_of(alloc, read(spot, attribute)),
         Metadata::Value => value_of(alloc, read(spot, attribute)),
     }

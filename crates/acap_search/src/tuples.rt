@@ -20,7 +20,7 @@ use crate::rows::items_of;
 use crate::spot::Spot;
 use crate::viewer::Viewer;
 use acap_entries::{
-    Boxed, Copying, EntryName, Items, Memory, Octets, Path, Records, Row, Steps, Value,
+    Boxed, Copying, EntryName, Items, Label, Memory, Octets, Path, Records, Row, Steps,
 };
 use std::alloc::Global;
 use std::sync::ledger::Ledger;
@@ -30,18 +30,18 @@ fn tell_name<R: Records>(
     alloc: Global,
     spot: &Spot<'_, R>,
     sought: &Sought,
-) -> Result<Value, Memory>
+) -> Result<Label, Memory>
     ensures { IfOk result (λ told. told ≡ (match_at sought.now spot.now).row.name) }
 {
     let name = spot.name.as_slice();
     if sought.depth.is_none() {
-        return Value::from_slice(alloc, name);
+        return Label::from_slice(alloc, name);
     }
     let by = spot.by;
     let mut full = Vec::with_capacity(alloc, by.dataset.as_slice().len() + name.len())?;
     full.extend_from_slice(by.dataset.as_slice())?;
     full.extend_from_slice(name)?;
-    Ok(Value::new(Octets::from_vec(full)))
+    Ok(Label::new(Octets::from_vec(full)))
 }
 
 /// Where an entry stands for a SORT. Fails only for want of memory.

@@ -9,8 +9,8 @@ use crate::forms::exists_at;
 use crate::writing::ends;
 use acap_commands::{Refusal, StoreEntry};
 use acap_entries::{
-    After, Attribute, Copying, Dataset, Deletion, Memory, Moment, Paths, Table, Tree, UserName,
-    Value, Values, Writes,
+    After, Attribute, Copying, Dataset, Deletion, Memory, Moment, Paths, Sequence, Table, Tree,
+    UserName, Value, Values, Writes,
 };
 use acap_rights::{Object, Realm, rights_of};
 use std::alloc::Global;
@@ -95,11 +95,11 @@ fn gather_names(
 fn list_names(alloc: Global, names: &Names) -> Result<Values, Memory>
     ensures { IfOk result (λ made. made ≡ map (λ e. e.0) (table.entries names.now)) }
 {
-    let mut made = Values::new(alloc);
+    let mut made = Sequence::new(alloc);
     for (name, _) in names.entries() {
         made.push(Value::from_slice(alloc, name.as_slice())?)?;
     }
-    Ok(made)
+    Values::new(made)
 }
 
 // The names of the entries that were deleted in a dataset later than the time and don't exist.
@@ -156,7 +156,7 @@ fn tell_deleted(
         return Err(Refusal::TooOld);
     }
     if !may_read(tree, realm, user, &dataset) {
-        return Ok(Values::new(alloc));
+        return Ok(Values::new(Sequence::new(alloc))?);
     }
     Ok(names_deleted(alloc, tree, &dataset, since)?)
 }

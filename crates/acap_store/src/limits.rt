@@ -40,7 +40,8 @@ fn is_large(given: &Given) -> bool
     match given {
         Given::Put(Cell::Nil) => false,
         Given::Put(Cell::Single(text)) => is_long(text),
-        Given::Put(Cell::Multi(texts)) => STRINGS < texts.len() || has_long(texts.as_slice()),
+        Given::Put(Cell::Multi(texts)) => STRINGS < texts.as_slice().len()
+            || has_long(texts.as_slice()),
         Given::Default => false,
     }
 }

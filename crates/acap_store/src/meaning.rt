@@ -95,7 +95,7 @@ fn list_store(alloc: Global, object: ObjectName, given: Given) -> Result<Entries
 fn put_list(alloc: Global, object: ObjectName, acl: Acl) -> Result<Meant, Memory>
     ensures { IsMade (rule.list_store (rule.target_in object) acl) result }
 {
-    let given = Given::Put(Cell::Multi(acl.into_values()));
+    let given = Given::Put(Cell::Multi(acl.into_values()?));
     let entries = list_store(alloc, object, given)?;
     Ok(Meant {
         entries,

@@ -8,7 +8,8 @@ ghost use Rattle.acap_store.specs.Writing.{with_own_step, with_steps_to};
 use crate::records::{acls_of, cells_of, renew};
 use acap_commands::StoreEntry;
 use acap_entries::{
-    Attribute, Boxed, Cell, Fate, Memory, Moment, Path, Tree, Value, Values, Writes, own_entry_of,
+    Attribute, Boxed, Cell, Fate, Memory, Moment, Path, Sequence, Tree, Value, Values, Writes,
+    own_entry_of,
 };
 use std::alloc::Global;
 
@@ -16,9 +17,9 @@ use std::alloc::Global;
 fn dot_list(alloc: Global) -> Result<Cell, Memory>
     ensures { IfOk result (λ made. made ≡ cell.Multi (codes "." ∷ [])) }
 {
-    let mut values = Values::new(alloc);
-    values.push(Value::from_slice(alloc, b".")?)?;
-    Ok(Cell::Multi(values))
+    let mut strings = Sequence::new(alloc);
+    strings.push(Value::from_static(b"."))?;
+    Ok(Cell::Multi(Values::new(strings)?))
 }
 
 // What the own entry of a missing dataset gets.

@@ -3,7 +3,8 @@ ghost use Rattle.std.specs.Prelude.{◌≡◌, ◌<◌};
 
 use acap_commands::Rows;
 use acap_entries::{
-    Cell, ContextName, Item, Items, Memory, Moment, Octets, Row, Seat, Steps, UserName, Value,
+    Cell, ContextName, Item, Items, Label, Memory, Moment, Octets, Row, Seat, Steps, UserName,
+    Value,
 };
 use acap_examples::{Deed, Occasion, Step, Story, Trouble, shows};
 use acap_rights::Realm;
@@ -184,7 +185,7 @@ fn rows_of(alloc: Global, told: Pairs) -> Result<Rows, Memory> {
     for (name, value) in told {
         let mut items = Items::new(alloc);
         items.push(Item::One(Cell::Single(Value::from_slice(alloc, *value)?)))?;
-        let name = Value::from_slice(alloc, *name)?;
+        let name = Label::from_slice(alloc, *name)?;
         rows.push(Row { name, items })?;
     }
     Ok(rows)

@@ -1,6 +1,6 @@
 //! What a change does to one entry of a live context.
 
-use acap_entries::{Path, Row, Value};
+use acap_entries::{Label, Path, Row};
 use acap_search::{Placed, SortPlaces};
 use std::marker::Model;
 
@@ -8,7 +8,7 @@ use std::marker::Model;
 #[derive(Drop)]
 pub(crate) enum News {
     /// The search finds it no longer, or never did: the name under which it is told.
-    Gone(Value),
+    Gone(Label),
     /// The search finds it: where it stands now, and what is told of it.
     Here(Placed, Row),
 }

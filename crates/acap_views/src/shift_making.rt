@@ -13,7 +13,7 @@ use crate::delta::Shifts;
 use crate::scene::Scene;
 use crate::shift::{News, Shift};
 use crate::watch::Watch;
-use acap_entries::{Copying, Memory, Octets, Path, Paths, Steps, Value};
+use acap_entries::{Copying, Label, Memory, Octets, Path, Paths, Steps};
 use acap_inherit::chain_unless;
 use acap_notices::MOST;
 use acap_search::{Hit, Placed, SortPlaces, Sought, Standing, Viewer, places_at, row_of};
@@ -21,18 +21,18 @@ use std::alloc::Global;
 use std::sync::ledger::Ledger;
 
 // The name under which an entry is told.
-fn tell_name(alloc: Global, path: &Path, sought: &Sought) -> Result<Value, Memory>
+fn tell_name(alloc: Global, path: &Path, sought: &Sought) -> Result<Label, Memory>
     ensures { IfOk result (λ name. name ≡ tuples.name_told sought.now.depth path.now) }
 {
     let name = path.name.as_slice();
     if sought.depth.is_none() {
-        return Value::from_slice(alloc, name);
+        return Label::from_slice(alloc, name);
     }
     let dataset = path.dataset.as_slice();
     let mut full = Vec::with_capacity(alloc, dataset.len() + name.len())?;
     full.extend_from_slice(dataset)?;
     full.extend_from_slice(name)?;
-    Ok(Value::new(Octets::from_vec(full)))
+    Ok(Label::new(Octets::from_vec(full)))
 }
 
 // Where an entry stood before the change.

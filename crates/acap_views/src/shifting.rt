@@ -20,7 +20,7 @@ use crate::shift::{News, Shift};
 use crate::shown::Shown;
 use crate::undone::Undone;
 use crate::watch::Watch;
-use acap_entries::{Probe, Ranked, Row, Value, Whole};
+use acap_entries::{Label, Probe, Ranked, Row, Whole};
 use acap_notices::{Notice, Queue};
 use acap_search::{Placed, Standing};
 
@@ -116,7 +116,7 @@ fn position(enumerated: bool, place: usize) -> usize
 }
 
 // What is told of an entry that isn't found any longer: nothing where it wasn't found before.
-fn gone_notice(gone: &Option<(usize, Placed)>, entry: Value, enumerated: bool) -> Option<Notice>
+fn gone_notice(gone: &Option<(usize, Placed)>, entry: Label, enumerated: bool) -> Option<Notice>
     requires { IfSome gone.now (λ g. g.0 + 1 < 2 ^ 64) }
     ensures { IsGoneNotice enumerated entry gone.now result }
 {
@@ -195,7 +195,7 @@ fn add(pending: &mut Queue, told: Option<Notice>) -> bool
 fn swap_gone(
     hits: &mut Ranked<Placed>,
     old: &Standing<'_>,
-    name: Value,
+    name: Label,
     enumerated: bool,
 ) -> (Undone, Option<Notice>)
     ensures list { hits.new.0 ≡ rule.with_exchange (match_by old.now) None hits.old.0 }
