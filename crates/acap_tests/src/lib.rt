@@ -10,6 +10,8 @@ mod machine;
 #[cfg(test)]
 mod pipe;
 #[cfg(test)]
+mod sharing;
+#[cfg(test)]
 mod stories;
 #[cfg(test)]
 mod work;

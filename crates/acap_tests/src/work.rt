@@ -35,8 +35,8 @@ const EVENTS: &str =
 0 A1 STORE ("/option/~/n/never" "entry" DEFAULT)
 0 drain"#;
 
-// The event of a text: `drain`, or a command's line.
-fn event_of(alloc: Global, text: &[u8]) -> Result<Event, Fault> {
+/// The event of a text: `drain`, or a command's line.
+pub(crate) fn event_of(alloc: Global, text: &[u8]) -> Result<Event, Fault> {
     if text == b"drain".as_slice() {
         return Ok(Event::Drain);
     }
