@@ -17,6 +17,7 @@ pub mod ScopedLemmas
 pub mod SeenLemmas
 pub mod SightLemmas
 pub mod SortLemmas
+pub mod StandLemmas
 pub mod Stars
 pub mod TellingLemmas
 pub mod TouchedLemmas

@@ -1,6 +1,7 @@
 -- Where what is found lies and stands: words of private contracts.
 use Rattle.std.specs.Prelude.{List, [], ◌∷◌}
 use Rattle.acap_entries.specs.declared.path.Path.{Path}
+use Rattle.acap_search.specs.Matches.{Match}
 use Rattle.acap_search.specs.declared.footing.Footing.{Footing}
 use Rattle.acap_search.specs.declared.footing.Footing.TheVariants.{Only, Each}
 use Rattle.acap_search.specs.declared.lying.Lying.{Lying}
@@ -16,3 +17,10 @@ path_in (Made path) = path
 abbrev pub places_on : Footing → List SortPlace
 places_on (Only place) = place ∷ []
 places_on (Each places) = places
+
+-- a match there, of which nothing is told
+abbrev pub untold_at : Path → List SortPlace → Match
+untold_at path places = record { path = path; places = places; row = record { name = []; items = [] } }
+
+abbrev pub untold : Match → Match
+untold found = untold_at found.path found.places

@@ -17,7 +17,7 @@ use Rattle.acap_rights.specs.declared.realm.Realm.{Realm}
 use Rattle.acap_search.specs.Fresh.{Sight, sight_of, matches_of, paths_of}
 use Rattle.acap_search.specs.Matches.{Match}
 use Rattle.acap_search.specs.Scopes.{scope_of, beneath, datasets_of, reached_by}
-use Rattle.acap_search.specs.Views.{View, spot_in, found_at}
+use Rattle.acap_search.specs.Views.{View, spot_in, found_at, match_at}
 use Rattle.acap_search.specs.Within.{matches_in, numbered_paths, paths_shown, tuple_at, tuple_within}
 use Rattle.acap_search.specs.contracts.query.Sought as query
 use Rattle.acap_search.specs.declared.query.Sought.{Sought}
@@ -45,6 +45,10 @@ view_in quest dataset = record {
   dataset = dataset;
   chain = chain_of quest.records dataset quest.sought.no_inherit;
 }
+
+-- what is made of the entry at a path, seen and wanted or not
+abbrev pub match_in : Quest → Path → Match
+match_in quest path = match_at quest.sought (spot_in (view_in quest path.dataset) path.name)
 
 -- what is found at some names of a dataset, and at all of them
 abbrev pub hits_at : View → Sought → List (List ℕ) → List Match

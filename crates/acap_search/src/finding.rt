@@ -1,9 +1,8 @@
 //! What is found in a walk.
 ghost use Rattle.std.specs.Prelude.{◌≡◌, IfOk};
 
-use crate::footing::Footing;
 use crate::hit::Hit;
-use crate::lying::Lying;
+use crate::stand::Stand;
 use acap_entries::{Memory, Row};
 use std::alloc::Global;
 use std::marker::Model;
@@ -11,23 +10,20 @@ use std::marker::Model;
 /// An entry that is found: a hit whose path is made only where it is asked for.
 #[derive(Drop)]
 pub(crate) struct Finding<'a> {
-    /// Where it is.
-    pub(crate) lying: Lying<'a>,
-    /// Where it stands for SORT.
-    pub(crate) footing: Footing,
+    /// Where it is, and where it stands for SORT.
+    pub(crate) stand: Stand<'a>,
     /// What is told of it.
     pub(crate) row: Row,
 }
 
 impl<'a> Model for Finding<'a> {
-    ghost use Rattle.acap_search.specs.Lying.{path_in, places_on};
     ghost use Rattle.acap_search.specs.Matches.{Match, match_code};
 
     ghost Value = { Match };
 
     ghost coded = { match_code };
 
-    ghost view = { λ f. record { path = path_in f.lying; places = places_on f.footing; row = f.row } };
+    ghost view = { λ f. record { path = f.stand.path; places = f.stand.places; row = f.row } };
 }
 
 impl<'a> Finding<'a> {
@@ -35,11 +31,8 @@ impl<'a> Finding<'a> {
     pub(crate) fn into_hit(self, alloc: Global) -> Result<Hit, Memory>
         ensures { IfOk result (λ hit. hit ≡ self.entry) }
     {
-        let Finding {
-            lying,
-            footing,
-            row,
-        } = self;
+        let Finding { stand, row } = self;
+        let Stand { lying, footing } = stand;
         let path = lying.into_path()?;
         let places = footing.into_places(alloc)?;
         Ok(Hit { path, places, row })

@@ -1,15 +1,21 @@
 //! What a walk gathers.
-ghost use Rattle.std.specs.Prelude.{◌≡◌, ◌+◌, None, IfOk, IfSome, OnOk, length, take, map as each};
+ghost use Rattle.std.specs.Prelude.{◌≡◌, ◌+◌, None, IfOk, IfSome, OnOk, take};
 ghost use Rattle.acap_search.specs.Gathering as rule;
 ghost use Rattle.acap_search.specs.Views.{found_at, path_of};
 
+use crate::cutting::most_told;
 use crate::finding::Finding;
-use crate::ordering::sort_found;
+use crate::ordering::{sort_found, sort_stands};
 use crate::query::Sought;
+use crate::quest::Quest;
 use crate::spot::Spot;
-use crate::tuples::{finding_at, tell_at};
+use crate::stand::Stand;
+use crate::stands::tell_stands;
+use crate::told::Told;
+use crate::tuples::{finding_at, is_found, stand_at};
+use crate::wish::Wish;
 use acap_commands::Rows;
-use acap_entries::{Memory, Path, Records, Row, Sequence, Steps};
+use acap_entries::{Memory, Path, Records, Sequence, Steps};
 use std::alloc::Global;
 use std::sync::ledger::Ledger;
 
@@ -18,24 +24,36 @@ use std::sync::ledger::Ledger;
 pub(crate) enum Gathered<'a> {
     /// All of it.
     Findings(Sequence<Finding<'a>>),
-    /// What is told of it: fewer octets are moved than with where it is and where it stands.
-    Rows(Rows),
+    /// Where all of it is and stands: rows are made of the first, once it is known which these are.
+    Stands(Sequence<Stand<'a>>),
+    /// What is told of the first, where it comes in order.
+    First(Told),
 }
 
 impl<'a> Gathered<'a> {
-    /// Nothing yet, of what is found or of its rows alone.
-    pub(crate) fn new(alloc: Global, rows_alone: bool) -> Gathered<'a>
-        ensures { result ≡ rule.none_yet rows_alone }
+    /// Nothing yet, where it comes in the order in which it is told.
+    pub(crate) fn in_order(alloc: Global, wish: Wish) -> Gathered<'a>
+        ensures { result ≡ rule.none_in_order wish }
     {
-        if rows_alone {
-            Gathered::Rows(Rows::new(alloc))
-        } else {
-            Gathered::Findings(Sequence::new(alloc))
+        match wish {
+            Wish::All => Gathered::Findings(Sequence::new(alloc)),
+            Wish::First(limit) => Gathered::First(Told::new(alloc, most_told(limit))),
         }
     }
 
-    /// One more, where something is found: one step. The path is that of the entry's record, where it is at hand. Fails only for want
-    /// of memory.
+    /// Nothing yet, where it doesn't come so. Without LIMIT all is told, and its rows may be made at once.
+    pub(crate) fn in_turn(alloc: Global, wish: Wish) -> Gathered<'a>
+        ensures { result ≡ rule.none_in_turn wish }
+    {
+        match wish {
+            Wish::All | Wish::First(None) => Gathered::Findings(Sequence::new(alloc)),
+            Wish::First(Some(_)) => Gathered::Stands(Sequence::new(alloc)),
+        }
+    }
+
+    /// One more, where something is found: one step. The path is that of the entry's record, where it is at hand. Fails for want of
+    /// memory, and where there are more than can be counted.
+    #[tactic(auto, unfolding(crate::specs::Gathering::with_more))]
     pub(crate) fn add_at<R: Records, L: Ledger>(
         &mut self,
         alloc: Global,
@@ -55,9 +73,14 @@ impl<'a> Gathered<'a> {
                     findings.push(finding)?;
                 }
             }
-            Gathered::Rows(rows) => {
-                if let Some(row) = tell_at(alloc, spot, sought, steps)? {
-                    rows.push(row)?;
+            Gathered::Stands(stands) => {
+                if let Some(stand) = stand_at(alloc, spot, path, sought, steps)? {
+                    stands.push(stand)?;
+                }
+            }
+            Gathered::First(told) => {
+                if is_found(spot, sought, None, steps) {
+                    told.add(alloc, spot, sought)?;
                 }
             }
         }
@@ -66,11 +89,12 @@ impl<'a> Gathered<'a> {
 
     /// How many there are.
     pub(crate) fn count(&self) -> usize
-        ensures { result ≡ length (rule.told_in self.now) }
+        ensures { result ≡ rule.count_of self.now }
     {
         match self {
             Gathered::Findings(findings) => findings.len(),
-            Gathered::Rows(rows) => rows.len(),
+            Gathered::Stands(stands) => stands.len(),
+            Gathered::First(told) => told.count,
         }
     }
 
@@ -84,24 +108,29 @@ impl<'a> Gathered<'a> {
                 sort_found(&mut findings)?;
                 Ok(Gathered::Findings(Sequence::from_vec(findings)))
             }
-            Gathered::Rows(rows) => Ok(Gathered::Rows(rows)),
+            Gathered::Stands(stands) => {
+                let mut stands = stands.into_vec();
+                sort_stands(&mut stands)?;
+                Ok(Gathered::Stands(Sequence::from_vec(stands)))
+            }
+            Gathered::First(told) => Ok(Gathered::First(told)),
         }
     }
 
-    /// All of it, and nothing where it is of rows alone.
+    /// All of it, and nothing where not all is gathered.
     pub(crate) fn into_findings(self, alloc: Global) -> Vec<Finding<'a>>
         ensures { result.items ≡ rule.all_in self.entry }
     {
         match self {
             Gathered::Findings(findings) => findings.into_vec(),
-            Gathered::Rows(_) => Vec::new(alloc),
+            Gathered::Stands(_) | Gathered::First(_) => Vec::new(alloc),
         }
     }
 }
 
 // What is told of the first of what is found.
 fn tell_findings(alloc: Global, found: Vec<Finding<'_>>, most: usize) -> Result<Rows, Memory>
-    ensures { IfOk result (λ rows. rows ≡ each (λ hit. hit.row) (take most found.entry.items)) }
+    ensures { IfOk result (λ rows. rows ≡ rule.rows_of (take most found.entry.items)) }
 {
     let mut found = found;
     found.truncate(most);
@@ -122,12 +151,17 @@ fn first_of(rows: Rows, most: usize) -> Rows
 }
 
 /// What is told of the first of what is gathered. Fails only for want of memory.
-#[tactic(auto, using(crate::proofs::GatheredLemmas::first_rows))]
-pub(crate) fn tell_first(alloc: Global, found: Gathered<'_>, most: usize) -> Result<Rows, Memory>
-    ensures { IfOk result (λ rows. rows ≡ take most (rule.told_in found.entry)) }
+pub(crate) fn tell_first(
+    alloc: Global,
+    search: &Quest<'_>,
+    found: Gathered<'_>,
+    most: usize,
+) -> Result<Rows, Memory>
+    ensures { IfOk result (λ rows. rows ≡ rule.first_in search.now most found.entry) }
 {
     match found {
         Gathered::Findings(findings) => tell_findings(alloc, findings.into_vec(), most),
-        Gathered::Rows(rows) => Ok(first_of(rows, most)),
+        Gathered::Stands(stands) => tell_stands(alloc, search, stands.into_vec(), most),
+        Gathered::First(told) => Ok(first_of(told.rows, most)),
     }
 }

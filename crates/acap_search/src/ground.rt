@@ -5,7 +5,7 @@ ghost use Rattle.std.specs.Option.{option_copied, ForSome};
 ghost use Rattle.acap_inherit.specs.Records.{record_at};
 ghost use Rattle.acap_search.specs.Grounds.{IsGroundOf, all_records};
 ghost use Rattle.acap_search.specs.Near as near;
-ghost use Rattle.acap_search.specs.Views.{found_at, spot_in};
+ghost use Rattle.acap_search.specs.Views.{found_at, match_at, spot_in};
 ghost use Rattle.acap_search.specs.Walks as walks;
 
 use crate::dataset_walk::base_of;
@@ -18,9 +18,9 @@ use crate::query::Sought;
 use crate::quest::Quest;
 use crate::scope::looks_in;
 use crate::spot::Spot;
-use crate::tuples::finding_at;
+use crate::tuples::{finding_at, tell_row};
 use crate::viewer::Viewer;
-use acap_entries::{Dataset, EntryName, Listing, Memory, Path, Record, Records, Steps, Tree};
+use acap_entries::{Dataset, EntryName, Listing, Memory, Path, Record, Records, Row, Steps, Tree};
 use acap_inherit::chain_unless;
 use acap_rights::{SharedRights, shared_rights};
 use std::alloc::Global;
@@ -220,5 +220,27 @@ impl<'a> Ground<'a> {
     {
         let entry = self.record_of(&path.name);
         self.find_with(alloc, path, entry, sought, place, steps)
+    }
+
+    /// What is told of an entry of it. Fails only for want of memory.
+    pub(crate) fn tell(&self, alloc: Global, path: &Path, sought: &Sought) -> Result<Row, Memory>
+        requires { self.now.view.dataset ≡ path.now.dataset }
+        ensures { IfOk result
+            (λ row. row ≡ (match_at sought.now (spot_in self.now.view path.now.name)).row) }
+    {
+        let dataset = self.by.dataset.as_slice();
+        if let Some(shared) = &self.shared
+            && let Some(entry) = self.by.records.find(dataset, path.name.as_slice())
+        {
+            let spot = Spot {
+                by: &self.by,
+                name: &path.name,
+                kept: Some(Kept { entry, shared }),
+            };
+            return tell_row(alloc, &spot, sought);
+        }
+        let near = Near::new(self.by.records, self.own, self.base, path.name.as_slice());
+        let nearer = self.by.over(&near);
+        tell_row(alloc, &Spot::far(&nearer, &path.name), sought)
     }
 }

@@ -35,9 +35,13 @@ mod scope;
 mod searching;
 mod showing;
 mod spot;
+mod stand;
+mod stands;
 mod telling;
+mod told;
 mod tuples;
 mod viewer;
+mod wish;
 
 pub use acap_entries::Row;
 pub use context::within;

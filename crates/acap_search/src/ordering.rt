@@ -5,6 +5,7 @@ ghost use Rattle.acap_search.specs.Places as rule;
 
 use crate::finding::Finding;
 use crate::rank::{Rank, SortPlace};
+use crate::stand::Stand;
 use acap_entries::Memory;
 use std::cmp::Ordering;
 
@@ -69,12 +70,12 @@ pub(crate) fn places_order(a: &[SortPlace], b: &[SortPlace]) -> Ordering
     }
 }
 
-// How findings compare: by their places, and then by their full paths in octets.
-fn order(a: &Finding<'_>, b: &Finding<'_>) -> Ordering
+// How what is found compares: by the places, and then by the full paths in octets.
+fn order(a: &Stand<'_>, b: &Stand<'_>) -> Ordering
     ensures { result ≡ found.match_cmp a.now b.now }
 {
     match places_order(a.footing.as_slice(), b.footing.as_slice()) {
-        Ordering::Equal => a.lying.path().cmp_full(b.lying.path()),
+        Ordering::Equal => a.path().cmp_full(b.path()),
         unequal => unequal,
     }
 }
@@ -83,6 +84,14 @@ fn order(a: &Finding<'_>, b: &Finding<'_>) -> Ordering
 pub(crate) fn sort_found(hits: &mut Vec<Finding<'_>>) -> Result<(), Memory>
     ensures { OnOk result (hits.new.items ≡ found.sorted_by found.match_lt hits.old.items) }
 {
-    hits.sort_by(|a, b| order(a, b))?;
+    hits.sort_by(|a, b| order(&a.stand, &b.stand))?;
+    Ok(())
+}
+
+/// The same of what is found before anything is told of it.
+pub(crate) fn sort_stands(stands: &mut Vec<Stand<'_>>) -> Result<(), Memory>
+    ensures { OnOk result (stands.new.items ≡ found.sorted_by found.match_lt stands.old.items) }
+{
+    stands.sort_by(|a, b| order(a, b))?;
     Ok(())
 }

@@ -3,7 +3,7 @@ ghost use Rattle.std.specs.Prelude.{◌≡◌, IfOk, IsTrue, None, OnOk};
 ghost use Rattle.acap_search.specs.Counting.{IsCounted, paths_count};
 ghost use Rattle.acap_search.specs.Fresh as rule;
 ghost use Rattle.acap_search.specs.Fresh.{IsAnswer};
-ghost use Rattle.acap_search.specs.Gathering.{IsGathered, with_more, none_yet};
+ghost use Rattle.acap_search.specs.Gathering.{IsGathered, with_more};
 ghost use Rattle.acap_search.specs.Walks as walks;
 
 use crate::dataset_walk::add_in;
@@ -14,6 +14,7 @@ use crate::query::Query;
 use crate::quest::Quest;
 use crate::reaching::find_reached;
 use crate::refusal::SearchRefusal;
+use crate::wish::Wish;
 use acap_commands::{Key, Node, Test};
 use acap_entries::{Memory, Path, Record, Steps, Tree, UserName};
 use acap_inherit::names_law;
@@ -87,19 +88,19 @@ fn add_beneath<'a, L: Ledger>(
     Ok(())
 }
 
-// What is found, in the order of the store, or its rows alone.
+// What is found, in the order of the store, beside nothing yet.
 #[tactic(auto, using(crate::proofs::GatheredLemmas::gathered_twice), unfolding(crate::specs::Walks::count_over))]
 fn walk<'a, L: Ledger>(
     alloc: Global,
     search: &Quest<'a>,
-    rows_alone: bool,
+    none: Gathered<'a>,
     steps: &mut Steps<L>,
 ) -> Result<Gathered<'a>, Memory>
     ensures count { IsCounted result steps.old steps.new (walks.count_over search.now) }
     ensures found { IfOk result
-        (λ found. found ≡ with_more (none_yet rows_alone) (walks.hits_over search.now)) }
+        (λ found. found ≡ with_more none.entry (walks.hits_over search.now)) }
 {
-    let mut found = Gathered::new(alloc, rows_alone);
+    let mut found = none;
     let sought = search.sought;
     add_in(alloc, search, &sought.dataset, &mut found, steps)?;
     if let Some(depth) = sought.depth {
@@ -117,28 +118,28 @@ fn is_in_order(search: &Quest<'_>) -> bool
     sought.depth.is_none() && sought.sort.is_none()
 }
 
-// What is found, in order: without DEPTH and SORT it comes so, and its rows alone may be gathered.
+// What is found, in order: without DEPTH and SORT it comes so, and of the first rows alone are gathered.
 #[tactic(auto, using(crate::proofs::CountingLemmas::count_over_is))]
 fn find_by<'a, L: Ledger>(
     alloc: Global,
     search: &Quest<'a>,
-    rows_alone: bool,
+    wish: Wish,
     steps: &mut Steps<L>,
 ) -> Result<Gathered<'a>, Memory>
     ensures count { IsCounted result steps.old steps.new (walks.paths_by search.now) }
-    ensures found { IfOk result (λ found. IsGathered rows_alone found (walks.matches_by search.now)) }
+    ensures found { IfOk result (λ found. IsGathered wish found (walks.matches_by search.now)) }
 {
     names_law();
     if is_in_order(search) {
-        let found = walk(alloc, search, rows_alone, steps)?;
+        let found = walk(alloc, search, Gathered::in_order(alloc, wish), steps)?;
         return Ok(found);
     }
-    let found = walk(alloc, search, false, steps)?;
+    let found = walk(alloc, search, Gathered::in_turn(alloc, wish), steps)?;
     let sorted = found.sort()?;
     Ok(sorted)
 }
 
-/// What is answered to a search over a dataset, whose paths need not be made, or the rows alone.
+/// What is answered to a search over a dataset: all that it finds, whose paths need not be made, or enough of it to tell the first.
 #[tactic(auto, using(crate::proofs::GatheredLemmas::as_many, crate::proofs::RefusalLemmas::refused))]
 pub(crate) fn answer<'a, L: Ledger>(
     alloc: Global,
@@ -146,12 +147,12 @@ pub(crate) fn answer<'a, L: Ledger>(
     realm: &'a Realm,
     user: &'a UserName,
     query: &'a Query,
-    rows_alone: bool,
+    wish: Wish,
     steps: &mut Steps<L>,
 ) -> Result<Gathered<'a>, SearchRefusal>
     ensures count { IsCounted result steps.old steps.new (paths_count tree.now.store query.now.sought) }
     ensures found { let records = tree.now.store.records in
-        IsAnswer records realm.now user.now query.now (IsGathered rows_alone) result }
+        IsAnswer records realm.now user.now query.now (IsGathered wish) result }
 {
     if has_range(&query.sought.key) {
         return Err(SearchRefusal::RangeHere);
@@ -165,7 +166,7 @@ pub(crate) fn answer<'a, L: Ledger>(
         user,
         sought: &query.sought,
     };
-    let found = find_by(alloc, &search, rows_alone, steps)?;
+    let found = find_by(alloc, &search, wish, steps)?;
     if is_over(query.hard_limit, found.count()) {
         return Err(SearchRefusal::WayTooMany);
     }
@@ -187,7 +188,7 @@ pub fn fresh<L: Ledger>(
     ensures count { IsCounted result steps.old steps.new (paths_count tree.now.store query.now.sought) }
     ensures found { IsAnswer tree.now.store.records realm.now user.now query.now (λ h m. h ≡ m) result }
 {
-    match answer(alloc, tree, realm, user, query, false, steps) {
+    match answer(alloc, tree, realm, user, query, Wish::All, steps) {
         Ok(found) => match hits_of(alloc, found.into_findings(alloc)) {
             Ok(hits) => Ok(Hits::from_vec(hits)),
             Err(_) => Err(SearchRefusal::Memory),

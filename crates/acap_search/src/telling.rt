@@ -6,8 +6,10 @@ ghost use Rattle.acap_search.specs.Fresh.{IsAnswer};
 use crate::cutting::cut_by;
 use crate::gathered::tell_first;
 use crate::query::Query;
+use crate::quest::Quest;
 use crate::refusal::SearchRefusal;
 use crate::searching::answer;
+use crate::wish::Wish;
 use acap_commands::{Limit, Rows};
 use acap_entries::{Steps, Tree, UserName};
 use acap_rights::Realm;
@@ -37,10 +39,16 @@ pub fn tell<L: Ledger>(
     ensures count { IsCounted result steps.old steps.new (paths_count tree.now.store query.now.sought) }
     ensures told { IsAnswer tree.now.store.records realm.now user.now query.now (IsExcerpt limit) result }
 {
-    match answer(alloc, tree, realm, user, query, true, steps) {
+    match answer(alloc, tree, realm, user, query, Wish::First(limit), steps) {
         Ok(found) => {
             let cut = cut_by(limit, found.count());
-            match tell_first(alloc, found, cut.told) {
+            let search = Quest {
+                tree,
+                realm,
+                user,
+                sought: &query.sought,
+            };
+            match tell_first(alloc, &search, found, cut.told) {
                 Ok(rows) => Ok(Excerpt {
                     rows,
                     total: cut.total,

@@ -2,7 +2,7 @@
 ghost use Rattle.std.specs.Prelude.{◌≡◌, ◌+◌, ◌&&◌, None, IfOk, IfSome};
 ghost use Rattle.std.specs.Option.{option_map};
 ghost use Rattle.acap_search.specs.Keys.{holds};
-ghost use Rattle.acap_search.specs.Lying.{path_in, places_on};
+ghost use Rattle.acap_search.specs.Lying.{path_in, places_on, untold};
 ghost use Rattle.acap_search.specs.Sight.{is_seen};
 ghost use Rattle.acap_search.specs.Views.{answers_of, found_at, match_at, path_of, spot_in};
 
@@ -18,6 +18,7 @@ use crate::rank::SortPlaces;
 use crate::ranking::{footing_of, places_of};
 use crate::rows::items_of;
 use crate::spot::Spot;
+use crate::stand::Stand;
 use crate::viewer::Viewer;
 use acap_entries::{
     Boxed, Copying, EntryName, Items, Label, Memory, Octets, Path, Records, Row, Steps,
@@ -100,8 +101,23 @@ fn lying_at<'p, R: Records>(
     Ok(Lying::Made(Boxed::new(alloc, Path { dataset, name })?))
 }
 
-// Whether the user sees an entry and the key wants it: one step, whatever comes of it.
-fn is_found<R: Records, L: Ledger>(
+// Where an entry is, and where it stands for a SORT.
+fn stand_of<'p, R: Records>(
+    alloc: Global,
+    spot: &Spot<'_, R>,
+    path: Option<&'p Path>,
+    sought: &Sought,
+) -> Result<Stand<'p>, Memory>
+    requires { IfSome path (λ path. path.now ≡ path_of spot.now) }
+    ensures { IfOk result (λ stand. stand ≡ untold (match_at sought.now spot.now)) }
+{
+    let lying = lying_at(alloc, spot, path)?;
+    let footing = footing_by(alloc, spot, sought)?;
+    Ok(Stand { lying, footing })
+}
+
+/// Whether the user sees an entry and the key wants it: one step, whatever comes of it.
+pub(crate) fn is_found<R: Records, L: Ledger>(
     spot: &Spot<'_, R>,
     sought: &Sought,
     place: Option<u32>,
@@ -115,8 +131,12 @@ fn is_found<R: Records, L: Ledger>(
     sees(spot) && wants(spot, &sought.key, place)
 }
 
-// What is told of an entry.
-fn tell_row<R: Records>(alloc: Global, spot: &Spot<'_, R>, sought: &Sought) -> Result<Row, Memory>
+/// What is told of an entry. Fails only for want of memory.
+pub(crate) fn tell_row<R: Records>(
+    alloc: Global,
+    spot: &Spot<'_, R>,
+    sought: &Sought,
+) -> Result<Row, Memory>
     ensures { IfOk result (λ row. row ≡ (match_at sought.now spot.now).row) }
 {
     let name = tell_name(alloc, spot, sought)?;
@@ -124,21 +144,23 @@ fn tell_row<R: Records>(alloc: Global, spot: &Spot<'_, R>, sought: &Sought) -> R
     Ok(Row { name, items })
 }
 
-/// What is told of an entry that is looked at, where it is found: one step. Fails only for want of memory.
-pub(crate) fn tell_at<R: Records, L: Ledger>(
+/// Where an entry that is looked at is and stands, where it is found: one step. The path is that of its record, where it is at hand.
+pub(crate) fn stand_at<'p, R: Records, L: Ledger>(
     alloc: Global,
     spot: &Spot<'_, R>,
+    path: Option<&'p Path>,
     sought: &Sought,
     steps: &mut Steps<L>,
-) -> Result<Option<Row>, Memory>
+) -> Result<Option<Stand<'p>>, Memory>
+    requires { IfSome path (λ path. path.now ≡ path_of spot.now) }
     ensures count { steps.new ≡ steps.old + 1 }
-    ensures told { IfOk result
-        (λ told. told ≡ option_map (λ found. found.row) (found_at sought.now None spot.now)) }
+    ensures made { IfOk result
+        (λ stand. stand ≡ option_map untold (found_at sought.now None spot.now)) }
 {
     if !is_found(spot, sought, None, steps) {
         return Ok(None);
     }
-    Ok(Some(tell_row(alloc, spot, sought)?))
+    Ok(Some(stand_of(alloc, spot, path, sought)?))
 }
 
 /// What a search makes of an entry that is looked at: one step. The path is that of its record, where it is at hand.
@@ -157,14 +179,9 @@ pub(crate) fn finding_at<'p, R: Records, L: Ledger>(
     if !is_found(spot, sought, place, steps) {
         return Ok(None);
     }
-    let lying = lying_at(alloc, spot, path)?;
-    let footing = footing_by(alloc, spot, sought)?;
+    let stand = stand_of(alloc, spot, path, sought)?;
     let row = tell_row(alloc, spot, sought)?;
-    Ok(Some(Finding {
-        lying,
-        footing,
-        row,
-    }))
+    Ok(Some(Finding { stand, row }))
 }
 
 /// What a search makes of an entry: none where the user doesn't see it or the key doesn't want it, else where it stands and what

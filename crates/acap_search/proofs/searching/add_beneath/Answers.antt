@@ -1,10 +1,13 @@
 use Rattle.std.proofs.Common.{◌+◌, ap, arith, flat_map, nat_eq, refl, sym, ◌∙◌}
+use Rattle.std.proofs.lemmas.List.Sums.{sum_by-cons}
 use Rattle.std.specs.FinMap as map
 use Rattle.std.specs.List.{filter, starts_with, sum_by}
+use Rattle.acap_entries.specs.declared.path.Path.{Path}
+use Rattle.acap_entries.specs.declared.record.Record.{Record}
 use Rattle.acap_search.specs.Gathering.{with_more}
-use Rattle.acap_search.specs.Walks.{hits_in, count_in}
+use Rattle.acap_search.specs.Walks.{hits_in, hits_by, count_in, count_by}
 use Rattle.acap_search.proofs.CountingLemmas.{count_beneath_is}
-use Rattle.acap_search.proofs.GatheredLemmas.{gathered_none, walked}
+use Rattle.acap_search.proofs.GatheredLemmas.{gathered_none, gathered_twice, walked}
 use Rattle.acap_search.proofs.WalkLemmas.{beneath_is, none_beneath}
 use Rattle.acap_search.proofs.searching.add_beneath.Goals as goal
 
@@ -29,6 +32,20 @@ loop-path-init g c = record {
       ∙ ap (λ quest. filter (λ e. starts_with nat_eq e.0.dataset quest.sought.dataset) (map.entries quest.records)) c.search.view_is)));
   least = omega arith;
 }
+
+pub loop-path-preserved : goal.loop-path-preserved
+loop-path-preserved g c =
+    let hits = hits_by c.args.search.now c.args.depth in
+    let count = count_by c.args.search.now c.args.depth in
+    let next : Path × Record = (c.in-Some.path.now, c.in-Some.entry.now) in
+    record {
+      found = ap (λ g. with_more g (flat_map hits c.next.new.self)) c.in_ok-add_reached.ensures.found
+          ∙ (gathered_twice c.loop-path.found (hits next) (flat_map hits c.next.new.self)
+          ∙ (ap (λ es. with_more c.loop-path.found (flat_map hits es)) (sym c.in-Some.ensures.steps)
+          ∙ c.loop-path.invariant.found));
+      steps = omega (arith, ap (sum_by count) c.in-Some.ensures.steps, sum_by-cons count next c.next.new.self, c.in_ok-add_reached.ensures.count, c.loop-path.invariant.steps);
+      least = omega (arith, c.in_ok-add_reached.ensures.count, c.loop-path.invariant.least);
+    }
 
 pub returns-clause-found : goal.returns-clause-found
 returns-clause-found g c =

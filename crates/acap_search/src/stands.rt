@@ -1,0 +1,57 @@
+//! What is told of what is found, once it is known what is told.
+ghost use Rattle.std.specs.Prelude.{◌≡◌, IfOk, OnOk, take};
+ghost use Rattle.acap_search.specs.Gathering.{rows_at};
+ghost use Rattle.acap_search.specs.Grounds.{IsGroundOf};
+ghost use Rattle.acap_search.specs.Walks.{match_in};
+
+use crate::ground::Ground;
+use crate::quest::Quest;
+use crate::stand::Stand;
+use acap_commands::Rows;
+use acap_entries::{Memory, Row};
+use std::alloc::Global;
+
+// What is told of an entry, in the dataset where it lies.
+fn tell_there<'a>(
+    alloc: Global,
+    search: &Quest<'a>,
+    here: &mut Ground<'a>,
+    stand: &'a Stand<'a>,
+) -> Result<Row, Memory>
+    requires { IsGroundOf search.now here.old }
+    ensures here { OnOk result (IsGroundOf search.now here.new) }
+    ensures told { IfOk result (λ row. row ≡ (match_in search.now stand.now.path).row) }
+{
+    let path = stand.path();
+    here.go_to(alloc, search, &path.dataset)?;
+    here.tell(alloc, path, search.sought)
+}
+
+// What is told of all of it. Entries that lie in one dataset one after the other share what is made for it.
+fn tell_all<'a>(alloc: Global, search: &Quest<'a>, stands: &'a [Stand<'a>]) -> Result<Rows, Memory>
+    ensures { IfOk result (λ rows. rows ≡ rows_at search.now stands.now) }
+{
+    let mut rows = Vec::with_capacity(alloc, stands.len())?;
+    let Some(first) = stands.first() else {
+        return Ok(Rows::from_vec(rows));
+    };
+    let mut here = Ground::at(alloc, search, &first.path().dataset)?;
+    for stand in stands {
+        rows.push(tell_there(alloc, search, &mut here, stand)?)?;
+    }
+    Ok(Rows::from_vec(rows))
+}
+
+/// What is told of the first of what is found. Fails only for want of memory.
+pub(crate) fn tell_stands(
+    alloc: Global,
+    search: &Quest<'_>,
+    found: Vec<Stand<'_>>,
+    most: usize,
+) -> Result<Rows, Memory>
+    ensures { IfOk result (λ rows. rows ≡ rows_at search.now (take most found.entry.items)) }
+{
+    let mut found = found;
+    found.truncate(most);
+    tell_all(alloc, search, found.as_slice())
+}
