@@ -92,6 +92,10 @@ def inputs():
     yield "SEARCH of 60,000 entries, 1 attributes", "us", filled(60_000), lines([search(1)] * 10), 10
     sorted_by = 'SEARCH "/option/~/" RETURN ("option.a0") SORT ("option.a0" "-i;ascii-numeric") ALL'
     yield "SEARCH of 10,000 entries, SORT by a number", "us", filled(10_000, 1), lines([sorted_by] * 20), 20
+    items = " ".join(['"option.a0"'] * 256)
+    for name, order in (("", ""), (", SORT", 'SORT ("option.a0" "-i;octet") ')):
+        limited = f'SEARCH "/option/~/" LIMIT 1 1 {order}RETURN ({items}) ALL'
+        yield f"SEARCH of 10,000 entries, LIMIT 1 1, 256 items{name}", "us", filled(10_000), lines([limited] * 4), 4
     keyed = 'SEARCH "/option/~/" RETURN ("option.a0") AND COMPARE "option.a0" "i;octet" "0" PREFIX "option.a1" "i;octet" "0"'
     yield "SEARCH of 10,000 entries, key over two attributes", "us", filled(10_000, 2), lines([keyed] * 20), 20
     listed = lines(['SETACL ("/option/~/" "option.a0") "joe" "rwxia"'])
