@@ -1,33 +1,32 @@
 -- What is found by a key that gives the only name.
-use Rattle.std.proofs.Common.{◌≡◌, ◌<◌, ℕ, ◌+◌, Bool, true, false, not, cond, is_some, ◌&&◌, ◌||◌, codes, Option, Some, None, List, [], ◌∷◌, ◌==◌, take, length, refl, sym, ◌∙◌, ap, subst, arith, map as each}
+use Rattle.std.proofs.Common.{◌≡◌, ◌<◌, ℕ, Bool, true, false, cond, is_some, ◌&&◌, ◌||◌, codes, Option, Some, None, List, [], ◌∷◌, length, refl, sym, ◌∙◌, ap, subst, arith}
 use Rattle.std.specs.FinMap as map
 use Rattle.std.specs.List.{filter, filter_map, cons_option, list_any}
 use Rattle.std.specs.Cmp.{first_so, second_so, tied_itself}
 use Rattle.std.specs.Cmp.Lexicographic.{nat_list_cmp_total, same_text, texts_ties}
-use Rattle.std.specs.Ordering.{is_lt, is_eq, eq_by_cmp, ordering_reverse}
+use Rattle.std.specs.Ordering.{is_lt, is_eq, ordering_reverse}
 use Rattle.std.specs.declared.cmp.Ordering.{Ordering}
 use Rattle.std.specs.declared.cmp.Ordering.TheVariants.{Less, Equal, Greater}
 use Rattle.acap_entries.specs.Orders.{octets_cmp, octets_eq}
 use Rattle.acap_entries.specs.Store.{Stored}
 use Rattle.acap_entries.specs.declared.cell.Cell.{Cell}
-use Rattle.acap_entries.specs.declared.cell.Cell.TheVariants.{Nil, Single, Multi}
+use Rattle.acap_entries.specs.declared.cell.Cell.TheVariants.{Nil, Single}
 use Rattle.acap_entries.specs.declared.record.Record.{Record}
 use Rattle.acap_commands.specs.Wanted.{Wanted, One, And, Or, Not}
 use Rattle.acap_commands.specs.declared.relation.Relation.{Relation}
 use Rattle.acap_commands.specs.declared.relation.Relation.TheVariants as relation
-use Rattle.acap_commands.specs.declared.test.Test.{Test}
 use Rattle.acap_commands.specs.declared.test.Test.TheVariants as test
 use Rattle.acap_order.specs.declared.comparator.Collation.{Collation}
 use Rattle.acap_order.specs.declared.comparator.Collation.TheVariants.{Octet, AsciiCasemap, AsciiNumeric}
 use Rattle.acap_order.specs.declared.comparator.Direction.{Direction}
 use Rattle.acap_order.specs.declared.comparator.Direction.TheVariants.{Ascending, Descending}
 use Rattle.acap_order.specs.declared.comparator.Comparator.{Comparator}
-use Rattle.acap_order.specs.Ranks.{rank_of, rank_cmp, in_direction, comparator_cmp, comparator_eq}
+use Rattle.acap_order.specs.Ranks.{rank_of, rank_cmp, in_direction, comparator_eq}
 use Rattle.acap_inherit.specs.EntryNames.{names_on}
 use Rattle.acap_inherit.specs.Laws.{NamesLaw}
 use Rattle.acap_inherit.specs.Merging.{is_below, is_rising}
 use Rattle.acap_inherit.specs.Records.{record_at}
-use Rattle.acap_inherit.specs.Resolving.{Resolution, by_presence, entry_on, members_for, members_of, lookup}
+use Rattle.acap_inherit.specs.Resolving.{Resolution, by_presence, entry_on, members_for, lookup}
 use Rattle.acap_rights.specs.declared.rights.Rights.{Rights}
 use Rattle.acap_search.specs.Keys.{stands_so, some_text, is_octet, is_equal, tested_cell, passes, holds}
 use Rattle.acap_search.specs.Matches.{Match}
@@ -40,8 +39,8 @@ use Rattle.acap_search.specs.declared.gathered.Gathered.{Gathered}
 use Rattle.acap_search.proofs.GatheredLemmas.{gathered_none}
 use Rattle.acap_search.specs.Walks.{names_count, hits_along}
 use Rattle.std.proofs.lemmas.List.{length-map}
-use Rattle.acap_search.specs.Named.{NameLaw, first_of, name_in, only_name}
-use Rattle.acap_search.specs.Sight.{Answers, cell_at, is_held, is_nil, is_seen, may_read, may_test}
+use Rattle.acap_search.specs.Named.{NameLaw, first_of, only_name}
+use Rattle.acap_search.specs.Sight.{Answers, cell_at, is_held, is_seen, may_test}
 use Rattle.acap_search.specs.Views.{View, spot_in, answers_of, found_at, rights_in}
 use Rattle.acap_search.specs.declared.query.Sought.{Sought}
 

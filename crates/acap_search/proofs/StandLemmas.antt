@@ -1,5 +1,5 @@
 -- What a search finds is what is made of the entries at the paths of its matches.
-use Rattle.std.proofs.Common.{◌≡◌, ℕ, Bool, true, false, cond, Option, Some, None, List, sym, ◌∙◌, ap, subst}
+use Rattle.std.proofs.Common.{◌≡◌, ℕ, Bool, true, false, cond, Some, None, List, sym, ◌∙◌, ap, subst}
 use Rattle.std.specs.List.{Contains}
 use Rattle.acap_entries.specs.Store.{Stored}
 use Rattle.acap_inherit.specs.EntryNames.{names_on}

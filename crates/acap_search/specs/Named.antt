@@ -1,5 +1,5 @@
 -- Keys that can hold for entries of one name only [RFC 2244 section 6.4.1].
-use Rattle.std.specs.Prelude.{◌≡◌, ℕ, Bool, true, ◌&&◌, List, Option, Some, None, codes, if◌then◌else◌}
+use Rattle.std.specs.Prelude.{◌≡◌, ℕ, true, ◌&&◌, List, Option, Some, None, codes, if◌then◌else◌}
 use Rattle.acap_entries.specs.Orders.{octets_eq}
 use Rattle.acap_commands.specs.Wanted.{Wanted, One, And, Or, Not}
 use Rattle.acap_commands.specs.declared.test.Test.{Test}

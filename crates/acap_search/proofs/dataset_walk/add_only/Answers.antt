@@ -1,4 +1,3 @@
-use Rattle.std.proofs.Common.{sym, ◌∙◌, ap}
 use Rattle.acap_search.proofs.NamedLemmas.{named_some, named_found, named_none}
 use Rattle.acap_search.proofs.dataset_walk.add_only.Goals as goal
 

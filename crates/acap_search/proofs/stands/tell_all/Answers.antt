@@ -1,4 +1,4 @@
-use Rattle.std.proofs.Common.{◌≡◌, ◌++◌, ◌∷◌, [], arith, sym, ◌∙◌, ap}
+use Rattle.std.proofs.Common.{◌++◌, ◌∷◌, [], arith, sym, ◌∙◌, ap}
 use Rattle.std.proofs.lemmas.List.{map_more}
 use Rattle.acap_search.specs.Walks.{match_in}
 use Rattle.acap_search.proofs.stands.tell_all.Goals as goal
