@@ -1,12 +1,14 @@
 #!/usr/bin/env python3
 """Measures `acapd serve` beside a plain server: round trips a second, how long one takes, processor time and memory.
 
-    python3 bench/load.py PROGRAM [--rounds N] [--times N]
+    python3 bench/load.py PROGRAM [--other OTHER] [--row WORD] [--rounds N] [--times N]
 
 `bench/load/plain.c` is the measure: a thread for each connection, and one map under one mutex. `bench/load/ping.c` is the client.
 Both are built by `cc`. In each row the servers are measured by turns, each time one that was started anew, and of each the time with
 the most round trips counts. No figure is judged here; docs/CHECKS.md says what is wanted.
 
+    --other OTHER  measures another program by turns with it, in each row, and prints the ratio to it, too
+    --row WORD  measures only the rows whose names have it, and no memory
     --rounds N  round trips of a row (64,000); of a SEARCH a 4th or a 20th part
     --times N   how often each server is measured in each row (3)
 """
@@ -92,9 +94,11 @@ def memory(server):
 class Measure:
     """Starts the servers, and measures them."""
 
-    def __init__(self, program, folder, asked):
+    def __init__(self, folder, asked):
         self.asked, self.ping = asked, f"{folder}/ping"
-        self.kinds = {"acapd": lambda: Server(program, folder), "plain": lambda: Plain(f"{folder}/plain")}
+        self.kinds = {"acapd": lambda: Server(asked.program, folder), "plain": lambda: Plain(f"{folder}/plain")}
+        if asked.other:
+            self.kinds["other"] = lambda: Server(asked.other, folder)
 
     def once(self, make, sessions, count, command, part):
         """Round trips a second, the middle, 99 in 100 and greatest time, and the processor time of one, all in microseconds."""
@@ -112,8 +116,9 @@ class Measure:
                 best[kind] = max(best.get(kind, (0,)), self.once(make, sessions, *given))
         for kind, (rate, *times) in best.items():
             print(f"{name:34} {sessions:2} {kind:6}{rate:9,.0f}" + "".join(f"{time:10,.1f}" for time in times), flush=True)
-        ratios = [acapd / plain if plain else 0 for acapd, plain in zip(best["acapd"], best["plain"])]
-        print(f"{'':37} ratio {ratios[0]:9.2f}" + "".join(f"{ratio:10.2f}" for ratio in ratios[1:]), flush=True)
+        for kind in list(best)[1:]:
+            ratios = [acapd / other if other else 0 for acapd, other in zip(best["acapd"], best[kind])]
+            print(f"{'':31} beside {kind}{ratios[0]:9.2f}" + "".join(f"{ratio:10.2f}" for ratio in ratios[1:]), flush=True)
 
     def idle(self):
         """Octets of an idle session that is logged in."""
@@ -127,31 +132,43 @@ class Measure:
     def events(self):
         """Octets of an event, of 100,000."""
         for name, command in EVENTS:
-            with self.kinds["acapd"]() as server:
-                clients = [server.client("joe")]
-                fill(clients[0], 1_000)
-                ping(self.ping, clients, 1_000, 1_000, command)
-                before = memory(server)
-                ping(self.ping, clients, 100_000, 1_000, command)
-                print(f"memory of an event, {name}: {(memory(server) - before) / 100_000:,.0f} octets", flush=True)
+            for kind in self.kinds.keys() - {"plain"}:
+                self.event(kind, name, command)
+
+    def event(self, kind, name, command):
+        with self.kinds[kind]() as server:
+            clients = [server.client("joe")]
+            fill(clients[0], 1_000)
+            ping(self.ping, clients, 1_000, 1_000, command)
+            before = memory(server)
+            ping(self.ping, clients, 100_000, 1_000, command)
+            print(f"memory of an event, {name}, {kind}: {(memory(server) - before) / 100_000:,.0f} octets", flush=True)
+
+
+def whole(program):
+    """The whole name of a program's file."""
+    return str(pathlib.Path(program).resolve())
 
 
 def main():
     words = argparse.ArgumentParser(description=__doc__, formatter_class=argparse.RawDescriptionHelpFormatter)
-    words.add_argument("program")
+    words.add_argument("program", type=whole)
+    words.add_argument("--other", type=whole)
+    words.add_argument("--row", default="")
     words.add_argument("--rounds", type=int, default=64_000)
     words.add_argument("--times", type=int, default=3)
     asked = words.parse_args()
     with tempfile.TemporaryDirectory() as folder, contextlib.suppress(KeyboardInterrupt):
         for name in ("ping", "plain"):
             subprocess.run(["cc", "-O2", "-pthread", "-o", f"{folder}/{name}", f"{LOAD}/{name}.c"], check=True)
-        measure = Measure(str(pathlib.Path(asked.program).resolve()), folder, asked)
+        measure = Measure(folder, asked)
         print(f"{'':34}  sessions  trips/s" + "".join(f"{word:>10}" for word in ("p50 us", "p99 us", "most us", "cpu us")))
         for name, *given in ROWS:
-            for sessions in (1, 64):
+            for sessions in (1, 64) if asked.row in name else ():
                 measure.row(name, sessions, *given)
-        measure.idle()
-        measure.events()
+        if not asked.row:
+            measure.idle()
+            measure.events()
 
 
 if __name__ == "__main__":

@@ -13,7 +13,7 @@ static long rounds, count;
 static const char *command;
 static pthread_barrier_t start;
 
-struct session { int fd; unsigned random; double *times; };
+struct session { int fd; unsigned random; double *times, begun, ended; };
 
 static double now(void) {
     struct timespec it;
@@ -55,10 +55,12 @@ static void round_trip(struct session *session) {
 static void *run(void *given) {
     struct session *session = given;
     pthread_barrier_wait(&start);
+    session->begun = session->ended = now();
     for (long round = 0; round < rounds; round++) {
         double begun = now();
         round_trip(session);
-        session->times[round] = now() - begun;
+        session->ended = now();
+        session->times[round] = session->ended - begun;
     }
     return NULL;
 }
@@ -82,9 +84,14 @@ int main(int argc, char **argv) {
         if (pthread_create(&threads[i], NULL, run, &list[i])) { perror("pthread_create"); return 1; }
     }
     pthread_barrier_wait(&start);
-    double begun = now();
     for (int i = 0; i < sessions; i++) pthread_join(threads[i], NULL);
-    double seconds = (now() - begun) / 1e6;
+    // (on a busy machine this thread may be woken long after the others have begun)
+    double begun = list[0].begun, ended = list[0].ended;
+    for (int i = 1; i < sessions; i++) {
+        if (list[i].begun < begun) begun = list[i].begun;
+        if (list[i].ended > ended) ended = list[i].ended;
+    }
+    double seconds = (ended - begun) / 1e6;
     qsort(times, all, sizeof *times, by_size);
     printf("%ld %f %f %f %f\n", all, seconds, times[(all - 1) / 2], times[(all - 1) * 99 / 100], times[all - 1]);
     return 0;
