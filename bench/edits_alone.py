@@ -48,11 +48,15 @@ def indent_of(line):
 
 
 def type_of(line):
-    """Returns the name by which `rt check` calls a method's type: with the trait's behind it, where the impl is of one."""
-    head = re.sub(r"^impl(<(?:[^<>]|<[^<>]*>)*>)?\s*", "", line)
-    of_trait = re.match(r"([\w:]+)(?:<.*>)?\s+for\s+&?(\w+)", head)
+    """Returns the name by which `rt check` calls a method's type: with the trait's behind it, where the impl is of one, and behind
+    that the type that the trait is of. `Any` is a type that is a parameter of the impl."""
+    generics = re.match(r"^impl(<(?:[^<>]|<[^<>]*>)*>)?\s*", line)
+    head = line[generics.end():]
+    of_trait = re.match(r"([\w:]+)(?:<(.*)>)?\s+for\s+&?(\w+)", head)
     if of_trait:
-        return of_trait[2] + of_trait[1].split("::")[-1]
+        trait, of, name = of_trait.groups()
+        is_any = re.search(rf"[<,]\s*{name}\b", generics[1] or "")
+        return ("Any" if is_any else name) + trait.split("::")[-1] + (of if of and of.isalnum() else "")
     return re.match(r"&?(\w+)", head)[1]
 
 
