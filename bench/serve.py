@@ -11,6 +11,7 @@ import itertools
 import os
 import pathlib
 import random
+import resource
 import select
 import signal
 import socket
@@ -580,7 +581,8 @@ def _(server):
     done(other, 'STORE ("/freed/~/a" "k" "1")')
     found(slow, 'SEARCH "/freed/~/" MAKECONTEXT ENUMERATE NOTIFY "c" RETURN ("k") NOT EQUAL "entry" "i;octet" ""')
     value = "v" * 1_000
-    for number in range(6_000):
+    # (besides what the system holds, one drain may have as many notices as may wait, 4,096, and as many may wait behind it)
+    for number in range(12_000):
         done(other, f'STORE ("/freed/~/a" "k" "{value}{number}")')
     slow.send(b"B1 NOOP\r\n")
     told = slow.replies("B1")
@@ -749,12 +751,45 @@ def check_faults(program, folder):
     with socket.create_server(("127.0.0.1", 0)) as taken:
         for place in (f"127.0.0.1:{taken.getsockname()[1]}", "nowhere"):
             same((place, *run(program, "serve", settings_file(folder, place))), (place, *told("cannot listen")))
-    usage = (b"", b"usage: acapd pipe USER | script | serve FILE\n", 2)
-    same([run(program, "serve"), run(program, "serve", good, "more")], [usage] * 2)
 
 
-def run(program, *words):
-    ran = subprocess.run([program, *words], stdin=subprocess.DEVNULL, capture_output=True, timeout=20, check=False)
+CALLS = [[], ["x"], ["pipe"], ["pipe", "a/b"], ["pipe", "joe", "more"], ["script", "more"], ["serve"], ["serve", "settings", "more"]]
+LINE = b'* ACAP (IMPLEMENTATION "acapd") (SASL "CRAM-MD5") (CONTEXTLIMIT "200")\r\n'  # the greeting
+
+
+def check_calls(program, _folder):
+    """Words that are no call: the usage line on standard error alone, and status 2. Status 1 where that can't be written."""
+    for words in CALLS:
+        same((words, *run(program, *words)), (words, b"", b"usage: acapd pipe USER | script | serve FILE\n", 2))
+    with open("/dev/full", "wb") as full:
+        same([run(program, *words, stderr=full)[::2] for words in CALLS], [(b"", 1)] * len(CALLS))
+
+
+def check_lines(program, folder):
+    """The lines of faults, each with status 1: those of a server by `check_faults`, here all others, and memory. Nothing that is done to the
+    program from outside makes it report `history unequal`, so that this line alone isn't tried."""
+    def told(fault, out=b""):
+        return out, f"acapd: {fault}\n".encode(), 1
+
+    unreadable = os.open(folder, os.O_RDONLY)
+    same(run(program, "pipe", "joe", stdin=unreadable), told("cannot read", LINE))
+    same(run(program, "script", stdin=unreadable), told("cannot read"))
+    os.close(unreadable)
+    with open("/dev/full", "wb") as full:
+        same(run(program, "pipe", "joe", stdout=full), (None, *told("cannot write")[1:]))
+    for text, line in (b"x\n", 1), (b"user joe secret\nx\n", 2):
+        same((text, *run(program, "script", input=text)[1:]), (text, *told(f"bad script line {line}")[1:]))
+    large = pathlib.Path(folder) / "large.toml"
+    with open(large, "wb") as it:
+        it.truncate(1 << 31)
+    same(run(program, "serve", str(large), preexec_fn=lambda: resource.setrlimit(resource.RLIMIT_AS, (1 << 28, 1 << 28))), told("no memory"))
+    large.unlink()
+
+
+def run(program, *words, **given):
+    """What a call prints, and its status. It reads nothing and is held to no limit, but for what is given."""
+    given = {"stdout": subprocess.PIPE, "stderr": subprocess.PIPE} | ({} if "input" in given else {"stdin": subprocess.DEVNULL}) | given
+    ran = subprocess.run([program, *words], timeout=20, check=False, **given)
     return ran.stdout, ran.stderr, ran.returncode
 
 
@@ -763,6 +798,8 @@ OWN = {
     "start files": check_start,
     "sessions = 3, and then status 0": check_end,
     "faults at the start": check_faults,
+    "words that are no call": check_calls,
+    "lines of faults": check_lines,
 }
 
 
