@@ -31,12 +31,14 @@ use Rattle.acap_grammar.specs.declared.words.StoreWord.TheVariants as store_word
 use Rattle.acap_grammar.specs.Arguments as argument
 use Rattle.acap_grammar.specs.Grammar as grammar
 use Rattle.acap_grammar.specs.Keys as keys
-use Rattle.acap_grammar.specs.Laws.{FirstFault, place_in, fault_at}
+use Rattle.acap_grammar.specs.Laws.{BeginsCommand, FirstFault, place_in, fault_at}
 use Rattle.acap_grammar.specs.Marks as mark
 use Rattle.acap_grammar.specs.Outcome.{◌>>=◌, Fault, Read, fault_here, verdict_at}
 use Rattle.acap_grammar.specs.Searching as searching
 use Rattle.acap_grammar.specs.Storing as storing
 use Rattle.acap_commands.specs.Wanted.{Wanted}
+use Rattle.std.proofs.Math.Seq.{take-append_seam}
+use Rattle.acap_grammar.proofs.Viable.{line_viable}
 use Rattle.acap_grammar.proofs.Looking.{left_in, Front, Looks, At, Stops, Goes, bind, value, begins, by_token, behind_first, stops_there, past_first, choose, starting, ending, named, string, new_name, behind, worded, judged_first, worded_first, flagged, items, some_items, enclosed_items}
 
 -- ---- numbers and objects
@@ -399,11 +401,27 @@ missing tokens (Err d) e m p = by_left d.left refl where
       let same : length tokens - length d.left ≡ length tokens = (parts _ _ _ _ p).1 in
       absurd (omega (arith, ap (λ (ts : List Token). length ts) l, ap (λ (ts : List Token). length ts) g.whole, length-append g.front (t ∷ left)))
 
+viable : (tokens : List Token) (r : Result Command Fault) (e : CommandFault) (i : ℕ) → grammar.command_at tokens ≡ r → place_in tokens r ≡ Some (e, i) → i < length tokens → (e ≡ fault.TooDeep → ⊥)
+    → BeginsCommand (take i tokens)
+unfolding grammar.command_of
+viable tokens (Ok c) e i m p lt deep = absurd cc
+viable tokens (Err d) e i m p lt deep = by_left d.left refl where
+  by_left : (left : List Token) → d.left ≡ left → BeginsCommand (take i tokens)
+  by_left [] l = let same : length tokens - length d.left ≡ i = (parts _ _ _ _ p).1 in absurd (omega (arith, ap (λ (ts : List Token). length ts) l))
+  by_left (t ∷ left) l =
+      let told_is : d.fault ≡ e = (parts _ _ _ _ p).0 in
+      let g = line_viable tokens d t left m l (λ h. deep (sym told_is ∙ h)) in
+      let same : length tokens - length d.left ≡ i = (parts _ _ _ _ p).1 in
+      let index : length g.front ≡ i = omega (arith, ap (λ (ts : List Token). length ts) l, ap (λ (ts : List Token). length ts) g.whole, length-append g.front (t ∷ left)) in
+      let front : take i tokens ≡ g.front = ap (λ (k : ℕ). take k tokens) (sym index) ∙ ap (take (length g.front)) g.whole ∙ take-append_seam g.front (t ∷ left) in
+      record { others = g.others; what = g.what; is = ap (λ (ts : List Token). grammar.command_of (ts ++ g.others)) front ∙ ap grammar.without_place g.is }
+
 pub first_fault : FirstFault
 unfolding grammar.command_of
 first_fault = record {
   told = λ tokens e i p. told tokens (grammar.command_at tokens) e i p;
   within = λ tokens e i p. within tokens (grammar.command_at tokens) e i p;
   first = λ tokens others e i p lt. first tokens others (grammar.command_at tokens) e i refl p lt;
+  viable = λ tokens e i p lt deep. viable tokens (grammar.command_at tokens) e i refl p lt deep;
   missing = λ tokens e p. missing tokens (grammar.command_at tokens) e refl p;
 }

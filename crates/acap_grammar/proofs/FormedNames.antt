@@ -334,7 +334,7 @@ name_is n count (inr h) =
     let none : (length n == 0) ≡ false = let some = h.0.some in ne_eqb (length n) 0 (λ e. omega (arith, some, e)) in
     record { lacks = h.0.no_slash; good = rw none (by_component n h.0); few = rw none (omega (arith, h.1)) }
 
-path_is_good : (d n : List ℕ) (cs : List (List ℕ)) → IsMadeOf cs d → ((n ≡ []) × (length cs ≤ 16)) ⊎ (IsComponent n × (length cs < 16)) → length (d ++ n) ≤ 1024 → path_named (d ++ n) ≡ Ok (record { dataset = d; name = n })
+pub path_is_good : (d n : List ℕ) (cs : List (List ℕ)) → IsMadeOf cs d → ((n ≡ []) × (length cs ≤ 16)) ⊎ (IsComponent n × (length cs < 16)) → length (d ++ n) ≤ 1024 → path_named (d ++ n) ≡ Ok (record { dataset = d; name = n })
 unfolding path_named is_path
 path_is_good d n cs m name octets =
     let ends : ends_with slash d ≡ true = ap (ends_with slash) m.whole ∙ ends_closed cs in

@@ -7,6 +7,8 @@ pub mod SearchReads
 pub mod SpellingReads
 pub mod Growing
 pub mod Looking
+pub mod Mending
+pub mod Viable
 pub mod FaultPlaces
 pub mod Computing
 pub mod Ascending

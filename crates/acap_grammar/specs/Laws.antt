@@ -1,5 +1,5 @@
 -- What follows from the definitions alone.
-use Rattle.std.specs.Prelude.{◌≡◌, ℕ, ◌+◌, ◌-◌, ◌<◌, ◌≤◌, pos, ◌⊎◌, List, [], ◌∷◌, ◌++◌, length, take, replicate, codes, Option, Some, None, Result, Ok, Err}
+use Rattle.std.specs.Prelude.{◌≡◌, ◌≢◌, ℕ, ◌+◌, ◌-◌, ◌<◌, ◌≤◌, pos, ◌⊎◌, List, [], ◌∷◌, ◌++◌, length, take, replicate, codes, Option, Some, None, Result, Ok, Err}
 use Rattle.acap_lexer.specs.declared.kind.Kind.{Kind}
 use Rattle.acap_lexer.specs.declared.kind.Kind.TheVariants as kind
 use Rattle.acap_lexer.specs.Token.{Token}
@@ -49,12 +49,21 @@ place_in tokens (Err e) = Some (e.fault, length tokens - length e.left)
 abbrev pub fault_at : List Token → Option (CommandFault × ℕ)
 fault_at tokens = place_in tokens (command_at tokens)
 
--- the fault is the first from the left: what stands behind its token changes nothing, and it lies at the end only where
--- an argument or the verb is missing
+-- some command begins with these tokens
+pub record BeginsCommand (tokens : List Token) : Type 0 where
+  pub others : List Token
+  pub what : Command
+  pub is : command_of (tokens ++ others) ≡ Ok what
+
+-- The fault is the first from the left: what stands after its token changes nothing, and it lies at the end only where an
+-- argument or the verb is missing. It lies at the first token with which no command goes on: some command begins with
+-- those before it, but where a key would have too many levels.
 pub record FirstFault : Type 0 where
   pub told : (tokens : List Token) (e : CommandFault) (i : ℕ) → fault_at tokens ≡ Some (e, i) → command_of tokens ≡ Err e
   pub within : (tokens : List Token) (e : CommandFault) (i : ℕ) → fault_at tokens ≡ Some (e, i) → i ≤ length tokens
   pub first : (tokens others : List Token) (e : CommandFault) (i : ℕ) → fault_at tokens ≡ Some (e, i) → i < length tokens → fault_at (take (i + 1) tokens ++ others) ≡ Some (e, i)
+  pub viable : (tokens : List Token) (e : CommandFault) (i : ℕ) → fault_at tokens ≡ Some (e, i)
+      → i < length tokens → e ≢ fault.TooDeep → BeginsCommand (take i tokens)
   pub missing : (tokens : List Token) (e : CommandFault) → fault_at tokens ≡ Some (e, length tokens) → (e ≡ fault.Arguments) ⊎ (e ≡ fault.UnknownCommand)
 
 -- a token that lies there
