@@ -1,18 +1,22 @@
 #!/usr/bin/env python3
-"""Finds texts that no longer stand: what edits and scripts replace, and what documents name.
+"""Finds texts that no longer stand: what edits and scripts replace, and what documents name. The gate runs it before all else.
 
     python3 bench/texts.py
 
 It proves and runs nothing, and takes a second or two. It prints a line for each text that it misses, and fails where there is one:
 
-- the `old:` text of each edit, which must stand in its file exactly once, after the pairs before it are put in place;
+- the `old:` text of each edit, which must stand in its file exactly once, after the pairs before it are put in place; so must what
+  `bench/threads.py` and `bench/locked.py` replace;
 - each name in backticks of README.md and docs/: a file must be there, and each word of a name of code that has `_` or `::` in it (a function, a
-  clause, a law) must be a word of the sources or of a script.
+  clause, a law) must be a word of the sources or of a script;
+- each crate that makes a counter, or the parts of a ledger, and isn't one of the few that may: a body that counted in a counter of its own
+  would meet the bounds on work, which speak of the counter that is lent.
 """
 import functools
+import importlib.util
+import os
 import pathlib
 import re
-import subprocess
 import sys
 
 TOP = pathlib.Path(__file__).resolve().parent.parent
@@ -53,9 +57,12 @@ def stale_edits():
 
 @functools.cache
 def files():
-    """The files of the repository, those that are not committed yet too."""
-    told = subprocess.run(["git", "ls-files", "-co", "--exclude-standard"], cwd=TOP, capture_output=True, text=True, check=True)
-    return [TOP / name for name in told.stdout.split("\n") if name and (TOP / name).is_file()]
+    """The files of the repository, without what checks and runs leave."""
+    found = []
+    for folder, inner, names in os.walk(TOP):
+        inner[:] = sorted(set(inner) - {".git", "out", "__pycache__"})
+        found += [pathlib.Path(folder) / name for name in sorted(names)]
+    return found
 
 
 @functools.cache
@@ -89,8 +96,59 @@ def stale_names():
                     yield f"{page.relative_to(TOP)}:{number}: names what isn't there: {token}"
 
 
+def script(name):
+    """A script of this folder, of which nothing is run."""
+    spec = importlib.util.spec_from_file_location(name, TOP / "bench" / f"{name}.py")
+    module = importlib.util.module_from_spec(spec)
+    spec.loader.exec_module(module)
+    return module
+
+
+def replaced_by_scripts():
+    """What scripts replace: the script and the body, and its texts one after the other as (file, old text, new text)."""
+    threads, locked = script("threads"), script("locked")
+    for name, (edits, _) in (threads.BODIES | threads.SERVED).items():
+        yield f"bench/threads.py: {name}", edits
+    yield "bench/locked.py: the last epoch", [("crates/acap_locked/src/book.rt", *locked.LAST)]
+
+
+def stale_patches():
+    """A line for each text that a script replaces and that doesn't stand in its file exactly once."""
+    for name, edits in replaced_by_scripts():
+        texts = {}
+        for path, old, new in edits:
+            text = texts.get(path) or (TOP / path).read_text()
+            if text.count(old) != 1:
+                yield f"{name}: stands {text.count(old)} times in {path}: {old.strip()}"
+            texts[path] = text.replace(old, new)
+
+
+COUNTERS = re.compile(r"\bBlank\b|\bBrand\b|\bSteps::(<\w+>::)?new\b")
+
+# The crates that may make a counter or the parts of a ledger, and why.
+MAY_COUNT = {
+    "acap_entries": "has the counter's type",
+    "acap_locked": "splits the ledger of its passes, whose parts its caller hands in",
+    "acap_task": "counts what a source in memory gives again and again",
+    "acap_serving": "hands the ledgers of a server and its counter in",
+    "acap_rows": "a program",
+    "acapd": "a program",
+}
+
+
+def counting_crates():
+    """A line for each crate that makes a counter and may not. Crates of tests may."""
+    for crate in sorted((TOP / "crates").iterdir()):
+        if crate.name in MAY_COUNT or crate.name.endswith("_tests"):
+            continue
+        for file in sorted(crate.glob("src/**/*.rt")):
+            found = COUNTERS.search(file.read_text())
+            if found:
+                yield f"{file.relative_to(TOP)}: makes a counter of its own: {found[0]}"
+
+
 def main():
-    stale = [*stale_edits(), *stale_names()]
+    stale = [*stale_edits(), *stale_patches(), *stale_names(), *counting_crates()]
     print("\n".join(stale) or "every text stands")
     sys.exit(bool(stale))
 
