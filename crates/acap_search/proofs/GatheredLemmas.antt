@@ -1,5 +1,5 @@
 -- What is gathered, step by step.
-use Rattle.std.proofs.Common.{◌≡◌, ℕ, zero, suc, ◌+◌, ◌-◌, ◌≤◌, true, false, cond, Option, None, Some, List, [], ◌∷◌, ◌++◌, arith, refl, sym, ◌∙◌, ap, subst, append-nil, append_assoc, flat_map, length, length-append, take, map as each}
+use Rattle.std.proofs.Common.{◌≡◌, ◌⊎◌, inl, inr, ℕ, zero, suc, ◌+◌, ◌-◌, ◌≤◌, true, false, cond, Option, None, Some, List, [], ◌∷◌, ◌++◌, arith, refl, sym, ◌∙◌, ap, subst, append-nil, append_assoc, flat_map, length, length-append, take, map as each}
 use Rattle.std.proofs.lemmas.Bool.Decides.{nat_tests}
 use Rattle.std.proofs.lemmas.List.{length-map, map-append, take-map, take-take}
 use Rattle.std.specs.List.{cons_option, filter_map, Contains}
@@ -7,7 +7,7 @@ use Rattle.acap_entries.specs.declared.path.Path.{Path}
 use Rattle.acap_entries.specs.declared.record.Record.{Record}
 use Rattle.acap_entries.specs.declared.row.Row.{Row}
 use Rattle.acap_commands.specs.declared.limit.Limit.{Limit}
-use Rattle.acap_search.specs.Cutting.{cut_of, most_told}
+use Rattle.acap_search.specs.Cutting.{IsWished, cut_of, most_told}
 use Rattle.acap_search.specs.Gathering.{rows_of, told_of, none_told, told_with, none_in_order, none_in_turn, with_more, with_one, put_in_order, count_of, rows_at, first_in, IsFirst, IsGathered}
 use Rattle.acap_search.specs.Lying.{untold}
 use Rattle.acap_search.specs.Matches.{Match, match_lt, put_by, sorted_from, sorted_by}
@@ -155,6 +155,14 @@ told_within : (limit : Option Limit) (count : ℕ) → count ≤ 18_446_744_073_
 told_within None count less = less
 told_within (Some limit) count less = grind (arith, nat_tests)
 
+all_within : (limit : Option Limit) (count : ℕ) → count ≤ 18_446_744_073_709_551_615 → (cut_of limit count).told ≤ most_told None
+all_within None count less = less
+all_within (Some limit) count less = grind (arith, nat_tests)
+
+wished_within : (limit wished : Option Limit) (count : ℕ) → IsWished limit wished → count ≤ 18_446_744_073_709_551_615 → (cut_of limit count).told ≤ most_told wished
+wished_within limit wished count (inl e) less = subst (λ w. (cut_of limit count).told ≤ most_told w) (sym e) (told_within limit count less)
+wished_within limit wished count (inr e) less = subst (λ w. (cut_of limit count).told ≤ most_told w) (sym e) (all_within limit count less)
+
 module _ (quest : Quest) where
   -- each is what is made of the entry at its path
   abbrev pub AreMade : List Match → Type 0
@@ -177,11 +185,11 @@ module _ (quest : Quest) where
       ap (λ told. take n told.rows) h ∙ (take-take n (most_told limit) (rows_of matches) less ∙ take-map (λ m. m.row) n matches)
 
   -- the rows of as many first matches as LIMIT lets through, and the total
-  pub cut_so : (limit : Option Limit) (cut : Cut) (rows : List Row) (found : Gathered) (matches : List Match) (count : ℕ) → AreMade matches → IsFirst limit found matches
+  pub cut_so : (limit wished : Option Limit) (cut : Cut) (rows : List Row) (found : Gathered) (matches : List Match) (count : ℕ) → IsWished limit wished → AreMade matches → IsFirst wished found matches
       → count ≡ count_of found → count ≤ 18_446_744_073_709_551_615 → cut ≡ cut_of limit count → rows ≡ first_in quest cut.told found
       → (rows ≡ rows_of (take (cut_of limit (length matches)).told matches)) × (cut.total ≡ (cut_of limit (length matches)).total)
-  cut_so limit cut rows found matches count made h n less k r =
-      let many : count ≡ length matches = n ∙ first_many limit found matches h in
+  cut_so limit wished cut rows found matches count so made h n less k r =
+      let many : count ≡ length matches = n ∙ first_many wished found matches h in
       let known : cut ≡ cut_of limit (length matches) = k ∙ ap (cut_of limit) many in
-      let within : cut.told ≤ most_told limit = subst (λ cut. cut.told ≤ most_told limit) (sym k) (told_within limit count less) in
-      (r ∙ (first_so limit cut.told found matches within made h ∙ ap (λ cut. rows_of (take cut.told matches)) known), ap (λ cut. cut.total) known)
+      let within : cut.told ≤ most_told wished = subst (λ cut. cut.told ≤ most_told wished) (sym k) (wished_within limit wished count so less) in
+      (r ∙ (first_so wished cut.told found matches within made h ∙ ap (λ cut. rows_of (take cut.told matches)) known), ap (λ cut. cut.total) known)

@@ -1,5 +1,5 @@
 -- How many of the matches a SEARCH tells [RFC 2244 section 6.4.1].
-use Rattle.std.specs.Prelude.{◌≡◌, ℕ, max, min, nat_lt, List, length, take, Option, Some, None, if◌then◌else◌, map as each}
+use Rattle.std.specs.Prelude.{◌≡◌, ◌⊎◌, ℕ, max, min, nat_lt, List, length, take, Option, Some, None, if◌then◌else◌, map as each}
 use Rattle.acap_commands.specs.declared.limit.Limit.{Limit}
 use Rattle.acap_search.specs.Matches.{Match}
 use Rattle.acap_search.specs.declared.cutting.Cut.{Cut}
@@ -16,6 +16,10 @@ cut_of (Some limit) count =
 abbrev pub most_told : Option Limit → ℕ
 most_told None = 18_446_744_073_709_551_615
 most_told (Some limit) = max limit.over limit.most
+
+-- what is gathered for LIMIT: no more than it may let through, or all of it
+abbrev pub IsWished : Option Limit → Option Limit → Type 0
+IsWished limit wished = (wished ≡ limit) ⊎ (wished ≡ None)
 
 -- what is told of some matches: the rows of the first of them
 abbrev pub IsExcerpt : Option Limit → Excerpt → List Match → Type 0

@@ -1,9 +1,9 @@
 //! What a search tells.
 ghost use Rattle.acap_search.specs.Counting.{IsCounted, paths_count};
-ghost use Rattle.acap_search.specs.Cutting.{IsExcerpt};
+ghost use Rattle.acap_search.specs.Cutting.{IsExcerpt, IsWished};
 ghost use Rattle.acap_search.specs.Fresh.{IsAnswer};
 
-use crate::cutting::cut_by;
+use crate::cutting::{cut_by, most_told};
 use crate::gathered::tell_first;
 use crate::query::Query;
 use crate::quest::Quest;
@@ -25,6 +25,18 @@ pub struct Excerpt {
     pub total: Option<usize>,
 }
 
+// What is gathered for LIMIT of what is found among about so many entries: where it may keep nothing back, all of it, so that rows are
+// made at once. Either is right.
+fn wished(limit: Option<Limit>, count: usize) -> Option<Limit>
+    ensures { IsWished limit result }
+{
+    if most_told(limit) < count {
+        limit
+    } else {
+        None
+    }
+}
+
 /// What a SEARCH over a dataset tells: the rows of what `fresh` finds, of which LIMIT may keep some back. It is refused as
 /// `fresh` is, and counts as `fresh` does. Takes less memory than the hits would.
 pub fn tell<L: Ledger>(
@@ -39,7 +51,8 @@ pub fn tell<L: Ledger>(
     ensures count { IsCounted result steps.old steps.new (paths_count tree.now.store query.now.sought) }
     ensures told { IsAnswer tree.now.store.records realm.now user.now query.now (IsExcerpt limit) result }
 {
-    match answer(alloc, tree, realm, user, query, Wish::First(limit), steps) {
+    let wish = Wish::First(wished(limit, tree.len()));
+    match answer(alloc, tree, realm, user, query, wish, steps) {
         Ok(found) => {
             let cut = cut_by(limit, found.count());
             let search = Quest {

@@ -11,6 +11,6 @@ returns-in-Ok-tell_first-clause-told g c =
     let user = c.args.user.now in
     let sought = c.args.query.now.sought in (
       c.in-Ok.ensures.found.0,
-      cut_so (quest_of records realm user sought) c.args.limit c.cut_by-cut.result _ _ _ _ (made_by records realm user sought)
+      cut_so (quest_of records realm user sought) c.args.limit c.wished.result c.cut_by-cut.result _ _ _ _ c.wished.ensures (made_by records realm user sought)
           c.in-Ok.ensures.found.1 c.count.ensures (omega arith) c.cut_by-cut.ensures c.in-Ok-tell_first.ensures,
     )
