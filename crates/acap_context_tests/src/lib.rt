@@ -1,4 +1,5 @@
-//! Tests of contexts: what clients hold that follow what they are told, against what a search finds.
+//! Tests of contexts: what clients hold that follow what they are told, against what a search finds. And of calls on contexts, on what
+//! is inherited and on keys, that no program makes.
 #![tactic(auto)]
 
 #[cfg(test)]
@@ -7,6 +8,10 @@ mod client;
 mod dice;
 #[cfg(test)]
 mod following;
+#[cfg(test)]
+mod inherited;
+#[cfg(test)]
+mod opened;
 #[cfg(test)]
 mod world;
 #[cfg(test)]

@@ -18,13 +18,13 @@ pub(crate) struct World {
     sent: Vec<u8>,
 }
 
-// The seat with that number; one over 63 is 63.
-fn seat(number: u8) -> Seat {
+/// The seat with that number; one over 63 is 63.
+pub(crate) fn seat(number: u8) -> Seat {
     Seat::new(number.min(63)).unwrap()
 }
 
-// What a line comes to that must be read.
-fn command_of(alloc: Global, line: &[u8]) -> Result<Command, Wrong> {
+/// What a line comes to that must be read.
+pub(crate) fn command_of(alloc: Global, line: &[u8]) -> Result<Command, Wrong> {
     let mut lexer = Lexer::new(alloc);
     if lexer.push(line).is_err() || lexer.push(b"\r\n").is_err() {
         return Err(Wrong::Memory);
@@ -60,6 +60,11 @@ impl World {
     /// An equal machine, to which nothing was sent.
     pub(crate) fn copy(&self) -> Result<World, Memory> {
         World::of(self.alloc, self.machine.copy()?)
+    }
+
+    /// The machine.
+    pub(crate) fn state(&self) -> &State {
+        &self.machine
     }
 
     /// What was sent.

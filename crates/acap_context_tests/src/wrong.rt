@@ -1,7 +1,7 @@
 //! What can go wrong in a trial.
 
 use acap_commands::Fault;
-use acap_entries::Memory;
+use acap_entries::{Memory, NameFault};
 use acap_notices::HeldFault;
 
 /// What went wrong in a trial.
@@ -36,6 +36,16 @@ pub(crate) enum Wrong {
 impl From<Memory> for Wrong {
     fn from(_memory: Memory) -> Wrong {
         Wrong::Memory
+    }
+}
+
+impl From<NameFault> for Wrong {
+    fn from(fault: NameFault) -> Wrong {
+        if fault == NameFault::Memory {
+            Wrong::Memory
+        } else {
+            Wrong::Unread
+        }
     }
 }
 
