@@ -9,6 +9,8 @@ mod calls;
 #[cfg(test)]
 mod client;
 #[cfg(test)]
+mod devices;
+#[cfg(test)]
 mod failing;
 #[cfg(test)]
 mod gate;
