@@ -8,6 +8,10 @@ pub mod SpellingReads
 pub mod Growing
 pub mod Looking
 pub mod Mending
+pub mod ViableParts
+pub mod ViableItems
+pub mod ViableStores
+pub mod ViableSearches
 pub mod Viable
 pub mod FaultPlaces
 pub mod Computing
