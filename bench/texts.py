@@ -43,16 +43,21 @@ def pairs_of(edit):
             yield path, old, line.removeprefix("new:").removeprefix(" ")
 
 
+def stale_pairs(what, folder, pairs):
+    """A line for each old text that doesn't stand in its file of a folder exactly once, after the pairs before it are put in place."""
+    texts = {}
+    for path, old, new in pairs:
+        text = texts.get(path) or (folder / path).read_text()
+        if text.count(old) != 1:
+            yield f"{what}: stands {text.count(old)} times in {path}: {old.strip()}"
+        texts[path] = text.replace(old, new)
+
+
 def stale_edits():
     """A line for each text of an edit that doesn't stand in its file exactly once."""
     for edit in sorted(it for it in files() if it.suffix == ".edit"):
         crate = edit.parent.name if edit.parent.name != "must-fail" else edit.parent.parent.name
-        texts = {}
-        for path, old, new in pairs_of(edit):
-            text = texts.get(path) or (TOP / "crates" / crate / path).read_text()
-            if text.count(old) != 1:
-                yield f"{edit.relative_to(TOP)}: stands {text.count(old)} times in {path}: {old.strip()}"
-            texts[path] = text.replace(old, new)
+        yield from stale_pairs(edit.relative_to(TOP), TOP / "crates" / crate, pairs_of(edit))
 
 
 @functools.cache
@@ -115,12 +120,7 @@ def replaced_by_scripts():
 def stale_patches():
     """A line for each text that a script replaces and that doesn't stand in its file exactly once."""
     for name, edits in replaced_by_scripts():
-        texts = {}
-        for path, old, new in edits:
-            text = texts.get(path) or (TOP / path).read_text()
-            if text.count(old) != 1:
-                yield f"{name}: stands {text.count(old)} times in {path}: {old.strip()}"
-            texts[path] = text.replace(old, new)
+        yield from stale_pairs(name, TOP, edits)
 
 
 COUNTERS = re.compile(r"\bBlank\b|\bBrand\b|\bSteps::(<\w+>::)?new\b")
