@@ -33,7 +33,8 @@ pub record View : Type 0 where
   pub dataset : List ℕ
   pub chain : List (List ℕ)
 
--- a user, at the entries of a dataset along its chain, or in the dataset alone where nothing is to be inherited
+-- a user, at the entries of a dataset along its chain, or in the dataset alone where nothing is to be
+-- inherited
 abbrev pub view_of : Stored → Realm → List ℕ → Bool → List ℕ → View
 view_of records realm user no_inherit dataset = record {
   records = records;

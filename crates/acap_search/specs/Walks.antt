@@ -10,14 +10,13 @@ use Rattle.acap_entries.specs.contracts.path.Path as path
 use Rattle.acap_entries.specs.contracts.record.Record as row
 use Rattle.acap_entries.specs.declared.path.Path.{Path}
 use Rattle.acap_entries.specs.declared.record.Record.{Record}
-use Rattle.acap_inherit.specs.Chains.{chain_of}
 use Rattle.acap_inherit.specs.EntryNames.{names_on}
 use Rattle.acap_rights.specs.contracts.realm.Realm as realm
 use Rattle.acap_rights.specs.declared.realm.Realm.{Realm}
 use Rattle.acap_search.specs.Fresh.{Sight, sight_of, matches_of, paths_of}
 use Rattle.acap_search.specs.Matches.{Match}
 use Rattle.acap_search.specs.Scopes.{scope_of, beneath, datasets_of, reached_by}
-use Rattle.acap_search.specs.Views.{View, spot_in, found_at, match_at}
+use Rattle.acap_search.specs.Views.{View, view_of, spot_in, found_at, match_at}
 use Rattle.acap_search.specs.Within.{matches_in, numbered_paths, paths_shown, tuple_at, tuple_within}
 use Rattle.acap_search.specs.contracts.query.Sought as query
 use Rattle.acap_search.specs.declared.query.Sought.{Sought}
@@ -38,13 +37,7 @@ sight_by quest = sight_of quest.records quest.realm quest.user (scope_of quest.s
 
 -- a dataset in the eyes of its user, along the chain of the dataset
 abbrev pub view_in : Quest → List ℕ → View
-view_in quest dataset = record {
-  records = quest.records;
-  realm = quest.realm;
-  user = quest.user;
-  dataset = dataset;
-  chain = chain_of quest.records dataset quest.sought.no_inherit;
-}
+view_in quest dataset = view_of quest.records quest.realm quest.user quest.sought.no_inherit dataset
 
 -- what is made of the entry at a path, seen and wanted or not
 abbrev pub match_in : Quest → Path → Match
