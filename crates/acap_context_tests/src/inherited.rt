@@ -1,4 +1,5 @@
-//! Tests of what the entries of a dataset inherit, and of whether a key wants one of them, apart from a search: no program asks for that.
+//! Tests of what the entries of a dataset inherit, and of whether a key wants one of them, apart from a
+//! search: no program asks for that.
 ghost use Rattle.std.specs.Prelude.{◌≡◌, ◌<◌};
 
 use crate::dice::join;
@@ -25,7 +26,8 @@ const CHAIN: [&[u8]; 2] = [b"/option/user/joe/h/", b"/option/user/joe/b/"];
 /// A value: the dataset of the chain where it lies, and its strings.
 type Wanted = Option<(usize, &'static [&'static [u8]])>;
 
-/// An attribute of an entry of the dataset that inherits, what it resolves to, and what where nothing is inherited.
+/// An attribute of an entry of the dataset that inherits, what it resolves to, and what where nothing is
+/// inherited.
 const FOUND: [(&[u8], &[u8], Wanted, Wanted); 9] = [
     (b"font", b"option.value", Some((1, &[b"mono"])), None),
     (b"font", b"k", Some((1, &[b"1", b"2"])), None),
@@ -53,7 +55,8 @@ const FOUND: [(&[u8], &[u8], Wanted, Wanted); 9] = [
     ),
 ];
 
-/// A key, an entry of the dataset that inherits, its position, and whether the key wants it for joe, and for ann, who sees nothing.
+/// A key, an entry of the dataset that inherits, its position, and whether the key wants it for joe, and for
+/// ann, who sees nothing.
 struct MatchRow {
     key: &'static [u8],
     name: &'static [u8],

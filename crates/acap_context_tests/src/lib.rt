@@ -1,5 +1,5 @@
-//! Tests of contexts: what clients hold that follow what they are told, against what a search finds. And of calls on contexts, on what
-//! is inherited and on keys, that no program makes.
+//! Tests of contexts: what clients hold that follow what they are told, against what a search finds. And of
+//! calls on contexts, on what is inherited and on keys, that no program makes.
 #![tactic(auto)]
 
 #[cfg(test)]

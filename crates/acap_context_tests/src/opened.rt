@@ -8,8 +8,8 @@ use acap_search::{Hits, Sought};
 use acap_views::{ViewRefusal, Views};
 use std::alloc::Global;
 
-/// Whether the context `v` of the first seat has NOTIFY; at which seat an UPDATECONTEXT comes, and for which names; and why it is
-/// refused, if it is. Else all that it tells is the last moment, for each name.
+/// Whether the context `v` of the first seat has NOTIFY; at which seat an UPDATECONTEXT comes, and for which
+/// names; and why it is refused, if it is. Else all that it tells is the last moment, for each name.
 struct UpdateRow {
     notify: bool,
     seat: u8,

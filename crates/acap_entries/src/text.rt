@@ -1,4 +1,5 @@
-//! The texts of a server: attributes, entries, users, contexts and labels, each a string of octets of its own kind.
+//! The texts of a server: attributes, entries, users, contexts and labels, each a string of octets of its own
+//! kind.
 ghost use Rattle.std.specs.Prelude.{◌≡◌, ◌↔◌, ◌++◌, [], ℕ, List, Bool, nat_eq, refl};
 ghost use Rattle.std.specs.Prelude.{IfOk, OnOk, IsTrue, Err, Some, true, false};
 ghost use Rattle.std.specs.Cmp.Lexicographic.{pointwise, slice_cmp, texts_ties, texts_po};
@@ -30,8 +31,8 @@ pub type ContextName = Text<ContextKind>;
 /// The name of a user.
 pub type UserName = Text<UserKind>;
 
-/// Octets that are only printed or compared, as the name of a row or an identifier: no value that is kept. Few of them stand in
-/// place, and take no memory of their own.
+/// Octets that are only printed or compared, as the name of a row or an identifier: no value that is kept.
+/// Few of them stand in place, and take no memory of their own.
 pub type Label = Text<LabelKind>;
 
 /// The octets of a dataset's name.

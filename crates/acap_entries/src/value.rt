@@ -14,8 +14,8 @@ use std::alloc::Global;
 use std::cmp::Ordering;
 use std::marker::Model;
 
-/// A string of octets that an attribute may have (RFC 2244 section 3.1), ordered octet by octet with a proper prefix first.
-/// A copy holds the same octets.
+/// A string of octets that an attribute may have (RFC 2244 section 3.1), ordered octet by octet with a proper
+/// prefix first. A copy holds the same octets.
 #[derive(Drop)]
 pub struct Value {
     octets: Bytes,
@@ -30,7 +30,8 @@ impl Model for Value {
 }
 
 impl Value {
-    /// Any octets as they are, in the memory that they have and a count beside them. Fails only for want of memory.
+    /// Any octets as they are, in the memory that they have and a count beside them. Fails only for want of
+    /// memory.
     pub fn new(octets: Octets) -> Result<Value, Memory>
         ensures { IfOk result (λ made. made ≡ octets) }
     {

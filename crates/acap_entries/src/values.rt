@@ -11,8 +11,8 @@ use std::alloc::Global;
 use std::marker::Model;
 use std::sync::Arc;
 
-/// A list of strings, as a multi-valued attribute or an access control list has (RFC 2244 section 3.1). A copy holds the same
-/// list, whatever its length.
+/// A list of strings, as a multi-valued attribute or an access control list has (RFC 2244 section 3.1). A
+/// copy holds the same list, whatever its length.
 #[derive(Drop)]
 pub struct Values {
     held: Arc<Sequence<Value>, Global>,

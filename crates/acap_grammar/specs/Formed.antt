@@ -84,8 +84,9 @@ abbrev pub IsFormedReturn : ReturnName → Type 0
 IsFormedReturn (name.Named attribute) = IsFormedAttribute attribute
 IsFormedReturn (name.Beginning front) = (front ≡ []) ⊎ IsFormedAttribute front
 
--- Exactly these are read as names: an attribute and a context as they are, a path as its octets, a dataset with its closing
--- slash or without it, in 1,024 octets as it is sent, and what a RETURN names with a `*` after the beginning of names.
+-- Exactly these are read as names: an attribute and a context as they are, a path as its octets, a dataset
+-- with its closing slash or without it, in 1,024 octets as it is sent, and what a RETURN names with a `*`
+-- after the beginning of names.
 pub record NamesLaw : Type 0 where
   pub attribute : (text a : List ℕ) → (attribute_named text ≡ Ok a) ↔ ((text ≡ a) × IsFormedAttribute a)
   pub context : (text c : List ℕ) → (context_named text ≡ Ok c) ↔ ((text ≡ c) × IsFormedContext c)

@@ -1,5 +1,6 @@
 -- What follows from the definitions alone.
-use Rattle.std.specs.Prelude.{◌≡◌, ◌≢◌, ℕ, ◌+◌, ◌-◌, ◌<◌, ◌≤◌, pos, ◌⊎◌, List, [], ◌∷◌, ◌++◌, length, take, replicate, codes, Option, Some, None, Result, Ok, Err}
+use Rattle.std.specs.Prelude.{◌≡◌, ◌≢◌, ℕ, ◌+◌, ◌-◌, ◌<◌, ◌≤◌, pos, ◌⊎◌, List, [], ◌∷◌, ◌++◌, length, take}
+use Rattle.std.specs.Prelude.{replicate, codes, Option, Some, None, Result, Ok, Err}
 use Rattle.acap_lexer.specs.declared.kind.Kind.{Kind}
 use Rattle.acap_lexer.specs.declared.kind.Kind.TheVariants as kind
 use Rattle.acap_lexer.specs.Token.{Token}
@@ -55,16 +56,19 @@ pub record BeginsCommand (tokens : List Token) : Type 0 where
   pub what : Command
   pub is : command_of (tokens ++ others) ≡ Ok what
 
--- The fault is the first from the left: what stands after its token changes nothing, and it lies at the end only where an
--- argument or the verb is missing. It lies at the first token with which no command goes on: some command begins with
--- those before it, but where a key would have too many levels.
+-- The fault is the first from the left: what stands after its token changes nothing, and it lies at the end
+-- only where an argument or the verb is missing. It lies at the first token with which no command goes on:
+-- some command begins with those before it, but where a key would have too many levels.
 pub record FirstFault : Type 0 where
-  pub told : (tokens : List Token) (e : CommandFault) (i : ℕ) → fault_at tokens ≡ Some (e, i) → command_of tokens ≡ Err e
+  pub told : (tokens : List Token) (e : CommandFault) (i : ℕ) → fault_at tokens ≡ Some (e, i)
+      → command_of tokens ≡ Err e
   pub within : (tokens : List Token) (e : CommandFault) (i : ℕ) → fault_at tokens ≡ Some (e, i) → i ≤ length tokens
-  pub first : (tokens others : List Token) (e : CommandFault) (i : ℕ) → fault_at tokens ≡ Some (e, i) → i < length tokens → fault_at (take (i + 1) tokens ++ others) ≡ Some (e, i)
+  pub first : (tokens others : List Token) (e : CommandFault) (i : ℕ) → fault_at tokens ≡ Some (e, i)
+      → i < length tokens → fault_at (take (i + 1) tokens ++ others) ≡ Some (e, i)
   pub viable : (tokens : List Token) (e : CommandFault) (i : ℕ) → fault_at tokens ≡ Some (e, i)
       → i < length tokens → e ≢ fault.TooDeep → BeginsCommand (take i tokens)
-  pub missing : (tokens : List Token) (e : CommandFault) → fault_at tokens ≡ Some (e, length tokens) → (e ≡ fault.Arguments) ⊎ (e ≡ fault.UnknownCommand)
+  pub missing : (tokens : List Token) (e : CommandFault) → fault_at tokens ≡ Some (e, length tokens)
+      → (e ≡ fault.Arguments) ⊎ (e ≡ fault.UnknownCommand)
 
 -- a token that lies there
 abbrev pub at : Kind → List ℕ → ℕ → ℕ → Token

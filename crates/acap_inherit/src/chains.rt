@@ -43,8 +43,8 @@ pub fn chain<'a, R: Records>(records: &'a R, dataset: &'a Dataset) -> Lineage<'a
     follow_bases(records, dataset.as_slice())
 }
 
-/// The chain of a dataset, or the dataset alone where nothing is to be inherited, as under NOINHERIT (RFC 2244 section
-/// 6.4.1). Takes no memory.
+/// The chain of a dataset, or the dataset alone where nothing is to be inherited, as under NOINHERIT (RFC
+/// 2244 section 6.4.1). Takes no memory.
 pub fn chain_unless<'a, R: Records>(
     records: &'a R,
     dataset: &'a Dataset,

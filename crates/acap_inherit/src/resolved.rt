@@ -45,8 +45,9 @@ impl Resolved {
         }
     }
 
-    /// What an attribute of an entry resolves to, as `resolve` answers it, or in the dataset alone where nothing is to be
-    /// inherited. Each dataset of the chain is looked up. Takes no memory (RFC 2244 sections 5.1 and 5.2).
+    /// What an attribute of an entry resolves to, as `resolve` answers it, or in the dataset alone where
+    /// nothing is to be inherited. Each dataset of the chain is looked up. Takes no memory (RFC 2244 sections
+    /// 5.1 and 5.2).
     pub fn get<'a, R: Records>(
         &self,
         records: &'a R,

@@ -4,7 +4,8 @@ ghost use Rattle.std.specs.Int.{int_max};
 ghost use Rattle.std.specs.Option.{option_copied, option_map_or};
 ghost use Rattle.acap_inherit.specs.Records as kept;
 ghost use Rattle.acap_inherit.specs.Resolving as rule;
-ghost use Rattle.acap_inherit.specs.Values.{Resolves, entry_along, found_of, modtime_along, names_of, value_along};
+ghost use Rattle.acap_inherit.specs.Values.{Resolves, entry_along, found_of, modtime_along};
+ghost use Rattle.acap_inherit.specs.Values.{names_of, value_along};
 
 use crate::chains::chain;
 use crate::found::Found;
@@ -178,8 +179,8 @@ pub fn lookup<'a, R: Records>(
     }
 }
 
-/// What an attribute of an entry of a dataset resolves to: as `lookup` along the dataset's chain (RFC 2244 sections 3.1.1
-/// and 5.1). Takes no memory.
+/// What an attribute of an entry of a dataset resolves to: as `lookup` along the dataset's chain (RFC 2244
+/// sections 3.1.1 and 5.1). Takes no memory.
 pub fn resolve<'a, R: Records>(
     records: &'a R,
     dataset: &'a Dataset,

@@ -4,7 +4,8 @@ use acap_entries::{Dataset, UserName};
 use acap_rights::is_owner;
 use std::alloc::Global;
 
-/// A user and a dataset, and whether it is the user's own. In the last three USER of `/option/user/USER/` is no user's name.
+/// A user and a dataset, and whether it is the user's own. In the last three USER of `/option/user/USER/` is
+/// no user's name.
 const ROWS: [(&[u8], &[u8], bool); 14] = [
     (b"joe", b"/option/user/joe/", true),
     (b"joe", b"/option/user/joe/a/b/", true),

@@ -1,5 +1,5 @@
-//! Tests of the lexer, of names, homes, ranked items, settings and a session, for what no law and no row says, and for the calls that
-//! no program makes.
+//! Tests of the lexer, of names, homes, ranked items, settings and a session, for what no law and no row
+//! says, and for the calls that no program makes.
 #![tactic(auto)]
 
 #[cfg(test)]

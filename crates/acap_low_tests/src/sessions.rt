@@ -15,7 +15,8 @@ enum Asks {
     Frees,
 }
 
-/// A turn of a session: a piece of its client's octets, what it asks for then, what it says then, and whether it is over.
+/// A turn of a session: a piece of its client's octets, what it asks for then, what it says then, and whether
+/// it is over.
 struct Turn {
     piece: &'static [u8],
     asks: Option<Asks>,

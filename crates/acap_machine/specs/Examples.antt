@@ -116,7 +116,8 @@ pub record ServingExamples : Type 0 where
   pub missing : (found : SearchReply) → map (λ because. found_unless home (Some because) found) (refusal.RangeHere ∷ refusal.NoExist ∷ refusal.WayTooMany ∷ [])
       ≡ said.Refused refusals.RangeHere ∷ said.Refused (refusals.NoExist home) ∷ said.Refused refusals.WayTooMany ∷ []
   -- of contexts each refusal is told as itself
-  pub of_contexts : map view_refused_as (view.TryFreeContext ∷ view.NoContext ∷ view.FreedContext ∷ view.NotNotify ∷ [])
+  pub of_contexts :
+      map view_refused_as (view.TryFreeContext ∷ view.NoContext ∷ view.FreedContext ∷ view.NotNotify ∷ [])
       ≡ refusals.TryFreeContext ∷ refusals.NoContext ∷ refusals.FreedContext ∷ refusals.NotNotify ∷ []
   -- of three matches LIMIT 2 1 tells one, and the context keeps all three
   pub keeps : (m : Machine) (seat : ℕ) (clock : ℤ) (a b c : Match) (seats : Seated) → refusal_of m.store.records m.realm joe kept_query ≡ None
@@ -124,7 +125,8 @@ pub record ServingExamples : Type 0 where
       → answer_to m seat joe (command.Search (all_in home keeping)) clock ≡ (said.Searched (record { rows = []; last = None; total = Some 3 }), record m { seats = seats })
   -- where there is no place for it nothing is told, and a search that is refused otherwise is refused so
   pub no_place : (m : Machine) (seat : ℕ) (clock : ℤ) → refusal_of m.store.records m.realm joe kept_query ≡ None
-      → with_context m.seats seat enumerate_notify kept_query.sought (matches_of m.store.records m.realm joe kept_query.sought) m.store.last ≡ Err view.TryFreeContext
+      → with_context m.seats seat enumerate_notify kept_query.sought
+      (matches_of m.store.records m.realm joe kept_query.sought) m.store.last ≡ Err view.TryFreeContext
       → answer_to m seat joe (command.Search (all_in home keeping)) clock ≡ (said.Refused refusals.TryFreeContext, m)
   pub no_dataset : (m : Machine) (seat : ℕ) (clock : ℤ) → refusal_of m.store.records m.realm joe kept_query ≡ Some refusal.NoExist
       → answer_to m seat joe (command.Search (all_in home keeping)) clock ≡ (said.Refused (refusals.NoExist home), m)

@@ -1,5 +1,6 @@
 -- How many of the matches a SEARCH tells [RFC 2244 section 6.4.1].
-use Rattle.std.specs.Prelude.{◌≡◌, ◌⊎◌, ℕ, max, min, nat_lt, List, length, take, Option, Some, None, if◌then◌else◌, map as each}
+use Rattle.std.specs.Prelude.{◌≡◌, ◌⊎◌, ℕ, max, min, nat_lt, List, length, take, Option, Some, None}
+use Rattle.std.specs.Prelude.{if◌then◌else◌, map as each}
 use Rattle.acap_commands.specs.declared.limit.Limit.{Limit}
 use Rattle.acap_search.specs.Matches.{Match}
 use Rattle.acap_search.specs.declared.cutting.Cut.{Cut}
@@ -12,7 +13,8 @@ cut_of (Some limit) count =
     if nat_lt limit.over count then record { told = min count limit.most; total = Some count }
     else record { told = count; total = None }
 
--- how many are told at most, whatever their number: words of private contracts. Without LIMIT as many as can be counted
+-- how many are told at most, whatever their number: words of private contracts. Without LIMIT as many as can
+-- be counted
 abbrev pub most_told : Option Limit → ℕ
 most_told None = 18_446_744_073_709_551_615
 most_told (Some limit) = max limit.over limit.most

@@ -34,16 +34,20 @@ pub record SightLaw : Type 0 where
       → IsSameSight (sight_of old realm user (scope_of sought)) (sight_of new other second (scope_of sought))
       → fresh_of (sight_of old realm user (scope_of sought)) sought ≡ fresh_of (sight_of new other second (scope_of sought)) sought
 
--- a path out of the scope has no tuple, and any other the one that is made of the answers about its entry, if that is seen; so what is
--- made of an entry in the scope is its tuple
+-- a path out of the scope has no tuple, and any other the one that is made of the answers about its entry, if
+-- that is seen; so what is made of an entry in the scope is its tuple
 pub record TupleLaw : Type 0 where
-  pub outside : (records : Stored) (realm : Realm) (user : List ℕ) (sought : Sought) (path : Path) → ¬ (Contains (datasets_of records (scope_of sought)) path.dataset)
+  pub outside : (records : Stored) (realm : Realm) (user : List ℕ) (sought : Sought) (path : Path)
+      → ¬ (Contains (datasets_of records (scope_of sought)) path.dataset)
       → tuple_of (sight_of records realm user (scope_of sought)) sought path ≡ None
-  pub inside : (records : Stored) (realm : Realm) (user : List ℕ) (sought : Sought) (path : Path) → Contains (datasets_of records (scope_of sought)) path.dataset
+  pub inside : (records : Stored) (realm : Realm) (user : List ℕ) (sought : Sought) (path : Path)
+      → Contains (datasets_of records (scope_of sought)) path.dataset
       → tuple_of (sight_of records realm user (scope_of sought)) sought path
       ≡ seen_tuple sought None path (answers_on records realm user sought.no_inherit path)
-      (stars_of (answers_on records realm user sought.no_inherit path).read (attributes_at records path.name (chain_of records path.dataset sought.no_inherit)))
-  pub found : (records : Stored) (realm : Realm) (user : List ℕ) (sought : Sought) (path : Path) → Contains (datasets_of records (scope_of sought)) path.dataset
+      (stars_of (answers_on records realm user sought.no_inherit path).read
+      (attributes_at records path.name (chain_of records path.dataset sought.no_inherit)))
+  pub found : (records : Stored) (realm : Realm) (user : List ℕ) (sought : Sought) (path : Path)
+      → Contains (datasets_of records (scope_of sought)) path.dataset
       → found_at sought None (spot_in (view_of records realm user sought.no_inherit path.dataset) path.name)
       ≡ tuple_of (sight_of records realm user (scope_of sought)) sought path
 

@@ -18,16 +18,23 @@ pub record AreSoundWrites (written : Written) (old new : Stored) : Type 0 where
   pub after : IsSoundStore new
   pub stays : (dataset : List ℕ) → dataset_exists old dataset ≡ true → dataset_exists new dataset ≡ true
 
--- A path that a change doesn't touch is in sight before it exactly where it is afterwards, and has the same tuple: the same row and the same
--- places. A dataset that existed is looked through before exactly where it is afterwards; where the searched one existed, no other is.
+-- A path that a change doesn't touch is in sight before it exactly where it is afterwards, and has the same
+-- tuple: the same row and the same places. A dataset that existed is looked through before exactly where it
+-- is afterwards; where the searched one existed, no other is.
 pub record TouchedLaw : Type 0 where
-  pub sight : (written : Written) (old new : Stored) → AreSoundWrites written old new → (realm : Realm) (user : List ℕ) (scope : Scope)
-      → (path : Path) → is_touched written old new path ≡ false
-      → Contains (sight_of old realm user scope).paths path ↔ Contains (sight_of new realm user scope).paths path
-  pub tuples : (written : Written) (old new : Stored) → AreSoundWrites written old new → (realm : Realm) (user : List ℕ) (sought : Sought)
-      → (path : Path) → is_touched written old new path ≡ false
-      → tuple_of (sight_of old realm user (scope_of sought)) sought path ≡ tuple_of (sight_of new realm user (scope_of sought)) sought path
-  pub datasets : (written : Written) (old new : Stored) → AreSoundWrites written old new → (scope : Scope)
-      → (dataset : List ℕ) → dataset_exists old dataset ≡ true → Contains (datasets_of old scope) dataset ↔ Contains (datasets_of new scope) dataset
-  pub only : (written : Written) (old new : Stored) → AreSoundWrites written old new → (scope : Scope) → dataset_exists old scope.dataset ≡ true
+  pub sight : (written : Written) (old new : Stored) → AreSoundWrites written old new
+      → (realm : Realm) (user : List ℕ) (scope : Scope) (path : Path)
+      → is_touched written old new path ≡ false
+      → Contains (sight_of old realm user scope).paths path
+      ↔ Contains (sight_of new realm user scope).paths path
+  pub tuples : (written : Written) (old new : Stored) → AreSoundWrites written old new
+      → (realm : Realm) (user : List ℕ) (sought : Sought) (path : Path)
+      → is_touched written old new path ≡ false
+      → tuple_of (sight_of old realm user (scope_of sought)) sought path
+      ≡ tuple_of (sight_of new realm user (scope_of sought)) sought path
+  pub datasets : (written : Written) (old new : Stored) → AreSoundWrites written old new
+      → (scope : Scope) (dataset : List ℕ) → dataset_exists old dataset ≡ true
+      → Contains (datasets_of old scope) dataset ↔ Contains (datasets_of new scope) dataset
+  pub only : (written : Written) (old new : Stored) → AreSoundWrites written old new
+      → (scope : Scope) → dataset_exists old scope.dataset ≡ true
       → (dataset : List ℕ) → Contains (datasets_of old scope) dataset → dataset_exists old dataset ≡ true

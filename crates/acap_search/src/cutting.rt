@@ -30,7 +30,8 @@ pub fn cut_by(limit: Option<Limit>, count: usize) -> Cut
     }
 }
 
-/// How many matches of a SEARCH are told at most, whatever their number: the greater of both numbers of LIMIT.
+/// How many matches of a SEARCH are told at most, whatever their number: the greater of both numbers of
+/// LIMIT.
 pub(crate) fn most_told(limit: Option<Limit>) -> usize
     ensures { result ≡ rule.most_told limit }
 {

@@ -51,8 +51,8 @@ impl<'a> Gathered<'a> {
         }
     }
 
-    /// One more, where something is found: one step. The path is that of the entry's record, where it is at hand. Fails for want of
-    /// memory, and where there are more than can be counted.
+    /// One more, where something is found: one step. The path is that of the entry's record, where it is at
+    /// hand. Fails for want of memory, and where there are more than can be counted.
     #[tactic(auto, unfolding(crate::specs::Gathering::with_more))]
     pub(crate) fn add_at<R: Records, L: Ledger>(
         &mut self,

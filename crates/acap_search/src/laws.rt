@@ -46,7 +46,8 @@ pub fn seen_law()
     names_law();
 }
 
-/// Which paths have a tuple, and which one: what `row_of` makes of an entry in the scope is its tuple (RFC 2244 section 6.4.1).
+/// Which paths have a tuple, and which one: what `row_of` makes of an entry in the scope is its tuple (RFC
+/// 2244 section 6.4.1).
 pub fn tuple_law()
     ensures { TupleLaw }
 {

@@ -139,7 +139,8 @@ fn find_by<'a, L: Ledger>(
     Ok(sorted)
 }
 
-/// What is answered to a search over a dataset: all that it finds, whose paths need not be made, or enough of it to tell the first.
+/// What is answered to a search over a dataset: all that it finds, whose paths need not be made, or enough of
+/// it to tell the first.
 #[tactic(auto, using(crate::proofs::GatheredLemmas::as_many, crate::proofs::RefusalLemmas::refused))]
 pub(crate) fn answer<'a, L: Ledger>(
     alloc: Global,

@@ -25,8 +25,8 @@ pub struct Excerpt {
     pub total: Option<usize>,
 }
 
-// What is gathered for LIMIT of what is found among about so many entries: where it may keep nothing back, all of it, so that rows are
-// made at once. Either is right.
+// What is gathered for LIMIT of what is found among about so many entries: where it may keep nothing back,
+// all of it, so that rows are made at once. Either is right.
 fn wished(limit: Option<Limit>, count: usize) -> Option<Limit>
     ensures { IsWished limit result }
 {

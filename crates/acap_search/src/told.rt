@@ -33,8 +33,8 @@ impl Told {
         }
     }
 
-    /// One more. Its row is made only where it is one of the first so many. Fails for want of memory, and where there are more than can be
-    /// counted.
+    /// One more. Its row is made only where it is one of the first so many. Fails for want of memory, and
+    /// where there are more than can be counted.
     pub(crate) fn add<R: Records>(
         &mut self,
         alloc: Global,

@@ -144,7 +144,8 @@ pub(crate) fn tell_row<R: Records>(
     Ok(Row { name, items })
 }
 
-/// Where an entry that is looked at is and stands, where it is found: one step. The path is that of its record, where it is at hand.
+/// Where an entry that is looked at is and stands, where it is found: one step. The path is that of its
+/// record, where it is at hand.
 pub(crate) fn stand_at<'p, R: Records, L: Ledger>(
     alloc: Global,
     spot: &Spot<'_, R>,

@@ -36,7 +36,8 @@ const NONCE: u64 = 1898;
 const INPUT: &[u8] =
     b"A1 AUTHENTICATE \"CRAM-MD5\"\r\n\"joe d4497fc142dd741d2fe286c803fc3255\"\r\nA2 FREECONTEXT \"c\"\r\nA3 LOGOUT\r\n";
 
-/// The greeting takes the first turn, and finding nothing more to say the second. The challenge tells the third.
+/// The greeting takes the first turn, and finding nothing more to say the second. The challenge tells the
+/// third.
 const OUTPUT: &[u8] =
     b"* ACAP (IMPLEMENTATION \"acapd\") (SASL \"CRAM-MD5\") (CONTEXTLIMIT \"200\")\r\n+ \"<1898.697170954@postoffice.reston.mci.net>\"\r\nA1 OK \"AUTHENTICATE done\"\r\nA2 OK \"FREECONTEXT done\"\r\n* BYE \"Good bye\"\r\nA3 OK \"LOGOUT done\"\r\n";
 

@@ -232,7 +232,9 @@ Done may does (Err faults.Memory) = Unit {0}
 
 -- so a session opens, something is done at a seat, or octets are offered there
 abbrev pub MayOpen : Option (List ℕ) → Occasion → World → World → Result (Unit {0}) LineFault → Type 0
-MayOpen user o old new = Done (not (is_some (open_at old o.seat))) (λ done. new ≡ did (without_nonce o) false (world.Open user) old)
+MayOpen user o old new =
+    Done (not (is_some (open_at old o.seat)))
+    (λ done. new ≡ did (without_nonce o) false (world.Open user) old)
 
 abbrev pub MayAct : SeatLine → Occasion → World → World → Result (Unit {0}) LineFault → Type 0
 MayAct does o old new = Done (may does (is_some (open_at old o.seat))) (λ done. Acts does o old new)

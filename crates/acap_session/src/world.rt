@@ -97,9 +97,9 @@ impl World {
         }
     }
 
-    /// Opens a session at a seat, of that user if there is one, and makes its first turn: its user enters, and it greets.
-    /// `Taken` where one is open there. Where memory is refused nothing was done. `now` is what the clock shows. Here and
-    /// below each entry that a search of a session looks at counts as a step.
+    /// Opens a session at a seat, of that user if there is one, and makes its first turn: its user enters,
+    /// and it greets. `Taken` where one is open there. Where memory is refused nothing was done. `now` is
+    /// what the clock shows. Here and below each entry that a search of a session looks at counts as a step.
     pub fn open<L: Ledger>(
         &mut self,
         seat: Seat,
@@ -154,9 +154,10 @@ impl World {
         }
     }
 
-    /// Makes one turn of a seat's session, keeps what it says, and answers whether it came to anything: where it didn't, more
-    /// octets are needed. The nonce is the one of a challenge, if this turn sends one (RFC 2195 section 2). `NoSeat` where none is open there; where memory is refused to the session it is closed, and an
-    /// event that it had asked stands.
+    /// Makes one turn of a seat's session, keeps what it says, and answers whether it came to anything: where
+    /// it didn't, more octets are needed. The nonce is the one of a challenge, if this turn sends one (RFC
+    /// 2195 section 2). `NoSeat` where none is open there; where memory is refused to the session it is
+    /// closed, and an event that it had asked stands.
     pub fn turn<L: Ledger>(
         &mut self,
         seat: Seat,

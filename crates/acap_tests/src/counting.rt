@@ -1,4 +1,5 @@
-//! A reader and a writer that are no `Read` and no `Write`, and count how often they were asked and how often they failed.
+//! A reader and a writer that are no `Read` and no `Write`, and count how often they were asked and how often
+//! they failed.
 
 use acap_session::{Input, Output, ReadFailed, WriteFailed};
 

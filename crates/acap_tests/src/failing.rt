@@ -1,5 +1,5 @@
-//! Tests of sessions and scripts over a reader and a writer that count their failures: each call fails in turn, and what is
-//! read is cut after each octet.
+//! Tests of sessions and scripts over a reader and a writer that count their failures: each call fails in
+//! turn, and what is read is cut after each octet.
 ghost use Rattle.std.specs.Prelude.{◌≡◌, ◌<◌};
 
 use crate::counting::{Sink, Source};
@@ -65,7 +65,8 @@ fn end_of<'a, L: Ledger>(
     }
 }
 
-/// What a run writes whose reader and writer fail at these calls, if it ends so and its reader and its writer count that.
+/// What a run writes whose reader and writer fail at these calls, if it ends so and its reader and its writer
+/// count that.
 fn written<L: Ledger>(
     alloc: Global,
     row: RunRow,

@@ -1,5 +1,5 @@
-//! Tests of values that have several owners: who they are, as the count tells, and that none of them sees what is stored later. No
-//! contract speaks of owners.
+//! Tests of values that have several owners: who they are, as the count tells, and that none of them sees
+//! what is stored later. No contract speaks of owners.
 ghost use Rattle.std.specs.Prelude.{◌≡◌, ◌<◌};
 
 use crate::machine::{empty, enter, seat};
@@ -14,8 +14,8 @@ use std::alloc::Global;
 use std::marker::Brand;
 use std::sync::ledger::{Blank, Ledger};
 
-/// An event of joe's, and whether the stored value then has other owners than the store: while the call, its event and reply, is held
-/// as a history holds it, and once it is dropped.
+/// An event of joe's, and whether the stored value then has other owners than the store: while the call, its
+/// event and reply, is held as a history holds it, and once it is dropped.
 struct OwnersRow {
     event: &'static [u8],
     held: bool,

@@ -47,8 +47,8 @@ impl Views {
         self.seats[at].1.make_room()
     }
 
-    /// The context that a search makes at a seat, and room for it there: `TryFreeContext` exactly where there is no place, before memory
-    /// is asked for (RFC 2244 section 6.4.1). Nobody's contexts change.
+    /// The context that a search makes at a seat, and room for it there: `TryFreeContext` exactly where there
+    /// is no place, before memory is asked for (RFC 2244 section 6.4.1). Nobody's contexts change.
     pub fn make_context(
         &mut self,
         seat: Seat,
@@ -85,8 +85,9 @@ impl Views {
         self.seats[at].1.put(new.name, new.context);
     }
 
-    /// Makes the context of a search at a seat; one of its name makes way. `TryFreeContext` exactly where there is no place, before
-    /// memory is asked for. At a refusal nothing has changed (RFC 2244 section 6.4.1).
+    /// Makes the context of a search at a seat; one of its name makes way. `TryFreeContext` exactly where
+    /// there is no place, before memory is asked for. At a refusal nothing has changed (RFC 2244 section
+    /// 6.4.1).
     pub fn open(
         &mut self,
         seat: Seat,
