@@ -1,6 +1,7 @@
 pub mod EntryLemmas
 pub mod SortedLemmas
 pub mod LeafLemmas
+pub mod WeightLemmas
 pub mod RankLemmas
 pub mod RankLaws
 pub mod ReplaceLemmas

@@ -10,10 +10,11 @@ use Rattle.std.specs.FinMap.Entries.{by_order, below_all}
 use Rattle.std.proofs.lemmas.List.{length-set, set-append_left, set-append_right}
 use Rattle.std.proofs.lemmas.List.Edits.{length-insert}
 use Rattle.acap_entries.specs.Sorted.{place, is_tied, without, entry_of, put_in, InOrder}
-use Rattle.acap_entries.specs.Leaves.{contents, before, AreFilled}
+use Rattle.acap_entries.specs.Leaves.{contents, before, weight, AreFilled}
 use Rattle.acap_entries.specs.Replacing.{LiesAt, replaced}
 use Rattle.acap_entries.proofs.SortedLemmas.{first, second, is_less, lower_equal, equal_kept, place_le, tied_lt, entry_tied, put_in_absent, without_absent}
 use Rattle.acap_entries.proofs.LeafLemmas.{joined_at, joined_set, filled_at, filled_set, joined_set_length, leaf_in_order, entry_in_leaf, put_in_leaf, place_of_leaf, tied_in_leaf, without_none}
+use Rattle.acap_entries.proofs.WeightLemmas.{weight_set}
 
 module _ {K X : Type 0} (R : K → K → Ordering) (o : IsTotalOrder R) where
   put_below : (k : K) (v : X) (es : List (K × X)) → T (below_all R k es) → put R k v es ≡ (k, v) ∷ es
@@ -74,6 +75,9 @@ module _ {K X : Type 0} (R : K → K → Ordering) (o : IsTotalOrder R) where
     pub exchanged_length : (v : X) → length (contents (set ls i (set (get_or ls i []) n (k, v)))) ≡ length (contents ls)
     exchanged_length v = omega (arith, joined_set_length ls i (set (get_or ls i []) n (k, v)) leaf_there, length-set (get_or ls i []) n (k, v))
 
+    pub exchanged_weight : (v : X) → weight (set ls i (set (get_or ls i []) n (k, v))) ≤ weight ls
+    exchanged_weight v = omega (arith, weight_set ls i (set (get_or ls i []) n (k, v)) 0 leaf_there (omega (arith, length-set (get_or ls i []) n (k, v))))
+
     pub exchanged_for : (d : K × X) → d ≡ get_or (get_or ls i []) n d → InOrder R (contents ls) → is_tied R k (contents ls) ≡ true → Some d ≡ entry_of R k (contents ls)
     exchanged_for d read h t =
         let leaf = get_or ls i [] in
@@ -93,6 +97,9 @@ module _ {K X : Type 0} (R : K → K → Ordering) (o : IsTotalOrder R) where
 
     pub inserted_length : (v : X) → length (contents (set ls i (insert (get_or ls i []) n (k, v)))) ≡ length (contents ls) + 1
     inserted_length v = omega (arith, joined_set_length ls i (insert (get_or ls i []) n (k, v)) leaf_there, length-insert (get_or ls i []) n (k, v) at_most)
+
+    pub inserted_weight : (v : X) → weight (set ls i (insert (get_or ls i []) n (k, v))) ≤ weight ls + 1
+    inserted_weight v = weight_set ls i (insert (get_or ls i []) n (k, v)) 1 leaf_there (omega (arith, length-insert (get_or ls i []) n (k, v) at_most))
 
   -- an entry whose key is nowhere takes none's
   pub replaced_absent : (k : K) (v : X) (es : List (K × X)) → InOrder R es → is_tied R k es ≡ false → replaced R k v es ≡ put_in R k v es

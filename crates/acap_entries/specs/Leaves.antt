@@ -1,5 +1,6 @@
 -- Entries in order that lie in leaves, one leaf after the other: where a key belongs.
-use Rattle.std.specs.Prelude.{◌≡◌, ℕ, ◌+◌, ◌-◌, ◌/◌, min, ◌<◌, ◌≤◌, Bool, true, false, IsTrue}
+use Rattle.std.specs.Prelude.{◌≡◌, ℕ, ◌+◌, ◌-◌, ◌*◌, ◌/◌, min, max, ◌<◌, ◌≤◌, Bool, true, false, IsTrue}
+use Rattle.std.specs.Prelude.{Vec, vec_len, vec_capacity}
 use Rattle.std.specs.Prelude.{List, [], ◌∷◌, ◌++◌, length, take, drop, flat_map, slice_index_or, slice_set}
 use Rattle.std.specs.List.{list_all, insert}
 use Rattle.std.specs.declared.cmp.Ordering.{Ordering}
@@ -62,6 +63,31 @@ module _ {K X : Type 0} (R : K → K → Ordering) where
     pub place : place R k entries ≡ length entries
     pub absent : is_tied R k entries ≡ false
 
--- how many entries more there is room for: each may need a leaf of its own, and a place for it, and has to be counted
-abbrev pub room_of : ℕ → ℕ → ℕ → ℕ
-room_of spare places count = min (min spare places) (18_446_744_073_709_551_615 - count)
+-- the last leaf is full, or there is none
+abbrev pub EndsFull : {A : Type 0} → List (List A) → Type 0
+EndsFull leaves = 0 < length leaves → 64 ≤ length (slice_index_or leaves (length leaves - 1) [])
+
+-- What the leaves weigh: 16 for each, one for each of up to 16 entries beyond 48, and in the last one also one for
+-- each of up to 16 beyond 16. Where there is none it is 16. No put adds more than one to it: before a leaf is split,
+-- or one is made behind the last, 16 puts have added one each.
+abbrev pub beyond : ℕ → ℕ → ℕ
+beyond some count = min (count - some) 16
+
+abbrev pub weight_after : {A : Type 0} → ℕ → List (List A) → ℕ
+weight_after last [] = last
+weight_after last (leaf ∷ leaves) =
+    16 + beyond 48 (length leaf) + weight_after (beyond 16 (length leaf)) leaves
+
+abbrev pub weight : {A : Type 0} → List (List A) → ℕ
+weight leaves = weight_after 16 leaves
+
+-- how many leaves there may be without memory: each that goes is kept, where there is a place to keep it in
+abbrev pub most_leaves : {X Y Z W : Type 0} → Vec X Z → Vec Y W → ℕ
+most_leaves leaves spare =
+    min (vec_len leaves + vec_len spare) (min (vec_capacity spare) (vec_capacity leaves))
+
+-- How many entries more there is room for: each needs a spare leaf and a place for it at most, and 16 for each
+-- leaf that there may be suffice for what they weigh. Each has to be counted.
+abbrev pub room_of : ℕ → ℕ → ℕ → ℕ → ℕ → ℕ
+room_of spare places most weight count =
+    min (max (min spare places) (16 * most - weight)) (18_446_744_073_709_551_615 - count)

@@ -1,9 +1,10 @@
 //! Entries in the order of their keys, in leaves: an edit moves a part of one leaf, in whatever order edits come.
-ghost use Rattle.std.specs.Prelude.{◌≡◌, ◌+◌, ◌-◌, ◌^◌, ◌++◌, ◌<◌, ◌≤◌, [], ◌∷◌, length, IsTrue};
+ghost use Rattle.std.specs.Prelude.{◌≡◌, ◌+◌, ◌-◌, ◌/◌, ◌^◌, ◌++◌, ◌<◌, ◌≤◌, [], ◌∷◌, length, min, IsTrue};
 ghost use Rattle.std.specs.Prelude.{slice_index_or, vec_len, vec_capacity, IfSome, IfNone, OnOk, OnErr, IfOk};
 ghost use Rattle.std.specs.Option.{option_copied};
 ghost use Rattle.acap_entries.specs.Sorted.{InOrder, place, put_in, without, found, entry_of};
-ghost use Rattle.acap_entries.specs.Leaves.{contents, entry_count, split_at, AreFilled, IsAmong, IsBehind};
+ghost use Rattle.acap_entries.specs.Leaves.{contents, entry_count, split_at, AreFilled, IsAmong, IsBehind, EndsFull};
+ghost use Rattle.acap_entries.specs.Leaves.{weight, most_leaves};
 ghost use Rattle.acap_entries.specs.Replacing.{replaced};
 
 use crate::copying::{Copying, copy_all};
@@ -100,6 +101,7 @@ fn put_at<K: Ord + Drop, V: Drop>(
     ensures filled { AreFilled leaves.new.items }
     ensures count { entry_count leaves.new.items ≡ entry_count leaves.old.items + result }
     ensures few { result ≤ 1 }
+    ensures weight { weight leaves.new.items ≤ weight leaves.old.items + 1 }
     ensures len { vec_len leaves.new ≡ vec_len leaves.old }
     ensures capacity { vec_capacity leaves.old ≤ vec_capacity leaves.new }
 {
@@ -117,11 +119,13 @@ fn put_behind<K: Ord + Drop, V: Drop>(
     value: V,
 )
     requires behind { IsBehind K.cmp key (contents leaves.old.items) }
+    requires full { EndsFull leaves.old.items }
     requires room { vec_len leaves.old < vec_capacity leaves.old }
     requires filled { AreFilled leaves.old.items }
     ensures items { contents leaves.new.items ≡ put_in K.cmp key value (contents leaves.old.items) }
     ensures filled { AreFilled leaves.new.items }
     ensures count { entry_count leaves.new.items ≡ entry_count leaves.old.items + 1 }
+    ensures weight { weight leaves.new.items ≤ weight leaves.old.items }
     ensures len { vec_len leaves.new ≡ vec_len leaves.old + 1 }
     ensures capacity { vec_capacity leaves.old ≤ vec_capacity leaves.new }
 {
@@ -133,11 +137,12 @@ fn put_behind<K: Ord + Drop, V: Drop>(
 // Moves the later half of a leaf's entries into a leaf right behind it.
 fn split_at<K: Ord + Drop, V: Drop>(leaves: &mut Vec<Leaf<K, V>>, mut later: Leaf<K, V>, at: usize)
     requires within { at < vec_len leaves.old }
-    requires many { 1 < length (slice_index_or leaves.old.items at []) }
+    requires full { length (slice_index_or leaves.old.items at []) ≡ 64 }
     requires room { vec_len leaves.old < vec_capacity leaves.old }
     requires filled { AreFilled leaves.old.items }
     ensures items { leaves.new.items ≡ split_at at leaves.old.items }
     ensures filled { AreFilled leaves.new.items }
+    ensures weight { weight leaves.new.items ≤ weight leaves.old.items }
     ensures len { vec_len leaves.new ≡ vec_len leaves.old + 1 }
     ensures capacity { vec_capacity leaves.old ≤ vec_capacity leaves.new }
 {
@@ -147,9 +152,21 @@ fn split_at<K: Ord + Drop, V: Drop>(leaves: &mut Vec<Leaf<K, V>>, mut later: Lea
     leaves.insert(at + 1, later).unwrap();
 }
 
-// Takes a key's entry out of its leaf and gives it, if it is there, and takes the leaf away with its last entry.
+// Keeps an empty leaf for later, where there is a place for it. Takes no memory.
+fn lay_by<K: Ord + Drop, V: Drop>(spare: &mut Vec<Leaf<K, V>>, leaf: Leaf<K, V>)
+    ensures grows { vec_len spare.old ≤ vec_len spare.new }
+    ensures kept { min (vec_len spare.old + 1) (vec_capacity spare.old) ≤ vec_len spare.new }
+    ensures capacity { vec_capacity spare.old ≤ vec_capacity spare.new }
+{
+    if spare.len() < spare.capacity() {
+        spare.push(leaf).unwrap();
+    }
+}
+
+// Takes a key's entry out of its leaf and gives it, if it is there. A leaf is laid by with its last entry.
 fn take_out_at<K: Ord + Drop, V: Drop, Q: Probe<K>>(
     leaves: &mut Vec<Leaf<K, V>>,
+    spare: &mut Vec<Leaf<K, V>>,
     at: usize,
     probe: &Q,
 ) -> Option<(K, V)>
@@ -161,13 +178,17 @@ fn take_out_at<K: Ord + Drop, V: Drop, Q: Probe<K>>(
     ensures filled { AreFilled leaves.new.items }
     ensures some { IfSome result (λ _. entry_count leaves.new.items + 1 ≡ entry_count leaves.old.items) }
     ensures none { IfNone result (entry_count leaves.new.items ≡ entry_count leaves.old.items) }
+    ensures weight { weight leaves.new.items ≤ weight leaves.old.items }
     ensures len { vec_len leaves.new ≤ vec_len leaves.old }
+    ensures spare { vec_len spare.old ≤ vec_len spare.new }
     ensures capacity { vec_capacity leaves.old ≤ vec_capacity leaves.new }
+    ensures most { most_leaves leaves.old spare.old ≤ most_leaves leaves.new spare.new }
 {
     let leaf = &mut leaves[at];
     let taken = leaf.take_out(probe);
     if leaf.len() == 0 {
-        let _ = leaves.remove(at);
+        let emptied = leaves.remove(at);
+        lay_by(spare, emptied);
         return taken;
     }
     taken
@@ -189,11 +210,15 @@ fn room_for<K: Ord + Drop, V: Drop, Q: Probe<K>>(
     ensures some { IfSome result (λ at. IsAmong K.cmp (Q.key probe.now) leaves.new.items at (at + 1)) }
     ensures room { IfSome result (λ at. length (slice_index_or leaves.new.items at []) < 64) }
     ensures none { IfNone result (IsBehind K.cmp (Q.key probe.now) (contents leaves.new.items)) }
+    ensures full { IfNone result (EndsFull leaves.new.items) }
     ensures kept { IfNone result (spare.new ≡ spare.old) }
     ensures unsplit { IfNone result (vec_len leaves.new ≡ vec_len leaves.old) }
+    ensures weight { weight leaves.new.items ≤ weight leaves.old.items }
     ensures len { vec_len leaves.new ≤ vec_len leaves.old + 1 }
     ensures spare { vec_len spare.old ≤ vec_len spare.new + 1 }
+    ensures total { vec_len leaves.new + vec_len spare.new ≡ vec_len leaves.old + vec_len spare.old }
     ensures capacity { vec_capacity leaves.old ≤ vec_capacity leaves.new }
+    ensures kept_places { vec_capacity spare.old ≤ vec_capacity spare.new }
 {
     if leaves.is_empty() {
         return None;
@@ -264,12 +289,16 @@ pub(crate) struct Leaves<K, V> {
 
 impl<K, V> Model for Leaves<K, V> {
     ghost use Rattle.std.specs.Prelude.{◌≡◌, ℕ, List, vec_len};
-    ghost use Rattle.acap_entries.specs.Leaves.{contents, entry_count, AreFilled, room_of};
+    ghost use Rattle.acap_entries.specs.Leaves.{contents, entry_count, weight, most_leaves, AreFilled, room_of};
     ghost use Rattle.acap_entries.specs.Room.{free_of};
 
     ghost Value = { List (K × V) × ℕ };
 
-    ghost view = { λ l. (contents l.leaves.items, room_of (vec_len l.spare) (free_of l.leaves) l.count) };
+    ghost view = { λ l. (
+      contents l.leaves.items,
+      room_of (vec_len l.spare) (free_of l.leaves)
+          (most_leaves l.leaves l.spare) (weight l.leaves.items) l.count,
+    ) };
 
     ghost invariant = { λ l. AreFilled l.leaves.items × (l.count ≡ entry_count l.leaves.items) };
 }
@@ -316,7 +345,8 @@ impl<K: Ord + Drop, V: Drop> Leaves<K, V> {
         self.leaves.as_slice()
     }
 
-    /// Makes room for so many entries more. The entries stay, and room never shrinks, also where memory is refused.
+    /// Makes room for so many entries more: a spare leaf for each, but no more than there are leaves, and one for
+    /// each 16 of the entries, and two. The entries stay, and room never shrinks, also where memory is refused.
     pub(crate) fn reserve(&mut self, more: usize) -> Result<(), Memory>
         ensures entries { self.new.0 ≡ self.old.0 }
         ensures grows { self.old.1 ≤ self.new.1 }
@@ -325,8 +355,13 @@ impl<K: Ord + Drop, V: Drop> Leaves<K, V> {
         if usize::MAX - self.count < more {
             return Err(Memory);
         }
-        self.leaves.reserve(more)?;
-        make_spare(&mut self.spare, more)
+        let wanted = leaves_for(self.leaves.len(), more);
+        self.leaves.reserve(wanted)?;
+        make_spare(&mut self.spare, wanted)?;
+        if wanted < more {
+            self.spare.reserve(self.leaves.len())?;
+        }
+        Ok(())
     }
 
     /// Sets the value of a key, in the room that there is. Takes no memory.
@@ -357,7 +392,7 @@ impl<K: Ord + Drop, V: Drop> Leaves<K, V> {
             return None;
         }
         let at = leaf_of(self.leaves.as_slice(), probe);
-        let taken = take_out_at(&mut self.leaves, at, probe)?;
+        let taken = take_out_at(&mut self.leaves, &mut self.spare, at, probe)?;
         self.count -= 1;
         Some(taken)
     }
@@ -406,12 +441,25 @@ impl<K: Ord + Drop, V: Drop> Leaves<K, V> {
     }
 }
 
+// How many spare leaves make room for so many entries more, where there are so many leaves.
+fn leaves_for(leaves: usize, more: usize) -> usize
+    ensures { result ≡ min more (leaves + more / 16 + 2) }
+{
+    let few = more / 16 + 2;
+    if more < few || more - few < leaves {
+        more
+    } else {
+        leaves + few
+    }
+}
+
 // Makes empty leaves until there are so many.
 fn make_spare<K: Ord + Drop, V: Drop>(
     spare: &mut Vec<Leaf<K, V>>,
     wanted: usize,
 ) -> Result<(), Memory>
     ensures grows { vec_len spare.old ≤ vec_len spare.new }
+    ensures capacity { vec_capacity spare.old ≤ vec_capacity spare.new }
     ensures ok { OnOk result (wanted ≤ vec_len spare.new) }
 {
     let alloc = *spare.allocator();

@@ -2,7 +2,7 @@
 ghost use Rattle.std.specs.Prelude.{◌≡◌, ◌+◌, ◌<◌, ◌≤◌, ◌^◌, [], Some, true, false};
 ghost use Rattle.std.specs.Prelude.{length, slice_index_or, vec_len, vec_capacity};
 ghost use Rattle.acap_entries.specs.Sorted.{place, is_tied, entry_of, put_in, InOrder};
-ghost use Rattle.acap_entries.specs.Leaves.{contents, AreFilled};
+ghost use Rattle.acap_entries.specs.Leaves.{contents, weight, AreFilled};
 ghost use Rattle.acap_entries.specs.Replacing.{LiesAt, replaced};
 
 use crate::keys::Probe;
@@ -49,6 +49,7 @@ pub(crate) fn exchange_at<K: Ord + Drop, V: Drop>(
     ensures items { contents leaves.new.items ≡ replaced K.cmp key value (contents leaves.old.items) }
     ensures filled { AreFilled leaves.new.items }
     ensures count { length (contents leaves.new.items) ≡ length (contents leaves.old.items) }
+    ensures weight { weight leaves.new.items ≤ weight leaves.old.items }
     ensures len { vec_len leaves.new ≡ vec_len leaves.old }
     ensures capacity { vec_capacity leaves.old ≤ vec_capacity leaves.new }
 {
@@ -70,6 +71,7 @@ pub(crate) fn insert_at<K: Ord + Drop, V: Drop>(
     ensures items { contents leaves.new.items ≡ put_in K.cmp key value (contents leaves.old.items) }
     ensures filled { AreFilled leaves.new.items }
     ensures count { length (contents leaves.new.items) ≡ length (contents leaves.old.items) + 1 }
+    ensures weight { weight leaves.new.items ≤ weight leaves.old.items + 1 }
     ensures len { vec_len leaves.new ≡ vec_len leaves.old }
     ensures capacity { vec_capacity leaves.old ≤ vec_capacity leaves.new }
 {

@@ -1,5 +1,6 @@
 use Rattle.std.proofs.Common.{◌<◌, length, ap, arith}
 use Rattle.acap_entries.proofs.LeafLemmas.{leaf_read, leaf_in_order, put_in_leaf, filled_set, joined_set_length}
+use Rattle.acap_entries.proofs.WeightLemmas.{weight_set}
 use Rattle.acap_entries.proofs.leaves.put_at.Goals as goal
 
 pub put-requires-clause-sorted : goal.put-requires-clause-sorted
@@ -21,3 +22,9 @@ returns-clause-count g c =
     let counted = joined_set_length c.args.leaves.now.items c.args.at c.put.new.self at in
     let before = ap length (leaf_read _ _ _ at c.index_mut-leaf.ensures.value) in
     omega (arith, counted, before, c.len.ensures.value, c.len-count.ensures.value, c.put.ensures.grows)
+
+pub returns-clause-weight : goal.returns-clause-weight
+returns-clause-weight g c =
+    let at : c.args.at < length c.args.leaves.now.items = omega (arith, c.requires.among.within) in
+    let before = ap length (leaf_read _ _ _ at c.index_mut-leaf.ensures.value) in
+    weight_set c.args.leaves.now.items c.args.at c.put.new.self 1 at (omega (arith, before, c.put.ensures.by_one))

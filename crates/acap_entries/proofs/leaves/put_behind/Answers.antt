@@ -1,4 +1,5 @@
-use Rattle.std.proofs.Common.{[], sym}
+use Rattle.std.proofs.Common.{[], ◌≤◌, length, ap, sym, arith}
+use Rattle.acap_entries.proofs.WeightLemmas.{weight_push}
 use Rattle.acap_entries.proofs.LeafLemmas.{put_in_behind, behind_none, push_filled, joined_push}
 use Rattle.acap_entries.proofs.leaves.put_behind.Goals as goal
 
@@ -9,3 +10,8 @@ returns-clause-items g c =
 
 pub returns-clause-filled : goal.returns-clause-filled
 returns-clause-filled g c = rw (c.push.ensures.items, c.unwrap.ensures) (push_filled _ _ c.requires.filled c.put.ensures.filled)
+
+pub returns-clause-weight : goal.returns-clause-weight
+returns-clause-weight g c =
+    let few : length c.put.new.self ≤ 16 = omega (arith, c.put.ensures.by_one, ap length c.clear.ensures) in
+    rw (c.push.ensures.items, c.unwrap.ensures) (weight_push c.args.leaves.now.items c.put.new.self c.requires.full few)

@@ -1,4 +1,4 @@
-use Rattle.std.proofs.Common.{◌≡◌, ◌<◌, ◌≤◌, ◌+◌, length, get_or, [], ap, subst, arith}
+use Rattle.std.proofs.Common.{◌≡◌, ◌<◌, ◌≤◌, ◌+◌, ◌-◌, length, get_or, [], ap, subst, arith}
 use Rattle.acap_entries.specs.Leaves.{IsAmong}
 use Rattle.acap_entries.proofs.LeafLemmas.{leaf_read, leaf_in_order, behind_all, joined_halved, halved_room, among_halves}
 use Rattle.acap_entries.proofs.leaves.room_for.Goals as goal
@@ -37,3 +37,16 @@ returns-clause-room g c =
     let most : length (get_or c.args.leaves.now.items c.leaf_of-at.result []) ≤ 64 = omega (arith, full, c.len.ensures.value, c.len.ensures.most) in
     let many : 1 < length (get_or c.args.leaves.now.items c.leaf_of-at.result []) = omega (arith, full, c.len.ensures.value, c.if-len-lt-MOST.false) in
     rw c.split_at.ensures.items (halved_room _ _ _ at c.leaf_among.ensures.low c.leaf_among.ensures.high most many)
+
+pub returns-then-ends_before-clause-full : goal.returns-then-ends_before-clause-full
+returns-then-ends_before-clause-full g c =
+    let at : c.leaf_of-at.result < length c.args.leaves.now.items = omega (arith, c.leaf_of-at.ensures.within) in
+    let last : c.leaf_of-at.result ≡ length c.args.leaves.now.items - 1 = omega (arith, c.if-at-len.true, c.len-2.ensures, c.args.leaves.now.ok) in
+    let full = ap length (leaf_read _ _ _ at c.index-leaf.ensures) in
+    λ some. rw (← last) (omega (arith, full, c.len.ensures.value, c.if-len-lt-MOST.false))
+
+pub split_at-requires-clause-full : goal.split_at-requires-clause-full
+split_at-requires-clause-full g c =
+    let at : c.leaf_of-at.result < length c.args.leaves.now.items = omega (arith, c.leaf_of-at.ensures.within) in
+    let full = ap length (leaf_read _ _ _ at c.index-leaf.ensures) in
+    omega (arith, full, c.len.ensures.value, c.len.ensures.most, c.if-len-lt-MOST.false)

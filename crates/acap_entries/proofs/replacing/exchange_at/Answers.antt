@@ -1,6 +1,6 @@
 use Rattle.std.proofs.Common.{get_or, sym, ap, ◌∙◌}
 use Rattle.acap_entries.proofs.LeafLemmas.{leaf_read}
-use Rattle.acap_entries.proofs.ReplaceLemmas.{leaf_there, there_within, exchanged, exchanged_filled, exchanged_length, exchanged_for}
+use Rattle.acap_entries.proofs.ReplaceLemmas.{leaf_there, there_within, exchanged, exchanged_filled, exchanged_length, exchanged_weight, exchanged_for}
 use Rattle.acap_entries.proofs.replacing.exchange_at.Goals as goal
 
 pub exchange-requires : goal.exchange-requires
@@ -28,3 +28,8 @@ pub returns-clause-count : goal.returns-clause-count
 returns-clause-count g c =
     let at = leaf_there g.K.Ord.cmp g.met.K.Ord.total c.args.key c.args.leaves.now.items c.args.spot.leaf c.args.spot.at c.requires.lies in
     rw (c.exchange.ensures.value, ← leaf_read _ _ _ at c.index_mut-leaf.ensures.value) (exchanged_length g.K.Ord.cmp g.met.K.Ord.total _ _ _ _ c.requires.lies c.args.value)
+
+pub returns-clause-weight : goal.returns-clause-weight
+returns-clause-weight g c =
+    let at = leaf_there g.K.Ord.cmp g.met.K.Ord.total c.args.key c.args.leaves.now.items c.args.spot.leaf c.args.spot.at c.requires.lies in
+    rw (c.exchange.ensures.value, ← leaf_read _ _ _ at c.index_mut-leaf.ensures.value) (exchanged_weight g.K.Ord.cmp g.met.K.Ord.total _ _ _ _ c.requires.lies c.args.value)

@@ -1,5 +1,5 @@
 use Rattle.acap_entries.proofs.LeafLemmas.{leaf_read}
-use Rattle.acap_entries.proofs.ReplaceLemmas.{leaf_there, at_most, inserted, inserted_filled, inserted_length}
+use Rattle.acap_entries.proofs.ReplaceLemmas.{leaf_there, at_most, inserted, inserted_filled, inserted_length, inserted_weight}
 use Rattle.acap_entries.proofs.replacing.insert_at.Goals as goal
 
 pub insert-requires-clause-within : goal.insert-requires-clause-within
@@ -21,3 +21,8 @@ pub returns-clause-count : goal.returns-clause-count
 returns-clause-count g c =
     let at = leaf_there g.K.Ord.cmp g.met.K.Ord.total c.args.key c.args.leaves.now.items c.args.spot.leaf c.args.spot.at c.requires.lies in
     rw (c.insert.ensures, ← leaf_read _ _ _ at c.index_mut-leaf.ensures.value) (inserted_length g.K.Ord.cmp g.met.K.Ord.total _ _ _ _ c.requires.lies c.args.value)
+
+pub returns-clause-weight : goal.returns-clause-weight
+returns-clause-weight g c =
+    let at = leaf_there g.K.Ord.cmp g.met.K.Ord.total c.args.key c.args.leaves.now.items c.args.spot.leaf c.args.spot.at c.requires.lies in
+    rw (c.insert.ensures, ← leaf_read _ _ _ at c.index_mut-leaf.ensures.value) (inserted_weight g.K.Ord.cmp g.met.K.Ord.total _ _ _ _ c.requires.lies c.args.value)
