@@ -94,7 +94,7 @@ based_one None (d ∷ ds) = based_one None ds
 based_one (Some base) [] = refl
 based_one (Some base) (d ∷ ds) = λ i. name_turned base d i || based_one (Some base) ds i
 
-any_heirs : (links : List Link) (base heir : List ℕ) → is_in heir (heirs_in links base) ≡ is_linked links base heir
+pub any_heirs : (links : List Link) (base heir : List ℕ) → is_in heir (heirs_in links base) ≡ is_linked links base heir
 any_heirs [] base heir = refl
 any_heirs (l ∷ links) base heir =
     let rest = heirs_in links base in
@@ -229,7 +229,7 @@ and_or : (a b c : Bool) → ((a && b) || (a && c)) ≡ (a && (b || c))
 and_or true b c = refl
 and_or false b c = refl
 
-one_kept : (old : Stored) (q : Path → Bool) (w : Path × Fate) (es : List (Path × Fate)) → ((q w.0 && changes old w) || list_any q (paths_of (filter (changes old) es))) ≡ list_any q (paths_of (filter (changes old) (w ∷ es)))
+pub one_kept : (old : Stored) (q : Path → Bool) (w : Path × Fate) (es : List (Path × Fate)) → ((q w.0 && changes old w) || list_any q (paths_of (filter (changes old) es))) ≡ list_any q (paths_of (filter (changes old) (w ∷ es)))
 one_kept old q w es =
     let others = filter (changes old) es in
     elim (changes old w) as (λ c. ((q w.0 && c) || list_any q (paths_of others)) ≡ list_any q (paths_of (cond c (w ∷ others) others))) [
@@ -332,7 +332,7 @@ in_dataset written old new h p d =
       | false ↦ λ _. refl
     ] refl
 
-in_datasets : (written : Written) (old new : Stored) → IsPathByPath written old new → (p : Path) (ds : List (List ℕ)) → in_paths p (flat_map (paths_in written old new) ds) ≡ (is_in p.dataset ds && is_touched written old new p)
+pub in_datasets : (written : Written) (old new : Stored) → IsPathByPath written old new → (p : Path) (ds : List (List ℕ)) → in_paths p (flat_map (paths_in written old new) ds) ≡ (is_in p.dataset ds && is_touched written old new p)
 in_datasets written old new h p [] = refl
 in_datasets written old new h p (d ∷ ds) =
     list_any-append (is_path p) (paths_in written old new d) (flat_map (paths_in written old new) ds)

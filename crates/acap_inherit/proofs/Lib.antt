@@ -10,6 +10,7 @@ mod Moments
 mod NameLemmas
 mod NamesLaws
 mod PartLemmas
+mod ReachLemmas
 mod ReadingLaws
 mod RepeatLaws
 mod Sampling

@@ -82,7 +82,7 @@ module _ {K : Type 0} (R : K → K → Ordering) (o : IsTotalOrder R) (same : Is
 
 -- ---- the paths of one dataset
 
-swapped : (a b : Bool) → (a && b) ≡ (b && a)
+pub swapped : (a b : Bool) → (a && b) ≡ (b && a)
 swapped true true = refl
 swapped true false = refl
 swapped false true = refl
@@ -111,7 +111,7 @@ unfolding with_heirs
 heirs_rise zero links level acc a = among_rises octets_cmp nat_list_cmp_total octets_same level acc a
 heirs_rise (suc k) links level acc a = heirs_rise k links (flat_map (heirs_in links) level) (ordered_among octets_cmp level acc) (among_rises octets_cmp nat_list_cmp_total octets_same level acc a)
 
-any_each : {A : Type 0} (q : List ℕ → Bool) (f : A → List ℕ) (xs : List A) → list_any q (each f xs) ≡ list_any (λ x. q (f x)) xs
+pub any_each : {A : Type 0} (q : List ℕ → Bool) (f : A → List ℕ) (xs : List A) → list_any q (each f xs) ≡ list_any (λ x. q (f x)) xs
 any_each q f [] = refl
 any_each q f (x ∷ xs) = ap (λ b. q (f x) || b) (any_each q f xs)
 
@@ -138,7 +138,7 @@ touched_exists : (written : Written) (old new : Stored) (p : Path) → is_touche
 unfolding is_touched
 touched_exists written old new p e = first_of _ _ e
 
-touched_dataset_in : (written : Written) (old new : Stored) (links : List Link) → IsPathByPath written old new → IsIndexOf old links → (d : List ℕ)
+pub touched_dataset_in : (written : Written) (old new : Stored) (links : List Link) → IsPathByPath written old new → IsIndexOf old links → (d : List ℕ)
     → list_any (λ (p : Path). is_name d p.dataset) (touched_paths written old new) ≡ (is_in d (datasets_reached written old links) && dataset_exists new d)
 touched_dataset_in written old new links h index d =
     alike_if _ _

@@ -5,6 +5,7 @@ pub mod Index
 pub mod Laws
 pub mod Leaving
 pub mod Merging
+pub mod Reaching
 pub mod Records
 pub mod Resolving
 pub mod Touched

@@ -3,6 +3,7 @@ ghost use Rattle.std.specs.Prelude.{◌≡◌, ◌++◌, [], IfOk, OnOk};
 ghost use Rattle.std.specs.List.{flat_map};
 ghost use Rattle.acap_inherit.specs.Index.{heirs_in};
 ghost use Rattle.acap_inherit.specs.Leaving.{datasets_before};
+ghost use Rattle.acap_inherit.specs.Reaching.{is_inherited};
 ghost use Rattle.acap_inherit.specs.Touched.{ordered_among};
 ghost use Rattle.acap_inherit.specs.Touching as rule;
 
@@ -58,6 +59,18 @@ fn add_heirs(
         heirs.push(box_copy(alloc, &link.heir)?)?;
     }
     Ok(())
+}
+
+/// Whether a dataset inherits from a base: a look at the pair that stands first of those with it.
+pub(crate) fn has_heir(links: &Ranked<Boxed<Link>>, base: &[u8]) -> bool
+    ensures { result ≡ is_inherited links.now.0 base.now }
+{
+    links.ascends();
+    let first = links.rank(&FirstHeir { base });
+    match links.get(first) {
+        Some(link) => base == link.get().base.as_slice(),
+        None => false,
+    }
 }
 
 // The heirs of some datasets.

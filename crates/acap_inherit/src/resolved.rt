@@ -23,7 +23,7 @@ use std::marker::Model;
 /// 5.2).
 #[derive(Drop)]
 pub struct Resolved {
-    links: Ranked<Boxed<Link>>,
+    pub(crate) links: Ranked<Boxed<Link>>,
 }
 
 impl Model for Resolved {

@@ -113,8 +113,8 @@ fn add_below(
     Ok(())
 }
 
-// Adds the touched paths of a dataset, if it exists afterwards.
-fn add_touched(
+/// Adds the touched paths of a dataset, if it exists afterwards.
+pub(crate) fn add_touched(
     after: &After<'_>,
     dataset: &Dataset,
     to: &mut Vec<Boxed<FullPath>>,
@@ -138,8 +138,8 @@ fn copy_paths(paths: &Ranked<Boxed<FullPath>>, mut made: Paths) -> Result<Paths,
     Ok(made)
 }
 
-// Paths in the order of their full octets, each once.
-fn in_order(found: Vec<Boxed<FullPath>>) -> Result<Paths, Memory>
+/// Paths in the order of their full octets, each once. Fails only for want of memory.
+pub(crate) fn in_order(found: Vec<Boxed<FullPath>>) -> Result<Paths, Memory>
     ensures { IfOk result (λ paths. paths ≡ in_order found.items) }
 {
     let alloc = *found.allocator();
