@@ -9,7 +9,8 @@ and system, the least of the rounds, less that of the input's preparation alone)
 the ratio of the first to the second. With two programs their outputs are compared octet by octet as well.
 
 With --contexts the rows of contexts are measured instead. A line has how often the operation takes what another takes, in
-instructions where valgrind is at hand and in time, and the bound that is to be kept. S is a STORE of one item of an
+instructions where valgrind is at hand and in time, and the bound that is to be kept. Behind these stand commands that hold
+everybody up, in milliseconds of processor time. S is a STORE of one item of an
 existing entry, at as many entries, without any context. OTHER, of before contexts were served, has a row of S alone.
 
     --rounds N     how many rounds each input is run (5)
@@ -217,6 +218,41 @@ def beside_others(entries, contexts):
     return Work(SCRIPT, prepared, sent(0, lines(changes(5000, entries))), 5000)
 
 
+def heirs(base, count):
+    return lines(f'STORE ("/heirs/~/h{k:05}/" "dataset.inherit" "{base}")' for k in range(count))
+
+
+def beside_heirs():
+    """By a script: 8,000 datasets inherit one, eight seats have 1,600 contexts of datasets with names alike, and a ninth stores to the one."""
+    prepared = b"".join(b"enter %d joe\n" % seat for seat in range(9)) + sent(0, lines([one("e")]) + heirs(DATASET, 8000))
+    prepared += sent(0, lines(f'STORE ("/heirs/~/x{k:05}/e" "option.a0" "1")' for k in range(1600)))
+    for k in range(1600):
+        prepared += sent(1 + k % 8, lines([make(f"c{k}", f"/heirs/~/x{k:05}/")]))
+    return Work(SCRIPT, prepared, sent(0, lines(one("e", f"v{i}") for i in range(100))), 100)
+
+
+def beside_depth():
+    """2,000 datasets inherit one, 20 contexts look at all levels beneath another one, and a value of the one is stored."""
+    other = lines(['STORE ("/vendor/~/e" "option.a0" "1")'])
+    contexts = lines(make(f"c{k}", "/vendor/~/", "DEPTH 0 ") for k in range(20))
+    stores = lines(one("e", f"v{i}") for i in range(100))
+    return Work(PIPE, lines([one("e")]) + heirs(DATASET, 2000) + other + contexts, stores, 100)
+
+
+def rights_changed():
+    """A list of rights of a dataset of 10,000 entries that 20 contexts look at."""
+    contexts = lines(make(f"c{k}") for k in range(20))
+    lists = lines(f'SETACL ("{DATASET}") "u{i}" "r"' for i in range(4))
+    return Work(PIPE, filled(10_000) + contexts, lists, 4)
+
+
+def time_rows():
+    """Commands that hold everybody up: what is measured, and the bound in milliseconds of processor time."""
+    yield "STORE, 8,000 heirs, 1,600 contexts elsewhere", beside_heirs(), 0.5
+    yield "STORE to a base, 2,000 heirs, 20 with DEPTH elsewhere", beside_depth(), 1.5
+    yield "SETACL on 10,000 that 20 contexts look at", rights_changed(), 250
+
+
 def store_rows():
     stored = plain(10_000)
     yield "STORE of a shown value, 20 contexts", watched(10_000), stored, [("S", 1, 18), ("S a notice", 20, 0.9)]
@@ -384,11 +420,18 @@ def measure_context_rows(programs, folder, given):
         microseconds = " and ".join(f"{it * 1e6:,.2f} us" for it in times)
         told = " and ".join(f"{it:,.0f}" for it in counts) + " instructions, " if counts else ""
         print(f"    {told}{microseconds}", flush=True)
+    for name, work, bound in time_rows():
+        if given.only in name:
+            (counts,), (times,) = one_program.costs([work])
+            shown_bound(name, None, times[0] * 1e3, "ms", bound)
+            if counts:
+                print(f"    {counts[0]:,.0f} instructions", flush=True)
     name = "STORE without contexts, beside the other program"
     if len(programs) == 2 and given.only in name:
         counts, times = all_programs.costs([plain(10_000)])
         shown_bound(name, counts[0] and counts[0][0] / counts[1][0], times[0][0] / times[1][0], "S", 1.05)
     measure_context_memory(programs[0], folder, given.only)
+    measure_rights_memory(programs[0], folder, given.only)
 
 
 def measure_context_memory(program, folder, only):
@@ -399,6 +442,16 @@ def measure_context_memory(program, folder, only):
     few, many = (filled(10_000) + lines(make(f"c{k}") for k in range(count)) for count in (1, 11))
     octets = (peak(program, many, folder) - peak(program, few, folder)) / 100_000
     shown_bound(name, None, octets, "octets", 320)
+
+
+def measure_rights_memory(program, folder, only):
+    """What a change of rights takes for a while, beside the same without one."""
+    name = "octets an entry and context, SETACL"
+    if only not in name:
+        return
+    work = rights_changed()
+    octets = (peak(program, work.prepared + work.measured, folder) - peak(program, work.prepared, folder)) / 200_000
+    shown_bound(name, None, octets, "octets", 150)
 
 
 def shown(name, values, unit, digits=3):
