@@ -6,12 +6,14 @@ pub mod DatasetLemmas
 pub mod HousedLaws
 pub mod LimitLaws
 pub mod RefusalLemmas
+pub mod KnownLemmas
 pub mod ListLemmas
 pub mod RightLemmas
 pub mod RootLemmas
 pub mod SoundLaws
 pub mod Stages
 pub mod StoreLaws
+pub mod ToldLemmas
 pub mod TwiceLemmas
 pub mod WriteLemmas
 pub mod StepLemmas

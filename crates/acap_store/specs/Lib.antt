@@ -5,6 +5,7 @@ pub mod Deleting
 pub mod Examples
 pub mod Forms
 pub mod Invalid
+pub mod Known
 pub mod Laws
 pub mod Limits
 pub mod Meaning

@@ -1,6 +1,5 @@
 //! Which entries a STORE deletes, and what DELETEDSINCE tells of them (RFC 2244 section 6.6.2).
-ghost use Rattle.std.specs.Prelude.{◌≡◌, map, not, IfOk, Ok, Err};
-ghost use Rattle.std.specs.FinMap as table;
+ghost use Rattle.std.specs.Prelude.{◌≡◌, not, IfOk, Ok, Err};
 ghost use Rattle.acap_commands.specs.Answers.{IsAnswer};
 ghost use Rattle.acap_entries.specs.Made.{IsMade};
 ghost use Rattle.acap_store.specs.Deleting as rule;
@@ -9,14 +8,14 @@ use crate::forms::exists_at;
 use crate::writing::ends;
 use acap_commands::{Refusal, StoreEntry};
 use acap_entries::{
-    After, Attribute, Copying, Dataset, Deletion, Memory, Moment, Paths, Sequence, Table, Tree,
+    After, Attribute, Copying, Dataset, Deletion, Memory, Moment, Paths, Ranked, Sequence, Tree,
     UserName, Value, Values, Writes,
 };
 use acap_rights::{Object, Realm, rights_of};
 use std::alloc::Global;
 
-// Names, each once.
-type Names = Table<()>;
+// Names, each once, in the order of their octets.
+type Names = Ranked<Attribute>;
 
 // Whether an entry is to end and exists.
 fn is_to_end(tree: &Tree, entry: &StoreEntry) -> bool
@@ -70,14 +69,16 @@ fn is_told(tree: &Tree, dataset: &Dataset, since: Moment, deletion: &Deletion) -
     deletion.path.dataset == *dataset && since < deletion.moment && !exists_at(tree, &deletion.path)
 }
 
-// The names of the deletions that are told, as a set.
+// The names of the deletions that are told.
+#[tactic(auto, using(crate::proofs::ToldLemmas::put_names))]
 fn gather_names(
     alloc: Global,
     tree: &Tree,
     dataset: &Dataset,
     since: Moment,
 ) -> Result<Names, Memory>
-    ensures { IsMade (rule.set_of (rule.names_told tree.now.store dataset.now since)) result }
+    ensures { IfOk result (λ names.
+        names.0 ≡ rule.ascending (rule.names_told tree.now.store dataset.now since)) }
 {
     let mut names = Names::new(alloc);
     let kept = tree.deletions();
@@ -85,25 +86,26 @@ fn gather_names(
         let deletion = &kept[at];
         if is_told(tree, dataset, since, deletion) {
             let name = Attribute::from_slice(alloc, deletion.path.name.as_slice())?;
-            names.set(name, ())?;
+            names.reserve(1)?;
+            names.put(name);
         }
     }
     Ok(names)
 }
 
-// The names of a set.
+// The names as values.
 fn list_names(alloc: Global, names: &Names) -> Result<Values, Memory>
-    ensures { IfOk result (λ made. made ≡ map (λ e. e.0) (table.entries names.now)) }
+    ensures { IfOk result (λ made. made ≡ names.now.0) }
 {
     let mut made = Sequence::new(alloc);
-    for (name, _) in names.entries() {
+    for name in names.iter() {
         made.push(Value::from_slice(alloc, name.as_slice())?)?;
     }
     Values::new(made)
 }
 
 // The names of the entries that were deleted in a dataset later than the time and don't exist.
-#[tactic(auto, unfolding(crate::specs::Deleting::names_deleted, crate::specs::Deleting::ascending))]
+#[tactic(auto, unfolding(crate::specs::Deleting::names_deleted))]
 fn names_deleted(
     alloc: Global,
     tree: &Tree,

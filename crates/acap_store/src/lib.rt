@@ -8,6 +8,7 @@ mod deleting;
 mod ending;
 mod forms;
 mod invalid;
+mod known;
 mod laws;
 mod limits;
 mod meaning;

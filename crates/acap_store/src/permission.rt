@@ -9,10 +9,11 @@ ghost use Rattle.acap_store.specs.Sharing.{HasNoLists};
 
 use crate::asker::Asker;
 use crate::forms::{exists_at, is_management, is_nil_at, is_value};
+use crate::known::learn_rights;
 use crate::subject::Subject;
 use acap_commands::{ObjectName, Refusal, StoreEntry, StoreItem};
 use acap_entries::{Attribute, Boxed, Copying, Memory, Path, Tree};
-use acap_rights::{Object, Rights, SharedRights, object_of_list, rights_of, shared_rights};
+use acap_rights::{Object, Rights, SharedRights, object_of_list, rights_of};
 use std::alloc::Global;
 
 // The object that is an entry's `entry`.
@@ -213,33 +214,6 @@ fn check_entry(
     }
 }
 
-// A dataset, and the rights on the attributes of its entries, but for those that have lists.
-#[derive(Drop)]
-struct Known<'a> {
-    dataset: &'a [u8],
-    shared: SharedRights,
-}
-
-// The rights in a dataset: those known, where they are known of this dataset.
-fn learn_rights<'a>(
-    alloc: Global,
-    by: &Asker<'_>,
-    known: Option<Known<'a>>,
-    dataset: &'a [u8],
-) -> Result<Known<'a>, Memory>
-    requires { IfSome known (λ known. asking.AreSharedIn by.now known.dataset.now known.shared) }
-    ensures dataset { IfOk result (λ known. known.dataset.now ≡ dataset.now) }
-    ensures shared { IfOk result (λ known. asking.AreSharedIn by.now dataset.now known.shared) }
-{
-    if let Some(known) = known
-        && known.dataset == dataset
-    {
-        return Ok(known);
-    }
-    let shared = shared_rights(alloc, by.tree, by.realm, by.user, dataset)?;
-    Ok(Known { dataset, shared })
-}
-
 /// That rights are missing on no object of all entries, or the refusal for the first (RFC 2244 section 3.5).
 pub(crate) fn check_rights(
     alloc: Global,
@@ -248,11 +222,10 @@ pub(crate) fn check_rights(
 ) -> Result<(), Refusal>
     ensures { IsCheck (asking.rights_refusal by.now entries.now) result }
 {
-    let mut known: Option<Known<'_>> = None;
+    let mut known = Vec::new(alloc);
     for entry in entries {
-        let here = learn_rights(alloc, by, known, entry.path.dataset.as_slice())?;
-        check_entry(alloc, by, entry, &here.shared)?;
-        known = Some(here);
+        let at = learn_rights(alloc, by, &mut known, entry.path.dataset.as_slice())?;
+        check_entry(alloc, by, entry, &known[at].shared)?;
     }
     Ok(())
 }
