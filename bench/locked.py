@@ -562,8 +562,10 @@ def told(what, times):
     print(f"{what}: {times[0] / 1000:,.1f} us at least, the middle {times[len(times) // 2] / 1000:,.1f}", flush=True)
 
 
-def tell_memory(program, enter, what, calls, count):
-    print(f"memory of one of {count:,} {what}: {(program.used([enter] + calls) - program.used([enter])) / count:.0f} octets", flush=True)
+def tell_memory(program, before, what, call, count):
+    """What the history and the pass hold of one of so many equal calls that come after others."""
+    used = program.used(before + [call] * count) - program.used(before)
+    print(f"memory of one of {count:,} {what}: {used / count:.0f} octets", flush=True)
 
 
 def tell_epoch(program, enter, entries, rounds=7):
@@ -580,8 +582,12 @@ def figures(path):
     enter, store = "0 enter joe", '0 A1 STORE ("/option/~/e000000" "option.a0" "00000000")'
     with tempfile.TemporaryDirectory() as folder:
         program = Program(path, folder)
-        tell_memory(program, enter, "Drains that tell nothing", ["0 drains 100000"], 100_000)
-        tell_memory(program, enter, "STOREs of one item", [store] * 100_000, 100_000)
+        hundred = [f'0 A1 STORE ("/option/~/e{i:06}" "option.a0" "{i:08}")' for i in range(100)]
+        tell_memory(program, [enter], "Drains that tell nothing", "0 drain", 100_000)
+        tell_memory(program, [enter], "MYRIGHTS", '0 A1 MYRIGHTS ("/option/~/")', 100_000)
+        tell_memory(program, [enter], "STOREs of one item", store, 100_000)
+        search = '0 A1 SEARCH "/option/~/" RETURN ("option.a0") ALL'
+        tell_memory(program, [enter, *hundred], "SEARCHes of a hundred rows", search, 2_000)
         told("`close` at 500,000 calls of one seat", [program.times([enter, "0 drains 499999"])[-1] for _ in range(7)])
         tell_epoch(program, enter, 0)
         tell_epoch(program, enter, 10_000)

@@ -47,6 +47,9 @@ def stale_pairs(what, folder, pairs):
     """A line for each old text that doesn't stand in its file of a folder exactly once, after the pairs before it are put in place."""
     texts = {}
     for path, old, new in pairs:
+        if not (folder / path).is_file():
+            yield f"{what}: {path} is no file"
+            continue
         text = texts.get(path) or (folder / path).read_text()
         if text.count(old) != 1:
             yield f"{what}: stands {text.count(old)} times in {path}: {old.strip()}"
