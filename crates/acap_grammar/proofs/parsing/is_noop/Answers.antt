@@ -1,5 +1,4 @@
-use Rattle.std.proofs.Common.{◌≡◌, List, Option, Some, None, codes, sym, ◌∙◌, ap}
-use Rattle.acap_lexer.specs.Token.{Token}
+use Rattle.std.proofs.Common.{◌≡◌, Some, None, codes, sym, ◌∙◌, ap}
 use Rattle.acap_grammar.specs.Marks.{behind_word, ends}
 use Rattle.acap_grammar.proofs.NoopReads.{noop_only, noop_read}
 use Rattle.acap_grammar.proofs.parsing.is_noop.Goals as goal
