@@ -26,5 +26,6 @@ pub mod InPlaceLemmas
 pub mod LoopLemmas
 pub mod FollowingLemmas
 pub mod TurnLemmas
+pub mod SilentLemmas
 pub mod TellingLemmas
 pub mod AnswerLemmas

@@ -1,5 +1,5 @@
 -- A change that is about to be committed: words of private contracts.
-use Rattle.std.specs.Prelude.{◌≡◌, ℕ, List, refl}
+use Rattle.std.specs.Prelude.{◌≡◌, refl}
 use Rattle.std.specs.Borrow.{Bor}
 use Rattle.std.specs.Coded.{Coded, code_by, coded×}
 use Rattle.acap_entries.specs.Changes.{store_after}
@@ -9,10 +9,7 @@ use Rattle.acap_entries.specs.Store.{Store, Roomy, store_code}
 use Rattle.acap_entries.specs.contracts.change.Change as change
 use Rattle.acap_entries.specs.declared.after.After.{After}
 use Rattle.acap_entries.specs.declared.change.Change.{Change}
-use Rattle.acap_inherit.specs.Index.{IsIndexOf}
-use Rattle.acap_inherit.specs.Leaving.{AreTouchedDatasets}
-use Rattle.acap_inherit.specs.declared.link.Link.{Link}
-use Rattle.acap_inherit.specs.declared.touched_dataset.TouchedDataset.{TouchedDataset}
+use Rattle.acap_inherit.specs.Reaching.{Reaching}
 use Rattle.acap_rights.specs.contracts.realm.Realm as realm
 use Rattle.acap_rights.specs.declared.realm.Realm.{Realm}
 use Rattle.acap_views.specs.Changing.{IsSoundStep}
@@ -26,12 +23,15 @@ pub record Planned : Type 0 where
 abbrev pub store_ahead : Planned → Store
 store_ahead plan = store_after plan.change plan.old
 
+-- the change and the store alone
+abbrev pub reaching : Planned → Reaching
+reaching plan = record { change = plan.change; old = plan.old }
+
 -- the change may be made, and what is known of it is so
-pub record IsAhead (change : Bor Change) (tree : Bor Roomy) (after : Bor After) (beside : Bor Store) (links : Bor (List Link × ℕ)) (datasets : Bor (List TouchedDataset)) : Type 0 where
+pub record IsAhead (change : Bor Change) (tree : Bor Roomy) (after : Bor After) (beside : Bor Store) (reach : Bor Reaching) : Type 0 where
   pub sound : IsSoundStep tree.now.store (store_after change.now tree.now.store)
   pub formed : AreWellFormed change.now.writes
-  pub index : IsIndexOf tree.now.store.records links.now.0
-  pub touched : AreTouchedDatasets change.now tree.now.store datasets.now
+  pub reached : reach.now ≡ record { change = change.now; old = tree.now.store }
   pub before : records_before after.now ≡ tree.now.store.records
   pub near : beside.now.records ≡ (store_after change.now tree.now.store).records
   pub ahead : records_ahead after.now ≡ (store_after change.now tree.now.store).records

@@ -1,15 +1,19 @@
 -- Which touched entries a search looks at, before the change is committed: words of private contracts.
-use Rattle.std.specs.Prelude.{◌≡◌, ℕ, Bool, List, Option, Some, None}
+use Rattle.std.specs.Prelude.{◌≡◌, ℕ, Bool, ◌&&◌, ◌||◌, List, Option, Some, None, is_some}
 use Rattle.std.specs.List.{filter, list_any}
 use Rattle.acap_entries.specs.Orders.{octets_eq}
 use Rattle.acap_entries.specs.declared.path.Path.{Path}
 use Rattle.acap_inherit.specs.Leaving.{AreTouchedAt}
-use Rattle.acap_inherit.specs.Touched.{touched_paths}
-use Rattle.acap_inherit.specs.declared.touched_dataset.TouchedDataset.{TouchedDataset}
+use Rattle.acap_inherit.specs.Reaching.{AreAllReached}
+use Rattle.acap_inherit.specs.Touched.{touched_paths, datasets_touched}
+use Rattle.acap_search.specs.Scopes.{scope_of, datasets_of}
 use Rattle.acap_search.specs.declared.query.Sought.{Sought}
-use Rattle.acap_views.specs.Aheads.{Planned, store_ahead}
-use Rattle.acap_views.specs.Work.{is_looked_at}
+use Rattle.acap_views.specs.Aheads.{Planned, store_ahead, reaching}
+use Rattle.acap_views.specs.Contexts.{Context}
+use Rattle.acap_views.specs.Keeping.{RoomyContext}
+use Rattle.acap_views.specs.Work.{is_live, is_looked_at}
 use Rattle.acap_views.specs.declared.noted.Noted.{Noted}
+use Rattle.acap_views.specs.declared.noted.NotedPaths.{NotedPaths}
 
 -- all paths that a change touches, and those that a search looks at
 abbrev pub touched_by : Planned → List Path
@@ -25,11 +29,38 @@ looked_at_by plan sought = filter (looks_at plan sought) (touched_by plan)
 abbrev pub AreLookedAt : Planned → Sought → List Path → Type 0
 AreLookedAt plan sought paths = sought.depth ≡ None → paths ≡ looked_at_by plan sought
 
--- whether a dataset is among some in which a change touches something
-abbrev pub has_dataset : List TouchedDataset → List ℕ → Bool
-has_dataset datasets dataset = list_any (λ d. octets_eq d.dataset dataset) datasets
+-- whether a search looks through a dataset
+abbrev pub looks_into : Planned → Sought → List ℕ → Bool
+looks_into plan sought dataset = list_any (octets_eq dataset) (datasets_of (store_ahead plan).records (scope_of sought))
+
+-- whether a change touches something in a dataset
+abbrev pub is_touched_in : Planned → List ℕ → Bool
+is_touched_in plan dataset = list_any (octets_eq dataset) (datasets_touched plan.change.writes plan.old.records (store_ahead plan).records)
+
+-- whether a search may look at a touched entry: where its dataset has one, and with DEPTH always
+abbrev pub is_asked : Planned → Sought → Bool
+is_asked plan sought = is_some sought.depth || is_touched_in plan sought.dataset
+
+-- whether a context may: a live one may where its search may
+abbrev pub may_look : Planned → Context → Bool
+may_look plan context = is_asked plan context.sought && is_live context.kept
+
+abbrev pub any_may_look : Planned → List (List ℕ × RoomyContext) → Bool
+any_may_look plan contexts = list_any (λ entry. may_look plan entry.1.context) contexts
 
 -- what is kept of a dataset, if anything is, is so of the change
-abbrev pub IsNoted : Planned → Option Noted → Type 0
-IsNoted plan None = Unit {0}
-IsNoted plan (Some noted) = AreTouchedAt plan.change plan.old noted.dataset.now noted.paths
+abbrev pub ArePathsNoted : Planned → Option NotedPaths → Type 0
+ArePathsNoted plan None = Unit {0}
+ArePathsNoted plan (Some noted) = AreTouchedAt plan.change plan.old noted.dataset.now noted.paths
+
+-- and so are the datasets in which something may be touched
+abbrev pub AreReached : Planned → List (List ℕ) → Type 0
+AreReached plan datasets = AreAllReached (reaching plan) datasets
+
+abbrev pub AreDatasetsNoted : Planned → Option (List (List ℕ) × ℕ) → Type 0
+AreDatasetsNoted plan None = Unit {0}
+AreDatasetsNoted plan (Some noted) = AreReached plan noted.0
+
+pub record IsNoted (plan : Planned) (noted : Noted) : Type 0 where
+  pub last : ArePathsNoted plan noted.last
+  pub datasets : AreDatasetsNoted plan noted.datasets

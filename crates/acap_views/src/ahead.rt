@@ -1,24 +1,23 @@
 //! A change that is about to be committed, and what of it is known for all contexts.
 use crate::beside::Beside;
 use acap_entries::{After, Change, Tree};
-use acap_inherit::{Resolved, TouchedDataset};
+use acap_inherit::Reach;
 use acap_rights::Realm;
 use std::marker::Model;
 
 /// A change that is about to be committed: the store before it and after it, the latter also with what it has of a written dataset at
-/// hand, who is who, and in which datasets it touches something.
+/// hand, who is who, and what decides in which datasets it touches something.
 #[derive(Drop)]
-pub(crate) struct Ahead<'a> {
+pub(crate) struct Ahead<'a, 'r> {
     pub(crate) tree: &'a Tree,
     pub(crate) change: &'a Change,
     pub(crate) after: &'a After<'a>,
     pub(crate) beside: &'a Beside<'a, After<'a>>,
     pub(crate) realm: &'a Realm,
-    pub(crate) index: &'a Resolved,
-    pub(crate) datasets: &'a [TouchedDataset],
+    pub(crate) reach: &'a Reach<'r>,
 }
 
-impl<'a> Model for Ahead<'a> {
+impl<'a, 'r> Model for Ahead<'a, 'r> {
     ghost use Rattle.acap_views.specs.Aheads.{Planned, planned_code, IsAhead};
 
     ghost Value = { Planned };
@@ -27,5 +26,5 @@ impl<'a> Model for Ahead<'a> {
 
     ghost view = { λ a. record { change = a.change.now; old = a.tree.now.store; realm = a.realm.now } };
 
-    ghost invariant = { λ a. IsAhead a.change a.tree a.after a.beside a.index a.datasets };
+    ghost invariant = { λ a. IsAhead a.change a.tree a.after a.beside a.reach };
 }

@@ -1,9 +1,32 @@
-//! The touched entries of one dataset, kept for the next context that looks into it.
-use acap_entries::Paths;
+//! What of a change is kept for the next context.
+use acap_entries::{Boxed, Dataset, Paths, Ranked};
 
-/// A dataset that a context looks into, and the entries in it that a change touches: the next context often looks into the same one.
+/// A dataset that a context looks into, and the entries in it that a change touches.
 #[derive(Drop)]
-pub(crate) struct Noted<'a> {
+pub(crate) struct NotedPaths<'a> {
     pub(crate) dataset: &'a [u8],
     pub(crate) paths: Paths,
+}
+
+/// What was listed for one context and serves the next ones: the touched entries of the last dataset that was asked, since the next
+/// context often looks into the same one, and for all contexts with DEPTH the datasets in which something may be touched.
+#[derive(Drop)]
+pub(crate) struct Noted<'a> {
+    pub(crate) last: Option<NotedPaths<'a>>,
+    pub(crate) datasets: Option<Ranked<Boxed<Dataset>>>,
+}
+
+impl<'a> Noted<'a> {
+    ghost use Rattle.std.specs.Prelude.{◌≡◌, None};
+
+    /// Nothing was listed yet.
+    pub(crate) fn nothing() -> Noted<'a>
+        ensures last { result.last ≡ None }
+        ensures datasets { result.datasets ≡ None }
+    {
+        Noted {
+            last: None,
+            datasets: None,
+        }
+    }
 }

@@ -13,6 +13,7 @@ use crate::ahead::Ahead;
 use crate::beside::Beside;
 use crate::delta::{Delta, Turns};
 use crate::moving::prepared_law;
+use crate::noted::Noted;
 use crate::turns::turns_of;
 use crate::views::Views;
 use acap_entries::{After, Change, Memory, Sequence, Steps, Tree};
@@ -32,7 +33,7 @@ impl Views {
     // What becomes of the entries that the contexts of all seats look at, seat by seat, and how many these are.
     fn all_turns<L: Ledger>(
         &self,
-        ahead: &Ahead<'_>,
+        ahead: &Ahead<'_, '_>,
         work: &mut u64,
         steps: &mut Steps<L>,
     ) -> Result<Sequence<Turns>, Memory>
@@ -41,7 +42,7 @@ impl Views {
         ensures turns { IfOk result (λ turns. turns ≡ rule.needed_of ahead.now (seats_in self.now)) }
     {
         let mut turns = Vec::with_capacity(self.alloc, self.seats.len())?;
-        let mut noted = None;
+        let mut noted = Noted::nothing();
         for entry in &self.seats {
             turns.push(turns_of(self.alloc, ahead, &entry.1, &mut noted, work, steps)?)?;
         }
@@ -51,12 +52,12 @@ impl Views {
     /// What a change of the store comes to for all contexts, before it is committed: at `on_change` each live one is brought up to date
     /// in its user's eyes (RFC 2244 sections 3.3, 3.5 and 6.5). Each touched entry counts as a step for each live context that looks
     /// at it, and is looked up unless the context is certain to be freed. Fails only for want of memory; nothing has changed in either case.
-    pub fn prepare<L: Ledger>(
+    pub fn prepare<'a, L: Ledger>(
         &self,
-        tree: &Tree,
+        tree: &'a Tree,
         realm: &Realm,
-        index: &Resolved,
-        change: &Change,
+        index: &'a Resolved,
+        change: &'a Change,
         steps: &mut Steps<L>,
     ) -> Result<Delta, Memory>
         requires current { IsCurrent tree.now.store realm.now (seats_in self.now) }
@@ -71,7 +72,7 @@ impl Views {
         }
         prepared_law();
         change.writes.form_law();
-        let datasets = index.touched_in(tree, change)?;
+        let reach = index.reach(tree, change)?;
         let after = After::of(tree, change);
         let beside = Beside::of(&after, written_dataset(change));
         let ahead = Ahead {
@@ -80,8 +81,7 @@ impl Views {
             after: &after,
             beside: &beside,
             realm,
-            index,
-            datasets: datasets.as_slice(),
+            reach: &reach,
         };
         let mut work = 0;
         let seats = self.all_turns(&ahead, &mut work, steps)?;

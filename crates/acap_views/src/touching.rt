@@ -1,54 +1,101 @@
 //! Which entries that a change touches a search looks at.
-ghost use Rattle.std.specs.Prelude.{◌≡◌, IfOk, IfSome};
+ghost use Rattle.std.specs.Prelude.{◌≡◌, IfOk, IfSome, map as each};
 ghost use Rattle.std.specs.List.{filter};
 ghost use Rattle.acap_views.specs.Touching as rule;
 
 use crate::ahead::Ahead;
-use crate::noted::Noted;
-use acap_entries::{Copying, Dataset, Memory, Path, Paths};
-use acap_inherit::{TouchedDataset, touched_at, touched_paths_law};
+use crate::noted::{Noted, NotedPaths};
+use acap_entries::{Boxed, Copying, Dataset, Memory, Paths, Ranked};
+use acap_inherit::touched_at;
 use acap_search::{Sought, looks_in};
 use std::alloc::Global;
 
-// Whether a change touches something in a dataset.
-fn has_dataset(datasets: &[TouchedDataset], dataset: &Dataset) -> bool
-    ensures { result ≡ rule.has_dataset datasets.now dataset.now }
+/// Whether a change touches something in a dataset.
+pub(crate) fn is_touched_in(ahead: &Ahead<'_, '_>, dataset: &Dataset) -> bool
+    ensures { result ≡ rule.is_touched_in ahead.now dataset.now }
 {
-    datasets
-        .iter()
-        .any(|touched| touched.dataset.as_slice() == dataset.as_slice())
+    ahead.reach.has(dataset)
 }
 
-// Whether a search looks through the dataset of an entry.
-fn is_looked_at(ahead: &Ahead<'_>, sought: &Sought, path: &Path) -> bool
-    ensures { result ≡ rule.looks_at ahead.now sought.now path.now }
+// The datasets in which something may be touched.
+fn reached_datasets(ahead: &Ahead<'_, '_>) -> Result<Ranked<Boxed<Dataset>>, Memory>
+    ensures { IfOk result (λ made. rule.AreReached ahead.now made.0) }
 {
-    looks_in(&sought.scope(), ahead.after, &path.dataset)
+    ahead.reach.datasets()
 }
 
-// Those of some paths in whose datasets a search looks.
-fn keep_looked_at(ahead: &Ahead<'_>, sought: &Sought, paths: Paths) -> Result<Paths, Memory>
-    ensures { IfOk result (λ made. made ≡ filter (rule.looks_at ahead.now sought.now) paths) }
+// Whether a search looks through a dataset.
+fn is_looked_into(ahead: &Ahead<'_, '_>, sought: &Sought, dataset: &Dataset) -> bool
+    ensures { result ≡ rule.looks_into ahead.now sought.now dataset.now }
 {
-    let mut made = Paths::new(paths.allocator());
-    for path in paths.into_vec() {
-        if is_looked_at(ahead, sought, &path) {
-            made.push(path)?;
+    looks_in(&sought.scope(), ahead.after, dataset)
+}
+
+// Those of some datasets through which a search looks.
+fn looked_into<'n>(
+    alloc: Global,
+    ahead: &Ahead<'_, '_>,
+    sought: &Sought,
+    datasets: &'n Ranked<Boxed<Dataset>>,
+) -> Result<Vec<&'n Dataset>, Memory>
+    ensures { IfOk result
+        (λ made. each (λ d. d.now) made.items ≡ filter (rule.looks_into ahead.now sought.now) datasets.now.0) }
+{
+    let mut made = Vec::new(alloc);
+    for dataset in datasets.iter() {
+        let dataset = dataset.get();
+        if is_looked_into(ahead, sought, dataset) {
+            made.push(dataset)?;
         }
     }
     Ok(made)
 }
 
+// The touched entries that a search looks at, of which the datasets are among some.
+fn in_datasets(
+    alloc: Global,
+    ahead: &Ahead<'_, '_>,
+    sought: &Sought,
+    datasets: &Ranked<Boxed<Dataset>>,
+) -> Result<Paths, Memory>
+    requires { rule.AreReached ahead.now datasets.now.0 }
+    ensures { IfOk result (λ paths. paths ≡ rule.looked_at_by ahead.now sought.now) }
+{
+    let looked = looked_into(alloc, ahead, sought, datasets)?;
+    ahead.reach.touched_among(alloc, looked.as_slice())
+}
+
+// The touched entries of all datasets that a search with DEPTH looks through. The datasets in which something may be touched
+// are listed once for a change.
+fn beneath(
+    alloc: Global,
+    ahead: &Ahead<'_, '_>,
+    sought: &Sought,
+    noted: &mut Noted<'_>,
+) -> Result<Paths, Memory>
+    requires { rule.IsNoted ahead.now noted.old }
+    ensures noted { rule.IsNoted ahead.now noted.new }
+    ensures paths { IfOk result (λ paths. paths ≡ rule.looked_at_by ahead.now sought.now) }
+{
+    if let Some(datasets) = &noted.datasets {
+        return in_datasets(alloc, ahead, sought, datasets);
+    }
+    let datasets = reached_datasets(ahead)?;
+    let paths = in_datasets(alloc, ahead, sought, &datasets)?;
+    noted.datasets = Some(datasets);
+    Ok(paths)
+}
+
 // The touched entries of a dataset, where it is the one of which they are kept.
 fn known_paths<'n>(
-    ahead: &Ahead<'_>,
+    ahead: &Ahead<'_, '_>,
     sought: &Sought,
-    noted: &'n Option<Noted<'_>>,
+    noted: &'n Noted<'_>,
 ) -> Option<&'n Paths>
     requires { rule.IsNoted ahead.now noted.now }
     ensures { IfSome result (λ paths. rule.AreLookedAt ahead.now sought.now paths.now) }
 {
-    let known = noted.as_ref()?;
+    let known = noted.last.as_ref()?;
     if known.dataset == sought.dataset.as_slice() {
         Some(&known.paths)
     } else {
@@ -59,9 +106,9 @@ fn known_paths<'n>(
 // Lists the touched entries of a dataset, and keeps them.
 fn note_paths<'a>(
     alloc: Global,
-    ahead: &Ahead<'_>,
+    ahead: &Ahead<'_, '_>,
     sought: &'a Sought,
-    noted: &mut Option<Noted<'a>>,
+    noted: &mut Noted<'a>,
 ) -> Result<Paths, Memory>
     requires { rule.IsNoted ahead.now noted.old }
     ensures noted { rule.IsNoted ahead.now noted.new }
@@ -69,7 +116,7 @@ fn note_paths<'a>(
 {
     let paths = touched_at(alloc, ahead.tree, ahead.change, &sought.dataset)?;
     let dataset = sought.dataset.as_slice();
-    *noted = Some(Noted {
+    noted.last = Some(NotedPaths {
         dataset,
         paths: paths.copy()?,
     });
@@ -79,18 +126,18 @@ fn note_paths<'a>(
 // The touched entries of the one dataset that a search without DEPTH looks through.
 fn in_dataset<'a>(
     alloc: Global,
-    ahead: &Ahead<'_>,
+    ahead: &Ahead<'_, '_>,
     sought: &'a Sought,
-    noted: &mut Option<Noted<'a>>,
+    noted: &mut Noted<'a>,
 ) -> Result<Paths, Memory>
     requires { rule.IsNoted ahead.now noted.old }
     ensures noted { rule.IsNoted ahead.now noted.new }
     ensures paths { IfOk result (rule.AreLookedAt ahead.now sought.now) }
 {
-    if has_dataset(ahead.datasets, &sought.dataset) {
-        if let Some(paths) = known_paths(ahead, sought, noted) {
-            return paths.copy();
-        }
+    if let Some(paths) = known_paths(ahead, sought, noted) {
+        return paths.copy();
+    }
+    if is_touched_in(ahead, &sought.dataset) {
         return note_paths(alloc, ahead, sought, noted);
     }
     Ok(Paths::new(alloc))
@@ -100,18 +147,16 @@ fn in_dataset<'a>(
 /// another one is listed, and those that are listed are kept for the next search. Fails only for want of memory.
 pub(crate) fn list_touched<'a>(
     alloc: Global,
-    ahead: &Ahead<'_>,
+    ahead: &Ahead<'_, '_>,
     sought: &'a Sought,
-    noted: &mut Option<Noted<'a>>,
+    noted: &mut Noted<'a>,
 ) -> Result<Paths, Memory>
     requires { rule.IsNoted ahead.now noted.old }
     ensures noted { rule.IsNoted ahead.now noted.new }
     ensures paths { IfOk result (λ paths. paths ≡ rule.looked_at_by ahead.now sought.now) }
 {
-    touched_paths_law();
     if sought.depth.is_none() {
         return in_dataset(alloc, ahead, sought, noted);
     }
-    let paths = ahead.index.touched(ahead.tree, ahead.change)?;
-    keep_looked_at(ahead, sought, paths)
+    beneath(alloc, ahead, sought, noted)
 }

@@ -4,6 +4,7 @@ ghost use Rattle.acap_search.specs.Counting.{IsCounted};
 ghost use Rattle.acap_views.specs.Keeping.{occupant_in};
 ghost use Rattle.acap_views.specs.Plans as rule;
 ghost use Rattle.acap_views.specs.Plans.{live_needed};
+ghost use Rattle.acap_views.specs.Touching as touching;
 ghost use Rattle.acap_views.specs.Touching.{IsNoted, looked_at_by};
 
 use crate::ahead::Ahead;
@@ -15,9 +16,9 @@ use crate::open_context::OpenContext;
 use crate::scene::Scene;
 use crate::shift_making::shifts_at;
 use crate::sitting::Sitting;
-use crate::touching::list_touched;
+use crate::touching::{is_touched_in, list_touched};
 use crate::watch::Watch;
-use acap_entries::{Memory, Paths, Sequence, Steps, UserName};
+use acap_entries::{ContextName, Memory, Paths, Sequence, Steps, UserName};
 use acap_search::Sought;
 use std::alloc::Global;
 use std::sync::ledger::Ledger;
@@ -35,7 +36,7 @@ fn and_more(count: u64, more: usize) -> Result<u64, Memory>
 // What becomes of the entries that a live context looks at.
 fn live_turn<L: Ledger>(
     alloc: Global,
-    ahead: &Ahead<'_>,
+    ahead: &Ahead<'_, '_>,
     user: &UserName,
     sought: &Sought,
     watch: &Watch,
@@ -63,10 +64,10 @@ fn live_turn<L: Ledger>(
 // What becomes of the entries that a context looks at, and how many these are: none where it isn't live.
 fn turn_of<'a, L: Ledger>(
     alloc: Global,
-    ahead: &Ahead<'_>,
+    ahead: &Ahead<'_, '_>,
     user: &UserName,
     context: &'a OpenContext,
-    noted: &mut Option<Noted<'a>>,
+    noted: &mut Noted<'a>,
     work: &mut u64,
     steps: &mut Steps<L>,
 ) -> Result<Shifts, Memory>
@@ -87,6 +88,27 @@ fn turn_of<'a, L: Ledger>(
     }
 }
 
+// Whether a search may look at a touched entry: with DEPTH any may.
+fn is_asked(ahead: &Ahead<'_, '_>, sought: &Sought) -> bool
+    ensures { result ≡ touching.is_asked ahead.now sought.now }
+{
+    sought.depth.is_some() || is_touched_in(ahead, &sought.dataset)
+}
+
+// Whether a context may look at one: whether it is live, and its search may.
+fn may_look(ahead: &Ahead<'_, '_>, context: &OpenContext) -> bool
+    ensures { result ≡ touching.may_look ahead.now context.now.context }
+{
+    is_asked(ahead, &context.sought) && context.is_live()
+}
+
+// Whether one of some contexts may.
+fn any_may_look(ahead: &Ahead<'_, '_>, contexts: &[(ContextName, OpenContext)]) -> bool
+    ensures { result ≡ touching.any_may_look ahead.now contexts.now }
+{
+    contexts.iter().any(|entry| may_look(ahead, &entry.1))
+}
+
 // Whether no context of a seat looks at a touched entry.
 fn are_still(turns: &[Shifts]) -> bool
     ensures { result ≡ rule.is_still turns.now }
@@ -105,13 +127,13 @@ fn trim(alloc: Global, turns: Turns) -> Turns
     }
 }
 
-/// What becomes of the entries that the contexts of a seat look at, context by context, and how many these are. Each entry counts as
-/// a step for each context that looks at it. Fails only for want of memory.
+/// What becomes of the entries that the contexts of a seat look at, context by context, and how many these are: nothing is made where
+/// none of them may look at one. Each entry counts as a step for each context that looks at it. Fails only for want of memory.
 pub(crate) fn turns_of<'a, L: Ledger>(
     alloc: Global,
-    ahead: &Ahead<'_>,
+    ahead: &Ahead<'_, '_>,
     sitting: &'a Sitting,
-    noted: &mut Option<Noted<'a>>,
+    noted: &mut Noted<'a>,
     work: &mut u64,
     steps: &mut Steps<L>,
 ) -> Result<Turns, Memory>
@@ -121,6 +143,9 @@ pub(crate) fn turns_of<'a, L: Ledger>(
     ensures work { OnOk result (work.new ≡ work.old + rule.work_at ahead.now (occupant_in sitting.now)) }
     ensures turns { IfOk result (λ turns. turns ≡ rule.needed_at ahead.now (occupant_in sitting.now)) }
 {
+    if !any_may_look(ahead, sitting.contexts()) {
+        return Ok(Turns::new(alloc));
+    }
     let mut turns = Vec::with_capacity(alloc, sitting.contexts.len())?;
     for entry in &sitting.contexts {
         turns.push(turn_of(alloc, ahead, &sitting.user, &entry.1, noted, work, steps)?)?;

@@ -1,8 +1,9 @@
-use Rattle.std.proofs.Common.{◌≡◌, ◌+◌, take, sym, ap, ◌∙◌, map as each}
+use Rattle.std.proofs.Common.{◌≡◌, ◌+◌, [], take, sym, ap, ◌∙◌, arith, map as each}
 use Rattle.std.proofs.lemmas.List.{take_all}
 use Rattle.std.specs.List.{sum_by}
 use Rattle.acap_views.specs.Keeping.{RoomyOccupant, occupant_in}
 use Rattle.acap_views.specs.Plans.{work_at, unless_still}
+use Rattle.acap_views.proofs.SilentLemmas.{no_work, no_turns}
 use Rattle.acap_views.proofs.TurnLemmas.{work_there, shifts_there, work_listed, turns_listed, part_counted, counted_within, counted_err}
 use Rattle.acap_views.proofs.turns.turns_of.Goals as goal
 
@@ -44,3 +45,24 @@ returns-clause-turns g c =
     c.trim.ensures ∙ (ap unless_still (c.from_vec.ensures ∙ (c.loop-entry.invariant.turns
     ∙ ap (each (shifts_there c.args.ahead.now c.args.sitting.now.user)) (take_all c.loop-entry.entry-index items c.loop-entry-test.false ∙ c.deref-entry-items.ensures.value)))
     ∙ sym (turns_listed c.args.ahead.now c.sitting.inside.contexts.items c.args.sitting.now c.sitting.invariant (ap (λ (o : RoomyOccupant). o.contexts) c.sitting.view_is)))
+
+pub returns-then-not-any_may_look-clause-count : goal.returns-then-not-any_may_look-clause-count
+returns-then-not-any_may_look-clause-count g c =
+    let plan = c.args.ahead.now in
+    let none : work_at plan (occupant_in c.args.sitting.now) ≡ 0 =
+    work_listed plan c.contexts.result.now c.args.sitting.now c.contexts.ensures.order c.contexts.ensures.value ∙ no_work plan [] c.contexts.result.now (sym c.any_may_look.ensures ∙ c.if-not-any_may_look.true) in
+    omega (arith, none)
+
+pub returns-then-not-any_may_look-clause-work : goal.returns-then-not-any_may_look-clause-work
+returns-then-not-any_may_look-clause-work g c =
+    let plan = c.args.ahead.now in
+    let none : work_at plan (occupant_in c.args.sitting.now) ≡ 0 =
+    work_listed plan c.contexts.result.now c.args.sitting.now c.contexts.ensures.order c.contexts.ensures.value ∙ no_work plan [] c.contexts.result.now (sym c.any_may_look.ensures ∙ c.if-not-any_may_look.true) in
+    omega (arith, none)
+
+pub returns-then-not-any_may_look-clause-turns : goal.returns-then-not-any_may_look-clause-turns
+returns-then-not-any_may_look-clause-turns g c =
+    let plan = c.args.ahead.now in
+    c.new.ensures
+    ∙ (no_turns plan c.args.sitting.now.user c.contexts.result.now (sym c.any_may_look.ensures ∙ c.if-not-any_may_look.true)
+    ∙ sym (turns_listed plan c.contexts.result.now c.args.sitting.now c.contexts.ensures.order c.contexts.ensures.value))

@@ -3,7 +3,6 @@ use Rattle.std.specs.FinMap as table
 use Rattle.acap_entries.specs.Changes.{store_after}
 use Rattle.acap_entries.specs.Store.{Store}
 use Rattle.acap_entries.proofs.StoreLaws.{value_after}
-use Rattle.acap_inherit.specs.Leaving.{AreTouchedDatasets}
 use Rattle.acap_views.specs.Aheads.{Planned}
 use Rattle.acap_views.specs.Keeping.{seats_in}
 use Rattle.acap_views.specs.Preparing.{seats_after, with_delta}
@@ -15,12 +14,10 @@ invariant_of-ahead g c =
     let change = c.args.change.now in
     let old = c.args.tree.now.store in
     let new = store_after change old in
-    let made : AreTouchedDatasets change old c.in_ok-datasets.datasets.items = search rules in
     record {
       sound = c.requires.sound;
       formed = c.form_law.ensures;
-      index = c.requires.index;
-      touched = subst (λ datasets. AreTouchedDatasets change old datasets) (sym c.as_slice.ensures.value) made;
+      reached = c.in_ok-reach.ensures;
       before = search rules;
       near = ap (λ (s : Store). s.records) c.of-beside.ensures ∙ c.of-after.ensures.store.records new (value_after change old);
       ahead = c.of-after.ensures.store.records new (value_after change old);
