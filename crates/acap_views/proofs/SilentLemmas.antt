@@ -1,7 +1,7 @@
 -- Where no context may look at a touched entry, nothing is looked at, and nothing becomes of any.
 use Rattle.std.proofs.Common.{◌≡◌, ℕ, ◌+◌, ◌==◌, Bool, true, false, cond, ◌&&◌, ◌||◌, Option, Some, None, List, [], ◌∷◌, length, refl, sym, ◌∙◌, ap, map as each, if◌then◌else◌}
 use Rattle.std.specs.Prelude.{is_some}
-use Rattle.std.specs.List.{list_any, list_all, sum_by}
+use Rattle.std.specs.List.{sum_by}
 use Rattle.std.proofs.lemmas.List.Sums.{sum_by-cons}
 use Rattle.acap_entries.specs.declared.path.Path.{Path}
 use Rattle.acap_search.specs.declared.query.Sought.{Sought}
@@ -11,7 +11,7 @@ use Rattle.acap_views.specs.Keeping.{RoomyContext}
 use Rattle.acap_views.specs.Plans.{work_in, needed_in, is_still, unless_still}
 use Rattle.acap_views.specs.Preparing.{shift_for, shifts_if, needed_if}
 use Rattle.acap_views.specs.Shifting.{Shift, until_full}
-use Rattle.acap_views.specs.Touching.{is_asked, is_touched_in, looked_at_by, may_look, any_may_look}
+use Rattle.acap_views.specs.Touching.{is_asked, looked_at_by, may_look, any_may_look}
 use Rattle.acap_views.specs.Work.{is_live}
 use Rattle.acap_views.proofs.TouchingLemmas.{in_no_dataset}
 use Rattle.acap_views.proofs.TurnLemmas.{work_there, shifts_there}

@@ -4,7 +4,6 @@ use Rattle.acap_entries.specs.FullPaths.{AreWellFormed}
 use Rattle.acap_entries.specs.Leaving.{records_ahead}
 use Rattle.acap_entries.specs.Orders.{octets_eq}
 use Rattle.acap_search.specs.Scopes.{datasets_of, scope_of}
-use Rattle.acap_views.specs.Aheads.{store_ahead}
 use Rattle.acap_views.specs.Touching.{looks_into}
 use Rattle.acap_views.proofs.TouchingLemmas.{whether}
 use Rattle.acap_views.proofs.touching.is_looked_into.Goals as goal
