@@ -32,7 +32,7 @@ use Rattle.acap_machine.specs.Plain.{PlainMachine, PlainLaw, forgotten, forgotte
 use Rattle.acap_machine.specs.Runs.{run_of, stepped_at, outcome_of, machine_after}
 use Rattle.acap_machine.specs.Searching.{found_of, kept_if, found_or, searched_over, searched_in, searched_within, seated_or}
 use Rattle.acap_machine.specs.Serving.{answer_to, written_or, free_answer, update_answer, updated_or}
-use Rattle.acap_machine.specs.Stepping.{step_of, plain as untagged, reply_of, enter_answer, by_user, drained_at, left_at, answer_at}
+use Rattle.acap_machine.specs.Stepping.{step_of, plain as untagged, reply_of, enter_answer, by_user, drained_at, left_at}
 use Rattle.acap_machine.specs.declared.step.Step.{Step}
 use Rattle.acap_machine.proofs.Following.{current, after_step}
 use Rattle.acap_machine.proofs.Plain.{forgotten_contexts, forgotten_insert, forgotten_remove, forgotten_empty, forgotten_has, forgotten_full, forgotten_at, forgotten_with, seat_get, with_live, changed_forgotten, fault_forgotten, all_told, all_updated, all_drained, drain_forgotten, made_kept, ranged_forgotten}
