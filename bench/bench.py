@@ -9,7 +9,7 @@ and system, the least of the rounds, less that of the input's preparation alone)
 the ratio of the first to the second. With two programs their outputs are compared octet by octet as well.
 
 With --contexts the rows of contexts are measured instead. A line has how often the operation takes what another takes, in
-instructions where valgrind is at hand and in time, and the bound that is to be kept. Behind these stand commands that hold
+instructions where valgrind is at hand and in time, and the bound that is to be kept. After these come commands that hold
 everybody up, in milliseconds of processor time. S is a STORE of one item of an
 existing entry, at as many entries, without any context. OTHER, of before contexts were served, has a row of S alone.
 

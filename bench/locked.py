@@ -6,6 +6,7 @@ further epoch can begin, and where memory is refused. Rows of calls to which nei
     python3 bench/locked.py build PROGRAM     # proves the program, and builds it without checks
     python3 bench/locked.py refuse PROGRAM    # each allocation of a call, or of closing, is refused in turn
     python3 bench/locked.py figures PROGRAM   # time and memory
+    python3 bench/locked.py calls PROGRAM [OTHER]   # instructions within a call, while every other session waits; needs valgrind
 
 It clones the repository and adds a program to the clone. `last` runs it there by `rt try`: unproved, with checks at run time. `build`
 uses what `rt check` has proved of the crates below.
@@ -593,6 +594,47 @@ def figures(path):
         tell_epoch(program, enter, 10_000)
 
 
+# ---- instructions within a call
+
+COUNT = 10_000
+FIND = '0 A1 SEARCH "/option/~/" {}RETURN ("option.a") ALL'
+
+
+def stores(count, value):
+    """STOREs of so many entries, a hundred to a command."""
+    entries = [f'("/option/~/e{k:06}" "option.a" "{value}{k}")' for k in range(count)]
+    return ["0 A1 STORE " + " ".join(entries[k:k + 100]) for k in range(0, count, 100)]
+
+
+FILLED = ["0 enter joe", *stores(COUNT, "v")]
+WATCHED = [*FILLED, FIND.format('MAKECONTEXT ENUMERATE NOTIFY "v" ')]
+COUNTED = {
+    "SEARCH of 10,000 rows": (FILLED, FIND.format("")),
+    "UPDATECONTEXT, 4,000 notices wait": (WATCHED + stores(4_000, "w"), '0 A1 UPDATECONTEXT "v"'),
+    "UPDATECONTEXT, none waits": (WATCHED, '0 A1 UPDATECONTEXT "v"'),
+    "MYRIGHTS": (FILLED, '0 A1 MYRIGHTS ("/option/~/")'),
+    "STORE of one item": (FILLED, '0 A1 STORE ("/option/~/e000001" "option.a" "x")'),
+}
+
+
+def counted(program, calls, folder):
+    """The instructions within the calls of one run."""
+    file, out = pathlib.Path(folder) / "calls", f"{folder}/counts"
+    file.write_text("".join(call + "\n" for call in calls))
+    valgrind = ["valgrind", "--tool=callgrind", "--toggle-collect=*Served::call*", f"--callgrind-out-file={out}"]
+    subprocess.run([*valgrind, os.path.abspath(program), str(file)], capture_output=True, check=True)
+    return int(re.search(r"^(?:totals|summary): (\d+)", pathlib.Path(out).read_text(), re.M)[1])
+
+
+def count_calls(programs):
+    """What one more call takes, in each program, and the ratio of the first to the second."""
+    with tempfile.TemporaryDirectory() as folder:
+        for name, (before, call) in COUNTED.items():
+            counts = [counted(it, before + [call], folder) - counted(it, before, folder) for it in programs]
+            ratio = f"{counts[0] / counts[1]:8.2f}" if len(counts) > 1 else ""
+            print(f"{name:40}" + "".join(f"{count:16,}" for count in counts) + ratio, flush=True)
+
+
 # ---- the rows
 
 LINE = "locked_runs: acap_lexer acap_entries acap_commands acap_grammar acap_rights acap_machine acap_locked"
@@ -663,8 +705,9 @@ def build(top, program):
 
 def main():
     words = argparse.ArgumentParser()
-    words.add_argument("what", choices=["last", "build", "refuse", "figures"])
+    words.add_argument("what", choices=["last", "build", "refuse", "figures", "calls"])
     words.add_argument("program", nargs="?")
+    words.add_argument("other", nargs="?")
     given = words.parse_args()
     top = pathlib.Path(__file__).resolve().parent.parent
     if given.what == "last":
@@ -675,6 +718,8 @@ def main():
         build(top, given.program)
     elif given.what == "refuse":
         refuse(given.program)
+    elif given.what == "calls":
+        count_calls([given.program] + [given.other] * bool(given.other))
     else:
         figures(given.program)
 

@@ -135,10 +135,10 @@ class Server:
         return out, err, self.process.returncode
 
 
-def settings_file(folder, listen, start=None, sessions=0):
+def settings_file(folder, listen, start=None, sessions=0, turns=1_000_000):
     """A file of settings in a folder."""
     file = pathlib.Path(tempfile.mkdtemp(dir=folder)) / "settings.toml"
-    lines = [f'listen = "{listen}"', 'host = "localhost"', "workers = 4", "turns = 1000000", f"sessions = {sessions}"]
+    lines = [f'listen = "{listen}"', 'host = "localhost"', "workers = 4", f"turns = {turns}", f"sessions = {sessions}"]
     lines += ['administrators = ["root"]'] + [f'start = "{start}"'] * bool(start)
     lines += ["[users]"] + [f'{user} = "{secret}"' for user, secret in USERS.items()]
     file.write_text("\n".join(lines) + "\n", encoding="ascii")
@@ -262,12 +262,12 @@ ORDERS = ["", 'SORT ("k" "i;ascii-numeric") ', 'SORT ("k" "-i;ascii-numeric") ']
 class Viewer(threading.Thread):
     """A client with a context, which updates it until it is told to stop, and compares what it holds with what it finds."""
 
-    def __init__(self, client, number, stop):
+    def __init__(self, client, number, stop=None, dataset="/crowd/"):
         super().__init__(daemon=True)
-        self.client, self.stop, self.is_ordered, self.fault = client, stop, number % 2 == 0, None
+        self.client, self.stop, self.dataset, self.is_ordered, self.fault = client, stop, dataset, number % 2 == 0, None
         self.search = f'RETURN ("k") {ORDERS[number % 3]}{KEYS[number % 4]}'
         self.compared = self.noticed = 0
-        made = f'SEARCH "/crowd/" MAKECONTEXT {"ENUMERATE " * self.is_ordered}NOTIFY "c" {self.search}'
+        made = f'SEARCH "{dataset}" MAKECONTEXT {"ENUMERATE " * self.is_ordered}NOTIFY "c" {self.search}'
         self.rows = [tuple(row) for row in found(client, made)]
 
     def heed(self, replies):
@@ -283,9 +283,11 @@ class Viewer(threading.Thread):
         return moment
 
     def compare(self):
-        """Updates the context, and searches afresh. Whether both were at one moment, so that they could be compared."""
-        moment = self.heed(done(self.client, 'UPDATECONTEXT "c"'))
-        replies = done(self.client, f'SEARCH "/crowd/" {self.search}')
+        """Updates the context, and searches afresh. Whether both were at one moment, so that they could be compared. Both commands are
+        sent at once, so that seldom another changes something in between."""
+        updated, searched = self.client.commands('UPDATECONTEXT "c"', f'SEARCH "{self.dataset}" {self.search}')
+        same([updated[-1][1:], searched[-1][1:]], [["OK", b"UPDATECONTEXT done"], ["OK", b"SEARCH done"]])
+        moment, replies = self.heed(updated[:-1]), searched[:-1]
         rows = [tuple(reply[2:]) for reply in replies if reply[1] == "ENTRY"]
         told = [reply[2] for reply in replies if reply[0] != "*" and reply[1] == "MODTIME"]
         if told == [moment]:

@@ -92,9 +92,15 @@ class Client:
 
     def command(self, text):
         """Sends a command, and reads the replies up to its completion, which is the last."""
-        self.asked += 1
-        self.send(b"A%d %s\r\n" % (self.asked, text.encode() if isinstance(text, str) else text))
-        return self.replies(f"A{self.asked}")
+        return self.commands(text)[0]
+
+    def commands(self, *texts):
+        """Sends commands at once, and reads the replies to each."""
+        tags = [f"A{self.asked + number}" for number in range(1, len(texts) + 1)]
+        self.asked += len(texts)
+        octets = [text.encode() if isinstance(text, str) else text for text in texts]
+        self.send(b"".join(b"%s %s\r\n" % (tag.encode(), text) for tag, text in zip(tags, octets)))
+        return [self.replies(tag) for tag in tags]
 
     def login(self, user, secret):
         """Logs in by CRAM-MD5 (RFC 2195), behind the greeting. The completion."""

@@ -32,7 +32,7 @@ mod test;
 mod verb;
 
 pub use acap_entries::{Copying, Memory};
-pub use acap_notices::{Notice, Told};
+pub use acap_notices::{Notice, Told, Tolds};
 pub use command::Command;
 pub use entry_order::EntryOrder;
 pub use event::Event;
@@ -40,7 +40,7 @@ pub use fault::Fault;
 pub use given::Given;
 pub use key::{Key, Node};
 pub use limit::Limit;
-pub use lists::{ContextNames, Entries, MetadataList, Returns, Rows, SortItems, StoreItems, Tolds};
+pub use lists::{ContextNames, Entries, MetadataList, Returns, Rows, SortItems, StoreItems};
 pub use make_context::MakeContext;
 pub use metadata::Metadata;
 pub use object_name::ObjectName;

@@ -5,8 +5,7 @@ use crate::return_item::ReturnItem;
 use crate::sort_item::SortItem;
 use crate::store_entry::StoreEntry;
 use crate::store_item::StoreItem;
-use acap_entries::{ContextName, Row, Sequence};
-use acap_notices::Told;
+use acap_entries::{ContextName, Row, Sequence, Shared};
 
 /// The entries of a STORE, in the order sent (RFC 2244 section 6.6.1).
 pub type Entries = Sequence<StoreEntry>;
@@ -26,8 +25,6 @@ pub type SortItems = Sequence<SortItem>;
 /// The contexts of an UPDATECONTEXT, in the order sent; one may be repeated (RFC 2244 section 6.5).
 pub type ContextNames = Sequence<ContextName>;
 
-/// The rows that a SEARCH found, in the order in which they are printed (RFC 2244 section 6.4.1).
-pub type Rows = Sequence<Row>;
-
-/// What a client is told of its contexts, in the order in which it is printed (RFC 2244 section 6.5).
-pub type Tolds = Sequence<Told>;
+/// The rows that a SEARCH found, in the order in which they are printed (RFC 2244 section 6.4.1). Those who hold the
+/// reply hold them together.
+pub type Rows = Shared<Row>;

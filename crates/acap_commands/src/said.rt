@@ -1,10 +1,10 @@
 //! What is said to a client.
 
-use crate::lists::Tolds;
 use crate::refusal::Refusal;
 use crate::search_reply::SearchReply;
 use crate::verb::Verb;
 use acap_entries::{Copying, Memory, Octets, Value, Values};
+use acap_notices::Tolds;
 
 /// What is said to a client (RFC 2244 section 6.2).
 #[derive(Clone, PartialEq, Eq, Drop)]

@@ -4,8 +4,8 @@ use crate::dice::Quest;
 use crate::world::World;
 use crate::wrong::Wrong;
 use acap_commands::{Refusal, Rows, Said, Tolds};
-use acap_entries::{Copying, Row, Steps};
-use acap_notices::{Held, Told, is_each_once};
+use acap_entries::{Copying, Memory, Row, Sequence, Steps};
+use acap_notices::{Held, ToldRef, is_each_once};
 use std::alloc::Global;
 use std::sync::ledger::Ledger;
 
@@ -27,7 +27,7 @@ fn has_rows(held: &[Row], rows: &[Row], enumerated: bool) -> bool {
 }
 
 // What a client holds that was told some rows.
-fn hold(rows: Rows, enumerated: bool) -> Result<Held, Wrong> {
+fn hold(rows: Sequence<Row>, enumerated: bool) -> Result<Held, Wrong> {
     if is_each_once(rows.as_slice()) {
         Ok(Held::start(rows, enumerated))
     } else {
@@ -47,7 +47,8 @@ impl Client {
         let line = quest.making(world.alloc, name)?;
         match world.send(seat, line.as_slice(), steps)? {
             Said::Searched(found) => {
-                let held = hold(found.rows, quest.enumerated)?;
+                let rows = found.rows.into_own(world.alloc).map_err(|_| Memory)?;
+                let held = hold(rows, quest.enumerated)?;
                 Ok(Some(Client {
                     seat,
                     name,
@@ -62,7 +63,7 @@ impl Client {
 
     /// The same client once more.
     pub(crate) fn copy(&self, alloc: Global) -> Result<Client, Wrong> {
-        let mut rows = Rows::new(alloc);
+        let mut rows = Sequence::new(alloc);
         for row in self.held.rows() {
             rows.push(row.copy()?)?;
         }
@@ -79,7 +80,7 @@ impl Client {
         let line = self.quest.searching(world.alloc)?;
         match world.send(self.seat, line.as_slice(), steps)? {
             Said::Searched(found) => Ok(found.rows),
-            Said::Refused(Refusal::NoExist(_)) => Ok(Rows::new(world.alloc)),
+            Said::Refused(Refusal::NoExist(_)) => Ok(Rows::none()),
             _ => Err(Wrong::Answer),
         }
     }
@@ -100,8 +101,8 @@ impl Client {
         world: &mut World,
         steps: &mut Steps<L>,
     ) -> Result<(), Wrong> {
-        for told in tolds.as_slice() {
-            self.apply(told)?;
+        for told in tolds.iter() {
+            self.apply(&told)?;
         }
         let rows = self.find(world, steps)?;
         if !has_rows(self.held.rows(), rows.as_slice(), self.quest.enumerated) {
@@ -114,12 +115,12 @@ impl Client {
     }
 
     // It hears one thing that is told at its seat.
-    fn apply(&mut self, told: &Told) -> Result<(), Wrong> {
+    fn apply(&mut self, told: &ToldRef<'_>) -> Result<(), Wrong> {
         match told {
-            Told::Note(name, notice) if name.as_slice() == [self.name].as_slice() => {
-                Ok(self.held.apply(notice)?)
+            ToldRef::Note(name, notice) if name.as_slice() == [self.name].as_slice() => {
+                Ok(self.held.apply(*notice)?)
             }
-            Told::Freed(_) => Err(Wrong::Freed),
+            ToldRef::Freed(_) => Err(Wrong::Freed),
             _ => Ok(()),
         }
     }

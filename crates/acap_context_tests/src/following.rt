@@ -7,7 +7,7 @@ use crate::world::World;
 use crate::wrong::Wrong;
 use acap_commands::{Said, Tolds};
 use acap_entries::{Memory, Steps};
-use acap_notices::Told;
+use acap_notices::ToldRef;
 use std::alloc::Global;
 use std::marker::Brand;
 use std::sync::ledger::{Blank, Ledger};
@@ -94,8 +94,8 @@ impl Trial {
         moments: usize,
         steps: &mut Steps<L>,
     ) -> Result<(), Wrong> {
-        let is_moment = |told: &&Told| matches!(told, Told::Upto(_, _));
-        if tolds.as_slice().iter().filter(is_moment).count() != moments {
+        let is_moment = |told: &ToldRef<'_>| matches!(told, ToldRef::Upto(_, _));
+        if tolds.iter().filter(is_moment).count() != moments {
             return Err(Wrong::Moments);
         }
         for client in self.clients.iter_mut() {

@@ -2,8 +2,10 @@
 
 use crate::world::seat;
 use acap_commands::{Key, MakeContext, Test, Tolds};
-use acap_entries::{ContextName, Copying, Dataset, Memory, Moment, NameFault, UserName};
-use acap_notices::Told;
+use acap_entries::{
+    ContextName, Copying, Dataset, Memory, Moment, NameFault, Sequence, Shared, UserName,
+};
+use acap_notices::{Batch, Ending};
 use acap_search::{Hits, Sought};
 use acap_views::{ViewRefusal, Views};
 use std::alloc::Global;
@@ -99,11 +101,15 @@ fn names_of(alloc: Global, texts: &[&[u8]]) -> Result<Vec<ContextName>, Memory> 
 
 // What is told: the last moment, for each name.
 fn moments(alloc: Global, names: &[ContextName], last: Moment) -> Result<Tolds, Memory> {
-    let mut tolds = Tolds::new(alloc);
+    let mut batches = Sequence::new(alloc);
     for name in names {
-        tolds.push(Told::Upto(name.copy()?, last))?;
+        batches.push(Batch {
+            context: name.copy()?,
+            notices: Shared::none(),
+            ending: Some(Ending::Upto(last)),
+        })?;
     }
-    Ok(tolds)
+    Tolds::new(batches)
 }
 
 // Whether a row holds, and nothing is told by a drain then.

@@ -47,10 +47,11 @@ module _ {K X : Type 0} (R : K → K → Ordering) where
 
   -- the entries from the place of one key on and before that of another
   abbrev pub between : K → K → List (List (K × X)) → List (K × X)
-  between low high leaves = take (place_in high leaves - place_in low leaves) (drop (place_in low leaves) (contents leaves))
+  between low high leaves =
+      take (place_in high leaves - place_in low leaves) (drop (place_in low leaves) (contents leaves))
 
-  -- the key's place is in the leaves from one on and before another, or right behind the last of their entries where
-  -- the key is nowhere
+  -- the key's place is in the leaves from one on and before another, or right after the last of their entries
+  -- where the key is nowhere
   pub record IsAmong (k : K) (leaves : List (List (K × X))) (low high : ℕ) : Type 0 where
     pub rise : low < high
     pub within : high ≤ length leaves
@@ -67,9 +68,9 @@ module _ {K X : Type 0} (R : K → K → Ordering) where
 abbrev pub EndsFull : {A : Type 0} → List (List A) → Type 0
 EndsFull leaves = 0 < length leaves → 64 ≤ length (slice_index_or leaves (length leaves - 1) [])
 
--- What the leaves weigh: 16 for each, one for each of up to 16 entries beyond 48, and in the last one also one for
--- each of up to 16 beyond 16. Where there is none it is 16. No put adds more than one to it: before a leaf is split,
--- or one is made behind the last, 16 puts have added one each.
+-- What the leaves weigh: 16 for each, one for each of up to 16 entries beyond 48, and in the last one also
+-- one for each of up to 16 beyond 16. Where there is none it is 16. No put adds more than one to it: before a
+-- leaf is split, or one is made after the last, 16 puts have added one each.
 abbrev pub beyond : ℕ → ℕ → ℕ
 beyond some count = min (count - some) 16
 
@@ -86,8 +87,8 @@ abbrev pub most_leaves : {X Y Z W : Type 0} → Vec X Z → Vec Y W → ℕ
 most_leaves leaves spare =
     min (vec_len leaves + vec_len spare) (min (vec_capacity spare) (vec_capacity leaves))
 
--- How many entries more there is room for: each needs a spare leaf and a place for it at most, and 16 for each
--- leaf that there may be suffice for what they weigh. Each has to be counted.
+-- How many entries more there is room for: each needs a spare leaf and a place for it at most, and 16 for
+-- each leaf that there may be suffice for what they weigh. Each has to be counted.
 abbrev pub room_of : ℕ → ℕ → ℕ → ℕ → ℕ → ℕ
 room_of spare places most weight count =
     min (max (min spare places) (16 * most - weight)) (18_446_744_073_709_551_615 - count)

@@ -2,8 +2,8 @@
 
 use crate::copying::Copying;
 use crate::memory::Memory;
+use crate::shared::Values;
 use crate::value::Value;
-use crate::values::Values;
 
 /// What an attribute has: NIL, one string, or a list of strings (RFC 2244 section 3.1).
 #[derive(Clone, PartialEq, Eq, Drop)]

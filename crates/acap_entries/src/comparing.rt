@@ -1,10 +1,18 @@
 //! How octets compare, word by word where they are alike.
-ghost use Rattle.std.specs.Prelude.{◌≡◌, ◌<◌, length, IfSome};
+ghost use Rattle.std.specs.Prelude.{◌≡◌, ◌↔◌, ◌<◌, length, IfSome, IsTrue};
 ghost use Rattle.acap_entries.specs.Orders.{octets_cmp};
 
 use std::cmp::Ordering;
 
-// What is left of two texts behind their first eight octets, where these are alike.
+// Whether eight octets are those: read as a number each.
+#[inline]
+fn is_same_word(a: &[u8; 8], b: &[u8; 8]) -> bool
+    ensures { IsTrue result ↔ (a.now ≡ b.now) }
+{
+    u64::from_le_bytes(*a) == u64::from_le_bytes(*b)
+}
+
+// What is left of two texts after their first eight octets, where these are alike.
 #[inline]
 fn behind_word<'a>(a: &'a [u8], b: &'a [u8]) -> Option<(&'a [u8], &'a [u8])>
     ensures order { IfSome result (λ left. octets_cmp left.0.now left.1.now ≡ octets_cmp a.now b.now) }
@@ -12,7 +20,7 @@ fn behind_word<'a>(a: &'a [u8], b: &'a [u8]) -> Option<(&'a [u8], &'a [u8])>
 {
     let (first, left) = a.split_first_chunk::<8>()?;
     let (second, right) = b.split_first_chunk::<8>()?;
-    if first == second {
+    if is_same_word(first, second) {
         Some((left, right))
     } else {
         None

@@ -1,10 +1,11 @@
-//! Entries in the order of their keys, in leaves: an edit moves a part of one leaf, in whatever order edits come.
+//! Entries in the order of their keys, in leaves: an edit moves a part of one leaf, in whatever order edits
+//! come.
 ghost use Rattle.std.specs.Prelude.{◌≡◌, ◌+◌, ◌-◌, ◌/◌, ◌^◌, ◌++◌, ◌<◌, ◌≤◌, [], ◌∷◌, length, min, IsTrue};
 ghost use Rattle.std.specs.Prelude.{slice_index_or, vec_len, vec_capacity, IfSome, IfNone, OnOk, OnErr, IfOk};
 ghost use Rattle.std.specs.Option.{option_copied};
 ghost use Rattle.acap_entries.specs.Sorted.{InOrder, place, put_in, without, found, entry_of};
-ghost use Rattle.acap_entries.specs.Leaves.{contents, entry_count, split_at, AreFilled, IsAmong, IsBehind, EndsFull};
-ghost use Rattle.acap_entries.specs.Leaves.{weight, most_leaves};
+ghost use Rattle.acap_entries.specs.Leaves.{contents, entry_count, split_at, weight, most_leaves};
+ghost use Rattle.acap_entries.specs.Leaves.{AreFilled, IsAmong, IsBehind, EndsFull};
 ghost use Rattle.acap_entries.specs.Replacing.{replaced};
 
 use crate::copying::{Copying, copy_all};
@@ -194,8 +195,9 @@ fn take_out_at<K: Ord + Drop, V: Drop, Q: Probe<K>>(
     taken
 }
 
-// Makes room for a key's entry in the leaf in which it belongs, if that is full, and answers which leaf it is; none
-// where the key stands behind all entries and the last leaf is full, so that ascending keys fill their leaves.
+// Makes room for a key's entry in the leaf in which it belongs, if that is full, and answers which leaf it
+// is. None where the key belongs after all entries and the last leaf is full, so that ascending keys fill
+// their leaves.
 fn room_for<K: Ord + Drop, V: Drop, Q: Probe<K>>(
     leaves: &mut Vec<Leaf<K, V>>,
     spare: &mut Vec<Leaf<K, V>>,
@@ -261,7 +263,8 @@ fn push_last<K: Ord + Drop, V: Drop>(leaves: &mut Vec<Leaf<K, V>>, key: K, value
     leaf.push(key, value);
 }
 
-// Puts an entry behind all others, into a leaf of its own. Fails only for want of memory, and then all is as it was.
+// Puts an entry after all others, into a leaf of its own. Fails only for want of memory, and then all is as
+// it was.
 fn push_leaf<K: Ord + Drop, V: Drop>(
     leaves: &mut Vec<Leaf<K, V>>,
     key: K,
@@ -278,8 +281,8 @@ fn push_leaf<K: Ord + Drop, V: Drop>(
     Ok(())
 }
 
-/// Entries in the order of their keys, which contracts see as their list, and beside it the number of entries more
-/// that there is room for.
+/// Entries in the order of their keys, which contracts see as their list, and beside it the number of entries
+/// more that there is room for.
 #[derive(Drop)]
 pub(crate) struct Leaves<K, V> {
     leaves: Vec<Leaf<K, V>>,
@@ -289,7 +292,8 @@ pub(crate) struct Leaves<K, V> {
 
 impl<K, V> Model for Leaves<K, V> {
     ghost use Rattle.std.specs.Prelude.{◌≡◌, ℕ, List, vec_len};
-    ghost use Rattle.acap_entries.specs.Leaves.{contents, entry_count, weight, most_leaves, AreFilled, room_of};
+    ghost use Rattle.acap_entries.specs.Leaves.{contents, entry_count, weight, most_leaves};
+    ghost use Rattle.acap_entries.specs.Leaves.{room_of, AreFilled};
     ghost use Rattle.acap_entries.specs.Room.{free_of};
 
     ghost Value = { List (K × V) × ℕ };
@@ -345,8 +349,9 @@ impl<K: Ord + Drop, V: Drop> Leaves<K, V> {
         self.leaves.as_slice()
     }
 
-    /// Makes room for so many entries more: a spare leaf for each, but no more than there are leaves, and one for
-    /// each 16 of the entries, and two. The entries stay, and room never shrinks, also where memory is refused.
+    /// Makes room for so many entries more: a spare leaf for each, but no more than there are leaves, and one
+    /// for each 16 of the entries, and two. The entries stay, and room never shrinks, also where memory is
+    /// refused.
     pub(crate) fn reserve(&mut self, more: usize) -> Result<(), Memory>
         ensures entries { self.new.0 ≡ self.old.0 }
         ensures grows { self.old.1 ≤ self.new.1 }
@@ -397,8 +402,8 @@ impl<K: Ord + Drop, V: Drop> Leaves<K, V> {
         Some(taken)
     }
 
-    /// Puts an entry in, in the room that there is, and takes out the one whose key ties with its key, if there is one: tells how many
-    /// entries stand before it, and gives that one. Takes no memory.
+    /// Puts an entry in, in the room that there is, and takes out the one whose key ties with its key, if
+    /// there is one. Answers how many entries stand before it, and the one taken out. Takes no memory.
     pub(crate) fn replace(&mut self, key: K, value: V) -> (usize, Option<(K, V)>)
         requires room { 0 < self.old.1 }
         requires sorted { InOrder K.cmp self.old.0 }

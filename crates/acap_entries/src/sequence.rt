@@ -71,11 +71,15 @@ impl<T: Drop> Sequence<T> {
         self.items.is_empty()
     }
 
-    /// Appends one. Fails only for want of memory, and then nothing has changed.
+    /// Appends one. Fails only for want of memory, and then nothing has changed. The first one gets the room that
+    /// it needs and no more, since most lists stay that short.
     pub fn push(&mut self, item: T) -> Result<(), Memory>
         ensures ok { OnOk result (self.new ≡ self.old ++ item ∷ []) }
         ensures err { OnErr result (self.new ≡ self.old) }
     {
+        if self.items.is_empty() {
+            self.items.reserve_exact(1)?;
+        }
         self.items.push(item)?;
         Ok(())
     }

@@ -8,9 +8,9 @@ use crate::cell::Cell;
 use crate::copying::{Copying, copy_all};
 use crate::keys::{AttributeText, Probe, Whole};
 use crate::memory::Memory;
+use crate::shared::Values;
 use crate::sorted::{lookup, set_in, take_out};
 use crate::text::Attribute;
-use crate::values::Values;
 use std::alloc::Global;
 use std::marker::Model;
 

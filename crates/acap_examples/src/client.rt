@@ -5,6 +5,7 @@ ghost use Rattle.acap_machine.specs.Client.{answered_on, client_after, makes, cl
 ghost use Rattle.acap_machine.specs.Client.{tells_named, whole_after, whole_over};
 ghost use Rattle.acap_entries.specs.Orders.{octets_eq};
 ghost use Rattle.acap_moves.specs.Hits.{is_among};
+ghost use Rattle.acap_notices.specs.Batches.{told_of};
 ghost use Rattle.acap_notices.specs.Holding.{holding_after_all};
 ghost use Rattle.acap_views.specs.Clients.{notice_for, notices_for};
 ghost use Rattle.acap_examples.specs.Followed.{IsBegun, updates};
@@ -12,7 +13,8 @@ ghost use Rattle.acap_examples.specs.Followed.{IsBegun, updates};
 use crate::trouble::Trouble;
 use acap_commands::{Command, Event, MakeContext, Said, Search, SearchReply, Target, Tolds};
 use acap_entries::ContextName;
-use acap_notices::{Held, Told, is_each_once};
+use acap_notices::{Held, ToldRef, is_each_once};
+use std::alloc::Global;
 
 // Whether one of some names is that.
 fn any_is(name: &ContextName, names: &[ContextName]) -> bool
@@ -63,7 +65,12 @@ fn find_make<'a>(name: &ContextName, search: &'a Search) -> Option<&'a MakeConte
 }
 
 // What a client holds that begins with the rows of a SEARCH, if these are all.
-fn begin(make: &MakeContext, search: &Search, found: SearchReply) -> Result<Option<Held>, Trouble>
+fn begin(
+    alloc: Global,
+    make: &MakeContext,
+    search: &Search,
+    found: SearchReply,
+) -> Result<Option<Held>, Trouble>
     ensures { IfOk result (λ held. IsBegun search.now found make.now held) }
 {
     if search.modifiers.returns.is_none() || found.total.is_some() {
@@ -72,11 +79,15 @@ fn begin(make: &MakeContext, search: &Search, found: SearchReply) -> Result<Opti
     if !is_each_once(found.rows.as_slice()) {
         return Err(Trouble::Twice);
     }
-    Ok(Some(Held::start(found.rows, make.enumerate)))
+    match found.rows.into_own(alloc) {
+        Ok(rows) => Ok(Some(Held::start(rows, make.enumerate))),
+        Err(_) => Err(Trouble::Memory),
+    }
 }
 
 // What it holds after a SEARCH.
 fn hear_search(
+    alloc: Global,
     held: Option<Held>,
     name: &ContextName,
     event: &Event,
@@ -88,7 +99,7 @@ fn hear_search(
 {
     match event {
         Event::Command(Command::Search(search)) => match find_make(name, search.get()) {
-            Some(make) => begin(make, search.get(), found),
+            Some(make) => begin(alloc, make, search.get(), found),
             None => Ok(held),
         },
         _ => Ok(held),
@@ -96,28 +107,29 @@ fn hear_search(
 }
 
 // What a client holds after what is told, if all notices of its context fit.
-fn notice(held: &mut Held, name: &ContextName, tolds: Tolds) -> Result<(), Trouble>
-    ensures { OnOk result (holding_after_all held.old (notices_for name.now tolds) ≡ Some held.new) }
+fn notice(held: &mut Held, name: &ContextName, tolds: &Tolds) -> Result<(), Trouble>
+    ensures { OnOk result (holding_after_all held.old (notices_for name.now tolds.now) ≡ Some held.new) }
 {
-    for told in tolds.into_vec() {
-        apply(held, name, told)?;
+    for told in tolds.iter() {
+        apply(held, name, &told)?;
     }
     Ok(())
 }
 
 // The same after one thing that is told.
-fn apply(held: &mut Held, name: &ContextName, told: Told) -> Result<(), Trouble>
-    ensures { OnOk result (holding_after_all held.old (notice_for name.now told) ≡ Some held.new) }
+fn apply(held: &mut Held, name: &ContextName, told: &ToldRef<'_>) -> Result<(), Trouble>
+    ensures { OnOk result
+        (holding_after_all held.old (notice_for name.now (told_of told.now)) ≡ Some held.new) }
 {
     match told {
-        Told::Note(context, notice) => {
-            if *name == context {
-                held.apply(&notice)?;
+        ToldRef::Note(context, notice) => {
+            if *name == **context {
+                held.apply(*notice)?;
             }
             Ok(())
         }
-        Told::Upto(_, _) => Ok(()),
-        Told::Freed(_) => Ok(()),
+        ToldRef::Upto(_, _) => Ok(()),
+        ToldRef::Freed(_) => Ok(()),
     }
 }
 
@@ -132,7 +144,7 @@ fn hear_notices(
 {
     match held {
         Some(mut held) => {
-            notice(&mut held, name, tolds)?;
+            notice(&mut held, name, &tolds)?;
             Ok(Some(held))
         }
         None => Ok(None),
@@ -142,6 +154,7 @@ fn hear_notices(
 /// What the client of the context of a name holds after an event of its seat and what was said to it. Where a notice doesn't fit, that
 /// is told as a failure.
 pub(crate) fn hold_after(
+    alloc: Global,
     held: Option<Held>,
     name: &ContextName,
     event: &Event,
@@ -152,7 +165,7 @@ pub(crate) fn hold_after(
         is_some after ≡ whole_after name.now event.now said (is_some held)) }
 {
     match said {
-        Said::Searched(found) => hear_search(held, name, event, found),
+        Said::Searched(found) => hear_search(alloc, held, name, event, found),
         Said::Updated(tolds) => hear_notices(held, name, tolds),
         Said::Drained(tolds) => hear_notices(held, name, tolds),
         _ => Ok(held),

@@ -32,7 +32,7 @@ pub(crate) fn follow<L: Ledger>(
     match told {
         Some((event, said)) => {
             let tells = updates(name, &event, &said);
-            let after = hold_after(held, name, &event, said)?;
+            let after = hold_after(sessions.alloc(), held, name, &event, said)?;
             Ok((tells, after))
         }
         None => Ok((false, held)),

@@ -50,6 +50,11 @@ impl Model for Sessions {
 }
 
 impl Sessions {
+    /// The allocator that keeps them.
+    pub(crate) fn alloc(&self) -> Global {
+        self.alloc
+    }
+
     /// The machine of a realm with the empty store, and nobody in any seat. Takes no memory.
     pub(crate) fn new(alloc: Global, realm: Realm, host: Octets) -> Sessions
         ensures { result ≡ new_world realm [] host }

@@ -24,3 +24,12 @@ pub mod TextReads
 pub mod FormedNames
 pub mod FormedReads
 pub mod NoopReads
+pub mod HeardStrings
+pub mod HeardForms
+pub mod HeardLines
+pub mod HeardWhole
+pub mod HeardCodes
+pub mod HeardTold
+pub mod HeardReplies
+pub mod PrintedApart
+pub mod ReadingComputed

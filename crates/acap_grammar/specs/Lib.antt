@@ -22,3 +22,10 @@ pub mod Texts
 pub mod Formed
 pub mod Unnamed
 pub mod Lent
+pub mod Lines
+pub mod Listening
+pub mod SaidLines
+pub mod Readable
+pub mod Sayable
+pub mod Printed
+pub mod ReadingExamples

@@ -12,6 +12,7 @@ mod keys;
 mod laws;
 mod notices;
 mod parsing;
+mod reading_laws;
 mod refusing;
 mod rendering;
 mod searching;
@@ -35,5 +36,6 @@ pub use laws::{
     text_examples, told_examples,
 };
 pub use parsing::{is_noop, parse};
+pub use reading_laws::{apart_law, hearing_law, printed_law, readable_law, reading_examples};
 pub use refusing::lexical_refusal;
 pub use rendering::{render, render_said};

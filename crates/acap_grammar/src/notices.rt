@@ -1,12 +1,13 @@
 //! What is told of contexts, as octets (RFC 2244 section 6.5).
 
+ghost use Rattle.acap_notices.specs.Batches.{told_of};
 ghost use Rattle.acap_grammar.specs.Appending.{Appends};
 ghost use Rattle.acap_grammar.specs.Replies.{about_form, position_form, added_form, removed_form, changed_form, notice_form, upto_form, freed_form, told_form, tolds_form};
 
 use crate::data::append_items;
 use crate::strings::append_string;
 use acap_entries::{ContextName, Label, Memory, Moment, Row, stamp};
-use acap_notices::{Notice, Told};
+use acap_notices::{Notice, ToldRef, Tolds};
 
 // A number behind a space.
 #[tactic(auto, unfolding(crate::specs::Replies::position_form))]
@@ -111,22 +112,22 @@ fn append_freed(context: &ContextName, out: &mut Vec<u8>) -> Result<(), Memory>
     Ok(())
 }
 
-fn append_told(told: &Told, out: &mut Vec<u8>) -> Result<(), Memory>
-    ensures { Appends result out.old.items out.new.items (told_form told.now) }
+fn append_told(told: &ToldRef<'_>, out: &mut Vec<u8>) -> Result<(), Memory>
+    ensures { Appends result out.old.items out.new.items (told_form (told_of told.now)) }
 {
     match told {
-        Told::Note(context, notice) => append_notice(context, notice, out),
-        Told::Upto(context, moment) => append_upto(context, *moment, out),
-        Told::Freed(context) => append_freed(context, out),
+        ToldRef::Note(context, notice) => append_notice(context, notice, out),
+        ToldRef::Upto(context, moment) => append_upto(context, *moment, out),
+        ToldRef::Freed(context) => append_freed(context, out),
     }
 }
 
 /// A line for each.
-pub(crate) fn append_tolds(tolds: &[Told], out: &mut Vec<u8>) -> Result<(), Memory>
+pub(crate) fn append_tolds(tolds: &Tolds, out: &mut Vec<u8>) -> Result<(), Memory>
     ensures { Appends result out.old.items out.new.items (tolds_form tolds.now) }
 {
-    for told in tolds {
-        append_told(told, out)?;
+    for told in tolds.iter() {
+        append_told(&told, out)?;
     }
     Ok(())
 }

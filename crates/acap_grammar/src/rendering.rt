@@ -13,7 +13,7 @@ use crate::refusing::text_of;
 use crate::strings::{append_spaced, append_string};
 use acap_commands::{Refusal, Reply, Said, SearchReply, Status, Verb};
 use acap_entries::{Memory, Moment, Octets, Row, Value, stamp};
-use acap_notices::Told;
+use acap_notices::Tolds;
 
 #[tactic(auto, unfolding(crate::specs::Replies::row_form))]
 fn append_row(tag: &[u8], row: &Row, out: &mut Vec<u8>) -> Result<(), Memory>
@@ -232,7 +232,7 @@ fn append_good_bye(tag: &[u8], out: &mut Vec<u8>) -> Result<(), Memory>
 }
 
 #[tactic(auto, unfolding(crate::specs::Replies::updated_form))]
-fn append_updated(tag: &[u8], tolds: &[Told], out: &mut Vec<u8>) -> Result<(), Memory>
+fn append_updated(tag: &[u8], tolds: &Tolds, out: &mut Vec<u8>) -> Result<(), Memory>
     ensures { Appends result out.old.items out.new.items (updated_form tag.now tolds.now) }
 {
     append_tolds(tolds, out)?;
@@ -246,8 +246,8 @@ fn append_said(tag: &[u8], said: &Said, out: &mut Vec<u8>) -> Result<(), Memory>
     match said {
         Said::Greeting => append_greeting(out),
         Said::Left => Ok(()),
-        Said::Drained(tolds) => append_tolds(tolds.as_slice(), out),
-        Said::Updated(tolds) => append_updated(tag, tolds.as_slice(), out),
+        Said::Drained(tolds) => append_tolds(tolds, out),
+        Said::Updated(tolds) => append_updated(tag, tolds, out),
         Said::Done(verb) => append_done(tag, *verb, out),
         Said::Searched(found) => append_found(tag, found, out),
         Said::Deleted(names) => append_deleted(tag, names.as_slice(), out),

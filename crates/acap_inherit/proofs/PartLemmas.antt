@@ -1,6 +1,6 @@
 -- Touched paths dataset by dataset.
-use Rattle.std.proofs.Common.{◌≡◌, ℕ, zero, suc, Bool, true, false, cond, T, ◌&&◌, ◌||◌, List, [], ◌∷◌, ◌++◌, map as each, arith, refl, sym, ap, subst, ◌∙◌}
-use Rattle.std.specs.Prelude.{filter, if◌then◌else◌}
+use Rattle.std.proofs.Common.{◌≡◌, ℕ, Bool, true, false, cond, T, ◌&&◌, ◌||◌, List, [], ◌∷◌, map as each, refl, sym, ap, subst, ◌∙◌}
+use Rattle.std.specs.Prelude.{filter}
 use Rattle.std.specs.FinMap as map
 use Rattle.std.specs.FinMap.{IsAntisymmetric, is_sorted}
 use Rattle.std.specs.FinMap.Entries.{where_key, is_sorted-where_key}
@@ -17,15 +17,13 @@ use Rattle.acap_entries.specs.Ranks.{units, Ascending}
 use Rattle.acap_entries.specs.Store.{Store, Stored, Written, IsPathByPath, path_cmp}
 use Rattle.acap_entries.specs.declared.change.Change.{Change}
 use Rattle.acap_entries.specs.declared.path.Path.{Path}
-use Rattle.acap_entries.proofs.RankLaws.{rank_holds}
 use Rattle.acap_entries.proofs.RankLemmas.{order_of_units, units_in_order}
 use Rattle.acap_entries.proofs.StoreLemmas.{octets_same, path_same, path_cmp_total}
 use Rattle.acap_inherit.specs.Chains.{chain_of}
-use Rattle.acap_inherit.specs.Index.{IsIndexOf, heirs_in}
-use Rattle.acap_inherit.specs.Touched.{is_written, is_written_on, is_touched, by_octets, octets_total, ordered_among, in_order, touched_paths, datasets_touched, touched_at}
-use Rattle.acap_inherit.specs.Touching.{changes, datasets_written, with_heirs, datasets_reached, path_at, paths_in, touched_dataset, datasets_found}
+use Rattle.acap_inherit.specs.Index.{IsIndexOf}
+use Rattle.acap_inherit.specs.Touched.{is_written, is_written_on, is_touched, by_octets, octets_total, in_order, touched_paths, datasets_touched, touched_at}
+use Rattle.acap_inherit.specs.Touching.{changes, datasets_reached, path_at, paths_in}
 use Rattle.acap_inherit.specs.declared.link.Link.{Link}
-use Rattle.acap_inherit.specs.declared.touched_dataset.TouchedDataset.{TouchedDataset}
 use Rattle.acap_inherit.proofs.FoundLemmas.{any_among, is_in, wrote, reached_datasets, wrote_at, or_false, in_dataset, touched_reached, name_turned}
 use Rattle.acap_inherit.proofs.IndexLemmas.{never}
 use Rattle.acap_inherit.proofs.MergeLemmas.{is_name, or_left, or_right, first_of, second_of, both_of}
@@ -46,13 +44,6 @@ module _ {K : Type 0} (R : K → K → Ordering) (o : IsTotalOrder R) (same : Is
   pub kept_rises : (p : K → Bool) (xs : List K) → Ascending R xs → Ascending R (filter p xs)
   kept_rises p xs a =
       units_in_order R o (filter p xs) (ap (is_sorted R) (sym (units_kept p xs)) ∙ yes _ (is_sorted-where_key R p (units xs) (subst T (sym (order_of_units R o xs a)) tt)))
-
-  pub among_rises : (xs acc : List K) → Ascending R acc → Ascending R (ordered_among R xs acc)
-  among_rises [] acc a = a
-  among_rises (x ∷ xs) acc a = (rank_holds R o).after_put x (ordered_among R xs acc) (among_rises xs acc a)
-
-  pub none_rises : Ascending R []
-  none_rises = record { rises = λ i j d lt within. absurd (omega arith) }
 
   pub any_part : (f : K → Bool) (q : K) (xs : List K) → list_any (eq_by_cmp R q) (filter f xs) ≡ (list_any (eq_by_cmp R q) xs && f q)
   any_part f q [] = refl
@@ -106,11 +97,6 @@ found_at change old new left d paths h same e =
 
 -- ---- the datasets
 
-heirs_rise : (k : ℕ) (links : List Link) (level acc : List (List ℕ)) → Ascending octets_cmp acc → Ascending octets_cmp (with_heirs k links level acc)
-unfolding with_heirs
-heirs_rise zero links level acc a = among_rises octets_cmp nat_list_cmp_total octets_same level acc a
-heirs_rise (suc k) links level acc a = heirs_rise k links (flat_map (heirs_in links) level) (ordered_among octets_cmp level acc) (among_rises octets_cmp nat_list_cmp_total octets_same level acc a)
-
 pub any_each : {A : Type 0} (q : List ℕ → Bool) (f : A → List ℕ) (xs : List A) → list_any q (each f xs) ≡ list_any (λ x. q (f x)) xs
 any_each q f [] = refl
 any_each q f (x ∷ xs) = ap (λ b. q (f x) || b) (any_each q f xs)
@@ -153,35 +139,6 @@ touched_dataset_in written old new links h index d =
     let is = touched_somewhere written old new d n.0 (second_of _ _ e) n.1 in
     any_weaker (is_path (path_at d n.0)) (λ (p : Path). is_name d p.dataset) (λ p t. ap (λ (q : Path). is_name d q.dataset) (sym (same_paths (path_at d n.0) p (equal _ t))) ∙ ap is_eq (tied_itself nat_list_cmp_total d))
     (touched_paths written old new) (any_touched written old new h (path_at d n.0) ∙ is))
-
-part_datasets : (written : Written) (old new : Stored) (links : List Link) → IsPathByPath written old new → IsIndexOf old links → filter (dataset_exists new) (datasets_reached written old links) ≡ datasets_touched written old new
-part_datasets written old new links h index =
-    same_list octets_cmp nat_list_cmp_total octets_same (filter (dataset_exists new) (datasets_reached written old links)) (datasets_touched written old new)
-    (kept_rises octets_cmp nat_list_cmp_total octets_same (dataset_exists new) (datasets_reached written old links)
-    (heirs_rise 7 links (datasets_written written old) [] (none_rises octets_cmp nat_list_cmp_total octets_same)))
-    (among_rises octets_cmp nat_list_cmp_total octets_same (each (λ (p : Path). p.dataset) (touched_paths written old new)) [] (none_rises octets_cmp nat_list_cmp_total octets_same))
-    (λ d.
-    any_part octets_cmp nat_list_cmp_total octets_same (dataset_exists new) d (datasets_reached written old links)
-    ∙ (sym (touched_dataset_in written old new links h index d)
-    ∙ sym (any_among octets_cmp nat_list_cmp_total d (each (λ (p : Path). p.dataset) (touched_paths written old new)) []
-    ∙ (or_false _ ∙ any_each (is_name d) (λ (p : Path). p.dataset) (touched_paths written old new)))))
-
-each_part : {A B : Type 0} (p : A → Bool) (f : A → B) (xs : List A) → flat_map (λ x. if p x then f x ∷ [] else []) xs ≡ each f (filter p xs)
-each_part p f [] = refl
-each_part p f (x ∷ xs) =
-    elim (p x) as (λ b. ((if b then f x ∷ [] else []) ++ flat_map (λ x. if p x then f x ∷ [] else []) xs) ≡ each f (cond b (x ∷ filter p xs) (filter p xs))) [
-      | true ↦ ap (λ rest. f x ∷ rest) (each_part p f xs)
-      | false ↦ each_part p f xs
-    ]
-
-pub found_in : (change : Change) (old new : Store) (links : List Link) (left : Stored) (datasets : List (List ℕ)) (made : List TouchedDataset) → IsIndexOf old.records links → IsStoreAfter change old new → left ≡ new.records
-    → datasets ≡ datasets_reached change.writes old.records links → made ≡ datasets_found change.writes old.records left datasets
-    → made ≡ each (touched_dataset change.writes old.records) (datasets_touched change.writes old.records new.records)
-found_in change old new links left datasets made index h same d e =
-    e
-    ∙ ((λ i. datasets_found change.writes old.records (same i) (d i))
-    ∙ (each_part (dataset_exists new.records) (touched_dataset change.writes old.records) (datasets_reached change.writes old.records links)
-    ∙ ap (each (touched_dataset change.writes old.records)) (part_datasets change.writes old.records new.records links h.paths index)))
 
 -- ---- all datasets together
 

@@ -1,10 +1,10 @@
 -- In which datasets something is touched, asked one by one.
-use Rattle.std.proofs.Common.{◌≡◌, ℕ, zero, suc, ◌+◌, ◌<◌, ◌≤◌, length, get_or, Bool, true, false, cond, ◌&&◌, ◌||◌, List, [], ◌∷◌, ◌++◌, map as each, drop, Option, Some, None, refl, sym, ap, subst, ◌∙◌, arith}
+use Rattle.std.proofs.Common.{◌≡◌, ℕ, zero, suc, ◌+◌, ◌<◌, ◌≤◌, length, get_or, Bool, true, false, ◌&&◌, ◌||◌, List, [], ◌∷◌, ◌++◌, map as each, drop, Some, None, refl, sym, ap, ◌∙◌, arith}
 use Rattle.std.specs.Borrow.{Bor}
 use Rattle.std.specs.Prelude.{slice_get, filter}
 use Rattle.std.specs.FinMap as map
 use Rattle.std.specs.List.{list_any, flat_map}
-use Rattle.std.specs.Cmp.Lexicographic.{nat_list_cmp_total, nat_list_eq_equiv, same_text, texts_ties}
+use Rattle.std.specs.Cmp.Lexicographic.{nat_list_cmp_total, same_text, texts_ties}
 use Rattle.std.proofs.lemmas.List.{at_drop_more, drop_all}
 use Rattle.std.proofs.lemmas.List.Folds.{list_any-append}
 use Rattle.acap_entries.specs.Changes.{IsStoreAfter}
@@ -16,7 +16,7 @@ use Rattle.acap_entries.specs.declared.change.Change.{Change}
 use Rattle.acap_entries.specs.declared.fate.Fate.{Fate}
 use Rattle.acap_entries.specs.declared.path.Path.{Path}
 use Rattle.acap_inherit.specs.Chains.{base_at, onward, chain_within, chain_of}
-use Rattle.acap_inherit.specs.Index.{link_cmp, is_linked, is_base, IsIndexOf, heirs_in}
+use Rattle.acap_inherit.specs.Index.{link_cmp, is_base, IsIndexOf, heirs_in}
 use Rattle.acap_inherit.specs.Reaching.{lies_in, touched_among, is_any, is_inherited, is_known, is_written_in, AreWritten, is_any_inherited, writes_in, Notes}
 use Rattle.acap_inherit.specs.Touched.{by_octets, octets_total, in_order, touched_paths, datasets_touched}
 use Rattle.acap_inherit.specs.Touching.{changes, datasets_written, datasets_reached, paths_in, paths_found}

@@ -1,29 +1,23 @@
 -- What a change touches and leaves, said before it is committed: words of contracts [RFC 2244 sections 5.1 and 5.2].
-use Rattle.std.specs.Prelude.{◌≡◌, ℕ, List, [], ◌∷◌, Bool, map as each, if◌then◌else◌}
-use Rattle.acap_entries.specs.Datasets.{dataset_exists}
+use Rattle.std.specs.Prelude.{◌≡◌, ℕ, List, [], Bool}
 use Rattle.acap_entries.specs.Leaving.{records_before, records_ahead, records_left, ForStoreAfter}
 use Rattle.acap_entries.specs.Store.{Store}
 use Rattle.acap_entries.specs.declared.after.After.{After}
 use Rattle.acap_entries.specs.declared.change.Change.{Change}
 use Rattle.acap_entries.specs.declared.path.Path.{Path}
 use Rattle.acap_inherit.specs.Index.{IsIndexOf, links_written, index_with}
-use Rattle.acap_inherit.specs.Touched.{is_written_on, in_order, touched_paths, touched_at, datasets_touched}
-use Rattle.acap_inherit.specs.Touching.{paths_along, paths_below, paths_in, paths_stored, paths_written, paths_found, touched_dataset, datasets_reached, datasets_found}
+use Rattle.acap_inherit.specs.Touched.{is_written_on, in_order, touched_paths, touched_at}
+use Rattle.acap_inherit.specs.Touching.{paths_along, paths_below, paths_in, paths_stored, paths_written, paths_found, datasets_reached}
 use Rattle.acap_inherit.specs.declared.link.Link.{Link}
-use Rattle.acap_inherit.specs.declared.touched_dataset.TouchedDataset.{TouchedDataset}
 
 -- ---- what public calls answer of each store that the change makes
 
--- the touched paths, those of one dataset, and the datasets in which they are
+-- the touched paths, and those of one dataset
 abbrev pub AreTouched : Change → Store → List Path → Type 0
 AreTouched change old paths = ForStoreAfter change old (λ new. paths ≡ touched_paths change.writes old.records new.records)
 
 abbrev pub AreTouchedAt : Change → Store → List ℕ → List Path → Type 0
 AreTouchedAt change old dataset paths = ForStoreAfter change old (λ new. paths ≡ touched_at change.writes old.records new.records dataset)
-
-abbrev pub AreTouchedDatasets : Change → Store → List TouchedDataset → Type 0
-AreTouchedDatasets change old made =
-    ForStoreAfter change old (λ new. made ≡ each (touched_dataset change.writes old.records) (datasets_touched change.writes old.records new.records))
 
 -- what makes the index of afterwards of that of before
 abbrev pub IsPrepared : Change → Store → List Link → List Link × List Link → Type 0
@@ -53,10 +47,6 @@ below_ahead after dataset = paths_below after.writes.now (records_before after) 
 abbrev pub in_ahead : After → List ℕ → List Path
 in_ahead after dataset = paths_in after.writes.now (records_before after) (records_ahead after) dataset
 
-abbrev pub dataset_ahead : After → List ℕ → List TouchedDataset
-dataset_ahead after dataset =
-    if dataset_exists (records_ahead after) dataset then touched_dataset after.writes.now (records_before after) dataset ∷ [] else []
-
 abbrev pub datasets_before : Change → Store → List Link → List (List ℕ)
 datasets_before change old links = datasets_reached change.writes old.records links
 
@@ -65,6 +55,3 @@ paths_left change old datasets = paths_found change.writes old.records (records_
 
 abbrev pub paths_left_in : Change → Store → List ℕ → List Path
 paths_left_in change old dataset = in_order (paths_in change.writes old.records (records_left change old) dataset)
-
-abbrev pub datasets_left : Change → Store → List (List ℕ) → List TouchedDataset
-datasets_left change old datasets = datasets_found change.writes old.records (records_left change old) datasets

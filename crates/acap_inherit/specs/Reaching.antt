@@ -1,4 +1,5 @@
--- In which datasets a change touches something, asked dataset by dataset: words of contracts [RFC 2244 sections 5.1 and 5.2].
+-- In which datasets a change touches something, asked dataset by dataset: words of contracts [RFC 2244
+-- sections 5.1 and 5.2].
 use Rattle.std.specs.Prelude.{◌≡◌, ℕ, Bool, true, false, ◌&&◌, ◌||◌, List, [], ◌∷◌, filter, refl}
 use Rattle.std.specs.Borrow.{Bor}
 use Rattle.std.specs.Coded.{Coded, code_by, coded×}
@@ -21,11 +22,15 @@ pub record Reaching : Type 0 where
   pub change : Change
   pub old : Store
 
+-- whether something is touched in a dataset
+abbrev pub is_touched_in : Written → Stored → Stored → List ℕ → Bool
+is_touched_in written old new dataset = list_any (octets_eq dataset) (datasets_touched written old new)
+
 -- what is said of a dataset: whether the change touches something in it
 abbrev pub SaysWhether : Reaching → List ℕ → Bool → Type 0
 SaysWhether reach dataset answer =
     ForStoreAfter reach.change reach.old
-    (λ new. answer ≡ list_any (octets_eq dataset) (datasets_touched reach.change.writes reach.old.records new.records))
+    (λ new. answer ≡ is_touched_in reach.change.writes reach.old.records new.records dataset)
 
 -- the touched paths that lie in some datasets
 abbrev pub lies_in : List (List ℕ) → Path → Bool
@@ -36,13 +41,18 @@ touched_among written old new datasets = filter (lies_in datasets) (touched_path
 
 abbrev pub AreTouchedAmong : Reaching → List (List ℕ) → List Path → Type 0
 AreTouchedAmong reach datasets paths =
-    ForStoreAfter reach.change reach.old (λ new. paths ≡ touched_among reach.change.writes reach.old.records new.records datasets)
+    ForStoreAfter reach.change reach.old
+    (λ new. paths ≡ touched_among reach.change.writes reach.old.records new.records datasets)
 
--- among these datasets are all in which something is touched
+-- all that is touched lies in some datasets
+abbrev pub LieAllIn : Written → Stored → Stored → List (List ℕ) → Type 0
+LieAllIn written old new datasets = touched_among written old new datasets ≡ touched_paths written old new
+
+-- among these datasets are all in which the change touches something
 abbrev pub AreAllReached : Reaching → List (List ℕ) → Type 0
 AreAllReached reach datasets =
     ForStoreAfter reach.change reach.old
-    (λ new. touched_among reach.change.writes reach.old.records new.records datasets ≡ touched_paths reach.change.writes reach.old.records new.records)
+    (λ new. LieAllIn reach.change.writes reach.old.records new.records datasets)
 
 -- ---- words of private contracts
 
@@ -71,18 +81,23 @@ abbrev pub writes_in : Stored → Path × Fate → List ℕ → Bool
 writes_in old w dataset = octets_eq w.0.dataset dataset && changes old w
 
 abbrev pub Notes : Path × Fate → Stored → List (Bor (List ℕ)) → List (Bor (List ℕ)) → Type 0
-Notes w old known after = (dataset : List ℕ) → is_known after dataset ≡ (is_known known dataset || writes_in old w dataset)
+Notes w old known after =
+    (dataset : List ℕ) → is_known after dataset ≡ (is_known known dataset || writes_in old w dataset)
 
--- whether it does in a dataset of the chain that a dataset has before it
+-- whether it does in one of some datasets, and in one of the chain that a dataset has before it
+abbrev pub is_written_along : Reaching → List (List ℕ) → Bool
+is_written_along reach members = list_any (is_written_in reach.change.writes reach.old.records) members
+
 abbrev pub is_reached : Reaching → List ℕ → Bool
-is_reached reach dataset = list_any (is_written_in reach.change.writes reach.old.records) (chain_of reach.old.records dataset false)
+is_reached reach dataset = is_written_along reach (chain_of reach.old.records dataset false)
 
 -- whether any dataset inherits from one of these
 abbrev pub is_any_inherited : List Link → List (Bor (List ℕ)) → Bool
 is_any_inherited links known = list_any (λ d. is_inherited links d.now) known
 
 -- what is kept of a change is so
-pub record IsReach (change : Bor Change) (tree : Bor Roomy) (links : Bor (List Link × ℕ)) (known : List (Bor (List ℕ))) (inherited : Bool) : Type 0 where
+pub record IsReach (change : Bor Change) (tree : Bor Roomy) (links : Bor (List Link × ℕ))
+    (known : List (Bor (List ℕ))) (inherited : Bool) : Type 0 where
   pub index : IsIndexOf tree.now.store.records links.now.0
   pub written : AreWritten change.now.writes tree.now.store.records known
   pub heirs : inherited ≡ is_any_inherited links.now.0 known
@@ -90,4 +105,5 @@ pub record IsReach (change : Bor Change) (tree : Bor Roomy) (links : Bor (List L
 -- how they are told apart in proofs
 abbrev pub reaching_code : Coded Reaching
 reaching_code =
-    code_by (Change × Store) (coded× change.the_row.coded store_code) (λ r. (r.change, r.old)) (λ p. record { change = p.0; old = p.1 }) (λ _. refl)
+    code_by (Change × Store) (coded× change.the_row.coded store_code) (λ r. (r.change, r.old))
+    (λ p. record { change = p.0; old = p.1 }) (λ _. refl)

@@ -12,7 +12,6 @@ use Rattle.acap_inherit.specs.EntryNames.{names_in}
 use Rattle.acap_inherit.specs.Index.{heirs_in}
 use Rattle.acap_inherit.specs.Touched.{is_change, is_written_on, ordered_among, in_order}
 use Rattle.acap_inherit.specs.declared.link.Link.{Link}
-use Rattle.acap_inherit.specs.declared.touched_dataset.TouchedDataset.{TouchedDataset}
 
 -- ---- datasets
 
@@ -70,12 +69,3 @@ paths_in written old new dataset = if dataset_exists new dataset then paths_belo
 
 abbrev pub paths_found : Written → Stored → Stored → List (List ℕ) → List Path
 paths_found written old new datasets = in_order (flat_map (paths_in written old new) datasets)
-
--- ---- dataset by dataset
-
--- a touched dataset, and whether all names along its chains are touched or those that are written
-abbrev pub touched_dataset : Written → Stored → List ℕ → TouchedDataset
-touched_dataset written old dataset = record { dataset = dataset; all = is_written_on written old (chain_of old dataset false) [] }
-
-abbrev pub datasets_found : Written → Stored → Stored → List (List ℕ) → List TouchedDataset
-datasets_found written old new datasets = flat_map (λ d. if dataset_exists new d then touched_dataset written old d ∷ [] else []) datasets

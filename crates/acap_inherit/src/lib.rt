@@ -18,7 +18,6 @@ mod reach;
 mod reached;
 mod resolved;
 mod resolving;
-mod touched_dataset;
 mod touching;
 mod written;
 
@@ -37,5 +36,4 @@ pub use prepared::Prepared;
 pub use reach::Reach;
 pub use resolved::Resolved;
 pub use resolving::{entry_exists, lookup, modtime, resolve};
-pub use touched_dataset::TouchedDataset;
 pub use touching::touched_at;

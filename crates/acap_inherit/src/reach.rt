@@ -1,6 +1,6 @@
 //! In which datasets a change touches something, asked dataset by dataset.
 ghost use Rattle.std.specs.Prelude.{◌≡◌, ◌++◌, IfOk, OnOk, map as each};
-ghost use Rattle.std.specs.List.{flat_map, list_any};
+ghost use Rattle.std.specs.List.{flat_map};
 ghost use Rattle.acap_inherit.specs.Index.{IsIndexOf};
 ghost use Rattle.acap_inherit.specs.Leaving.{in_ahead};
 ghost use Rattle.acap_inherit.specs.Reaching as rule;
@@ -16,8 +16,9 @@ use acap_entries::{After, Boxed, Change, Dataset, Memory, Paths, Ranked, Records
 use std::alloc::Global;
 use std::marker::Model;
 
-/// A change that is about to be committed, with what decides in which datasets it touches something: those in which it puts or
-/// removes a record, and whether any dataset inherits from one of these (RFC 2244 section 5.2).
+/// A change that is about to be committed, with what decides in which datasets it touches something: those in
+/// which it puts or removes a record, and whether any dataset inherits from one of these (RFC 2244 section
+/// 5.2).
 #[derive(Drop)]
 pub struct Reach<'a> {
     index: &'a Resolved,
@@ -40,7 +41,8 @@ impl<'a> Model for Reach<'a> {
 }
 
 impl Resolved {
-    /// What decides in which datasets a change touches something. No heir is listed. Fails only for want of memory.
+    /// What decides in which datasets a change touches something. No heir is listed. Fails only for want of
+    /// memory.
     pub fn reach<'a>(&'a self, tree: &'a Tree, change: &'a Change) -> Result<Reach<'a>, Memory>
         requires { IsIndexOf tree.now.store.records self.now.0 }
         ensures { IfOk result (λ made. made ≡ record { change = change.now; old = tree.now.store }) }
@@ -63,7 +65,8 @@ fn add_each(
     datasets: &[&Dataset],
     to: &mut Vec<Boxed<FullPath>>,
 ) -> Result<(), Memory>
-    ensures { OnOk result (to.new.items ≡ to.old.items ++ flat_map (in_ahead after.now) (each (λ d. d.now) datasets.now)) }
+    ensures { OnOk result
+        (to.new.items ≡ to.old.items ++ flat_map (in_ahead after.now) (each (λ d. d.now) datasets.now)) }
 {
     for dataset in datasets {
         add_touched(after, *dataset, to)?;
@@ -74,7 +77,7 @@ fn add_each(
 impl<'a> Reach<'a> {
     // Whether a record is put or removed in one of some datasets.
     fn is_written_along(&self, members: &Lineage<'_>) -> bool
-        ensures { result ≡ list_any (rule.is_written_in self.now.change.writes self.now.old.records) members.now }
+        ensures { result ≡ rule.is_written_along self.now members.now }
     {
         for member in members.names() {
             if is_known(self.written.as_slice(), member) {
@@ -84,8 +87,8 @@ impl<'a> Reach<'a> {
         false
     }
 
-    // Whether a record is put or removed in a dataset of the chain that a dataset has before the change. Where nothing
-    // inherits from a written dataset, that can be the dataset itself alone.
+    // Whether a record is put or removed in a dataset of the chain that a dataset has before the change.
+    // Where nothing inherits from a written dataset, that can be the dataset itself alone.
     fn is_reached(&self, dataset: &Dataset) -> bool
         ensures { result ≡ rule.is_reached self.now dataset.now }
     {
@@ -95,8 +98,9 @@ impl<'a> Reach<'a> {
         self.inherited && self.is_written_along(&chain(self.tree, dataset))
     }
 
-    /// Whether the change touches something in a dataset: the dataset exists afterwards, and of the chain that it has before
-    /// the change one is written in (RFC 2244 section 5.2). Looks at no other dataset, and takes no memory.
+    /// Whether the change touches something in a dataset: the dataset exists afterwards, and of the chain
+    /// that it has before the change one is written in (RFC 2244 section 5.2). Looks at no other dataset, and
+    /// takes no memory.
     pub fn has(&self, dataset: &Dataset) -> bool
         ensures { rule.SaysWhether self.now dataset.now result }
     {
@@ -104,8 +108,8 @@ impl<'a> Reach<'a> {
             && After::of(self.tree, self.change).dataset_exists(dataset.as_slice())
     }
 
-    /// Datasets, among which are all in which the change touches something, each once, in the order of their octets: the written
-    /// ones, and all that inherit from them. Fails only for want of memory.
+    /// Datasets, among which are all in which the change touches something, each once, in the order of their
+    /// octets: the written ones, and all that inherit from them. Fails only for want of memory.
     pub fn datasets(&self) -> Result<Ranked<Boxed<Dataset>>, Memory>
         ensures { IfOk result (λ made. rule.AreAllReached self.now made.0) }
     {
@@ -113,8 +117,8 @@ impl<'a> Reach<'a> {
         datasets_reached(self.tree, self.change, &index.links)
     }
 
-    /// The paths that the change touches in some datasets, each once, in the order of their full octets. Looks at the chains of
-    /// these datasets alone. Fails only for want of memory.
+    /// The paths that the change touches in some datasets, each once, in the order of their full octets.
+    /// Looks at the chains of these datasets alone. Fails only for want of memory.
     pub fn touched_among(&self, alloc: Global, datasets: &[&Dataset]) -> Result<Paths, Memory>
         ensures { IfOk result (rule.AreTouchedAmong self.now (each (λ d. d.now) datasets.now)) }
     {

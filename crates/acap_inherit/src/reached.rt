@@ -39,7 +39,8 @@ fn note_write<'a>(
     fate: &Fate,
     known: &mut Vec<&'a [u8]>,
 ) -> Result<(), Memory>
-    ensures { OnOk result (rule.Notes (path.now, fate.now) tree.now.store.records known.old.items known.new.items) }
+    ensures { OnOk result
+        (rule.Notes (path.now, fate.now) tree.now.store.records known.old.items known.new.items) }
 {
     let dataset = path.dataset.as_slice();
     if is_last(known.as_slice(), dataset) {
@@ -51,8 +52,8 @@ fn note_write<'a>(
     Ok(())
 }
 
-/// The datasets in which a record is put or removed. Writes to one dataset lie together, so that each comes once. Fails only for
-/// want of memory.
+/// The datasets in which a record is put or removed. Writes to one dataset lie together, so that each comes
+/// once. Fails only for want of memory.
 pub(crate) fn written_datasets<'a>(
     alloc: Global,
     tree: &Tree,

@@ -2,7 +2,7 @@
 ghost use Rattle.std.specs.Prelude.{◌≡◌, ◌≤◌, length, IfOk, OnOk};
 ghost use Rattle.acap_entries.specs.Store.{empty_store};
 ghost use Rattle.acap_inherit.specs.Index.{IsIndexOf, index_with};
-ghost use Rattle.acap_inherit.specs.Leaving.{IsPrepared, AreTouched, AreTouchedDatasets};
+ghost use Rattle.acap_inherit.specs.Leaving.{IsPrepared, AreTouched};
 ghost use Rattle.acap_inherit.specs.Values.{Resolves};
 
 use crate::chains::chain_unless;
@@ -12,8 +12,7 @@ use crate::link::Link;
 use crate::linking::{links_written, put_all, take_all};
 use crate::prepared::Prepared;
 use crate::resolving::lookup;
-use crate::touched_dataset::TouchedDataset;
-use crate::touching::{datasets_found, paths_found};
+use crate::touching::paths_found;
 use acap_entries::{After, Boxed, Change, Dataset, Memory, Paths, Ranked, Records, Tree};
 use std::alloc::Global;
 use std::marker::Model;
@@ -100,17 +99,6 @@ impl Resolved {
     {
         let datasets = datasets_reached(tree, change, &self.links)?;
         paths_found(tree, change, &datasets)
-    }
-
-    /// The datasets in which a change touches something, each once, in the order of their octets; of these the caller asks
-    /// `touched_at` for the paths in one. All of them together are what `touched` lists. No name is looked at. Fails only for
-    /// want of memory.
-    pub fn touched_in(&self, tree: &Tree, change: &Change) -> Result<Vec<TouchedDataset>, Memory>
-        requires { IsIndexOf tree.now.store.records self.now.0 }
-        ensures { IfOk result (λ made. AreTouchedDatasets change.now tree.now.store made.items) }
-    {
-        let datasets = datasets_reached(tree, change, &self.links)?;
-        datasets_found(tree, change, &datasets)
     }
 
     /// An equal index. Fails only for want of memory.

@@ -10,7 +10,6 @@ use crate::chains::chain;
 use crate::full_path::FullPath;
 use crate::heirs::put_among;
 use crate::lineage::Lineage;
-use crate::touched_dataset::TouchedDataset;
 use crate::written::{is_change, is_written};
 use acap_entries::{
     After, Boxed, Change, Copying, Dataset, EntryName, Memory, Path, Paths, Ranked, Records, Tree,
@@ -186,37 +185,4 @@ pub fn touched_at(
     ensures { IfOk result (rule.AreTouchedAt change.now tree.now.store dataset.now) }
 {
     paths_at(alloc, tree, change, dataset)
-}
-
-// Adds a dataset, if it exists afterwards.
-fn add_dataset(
-    after: &After<'_>,
-    dataset: &Dataset,
-    made: &mut Vec<TouchedDataset>,
-) -> Result<(), Memory>
-    ensures { OnOk result (made.new.items ≡ made.old.items ++ rule.dataset_ahead after.now dataset.now) }
-{
-    if !after.dataset_exists(dataset.as_slice()) {
-        return Ok(());
-    }
-    let all = is_managed(after, &chain(after.tree, dataset));
-    let dataset = dataset.copy()?;
-    made.push(TouchedDataset { dataset, all })?;
-    Ok(())
-}
-
-/// Those of some datasets that exist afterwards. Fails only for want of memory.
-pub(crate) fn datasets_found(
-    tree: &Tree,
-    change: &Change,
-    datasets: &Ranked<Boxed<Dataset>>,
-) -> Result<Vec<TouchedDataset>, Memory>
-    ensures { IfOk result (λ made. made.items ≡ rule.datasets_left change.now tree.now.store datasets.now.0) }
-{
-    let after = After::of(tree, change);
-    let mut made = Vec::new(change.deleted.allocator());
-    for dataset in datasets.iter() {
-        add_dataset(&after, dataset.get(), &mut made)?;
-    }
-    Ok(made)
 }

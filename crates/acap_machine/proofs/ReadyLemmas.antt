@@ -149,18 +149,19 @@ pub is_freed : (seats : Seated) (seat : ℕ) (name : List ℕ) → table.contain
     → freed_by seats seat name ≡ Ok (with_contexts seats seat (table.remove (contexts_at seats seat) name))
 is_freed seats seat name e = rw e refl
 
-pub updates : (law : views.CurrentLaw) (s : Roomed) (seat : ℕ) (user : List ℕ) (names given : List (List ℕ)) (last : ℤ) (seats : Seated) (tolds : List Told) (pending : Pending)
+pub updates : (law : views.CurrentLaw) (s new : Roomed) (seat : ℕ) (user : List ℕ) (names given : List (List ℕ)) (last : ℤ) (seats : Seated) (tolds : List Told) (pending : Pending)
     → user_at s.machine seat ≡ Some user → seats ≡ s.machine.seats → given ≡ names → last ≡ s.machine.store.last → update_tells (contexts_at seats seat) given last ≡ Ok tolds
     → pending ≡ pending_of seat (deed.Tells names last) (plain (said.Updated tolds)) 0 → IsKept s.machine s.kept.index.0
-    → IsReady s (answer_at s.machine seat (λ m u. update_answer m seat names)) pending s
-updates law s seat user names given last seats tolds pending at seats_are given_is last_is e pending_is kept =
+    → new.machine ≡ s.machine → new.kept.index.0 ≡ s.kept.index.0
+    → IsReady s (answer_at s.machine seat (λ m u. update_answer m seat names)) pending new
+updates law s new seat user names given last seats tolds pending at seats_are given_is last_is e pending_is kept m_is links_are =
     let m = s.machine in
     let told_is : told_of m.seats seat names m.store.last ≡ Ok (tolds, with_contexts m.seats seat (after_updates (contexts_at m.seats seat) names m.store.last)) =
     update_told m.seats seat names m.store.last tolds (sym (λ i. update_tells (contexts_at (seats_are i) seat) (given_is i) (last_is i)) ∙ e) in
-    ready_for s s seat (λ u. reply_of (update_answer m seat names)) user pending (deed.Tells names m.store.last) (said.Updated tolds) at
+    ready_for s new seat (λ u. reply_of (update_answer m seat names)) user pending (deed.Tells names m.store.last) (said.Updated tolds) at
     (pending_is ∙ ap (λ l. pending_of seat (deed.Tells names l) (plain (said.Updated tolds)) 0) last_is)
     (ap reply_of (updated_is m tolds (with_contexts m.seats seat (after_updates (contexts_at m.seats seat) names m.store.last)) (told_of m.seats seat names m.store.last) told_is))
-    refl refl tt (tells law m s.kept.index.0 seat names m.store.last tolds _ told_is kept)
+    m_is links_are tt (tells law m s.kept.index.0 seat names m.store.last tolds _ told_is kept)
 
 -- ---- a change of the store
 

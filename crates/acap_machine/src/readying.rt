@@ -81,8 +81,10 @@ impl State {
     }
 
     // All that waits at a seat is told.
-    fn ready_drain(&self, seat: Seat, clock: Moment) -> Result<Ready, Fault>
-        ensures answer { IsReadyFor result self.now seat events.Drain clock self.now }
+    fn ready_drain(&mut self, seat: Seat, clock: Moment) -> Result<Ready, Fault>
+        ensures answer { IsReadyFor result self.old seat events.Drain clock self.new }
+        ensures same { self.new.machine ≡ self.old.machine }
+        ensures last { self.new.work ≡ self.old.work }
         ensures none { IfOk result (λ r. r.work ≡ 0) }
     {
         self.kept_law();

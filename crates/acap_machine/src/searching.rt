@@ -19,7 +19,9 @@ use acap_commands::{
     Fault, Key, Limit, MakeContext, Refusal, Rows, Said, Search, SearchModifiers, SearchReply,
     Target,
 };
-use acap_entries::{Boxed, ContextName, Copying, Memory, Moment, Seat, Steps, UserName};
+use acap_entries::{
+    Boxed, ContextName, Copying, Memory, Moment, Row, Seat, Sequence, Steps, UserName,
+};
 use acap_search::{
     Asked, Excerpt, Hit, Hits, Query, Showing, Sought, cut_by, first_rows, fresh, hit_law, tell,
     within,
@@ -46,23 +48,23 @@ fn total_told(total: Option<usize>) -> Option<u32>
 }
 
 // What a reply has of what is told of the matches.
-fn reply_with(alloc: Global, last: Moment, sought: &Sought, excerpt: Excerpt) -> SearchReply
-    ensures { result ≡ rule.found_with last sought.now excerpt.rows excerpt.total }
+fn reply_with(last: Moment, sought: &Sought, excerpt: Excerpt) -> Result<SearchReply, Memory>
+    ensures { IfOk result (λ found. found ≡ rule.found_with last sought.now excerpt.rows excerpt.total) }
 {
     let total = total_told(excerpt.total);
-    if sought.returns.is_some() {
-        SearchReply {
-            rows: excerpt.rows,
-            last: Some(last),
-            total,
-        }
-    } else {
-        SearchReply {
-            rows: Rows::new(alloc),
+    if sought.returns.is_none() {
+        return Ok(SearchReply {
+            rows: Rows::none(),
             last: None,
             total,
-        }
+        });
     }
+    let rows = Rows::new(excerpt.rows)?;
+    Ok(SearchReply {
+        rows,
+        last: Some(last),
+        total,
+    })
 }
 
 // What is told of these hits, each row in the memory that it has.
@@ -78,14 +80,14 @@ fn excerpt_of(alloc: Global, hits: Hits, limit: Option<Limit>) -> Result<Excerpt
 }
 
 // What is told of each of these hits, copied.
-fn copy_rows(alloc: Global, hits: &[Hit]) -> Result<Rows, Memory>
+fn copy_rows(alloc: Global, hits: &[Hit]) -> Result<Sequence<Row>, Memory>
     ensures { IfOk result (λ rows. rows ≡ each (λ hit. hit.row) hits.now) }
 {
     let mut rows = Vec::with_capacity(alloc, hits.len())?;
     for hit in hits {
         rows.push(hit.row().copy()?)?;
     }
-    Ok(Rows::from_vec(rows))
+    Ok(Sequence::from_vec(rows))
 }
 
 // What a reply has of these hits, which stay for a context. Without RETURN no row is told, and none copied.
@@ -110,7 +112,7 @@ fn reply_of(
         rows,
         total: cut.total,
     };
-    Ok(reply_with(alloc, last, sought, excerpt))
+    reply_with(last, sought, excerpt)
 }
 
 // The query of a search over a context that another one made.
@@ -231,7 +233,8 @@ impl State {
             Ok(hits) => {
                 let excerpt = excerpt_of(self.alloc, hits, limit)?;
                 let last = self.tree.last();
-                Ok(Said::Searched(reply_with(self.alloc, last, &query.sought, excerpt)))
+                let found = reply_with(last, &query.sought, excerpt)?;
+                Ok(Said::Searched(found))
             }
             Err(refusal) => refuse_query(query, refusal),
         }
@@ -261,7 +264,8 @@ impl State {
         ) {
             Ok(excerpt) => {
                 let last = self.tree.last();
-                Ok(Said::Searched(reply_with(self.alloc, last, &query.sought, excerpt)))
+                let found = reply_with(last, &query.sought, excerpt)?;
+                Ok(Said::Searched(found))
             }
             Err(refusal) => refuse_query(query, refusal),
         }

@@ -94,17 +94,20 @@ impl State {
     }
 
     /// An UPDATECONTEXT (RFC 2244 section 6.5).
-    pub(crate) fn ready_update(&self, seat: Seat, names: ContextNames) -> Result<Ready, Fault>
-        ensures answer { IsReadyOf result self.now
-            (answer_at self.now.machine seat (λ m u. rule.update_answer m seat names)) self.now }
+    pub(crate) fn ready_update(&mut self, seat: Seat, names: ContextNames) -> Result<Ready, Fault>
+        ensures answer { IsReadyOf result self.old
+            (answer_at self.old.machine seat (λ m u. rule.update_answer m seat names)) self.new }
+        ensures same { self.new.machine ≡ self.old.machine }
+        ensures last { self.new.work ≡ self.old.work }
         ensures none { IfOk result (λ r. r.work ≡ 0) }
     {
         self.kept_law();
         self.user(seat)?;
         let last = self.tree.last();
-        match self.views.tolds_of(seat, names.as_slice(), last) {
-            Ok(tolds) => Ok(Ready::new(seat, Deed::Tells(names, last), Said::Updated(tolds))),
-            Err(refusal) => Ok(Ready::saying(seat, refuse_view(refusal)?)),
-        }
+        let tolds = match self.views.tolds_of(seat, names.as_slice(), last) {
+            Ok(tolds) => tolds,
+            Err(refusal) => return Ok(Ready::saying(seat, refuse_view(refusal)?)),
+        };
+        Ok(Ready::new(seat, Deed::Tells(names, last), Said::Updated(tolds)))
     }
 }

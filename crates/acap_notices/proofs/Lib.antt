@@ -2,4 +2,5 @@ pub mod RowLemmas
 pub mod NameLemmas
 pub mod RuleLemmas
 pub mod NoticeEquality
+pub mod BatchLemmas
 pub mod ExampleLemmas

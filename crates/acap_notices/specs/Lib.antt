@@ -4,5 +4,6 @@ pub mod Client
 pub mod Faults
 pub mod Holding
 pub mod Waiting
+pub mod Batches
 pub mod Laws
 pub mod Examples

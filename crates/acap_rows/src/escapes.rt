@@ -1,9 +1,12 @@
 //! The octets that a line of a row file stands for.
 //!
-//! `\\`, `\{`, `\}` and `\*` stand for their second character, `\n`, `\r` and `\t` for line feed, carriage return and
-//! tab, and `\xHH` for an octet in hexadecimal. `{N*TEXT}` is TEXT so many times, where `\#` stands for how many came
-//! before. A line's end stands behind it, unless its last character is a single backslash. Where a line is of another
+//! `\\`, `\{`, `\}` and `\*` stand for their second character, `\n`, `\r` and `\t` for line feed, carriage
+//! return and tab, and `\xHH` for an octet in hexadecimal. `{N*TEXT}` is TEXT so many times, where `\#`
+//! stands for how many came before. A line's end comes after it, unless its last character is a backslash
+//! that stands alone: where a line ends in several, they are pairs from the left. Where a line is of another
 //! form, or memory is refused, the answer is None.
+ghost use Rattle.std.specs.Prelude.{◌≡◌};
+ghost use Rattle.acap_rows.specs.Endings as rule;
 
 // What a hexadecimal digit counts.
 fn digit(octet: u8) -> Option<u8> {
@@ -102,10 +105,18 @@ fn add_text(text: &[u8], out: &mut Vec<u8>) -> Option<()> {
     Some(())
 }
 
-/// Adds the octets of a line, and a line's end, unless the line's last character is a single backslash.
+// Whether a line ends in a backslash that stands alone. Those before it are pairs, each an escaped backslash.
+fn ends_alone(line: &[u8]) -> bool
+    ensures { result ≡ rule.ends_alone line.now }
+{
+    let backslashes = line.iter().rev().take_while(|octet| **octet == b'\\');
+    backslashes.count() % 2 == 1
+}
+
+/// Adds the octets of a line, and a line's end, unless the line ends in a backslash that stands alone.
 pub(crate) fn add_line(line: &[u8], end: &[u8], out: &mut Vec<u8>) -> Option<()> {
     match line.strip_suffix(b"\\") {
-        Some(front) if !front.ends_with(b"\\") => add_text(front, out),
+        Some(text) if ends_alone(line) => add_text(text, out),
         _ => {
             add_text(line, out)?;
             out.extend_from_slice(end).ok()

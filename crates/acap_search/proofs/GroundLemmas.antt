@@ -5,9 +5,9 @@ use Rattle.std.specs.Borrow.{Bor}
 use Rattle.acap_entries.specs.Store.{Stored}
 use Rattle.acap_entries.specs.declared.path.Path.{Path}
 use Rattle.acap_entries.specs.declared.record.Record.{Record}
-use Rattle.acap_search.specs.Grounds.{all_records}
 use Rattle.acap_search.specs.Matches.{Match}
 use Rattle.acap_search.specs.Near.{AreKept}
+use Rattle.acap_search.specs.Shelves.{all_records}
 use Rattle.acap_search.specs.Within.{numbered_from}
 
 -- those behind the first

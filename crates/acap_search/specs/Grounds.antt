@@ -1,10 +1,7 @@
 -- A dataset whose entries are looked at one after the other: words of private contracts.
-use Rattle.std.specs.Prelude.{◌≡◌, ◌↔◌, Bool, List, ◌∷◌, Option, Some, None, IsTrue, refl}
-use Rattle.std.specs.Borrow.{Bor}
+use Rattle.std.specs.Prelude.{◌≡◌, ◌↔◌, Bool, IsTrue, refl}
 use Rattle.std.specs.Coded.{Coded, code_by, coded×, coded_bool}
 use Rattle.std.specs.List.{Contains}
-use Rattle.acap_entries.specs.declared.path.Path.{Path}
-use Rattle.acap_entries.specs.declared.record.Record.{Record}
 use Rattle.acap_search.specs.Views.{View, view_code}
 use Rattle.acap_search.specs.Walks.{Quest, datasets_by, view_in}
 
@@ -17,11 +14,6 @@ pub record Ground : Type 0 where
 pub record IsGroundOf (quest : Quest) (g : Ground) : Type 0 where
   pub view : g.view ≡ view_in quest g.view.dataset
   pub searched : IsTrue g.is_searched ↔ Contains (datasets_by quest) g.view.dataset
-
--- records with their paths, the first of them apart
-abbrev pub all_records : Option (Bor Path × Bor Record) → List (Path × Record) → List (Path × Record)
-all_records None others = others
-all_records (Some e) others = (e.0.now, e.1.now) ∷ others
 
 -- how grounds are told apart in proofs
 abbrev pub ground_code : Coded Ground

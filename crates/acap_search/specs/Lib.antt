@@ -19,6 +19,7 @@ pub mod Places
 pub mod Rows
 pub mod Scoped
 pub mod Scopes
+pub mod Shelves
 pub mod Shown
 pub mod Sight
 pub mod Totals

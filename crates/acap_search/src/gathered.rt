@@ -14,8 +14,7 @@ use crate::stands::tell_stands;
 use crate::told::Told;
 use crate::tuples::{finding_at, is_found, stand_at};
 use crate::wish::Wish;
-use acap_commands::Rows;
-use acap_entries::{Memory, Path, Records, Sequence, Steps};
+use acap_entries::{Memory, Path, Records, Row, Sequence, Steps};
 use std::alloc::Global;
 use std::sync::ledger::Ledger;
 
@@ -129,7 +128,11 @@ impl<'a> Gathered<'a> {
 }
 
 // What is told of the first of what is found.
-fn tell_findings(alloc: Global, found: Vec<Finding<'_>>, most: usize) -> Result<Rows, Memory>
+fn tell_findings(
+    alloc: Global,
+    found: Vec<Finding<'_>>,
+    most: usize,
+) -> Result<Sequence<Row>, Memory>
     ensures { IfOk result (λ rows. rows ≡ rule.rows_of (take most found.entry.items)) }
 {
     let mut found = found;
@@ -138,16 +141,16 @@ fn tell_findings(alloc: Global, found: Vec<Finding<'_>>, most: usize) -> Result<
     for finding in found {
         rows.push(finding.into_row())?;
     }
-    Ok(Rows::from_vec(rows))
+    Ok(Sequence::from_vec(rows))
 }
 
 // The first of some rows.
-fn first_of(rows: Rows, most: usize) -> Rows
+fn first_of(rows: Sequence<Row>, most: usize) -> Sequence<Row>
     ensures { result ≡ take most rows }
 {
     let mut rows = rows.into_vec();
     rows.truncate(most);
-    Rows::from_vec(rows)
+    Sequence::from_vec(rows)
 }
 
 /// What is told of the first of what is gathered. Fails only for want of memory.
@@ -156,7 +159,7 @@ pub(crate) fn tell_first(
     search: &Quest<'_>,
     found: Gathered<'_>,
     most: usize,
-) -> Result<Rows, Memory>
+) -> Result<Sequence<Row>, Memory>
     ensures { IfOk result (λ rows. rows ≡ rule.first_in search.now most found.entry) }
 {
     match found {

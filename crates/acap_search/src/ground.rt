@@ -1,10 +1,9 @@
 //! A dataset whose entries are looked at one after the other.
 ghost use Rattle.std.specs.Prelude.{◌≡◌, ◌↔◌, ◌+◌, IfOk, IsTrue, OnOk};
 ghost use Rattle.std.specs.List.{Contains};
-ghost use Rattle.std.specs.Option.{option_copied, ForSome};
+ghost use Rattle.std.specs.Option.{option_copied};
 ghost use Rattle.acap_inherit.specs.Records.{record_at};
-ghost use Rattle.acap_search.specs.Grounds.{IsGroundOf, all_records};
-ghost use Rattle.acap_search.specs.Near as near;
+ghost use Rattle.acap_search.specs.Grounds.{IsGroundOf};
 ghost use Rattle.acap_search.specs.Views.{found_at, match_at, spot_in};
 ghost use Rattle.acap_search.specs.Walks as walks;
 
@@ -13,22 +12,22 @@ use crate::finding::Finding;
 use crate::front::Front;
 use crate::kept::Kept;
 use crate::near::Near;
-use crate::plain::is_alone;
+use crate::plain::share_rights;
 use crate::query::Sought;
 use crate::quest::Quest;
 use crate::scope::looks_in;
+use crate::shelf::Shelf;
 use crate::spot::Spot;
 use crate::tuples::{finding_at, tell_row};
 use crate::viewer::Viewer;
-use acap_entries::{Dataset, EntryName, Listing, Memory, Path, Record, Records, Row, Steps, Tree};
+use acap_entries::{Dataset, Memory, Path, Record, Records, Row, Steps, Tree};
 use acap_inherit::chain_unless;
-use acap_rights::{SharedRights, shared_rights};
+use acap_rights::SharedRights;
 use std::alloc::Global;
 use std::marker::Model;
 use std::sync::ledger::Ledger;
 
-/// A dataset whose entries are looked at one after the other, with what is made once for all of them. Its records lie at hand in
-/// their order: the next is found at once, if it is the one that is asked for.
+/// A dataset whose entries are looked at one after the other, with what is made once for all of them.
 #[derive(Drop)]
 pub(crate) struct Ground<'a> {
     by: Viewer<'a, Tree>,
@@ -36,15 +35,15 @@ pub(crate) struct Ground<'a> {
     own: Front<'a>,
     base: Front<'a>,
     shared: Option<SharedRights>,
-    next: Option<(&'a Path, &'a Record)>,
-    others: Listing<'a>,
+    shelf: Shelf<'a>,
 }
 
 impl<'a> Model for Ground<'a> {
     ghost use Rattle.std.specs.Option.{ForSome};
     ghost use Rattle.acap_search.specs.Fronts.{IsFront};
-    ghost use Rattle.acap_search.specs.Grounds.{Ground, ground_code, all_records};
-    ghost use Rattle.acap_search.specs.Near.{AreKept, IsPlain};
+    ghost use Rattle.acap_search.specs.Grounds.{Ground, ground_code};
+    ghost use Rattle.acap_search.specs.Near.{IsPlain};
+    ghost use Rattle.std.specs.Prelude.{◌≡◌};
 
     ghost Value = { Ground };
 
@@ -53,18 +52,7 @@ impl<'a> Model for Ground<'a> {
     ghost view = { λ g. record { view = g.by; is_searched = g.is_searched } };
 
     ghost invariant = { λ g. IsFront g.by.records g.own × IsFront g.by.records g.base × ForSome g.shared (IsPlain g.by)
-        × AreKept g.by.records g.by.dataset (all_records g.next g.others) };
-}
-
-// The rights that the entries of a dataset share, where it inherits nothing.
-fn share_rights(alloc: Global, by: &Viewer<'_, Tree>) -> Result<Option<SharedRights>, Memory>
-    ensures { IfOk result (λ shared. ForSome shared (near.IsPlain by.now)) }
-{
-    let dataset = by.dataset.as_slice();
-    if !is_alone(&by.chain, dataset) {
-        return Ok(None);
-    }
-    Ok(Some(shared_rights(alloc, by.records, by.realm, by.user, dataset)?))
+        × (g.shelf ≡ record { records = g.by.records; dataset = g.by.dataset }) };
 }
 
 // Whether a dataset is one that is looked through.
@@ -73,31 +61,6 @@ fn is_searched(search: &Quest<'_>, dataset: &Dataset) -> bool
 {
     search.tree.form_law();
     looks_in(&search.sought.scope(), search.tree, dataset)
-}
-
-// The first of some records whose name doesn't come before another one.
-#[tactic(auto, using(crate::proofs::GroundLemmas::others_kept))]
-fn first_from<'a>(
-    tree: &Tree,
-    dataset: &Dataset,
-    next: Option<(&'a Path, &'a Record)>,
-    others: &mut Listing<'a>,
-    name: &EntryName,
-) -> Option<(&'a Path, &'a Record)>
-    requires { near.AreKept tree.now.store.records dataset.now (all_records next others.old) }
-    ensures { near.AreKept tree.now.store.records dataset.now (all_records result others.new) }
-{
-    if let Some((path, _)) = next
-        && *name <= path.name
-    {
-        return next;
-    }
-    'passed: while let Some(entry) = others.next() {
-        if *name <= entry.0.name {
-            return Some(entry);
-        }
-    }
-    None
 }
 
 impl<'a> Ground<'a> {
@@ -127,8 +90,7 @@ impl<'a> Ground<'a> {
             own,
             base,
             shared,
-            next: None,
-            others: search.tree.entries_of(dataset.as_slice()),
+            shelf: Shelf::of(search.tree, dataset),
         })
     }
 
@@ -154,23 +116,6 @@ impl<'a> Ground<'a> {
         ensures { result ≡ self.now.is_searched }
     {
         self.is_searched
-    }
-
-    // The record of an entry of it, which is often the next.
-    fn record_of(&mut self, name: &EntryName) -> Option<&'a Record>
-        ensures same { self.new ≡ self.old }
-        ensures found { option_copied result ≡ record_at self.old.view.records self.old.view.dataset name.now }
-    {
-        let tree = self.by.records;
-        let dataset = self.by.dataset;
-        let next = first_from(tree, dataset, self.next, &mut self.others, name);
-        self.next = next;
-        if let Some((path, record)) = next
-            && path.name == *name
-        {
-            return Some(record);
-        }
-        tree.find(dataset.as_slice(), name.as_slice())
     }
 
     // What a search makes of an entry of it whose record is at hand, if there is one: one step.
@@ -218,7 +163,7 @@ impl<'a> Ground<'a> {
         ensures count { steps.new ≡ steps.old + 1 }
         ensures made { IfOk result (λ made. made ≡ found_at sought.now place (spot_in self.old.view path.now.name)) }
     {
-        let entry = self.record_of(&path.name);
+        let entry = self.shelf.find(&path.name);
         self.find_with(alloc, path, entry, sought, place, steps)
     }
 

@@ -2,7 +2,6 @@
 ghost use Rattle.std.specs.Prelude.{◌≡◌, ◌↔◌, IsTrue, IfOk, take, map as each};
 
 use crate::rank::SortPlaces;
-use acap_commands::Rows;
 use acap_entries::{Copying, Memory, Path, Row, Sequence};
 use std::alloc::Global;
 use std::marker::Model;
@@ -82,7 +81,7 @@ impl Copying for Hit {
 }
 
 /// What is told of the first hits, so many or all, each row in the memory that it has. Fails only for want of memory.
-pub fn first_rows(alloc: Global, hits: Hits, most: usize) -> Result<Rows, Memory>
+pub fn first_rows(alloc: Global, hits: Hits, most: usize) -> Result<Sequence<Row>, Memory>
     ensures { IfOk result (λ rows. rows ≡ each (λ hit. hit.row) (take most hits)) }
 {
     let mut hits = hits.into_vec();
@@ -91,5 +90,5 @@ pub fn first_rows(alloc: Global, hits: Hits, most: usize) -> Result<Rows, Memory
     for hit in hits {
         rows.push(hit.into_row())?;
     }
-    Ok(Rows::from_vec(rows))
+    Ok(Sequence::from_vec(rows))
 }

@@ -1,7 +1,13 @@
 //! Datasets that inherit nothing.
-ghost use Rattle.std.specs.Prelude.{◌≡◌, ◌∷◌, [], IsTrue};
+ghost use Rattle.std.specs.Prelude.{◌≡◌, ◌∷◌, [], IfOk, IsTrue};
+ghost use Rattle.std.specs.Option.{ForSome};
+ghost use Rattle.acap_search.specs.Near.{IsPlain};
 
+use crate::viewer::Viewer;
+use acap_entries::{Memory, Records};
 use acap_inherit::Lineage;
+use acap_rights::{SharedRights, shared_rights};
+use std::alloc::Global;
 
 /// Whether a chain is the dataset alone.
 pub(crate) fn is_alone(chain: &Lineage<'_>, dataset: &[u8]) -> bool
@@ -11,4 +17,18 @@ pub(crate) fn is_alone(chain: &Lineage<'_>, dataset: &[u8]) -> bool
         Some((first, others)) => others.is_empty() && *first == dataset,
         None => false,
     }
+}
+
+/// The rights that the entries of a dataset share, where it inherits nothing. Fails only for want of memory.
+pub(crate) fn share_rights<R: Records>(
+    alloc: Global,
+    by: &Viewer<'_, R>,
+) -> Result<Option<SharedRights>, Memory>
+    ensures { IfOk result (λ shared. ForSome shared (IsPlain by.now)) }
+{
+    let dataset = by.dataset.as_slice();
+    if !is_alone(&by.chain, dataset) {
+        return Ok(None);
+    }
+    Ok(Some(shared_rights(alloc, by.records, by.realm, by.user, dataset)?))
 }

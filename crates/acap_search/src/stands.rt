@@ -7,8 +7,7 @@ ghost use Rattle.acap_search.specs.Walks.{match_in};
 use crate::ground::Ground;
 use crate::quest::Quest;
 use crate::stand::Stand;
-use acap_commands::Rows;
-use acap_entries::{Memory, Row};
+use acap_entries::{Memory, Row, Sequence};
 use std::alloc::Global;
 
 // What is told of an entry, in the dataset where it lies.
@@ -28,18 +27,22 @@ fn tell_there<'a>(
 }
 
 // What is told of all of it. Entries that lie in one dataset one after the other share what is made for it.
-fn tell_all<'a>(alloc: Global, search: &Quest<'a>, stands: &'a [Stand<'a>]) -> Result<Rows, Memory>
+fn tell_all<'a>(
+    alloc: Global,
+    search: &Quest<'a>,
+    stands: &'a [Stand<'a>],
+) -> Result<Sequence<Row>, Memory>
     ensures { IfOk result (λ rows. rows ≡ rows_at search.now stands.now) }
 {
     let mut rows = Vec::with_capacity(alloc, stands.len())?;
     let Some(first) = stands.first() else {
-        return Ok(Rows::from_vec(rows));
+        return Ok(Sequence::from_vec(rows));
     };
     let mut here = Ground::at(alloc, search, &first.path().dataset)?;
     for stand in stands {
         rows.push(tell_there(alloc, search, &mut here, stand)?)?;
     }
-    Ok(Rows::from_vec(rows))
+    Ok(Sequence::from_vec(rows))
 }
 
 /// What is told of the first of what is found. Fails only for want of memory.
@@ -48,7 +51,7 @@ pub(crate) fn tell_stands(
     search: &Quest<'_>,
     found: Vec<Stand<'_>>,
     most: usize,
-) -> Result<Rows, Memory>
+) -> Result<Sequence<Row>, Memory>
     ensures { IfOk result (λ rows. rows ≡ rows_at search.now (take most found.entry.items)) }
 {
     let mut found = found;

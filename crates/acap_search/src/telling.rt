@@ -10,8 +10,8 @@ use crate::quest::Quest;
 use crate::refusal::SearchRefusal;
 use crate::searching::answer;
 use crate::wish::Wish;
-use acap_commands::{Limit, Rows};
-use acap_entries::{Steps, Tree, UserName};
+use acap_commands::Limit;
+use acap_entries::{Row, Sequence, Steps, Tree, UserName};
 use acap_rights::Realm;
 use std::alloc::Global;
 use std::sync::ledger::Ledger;
@@ -20,7 +20,7 @@ use std::sync::ledger::Ledger;
 #[derive(Drop)]
 pub struct Excerpt {
     /// The rows of the first of them, as many as LIMIT lets through.
-    pub rows: Rows,
+    pub rows: Sequence<Row>,
     /// How many there are in all, where LIMIT keeps some back.
     pub total: Option<usize>,
 }

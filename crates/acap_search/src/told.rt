@@ -6,15 +6,14 @@ ghost use Rattle.acap_search.specs.Views.{match_at};
 use crate::query::Sought;
 use crate::spot::Spot;
 use crate::tuples::tell_row;
-use acap_commands::Rows;
-use acap_entries::{Memory, Records};
+use acap_entries::{Memory, Records, Row, Sequence};
 use std::alloc::Global;
 
 /// The rows of the first of what is found, and how much is found in all.
 #[derive(Drop)]
 pub(crate) struct Told {
     /// The rows.
-    pub(crate) rows: Rows,
+    pub(crate) rows: Sequence<Row>,
     /// How many there are of them at most.
     pub(crate) most: usize,
     /// How much is found.
@@ -27,7 +26,7 @@ impl Told {
         ensures { result ≡ rule.none_told most }
     {
         Told {
-            rows: Rows::new(alloc),
+            rows: Sequence::new(alloc),
             most,
             count: 0,
         }

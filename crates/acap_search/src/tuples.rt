@@ -185,6 +185,25 @@ pub(crate) fn finding_at<'p, R: Records, L: Ledger>(
     Ok(Some(Finding { stand, row }))
 }
 
+/// The same as a hit.
+pub(crate) fn hit_at<'p, R: Records, L: Ledger>(
+    alloc: Global,
+    spot: &Spot<'_, R>,
+    path: Option<&'p Path>,
+    sought: &Sought,
+    place: Option<u32>,
+    steps: &mut Steps<L>,
+) -> Result<Option<Hit>, Memory>
+    requires { IfSome path (λ path. path.now ≡ path_of spot.now) }
+    ensures count { steps.new ≡ steps.old + 1 }
+    ensures made { IfOk result (λ hit. hit ≡ found_at sought.now place spot.now) }
+{
+    match finding_at(alloc, spot, path, sought, place, steps)? {
+        Some(found) => Ok(Some(found.into_hit(alloc)?)),
+        None => Ok(None),
+    }
+}
+
 /// What a search makes of an entry: none where the user doesn't see it or the key doesn't want it, else where it stands and what
 /// is told of it (RFC 2244 section 6.4.1). The place is the entry's position in the context that is searched, and none over a
 /// dataset. Fails only for want of memory. It counts as one step, whatever comes of it.
@@ -201,9 +220,5 @@ pub fn row_of<'a, R: Records, L: Ledger>(
 {
     let near = near_by(by, name);
     let nearer = by.over(&near);
-    let spot = Spot::far(&nearer, name);
-    match finding_at(alloc, &spot, None, sought, place, steps)? {
-        Some(found) => Ok(Some(found.into_hit(alloc)?)),
-        None => Ok(None),
-    }
+    hit_at(alloc, &Spot::far(&nearer, name), None, sought, place, steps)
 }

@@ -21,17 +21,7 @@ pub(crate) struct Known<'a> {
 fn place_of(known: &[Known<'_>], dataset: &[u8]) -> usize
     ensures { result ≤ length known.now }
 {
-    let mut low = 0;
-    let mut high = known.len();
-    while low < high {
-        let mid = low + (high - low) / 2;
-        if known[mid].dataset < dataset {
-            low = mid + 1;
-        } else {
-            high = mid;
-        }
-    }
-    low
+    known.partition_point(|other| other.dataset < dataset)
 }
 
 // Whether the rights in a dataset stand at a place.
@@ -45,8 +35,8 @@ fn stand_at(known: &[Known<'_>], at: usize, dataset: &[u8]) -> bool
     }
 }
 
-/// The place of the rights in a dataset among those that are known. Where they aren't, they are worked out and
-/// put there.
+/// The place of the rights in a dataset among those that are known. Where they aren't, they are worked out
+/// and put there.
 pub(crate) fn learn_rights<'a>(
     alloc: Global,
     by: &Asker<'_>,

@@ -1,10 +1,9 @@
 //! Stories, and what the client of a context holds at the end of each.
 ghost use Rattle.std.specs.Prelude.{◌≡◌, ◌<◌};
 
-use acap_commands::Rows;
 use acap_entries::{
-    Cell, ContextName, Item, Items, Label, Memory, Moment, Octets, Row, Seat, Steps, UserName,
-    Value,
+    Cell, ContextName, Item, Items, Label, Memory, Moment, Octets, Row, Seat, Sequence, Steps,
+    UserName, Value,
 };
 use acap_examples::{Deed, Occasion, Step, Story, Trouble, shows};
 use acap_rights::Realm;
@@ -180,8 +179,8 @@ fn story(alloc: Global, tale: &Tale) -> Result<Story, Trouble> {
     })
 }
 
-fn rows_of(alloc: Global, told: Pairs) -> Result<Rows, Memory> {
-    let mut rows = Rows::new(alloc);
+fn rows_of(alloc: Global, told: Pairs) -> Result<Sequence<Row>, Memory> {
+    let mut rows = Sequence::new(alloc);
     for (name, value) in told {
         let mut items = Items::new(alloc);
         items.push(Item::One(Cell::Single(Value::from_slice(alloc, *value)?)))?;

@@ -30,6 +30,7 @@ use Rattle.acap_views.specs.Notices.{told_shape}
 use Rattle.acap_views.specs.Shifting.{Shift, standing, with_match, without_old, old_place, stands, from_one, after_shift, after_shifts, shift_notices, shifts_notices, tells_between, surely_tells, count_with, until_full}
 use Rattle.acap_views.proofs.PathLemmas.{IsIn, told_apart}
 use Rattle.acap_views.proofs.ShiftLemmas.{Unlike, IsApt, rises, left_of, finds_place, shift_is, told_is, tied}
+use Rattle.acap_views.proofs.StayLemmas.{stays, untold}
 
 from_with : (come : Match) (es : List Match) (x : Match) → Contains (with_item match_cmp come es) x → (come ≡ x) ⊎ Contains es x
 unfolding with_item
@@ -200,14 +201,15 @@ module _ (dataset : List ℕ) (depth : Option ℕ) (was : Path → List SortPlac
       told_one enumerated (told p) (from_one (old_place old hits)) (from_one (stands old (come p) hits))
       ((λ i. tells_between (stood_is i) (place i)) ∙ e)
 
-  -- all of them are needed, or more notices would wait than may: with those that are needed, and with all
+  -- what is made of some comes to what all come to, or more notices would wait than may: with those that are made, and with all
   abbrev pub Suffices : Bool → ℕ → List Shift → List Shift → List Match → Type 0
   Suffices enumerated count made all hits =
-      (made ≡ all) ⊎ ((most_waiting < count + length (shifts_notices enumerated made hits)) × (most_waiting < count + length (shifts_notices enumerated all hits)))
+      ((after_shifts made hits ≡ after_shifts all hits) × (shifts_notices enumerated made hits ≡ shifts_notices enumerated all hits))
+      ⊎ ((most_waiting < count + length (shifts_notices enumerated made hits)) × (most_waiting < count + length (shifts_notices enumerated all hits)))
 
   one_suffices : (enumerated : Bool) (count next : ℕ) (shift : Shift) (made all : List Shift) (hits : List Match) → next ≤ count + length (shift_notices enumerated shift hits)
       → Suffices enumerated next made all (after_shift shift hits) → Suffices enumerated count (shift ∷ made) (shift ∷ all) hits
-  one_suffices enumerated count next shift made all hits h (inl e) = inl (ap (λ t. shift ∷ t) e)
+  one_suffices enumerated count next shift made all hits h (inl e) = inl (e.0, ap (λ ns. shift_notices enumerated shift hits ++ ns) e.1)
   one_suffices enumerated count next shift made all hits h (inr over) =
       let first = shift_notices enumerated shift hits in
       inr (
@@ -215,24 +217,49 @@ module _ (dataset : List ℕ) (depth : Option ℕ) (was : Path → List SortPlac
         omega (arith, h, over.1, length-append first (shifts_notices enumerated all (after_shift shift hits))),
       )
 
-  pub suffices : (enumerated : Bool) (first : List Match) (ps : List Path) (hits : List Match) (count : ℕ)
+  -- one that leaves the list as it is and tells nothing may be left out
+  none_suffices : (enumerated : Bool) (count : ℕ) (shift : Shift) (made all : List Shift) (hits : List Match) → after_shift shift hits ≡ hits → shift_notices enumerated shift hits ≡ []
+      → Suffices enumerated count made all (after_shift shift hits) → Suffices enumerated count made (shift ∷ all) hits
+  none_suffices enumerated count shift made all hits same none (inl e) =
+      inl (
+        ap (after_shifts made) (sym same) ∙ e.0,
+        ap (shifts_notices enumerated made) (sym same) ∙ (e.1 ∙ sym (ap (λ ns. ns ++ shifts_notices enumerated all (after_shift shift hits)) none)),
+      )
+  none_suffices enumerated count shift made all hits same none (inr over) =
+      inr (
+        omega (arith, over.0, ap (λ hs. length (shifts_notices enumerated made hs)) same),
+        omega (arith, over.1, ap (λ ns. length (ns ++ shifts_notices enumerated all (after_shift shift hits))) none),
+      )
+
+  -- so it does of those that are due, where all others are found again as they were
+  pub suffices : (due : Shift → Bool) (enumerated : Bool) (first : List Match) (ps : List Path) (hits : List Match) (count : ℕ)
       → AreNamed hits → ((p : Path) → Contains ps p → IsAsked p) → ((p : Path) → Contains ps p → StoodThere hits p) → Apart ps
       → ((p : Path) → Contains ps p → item_at match_cmp (standing p (was p)) hits ≡ item_at match_cmp (standing p (was p)) first)
-      → Suffices enumerated count (until_full first count (each shift_by ps)) (each shift_by ps) hits
-  suffices enumerated first [] hits count n a s d f = inl refl
-  suffices enumerated first (p ∷ ps) hits count n a s d f =
+      → ((p : Path) → due (shift_by p) ≡ false → item_at match_cmp (standing p (was p)) first ≡ come p)
+      → Suffices enumerated count (until_full first count (filter due (each shift_by ps))) (each shift_by ps) hits
+  suffices due enumerated first [] hits count n a s d f l = inl (refl, refl)
+  suffices due enumerated first (p ∷ ps) hits count n a s d f l =
       let asked = a p (here p ps) in
       let stood = s p (here p ps) in
       let next = count_with first (shift_by p) count in
+      let more = filter due (each shift_by ps) in
       let within = counted_within (surely_tells first (shift_by p)) count (length (shift_notices enumerated (shift_by p) hits)) (λ e.
       surely_told p hits n asked stood enumerated (ap (λ (o : Option Match). tells_between o (come p)) (f p (here p ps)) ∙ e)) in
-      let rest = suffices enumerated first ps (after_shift (shift_by p) hits) next (next_named p hits n asked stood) (λ q k. a q (there p q ps k))
+      let rest : (m : ℕ) → Suffices enumerated m (until_full first m more) (each shift_by ps) (after_shift (shift_by p) hits) = λ m.
+      suffices due enumerated first ps (after_shift (shift_by p) hits) m (next_named p hits n asked stood) (λ q k. a q (there p q ps k))
       (λ q k. still_there p hits n asked stood q (d.0 q k) (s q (there p q ps k))) d.1
-      (λ q k. still_found p q hits n asked (a q (there p q ps k)) stood (s q (there p q ps k)) (d.0 q k) ∙ f q (there p q ps k)) in
-      elim (nat_lt most_waiting count) as (λ b. nat_lt most_waiting count ≡ b
-      → Suffices enumerated count (cond b [] (shift_by p ∷ until_full first next (each shift_by ps))) (shift_by p ∷ each shift_by ps) hits) [
-        | true ↦ λ e. inr (omega (arith, ltb-true _ _ e), omega (arith, ltb-true _ _ e))
-        | false ↦ λ e. one_suffices enumerated count next (shift_by p) (until_full first next (each shift_by ps)) (each shift_by ps) hits within rest
+      (λ q k. still_found p q hits n asked (a q (there p q ps k)) stood (s q (there p q ps k)) (d.0 q k) ∙ f q (there p q ps k)) l in
+      elim (due (shift_by p)) as (λ (b : Bool). due (shift_by p) ≡ b
+      → Suffices enumerated count (until_full first count (cond b (shift_by p ∷ more) more)) (shift_by p ∷ each shift_by ps) hits) [
+        | true ↦ λ _. elim (nat_lt most_waiting count) as (λ b. nat_lt most_waiting count ≡ b
+            → Suffices enumerated count (cond b [] (shift_by p ∷ until_full first next more)) (shift_by p ∷ each shift_by ps) hits) [
+              | true ↦ λ e. inr (omega (arith, ltb-true _ _ e), omega (arith, ltb-true _ _ e))
+              | false ↦ λ e. one_suffices enumerated count next (shift_by p) (until_full first next more) (each shift_by ps) hits within (rest next)
+            ] refl
+        | false ↦ λ e.
+            let again = f p (here p ps) ∙ l p e in
+            let now = apt p hits n asked stood in
+            none_suffices enumerated count (shift_by p) (until_full first count more) (each shift_by ps) hits (stays (shift_by p) hits now again) (untold (shift_by p) hits now again enumerated) (rest count)
       ] refl
 
   pub follow : (ps : List Path) (hits : List Match) → AreNamed hits → ((p : Path) → Contains ps p → IsAsked p) → ((p : Path) → Contains ps p → StoodThere hits p) → Apart ps

@@ -1,5 +1,6 @@
 pub mod ListLemmas
 pub mod ToldLemmas
+pub mod SameLemmas
 pub mod NoticeLemmas
 pub mod CurrentLemmas
 pub mod ShownLemmas
@@ -13,6 +14,8 @@ pub mod SeatBitLemmas
 pub mod ClientLemmas
 pub mod RangingLemmas
 pub mod ShiftLemmas
+pub mod StayLemmas
+pub mod SeekLemmas
 pub mod FollowLemmas
 pub mod LoopShiftLemmas
 pub mod UndoLemmas

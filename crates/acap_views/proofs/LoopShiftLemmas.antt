@@ -2,13 +2,16 @@
 use Rattle.std.proofs.Common.{◌≡◌, ℕ, suc, ◌+◌, ◌-◌, ◌<◌, ◌≤◌, min, cond, Bool, true, false, Option, Some, None, List, [], ◌∷◌, ◌++◌, length, refl, sym, ◌∙◌, ap, subst, arith, length-append, append_assoc, map as each}
 use Rattle.std.proofs.lemmas.Bool.{lt-ltb, le-ltb}
 use Rattle.std.proofs.lemmas.List.{length-map}
+use Rattle.std.proofs.lemmas.List.Elements.{filter-append}
+use Rattle.std.specs.List.{cons_option, filter}
 use Rattle.std.specs.Prelude.{IfSome}
 use Rattle.acap_entries.specs.declared.path.Path.{Path}
 use Rattle.acap_notices.specs.Waiting.{most_waiting}
 use Rattle.acap_notices.specs.declared.notice.Notice.{Notice}
 use Rattle.acap_search.specs.Matches.{Match}
 use Rattle.acap_views.specs.Room.{Space, Watched, HasRoom}
-use Rattle.acap_views.specs.Shifting.{Shift, after_shift, after_shifts, shift_notices, shifts_notices, surely_tells, count_with, until_full, due_shifts}
+use Rattle.acap_views.specs.Scenes.{Scene, shift_in}
+use Rattle.acap_views.specs.Shifting.{Shift, after_shift, after_shifts, shift_notices, shifts_notices, surely_tells, count_with, until_full, has_changed, few, due_shifts}
 
 some_first : (n : ℕ) (o : Option ℕ) → IfSome o (λ room. suc n ≤ room) → IfSome o (λ room. 1 ≤ room)
 some_first n None i = i
@@ -53,17 +56,17 @@ stopped : (matches : List Match) (count : ℕ) (shifts : List Shift) → most_wa
 stopped matches count [] h = refl
 stopped matches count (shift ∷ shifts) h = ap (λ b. cond b [] (shift ∷ until_full matches (count_with matches shift count) shifts)) (lt-ltb _ _ h)
 
-pub left_out : (f : Path → Shift) (matches : List Match) (count : ℕ) (made all : List Shift) (rest paths : List Path) → most_waiting < count
-    → made ++ until_full matches count (each f paths) ≡ all → made ++ until_full matches count (each f rest) ≡ all
-left_out f matches count made all rest paths h i = ap (λ ss. made ++ ss) (stopped matches count (each f rest) h ∙ sym (stopped matches count (each f paths) h)) ∙ i
+pub left_out : (matches : List Match) (count : ℕ) (made all rest shifts : List Shift) → most_waiting < count
+    → made ++ until_full matches count shifts ≡ all → made ++ until_full matches count rest ≡ all
+left_out matches count made all rest shifts h i = ap (λ ss. made ++ ss) (stopped matches count rest h ∙ sym (stopped matches count shifts h)) ∙ i
 
-pub put_in : (f : Path → Shift) (matches : List Match) (count next : ℕ) (made more all : List Shift) (path : Path) (rest paths : List Path) → count ≤ most_waiting → paths ≡ path ∷ rest
-    → more ≡ made ++ f path ∷ [] → next ≡ count_with matches (f path) count → made ++ until_full matches count (each f paths) ≡ all → more ++ until_full matches next (each f rest) ≡ all
-put_in f matches count next made more all path rest paths h p m n i =
-    (λ t. m t ++ until_full matches (n t) (each f rest))
-    ∙ (append_assoc made (f path ∷ []) (until_full matches (count_with matches (f path) count) (each f rest))
-    ∙ (ap (λ b. made ++ cond b [] (f path ∷ until_full matches (count_with matches (f path) count) (each f rest))) (sym (le-ltb _ _ h))
-    ∙ (ap (λ ps. made ++ until_full matches count (each f ps)) (sym p) ∙ i)))
+pub put_in : (matches : List Match) (count next : ℕ) (made more all : List Shift) (shift : Shift) (rest shifts : List Shift) → count ≤ most_waiting → shifts ≡ shift ∷ rest
+    → more ≡ made ++ shift ∷ [] → next ≡ count_with matches shift count → made ++ until_full matches count shifts ≡ all → more ++ until_full matches next rest ≡ all
+put_in matches count next made more all shift rest shifts h p m n i =
+    (λ t. m t ++ until_full matches (n t) rest)
+    ∙ (append_assoc made (shift ∷ []) (until_full matches (count_with matches shift count) rest)
+    ∙ (ap (λ b. made ++ cond b [] (shift ∷ until_full matches (count_with matches shift count) rest)) (sym (le-ltb _ _ h))
+    ∙ (ap (λ ss. made ++ until_full matches count ss) (sym p) ∙ i)))
 
 -- where all of them may wait, all are needed
 
@@ -78,8 +81,42 @@ all_few matches count (shift ∷ shifts) h =
     ∙ ap (λ ss. shift ∷ ss) (all_few matches (count_with matches shift count) shifts (omega (arith, h, one_more_at_most (surely_tells matches shift) count)))
 
 pub all_needed : (f : Path → Shift) (watched : Watched) (paths : List Path) → length paths ≤ most_waiting - length watched.pending → length watched.pending ≤ most_waiting
-    → each f paths ≡ due_shifts watched (each f paths)
-all_needed f watched paths h few = sym (all_few watched.present (length watched.pending) (each f paths) (omega (arith, h, few, length-map paths f)))
+    → each f paths ≡ until_full watched.present (length watched.pending) (each f paths)
+all_needed f watched paths h room = sym (all_few watched.present (length watched.pending) (each f paths) (omega (arith, h, room, length-map paths f)))
+
+-- of a few all are due, and of many those whose match has changed
+
+pub due_of_few : (f : Path → Shift) (watched : Watched) (paths : List Path) → length paths ≤ few
+    → until_full watched.present (length watched.pending) (each f paths) ≡ due_shifts watched (each f paths)
+due_of_few f watched paths h =
+    let all = each f paths in
+    sym (ap (λ b. until_full watched.present (length watched.pending) (cond b (filter (has_changed watched.present) all) all)) (le-ltb _ _ (omega (arith, h, length-map paths f))))
+
+pub due_of_many : (f : Path → Shift) (watched : Watched) (paths : List Path) → few < length paths
+    → until_full watched.present (length watched.pending) (filter (has_changed watched.present) (each f paths)) ≡ due_shifts watched (each f paths)
+due_of_many f watched paths h =
+    let all = each f paths in
+    sym (ap (λ b. until_full watched.present (length watched.pending) (cond b (filter (has_changed watched.present) all) all)) (lt-ltb _ _ (omega (arith, h, length-map paths f))))
+
+-- the first of some paths is due or isn't
+
+put_before : {X : Type 0} (o : Option X) (xs : List X) → cons_option o [] ++ xs ≡ cons_option o xs
+put_before None xs = refl
+put_before (Some x) xs = refl
+
+pub first_due : (matches hits : List Match) (scene field : Scene) (path : Path) (rest paths : List Path) (made : Option Shift) → hits ≡ matches → field ≡ scene → paths ≡ path ∷ rest
+    → cons_option made [] ≡ filter (has_changed hits) (shift_in field path ∷ [])
+    → filter (has_changed matches) (each (shift_in scene) paths) ≡ cons_option made (filter (has_changed matches) (each (shift_in scene) rest))
+first_due matches hits scene field path rest paths made h f p m =
+    let others = filter (has_changed matches) (each (shift_in scene) rest) in
+    ap (λ ps. filter (has_changed matches) (each (shift_in scene) ps)) p
+    ∙ (filter-append (has_changed matches) (shift_in scene path ∷ []) (each (shift_in scene) rest)
+    ∙ (sym (λ i. filter (has_changed (h i)) (shift_in (f i) path ∷ []) ++ others)
+    ∙ (ap (λ ss. ss ++ others) (sym m) ∙ put_before made others)))
+
+pub none_if : {X : Type 0} (o : Option X) → ((x : X) → o ≡ Some x → ⊥) → o ≡ None
+none_if None n = refl
+none_if (Some x) n = absurd (n x refl)
 
 -- what has no items left
 pub none_of : {X : Type 0} (xs : List X) (n : ℕ) → length xs ≡ n → n ≡ 0 → xs ≡ []

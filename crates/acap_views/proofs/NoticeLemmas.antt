@@ -1,9 +1,7 @@
 -- Notices by mixed lists lead from the old list of a search to the new one.
 use Rattle.std.proofs.Common.{◌≡◌, ℕ, Bool, true, false, not, Option, Some, None, List, ◌++◌, refl, sym, ◌∙◌, ap, subst, map as each}
-use Rattle.std.specs.Cmp.{first_so, second_so}
 use Rattle.std.specs.List.{filter, Contains}
 use Rattle.std.proofs.lemmas.List.Sorted.{Contains-permutation, IsPermutation-sym}
-use Rattle.acap_entries.proofs.Equalities.{row_exact}
 use Rattle.acap_entries.specs.Datasets.{dataset_exists}
 use Rattle.acap_entries.specs.Sound.{IsSoundStore}
 use Rattle.acap_entries.specs.Store.{Store}
@@ -25,31 +23,21 @@ use Rattle.acap_search.specs.Rows.{stars_of}
 use Rattle.acap_search.specs.Tuples.{name_told, match_of}
 use Rattle.acap_search.specs.Walks.{quest_of, hits_over}
 use Rattle.acap_search.specs.declared.query.Sought.{Sought}
-use Rattle.acap_search.proofs.EqualLemmas.{places_exact}
 use Rattle.acap_search.proofs.FreshLemmas.{fresh_law}
 use Rattle.acap_search.proofs.OrderLemmas.{match_weak}
 use Rattle.acap_search.proofs.SeenLemmas.{in_map, in_filter}
 use Rattle.acap_search.proofs.SortLemmas.{Rises, sorted_by_rises}
-use Rattle.acap_search.proofs.TupleLemmas.{same_paths, from_among, made_is}
+use Rattle.acap_search.proofs.TupleLemmas.{from_among, made_is}
 use Rattle.acap_search.proofs.WalkLemmas.{fresh_is}
 use Rattle.acap_views.specs.Changing.{IsSoundStep, sight_for}
 use Rattle.acap_views.specs.Current.{rows}
 use Rattle.acap_views.specs.Laws.{FoundLaw, MovedLaw, NoticeLaw}
 use Rattle.acap_views.specs.Notices.{ascending, told_shape, names_told, match_told, names_of_both, same_tuple, paths_of_both, changed_paths, changed_names, list_notices, event_notices}
+use Rattle.acap_views.proofs.SameLemmas.{same_exact}
 use Rattle.acap_views.proofs.ListLemmas.{among_ascending, ascends, from_made, in_made, in_front, in_back, among, distinct}
 use Rattle.acap_views.proofs.ToldLemmas.{told_lawful, told_is, told_at, told_of_names, InTurn, in_turn, both_distinct, old_supports, new_supports, list_over}
 
 -- ---- tuples
-
-pub same_exact : (a b : Option Match) → same_tuple a b ≡ true → a ≡ b
-same_exact None None e = refl
-same_exact None (Some b) e = absurd (cc (e))
-same_exact (Some a) None e = absurd (cc (e))
-same_exact (Some a) (Some b) e =
-    let path : a.path ≡ b.path = same_paths a.path b.path (first_so _ _ e) in
-    let places : a.places ≡ b.places = (places_exact a.places b.places).0 (first_so _ _ (second_so _ _ e)) in
-    let row : a.row ≡ b.row = (row_exact a.row b.row).0 (second_so _ _ (second_so _ _ e)) in
-    λ i. Some (record { path = path i; places = places i; row = row i })
 
 made_at : (sight : Sight) (sought : Sought) (p : Path) (m : Match) → tuple_of sight sought p ≡ Some m → (paths.is_among sight.paths p ≡ true) × ((m.path ≡ p) × (m.row.name ≡ name_told sought.depth p))
 made_at sight sought p m e =

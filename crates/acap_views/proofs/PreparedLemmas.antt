@@ -1,9 +1,9 @@
 -- What is prepared of each touched entry comes to the change.
-use Rattle.std.proofs.Common.{◌≡◌, ℕ, ◌<◌, suc, true, cond, nat_lt, Option, Some, None, List, [], ◌∷◌, length, refl, sym, ◌∙◌, ap, subst, arith, map as each}
+use Rattle.std.proofs.Common.{◌≡◌, ℕ, ◌<◌, suc, Bool, true, false, not, cond, nat_lt, Option, Some, None, List, [], ◌∷◌, length, refl, sym, ◌∙◌, ap, subst, arith, map as each}
 use Rattle.std.specs.Cmp.{nat_cmp_total, tied_itself}
 use Rattle.std.specs.Cmp.Lexicographic.{nat_list_cmp_total}
 use Rattle.std.specs.FinMap as table
-use Rattle.std.specs.List.{filter_map, sum_by, Contains}
+use Rattle.std.specs.List.{filter, filter_map, sum_by, Contains}
 use Rattle.std.specs.Option.{option_map}
 use Rattle.acap_entries.specs.Datasets.{dataset_exists}
 use Rattle.std.proofs.lemmas.Bool.{lt-ltb}
@@ -12,6 +12,7 @@ use Rattle.acap_notices.specs.Waiting.{most_waiting}
 use Rattle.acap_notices.specs.declared.notice.Notice.{Notice}
 use Rattle.acap_entries.specs.FullPaths.{IsSplit}
 use Rattle.acap_entries.specs.Orders.{octets_cmp}
+use Rattle.acap_entries.specs.Ranks.{item_at}
 use Rattle.acap_entries.specs.Store.{Store, Written}
 use Rattle.acap_entries.specs.declared.path.Path.{Path}
 use Rattle.acap_inherit.specs.Laws.{NothingLaw, NamesLaw}
@@ -23,7 +24,7 @@ use Rattle.acap_search.specs.ContextLaws.{HitLaw}
 use Rattle.acap_search.specs.Fresh.{Sight, tuple_of, matches_of, is_among}
 use Rattle.acap_search.specs.Keys.{holds}
 use Rattle.acap_search.specs.Laws.{SeenLaw, TupleLaw}
-use Rattle.acap_search.specs.Matches.{Match}
+use Rattle.acap_search.specs.Matches.{Match, match_cmp}
 use Rattle.acap_search.specs.Rows.{stars_of}
 use Rattle.acap_search.specs.Sight.{is_seen}
 use Rattle.acap_search.specs.Touched.{TouchedLaw}
@@ -45,13 +46,14 @@ use Rattle.acap_views.specs.Plans.{live_shifts, shifts_in, needed_in, turns_by, 
 use Rattle.acap_views.specs.PreparedLaws.{PreparedLaw}
 use Rattle.acap_views.specs.Preparing.{seen_at, shift_for, shifts_if, shifts_for, needed_if, kept_after, context_after, contexts_after, occupant_after, seats_after, with_delta}
 use Rattle.acap_views.specs.Seats.{Occupant, Seated}
-use Rattle.acap_views.specs.Shifting.{Shift, after_shifts, shifts_notices, until_full}
+use Rattle.acap_views.specs.Shifting.{Shift, after_shifts, shifts_notices, until_full, has_changed, few, due_among}
 use Rattle.acap_views.specs.Work.{is_live, touched_for}
 use Rattle.acap_views.proofs.CurrentLemmas.{find_own}
 use Rattle.acap_views.proofs.FollowLemmas.{Apart, move_of, IsNamed, AreNamed, IsAsked, StoodThere, suffices, follow}
 use Rattle.acap_views.proofs.ListLemmas.{so}
 use Rattle.acap_views.proofs.MovingLemmas.{split_seen, looked_split, looked_in, alone, looked_rise}
 use Rattle.acap_views.proofs.PathLemmas.{IsIn}
+use Rattle.acap_views.proofs.SameLemmas.{same_exact}
 use Rattle.acap_views.proofs.StillLemmas.{contexts_trimmed, count_trimmed}
 
 -- ---- names that ascend are apart
@@ -76,6 +78,14 @@ apart depth (p ∷ ps) a = (
 
 freed : (count : ℕ) (kept : Kept) → most_waiting < count → cond (nat_lt most_waiting count) Freed kept ≡ Freed
 freed count kept h = ap (λ b. cond b Freed kept) (lt-ltb _ _ h)
+
+not_changed : (b : Bool) → not b ≡ false → b ≡ true
+not_changed true e = refl
+not_changed false e = absurd (cc (e))
+
+all_of : (xs : List Shift) → filter (λ _. true) xs ≡ xs
+all_of [] = refl
+all_of (x ∷ xs) = ap (λ t. x ∷ t) (all_of xs)
 
 module _ (nothing : NothingLaw) (names : NamesLaw) (listed : TouchedPathsLaw) (seen : SeenLaw) (unread : TouchedLaw) (changes : ChangedLaw) (found : FoundLaw) (tuples : TupleLaw) (hits : HitLaw) (moved : TouchedMovesLaw) where
   module _ (written : Written) (old new : Store) (realm : Realm) (user : List ℕ) (context : Context) (taken : IsTaken written old new) (exists : dataset_exists old.records context.sought.dataset ≡ true) where
@@ -180,17 +190,26 @@ module _ (nothing : NothingLaw) (names : NamesLaw) (listed : TouchedPathsLaw) (s
     abbrev kept_by : List Match → List Match → List Notice → List Shift → Kept
     kept_by shown now pending shifts = follows (shifts_notices context.enumerated shifts now) (after_shifts shifts now) (Live shown now pending)
 
-    needed_at : (shown : List Match) (pending : List Notice) → kept_by shown last pending (until_full last (length pending) all) ≡ kept_by shown last pending all
-    needed_at shown pending = either
-        (suffices sought.dataset sought.depth was come context.enumerated last looked last (length pending) are_named asked (λ p k. stood p) apart_looked (λ p k. refl))
-        (λ e. ap (kept_by shown last pending) e)
+    due_at : (shown : List Match) (pending : List Notice) (due : Shift → Bool)
+        → ((p : Path) → due (shift_for old.records new.records realm user sought p) ≡ false → item_at match_cmp (shift_for old.records new.records realm user sought p).old last ≡ come p)
+        → kept_by shown last pending (until_full last (length pending) (filter due all)) ≡ kept_by shown last pending all
+    due_at shown pending due left = either
+        (suffices sought.dataset sought.depth was come due context.enumerated last looked last (length pending) are_named asked (λ p k. stood p) apart_looked (λ p k. refl) left)
+        (λ same. λ i. follows (same.1 i) (same.0 i) (Live shown last pending))
         (λ over. freed _ _ over.0 ∙ sym (freed _ _ over.1))
+
+    -- of a few all are taken, and of many those whose match has changed
+    needed_at : (shown : List Match) (pending : List Notice) → kept_by shown last pending (due_among last (length pending) all) ≡ kept_by shown last pending all
+    needed_at shown pending = elim (nat_lt few (length all)) as (λ b. kept_by shown last pending (until_full last (length pending) (cond b (filter (has_changed last) all) all)) ≡ kept_by shown last pending all) [
+      | true ↦ due_at shown pending (has_changed last) (λ p e. same_exact _ _ (not_changed _ e))
+      | false ↦ subst (λ ss. kept_by shown last pending (until_full last (length pending) ss) ≡ kept_by shown last pending all) (all_of all) (due_at shown pending (λ _. true) (λ p e. absurd (cc (e))))
+    ]
 
     needed_is : (kept : Kept) → IsCurrentKept last context.enumerated kept
         → kept_after context.enumerated (needed_if kept (shifts_if kept all)) kept ≡ kept_after context.enumerated (shifts_if kept all) kept
     needed_is (Snapshot shown) i = refl
     needed_is (Live shown now pending) i =
-        subst (λ ms. kept_by shown ms pending (until_full ms (length pending) all) ≡ kept_by shown ms pending all) (sym i.fresh_now) (needed_at shown pending)
+        subst (λ ms. kept_by shown ms pending (due_among ms (length pending) all) ≡ kept_by shown ms pending all) (sym i.fresh_now) (needed_at shown pending)
     needed_is Freed i = refl
 
   one_context : (written : Written) (old new : Store) (realm : Realm) (user : List ℕ) (context : Context) → IsTaken written old new → IsCurrentContext old realm user context

@@ -47,10 +47,10 @@ tied Equal e = refl
 tied Greater e = absurd (cc (e))
 
 -- what comes behind a match that stood there didn't
-untied_behind : (old h : Match) (hs : List Match) → eq_by_cmp match_cmp old h ≡ true → ((x : Match) → Contains hs x → match_cmp h x ≡ Less) → Untied old hs
+pub untied_behind : (old h : Match) (hs : List Match) → eq_by_cmp match_cmp old h ≡ true → ((x : Match) → Contains hs x → match_cmp h x ≡ Less) → Untied old hs
 untied_behind old h hs e b x k = ap is_eq (match_total.congr old h x (tied _ e) ∙ b x k)
 
-all_kept : (p : Match → Bool) (xs : List Match) → ((x : Match) → Contains xs x → p x ≡ true) → filter p xs ≡ xs
+pub all_kept : (p : Match → Bool) (xs : List Match) → ((x : Match) → Contains xs x → p x ≡ true) → filter p xs ≡ xs
 all_kept p [] h = refl
 all_kept p (x ∷ xs) h = rw (h x (here x xs)) (ap (λ t. x ∷ t) (all_kept p xs (λ y k. h y (there x y xs k))))
 
@@ -58,7 +58,7 @@ none_found : (p : Match → Bool) (xs : List Match) → ((x : Match) → Contain
 none_found p [] h = refl
 none_found p (x ∷ xs) h = rw (h x (here x xs)) (none_found p xs (λ y k. h y (there x y xs k)))
 
-where_found : (p : Match → Bool) (xs : List Match) (y : Match) → find p xs ≡ Some y → Contains xs y × (p y ≡ true)
+pub where_found : (p : Match → Bool) (xs : List Match) (y : Match) → find p xs ≡ Some y → Contains xs y × (p y ≡ true)
 where_found p [] y e = absurd (cc (e))
 where_found p (x ∷ xs) y e = elim (p x) as (λ b. p x ≡ b → cond b (Some x) (find p xs) ≡ Some y → Contains (x ∷ xs) y × (p y ≡ true)) [
   | true ↦ λ t s. let same : x ≡ y = cc (s) in (subst (λ z. Contains (x ∷ xs) z) same (here x xs), ap p (sym same) ∙ t)

@@ -1,7 +1,7 @@
 -- What a client has been told is what a search finds, and what a change leaves of each context.
-use Rattle.std.proofs.Common.{◌≡◌, ◌≢◌, ℕ, ℤ, Bool, true, false, not, cond, ◌&&◌, Option, Some, None, List, [], ◌∷◌, refl, sym, ◌∙◌, ap, subst, map as each}
+use Rattle.std.proofs.Common.{◌≡◌, ◌≢◌, ℕ, ℤ, Bool, true, false, not, cond, Option, Some, None, List, [], ◌∷◌, refl, sym, ◌∙◌, ap, subst, map as each}
 use Rattle.std.specs.Cmp.{unsigned_ties, IsTotalOrder, tied_itself, first_so, second_so, nat_cmp_total}
-use Rattle.std.specs.Cmp.Lexicographic.{nat_list_cmp_total, pointwise}
+use Rattle.std.specs.Cmp.Lexicographic.{nat_list_cmp_total}
 use Rattle.std.specs.FinMap as table
 use Rattle.std.specs.FinMap.{FinMap, is_sorted, find, slice_cmp-IsAntisymmetric, nat_cmp-IsAntisymmetric}
 use Rattle.std.specs.FinMap.Entries.{below_all}
@@ -10,20 +10,15 @@ use Rattle.std.specs.Option.{option_map, option_map_or, option_and_then}
 use Rattle.std.specs.Ordering.{eq_by_cmp, is_eq}
 use Rattle.std.specs.declared.cmp.Ordering.{Ordering}
 use Rattle.std.specs.declared.cmp.Ordering.TheVariants.{Less, Equal, Greater}
-use Rattle.acap_entries.proofs.Equalities.{row_exact}
 use Rattle.acap_entries.specs.Orders.{octets_cmp}
 use Rattle.acap_entries.specs.Store.{Store}
 use Rattle.acap_entries.specs.declared.path.Path.{Path}
-use Rattle.acap_moves.specs.Notices.{same_row}
 use Rattle.acap_notices.specs.declared.notice.Notice.{Notice}
 use Rattle.acap_rights.specs.declared.realm.Realm.{Realm}
-use Rattle.acap_search.specs.Fresh.{Sight, tuple_of, matches_of, same_path}
+use Rattle.acap_search.specs.Fresh.{Sight, tuple_of, matches_of}
 use Rattle.acap_search.specs.Matches.{Match}
-use Rattle.acap_search.specs.contracts.rank.SortPlacePartialEq.TheImpl as place
 use Rattle.acap_search.specs.declared.query.Sought.{Sought}
-use Rattle.acap_search.proofs.EqualLemmas.{places_exact}
 use Rattle.acap_search.proofs.SeenLemmas.{here, there, first_or, nowhere, either, in_filter, from_filter}
-use Rattle.acap_search.proofs.TupleLemmas.{itself}
 use Rattle.acap_views.specs.Changing.{sight_for, follows, changed_context, changed_occupant}
 use Rattle.acap_views.specs.Contexts.{Kept, Snapshot, Live, Freed, Context, Contexts}
 use Rattle.acap_views.specs.Current.{IsToldAll, IsCurrentKept, IsCurrentContext, IsCurrentOccupant}
@@ -37,7 +32,8 @@ use Rattle.acap_views.specs.Seats.{Occupant}
 use Rattle.acap_views.specs.Telling.{shown_now, updated_to, after_update, after_updates, kept_drained, after_drain}
 use Rattle.acap_views.proofs.CurrentLemmas.{from_kept, AreCurrent, one_update}
 use Rattle.acap_views.proofs.ListLemmas.{so, less, among, from_among, among_ascending, ascends}
-use Rattle.acap_views.proofs.NoticeLemmas.{same_exact, in_both}
+use Rattle.acap_views.proofs.NoticeLemmas.{in_both}
+use Rattle.acap_views.proofs.SameLemmas.{same_exact, same_itself}
 
 -- ---- maps
 
@@ -192,15 +188,6 @@ shown_law = record {
 }
 
 -- ---- what has changed
-
-same_itself : (a b : Option Match) → a ≡ b → same_tuple a b ≡ true
-same_itself None None e = refl
-same_itself None (Some b) e = absurd (cc (e))
-same_itself (Some a) None e = absurd (cc (e))
-same_itself (Some a) (Some b) e =
-    let same : a ≡ b = cc (e) in
-    subst (λ (m : Match). (same_path a.path m.path && (pointwise place.ghosts.eq a.places m.places && same_row a.row m.row)) ≡ true) same
-    ((λ i. itself a.path i && ((places_exact a.places a.places).1 refl i && same_row a.row a.row)) ∙ (row_exact a.row a.row).1 refl)
 
 abbrev differs : Sought → Sight → Sight → Path → Bool
 differs sought old new path = not (same_tuple (tuple_of old sought path) (tuple_of new sought path))

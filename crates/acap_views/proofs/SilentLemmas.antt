@@ -10,7 +10,7 @@ use Rattle.acap_views.specs.Contexts.{Kept, Snapshot, Live, Freed, Context}
 use Rattle.acap_views.specs.Keeping.{RoomyContext}
 use Rattle.acap_views.specs.Plans.{work_in, needed_in, is_still, unless_still}
 use Rattle.acap_views.specs.Preparing.{shift_for, shifts_if, needed_if}
-use Rattle.acap_views.specs.Shifting.{Shift, until_full}
+use Rattle.acap_views.specs.Shifting.{Shift, due_among}
 use Rattle.acap_views.specs.Touching.{is_asked, looked_at_by, may_look, any_may_look}
 use Rattle.acap_views.specs.Work.{is_live}
 use Rattle.acap_views.proofs.TouchingLemmas.{in_no_dataset}
@@ -44,7 +44,7 @@ module _ (plan : Planned) (sought : Sought) where
   kept_silent user Freed e = (refl, refl)
   kept_silent user (Live shown now pending) e =
       let none = none_looked (alone_no _ e) in
-      (ap length none, ap (λ (paths : List Path). until_full now (length pending) (each (shift_for plan.old.records (store_ahead plan).records plan.realm user sought) paths)) none)
+      (ap length none, ap (λ (paths : List Path). due_among now (length pending) (each (shift_for plan.old.records (store_ahead plan).records plan.realm user sought) paths)) none)
 
 module _ (plan : Planned) (user : List ℕ) where
   work_silent : (context : Context) → may_look plan context ≡ false → work_in plan context ≡ 0

@@ -1,4 +1,4 @@
--- What is told of contexts one name after the other, and by drains, as copies of what waits.
+-- What is told of contexts one name after the other, and by drains, as batches of what waits.
 use Rattle.std.proofs.Common.{◌≡◌, ℕ, ℤ, ◌+◌, ◌<◌, Bool, true, false, cond, ◌||◌, Option, Some, None, List, [], ◌∷◌, ◌++◌, length, take, drop, get_or, refl, sym, ◌∙◌, ap, subst, append_assoc, flat_map, map as each}
 use Rattle.std.specs.Cmp.{tied_itself}
 use Rattle.std.specs.Cmp.Lexicographic.{nat_list_cmp_total, bytes_decides}
@@ -7,12 +7,17 @@ use Rattle.std.specs.List.{list_any}
 use Rattle.std.specs.Option.{option_map, option_map_or}
 use Rattle.std.specs.Ordering.{eq_by_cmp, is_eq}
 use Rattle.std.specs.declared.cmp.Ordering.TheVariants.{Less, Equal, Greater}
-use Rattle.std.proofs.lemmas.List.{take_more}
+use Rattle.std.proofs.lemmas.List.{take_more, append-nil}
 use Rattle.acap_entries.specs.Orders.{octets_cmp, octets_eq}
 use Rattle.acap_entries.specs.Sorted.{InOrder, found}
+use Rattle.acap_notices.specs.Batches as batches
+use Rattle.acap_notices.specs.Batches.{all_told, told_in}
+use Rattle.acap_notices.specs.declared.batch.Batch.{Batch}
+use Rattle.acap_notices.specs.declared.notice.Notice.{Notice}
 use Rattle.acap_notices.specs.declared.told.Told.{Told}
+use Rattle.acap_notices.specs.declared.told.Told.TheVariants as told
 use Rattle.acap_views.specs.Contexts.{Kept, Snapshot, Live, Freed, Context, Contexts}
-use Rattle.acap_views.specs.Holds.{is_freed}
+use Rattle.acap_views.specs.Holds.{is_freed, pending_in}
 use Rattle.acap_views.specs.Keeping.{RoomyContext}
 use Rattle.acap_views.specs.Listing.{as_contexts, bare, waiting_after}
 use Rattle.acap_views.specs.Telling.{notes_of, shown_now, fault_in, fault_at, told_by_name, updated_to, after_update, after_updates, told_in_turn, drain_told}
@@ -27,6 +32,26 @@ pub notes_told : (name : List ℕ) (kept : Kept) → is_freed kept ≡ false →
 notes_told name (Snapshot shown) e = refl
 notes_told name (Live shown now pending) e = refl
 notes_told name Freed e = absurd (cc (e))
+
+-- ---- batches
+
+pub pending_told : (name : List ℕ) (kept : Kept) → batches.notes_of name (pending_in kept) ≡ notes_of name kept
+pending_told name (Snapshot shown) = refl
+pending_told name (Live shown now pending) = refl
+pending_told name Freed = refl
+
+pub freed_told : (name : List ℕ) (kept : Kept) → is_freed kept ≡ true → told.Freed name ∷ [] ≡ drain_told name kept
+freed_told name (Snapshot shown) e = absurd (cc (e))
+freed_told name (Live shown now pending) e = absurd (cc (e))
+freed_told name Freed e = refl
+
+pub lasting_told : (name : List ℕ) (kept : Kept) (notices : List Notice) → is_freed kept ≡ false → notices ≡ pending_in kept
+    → batches.notes_of name notices ≡ drain_told name kept
+lasting_told name kept notices lasts e = ap (batches.notes_of name) e ∙ (pending_told name kept ∙ notes_told name kept lasts)
+
+pub batch_more : (front : List Batch) (batch : Batch) → all_told (front ++ batch ∷ []) ≡ all_told front ++ told_in batch
+batch_more [] batch = append-nil (told_in batch)
+batch_more (first ∷ front) batch = ap (λ (ts : List Told). told_in first ++ ts) (batch_more front batch) ∙ sym (append_assoc (told_in first) (all_told front) (told_in batch))
 
 -- ---- by name
 

@@ -28,7 +28,8 @@ abbrev pub reaching : Planned → Reaching
 reaching plan = record { change = plan.change; old = plan.old }
 
 -- the change may be made, and what is known of it is so
-pub record IsAhead (change : Bor Change) (tree : Bor Roomy) (after : Bor After) (beside : Bor Store) (reach : Bor Reaching) : Type 0 where
+pub record IsAhead (change : Bor Change) (tree : Bor Roomy) (after : Bor After) (beside : Bor Store)
+    (reach : Bor Reaching) : Type 0 where
   pub sound : IsSoundStep tree.now.store (store_after change.now tree.now.store)
   pub formed : AreWellFormed change.now.writes
   pub reached : reach.now ≡ record { change = change.now; old = tree.now.store }

@@ -24,6 +24,7 @@ pub mod RangingLaws
 pub mod Room
 pub mod Scenes
 pub mod Seats
+pub mod Seeking
 pub mod Shifting
 pub mod Started
 pub mod Telling

@@ -16,7 +16,7 @@ use Rattle.acap_views.specs.Changing.{follows, changed_seats}
 use Rattle.acap_views.specs.Contexts.{Kept, Snapshot, Live, Freed, Context}
 use Rattle.acap_views.specs.Keeping.{RoomySeats, seats_in}
 use Rattle.acap_views.specs.Seats.{Occupant, Seated}
-use Rattle.acap_views.specs.Shifting.{Shift, standing, after_shifts, shifts_notices, until_full, shift_code}
+use Rattle.acap_views.specs.Shifting.{Shift, standing, after_shifts, shifts_notices, due_among, shift_code}
 use Rattle.acap_views.specs.Work.{touched_for, touched_within}
 
 -- the entry at a path, as a user sees it in a search
@@ -41,10 +41,10 @@ abbrev pub shifts_for : Written → Store → Store → Realm → List ℕ → C
 shifts_for written old new realm user context =
     shifts_if context.kept (each (shift_for old.records new.records realm user context.sought) (touched_for written old new context))
 
--- of these as many as are needed
+-- of these what is due
 abbrev pub needed_if : Kept → List Shift → List Shift
 needed_if (Snapshot shown) shifts = shifts
-needed_if (Live shown now pending) shifts = until_full now (length pending) shifts
+needed_if (Live shown now pending) shifts = due_among now (length pending) shifts
 needed_if Freed shifts = shifts
 
 -- what they make of a context

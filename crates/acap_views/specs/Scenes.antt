@@ -1,18 +1,23 @@
 -- Whose context is looked at, when a change is about to be committed: words of private contracts.
 use Rattle.std.specs.Prelude.{◌≡◌, ℕ, List, [], Option, None, refl}
+use Rattle.std.specs.Borrow.{Bor}
 use Rattle.std.specs.Coded.{Coded, code_by, coded×, coded_list, coded_ℕ}
 use Rattle.std.specs.FinMap as map
 use Rattle.std.specs.Option.{unwrap_or}
+use Rattle.acap_entries.specs.Leaving.{records_before, records_ahead}
 use Rattle.acap_entries.specs.Store.{Store, Stored}
 use Rattle.acap_entries.specs.contracts.path.Path as path
 use Rattle.acap_entries.specs.contracts.record.Record as row
+use Rattle.acap_entries.specs.declared.after.After.{After}
 use Rattle.acap_entries.specs.declared.path.Path.{Path}
 use Rattle.acap_entries.specs.declared.record.Record.{Record}
 use Rattle.acap_inherit.specs.Records.{record_at}
 use Rattle.acap_rights.specs.contracts.realm.Realm as realm
 use Rattle.acap_rights.specs.declared.realm.Realm.{Realm}
 use Rattle.acap_search.specs.Matches.{Match}
-use Rattle.acap_search.specs.Views.{Spotted, places_at, found_at}
+use Rattle.acap_search.specs.Shelves.{Shelf}
+use Rattle.acap_search.specs.Views.{View, Spotted, places_at, found_at}
+use Rattle.acap_search.specs.Walks.{quest_of, view_in}
 use Rattle.acap_search.specs.contracts.query.Sought as query
 use Rattle.acap_search.specs.declared.query.Sought.{Sought}
 use Rattle.acap_search.specs.declared.rank.SortPlace.{SortPlace}
@@ -26,9 +31,28 @@ pub record Scene : Type 0 where
   pub user : List ℕ
   pub sought : Sought
 
+-- a change leads from these records to those
+pub record IsBetween (old new : Stored) (ahead : Bor After) : Type 0 where
+  pub before : records_before ahead.now ≡ old
+  pub after : records_ahead ahead.now ≡ new
+
 -- the management entry of a dataset
 abbrev pub IsAtHand : Store → List ℕ → Option Record → Type 0
 IsAtHand store dataset management = management ≡ record_at store.records dataset []
+
+-- who looks into the dataset of the context, before the change and afterwards
+abbrev pub view_before : Scene → View
+view_before scene = view_in (quest_of scene.old scene.realm scene.user scene.sought) scene.sought.dataset
+
+abbrev pub view_after : Scene → View
+view_after scene = view_in (quest_of scene.new scene.realm scene.user scene.sought) scene.sought.dataset
+
+-- so do those two, and the records before the change are those
+pub record IsField (scene : Scene) (before after : View) (shelf : Shelf) : Type 0 where
+  pub sees_before : before ≡ view_before scene
+  pub sees_after : after ≡ view_after scene
+  pub records : shelf.records ≡ scene.old
+  pub dataset : shelf.dataset ≡ scene.sought.dataset
 
 -- an entry before the change and afterwards: where it stood, what is found of it then, and what becomes of it
 abbrev pub spot_before : Scene → Path → Spotted

@@ -1,7 +1,7 @@
 -- A live list is brought up to date entry by entry: what stood where, and what is put where.
 use Rattle.std.specs.Prelude.{◌≡◌, ℕ, ◌+◌, ◌<◌, Bool, true, false, List, [], ◌∷◌, ◌++◌, length, Option, Some, None, is_some, not, nat_lt, refl, if◌then◌else◌}
 use Rattle.std.specs.Coded.{Coded, code_by, coded×, coded_list, coded_option, coded_ℕ}
-use Rattle.std.specs.List.{cons_option}
+use Rattle.std.specs.List.{cons_option, filter}
 use Rattle.std.specs.Option.{option_map, option_and_then}
 use Rattle.acap_entries.specs.declared.path.Path.{Path}
 use Rattle.acap_entries.specs.Ranks.{rank_of, item_at, with_item, without_item}
@@ -12,7 +12,7 @@ use Rattle.acap_moves.specs.Notices.{notice_between, same_row}
 use Rattle.acap_search.specs.Matches.{Match, match_cmp, match_code}
 use Rattle.acap_search.specs.declared.placed.Standing.{Standing}
 use Rattle.acap_search.specs.declared.rank.SortPlace.{SortPlace}
-use Rattle.acap_views.specs.Notices.{told_shape}
+use Rattle.acap_views.specs.Notices.{told_shape, same_tuple}
 use Rattle.acap_views.specs.Room.{Watched}
 
 -- of one entry: its name as it is told; its places and its path as they were, by which a match is found that it had; and its match now
@@ -117,8 +117,23 @@ until_full matches count [] = []
 until_full matches count (shift ∷ shifts) =
     if nat_lt most_waiting count then [] else shift ∷ until_full matches (count_with matches shift count) shifts
 
+-- whether the match of an entry has changed: it isn't the one that stood there
+abbrev pub has_changed : List Match → Shift → Bool
+has_changed matches shift = not (same_tuple (item_at match_cmp shift.old matches) shift.come)
+
+-- so many are taken as they are; of more than these, those whose match has changed
+abbrev pub few : ℕ
+few = 256
+
+abbrev pub changed_if_many : List Match → List Shift → List Shift
+changed_if_many matches shifts = if nat_lt few (length shifts) then filter (has_changed matches) shifts else shifts
+
+-- what is due: of these as much as is needed
+abbrev pub due_among : List Match → ℕ → List Shift → List Shift
+due_among matches count shifts = until_full matches count (changed_if_many matches shifts)
+
 abbrev pub due_shifts : Watched → List Shift → List Shift
-due_shifts watched shifts = until_full watched.present (length watched.pending) shifts
+due_shifts watched shifts = due_among watched.present (length watched.pending) shifts
 
 abbrev pub move_by : Shift → Move Match
 move_by shift = (shift.name, shift.come)

@@ -1,5 +1,6 @@
 -- Which touched entries a search looks at, before the change is committed: words of private contracts.
-use Rattle.std.specs.Prelude.{◌≡◌, ℕ, Bool, ◌&&◌, ◌||◌, List, Option, Some, None, is_some}
+use Rattle.std.specs.Prelude.{◌≡◌, ℕ, Bool, ◌&&◌, ◌||◌, List, Option, Some, None, is_some, map}
+use Rattle.std.specs.Borrow.{Bor}
 use Rattle.std.specs.List.{filter, list_any}
 use Rattle.acap_entries.specs.Orders.{octets_eq}
 use Rattle.acap_entries.specs.declared.path.Path.{Path}
@@ -29,13 +30,23 @@ looked_at_by plan sought = filter (looks_at plan sought) (touched_by plan)
 abbrev pub AreLookedAt : Planned → Sought → List Path → Type 0
 AreLookedAt plan sought paths = sought.depth ≡ None → paths ≡ looked_at_by plan sought
 
--- whether a search looks through a dataset
-abbrev pub looks_into : Planned → Sought → List ℕ → Bool
-looks_into plan sought dataset = list_any (octets_eq dataset) (datasets_of (store_ahead plan).records (scope_of sought))
+-- the datasets through which a search looks, and whether it looks through one
+abbrev pub searched_by : Planned → Sought → List (List ℕ)
+searched_by plan sought = datasets_of (store_ahead plan).records (scope_of sought)
 
--- whether a change touches something in a dataset
+abbrev pub looks_into : Planned → Sought → List ℕ → Bool
+looks_into plan sought dataset = list_any (octets_eq dataset) (searched_by plan sought)
+
+-- just these of some datasets
+abbrev pub AreLookedInto : Planned → Sought → List (List ℕ) → List (Bor (List ℕ)) → Type 0
+AreLookedInto plan sought datasets looked = map (λ d. d.now) looked ≡ filter (looks_into plan sought) datasets
+
+-- the datasets in which a change touches something, and whether it does in one
+abbrev pub changed_by : Planned → List (List ℕ)
+changed_by plan = datasets_touched plan.change.writes plan.old.records (store_ahead plan).records
+
 abbrev pub is_touched_in : Planned → List ℕ → Bool
-is_touched_in plan dataset = list_any (octets_eq dataset) (datasets_touched plan.change.writes plan.old.records (store_ahead plan).records)
+is_touched_in plan dataset = list_any (octets_eq dataset) (changed_by plan)
 
 -- whether a search may look at a touched entry: where its dataset has one, and with DEPTH always
 abbrev pub is_asked : Planned → Sought → Bool

@@ -10,8 +10,8 @@ use crate::keyed::place_of;
 use crate::refusal::ViewRefusal;
 use crate::telling;
 use crate::views::Views;
-use acap_commands::Tolds;
 use acap_entries::{ContextName, Memory, Moment, Seat};
+use acap_notices::Tolds;
 
 impl Views {
     /// Frees the context of a name; one that the server has freed too. Refused exactly where there is none (RFC 2244 section
@@ -31,23 +31,36 @@ impl Views {
         Ok(())
     }
 
+    // Puts what waits at a seat where a reply can hold it too. Nobody's contexts change, also where memory is refused.
+    fn gather(&mut self, seat: Seat) -> Result<(), Memory>
+        ensures { seats_in self.new ≡ seats_in self.old }
+    {
+        let (at, tied) = place_of(self.seats.as_slice(), &seat);
+        if !tied {
+            return Ok(());
+        }
+        self.seats[at].1.gather()
+    }
+
     /// What an UPDATECONTEXT tells of the contexts of these names, one after the other. The first fault in their order refuses
-    /// all, and is found before memory is asked for (RFC 2244 section 6.5).
+    /// all, and is found before memory is asked for (RFC 2244 section 6.5). The answer holds the lists in which notices wait.
+    /// Nobody's contexts change, also where memory is refused.
     pub fn tolds_of(
-        &self,
+        &mut self,
         seat: Seat,
         names: &[ContextName],
         last: Moment,
     ) -> Result<Tolds, ViewRefusal>
-        ensures { IsAnswer (update_tells (contexts_at (seats_in self.now) seat) names.now last)
+        ensures answer { IsAnswer (update_tells (contexts_at (seats_in self.old) seat) names.now last)
             (λ tolds. tolds) result }
+        ensures same { seats_in self.new ≡ seats_in self.old }
     {
-        let contexts = self.contexts(seat);
-        if let Some(fault) = telling::fault_of(contexts, names) {
+        if let Some(fault) = telling::fault_of(self.contexts(seat), names) {
             return Err(fault);
         }
-        let tolds = telling::tell_in_turn(self.alloc, contexts, names, last)?;
-        Ok(Tolds::from_vec(tolds))
+        self.gather(seat)?;
+        let batches = telling::tell_in_turn(self.alloc, self.contexts(seat), names, last)?;
+        Ok(Tolds::new(batches)?)
     }
 
     /// The contexts of these names have been told of: live ones show their present lists (RFC 2244 section 6.5). Takes no memory.
@@ -80,12 +93,15 @@ impl Views {
     }
 
     /// What a drain tells at a seat: what waits of each context in the order of the names, and which of them the server has freed
-    /// (RFC 2244 section 6.5). Fails only for want of memory.
-    pub fn drain_tolds(&self, seat: Seat) -> Result<Tolds, Memory>
-        ensures { IfOk result (λ tolds. tolds ≡ (drain_of (seats_in self.now) seat).0) }
+    /// (RFC 2244 section 6.5). The answer holds the lists in which notices wait. Fails only for want of memory. Nobody's contexts
+    /// change in either case.
+    pub fn drain_tolds(&mut self, seat: Seat) -> Result<Tolds, Memory>
+        ensures told { IfOk result (λ tolds. tolds ≡ (drain_of (seats_in self.old) seat).0) }
+        ensures same { seats_in self.new ≡ seats_in self.old }
     {
-        let tolds = telling::drain(self.alloc, self.contexts(seat))?;
-        Ok(Tolds::from_vec(tolds))
+        self.gather(seat)?;
+        let batches = telling::drain(self.alloc, self.contexts(seat))?;
+        Tolds::new(batches)
     }
 
     /// All that a drain tells at a seat has been told: live contexts show their present lists, and freed ones are gone (RFC 2244

@@ -49,6 +49,25 @@ pub(crate) fn tell_named(
     }
 }
 
+// What waits of each context is put where a reply can hold it too.
+fn gather_each(contexts: &mut Vec<(ContextName, OpenContext)>) -> Result<(), Memory>
+    ensures { each bare contexts.new.items ≡ each bare contexts.old.items }
+{
+    for at in 0..contexts.len() {
+        contexts[at].1.gather()?;
+    }
+    Ok(())
+}
+
+/// What waits of each context is put where a reply can hold it too. The contexts stay, also where memory is refused.
+pub(crate) fn gather(contexts: &mut Vec<(ContextName, OpenContext)>) -> Result<(), Memory>
+    requires { InOrder octets_cmp contexts.old.items }
+    ensures order { InOrder octets_cmp contexts.new.items }
+    ensures same { as_contexts contexts.new.items ≡ as_contexts contexts.old.items }
+{
+    gather_each(contexts)
+}
+
 // Each context is told all that waits. Takes no memory.
 fn tell_all(alloc: Global, contexts: &mut Vec<(ContextName, OpenContext)>)
     ensures { each bare contexts.new.items ≡ each told_entry (each bare contexts.old.items) }

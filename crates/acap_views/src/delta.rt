@@ -5,7 +5,7 @@ use acap_entries::Sequence;
 use std::alloc::Global;
 use std::marker::Model;
 
-/// What becomes of each touched entry that a context looks at.
+/// What becomes of touched entries that a context looks at, as far as it is due.
 pub(crate) type Shifts = Sequence<Shift>;
 
 /// The same for each context of a seat, in the order of their names.

@@ -8,8 +8,9 @@ pub(crate) struct NotedPaths<'a> {
     pub(crate) paths: Paths,
 }
 
-/// What was listed for one context and serves the next ones: the touched entries of the last dataset that was asked, since the next
-/// context often looks into the same one, and for all contexts with DEPTH the datasets in which something may be touched.
+/// What was listed for one context and serves the next ones: the touched entries of the last dataset that was
+/// asked, since the next context often looks into the same one, and for all contexts with DEPTH the datasets
+/// in which something may be touched.
 #[derive(Drop)]
 pub(crate) struct Noted<'a> {
     pub(crate) last: Option<NotedPaths<'a>>,

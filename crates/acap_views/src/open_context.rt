@@ -12,7 +12,7 @@ use crate::held::Held;
 use crate::refusal::ViewRefusal;
 use crate::watch::Watch;
 use acap_commands::MakeContext;
-use acap_entries::{Copying, Memory, Moment};
+use acap_entries::{Copying, Memory, Moment, Shared};
 use acap_notices::Notice;
 use acap_search::{Hits, Sought};
 use std::alloc::Global;
@@ -74,6 +74,16 @@ fn tell(alloc: Global, held: &mut Held)
     }
 }
 
+// What waits is put where a reply can hold it too.
+fn gather(held: &mut Held) -> Result<(), Memory>
+    ensures { kept_in held.new ≡ kept_in held.old }
+{
+    match held {
+        Held::Live(watch) => watch.gather(),
+        Held::Snapshot(_) | Held::Freed => Ok(()),
+    }
+}
+
 impl OpenContext {
     /// The context that a search makes which found these hits. Fails only for want of memory.
     pub(crate) fn new(
@@ -103,6 +113,23 @@ impl OpenContext {
             Held::Live(watch) => watch.pending(),
             Held::Snapshot(_) | Held::Freed => &[],
         }
+    }
+
+    /// The notices that wait, the oldest first, which the context holds too. Fails only for want of memory.
+    pub(crate) fn share(&self) -> Result<Shared<Notice>, Memory>
+        ensures { IfOk result (λ notices. notices ≡ pending_in self.now.context.kept) }
+    {
+        match &self.held {
+            Held::Live(watch) => watch.share(),
+            Held::Snapshot(_) | Held::Freed => Ok(Shared::none()),
+        }
+    }
+
+    /// Puts the notices that wait where a reply can hold them too. The context stays, also where memory is refused.
+    pub(crate) fn gather(&mut self) -> Result<(), Memory>
+        ensures { self.new.context ≡ self.old.context }
+    {
+        gather(&mut self.held)
     }
 
     /// Whether too many notices came.

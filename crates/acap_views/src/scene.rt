@@ -5,10 +5,12 @@ use acap_rights::Realm;
 use acap_search::Sought;
 use std::marker::Model;
 
-/// What is looked at for a context: the store before a change and after it, who is who, whose context it is, and what it looks for.
+/// What is looked at for a context: the store before a change and after it, the latter also as the change alone says it, who is who,
+/// whose context it is, and what it looks for.
 #[derive(Drop)]
 pub(crate) struct Scene<'a> {
     pub(crate) before: &'a Tree,
+    pub(crate) ahead: &'a After<'a>,
     pub(crate) after: &'a Beside<'a, Beside<'a, After<'a>>>,
     pub(crate) realm: &'a Realm,
     pub(crate) user: &'a UserName,
@@ -17,7 +19,7 @@ pub(crate) struct Scene<'a> {
 
 impl<'a> Model for Scene<'a> {
     ghost use Rattle.acap_views.specs.Scenes as scenes;
-    ghost use Rattle.acap_views.specs.Scenes.{scene_code};
+    ghost use Rattle.acap_views.specs.Scenes.{scene_code, IsBetween};
 
     ghost Value = { scenes.Scene };
 
@@ -30,4 +32,6 @@ impl<'a> Model for Scene<'a> {
       user = s.user.now;
       sought = s.sought.now;
     } };
+
+    ghost invariant = { λ s. IsBetween s.before.now.store.records s.after.now.records s.ahead };
 }

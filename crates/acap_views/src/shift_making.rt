@@ -1,4 +1,4 @@
-//! What a change does to the entries that a live context looks at, made before the change is committed.
+//! What a change does to each of some entries that a live context looks at, made before the change is committed.
 ghost use Rattle.std.specs.Prelude.{◌≡◌, ◌+◌, ◌≤◌, IfOk, OnOk, length, map as each};
 ghost use Rattle.acap_notices.specs.Waiting.{most_waiting};
 ghost use Rattle.acap_search.specs.Counting.{IsCounted};
@@ -7,7 +7,7 @@ ghost use Rattle.acap_views.specs.News.{name_in, come_in, name_for, IsTold};
 ghost use Rattle.acap_views.specs.Scenes as rule;
 ghost use Rattle.acap_views.specs.Scenes.{shift_in};
 ghost use Rattle.acap_views.specs.Shifting as moves;
-ghost use Rattle.acap_views.specs.Shifting.{due_shifts};
+ghost use Rattle.acap_views.specs.Shifting.{until_full};
 
 use crate::delta::Shifts;
 use crate::scene::Scene;
@@ -35,8 +35,12 @@ fn tell_name(alloc: Global, path: &Path, sought: &Sought) -> Result<Label, Memor
     Ok(Label::new(Octets::from_vec(full)))
 }
 
-// Where an entry stood before the change.
-fn places_before(alloc: Global, scene: &Scene<'_>, path: &Path) -> Result<SortPlaces, Memory>
+/// Where an entry stood before the change. Fails only for want of memory.
+pub(crate) fn places_before(
+    alloc: Global,
+    scene: &Scene<'_>,
+    path: &Path,
+) -> Result<SortPlaces, Memory>
     ensures { IfOk result (λ places. places ≡ rule.places_before scene.now path.now) }
 {
     let sought = scene.sought;
@@ -54,8 +58,8 @@ fn places_before(alloc: Global, scene: &Scene<'_>, path: &Path) -> Result<SortPl
     places_at(alloc, &by, &path.name, sought)
 }
 
-// What is found of it afterwards: one step.
-fn find_after<L: Ledger>(
+/// What is found of it afterwards: one step. Fails only for want of memory.
+pub(crate) fn find_after<L: Ledger>(
     alloc: Global,
     scene: &Scene<'_>,
     path: &Path,
@@ -76,8 +80,13 @@ fn find_after<L: Ledger>(
     row_of(alloc, &by, &path.name, sought, None, steps)
 }
 
-// What is to be told of an entry, of which this is found.
-fn news_of(alloc: Global, path: &Path, sought: &Sought, found: Option<Hit>) -> Result<News, Memory>
+/// What is to be told of an entry, of which this is found. Fails only for want of memory.
+pub(crate) fn news_of(
+    alloc: Global,
+    path: &Path,
+    sought: &Sought,
+    found: Option<Hit>,
+) -> Result<News, Memory>
     ensures come { IfOk result (λ news. come_in news ≡ found) }
     ensures told { IfOk result (λ news. IsTold news) }
     ensures name { IfOk result (λ news. name_in news ≡ name_for sought.now path.now found) }
@@ -124,8 +133,8 @@ fn surely_tells(watch: &Watch, shift: &Shift) -> bool
     }
 }
 
-// How many notices wait or will for certain, with one entry more.
-fn count_on(watch: &Watch, shift: &Shift, count: usize) -> usize
+/// How many notices wait or will for certain, with one entry more.
+pub(crate) fn count_on(watch: &Watch, shift: &Shift, count: usize) -> usize
     requires { count ≤ most_waiting }
     ensures { result ≡ moves.count_with watch.now.present shift.now count }
 {
@@ -136,8 +145,8 @@ fn count_on(watch: &Watch, shift: &Shift, count: usize) -> usize
     }
 }
 
-// What becomes of some entries, one after the other. Each counts as a step.
-fn all_shifts<L: Ledger>(
+/// What becomes of some entries, one after the other. Each counts as a step. Fails only for want of memory.
+pub(crate) fn all_shifts<L: Ledger>(
     alloc: Global,
     scene: &Scene<'_>,
     paths: Paths,
@@ -153,8 +162,8 @@ fn all_shifts<L: Ledger>(
     Ok(Shifts::from_vec(shifts))
 }
 
-// The same of no more entries once the context is certain to be freed. Those that are left out count as well.
-fn needed_shifts<L: Ledger>(
+/// The same of no more entries once the context is certain to be freed. Those that are left out count as well.
+pub(crate) fn needed_shifts<L: Ledger>(
     alloc: Global,
     scene: &Scene<'_>,
     watch: &Watch,
@@ -162,7 +171,8 @@ fn needed_shifts<L: Ledger>(
     steps: &mut Steps<L>,
 ) -> Result<Shifts, Memory>
     ensures count { IsCounted result steps.old steps.new (length paths) }
-    ensures shifts { IfOk result (λ shifts. shifts ≡ due_shifts watch.now (each (shift_in scene.now) paths)) }
+    ensures shifts { IfOk result (λ shifts.
+        shifts ≡ until_full watch.now.present (length watch.now.pending) (each (shift_in scene.now) paths)) }
 {
     let mut shifts = Vec::with_capacity(alloc, paths.len())?;
     let mut count = watch.pending().len();
@@ -176,23 +186,4 @@ fn needed_shifts<L: Ledger>(
         }
     }
     Ok(Shifts::from_vec(shifts))
-}
-
-/// What becomes of some entries that a live context looks at, one after the other, and of no more once the context is certain to be
-/// freed. Each counts as a step, also those that are left out. Where all of them may wait no notice is counted. Fails only for want
-/// of memory.
-pub(crate) fn shifts_at<L: Ledger>(
-    alloc: Global,
-    scene: &Scene<'_>,
-    watch: &Watch,
-    paths: Paths,
-    steps: &mut Steps<L>,
-) -> Result<Shifts, Memory>
-    ensures count { IsCounted result steps.old steps.new (length paths) }
-    ensures shifts { IfOk result (λ shifts. shifts ≡ due_shifts watch.now (each (shift_in scene.now) paths)) }
-{
-    if paths.len() <= MOST - watch.pending.len() {
-        return all_shifts(alloc, scene, paths, steps);
-    }
-    needed_shifts(alloc, scene, watch, paths, steps)
 }

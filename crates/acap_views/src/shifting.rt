@@ -80,8 +80,8 @@ fn beside(place: usize, hit: Option<Placed>) -> Option<(usize, Placed)>
     }
 }
 
-// Whether a hit stands where another one stood.
-fn is_there(old: &Standing<'_>, hit: &Placed) -> bool
+/// Whether a hit stands where another one stood.
+pub(crate) fn is_there(old: &Standing<'_>, hit: &Placed) -> bool
     ensures { result ≡ eq_by_cmp match_cmp (match_by old.now) hit.now }
 {
     old.compare(hit).is_eq()

@@ -7,7 +7,7 @@ ghost use Rattle.acap_views.specs.Keeping.{contexts_in, occupant_in};
 ghost use Rattle.acap_views.specs.Maps.{each_kept};
 ghost use Rattle.acap_views.specs.Telling.{after_updates, after_drain};
 
-use crate::contexts::{copy_contexts, drain, tell_named};
+use crate::contexts::{copy_contexts, drain, gather, tell_named};
 use crate::keyed::{make_room, put_in_room, take_out};
 use crate::open_context::OpenContext;
 use acap_entries::{ContextName, Copying, Memory, Moment, UserName};
@@ -92,6 +92,14 @@ impl Sitting {
         ensures contexts { self.new.contexts ≡ table.remove self.old.contexts name.now }
     {
         take_out(&mut self.contexts, name)
+    }
+
+    /// Puts what waits of each context where a reply can hold it too. The contexts stay, also where memory is refused.
+    pub(crate) fn gather(&mut self) -> Result<(), Memory>
+        ensures user { self.new.user ≡ self.old.user }
+        ensures contexts { contexts_in self.new.contexts ≡ contexts_in self.old.contexts }
+    {
+        gather(&mut self.contexts)
     }
 
     /// The contexts of these names are told all that waits, and then the moment of the store's last change. Takes no memory.

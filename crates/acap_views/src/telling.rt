@@ -1,5 +1,8 @@
-//! What is told of the contexts of one session, as copies of what waits.
-ghost use Rattle.std.specs.Prelude.{◌≡◌, ◌++◌, ℤ, IfOk, OnOk, flat_map};
+//! What is told of the contexts of one session: what waits, as the reply and the contexts hold it together.
+ghost use Rattle.std.specs.Prelude.{◌≡◌, [], ℤ, IfOk, flat_map};
+ghost use Rattle.std.specs.Option.{option_map_or};
+ghost use Rattle.acap_notices.specs.Batches as batches;
+ghost use Rattle.acap_notices.specs.Batches.{all_told, told_in};
 ghost use Rattle.std.specs.FinMap as table;
 ghost use Rattle.std.specs.List.{list_any};
 ghost use Rattle.acap_entries.specs.Orders.{octets_cmp};
@@ -11,8 +14,8 @@ ghost use Rattle.acap_views.specs.Waiting as waiting;
 use crate::keyed::lookup;
 use crate::open_context::OpenContext;
 use crate::refusal::ViewRefusal;
-use acap_entries::{ContextName, Copying, Memory, Moment};
-use acap_notices::Told;
+use acap_entries::{ContextName, Copying, Memory, Moment, Sequence, Shared};
+use acap_notices::{Batch, Ending, Notice};
 use std::alloc::Global;
 
 // Why the context of a name isn't told of.
@@ -42,55 +45,41 @@ pub(crate) fn fault_of(
     None
 }
 
-// The notices that wait of a context, behind what is told before.
-fn push_notes(
-    tolds: &mut Vec<Told>,
-    name: &ContextName,
-    context: &OpenContext,
-) -> Result<(), Memory>
-    ensures { OnOk result (tolds.new.items
-        ≡ tolds.old.items ++ rule.notes_of name.now context.now.context.kept) }
-{
-    for notice in context.pending() {
-        tolds.push(Told::Note(name.copy()?, notice.copy()?))?;
-    }
-    Ok(())
-}
-
-// The same of the context of a name, when those of the names before it have been told of.
-fn push_waiting(
-    tolds: &mut Vec<Told>,
+// The notices that wait of the context of a name, when those of the names before it have been told of.
+fn notices_after(
     contexts: &[(ContextName, OpenContext)],
     seen: &[ContextName],
     name: &ContextName,
-) -> Result<(), Memory>
+) -> Result<Shared<Notice>, Memory>
     requires { InOrder octets_cmp contexts.now }
-    ensures { OnOk result ((last : ℤ) → tolds.new.items
-        ≡ tolds.old.items ++ waiting_after (as_contexts contexts.now) seen.now last name.now) }
+    ensures { IfOk result (λ notices. (last : ℤ) → batches.notes_of name.now notices
+        ≡ waiting_after (as_contexts contexts.now) seen.now last name.now) }
 {
     if seen.contains(name) {
-        return Ok(());
+        return Ok(Shared::none());
     }
     match lookup(contexts, name) {
-        Some(context) => push_notes(tolds, name, context),
-        None => Ok(()),
+        Some(context) => context.share(),
+        None => Ok(Shared::none()),
     }
 }
 
 // What is told of the context of a name, when those of the names before it have been told of.
-fn push_told(
-    tolds: &mut Vec<Told>,
+fn batch_after(
     contexts: &[(ContextName, OpenContext)],
     seen: &[ContextName],
     name: &ContextName,
     last: Moment,
-) -> Result<(), Memory>
+) -> Result<Batch, Memory>
     requires { InOrder octets_cmp contexts.now }
-    ensures { OnOk result (tolds.new.items ≡ tolds.old.items ++ told_by contexts.now seen.now last name.now) }
+    ensures { IfOk result (λ batch. told_in batch ≡ told_by contexts.now seen.now last name.now) }
 {
-    push_waiting(tolds, contexts, seen, name)?;
-    tolds.push(Told::Upto(name.copy()?, last))?;
-    Ok(())
+    let notices = notices_after(contexts, seen, name)?;
+    Ok(Batch {
+        context: name.copy()?,
+        notices,
+        ending: Some(Ending::Upto(last)),
+    })
 }
 
 /// What is told of the contexts of these names, one after the other. Fails only for want of memory.
@@ -99,48 +88,56 @@ pub(crate) fn tell_in_turn(
     contexts: &[(ContextName, OpenContext)],
     names: &[ContextName],
     last: Moment,
-) -> Result<Vec<Told>, Memory>
+) -> Result<Sequence<Batch>, Memory>
     requires { InOrder octets_cmp contexts.now }
-    ensures { IfOk result (λ made. made.items ≡ rule.told_in_turn (as_contexts contexts.now) names.now last) }
+    ensures { IfOk result (λ made. all_told made ≡ rule.told_in_turn (as_contexts contexts.now) names.now last) }
 {
-    let mut tolds = Vec::new(alloc);
+    let mut batches = Vec::with_capacity(alloc, names.len())?;
     for at in 0..names.len() {
         let (seen, _) = names.split_at(at);
-        push_told(&mut tolds, contexts, seen, &names[at], last)?;
+        batches.push(batch_after(contexts, seen, &names[at], last)?)?;
     }
-    Ok(tolds)
+    Ok(Sequence::from_vec(batches))
 }
 
-// What a drain tells of a context, behind what is told before.
-fn push_drained(
-    tolds: &mut Vec<Told>,
-    name: &ContextName,
-    context: &OpenContext,
-) -> Result<(), Memory>
-    ensures { OnOk result (tolds.new.items
-        ≡ tolds.old.items ++ rule.drain_told name.now context.now.context.kept) }
+// What a drain tells of a context, if it tells something.
+fn batch_drained(name: &ContextName, context: &OpenContext) -> Result<Option<Batch>, Memory>
+    ensures { IfOk result (λ batch. option_map_or told_in batch [] ≡ rule.drain_told name.now context.now.context.kept) }
 {
     if context.is_freed() {
-        tolds.push(Told::Freed(name.copy()?))?;
-        return Ok(());
+        return Ok(Some(Batch {
+            context: name.copy()?,
+            notices: Shared::none(),
+            ending: Some(Ending::Freed),
+        }));
     }
-    push_notes(tolds, name, context)
+    let notices = context.share()?;
+    if notices.is_empty() {
+        return Ok(None);
+    }
+    Ok(Some(Batch {
+        context: name.copy()?,
+        notices,
+        ending: None,
+    }))
 }
 
 /// What a drain tells of the contexts, in the order of their names. Fails only for want of memory.
 pub(crate) fn drain(
     alloc: Global,
     contexts: &[(ContextName, OpenContext)],
-) -> Result<Vec<Told>, Memory>
+) -> Result<Sequence<Batch>, Memory>
     requires { InOrder octets_cmp contexts.now }
-    ensures { IfOk result (λ made. made.items
+    ensures { IfOk result (λ made. all_told made
         ≡ flat_map (λ e. rule.drain_told e.0 e.1.kept) (table.entries (as_contexts contexts.now))) }
 {
-    let mut tolds = Vec::new(alloc);
+    let mut batches = Vec::new(alloc);
     for entry in contexts {
-        push_drained(&mut tolds, &entry.0, &entry.1)?;
+        if let Some(batch) = batch_drained(&entry.0, &entry.1)? {
+            batches.push(batch)?;
+        }
     }
-    Ok(tolds)
+    Ok(Sequence::from_vec(batches))
 }
 
 /// Whether a drain tells something of them.

@@ -1,6 +1,5 @@
 //! Which entries that a change touches a search looks at.
-ghost use Rattle.std.specs.Prelude.{◌≡◌, IfOk, IfSome, map as each};
-ghost use Rattle.std.specs.List.{filter};
+ghost use Rattle.std.specs.Prelude.{◌≡◌, IfOk, IfSome};
 ghost use Rattle.acap_views.specs.Touching as rule;
 
 use crate::ahead::Ahead;
@@ -38,8 +37,7 @@ fn looked_into<'n>(
     sought: &Sought,
     datasets: &'n Ranked<Boxed<Dataset>>,
 ) -> Result<Vec<&'n Dataset>, Memory>
-    ensures { IfOk result
-        (λ made. each (λ d. d.now) made.items ≡ filter (rule.looks_into ahead.now sought.now) datasets.now.0) }
+    ensures { IfOk result (λ made. rule.AreLookedInto ahead.now sought.now datasets.now.0 made.items) }
 {
     let mut made = Vec::new(alloc);
     for dataset in datasets.iter() {
@@ -65,8 +63,8 @@ fn in_datasets(
     ahead.reach.touched_among(alloc, looked.as_slice())
 }
 
-// The touched entries of all datasets that a search with DEPTH looks through. The datasets in which something may be touched
-// are listed once for a change.
+// The touched entries of all datasets that a search with DEPTH looks through. The datasets in which something
+// may be touched are listed once for a change.
 fn beneath(
     alloc: Global,
     ahead: &Ahead<'_, '_>,
@@ -143,8 +141,9 @@ fn in_dataset<'a>(
     Ok(Paths::new(alloc))
 }
 
-/// The touched entries that a search looks at, in the order of their full octets. Where it looks through one dataset, no name of
-/// another one is listed, and those that are listed are kept for the next search. Fails only for want of memory.
+/// The touched entries that a search looks at, in the order of their full octets. Where it looks through one
+/// dataset, no name of another one is listed, and those that are listed are kept for the next search. Fails
+/// only for want of memory.
 pub(crate) fn list_touched<'a>(
     alloc: Global,
     ahead: &Ahead<'_, '_>,

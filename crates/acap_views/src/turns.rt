@@ -10,11 +10,11 @@ ghost use Rattle.acap_views.specs.Touching.{IsNoted, looked_at_by};
 use crate::ahead::Ahead;
 use crate::beside::Beside;
 use crate::delta::{Shifts, Turns};
+use crate::due::shifts_at;
 use crate::held::Held;
 use crate::noted::Noted;
 use crate::open_context::OpenContext;
 use crate::scene::Scene;
-use crate::shift_making::shifts_at;
 use crate::sitting::Sitting;
 use crate::touching::{is_touched_in, list_touched};
 use crate::watch::Watch;
@@ -53,6 +53,7 @@ fn live_turn<L: Ledger>(
     let after = Beside::of(ahead.beside, sought.dataset.as_slice());
     let scene = Scene {
         before: ahead.tree,
+        ahead: ahead.after,
         after: &after,
         realm: ahead.realm,
         user,
@@ -127,8 +128,9 @@ fn trim(alloc: Global, turns: Turns) -> Turns
     }
 }
 
-/// What becomes of the entries that the contexts of a seat look at, context by context, and how many these are: nothing is made where
-/// none of them may look at one. Each entry counts as a step for each context that looks at it. Fails only for want of memory.
+/// What becomes of the entries that the contexts of a seat look at, context by context, and how many these
+/// are. Nothing is made where none of them may look at one. Each entry counts as a step for each context that
+/// looks at it. Fails only for want of memory.
 pub(crate) fn turns_of<'a, L: Ledger>(
     alloc: Global,
     ahead: &Ahead<'_, '_>,

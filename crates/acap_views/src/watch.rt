@@ -7,7 +7,7 @@ ghost use Rattle.acap_views.specs.Undoing.{matches_lent};
 
 use crate::shown::Shown;
 use crate::undoing::shown_hits;
-use acap_entries::{Copying, Memory, Ranked};
+use acap_entries::{Copying, Memory, Ranked, Shared};
 use acap_notices::{Notice, Queue};
 use acap_search::{Hit, Hits, Placed};
 use std::alloc::Global;
@@ -103,7 +103,23 @@ impl Watch {
         ensures pending { self.new.pending ≡ [] }
     {
         self.shown = Shown::Moves(Vec::new(alloc));
-        let _ = self.pending.take();
+        self.pending.clear();
+    }
+
+    /// Puts the notices that wait where a reply can hold them too. The lists stay, also where memory is refused.
+    pub(crate) fn gather(&mut self) -> Result<(), Memory>
+        ensures shown { self.new.shown ≡ self.old.shown }
+        ensures present { self.new.present ≡ self.old.present }
+        ensures pending { self.new.pending ≡ self.old.pending }
+    {
+        self.pending.gather()
+    }
+
+    /// The notices that wait, the oldest first, which the context holds too. Fails only for want of memory.
+    pub(crate) fn share(&self) -> Result<Shared<Notice>, Memory>
+        ensures { IfOk result (λ notices. notices ≡ self.now.pending) }
+    {
+        self.pending.share()
     }
 
     /// The list that was told last, hit by hit. Fails only for want of memory.

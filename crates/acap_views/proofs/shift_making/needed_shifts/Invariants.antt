@@ -1,11 +1,12 @@
 use Rattle.std.proofs.Common.{◌≡◌, ◌+◌, ◌≤◌, ◌++◌, length, map as each}
 use Rattle.acap_views.specs.Scenes.{shift_in}
-use Rattle.acap_views.specs.Shifting.{due_shifts, until_full}
+use Rattle.acap_views.specs.Shifting.{until_full}
 use Rattle.acap_views.proofs.shift_making.needed_shifts.Given as goal
 
 abbrev pub invariant-loop-path : goal.invariant-loop-path
 invariant-loop-path g l = record {
-  shifts : l.shifts.items ++ until_full l.watch.present l.count (each (shift_in l.scene) l.path-iterator.rest.items) ≡ due_shifts l.watch (each (shift_in l.scene) l.fn.paths);
+  shifts : l.shifts.items ++ until_full l.watch.present l.count (each (shift_in l.scene) l.path-iterator.rest.items)
+      ≡ until_full l.watch.present (length l.watch.pending) (each (shift_in l.scene) l.fn.paths);
   count : l.steps + length l.path-iterator.rest.items ≡ l.fn.steps + length l.fn.paths;
   least : l.fn.steps ≤ l.steps;
 }

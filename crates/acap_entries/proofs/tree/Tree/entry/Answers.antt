@@ -1,9 +1,9 @@
-use Rattle.std.proofs.Common.{◌≡◌, List, Some, None, sym, ap, ◌∙◌}
+use Rattle.std.proofs.Common.{List, Some, sym, ap, ◌∙◌}
 use Rattle.std.specs.FinMap as map
 use Rattle.std.specs.Option.{option_map}
 use Rattle.acap_entries.specs.Store.{Roomy, path_cmp}
 use Rattle.acap_entries.specs.FullPaths.{path_of}
-use Rattle.acap_entries.specs.Sorted.{found, entry_of}
+use Rattle.acap_entries.specs.Sorted.{found}
 use Rattle.acap_entries.specs.declared.path.Path.{Path}
 use Rattle.acap_entries.specs.declared.record.Record.{Record}
 use Rattle.acap_entries.proofs.EntryLemmas.{entry_found, entry_key}

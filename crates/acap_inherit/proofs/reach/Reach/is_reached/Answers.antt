@@ -1,4 +1,4 @@
-use Rattle.std.proofs.Common.{◌≡◌, true, false, ap, sym, ◌∙◌, subst}
+use Rattle.std.proofs.Common.{◌≡◌, true, false, sym, ◌∙◌, subst}
 use Rattle.acap_inherit.specs.Reaching.{is_known, is_reached}
 use Rattle.acap_inherit.proofs.ReachLemmas.{reached_itself, not_reached}
 use Rattle.acap_inherit.proofs.reach.Reach.is_reached.Goals as goal

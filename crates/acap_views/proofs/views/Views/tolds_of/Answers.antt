@@ -7,5 +7,5 @@ use Rattle.acap_views.specs.Telling.{fault_of}
 use Rattle.acap_views.proofs.AnswerLemmas.{update_refused}
 use Rattle.acap_views.proofs.views.Views.tolds_of.Goals as goal
 
-pub returns-in-Some : goal.returns-in-Some
-returns-in-Some c = update_refused (λ (ts : List Told). ts) (contexts_at (seats_in c.args.self.now) c.args.seat) c.args.names.now c.args.last c.in-Some.fault (c.in-Some.ensures ∙ ap (λ (cs : Contexts). fault_of cs c.args.names.now) c.contexts-contexts.ensures.value)
+pub returns-in-Some-clause-answer : goal.returns-in-Some-clause-answer
+returns-in-Some-clause-answer c = update_refused (λ (ts : List Told). ts) (contexts_at (seats_in c.args.self.now) c.args.seat) c.args.names.now c.args.last c.in-Some.fault (c.in-Some.ensures ∙ ap (λ (cs : Contexts). fault_of cs c.args.names.now) c.contexts.ensures.value)

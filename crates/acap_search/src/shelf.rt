@@ -1,0 +1,89 @@
+//! The records of a dataset, sought one after the other.
+ghost use Rattle.std.specs.Prelude.{◌≡◌};
+ghost use Rattle.std.specs.Option.{option_copied};
+ghost use Rattle.acap_inherit.specs.Records.{record_at};
+ghost use Rattle.acap_search.specs.Near.{AreKept};
+ghost use Rattle.acap_search.specs.Shelves.{all_records};
+
+use acap_entries::{Dataset, EntryName, Listing, Path, Record, Records, Tree};
+use std::marker::Model;
+
+/// The records of a dataset, sought one after the other. They lie at hand in their order: the next is found at once, if it is the one
+/// that is asked for.
+#[derive(Drop)]
+pub struct Shelf<'a> {
+    tree: &'a Tree,
+    dataset: &'a Dataset,
+    next: Option<(&'a Path, &'a Record)>,
+    others: Listing<'a>,
+}
+
+impl<'a> Model for Shelf<'a> {
+    ghost use Rattle.acap_search.specs.Near.{AreKept};
+    ghost use Rattle.acap_search.specs.Shelves.{Shelf as Seen, shelf_code, all_records};
+
+    ghost Value = { Seen };
+
+    ghost coded = { shelf_code };
+
+    ghost view = { λ s. record { records = s.tree.now.store.records; dataset = s.dataset.now } };
+
+    ghost invariant = { λ s. AreKept s.tree.now.store.records s.dataset.now (all_records s.next s.others) };
+}
+
+// The first of some records whose name doesn't come before another one.
+#[tactic(auto, using(crate::proofs::GroundLemmas::others_kept))]
+fn first_from<'a>(
+    tree: &Tree,
+    dataset: &Dataset,
+    next: Option<(&'a Path, &'a Record)>,
+    others: &mut Listing<'a>,
+    name: &EntryName,
+) -> Option<(&'a Path, &'a Record)>
+    requires { AreKept tree.now.store.records dataset.now (all_records next others.old) }
+    ensures { AreKept tree.now.store.records dataset.now (all_records result others.new) }
+{
+    if let Some((path, _)) = next
+        && *name <= path.name
+    {
+        return next;
+    }
+    'passed: while let Some(entry) = others.next() {
+        if *name <= entry.0.name {
+            return Some(entry);
+        }
+    }
+    None
+}
+
+impl<'a> Shelf<'a> {
+    /// Those of a dataset. Takes no memory.
+    pub fn of(tree: &'a Tree, dataset: &'a Dataset) -> Shelf<'a>
+        ensures records { result.records ≡ tree.now.store.records }
+        ensures dataset { result.dataset ≡ dataset.now }
+    {
+        Shelf {
+            tree,
+            dataset,
+            next: None,
+            others: tree.entries_of(dataset.as_slice()),
+        }
+    }
+
+    /// The record of an entry, which is often the next. Takes no memory.
+    pub fn find(&mut self, name: &EntryName) -> Option<&'a Record>
+        ensures same { self.new ≡ self.old }
+        ensures found { option_copied result ≡ record_at self.old.records self.old.dataset name.now }
+    {
+        let tree = self.tree;
+        let dataset = self.dataset;
+        let next = first_from(tree, dataset, self.next, &mut self.others, name);
+        self.next = next;
+        if let Some((path, record)) = next
+            && path.name == *name
+        {
+            return Some(record);
+        }
+        tree.find(dataset.as_slice(), name.as_slice())
+    }
+}
