@@ -1,0 +1,11 @@
+pub mod Nests
+pub mod Numbers
+pub mod Leading
+pub mod Unheard
+pub mod Fronts
+pub mod Strings
+pub mod Continued
+pub mod FirstLines
+pub mod Written
+pub mod Each
+pub mod WholeLines

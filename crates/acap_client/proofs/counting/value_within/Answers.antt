@@ -1,0 +1,11 @@
+use Rattle.std.proofs.Common.{◌<◌, ◌+◌, ◌-◌, ◌*◌, arith, slice_index}
+use Rattle.acap_client.proofs.Numbers.{too_large, ends}
+use Rattle.acap_client.proofs.counting.value_within.Goals as goal
+
+pub returns-then-count-from : goal.returns-then-count-from
+returns-then-count-from c =
+    let large : c.args.most < 10 * c.loop-digit.count + (slice_index c.args.digits.now c.loop-digit.digit-index - 48) = omega (arith, c.saturating_sub.ensures, c.from.ensures, c.from-in-loop-digit.ensures) in
+    record { some = tt; none = too_large _ _ _ _ c.loop-digit-test.true c.loop-digit.invariant large }
+
+pub returns : goal.returns
+returns c = record { some = ends _ _ _ _ c.loop-digit-test.false c.loop-digit.invariant; none = tt }

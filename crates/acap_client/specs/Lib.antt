@@ -1,0 +1,15 @@
+pub mod Data
+pub mod Drafting
+pub mod Hearing
+pub mod Counting
+pub mod Reading
+pub mod Advancing
+pub mod Unread
+pub mod Arguments
+pub mod Saying
+pub mod Laws
+pub mod Writing
+pub mod Parts
+pub mod Login
+pub mod Following
+pub mod FollowingExamples

@@ -1,0 +1,12 @@
+//! What is wrong with what a server sent.
+
+/// What is wrong with what a server sent.
+#[derive(Clone, Copy, PartialEq, Eq, Debug)]
+pub enum ReadFault {
+    /// A line that says nothing of what a server may say. The lines after it are read.
+    Unknown,
+    /// No line of a server begins with the octets that follow the last line: nothing is read after it.
+    Astray,
+    /// The line that follows is longer than the limit: nothing is read after it.
+    TooLong,
+}

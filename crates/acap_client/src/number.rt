@@ -1,0 +1,22 @@
+//! A number in a line from the server.
+
+ghost use Rattle.std.specs.Prelude.{◌≡◌, ◌<◌, ◌≤◌, IfSome, IfNone};
+ghost use Rattle.acap_client.specs.Arguments.{value_in};
+
+use crate::counting::value_within;
+
+/// A number in a line from the server: its decimal digits, one at least, however many (RFC 2244 section 8).
+#[derive(Clone, Copy)]
+pub struct Number<'a> {
+    pub(crate) digits: &'a [u8],
+}
+
+impl<'a> Number<'a> {
+    /// The number, if it is at most this.
+    pub fn at_most(&self, most: u32) -> Option<u32>
+        ensures some { IfSome result (λ n. (n ≡ value_in self.now) × (n ≤ most)) }
+        ensures none { IfNone result (most < value_in self.now) }
+    {
+        value_within(self.digits, most)
+    }
+}

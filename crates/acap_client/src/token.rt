@@ -1,0 +1,16 @@
+//! A token of a line from the server.
+
+use acap_entries::Octets;
+
+/// A token of a line from the server (RFC 2244 section 2.2).
+#[derive(Drop)]
+pub enum Token {
+    /// A word, as `OK`, `NIL` or a number.
+    Word(Octets),
+    /// A string: the octets that it stands for, whether it was quoted or a literal.
+    Text(Octets),
+    /// `(`
+    Open,
+    /// `)`
+    Close,
+}
