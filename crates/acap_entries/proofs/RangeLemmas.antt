@@ -219,3 +219,15 @@ rises_by (a ∷ f) s t (b ∷ x) h = elim (nat_cmp a b) as (λ r. ordering_then 
   | Equal ↦ λ e. rises_by f s t x h e
   | Greater ↦ λ e. refl
 ]
+
+-- where the beginnings are the same the rests decide
+pub fronts_alike : (a b c d : List ℕ) → is_eq (octets_cmp a c) ≡ true → octets_cmp (a ++ b) (c ++ d) ≡ octets_cmp b d
+fronts_alike [] b [] d e = refl
+fronts_alike [] b (x ∷ c) d e = cc
+fronts_alike (y ∷ a) b [] d e = cc
+fronts_alike (y ∷ a) b (x ∷ c) d e =
+    elim (nat_cmp y x) as (λ r. is_eq (ordering_then r (octets_cmp a c)) ≡ true → ordering_then r (octets_cmp (a ++ b) (c ++ d)) ≡ octets_cmp b d) [
+      | Less ↦ λ h. cc
+      | Equal ↦ λ h. fronts_alike a b c d h
+      | Greater ↦ λ h. cc
+    ] e

@@ -1,6 +1,6 @@
 //! How octets compare, word by word where they are alike.
 ghost use Rattle.std.specs.Prelude.{◌≡◌, ◌↔◌, ◌<◌, length, IfSome, IsTrue};
-ghost use Rattle.acap_entries.specs.Orders.{octets_cmp};
+ghost use Rattle.acap_entries.specs.Orders.{octets_cmp, octets_eq};
 
 use std::cmp::Ordering;
 
@@ -21,6 +21,28 @@ fn behind_word<'a>(a: &'a [u8], b: &'a [u8]) -> Option<(&'a [u8], &'a [u8])>
     let (first, left) = a.split_first_chunk::<8>()?;
     let (second, right) = b.split_first_chunk::<8>()?;
     if is_same_word(first, second) {
+        Some((left, right))
+    } else {
+        None
+    }
+}
+
+// Whether four octets are those: read as a number each.
+#[inline]
+fn is_same_half(a: &[u8; 4], b: &[u8; 4]) -> bool
+    ensures { IsTrue result ↔ (a.now ≡ b.now) }
+{
+    u32::from_le_bytes(*a) == u32::from_le_bytes(*b)
+}
+
+// What is left of two texts after their first four octets, where these are alike.
+#[inline]
+fn behind_half<'a>(a: &'a [u8], b: &'a [u8]) -> Option<(&'a [u8], &'a [u8])>
+    ensures { IfSome result (λ left. octets_cmp left.0.now left.1.now ≡ octets_cmp a.now b.now) }
+{
+    let (first, left) = a.split_first_chunk::<4>()?;
+    let (second, right) = b.split_first_chunk::<4>()?;
+    if is_same_half(first, second) {
         Some((left, right))
     } else {
         None
@@ -60,5 +82,15 @@ pub(crate) fn compare(a: &[u8], b: &[u8]) -> Ordering
         left = first;
         right = second;
     }
-    by_octets(left, right)
+    match behind_half(left, right) {
+        Some((first, second)) => by_octets(first, second),
+        None => by_octets(left, right),
+    }
+}
+
+/// Whether octets are the same, word by word: quicker than slices are where they are few. Takes no memory.
+pub fn is_same(a: &[u8], b: &[u8]) -> bool
+    ensures { result ≡ octets_eq a.now b.now }
+{
+    a.len() == b.len() && compare(a, b).is_eq()
 }

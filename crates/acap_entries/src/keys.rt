@@ -114,13 +114,8 @@ pub(crate) fn cmp_joined(front: &[u8], rest: &[u8], other: &[u8]) -> Ordering
     compare(front, other)
 }
 
-/// How octets that are given in two parts compare with others that are.
-pub(crate) fn cmp_pairs(
-    front: &[u8],
-    rest: &[u8],
-    other_front: &[u8],
-    other_rest: &[u8],
-) -> Ordering
+// How octets that are given in two parts compare with others that are, wherever these are parted.
+fn cmp_apart(front: &[u8], rest: &[u8], other_front: &[u8], other_rest: &[u8]) -> Ordering
     ensures { result ≡ octets_cmp (front.now ++ rest.now) (other_front.now ++ other_rest.now) }
 {
     if other_front.starts_with(front) {
@@ -132,4 +127,19 @@ pub(crate) fn cmp_pairs(
         return cmp_joined(between, rest, other_rest);
     }
     compare(front, other_front)
+}
+
+/// How octets that are given in two parts compare with others that are. Their first parts are often the same.
+pub(crate) fn cmp_pairs(
+    front: &[u8],
+    rest: &[u8],
+    other_front: &[u8],
+    other_rest: &[u8],
+) -> Ordering
+    ensures { result ≡ octets_cmp (front.now ++ rest.now) (other_front.now ++ other_rest.now) }
+{
+    if compare(front, other_front).is_eq() {
+        return compare(rest, other_rest);
+    }
+    cmp_apart(front, rest, other_front, other_rest)
 }

@@ -57,6 +57,7 @@ pub use boxed::Boxed;
 pub use cell::Cell;
 pub use change::Change;
 pub use civil::Civil;
+pub use comparing::is_same;
 pub use copying::{Copying, copy_all};
 pub use dataset::Dataset;
 pub use deletion::Deletion;

@@ -9,7 +9,7 @@ ghost use Rattle.std.specs.Ordering.{nat_cmp};
 ghost use Rattle.acap_entries.specs.Names as name;
 
 use crate::compact::Compact;
-use crate::comparing::compare;
+use crate::comparing::{compare, is_same};
 use crate::copying::Copying;
 use crate::memory::Memory;
 use crate::name_fault::NameFault;
@@ -218,7 +218,7 @@ impl<K: TextKind> PartialEq for Text<K> {
     ghost laws = { partial_equiv_from_equiv nat_list_eq_equiv };
 
     fn eq(&self, other: &Text<K>) -> bool {
-        self.as_slice() == other.as_slice()
+        is_same(self.as_slice(), other.as_slice())
     }
 }
 

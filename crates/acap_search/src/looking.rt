@@ -8,7 +8,7 @@ ghost use Rattle.acap_search.specs.Views.{answers_of, is_readable_at, rights_in}
 
 use crate::spot::Spot;
 use crate::viewer::Viewer;
-use acap_entries::{Cell, EntryName, Record, Records, stamp};
+use acap_entries::{Cell, EntryName, Record, Records, is_same, stamp};
 use acap_inherit::{Found, Lent, lookup};
 use acap_rights::{Object, Rights, rights_of};
 
@@ -67,7 +67,7 @@ fn rights_there<R: Records>(
     requires { here ≡ rights_in by.now by.now.dataset attribute.now name.now }
     ensures { result ≡ rights_in by.now dataset.now attribute.now name.now }
 {
-    if dataset == by.dataset.as_slice() {
+    if is_same(dataset, by.dataset.as_slice()) {
         here
     } else {
         rights_on(by, dataset, attribute, name)

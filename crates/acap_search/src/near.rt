@@ -7,7 +7,7 @@ ghost use Rattle.acap_search.specs.Fronts.{IsFront};
 use crate::dataset_walk::base_of;
 use crate::front::Front;
 use crate::viewer::Viewer;
-use acap_entries::{EntryName, Moment, Record, Records};
+use acap_entries::{EntryName, Moment, Record, Records, is_same};
 use std::marker::Model;
 
 /// A store that has at hand what a dataset and its base keep of the entry of a name, and their management entries: none of them
@@ -56,7 +56,7 @@ fn find_in<'a, R: Records>(
     requires { option_copied entry ≡ record_at (R.store records.now).records own.now.dataset.now name.now }
     ensures { option_copied result ≡ record_at (R.store records.now).records base.now.dataset.now name.now }
 {
-    if base.dataset == own.dataset {
+    if is_same(base.dataset, own.dataset) {
         entry
     } else {
         records.find(base.dataset, name)
@@ -92,18 +92,18 @@ impl<'a, R: Records> Records for Near<'a, R> {
     ghost store = { λ n. n };
 
     fn find(&self, dataset: &[u8], name: &[u8]) -> Option<&Record> {
-        if dataset == self.own.dataset {
-            if name == self.name {
+        if is_same(dataset, self.own.dataset) {
+            if is_same(name, self.name) {
                 return self.entry;
             }
-            if name == b"".as_slice() {
+            if is_same(name, b"") {
                 return self.own.management;
             }
-        } else if dataset == self.base.dataset {
-            if name == self.name {
+        } else if is_same(dataset, self.base.dataset) {
+            if is_same(name, self.name) {
                 return self.inherited;
             }
-            if name == b"".as_slice() {
+            if is_same(name, b"") {
                 return self.base.management;
             }
         }

@@ -4,7 +4,7 @@ ghost use Rattle.acap_search.specs.Scoped as rule;
 
 use crate::query::Sought;
 use crate::reaching::lies_within;
-use acap_entries::{Dataset, Records};
+use acap_entries::{Dataset, Records, is_same};
 use std::marker::Model;
 
 /// Where a search looks: in a dataset, with DEPTH also beneath it, and whether what is inherited counts (RFC 2244 section 6.4.1).
@@ -62,7 +62,7 @@ fn is_looked_in<R: Records>(scope: &Scope<'_>, records: &R, dataset: &[u8]) -> b
     ensures { result ≡ rule.is_looked_in (R.store records.now).records scope.now dataset.now }
 {
     let searched = scope.dataset();
-    if dataset == searched {
+    if is_same(dataset, searched) {
         return true;
     }
     match scope.depth {

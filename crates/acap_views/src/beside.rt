@@ -1,5 +1,5 @@
 //! A store with the management entry of one dataset at hand.
-use acap_entries::{Moment, Record, Records};
+use acap_entries::{Moment, Record, Records, is_same};
 use std::marker::Model;
 
 /// A store of which a dataset's management entry is at hand: whoever looks along chains and asks for rights asks for it again and
@@ -44,7 +44,7 @@ impl<'a, R: Records> Records for Beside<'a, R> {
     ghost store = { λ b. b };
 
     fn find(&self, dataset: &[u8], name: &[u8]) -> Option<&Record> {
-        if name == b"".as_slice() && dataset == self.dataset {
+        if is_same(name, b"") && is_same(dataset, self.dataset) {
             return self.management;
         }
         self.records.find(dataset, name)
