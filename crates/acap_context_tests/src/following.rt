@@ -34,6 +34,17 @@ struct Trial {
     clients: Vec<Client>,
 }
 
+// How many moments are told.
+fn count_moments(tolds: &Tolds) -> usize {
+    let mut count = 0usize;
+    for told in tolds.iter() {
+        if matches!(told, ToldRef::Upto(_, _)) {
+            count = count.saturating_add(1);
+        }
+    }
+    count
+}
+
 impl Trial {
     fn new(world: World, seed: u64) -> Trial {
         let clients = Vec::new(world.alloc);
@@ -94,8 +105,7 @@ impl Trial {
         moments: usize,
         steps: &mut Steps<L>,
     ) -> Result<(), Wrong> {
-        let is_moment = |told: &ToldRef<'_>| matches!(told, ToldRef::Upto(_, _));
-        if tolds.iter().filter(is_moment).count() != moments {
+        if count_moments(tolds) != moments {
             return Err(Wrong::Moments);
         }
         for client in self.clients.iter_mut() {

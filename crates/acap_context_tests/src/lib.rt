@@ -1,5 +1,5 @@
 //! Tests of contexts: what clients hold that follow what they are told, against what a search finds. And of
-//! calls on contexts, on what is inherited and touched, and on keys, that no program makes.
+//! calls on contexts, on hits, on what is inherited and touched, and on keys, that no program makes.
 #![tactic(auto)]
 
 #[cfg(test)]
@@ -12,6 +12,8 @@ mod following;
 mod inherited;
 #[cfg(test)]
 mod opened;
+#[cfg(test)]
+mod searched;
 #[cfg(test)]
 mod touched;
 #[cfg(test)]

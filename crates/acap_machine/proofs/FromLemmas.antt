@@ -27,36 +27,36 @@ paths_of (hit ∷ hits) = ap (λ ps. hit.now.path ∷ ps) (paths_of hits)
 pub paths_are : (hits : List (Bor Match)) (shown : List Match) → each (λ hit. hit.now) hits ≡ shown → each (λ hit. hit.now.path) hits ≡ each (λ found. found.path) shown
 paths_are hits shown e = paths_of hits ∙ ap (each (λ found. found.path)) e
 
-pub found_from : (s : Store) (realm : Realm) (user : List ℕ) (from : Ranged) (query wanted : Query) (limit : Option Limit) (paths : List Path) (hits : List Match) (excerpt : Excerpt) (found : SearchReply)
-    → query ≡ wanted → paths ≡ each (λ f. f.path) from.shown → IsWithin s.records realm user query (context_of paths from.told from.enumerated) (Ok hits)
-    → IsExcerpt limit excerpt hits → found ≡ found_with s.last query.sought excerpt.rows excerpt.total → said.Searched found ≡ searched_from s realm user from wanted limit
+pub found_from : (s : Store) (realm : Realm) (user : List ℕ) (from : Ranged) (query wanted : Query) (limit : Option Limit) (paths : List Path) (excerpt : Excerpt) (found : SearchReply)
+    → query ≡ wanted → paths ≡ each (λ f. f.path) from.shown → IsWithin s.records realm user query (context_of paths from.told from.enumerated) (IsExcerpt limit) (Ok excerpt)
+    → found ≡ found_with s.last query.sought excerpt.rows excerpt.total → said.Searched found ≡ searched_from s realm user from wanted limit
 unfolding searched_from
-found_from s realm user from query wanted limit paths hits excerpt found query_is paths_is answer cut found_eq =
+found_from s realm user from query wanted limit paths excerpt found query_is paths_is answer found_eq =
     let context_is : context_of paths from.told from.enumerated ≡ shown_within from = ap (λ p. context_of p from.told from.enumerated) paths_is in
     let none = subst (λ (c : Context). refusal_within s.records realm user query c ≡ None) context_is answer.0 in
-    let are = subst (λ (c : Context). hits ≡ matches_within s.records realm user query.sought c.paths) context_is answer.1 in
-    let told = found_eq ∙ found_is s.last query.sought limit hits excerpt.rows excerpt.total cut.0 cut.1 ∙ ap (found_of s.last query.sought limit) are in
+    let told = found_eq ∙ found_is s.last query.sought limit (matches_within s.records realm user query.sought paths) excerpt.rows excerpt.total answer.1.0 answer.1.1
+    ∙ ap (λ (c : Context). found_of s.last query.sought limit (matches_within s.records realm user query.sought c.paths)) context_is in
     ap said.Searched told
     ∙ sym (ap (λ r. found_unless query.sought.dataset r (found_of s.last query.sought limit (matches_within s.records realm user query.sought (shown_within from).paths))) none)
     ∙ ap (λ q. searched_from s realm user from q limit) query_is
 
 -- ---- where it is refused
 
-refused_by : (records : Stored) (realm : Realm) (user : List ℕ) (query : Query) (context : Context) (r : SearchRefusal) → is_search_memory r ≡ false
-    → IsWithin records realm user query context (Err r) → refusal_within records realm user query context ≡ Some r
-refused_by records realm user query context refusal.RangeHere e f = f
-refused_by records realm user query context refusal.NoExist e f = f
-refused_by records realm user query context refusal.TooOld e f = f
-refused_by records realm user query context refusal.WayTooMany e f = f
-refused_by records realm user query context refusal.Memory e f = absurd cc
+refused_by : {X : Type 0} (records : Stored) (realm : Realm) (user : List ℕ) (query : Query) (context : Context) (holds : X → List Match → Type 0) (r : SearchRefusal) → is_search_memory r ≡ false
+    → IsWithin records realm user query context holds (Err r) → refusal_within records realm user query context ≡ Some r
+refused_by records realm user query context holds refusal.RangeHere e f = f
+refused_by records realm user query context holds refusal.NoExist e f = f
+refused_by records realm user query context holds refusal.TooOld e f = f
+refused_by records realm user query context holds refusal.WayTooMany e f = f
+refused_by records realm user query context holds refusal.Memory e f = absurd cc
 
 pub refused_from : (s : Store) (realm : Realm) (user : List ℕ) (from : Ranged) (query wanted : Query) (limit : Option Limit) (paths : List Path) (r : SearchRefusal)
-    → query ≡ wanted → paths ≡ each (λ f. f.path) from.shown → IsWithin s.records realm user query (context_of paths from.told from.enumerated) (Err r)
+    → query ≡ wanted → paths ≡ each (λ f. f.path) from.shown → IsWithin s.records realm user query (context_of paths from.told from.enumerated) (IsExcerpt limit) (Err r)
     → is_search_memory r ≡ false → said.Refused (refused_as query.sought.dataset r) ≡ searched_from s realm user from wanted limit
 unfolding searched_from
 refused_from s realm user from query wanted limit paths r query_is paths_is answer other =
     let context_is : context_of paths from.told from.enumerated ≡ shown_within from = ap (λ p. context_of p from.told from.enumerated) paths_is in
-    let because = subst (λ (c : Context). refusal_within s.records realm user query c ≡ Some r) context_is (refused_by s.records realm user query _ r other answer) in
+    let because = subst (λ (c : Context). refusal_within s.records realm user query c ≡ Some r) context_is (refused_by s.records realm user query _ (IsExcerpt limit) r other answer) in
     sym (ap (λ x. found_unless query.sought.dataset x (found_of s.last query.sought limit (matches_within s.records realm user query.sought (shown_within from).paths))) because)
     ∙ ap (λ q. searched_from s realm user from q limit) query_is
 

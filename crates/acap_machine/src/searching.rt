@@ -6,7 +6,6 @@ ghost use Rattle.acap_machine.specs.Changing.{IsOpenable};
 ghost use Rattle.acap_machine.specs.Readied.{IsReadyOf};
 ghost use Rattle.acap_machine.specs.Searching as rule;
 ghost use Rattle.acap_machine.specs.Stepping.{answer_at as asking, reply_of};
-ghost use Rattle.acap_search.specs.Cutting.{IsExcerpt};
 ghost use Rattle.acap_search.specs.Matches.{match_cmp};
 ghost use Rattle.acap_views.specs.Ranging.{range_at};
 ghost use Rattle.acap_views.specs.Started.{as_ranged};
@@ -23,8 +22,7 @@ use acap_entries::{
     Boxed, ContextName, Copying, Memory, Moment, Row, Seat, Sequence, Steps, UserName,
 };
 use acap_search::{
-    Asked, Excerpt, Hit, Hits, Query, Showing, Sought, cut_by, first_rows, fresh, hit_law, tell,
-    within,
+    Asked, Excerpt, Hit, Hits, Query, Showing, Sought, cut_by, fresh, hit_law, tell, tell_within,
 };
 use acap_views::{RangedContext, is_full};
 use std::alloc::Global;
@@ -64,18 +62,6 @@ fn reply_with(last: Moment, sought: &Sought, excerpt: Excerpt) -> Result<SearchR
         rows,
         last: Some(last),
         total,
-    })
-}
-
-// What is told of these hits, each row in the memory that it has.
-fn excerpt_of(alloc: Global, hits: Hits, limit: Option<Limit>) -> Result<Excerpt, Memory>
-    ensures { IfOk result (λ excerpt. IsExcerpt limit excerpt hits) }
-{
-    let cut = cut_by(limit, hits.len());
-    let rows = first_rows(alloc, hits, cut.told)?;
-    Ok(Excerpt {
-        rows,
-        total: cut.total,
     })
 }
 
@@ -217,7 +203,7 @@ impl State {
         let limit = modifiers.limit;
         let query = query_within(sought, modifiers, key)?;
         let shown = shown.hits(self.alloc)?;
-        match within(
+        match tell_within(
             self.alloc,
             &self.tree,
             &self.realm,
@@ -228,10 +214,10 @@ impl State {
                 told,
                 enumerated,
             },
+            limit,
             steps,
         ) {
-            Ok(hits) => {
-                let excerpt = excerpt_of(self.alloc, hits, limit)?;
+            Ok(excerpt) => {
                 let last = self.tree.last();
                 let found = reply_with(last, &query.sought, excerpt)?;
                 Ok(Said::Searched(found))

@@ -5,16 +5,15 @@ use Rattle.std.proofs.lemmas.List.{length-map, map-append, take-map, take-take}
 use Rattle.std.specs.List.{cons_option, filter_map, Contains}
 use Rattle.acap_entries.specs.declared.path.Path.{Path}
 use Rattle.acap_entries.specs.declared.record.Record.{Record}
-use Rattle.acap_entries.specs.declared.row.Row.{Row}
 use Rattle.acap_commands.specs.declared.limit.Limit.{Limit}
-use Rattle.acap_search.specs.Cutting.{IsWished, cut_of, most_told}
-use Rattle.acap_search.specs.Gathering.{rows_of, told_of, none_told, told_with, none_in_order, none_in_turn, with_more, with_one, put_in_order, count_of, rows_at, first_in, IsFirst, IsGathered}
+use Rattle.acap_search.specs.Cutting.{IsExcerpt, IsWished, cut_of, most_told}
+use Rattle.acap_search.specs.Gathering.{rows_of, told_of, none_told, told_with, none_in_order, none_in_turn, with_more, with_one, put_in_order, count_of, rows_at, first_in, excerpt_in, IsFirst, IsGathered}
 use Rattle.acap_search.specs.Lying.{untold}
 use Rattle.acap_search.specs.Matches.{Match, match_lt, put_by, sorted_from, sorted_by}
 use Rattle.acap_search.specs.Walks.{Quest, match_in}
-use Rattle.acap_search.specs.declared.cutting.Cut.{Cut}
 use Rattle.acap_search.specs.declared.gathered.Gathered.{Gathered}
 use Rattle.acap_search.specs.declared.gathered.Gathered.TheVariants.{Findings, Stands, First}
+use Rattle.acap_search.specs.declared.telling.Excerpt.{Excerpt}
 use Rattle.acap_search.specs.declared.told.Told.{Told}
 use Rattle.acap_search.specs.declared.wish.Wish.{Wish}
 use Rattle.acap_search.specs.declared.wish.Wish.TheVariants as wish
@@ -185,11 +184,13 @@ module _ (quest : Quest) where
       ap (λ told. take n told.rows) h ∙ (take-take n (most_told limit) (rows_of matches) less ∙ take-map (λ m. m.row) n matches)
 
   -- the rows of as many first matches as LIMIT lets through, and the total
-  pub cut_so : (limit wished : Option Limit) (cut : Cut) (rows : List Row) (found : Gathered) (matches : List Match) (count : ℕ) → IsWished limit wished → AreMade matches → IsFirst wished found matches
-      → count ≡ count_of found → count ≤ 18_446_744_073_709_551_615 → cut ≡ cut_of limit count → rows ≡ first_in quest cut.told found
-      → (rows ≡ rows_of (take (cut_of limit (length matches)).told matches)) × (cut.total ≡ (cut_of limit (length matches)).total)
-  cut_so limit wished cut rows found matches count so made h n less k r =
-      let many : count ≡ length matches = n ∙ first_many wished found matches h in
-      let known : cut ≡ cut_of limit (length matches) = k ∙ ap (cut_of limit) many in
-      let within : cut.told ≤ most_told wished = subst (λ cut. cut.told ≤ most_told wished) (sym k) (wished_within limit wished count so less) in
-      (r ∙ (first_so wished cut.told found matches within made h ∙ ap (λ cut. rows_of (take cut.told matches)) known), ap (λ cut. cut.total) known)
+  pub excerpt_so : (limit wished : Option Limit) (excerpt : Excerpt) (found : Gathered) (matches : List Match) → IsWished limit wished → AreMade matches → IsFirst wished found matches
+      → count_of found ≤ 18_446_744_073_709_551_615 → excerpt ≡ excerpt_in quest limit found → IsExcerpt limit excerpt matches
+  excerpt_so limit wished excerpt found matches so made h less e =
+      let many : count_of found ≡ length matches = first_many wished found matches h in
+      let known : cut_of limit (count_of found) ≡ cut_of limit (length matches) = ap (cut_of limit) many in
+      let within : (cut_of limit (count_of found)).told ≤ most_told wished = wished_within limit wished (count_of found) so less in (
+        ap (λ excerpt. excerpt.rows) e
+            ∙ (first_so wished (cut_of limit (count_of found)).told found matches within made h ∙ ap (λ cut. rows_of (take cut.told matches)) known),
+        ap (λ excerpt. excerpt.total) e ∙ ap (λ cut. cut.total) known,
+      )

@@ -1,13 +1,16 @@
 -- What a search finds is what is made of the entries at the paths of its matches.
-use Rattle.std.proofs.Common.{◌≡◌, ℕ, Bool, true, false, cond, Some, None, List, sym, ◌∙◌, ap, subst}
+use Rattle.std.proofs.Common.{◌≡◌, ℕ, Bool, true, false, cond, Option, Some, None, List, sym, ◌∙◌, ap, subst}
+use Rattle.std.specs.Borrow.{Bor}
 use Rattle.std.specs.List.{Contains}
 use Rattle.acap_entries.specs.Store.{Stored}
+use Rattle.acap_commands.specs.declared.sort_item.SortItem.{SortItem}
 use Rattle.acap_inherit.specs.EntryNames.{names_on}
 use Rattle.acap_rights.specs.declared.realm.Realm.{Realm}
-use Rattle.acap_search.specs.Matches.{Match, match_lt, sorted_by}
+use Rattle.acap_search.specs.Matches.{Match, match_lt, ordered_by, sorted_by}
 use Rattle.acap_search.specs.Scopes.{scope_of, datasets_of}
 use Rattle.acap_search.specs.Views.{found_at, match_at, spot_in}
-use Rattle.acap_search.specs.Walks.{Quest, quest_of, view_in, hits_in, hits_over, matches_by, match_in}
+use Rattle.acap_search.specs.Walks.{Quest, quest_of, sight_by, view_in, hits_in, hits_over, matches_among, matches_by, match_in}
+use Rattle.acap_search.specs.Within.{numbered_paths, paths_shown, tuple_within}
 use Rattle.acap_search.specs.declared.query.Sought.{Sought}
 use Rattle.acap_search.proofs.GatheredLemmas.{AreMade}
 use Rattle.acap_search.proofs.OnceLemmas.{from_made}
@@ -36,3 +39,18 @@ module _ (records : Stored) (realm : Realm) (user : List ℕ) (sought : Sought) 
       let sorted : Contains (sorted_by match_lt (hits_over quest)) m = subst (λ ms. Contains ms m) (sym (fresh_is records realm user sought)) k in
       let from = from_all (hits_in quest) (datasets_of records (scope_of sought)) m (from_order match_lt (hits_over quest) m sorted) in
       made_in from.0 m from.1.1
+
+from_ordered : (sort : Option (List SortItem)) (ms : List Match) (m : Match) → Contains (ordered_by sort ms) m → Contains ms m
+from_ordered None ms m k = k
+from_ordered (Some items) ms m k = from_order match_lt ms m k
+
+module _ (records : Stored) (realm : Realm) (user : List ℕ) (sought : Sought) (shown : List (Bor Match)) where
+  abbrev asked : Quest
+  asked = quest_of records realm user sought
+
+  -- what a search over a context finds is made so too, wherever an entry stands in it
+  pub made_within : AreMade asked (matches_among asked shown)
+  made_within m k =
+      let from = from_made (tuple_within (sight_by asked) sought) (numbered_paths (paths_shown shown)) m (from_ordered sought.sort _ m k) in
+      let same : match_in asked from.0.1 ≡ m = of_made _ _ _ m from.1.1 in
+      ap (λ made. match_in asked made.path) (sym same) ∙ same

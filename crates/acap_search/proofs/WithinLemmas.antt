@@ -1,12 +1,13 @@
 -- What is found among the paths of a context is what is made of those in sight.
-use Rattle.std.proofs.Common.{◌≡◌, ℕ, true, false, cond, Option, Some, None, List, length, refl, sym, ap}
+use Rattle.std.proofs.Common.{◌≡◌, ℕ, true, false, not, cond, Option, Some, None, List, length, refl, sym, ap, is_some}
 use Rattle.std.specs.List.{Contains}
+use Rattle.acap_commands.specs.declared.sort_item.SortItem.{SortItem}
 use Rattle.acap_entries.specs.Store.{Stored}
 use Rattle.acap_entries.specs.declared.path.Path.{Path}
 use Rattle.acap_inherit.specs.Laws.{NothingLaw, NamesLaw}
 use Rattle.acap_rights.specs.declared.realm.Realm.{Realm}
 use Rattle.acap_search.specs.Fresh.{is_among, is_over, answers_on}
-use Rattle.acap_search.specs.Matches.{Match}
+use Rattle.acap_search.specs.Matches.{Match, match_lt, ordered_by, sorted_by}
 use Rattle.acap_search.specs.Rows.{stars_of}
 use Rattle.acap_search.specs.Scopes.{scope_of, datasets_of}
 use Rattle.acap_search.specs.Sight.{is_seen}
@@ -53,3 +54,12 @@ pub refused_within : (records : Stored) (realm : Realm) (user : List ℕ) (query
 refused_within records realm user query context r e =
     λ i. cond (r i) (Some refusal.RangeHere) (cond (e i) (Some refusal.TooOld)
     (cond (is_over query.hard_limit (length (matches_within records realm user query.sought context.paths))) (Some refusal.WayTooMany) None))
+
+-- without SORT matches stay as they come, and with it they are sorted
+pub unsorted : (sort : Option (List SortItem)) (matches : List Match) → not (is_some sort) ≡ true → matches ≡ ordered_by sort matches
+unsorted None matches e = refl
+unsorted (Some items) matches e = absurd (cc e)
+
+pub put_sorted : (sort : Option (List SortItem)) (matches : List Match) → not (is_some sort) ≡ false → sorted_by match_lt matches ≡ ordered_by sort matches
+put_sorted None matches e = absurd (cc e)
+put_sorted (Some items) matches e = refl

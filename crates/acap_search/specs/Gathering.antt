@@ -3,12 +3,13 @@ use Rattle.std.specs.Prelude.{◌≡◌, ℕ, ◌+◌, ◌-◌, List, [], ◌++�
 use Rattle.std.specs.List.{cons_option}
 use Rattle.acap_entries.specs.declared.row.Row.{Row}
 use Rattle.acap_commands.specs.declared.limit.Limit.{Limit}
-use Rattle.acap_search.specs.Cutting.{most_told}
+use Rattle.acap_search.specs.Cutting.{cut_of, most_told}
 use Rattle.acap_search.specs.Lying.{untold}
 use Rattle.acap_search.specs.Matches.{Match, match_lt, sorted_by}
 use Rattle.acap_search.specs.Walks.{Quest, match_in}
 use Rattle.acap_search.specs.declared.gathered.Gathered.{Gathered}
 use Rattle.acap_search.specs.declared.gathered.Gathered.TheVariants.{Findings, Stands, First}
+use Rattle.acap_search.specs.declared.telling.Excerpt.{Excerpt}
 use Rattle.acap_search.specs.declared.told.Told.{Told}
 use Rattle.acap_search.specs.declared.wish.Wish.{Wish}
 use Rattle.acap_search.specs.declared.wish.Wish.TheVariants as wish
@@ -77,6 +78,13 @@ abbrev pub first_in : Quest → ℕ → Gathered → List Row
 first_in quest most (Findings found) = rows_of (take most found)
 first_in quest most (Stands found) = rows_at quest (take most found)
 first_in quest most (First told) = take most told.rows
+
+-- what is told of it, where LIMIT may keep some back
+abbrev pub excerpt_in : Quest → Option Limit → Gathered → Excerpt
+excerpt_in quest limit found = record {
+  rows = first_in quest (cut_of limit (count_of found)).told found;
+  total = (cut_of limit (count_of found)).total;
+}
 
 -- what is gathered of some matches: all of them, or enough to tell the first
 abbrev pub IsFirst : Option Limit → Gathered → List Match → Type 0

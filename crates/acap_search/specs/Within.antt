@@ -94,13 +94,20 @@ refusal_within records realm user query context =
     else if is_over query.hard_limit (length (matches_within records realm user query.sought context.paths)) then Some refusal.WayTooMany
     else None
 
--- what is answered to a search over a context: all matches, or why it is refused. Memory is wanted only where the key is right
-abbrev pub IsWithin : Stored → Realm → List ℕ → Query → Context → Result (List Match) SearchRefusal → Type 0
-IsWithin records realm user query context (Ok found) =
-    (refusal_within records realm user query context ≡ None) × (found ≡ matches_within records realm user query.sought context.paths)
-IsWithin records realm user query context (Err refusal.RangeHere) = refusal_within records realm user query context ≡ Some refusal.RangeHere
-IsWithin records realm user query context (Err refusal.NoExist) = refusal_within records realm user query context ≡ Some refusal.NoExist
-IsWithin records realm user query context (Err refusal.TooOld) = refusal_within records realm user query context ≡ Some refusal.TooOld
-IsWithin records realm user query context (Err refusal.WayTooMany) = refusal_within records realm user query context ≡ Some refusal.WayTooMany
-IsWithin records realm user query context (Err refusal.Memory) =
+-- what is answered to a search over a context: what holds of all matches, or why it is refused. Memory is wanted only where the
+-- key is right
+abbrev pub IsWithin : {X : Type 0} → Stored → Realm → List ℕ → Query → Context → (X → List Match → Type 0)
+    → Result X SearchRefusal → Type 0
+IsWithin records realm user query context holds (Ok found) =
+    (refusal_within records realm user query context ≡ None)
+    × holds found (matches_within records realm user query.sought context.paths)
+IsWithin records realm user query context holds (Err refusal.RangeHere) =
+    refusal_within records realm user query context ≡ Some refusal.RangeHere
+IsWithin records realm user query context holds (Err refusal.NoExist) =
+    refusal_within records realm user query context ≡ Some refusal.NoExist
+IsWithin records realm user query context holds (Err refusal.TooOld) =
+    refusal_within records realm user query context ≡ Some refusal.TooOld
+IsWithin records realm user query context holds (Err refusal.WayTooMany) =
+    refusal_within records realm user query context ≡ Some refusal.WayTooMany
+IsWithin records realm user query context holds (Err refusal.Memory) =
     (lacks_positions context query ≡ false) × (has_old context.told query.sought.key ≡ false)

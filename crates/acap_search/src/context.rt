@@ -1,20 +1,21 @@
 //! Searches over contexts.
-ghost use Rattle.std.specs.Prelude.{◌≡◌, ◌+◌, ◌++◌, [], suc, length, IfOk, OnOk};
-ghost use Rattle.std.specs.List.{cons_option};
+ghost use Rattle.std.specs.Prelude.{◌≡◌, ◌+◌, suc, length, not, is_some, IfOk, OnOk};
 ghost use Rattle.acap_search.specs.Counting.{IsCounted};
+ghost use Rattle.acap_search.specs.Gathering.{IsGathered, with_more, with_one};
 ghost use Rattle.acap_search.specs.Grounds.{IsGroundOf};
 ghost use Rattle.acap_search.specs.Walks as walks;
 ghost use Rattle.acap_search.specs.Within as rule;
 
-use crate::finding::{Finding, hits_of};
+use crate::finding::hits_of;
+use crate::gathered::Gathered;
 use crate::ground::Ground;
 use crate::hit::{Hit, Hits};
-use crate::ordering::sort_found;
 use crate::query::Query;
 use crate::quest::Quest;
 use crate::refusal::SearchRefusal;
 use crate::searching::{has_range, is_over};
 use crate::showing::Showing;
+use crate::wish::Wish;
 use acap_commands::{Key, Node, Test};
 use acap_entries::{Memory, Moment, Path, Steps, Tree, UserName};
 use acap_inherit::{names_law, nothing_law};
@@ -46,28 +47,31 @@ fn position_behind(count: usize) -> Option<u32>
     }
 }
 
-// What is made of an entry at its position, in the dataset where it lies: one step.
-fn find_here<'a, L: Ledger>(
+// Adds what is made of an entry at its position, in the dataset where it lies: one step.
+#[tactic(auto, using(crate::proofs::GatheredLemmas::gathered_none))]
+fn add_here<'a, L: Ledger>(
     alloc: Global,
     search: &Quest<'a>,
     here: &mut Ground<'a>,
     path: &'a Path,
     place: Option<u32>,
+    found: &mut Gathered<'a>,
     steps: &mut Steps<L>,
-) -> Result<Option<Finding<'a>>, Memory>
+) -> Result<(), Memory>
     requires here { IsGroundOf search.now here.old }
     requires at { here.old.view.dataset ≡ path.now.dataset }
     ensures same { here.new ≡ here.old }
     ensures count { steps.new ≡ steps.old + 1 }
-    ensures made { IfOk result (λ made. made ≡ walks.tuple_by search.now place path.now) }
+    ensures found { OnOk result
+        (found.new ≡ with_one found.old (walks.tuple_by search.now place path.now)) }
 {
     nothing_law();
     names_law();
     if here.is_searched() {
-        here.find(alloc, path, search.sought, place, steps)
+        here.add(alloc, path, search.sought, place, found, steps)
     } else {
         steps.tick();
-        Ok(None)
+        Ok(())
     }
 }
 
@@ -78,34 +82,34 @@ fn add_found<'a, L: Ledger>(
     here: &mut Ground<'a>,
     path: &'a Path,
     place: Option<u32>,
-    found: &mut Vec<Finding<'a>>,
+    found: &mut Gathered<'a>,
     steps: &mut Steps<L>,
 ) -> Result<(), Memory>
     requires here { IsGroundOf search.now here.old }
     ensures here { OnOk result (IsGroundOf search.now here.new) }
     ensures count { IsCounted result steps.old steps.new 1 }
     ensures found { OnOk result
-        (found.new.items ≡ found.old.items ++ cons_option (walks.tuple_by search.now place path.now) []) }
+        (found.new ≡ with_one found.old (walks.tuple_by search.now place path.now)) }
 {
     here.go_to(alloc, search, &path.dataset)?;
-    if let Some(finding) = find_here(alloc, search, here, path, place, steps)? {
-        found.push(finding)?;
-    }
-    Ok(())
+    add_here(alloc, search, here, path, place, found, steps)
 }
 
-// What is found among the entries of a context, in its order. Those that lie in one dataset one after the other share what is
-// made for it.
+// What is found among the entries of a context, in its order, beside nothing yet. Those that lie in one dataset one after the
+// other share what is made for it.
+#[tactic(auto, using(crate::proofs::GatheredLemmas::gathered_none))]
 fn find_among<'a, L: Ledger>(
     alloc: Global,
     search: &Quest<'a>,
     shown: &'a [&'a Hit],
+    none: Gathered<'a>,
     steps: &mut Steps<L>,
-) -> Result<Vec<Finding<'a>>, Memory>
-    ensures found { IfOk result (λ found. found.items ≡ walks.tuples_by search.now shown.now) }
+) -> Result<Gathered<'a>, Memory>
+    ensures found { IfOk result
+        (λ found. found ≡ with_more none.entry (walks.tuples_by search.now shown.now)) }
     ensures count { IsCounted result steps.old steps.new (length shown.now) }
 {
-    let mut found = Vec::new(alloc);
+    let mut found = none;
     let Some(first) = shown.first() else {
         return Ok(found);
     };
@@ -119,42 +123,51 @@ fn find_among<'a, L: Ledger>(
     Ok(found)
 }
 
+// Whether what is found stays in the order of the context.
+fn keeps_order(search: &Quest<'_>) -> bool
+    ensures { result ≡ not (is_some search.now.sought.sort) }
+{
+    let sought = search.sought;
+    sought.sort.is_none()
+}
+
 // What is found among them, in the order that is asked for.
 fn find_within<'a, L: Ledger>(
     alloc: Global,
     search: &Quest<'a>,
     shown: &'a [&'a Hit],
+    wish: Wish,
     steps: &mut Steps<L>,
-) -> Result<Vec<Finding<'a>>, Memory>
-    ensures found { IfOk result (λ found. found.items ≡ walks.matches_among search.now shown.now) }
+) -> Result<Gathered<'a>, Memory>
+    ensures found { IfOk result
+        (λ found. IsGathered wish found (walks.matches_among search.now shown.now)) }
     ensures count { IsCounted result steps.old steps.new (length shown.now) }
 {
-    let mut found = find_among(alloc, search, shown, steps)?;
-    let sought = search.sought;
-    if sought.sort.is_some() {
-        sort_found(&mut found)?;
+    if keeps_order(search) {
+        let none = Gathered::in_order(alloc, wish);
+        let found = find_among(alloc, search, shown, none, steps)?;
+        return Ok(found);
     }
-    Ok(found)
+    let none = Gathered::in_turn(alloc, wish);
+    let found = find_among(alloc, search, shown, none, steps)?;
+    let sorted = found.sort()?;
+    Ok(sorted)
 }
 
-/// What a search over a context finds: of the entries that it shows, in its order, those that the user sees now and the key wants, as
-/// they are now (RFC 2244 sections 3.3 and 6.4.1). Dataset, DEPTH and NOINHERIT of the query are the context's, and its key, SORT,
-/// RETURN and HARDLIMIT those of the new search; SORT reorders. The position that RANGE asks for is that in the whole list, also where
-/// entries before are no longer seen. It is refused where the key asks for positions and the context has none, where it asks for those
-/// of a time before the last that was told, where more entries match than HARDLIMIT allows, and for want of memory: the first of
-/// these is told. Each entry of the list counts as a step.
-#[tactic(auto, using(crate::proofs::WithinLemmas::refused_within))]
-pub fn within<L: Ledger>(
+/// What is answered to a search over a context: all that it finds, whose paths need not be made, or enough of it to tell the first.
+#[tactic(auto, using(crate::proofs::GatheredLemmas::as_many, crate::proofs::WithinLemmas::refused_within))]
+pub(crate) fn answer_within<'a, L: Ledger>(
     alloc: Global,
-    tree: &Tree,
-    realm: &Realm,
-    user: &UserName,
-    query: &Query,
-    context: Showing<'_>,
+    tree: &'a Tree,
+    realm: &'a Realm,
+    user: &'a UserName,
+    query: &'a Query,
+    context: Showing<'a>,
+    wish: Wish,
     steps: &mut Steps<L>,
-) -> Result<Hits, SearchRefusal>
+) -> Result<Gathered<'a>, SearchRefusal>
     ensures answer { let kept = rule.context_shown context.entry in
-        rule.IsWithin tree.now.store.records realm.now user.now query.now kept result }
+        rule.IsWithin tree.now.store.records realm.now user.now query.now kept (IsGathered wish) result }
     ensures count { IsCounted result steps.old steps.new (length context.entry.hits.now) }
 {
     if !context.enumerated && has_range(&query.sought.key) {
@@ -169,12 +182,42 @@ pub fn within<L: Ledger>(
         user,
         sought: &query.sought,
     };
-    let found = find_within(alloc, &search, context.hits, steps)?;
-    if is_over(query.hard_limit, found.len()) {
+    let found = find_within(alloc, &search, context.hits, wish, steps)?;
+    if is_over(query.hard_limit, found.count()) {
         return Err(SearchRefusal::WayTooMany);
     }
-    match hits_of(alloc, found) {
-        Ok(hits) => Ok(Hits::from_vec(hits)),
-        Err(_) => Err(SearchRefusal::Memory),
+    Ok(found)
+}
+
+/// What a search over a context finds: of the entries that it shows, in its order, those that the user sees now and the key wants, as
+/// they are now (RFC 2244 sections 3.3 and 6.4.1). Dataset, DEPTH and NOINHERIT of the query are the context's, and its key, SORT,
+/// RETURN and HARDLIMIT those of the new search; SORT reorders. The position that RANGE asks for is that in the whole list, also where
+/// entries before are no longer seen. It is refused where the key asks for positions and the context has none, where it asks for those
+/// of a time before the last that was told, where more entries match than HARDLIMIT allows, and for want of memory: the first of
+/// these is told. Each entry of the list counts as a step.
+pub fn within<'a, L: Ledger>(
+    alloc: Global,
+    tree: &'a Tree,
+    realm: &'a Realm,
+    user: &'a UserName,
+    query: &'a Query,
+    context: Showing<'a>,
+    steps: &mut Steps<L>,
+) -> Result<Hits, SearchRefusal>
+    ensures answer { let kept = rule.context_shown context.entry in
+        rule.IsWithin tree.now.store.records realm.now user.now query.now kept (λ h m. h ≡ m) result }
+    ensures count { IsCounted result steps.old steps.new (length context.entry.hits.now) }
+{
+    let showing = Showing {
+        hits: context.hits,
+        told: context.told,
+        enumerated: context.enumerated,
+    };
+    match answer_within(alloc, tree, realm, user, query, showing, Wish::All, steps) {
+        Ok(found) => match hits_of(alloc, found.into_findings(alloc)) {
+            Ok(hits) => Ok(Hits::from_vec(hits)),
+            Err(_) => Err(SearchRefusal::Memory),
+        },
+        Err(refusal) => Err(refusal),
     }
 }

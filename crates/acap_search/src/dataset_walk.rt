@@ -49,7 +49,7 @@ fn add_own<'a: 'b, 'b, L: Ledger>(
             name: &path.name,
             kept: Some(Kept { entry, shared }),
         };
-        found.add_at(alloc, &spot, Some(path), sought, steps)?;
+        found.add_at(alloc, &spot, Some(path), sought, None, steps)?;
     }
     Ok(())
 }
@@ -79,7 +79,7 @@ fn add_near<'a, L: Ledger>(
 {
     let nearer = by.over(near);
     let spot = Spot::far(&nearer, name);
-    found.add_at(alloc, &spot, None, sought, steps)
+    found.add_at(alloc, &spot, None, sought, None, steps)
 }
 
 // Adds what is found at all names along a chain.

@@ -1,5 +1,5 @@
 //! What a walk gathers.
-ghost use Rattle.std.specs.Prelude.{◌≡◌, ◌+◌, None, IfOk, IfSome, OnOk, take};
+ghost use Rattle.std.specs.Prelude.{◌≡◌, ◌+◌, IfOk, IfSome, OnOk, take};
 ghost use Rattle.acap_search.specs.Gathering as rule;
 ghost use Rattle.acap_search.specs.Views.{found_at, path_of};
 
@@ -51,7 +51,8 @@ impl<'a> Gathered<'a> {
     }
 
     /// One more, where something is found: one step. The path is that of the entry's record, where it is at
-    /// hand. Fails for want of memory, and where there are more than can be counted.
+    /// hand; the place is the entry's position in the context that is searched, and none over a dataset. Fails
+    /// for want of memory, and where there are more than can be counted.
     #[tactic(auto, unfolding(crate::specs::Gathering::with_more))]
     pub(crate) fn add_at<R: Records, L: Ledger>(
         &mut self,
@@ -59,26 +60,27 @@ impl<'a> Gathered<'a> {
         spot: &Spot<'_, R>,
         path: Option<&'a Path>,
         sought: &Sought,
+        place: Option<u32>,
         steps: &mut Steps<L>,
     ) -> Result<(), Memory>
         requires { IfSome path (λ path. path.now ≡ path_of spot.now) }
         ensures count { steps.new ≡ steps.old + 1 }
         ensures found { OnOk result
-            (self.new ≡ rule.with_one self.old (found_at sought.now None spot.now)) }
+            (self.new ≡ rule.with_one self.old (found_at sought.now place spot.now)) }
     {
         match self {
             Gathered::Findings(findings) => {
-                if let Some(finding) = finding_at(alloc, spot, path, sought, None, steps)? {
+                if let Some(finding) = finding_at(alloc, spot, path, sought, place, steps)? {
                     findings.push(finding)?;
                 }
             }
             Gathered::Stands(stands) => {
-                if let Some(stand) = stand_at(alloc, spot, path, sought, steps)? {
+                if let Some(stand) = stand_at(alloc, spot, path, sought, place, steps)? {
                     stands.push(stand)?;
                 }
             }
             Gathered::First(told) => {
-                if is_found(spot, sought, None, steps) {
+                if is_found(spot, sought, place, steps) {
                     told.add(alloc, spot, sought)?;
                 }
             }

@@ -3,13 +3,14 @@ ghost use Rattle.std.specs.Prelude.{◌≡◌, ◌↔◌, ◌+◌, IfOk, IsTrue,
 ghost use Rattle.std.specs.List.{Contains};
 ghost use Rattle.std.specs.Option.{option_copied};
 ghost use Rattle.acap_inherit.specs.Records.{record_at};
+ghost use Rattle.acap_search.specs.Gathering.{with_one};
 ghost use Rattle.acap_search.specs.Grounds.{IsGroundOf};
 ghost use Rattle.acap_search.specs.Views.{found_at, match_at, spot_in};
 ghost use Rattle.acap_search.specs.Walks as walks;
 
 use crate::dataset_walk::base_of;
-use crate::finding::Finding;
 use crate::front::Front;
+use crate::gathered::Gathered;
 use crate::kept::Kept;
 use crate::near::Near;
 use crate::plain::share_rights;
@@ -18,9 +19,9 @@ use crate::quest::Quest;
 use crate::scope::looks_in;
 use crate::shelf::Shelf;
 use crate::spot::Spot;
-use crate::tuples::{finding_at, tell_row};
+use crate::tuples::tell_row;
 use crate::viewer::Viewer;
-use acap_entries::{Dataset, Memory, Path, Record, Records, Row, Steps, Tree};
+use acap_entries::{Dataset, Memory, Path, Record, Records, Row, Steps, Tree, is_same};
 use acap_inherit::chain_unless;
 use acap_rights::SharedRights;
 use std::alloc::Global;
@@ -105,7 +106,7 @@ impl<'a> Ground<'a> {
         ensures made { OnOk result (IsGroundOf search.now self.new) }
         ensures at { OnOk result (self.new.view.dataset ≡ dataset.now) }
     {
-        if self.by.dataset.as_slice() != dataset.as_slice() {
+        if !is_same(self.by.dataset.as_slice(), dataset.as_slice()) {
             *self = Ground::at(alloc, search, dataset)?;
         }
         Ok(())
@@ -118,20 +119,23 @@ impl<'a> Ground<'a> {
         self.is_searched
     }
 
-    // What a search makes of an entry of it whose record is at hand, if there is one: one step.
-    fn find_with<L: Ledger>(
+    // Adds what a search makes of an entry of it whose record is at hand, if there is one: one step.
+    fn add_with<L: Ledger>(
         &self,
         alloc: Global,
         path: &'a Path,
         entry: Option<&'a Record>,
         sought: &Sought,
         place: Option<u32>,
+        found: &mut Gathered<'a>,
         steps: &mut Steps<L>,
-    ) -> Result<Option<Finding<'a>>, Memory>
+    ) -> Result<(), Memory>
         requires here { self.now.view.dataset ≡ path.now.dataset }
-        requires entry { option_copied entry ≡ record_at self.now.view.records self.now.view.dataset path.now.name }
+        requires entry { option_copied entry
+            ≡ record_at self.now.view.records self.now.view.dataset path.now.name }
         ensures count { steps.new ≡ steps.old + 1 }
-        ensures made { IfOk result (λ made. made ≡ found_at sought.now place (spot_in self.now.view path.now.name)) }
+        ensures found { OnOk result (found.new
+            ≡ with_one found.old (found_at sought.now place (spot_in self.now.view path.now.name))) }
     {
         if let Some(shared) = &self.shared
             && let Some(entry) = entry
@@ -141,30 +145,32 @@ impl<'a> Ground<'a> {
                 name: &path.name,
                 kept: Some(Kept { entry, shared }),
             };
-            return finding_at(alloc, &spot, Some(path), sought, place, steps);
+            return found.add_at(alloc, &spot, Some(path), sought, place, steps);
         }
         let near = Near::new(self.by.records, self.own, self.base, path.name.as_slice());
         let nearer = self.by.over(&near);
         let spot = Spot::far(&nearer, &path.name);
-        finding_at(alloc, &spot, Some(path), sought, place, steps)
+        found.add_at(alloc, &spot, Some(path), sought, place, steps)
     }
 
-    /// What a search makes of an entry of it: one step.
-    pub(crate) fn find<L: Ledger>(
+    /// Adds what a search makes of an entry of it: one step. Fails for want of memory, and where there are more than can be counted.
+    pub(crate) fn add<L: Ledger>(
         &mut self,
         alloc: Global,
         path: &'a Path,
         sought: &Sought,
         place: Option<u32>,
+        found: &mut Gathered<'a>,
         steps: &mut Steps<L>,
-    ) -> Result<Option<Finding<'a>>, Memory>
+    ) -> Result<(), Memory>
         requires here { self.old.view.dataset ≡ path.now.dataset }
         ensures same { self.new ≡ self.old }
         ensures count { steps.new ≡ steps.old + 1 }
-        ensures made { IfOk result (λ made. made ≡ found_at sought.now place (spot_in self.old.view path.now.name)) }
+        ensures found { OnOk result (found.new
+            ≡ with_one found.old (found_at sought.now place (spot_in self.old.view path.now.name))) }
     {
         let entry = self.shelf.find(&path.name);
-        self.find_with(alloc, path, entry, sought, place, steps)
+        self.add_with(alloc, path, entry, sought, place, found, steps)
     }
 
     /// What is told of an entry of it. Fails only for want of memory.

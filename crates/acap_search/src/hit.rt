@@ -1,9 +1,8 @@
 //! What a search found.
-ghost use Rattle.std.specs.Prelude.{◌≡◌, ◌↔◌, IsTrue, IfOk, take, map as each};
+ghost use Rattle.std.specs.Prelude.{◌≡◌, ◌↔◌, IsTrue};
 
 use crate::rank::SortPlaces;
 use acap_entries::{Copying, Memory, Path, Row, Sequence};
-use std::alloc::Global;
 use std::marker::Model;
 
 /// An entry that a search found: where it is, where it stands for SORT, and what is told of it (RFC 2244 section 6.4.1). It is
@@ -65,30 +64,10 @@ impl Hit {
     {
         &self.row
     }
-
-    /// What is told of it, in the memory that it has.
-    pub fn into_row(self) -> Row
-        ensures { result ≡ self.row }
-    {
-        self.row
-    }
 }
 
 impl Copying for Hit {
     fn copy(&self) -> Result<Hit, Memory> {
         self.clone()
     }
-}
-
-/// What is told of the first hits, so many or all, each row in the memory that it has. Fails only for want of memory.
-pub fn first_rows(alloc: Global, hits: Hits, most: usize) -> Result<Sequence<Row>, Memory>
-    ensures { IfOk result (λ rows. rows ≡ each (λ hit. hit.row) (take most hits)) }
-{
-    let mut hits = hits.into_vec();
-    hits.truncate(most);
-    let mut rows = Vec::with_capacity(alloc, hits.len())?;
-    for hit in hits {
-        rows.push(hit.into_row())?;
-    }
-    Ok(Sequence::from_vec(rows))
 }

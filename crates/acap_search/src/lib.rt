@@ -49,7 +49,7 @@ pub use acap_entries::Row;
 pub use context::within;
 pub use context_laws::{context_examples, hit_law, within_law};
 pub use cutting::{Cut, cut_by};
-pub use hit::{Hit, Hits, first_rows};
+pub use hit::{Hit, Hits};
 pub use laws::{
     acl_law, fresh_law, key_examples, limit_examples, name_law, once_law, order_examples,
     place_law, row_examples, scope_examples, scope_law, seen_law, sight_examples, sight_law,
@@ -66,6 +66,6 @@ pub use searching::fresh;
 pub use shelf::Shelf;
 pub use showing::Showing;
 pub use surveyor::Surveyor;
-pub use telling::{Excerpt, tell};
+pub use telling::{Excerpt, tell, tell_within};
 pub use tuples::row_of;
 pub use viewer::Viewer;

@@ -1,17 +1,22 @@
 //! What a search tells.
+ghost use Rattle.std.specs.Prelude.{◌≡◌, ◌≤◌, IfOk, length};
 ghost use Rattle.acap_search.specs.Counting.{IsCounted, paths_count};
 ghost use Rattle.acap_search.specs.Cutting.{IsExcerpt, IsWished};
 ghost use Rattle.acap_search.specs.Fresh.{IsAnswer};
+ghost use Rattle.acap_search.specs.Gathering as rule;
+ghost use Rattle.acap_search.specs.Within.{IsWithin, context_shown};
 
+use crate::context::answer_within;
 use crate::cutting::{cut_by, most_told};
-use crate::gathered::tell_first;
+use crate::gathered::{Gathered, tell_first};
 use crate::query::Query;
 use crate::quest::Quest;
 use crate::refusal::SearchRefusal;
 use crate::searching::answer;
+use crate::showing::Showing;
 use crate::wish::Wish;
 use acap_commands::Limit;
-use acap_entries::{Row, Sequence, Steps, Tree, UserName};
+use acap_entries::{Memory, Row, Sequence, Steps, Tree, UserName};
 use acap_rights::Realm;
 use std::alloc::Global;
 use std::sync::ledger::Ledger;
@@ -37,6 +42,24 @@ fn wished(limit: Option<Limit>, count: usize) -> Option<Limit>
     }
 }
 
+// What is told of what is gathered, of which LIMIT may keep some back.
+fn excerpt_of(
+    alloc: Global,
+    search: &Quest<'_>,
+    limit: Option<Limit>,
+    found: Gathered<'_>,
+) -> Result<Excerpt, Memory>
+    ensures told { IfOk result (λ excerpt. excerpt ≡ rule.excerpt_in search.now limit found.entry) }
+    ensures count { rule.count_of found.entry ≤ 18_446_744_073_709_551_615 }
+{
+    let cut = cut_by(limit, found.count());
+    let rows = tell_first(alloc, search, found, cut.told)?;
+    Ok(Excerpt {
+        rows,
+        total: cut.total,
+    })
+}
+
 /// What a SEARCH over a dataset tells: the rows of what `fresh` finds, of which LIMIT may keep some back. It is refused as
 /// `fresh` is, and counts as `fresh` does. Takes less memory than the hits would.
 pub fn tell<L: Ledger>(
@@ -54,18 +77,53 @@ pub fn tell<L: Ledger>(
     let wish = Wish::First(wished(limit, tree.len()));
     match answer(alloc, tree, realm, user, query, wish, steps) {
         Ok(found) => {
-            let cut = cut_by(limit, found.count());
             let search = Quest {
                 tree,
                 realm,
                 user,
                 sought: &query.sought,
             };
-            match tell_first(alloc, &search, found, cut.told) {
-                Ok(rows) => Ok(Excerpt {
-                    rows,
-                    total: cut.total,
-                }),
+            match excerpt_of(alloc, &search, limit, found) {
+                Ok(excerpt) => Ok(excerpt),
+                Err(_) => Err(SearchRefusal::Memory),
+            }
+        }
+        Err(refusal) => Err(refusal),
+    }
+}
+
+/// What a SEARCH over a context tells: the rows of what `within` finds, of which LIMIT may keep some back. It is refused as `within`
+/// is, and counts as `within` does. Takes less memory than the hits would.
+pub fn tell_within<'a, L: Ledger>(
+    alloc: Global,
+    tree: &'a Tree,
+    realm: &'a Realm,
+    user: &'a UserName,
+    query: &'a Query,
+    context: Showing<'a>,
+    limit: Option<Limit>,
+    steps: &mut Steps<L>,
+) -> Result<Excerpt, SearchRefusal>
+    ensures count { IsCounted result steps.old steps.new (length context.entry.hits.now) }
+    ensures told { IsWithin tree.now.store.records realm.now user.now query.now (context_shown context.entry)
+        (IsExcerpt limit) result }
+{
+    let wish = Wish::First(wished(limit, context.hits.len()));
+    let showing = Showing {
+        hits: context.hits,
+        told: context.told,
+        enumerated: context.enumerated,
+    };
+    match answer_within(alloc, tree, realm, user, query, showing, wish, steps) {
+        Ok(found) => {
+            let search = Quest {
+                tree,
+                realm,
+                user,
+                sought: &query.sought,
+            };
+            match excerpt_of(alloc, &search, limit, found) {
+                Ok(excerpt) => Ok(excerpt),
                 Err(_) => Err(SearchRefusal::Memory),
             }
         }

@@ -1,5 +1,5 @@
 //! What a search makes of an entry.
-ghost use Rattle.std.specs.Prelude.{◌≡◌, ◌+◌, ◌&&◌, None, IfOk, IfSome};
+ghost use Rattle.std.specs.Prelude.{◌≡◌, ◌+◌, ◌&&◌, IfOk, IfSome};
 ghost use Rattle.std.specs.Option.{option_map};
 ghost use Rattle.acap_search.specs.Keys.{holds};
 ghost use Rattle.acap_search.specs.Lying.{path_in, places_on, untold};
@@ -151,14 +151,15 @@ pub(crate) fn stand_at<'p, R: Records, L: Ledger>(
     spot: &Spot<'_, R>,
     path: Option<&'p Path>,
     sought: &Sought,
+    place: Option<u32>,
     steps: &mut Steps<L>,
 ) -> Result<Option<Stand<'p>>, Memory>
     requires { IfSome path (λ path. path.now ≡ path_of spot.now) }
     ensures count { steps.new ≡ steps.old + 1 }
     ensures made { IfOk result
-        (λ stand. stand ≡ option_map untold (found_at sought.now None spot.now)) }
+        (λ stand. stand ≡ option_map untold (found_at sought.now place spot.now)) }
 {
-    if !is_found(spot, sought, None, steps) {
+    if !is_found(spot, sought, place, steps) {
         return Ok(None);
     }
     Ok(Some(stand_of(alloc, spot, path, sought)?))

@@ -1,0 +1,4 @@
+use Rattle.acap_context_tests.proofs.searched.searches_hits.Given as goal
+
+abbrev pub ghosts-trouble : goal.ghosts-trouble
+ghosts-trouble g a = record { name = a.blank.name; parts = a.blank.parts }
