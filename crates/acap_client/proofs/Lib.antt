@@ -9,3 +9,7 @@ pub mod FirstLines
 pub mod Written
 pub mod Each
 pub mod WholeLines
+pub mod UnderNames
+pub mod Placed
+pub mod Arranged
+pub mod OneOfMany

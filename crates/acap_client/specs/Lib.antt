@@ -13,3 +13,8 @@ pub mod Parts
 pub mod Login
 pub mod Following
 pub mod FollowingExamples
+pub mod Codes
+pub mod Placing
+pub mod Keeping
+pub mod Wishes
+pub mod Followed

@@ -26,18 +26,18 @@ pub(crate) fn all_digits(octets: &[u8]) -> bool
 }
 
 /// The number that decimal digits stand for, however many they are, if it is at most this.
-pub(crate) fn value_within(digits: &[u8], most: u32) -> Option<u32>
+pub(crate) fn value_within(digits: &[u8], most: usize) -> Option<usize>
     ensures some { IfSome result (λ n. (n ≡ value_of digits.now) × (n ≤ most)) }
     ensures none { IfNone result (most < value_of digits.now) }
 {
-    let mut count: u64 = 0;
+    let mut count: u128 = 0;
     for digit in digits {
-        count = 10 * count + u64::from(digit.saturating_sub(b'0'));
-        if count > u64::from(most) {
+        count = 10 * count + u128::from(digit.saturating_sub(b'0'));
+        if count > most as u128 {
             return None;
         }
     }
-    Some(count as u32)
+    Some(count as usize)
 }
 
 /// What the digits of a mark say, where the number may be so great.
@@ -47,8 +47,8 @@ pub(crate) fn count_within(digits: &[u8], most: u32) -> Count
     if digits.is_empty() || !all_digits(digits) {
         return Count::Nothing;
     }
-    match value_within(digits, most) {
-        Some(count) => Count::Is(count),
+    match value_within(digits, most as usize) {
+        Some(count) => Count::Is(count as u32),
         None => Count::TooLarge,
     }
 }

@@ -1,11 +1,13 @@
 //! The data of a line, read one by one.
 
-ghost use Rattle.std.specs.Prelude.{◌≡◌, option_map};
+ghost use Rattle.std.specs.Prelude.{◌≡◌, option_map, IfOk};
 ghost use Rattle.acap_grammar.specs.Lines.{group};
 ghost use Rattle.acap_client.specs.Data.{data_of};
 ghost use Rattle.acap_client.specs.Arguments.{data_in, are_none, word_at, text_at, group_at, outside};
 
 use crate::token::Token;
+use acap_entries::{Copying, Memory};
+use std::alloc::Global;
 
 /// Data of a line that are left to read (RFC 2244 section 2.2): all of them, or those of a parenthesis.
 #[derive(Clone, Copy)]
@@ -83,5 +85,16 @@ impl<'a> Data<'a> {
             }
             _ => None,
         }
+    }
+
+    /// Tokens of their own that stand for the same data. Fails only for want of memory.
+    pub(crate) fn copy_tokens(&self, alloc: Global) -> Result<Vec<Token>, Memory>
+        ensures { IfOk result (λ made. data_of made.items ≡ data_in self.now) }
+    {
+        let mut made = Vec::with_capacity(alloc, self.tokens.len())?;
+        for token in self.tokens {
+            made.push(token.copy()?)?;
+        }
+        Ok(made)
     }
 }

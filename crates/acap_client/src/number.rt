@@ -2,6 +2,7 @@
 
 ghost use Rattle.std.specs.Prelude.{◌≡◌, ◌<◌, ◌≤◌, IfSome, IfNone};
 ghost use Rattle.acap_client.specs.Arguments.{value_in};
+ghost use Rattle.acap_client.specs.Placing.{index_within};
 
 use crate::counting::value_within;
 
@@ -17,6 +18,17 @@ impl<'a> Number<'a> {
         ensures some { IfSome result (λ n. (n ≡ value_in self.now) × (n ≤ most)) }
         ensures none { IfNone result (most < value_in self.now) }
     {
-        value_within(self.digits, most)
+        let number = value_within(self.digits, most as usize)?;
+        Some(number as u32)
+    }
+
+    /// Where a row stands at this position, which is counted from 1, if so many rows have one.
+    pub(crate) fn index_within(&self, len: usize) -> Option<usize>
+        ensures { result ≡ index_within (value_in self.now) len }
+    {
+        match value_within(self.digits, len) {
+            None | Some(0) => None,
+            Some(position) => Some(position - 1),
+        }
     }
 }

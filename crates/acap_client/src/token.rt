@@ -1,9 +1,9 @@
 //! A token of a line from the server.
 
-use acap_entries::Octets;
+use acap_entries::{Copying, Memory, Octets};
 
 /// A token of a line from the server (RFC 2244 section 2.2).
-#[derive(Drop)]
+#[derive(Clone, Drop)]
 pub enum Token {
     /// A word, as `OK`, `NIL` or a number.
     Word(Octets),
@@ -13,4 +13,10 @@ pub enum Token {
     Open,
     /// `)`
     Close,
+}
+
+impl Copying for Token {
+    fn copy(&self) -> Result<Token, Memory> {
+        self.clone()
+    }
 }

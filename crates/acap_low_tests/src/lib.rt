@@ -5,6 +5,8 @@
 #[cfg(test)]
 mod client;
 #[cfg(test)]
+mod following;
+#[cfg(test)]
 mod homes;
 #[cfg(test)]
 mod lexer;

@@ -2,9 +2,9 @@ use Rattle.std.proofs.Common.{◌<◌, ◌+◌, ◌-◌, ◌*◌, arith, slice_i
 use Rattle.acap_client.proofs.Numbers.{too_large, ends}
 use Rattle.acap_client.proofs.counting.value_within.Goals as goal
 
-pub returns-then-count-from : goal.returns-then-count-from
-returns-then-count-from c =
-    let large : c.args.most < 10 * c.loop-digit.count + (slice_index c.args.digits.now c.loop-digit.digit-index - 48) = omega (arith, c.saturating_sub.ensures, c.from.ensures, c.from-in-loop-digit.ensures) in
+pub returns-then-count-most : goal.returns-then-count-most
+returns-then-count-most c =
+    let large : c.args.most < 10 * c.loop-digit.count + (slice_index c.args.digits.now c.loop-digit.digit-index - 48) = omega (arith, c.saturating_sub.ensures, c.from.ensures, c.if-count-most.true) in
     record { some = tt; none = too_large _ _ _ _ c.loop-digit-test.true c.loop-digit.invariant large }
 
 pub returns : goal.returns

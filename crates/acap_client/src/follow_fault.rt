@@ -1,0 +1,22 @@
+//! Why a follower doesn't go on with a line.
+ghost use Rattle.acap_client.specs.declared.follow_fault.FollowFault.TheVariants as fault;
+ghost use Rattle.std.specs.Prelude.{◌≡◌};
+
+use acap_entries::Memory;
+
+/// Why a follower doesn't go on with a line. What it holds stays.
+#[derive(Clone, Copy)]
+pub enum FollowFault<'a> {
+    /// The line doesn't fit what is held of the context of this name, or that isn't held or was freed.
+    Misfit(&'a [u8]),
+    /// Memory was refused.
+    Memory,
+}
+
+impl<'a> From<Memory> for FollowFault<'a> {
+    ghost from_gives = { λ _ e. e ≡ fault.Memory };
+
+    fn from(_error: Memory) -> FollowFault<'a> {
+        FollowFault::Memory
+    }
+}
