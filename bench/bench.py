@@ -10,8 +10,9 @@ the ratio of the first to the second. With two programs their outputs are compar
 
 With --contexts the rows of contexts are measured instead. A line has how often the operation takes what another takes, in
 instructions where valgrind is at hand and in time, and the bound that is to be kept. After these come commands that hold
-everybody up, in milliseconds of processor time. S is a STORE of one item of an
-existing entry, at as many entries, without any context. OTHER, of before contexts were served, has a row of S alone.
+everybody up, in milliseconds of processor time. S is a STORE of one item of an existing entry, at as many entries, without
+any context: in time that of the same run, in instructions 17,437, which it took when the bounds were set (22,045 by a
+script). OTHER, of before contexts were served, has a row of S alone.
 
     --rounds N     how many rounds each input is run (5)
     --only WORD    only the inputs whose names have the word
@@ -31,6 +32,10 @@ import tempfile
 import typing
 
 USER = "joe"
+
+# Instructions of a STORE of one item, through a pipe and by a script, when the bounds of the rows of contexts were set: the unit S of
+# what is counted. In time it is such a STORE of the same run.
+STORE_COUNTS = {"S": 17_437, "S a notice": 17_437, "S by a script": 22_045}
 PIPE, SCRIPT = ("pipe", USER), ("script",)
 
 
@@ -281,11 +286,11 @@ def time_rows():
 
 def store_rows():
     stored = plain(10_000)
-    yield "STORE of a shown value, 20 contexts", watched(10_000), stored, [("S", 1, 18), ("S a notice", 20, 0.9)]
-    yield "the same, SORT by a number", watched(10_000, NUMBERED), stored, [("S", 1, 40)]
-    yield "STORE of new entries, 20 contexts", watched_growth(10_000), stored, [("S", 1, 19)]
-    yield "STORE to what 50 datasets inherit, 1,000 entries", inherited(1000), plain(1000), [("S", 1, 32)]
-    yield "STORE beside 310 contexts of other datasets", beside_others(10_000, 310), beside_others(10_000, 0), [("S", 1, 2)]
+    yield "STORE of a shown value, 20 contexts", watched(10_000), stored, [("S", 1, 14), ("S a notice", 20, 0.7)]
+    yield "the same, SORT by a number", watched(10_000, NUMBERED), stored, [("S", 1, 28)]
+    yield "STORE of new entries, 20 contexts", watched_growth(10_000), stored, [("S", 1, 11)]
+    yield "STORE to what 50 datasets inherit, 1,000 entries", inherited(1000), plain(1000), [("S", 1, 36)]
+    yield "STORE beside 310 contexts of other datasets", beside_others(10_000, 310), beside_others(10_000, 0), [("S by a script", 1, 1.3)]
 
 
 def size_rows(large):
@@ -298,8 +303,9 @@ def size_rows(large):
 def quiet_rows():
     """Nothing waits in the context."""
     prepared = filled(10_000) + lines([make("c")])
-    noop, count = lines(["NOOP"] * 20_000), 20_000
-    yield "UPDATECONTEXT, nothing waits", Work(PIPE, prepared, lines([update("c")] * count), count), Work(PIPE, prepared, noop, count), [("NOOPs", 1, 2)]
+    noop, asked, count = lines(["NOOP"] * 20_000), lines([f'MYRIGHTS ("{DATASET}")'] * 20_000), 20_000
+    works = (Work(PIPE, prepared, measured, count) for measured in (lines([update("c")] * count), asked))
+    yield "UPDATECONTEXT, nothing waits", *works, [("MYRIGHTS", 1, 1.3)]
     prepared = b"enter 1 joe\n" + sent(1, prepared)
     yield "drain, nothing waits", Work(SCRIPT, prepared, b"drain 1\n" * count, count), Work(SCRIPT, prepared, sent(1, noop), count), [("NOOPs", 1, 2)]
 
@@ -309,7 +315,7 @@ def search_rows():
     for name, more in (("MAKECONTEXT NOTIFY", ""), ("MAKECONTEXT ENUMERATE NOTIFY", "ENUMERATE ")):
         made = lines(make(f"c{k}", enumerate_=more) for k in range(10))
         yield f"{name} of 10,000", searched._replace(measured=made), searched, [("SEARCHes", 1, 1.6)]
-    for name, waiting, bound in (("nothing", 0, 1.3), ("4,096 notices", 4096, 4)):
+    for name, waiting, bound in (("nothing", 0, 1.2), ("4,096 notices", 4096, 4)):
         prepared = filled(10_000) + lines([make("c")]) + lines(changes(waiting, 10_000))
         over = Work(PIPE, prepared, lines([search("c")] * 10), 10)
         yield f"SEARCH over a context of 10,000, {name} waiting", over, over._replace(measured=searched.measured), [("SEARCHes", 1, bound)]
@@ -442,7 +448,8 @@ def measure_context_rows(programs, folder, given):
             continue
         (counts,), (times,) = one_program.costs([work, beside])
         for unit, parts, bound in bounds:
-            shown_bound(name, counts and counts[0] / counts[1] / parts, times[0] / times[1] / parts, unit, bound)
+            one = counts and STORE_COUNTS.get(unit, counts[1])
+            shown_bound(name, counts and counts[0] / one / parts, times[0] / times[1] / parts, unit, bound)
         microseconds = " and ".join(f"{it * 1e6:,.2f} us" for it in times)
         told = " and ".join(f"{it:,.0f}" for it in counts) + " instructions, " if counts else ""
         print(f"    {told}{microseconds}", flush=True)
