@@ -78,12 +78,13 @@ impl<'a> Shelf<'a> {
         let tree = self.tree;
         let dataset = self.dataset;
         let next = first_from(tree, dataset, self.next, &mut self.others, name);
-        self.next = next;
         if let Some((path, record)) = next
             && path.name == *name
         {
+            self.next = None;
             return Some(record);
         }
+        self.next = next;
         tree.find(dataset.as_slice(), name.as_slice())
     }
 }
