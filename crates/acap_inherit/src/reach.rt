@@ -1,5 +1,5 @@
 //! In which datasets a change touches something, asked dataset by dataset.
-ghost use Rattle.std.specs.Prelude.{◌≡◌, ◌++◌, IfOk, OnOk, map as each};
+ghost use Rattle.std.specs.Prelude.{◌≡◌, ◌++◌, false, IfOk, OnOk, map as each};
 ghost use Rattle.std.specs.List.{flat_map};
 ghost use Rattle.acap_inherit.specs.Index.{IsIndexOf};
 ghost use Rattle.acap_inherit.specs.Leaving.{in_ahead};
@@ -96,6 +96,17 @@ impl<'a> Reach<'a> {
             return true;
         }
         self.inherited && self.is_written_along(&chain(self.tree, dataset))
+    }
+
+    /// Whether the change may touch something in a dataset: a record is put or removed there, or some dataset inherits
+    /// from one where that is so. No chain is looked up, and it takes no memory.
+    pub fn may_have(&self, dataset: &Dataset) -> bool
+        ensures { result ≡ false → rule.SaysWhether self.now dataset.now false }
+    {
+        if is_known(self.written.as_slice(), dataset.as_slice()) {
+            return true;
+        }
+        self.inherited
     }
 
     /// Whether the change touches something in a dataset: the dataset exists afterwards, and of the chain

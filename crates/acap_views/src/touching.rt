@@ -1,5 +1,5 @@
 //! Which entries that a change touches a search looks at.
-ghost use Rattle.std.specs.Prelude.{◌≡◌, IfOk, IfSome};
+ghost use Rattle.std.specs.Prelude.{◌≡◌, false, IfOk, IfSome};
 ghost use Rattle.acap_views.specs.Touching as rule;
 
 use crate::ahead::Ahead;
@@ -14,6 +14,13 @@ pub(crate) fn is_touched_in(ahead: &Ahead<'_, '_>, dataset: &Dataset) -> bool
     ensures { result ≡ rule.is_touched_in ahead.now dataset.now }
 {
     ahead.reach.has(dataset)
+}
+
+// Whether a change may touch something in a dataset: no chain is looked up.
+fn may_touch_in(ahead: &Ahead<'_, '_>, dataset: &Dataset) -> bool
+    ensures { result ≡ false → rule.is_touched_in ahead.now dataset.now ≡ false }
+{
+    ahead.reach.may_have(dataset)
 }
 
 // The datasets in which something may be touched.
@@ -135,7 +142,7 @@ fn in_dataset<'a>(
     if let Some(paths) = known_paths(ahead, sought, noted) {
         return paths.copy();
     }
-    if is_touched_in(ahead, &sought.dataset) {
+    if may_touch_in(ahead, &sought.dataset) {
         return note_paths(alloc, ahead, sought, noted);
     }
     Ok(Paths::new(alloc))
