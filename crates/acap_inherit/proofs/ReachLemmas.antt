@@ -18,7 +18,7 @@ use Rattle.acap_entries.specs.declared.path.Path.{Path}
 use Rattle.acap_inherit.specs.Chains.{base_at, onward, chain_within, chain_of}
 use Rattle.acap_inherit.specs.Index.{link_cmp, is_base, IsIndexOf, heirs_in}
 use Rattle.acap_inherit.specs.Reaching.{lies_in, touched_among, is_any, is_inherited, is_known, is_written_in, AreWritten, is_any_inherited, writes_in, Notes}
-use Rattle.acap_inherit.specs.Touched.{by_octets, octets_total, in_order, touched_paths, datasets_touched}
+use Rattle.acap_inherit.specs.Touched.{by_octets, octets_total, in_order, ordered_among, touched_paths, datasets_touched, touched_at}
 use Rattle.acap_inherit.specs.Touching.{changes, datasets_written, datasets_reached, paths_in, paths_found}
 use Rattle.acap_inherit.specs.declared.link.Link.{Link}
 use Rattle.acap_inherit.proofs.FoundLemmas.{any_among, is_in, any_heirs, wrote, reached_datasets, wrote_at, or_false, in_datasets, touched_reached, name_turned, one_kept}
@@ -202,3 +202,20 @@ all_noted written old known i d le h =
     sym (or_false (is_known known d))
     ∙ (ap (λ es. is_known known d || list_any (λ v. writes_in old v d) es) (sym (drop_all i (map.entries written) le))
     ∙ (h ∙ all_written written old d))
+
+-- ---- where nothing is touched in a dataset
+
+any_there : (d : List ℕ) (ps : List Path) → list_any (λ (p : Path). octets_eq d p.dataset) ps ≡ list_any (octets_eq d) (ordered_among octets_cmp (each (λ (p : Path). p.dataset) ps) [])
+any_there d ps =
+    (λ i. list_any (λ (p : Path). texts_ties d p.dataset i) ps)
+    ∙ (sym (any_among octets_cmp nat_list_cmp_total d (each (λ (p : Path). p.dataset) ps) []
+    ∙ (or_false _ ∙ any_each (is_name d) (λ (p : Path). p.dataset) ps))
+    ∙ (λ i. list_any (λ m. sym (texts_ties d m) i) (ordered_among octets_cmp (each (λ (p : Path). p.dataset) ps) [])))
+
+none_there : (p : Path → Bool) (ps : List Path) → list_any p ps ≡ false → filter p ps ≡ []
+none_there p [] e = refl
+none_there p (x ∷ ps) e = rw (first_no (p x) _ e) (none_there p ps (second_no (p x) _ e))
+
+pub none_touched : (written : Written) (old new : Stored) (d : List ℕ) → false ≡ list_any (octets_eq d) (datasets_touched written old new) → [] ≡ touched_at written old new d
+none_touched written old new d e =
+    sym (none_there (λ (p : Path). octets_eq d p.dataset) (touched_paths written old new) (any_there d (touched_paths written old new) ∙ sym e))

@@ -7,7 +7,8 @@ use Rattle.acap_entries.specs.declared.change.Change.{Change}
 use Rattle.acap_entries.specs.declared.path.Path.{Path}
 use Rattle.acap_inherit.specs.Index.{IsIndexOf, links_written, index_with}
 use Rattle.acap_inherit.specs.Touched.{is_written_on, in_order, touched_paths, touched_at}
-use Rattle.acap_inherit.specs.Touching.{paths_along, paths_below, paths_in, paths_stored, paths_written, paths_found, datasets_reached}
+use Rattle.acap_inherit.specs.Touching.{paths_along, paths_below, paths_in, paths_stored, paths_written}
+use Rattle.acap_inherit.specs.Touching.{paths_found, datasets_reached}
 use Rattle.acap_inherit.specs.declared.link.Link.{Link}
 
 -- ---- what public calls answer of each store that the change makes

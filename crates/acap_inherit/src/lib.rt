@@ -36,4 +36,3 @@ pub use prepared::Prepared;
 pub use reach::Reach;
 pub use resolved::Resolved;
 pub use resolving::{entry_exists, lookup, modtime, resolve};
-pub use touching::touched_at;

@@ -2,7 +2,7 @@
 ghost use Rattle.std.specs.Prelude.{◌≡◌, ◌++◌, false, IfOk, OnOk, map as each};
 ghost use Rattle.std.specs.List.{flat_map};
 ghost use Rattle.acap_inherit.specs.Index.{IsIndexOf};
-ghost use Rattle.acap_inherit.specs.Leaving.{in_ahead};
+ghost use Rattle.acap_inherit.specs.Leaving.{AreTouchedAt, in_ahead};
 ghost use Rattle.acap_inherit.specs.Reaching as rule;
 
 use crate::chains::chain;
@@ -11,7 +11,7 @@ use crate::heirs::datasets_reached;
 use crate::lineage::Lineage;
 use crate::reached::{is_any_inherited, is_known, written_datasets};
 use crate::resolved::Resolved;
-use crate::touching::{add_touched, in_order};
+use crate::touching::{add_touched, in_order, touched_at};
 use acap_entries::{After, Boxed, Change, Dataset, Memory, Paths, Ranked, Records, Tree};
 use std::alloc::Global;
 use std::marker::Model;
@@ -98,9 +98,9 @@ impl<'a> Reach<'a> {
         self.inherited && self.is_written_along(&chain(self.tree, dataset))
     }
 
-    /// Whether the change may touch something in a dataset: a record is put or removed there, or some dataset inherits
-    /// from one where that is so. No chain is looked up, and it takes no memory.
-    pub fn may_have(&self, dataset: &Dataset) -> bool
+    // Whether the change may touch something in a dataset: a record is put or removed there, or some dataset
+    // inherits from one where that is so. No chain is looked up.
+    fn may_have(&self, dataset: &Dataset) -> bool
         ensures { result ≡ false → rule.SaysWhether self.now dataset.now false }
     {
         if is_known(self.written.as_slice(), dataset.as_slice()) {
@@ -126,6 +126,17 @@ impl<'a> Reach<'a> {
     {
         let index = self.index;
         datasets_reached(self.tree, self.change, &index.links)
+    }
+
+    /// The paths that the change touches in a dataset, in the order of their names. Looks at the dataset's chains
+    /// alone, and at none where nothing can be touched. Fails only for want of memory.
+    pub fn touched_in(&self, alloc: Global, dataset: &Dataset) -> Result<Paths, Memory>
+        ensures { IfOk result (AreTouchedAt self.now.change self.now.old dataset.now) }
+    {
+        if self.may_have(dataset) {
+            return touched_at(alloc, self.tree, self.change, dataset);
+        }
+        Ok(Paths::new(alloc))
     }
 
     /// The paths that the change touches in some datasets, each once, in the order of their full octets.

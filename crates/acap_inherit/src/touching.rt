@@ -174,9 +174,9 @@ fn paths_at(alloc: Global, tree: &Tree, change: &Change, dataset: &Dataset) -> R
     in_order(found)
 }
 
-/// The paths of one dataset that a change touches, in the order of their names. Looks at the dataset's chains alone, and
-/// fails only for want of memory.
-pub fn touched_at(
+/// The paths of one dataset that a change touches, in the order of their names. Looks at the dataset's chains
+/// alone, and fails only for want of memory.
+pub(crate) fn touched_at(
     alloc: Global,
     tree: &Tree,
     change: &Change,

@@ -1,11 +1,11 @@
 //! Which entries that a change touches a search looks at.
-ghost use Rattle.std.specs.Prelude.{◌≡◌, false, IfOk, IfSome};
+ghost use Rattle.std.specs.Prelude.{◌≡◌, IfOk, IfSome};
+ghost use Rattle.acap_inherit.specs.Leaving.{AreTouchedAt};
 ghost use Rattle.acap_views.specs.Touching as rule;
 
 use crate::ahead::Ahead;
 use crate::noted::{Noted, NotedPaths};
 use acap_entries::{Boxed, Copying, Dataset, Memory, Paths, Ranked};
-use acap_inherit::touched_at;
 use acap_search::{Sought, looks_in};
 use std::alloc::Global;
 
@@ -14,13 +14,6 @@ pub(crate) fn is_touched_in(ahead: &Ahead<'_, '_>, dataset: &Dataset) -> bool
     ensures { result ≡ rule.is_touched_in ahead.now dataset.now }
 {
     ahead.reach.has(dataset)
-}
-
-// Whether a change may touch something in a dataset: no chain is looked up.
-fn may_touch_in(ahead: &Ahead<'_, '_>, dataset: &Dataset) -> bool
-    ensures { result ≡ false → rule.is_touched_in ahead.now dataset.now ≡ false }
-{
-    ahead.reach.may_have(dataset)
 }
 
 // The datasets in which something may be touched.
@@ -108,7 +101,14 @@ fn known_paths<'n>(
     }
 }
 
-// Lists the touched entries of a dataset, and keeps them.
+// The touched entries of a dataset.
+fn touched_in(alloc: Global, ahead: &Ahead<'_, '_>, dataset: &Dataset) -> Result<Paths, Memory>
+    ensures { IfOk result (AreTouchedAt ahead.now.change ahead.now.old dataset.now) }
+{
+    ahead.reach.touched_in(alloc, dataset)
+}
+
+// Lists the touched entries of a dataset, and keeps them if there are any.
 fn note_paths<'a>(
     alloc: Global,
     ahead: &Ahead<'_, '_>,
@@ -119,7 +119,10 @@ fn note_paths<'a>(
     ensures noted { rule.IsNoted ahead.now noted.new }
     ensures paths { IfOk result (rule.AreLookedAt ahead.now sought.now) }
 {
-    let paths = touched_at(alloc, ahead.tree, ahead.change, &sought.dataset)?;
+    let paths = touched_in(alloc, ahead, &sought.dataset)?;
+    if paths.is_empty() {
+        return Ok(paths);
+    }
     let dataset = sought.dataset.as_slice();
     noted.last = Some(NotedPaths {
         dataset,
@@ -142,10 +145,7 @@ fn in_dataset<'a>(
     if let Some(paths) = known_paths(ahead, sought, noted) {
         return paths.copy();
     }
-    if may_touch_in(ahead, &sought.dataset) {
-        return note_paths(alloc, ahead, sought, noted);
-    }
-    Ok(Paths::new(alloc))
+    note_paths(alloc, ahead, sought, noted)
 }
 
 /// The touched entries that a search looks at, in the order of their full octets. Where it looks through one
