@@ -1,9 +1,10 @@
 -- What a follower answers.
-use Rattle.std.specs.Prelude.{bytes_eq, take, drop, length, if◌then◌else◌, ℕ, List, Option, Some, None, Result, Ok, Err}
+use Rattle.std.specs.Prelude.{bytes_eq, take, drop, length, if◌then◌else◌, ℕ, List, Option, Some, None}
+use Rattle.std.specs.Prelude.{Result, Ok, Err}
 use Rattle.std.specs.Borrow.{Bor}
 use Rattle.acap_client.specs.Following.{Followed, Goes, Misfit, freeing}
-use Rattle.acap_client.specs.declared.keep_fault.KeepFault.{KeepFault}
-use Rattle.acap_client.specs.declared.keep_fault.KeepFault.TheVariants as keep
+use Rattle.acap_notices.specs.declared.held_fault.HeldFault.{HeldFault}
+use Rattle.acap_notices.specs.declared.held_fault.HeldFault.TheVariants as keep
 use Rattle.acap_client.specs.declared.follow_fault.FollowFault.{FollowFault}
 use Rattle.acap_client.specs.declared.follow_fault.FollowFault.TheVariants as fault
 
@@ -18,7 +19,7 @@ misfit_in (Err (fault.Misfit context)) = Some context.now
 misfit_in (Err fault.Memory) = None
 
 -- what comes of a context, with its name where it is a misfit
-abbrev pub answered : Result (Unit {0}) KeepFault → Bor (List ℕ) → Result (Unit {0}) FollowFault
+abbrev pub answered : Result (Unit {0}) HeldFault → Bor (List ℕ) → Result (Unit {0}) FollowFault
 answered (Ok done) context = Ok done
 answered (Err keep.Misfit) context = Err (fault.Misfit context)
 answered (Err keep.Memory) context = Err fault.Memory

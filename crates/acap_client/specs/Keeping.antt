@@ -1,13 +1,15 @@
 -- What each line makes of a context and of a command that waits [RFC 2244 sections 3.3, 6.4.1 and 6.5].
-use Rattle.std.specs.Prelude.{◌≡◌, ℕ, true, false, List, [], ◌∷◌, ◌++◌, Option, Some, None, option_map, length, if◌then◌else◌}
+use Rattle.std.specs.Prelude.{◌≡◌, ℕ, true, false, List, [], ◌∷◌, ◌++◌, Option, Some, None, option_map}
+use Rattle.std.specs.Prelude.{length, if◌then◌else◌}
 use Rattle.std.specs.Prelude.{Result, Err}
 use Rattle.std.specs.Option.{option_and_then}
 use Rattle.acap_grammar.specs.Printed.{PrintedRow, PrintedNotice}
 use Rattle.acap_grammar.specs.Printed as printed
 use Rattle.acap_client.specs.Arguments.{data_in, value_in}
-use Rattle.acap_client.specs.Following.{Held, held_as, held_after, Kept, Asked, Making, Freeing, row_of, look_up, put}
-use Rattle.acap_client.specs.declared.keep_fault.KeepFault.{KeepFault}
-use Rattle.acap_client.specs.declared.keep_fault.KeepFault.TheVariants as fault
+use Rattle.acap_client.specs.Following.{Held, held_as, held_after, Kept, Asked, Making, Freeing, row_of}
+use Rattle.acap_client.specs.Following.{look_up, put}
+use Rattle.acap_notices.specs.declared.held_fault.HeldFault.{HeldFault}
+use Rattle.acap_notices.specs.declared.held_fault.HeldFault.TheVariants as fault
 use Rattle.acap_client.specs.declared.note.Note.{Note}
 use Rattle.acap_client.specs.declared.note.Note.TheVariants as note
 
@@ -51,7 +53,7 @@ abbrev pub made_of : Asked → List (List ℕ × Kept) → List (List ℕ × Kep
 made_of (Making make rows) contexts = put make.name (started (held_as make.enumerate rows)) contexts
 made_of (Freeing context) contexts = freed_in context contexts
 
-abbrev pub IsMisfit : {A : Type 0} → Result A KeepFault → Type 0
+abbrev pub IsMisfit : {A : Type 0} → Result A HeldFault → Type 0
 IsMisfit result = result ≡ Err fault.Misfit
 
 -- ---- what a line makes of a command that waits

@@ -46,7 +46,8 @@ pub(crate) fn put(draft: &mut Draft, c: u8, place: Place) -> Result<(), Memory>
     requires free { IsFree place }
     requires draft { IsDraft draft.old }
     ensures client { OnOk result
-        (client_of draft.new ≡ turned (client_of draft.old) (place_of place (draft.old.word.items ++ c ∷ []))) }
+        (let word = draft.old.word.items ++ c ∷ [] in
+        client_of draft.new ≡ turned (client_of draft.old) (place_of place word)) }
     ensures draft { OnOk result (IsDraft draft.new) }
     ensures word { OnOk result (draft.new.word.items ≡ draft.old.word.items ++ c ∷ []) }
 {
@@ -58,7 +59,8 @@ pub(crate) fn put(draft: &mut Draft, c: u8, place: Place) -> Result<(), Memory>
 /// Adds the word that has ended.
 pub(crate) fn add_word(alloc: Global, draft: &mut Draft) -> Result<(), Memory>
     requires { IsDraft draft.old }
-    ensures client { OnOk result (client_of draft.new ≡ added (client_of draft.old) (Word draft.old.word.items)) }
+    ensures client { OnOk result
+        (client_of draft.new ≡ added (client_of draft.old) (Word draft.old.word.items)) }
     ensures draft { OnOk result (IsDraft draft.new) }
     ensures place { OnOk result (draft.new.place ≡ places.Ended) }
 {
@@ -71,7 +73,8 @@ pub(crate) fn add_word(alloc: Global, draft: &mut Draft) -> Result<(), Memory>
 /// Adds the string that has ended.
 pub(crate) fn add_text(alloc: Global, draft: &mut Draft) -> Result<(), Memory>
     requires { IsDraft draft.old }
-    ensures client { OnOk result (client_of draft.new ≡ added (client_of draft.old) (Text draft.old.word.items)) }
+    ensures client { OnOk result
+        (client_of draft.new ≡ added (client_of draft.old) (Text draft.old.word.items)) }
     ensures draft { OnOk result (IsDraft draft.new) }
 {
     let text = mem::replace(&mut draft.word, Vec::new(alloc));

@@ -13,8 +13,8 @@ ghost use Rattle.acap_client.specs.Keeping.{IsMisfit};
 ghost use Rattle.acap_client.specs.Placing.{keyed, by_order};
 
 use crate::data::Data;
-use crate::keep_fault::KeepFault;
 use crate::row::Row;
+use acap_notices::HeldFault;
 use std::alloc::Global;
 use std::cmp::Ordering;
 
@@ -55,7 +55,7 @@ pub(crate) fn add(
     rows: &mut Vec<Row>,
     name: &[u8],
     items: &Data,
-) -> Result<(), KeepFault>
+) -> Result<(), HeldFault>
     requires { InOrder octets_cmp (keyed rows.old.items) }
     ensures ok { OnOk result (printed_map_after (by_order rows.old.items)
         (printed.AddTo 0 (row_of name.now (data_in items.now))) ≡ Some (by_order rows.new.items)) }
@@ -66,7 +66,7 @@ pub(crate) fn add(
 {
     let (at, tied) = place_of(rows.as_slice(), name);
     if tied {
-        return Err(KeepFault::Misfit);
+        return Err(HeldFault::Misfit);
     }
     let row = Row::read(alloc, name, items)?;
     rows.insert(at, row)?;
@@ -75,7 +75,7 @@ pub(crate) fn add(
 
 /// Takes out an entry that is held.
 #[tactic(auto, unfolding(acap_grammar::specs::Printed::printed_map_after))]
-pub(crate) fn remove(rows: &mut Vec<Row>, entry: &[u8]) -> Result<(), KeepFault>
+pub(crate) fn remove(rows: &mut Vec<Row>, entry: &[u8]) -> Result<(), HeldFault>
     requires { InOrder octets_cmp (keyed rows.old.items) }
     ensures ok { OnOk result (printed_map_after (by_order rows.old.items)
         (printed.RemoveFrom entry.now 0) ≡ Some (by_order rows.new.items)) }
@@ -86,7 +86,7 @@ pub(crate) fn remove(rows: &mut Vec<Row>, entry: &[u8]) -> Result<(), KeepFault>
 {
     let (at, tied) = place_of(rows.as_slice(), entry);
     if !tied {
-        return Err(KeepFault::Misfit);
+        return Err(HeldFault::Misfit);
     }
     let _gone = rows.remove(at);
     Ok(())
@@ -99,7 +99,7 @@ pub(crate) fn change(
     rows: &mut Vec<Row>,
     name: &[u8],
     items: &Data,
-) -> Result<(), KeepFault>
+) -> Result<(), HeldFault>
     requires { InOrder octets_cmp (keyed rows.old.items) }
     ensures ok { OnOk result (printed_map_after (by_order rows.old.items)
         (printed.Change 0 0 (row_of name.now (data_in items.now))) ≡ Some (by_order rows.new.items)) }
@@ -110,7 +110,7 @@ pub(crate) fn change(
 {
     let (at, tied) = place_of(rows.as_slice(), name);
     if !tied {
-        return Err(KeepFault::Misfit);
+        return Err(HeldFault::Misfit);
     }
     let row = Row::read(alloc, name, items)?;
     rows[at] = row;

@@ -1,18 +1,19 @@
 //! The contexts that are held, and what a line makes of one of them.
 ghost use Rattle.std.specs.Prelude.{◌≡◌, ◌↔◌, ◌≤◌, ◌<◌, Some, None, [], OnOk, OnErr, vec_len, vec_capacity};
 ghost use Rattle.acap_client.specs.Following as following;
-ghost use Rattle.acap_client.specs.Keeping.{IsMisfit, changed_in, freed_in, noted, kept_after, kept_upto, made_of};
+ghost use Rattle.acap_client.specs.Keeping.{IsMisfit, changed_in, freed_in, noted, kept_after, kept_upto};
+ghost use Rattle.acap_client.specs.Keeping.{made_of};
 ghost use Rattle.acap_client.specs.Keeping.{unplaced};
 
 use crate::asked::Asked;
 use crate::held::Held;
-use crate::keep_fault::KeepFault;
 use crate::kept::Kept;
 use crate::named::{place_of, put_in_room};
 use crate::note::Note;
 use crate::row::Row;
 use crate::wish::Wish;
 use acap_entries::ContextName;
+use acap_notices::HeldFault;
 use std::alloc::Global;
 
 /// A notice of a context. `Misfit` exactly where it doesn't fit, and at a fault nothing has changed.
@@ -21,7 +22,7 @@ pub(crate) fn apply(
     contexts: &mut Vec<(ContextName, Kept)>,
     context: &[u8],
     note: &Note,
-) -> Result<(), KeepFault>
+) -> Result<(), HeldFault>
     ensures ok { OnOk result
         (changed_in (kept_after (noted note.now)) context.now contexts.old.items ≡ Some contexts.new.items) }
     ensures misfit { IsMisfit result ↔
@@ -29,7 +30,7 @@ pub(crate) fn apply(
     ensures err { OnErr result (contexts.new.items ≡ contexts.old.items) }
 {
     let Some(at) = place_of(contexts.as_slice(), context) else {
-        return Err(KeepFault::Misfit);
+        return Err(HeldFault::Misfit);
     };
     contexts[at].1.apply(alloc, note)
 }
@@ -39,13 +40,13 @@ pub(crate) fn apply(
 pub(crate) fn complete(
     contexts: &mut Vec<(ContextName, Kept)>,
     context: &[u8],
-) -> Result<(), KeepFault>
+) -> Result<(), HeldFault>
     ensures ok { OnOk result (changed_in kept_upto context.now contexts.old.items ≡ Some contexts.new.items) }
     ensures misfit { IsMisfit result ↔ (changed_in kept_upto context.now contexts.old.items ≡ None) }
     ensures err { OnErr result (contexts.new.items ≡ contexts.old.items) }
 {
     let Some(at) = place_of(contexts.as_slice(), context) else {
-        return Err(KeepFault::Misfit);
+        return Err(HeldFault::Misfit);
     };
     contexts[at].1.complete()
 }

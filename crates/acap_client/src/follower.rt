@@ -12,7 +12,6 @@ ghost use Rattle.acap_client.specs.Saying.{ending_of, said};
 use crate::asked::Asked;
 use crate::data::Data;
 use crate::follow_fault::FollowFault;
-use crate::keep_fault::KeepFault;
 use crate::kept::Kept;
 use crate::line::{Ending, Line};
 use crate::named::{look_up, take_out};
@@ -20,6 +19,7 @@ use crate::note::Note;
 use crate::{contexts, waiting};
 use acap_commands::{Command, MakeContext};
 use acap_entries::{ContextName, Copying, Label, Memory};
+use acap_notices::HeldFault;
 use std::alloc::Global;
 use std::marker::Model;
 
@@ -47,13 +47,13 @@ impl Model for Follower {
 }
 
 /// What comes of a line of this context.
-fn answer<'a>(done: Result<(), KeepFault>, context: &'a [u8]) -> Result<(), FollowFault<'a>>
+fn answer<'a>(done: Result<(), HeldFault>, context: &'a [u8]) -> Result<(), FollowFault<'a>>
     ensures { result ≡ answered done context.entry }
 {
     match done {
         Ok(()) => Ok(()),
-        Err(KeepFault::Misfit) => Err(FollowFault::Misfit(context)),
-        Err(KeepFault::Memory) => Err(FollowFault::Memory),
+        Err(HeldFault::Misfit) => Err(FollowFault::Misfit(context)),
+        Err(HeldFault::Memory) => Err(FollowFault::Memory),
     }
 }
 

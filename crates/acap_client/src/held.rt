@@ -1,14 +1,15 @@
 //! The rows that are held of a context, whichever its kind.
-ghost use Rattle.std.specs.Prelude.{◌≡◌, ◌↔◌, ◌≤◌, Some, None, [], OnOk, OnErr, length, vec_capacity, if◌then◌else◌};
+ghost use Rattle.std.specs.Prelude.{◌≡◌, ◌↔◌, ◌≤◌, Some, None, [], OnOk, OnErr, length, vec_capacity};
+ghost use Rattle.std.specs.Prelude.{if◌then◌else◌};
 ghost use Rattle.std.specs.Option.{option_copied};
 ghost use Rattle.acap_client.specs.Following.{held_after, held_as};
 ghost use Rattle.acap_client.specs.Keeping.{IsMisfit, noted};
 ghost use Rattle.acap_client.specs.Placing.{is_enumerated, rows_of, row_in};
 
-use crate::keep_fault::KeepFault;
 use crate::note::Note;
 use crate::row::Row;
 use crate::{arranging, by_name, listed};
+use acap_notices::HeldFault;
 use std::alloc::Global;
 use std::marker::Model;
 
@@ -78,7 +79,7 @@ impl Held {
 
     /// Applies a notice. `Misfit` exactly where it doesn't fit what is held. At a fault nothing has changed.
     #[tactic(auto, unfolding(acap_grammar::specs::Printed::printed_map_after))]
-    pub(crate) fn apply(&mut self, alloc: Global, note: &Note) -> Result<(), KeepFault>
+    pub(crate) fn apply(&mut self, alloc: Global, note: &Note) -> Result<(), HeldFault>
         ensures ok { OnOk result (held_after self.old (noted note.now) ≡ Some self.new) }
         ensures misfit { IsMisfit result ↔ (held_after self.old (noted note.now) ≡ None) }
         ensures err { OnErr result (self.new ≡ self.old) }

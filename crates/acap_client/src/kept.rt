@@ -3,8 +3,8 @@ ghost use Rattle.std.specs.Prelude.{◌≡◌, ◌↔◌, Some, None, OnOk, OnEr
 ghost use Rattle.acap_client.specs.Keeping.{IsMisfit, noted, started, freed_kept, kept_after, kept_upto};
 
 use crate::held::Held;
-use crate::keep_fault::KeepFault;
 use crate::note::Note;
+use acap_notices::HeldFault;
 use std::alloc::Global;
 use std::marker::Model;
 
@@ -62,13 +62,13 @@ impl Kept {
 
     /// Applies a notice. `Misfit` exactly where it doesn't fit what is held, or the context was freed. At a fault nothing
     /// has changed.
-    pub(crate) fn apply(&mut self, alloc: Global, note: &Note) -> Result<(), KeepFault>
+    pub(crate) fn apply(&mut self, alloc: Global, note: &Note) -> Result<(), HeldFault>
         ensures ok { OnOk result (kept_after (noted note.now) self.old ≡ Some self.new) }
         ensures misfit { IsMisfit result ↔ (kept_after (noted note.now) self.old ≡ None) }
         ensures err { OnErr result (self.new ≡ self.old) }
     {
         if self.freed {
-            return Err(KeepFault::Misfit);
+            return Err(HeldFault::Misfit);
         }
         self.held.apply(alloc, note)?;
         self.complete = false;
@@ -76,13 +76,13 @@ impl Kept {
     }
 
     /// All changes up to a stamp were sent. `Misfit` exactly where the context was freed, and then nothing has changed.
-    pub(crate) fn complete(&mut self) -> Result<(), KeepFault>
+    pub(crate) fn complete(&mut self) -> Result<(), HeldFault>
         ensures ok { OnOk result (kept_upto self.old ≡ Some self.new) }
         ensures misfit { IsMisfit result ↔ (kept_upto self.old ≡ None) }
         ensures err { OnErr result (self.new ≡ self.old) }
     {
         if self.freed {
-            return Err(KeepFault::Misfit);
+            return Err(HeldFault::Misfit);
         }
         self.complete = true;
         Ok(())

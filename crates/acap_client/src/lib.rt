@@ -18,7 +18,6 @@ mod follower;
 mod heard;
 mod hearing;
 mod held;
-mod keep_fault;
 mod kept;
 mod laws;
 mod line;

@@ -11,9 +11,9 @@ ghost use Rattle.acap_client.specs.Following.{row_of};
 ghost use Rattle.acap_client.specs.Keeping.{IsMisfit};
 
 use crate::data::Data;
-use crate::keep_fault::KeepFault;
 use crate::number::Number;
 use crate::row::Row;
+use acap_notices::HeldFault;
 use std::alloc::Global;
 
 /// The row of an entry, if it is among them.
@@ -61,7 +61,7 @@ pub(crate) fn add(
     position: &Number,
     name: &[u8],
     items: &Data,
-) -> Result<(), KeepFault>
+) -> Result<(), HeldFault>
     ensures ok { OnOk result (printed_list_after rows.old.items
         (printed.AddTo (value_in position.now) (row_of name.now (data_in items.now))) ≡ Some rows.new.items) }
     ensures misfit { IsMisfit result ↔ (printed_list_after rows.old.items
@@ -69,10 +69,10 @@ pub(crate) fn add(
     ensures err { OnErr result (rows.new.items ≡ rows.old.items) }
 {
     if is_held(rows.as_slice(), name) {
-        return Err(KeepFault::Misfit);
+        return Err(HeldFault::Misfit);
     }
     let Some(at) = gap(rows.as_slice(), position) else {
-        return Err(KeepFault::Misfit);
+        return Err(HeldFault::Misfit);
     };
     let row = Row::read(alloc, name, items)?;
     rows.insert(at, row)?;
@@ -81,7 +81,7 @@ pub(crate) fn add(
 
 /// Takes out an entry that stands at a position.
 #[tactic(auto, unfolding(acap_grammar::specs::Printed::printed_list_after))]
-pub(crate) fn remove(rows: &mut Vec<Row>, entry: &[u8], position: &Number) -> Result<(), KeepFault>
+pub(crate) fn remove(rows: &mut Vec<Row>, entry: &[u8], position: &Number) -> Result<(), HeldFault>
     ensures ok { OnOk result (printed_list_after rows.old.items
         (printed.RemoveFrom entry.now (value_in position.now)) ≡ Some rows.new.items) }
     ensures misfit { IsMisfit result ↔ (printed_list_after rows.old.items
@@ -89,7 +89,7 @@ pub(crate) fn remove(rows: &mut Vec<Row>, entry: &[u8], position: &Number) -> Re
     ensures err { OnErr result (rows.new.items ≡ rows.old.items) }
 {
     let Some(at) = stand(rows.as_slice(), entry, position) else {
-        return Err(KeepFault::Misfit);
+        return Err(HeldFault::Misfit);
     };
     let _gone = rows.remove(at);
     Ok(())
@@ -104,7 +104,7 @@ pub(crate) fn change(
     new: &Number,
     name: &[u8],
     items: &Data,
-) -> Result<(), KeepFault>
+) -> Result<(), HeldFault>
     ensures ok { OnOk result (printed_list_after rows.old.items
         (printed.Change (value_in old.now) (value_in new.now) (row_of name.now (data_in items.now)))
         ≡ Some rows.new.items) }
@@ -113,11 +113,11 @@ pub(crate) fn change(
     ensures err { OnErr result (rows.new.items ≡ rows.old.items) }
 {
     let Some(from) = stand(rows.as_slice(), name, old) else {
-        return Err(KeepFault::Misfit);
+        return Err(HeldFault::Misfit);
     };
     // The new position is counted when the entry has been taken out.
     let Some(to) = new.index_within(rows.len()) else {
-        return Err(KeepFault::Misfit);
+        return Err(HeldFault::Misfit);
     };
     let row = Row::read(alloc, name, items)?;
     let _gone = rows.remove(from);

@@ -29,7 +29,8 @@ pub fn answer_line(
     secret: &[u8],
     challenge: &[u8],
 ) -> Result<Vec<u8>, Memory>
-    ensures { IfOk result (λ line. line.items ≡ answer_text (answer_of challenge.now (name.now, secret.now))) }
+    ensures { IfOk result
+        (λ line. line.items ≡ answer_text (answer_of challenge.now (name.now, secret.now))) }
 {
     let text = answer(alloc, name, secret, challenge)?;
     let mut writing = untagged(alloc);

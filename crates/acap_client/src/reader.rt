@@ -14,25 +14,10 @@ use crate::heard::Heard;
 use crate::response::Response;
 use crate::token::Token;
 use acap_entries::Memory;
+use acap_lexer::compact;
 use std::alloc::Global;
 use std::marker::Model;
 use std::mem;
-
-/// Takes a prefix off where it is longer than the rest, so that each octet is moved once at the most for each that is
-/// taken off. Gives the place of the rest.
-fn compact(text: &mut Vec<u8>, start: usize) -> usize
-    requires { start ≤ length text.old.items }
-    ensures rest { drop result text.new.items ≡ drop start text.old.items }
-    ensures within { result ≤ length text.new.items }
-{
-    if start <= text.len() - start {
-        return start;
-    }
-    let left = text.len() - start;
-    text.copy_within(start.., 0);
-    text.truncate(left);
-    0
-}
 
 /// The answer to a line of these tokens.
 fn heard_of(tokens: Vec<Token>) -> Heard

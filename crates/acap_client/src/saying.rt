@@ -1,7 +1,8 @@
 //! What a line says, by its words.
 
 ghost use Rattle.std.specs.Prelude.{◌≡◌, Some, bytes_eq, option_map};
-ghost use Rattle.acap_grammar.specs.Lines.{alone, coded, texted, texts_of, of_entry, added_to, removed_from, changed};
+ghost use Rattle.acap_grammar.specs.Lines.{alone, coded, texted, texts_of, of_entry, added_to};
+ghost use Rattle.acap_grammar.specs.Lines.{removed_from, changed};
 ghost use Rattle.acap_grammar.specs.Lines.{modtime, tagged, untagged, worded, line_of};
 ghost use Rattle.acap_grammar.specs.Lines as lines;
 ghost use Rattle.acap_client.specs.Arguments.{data_in};
@@ -22,7 +23,8 @@ fn is(word: &[u8], wanted: &[u8]) -> bool
 
 /// The end of a command.
 fn completion<'a>(tag: Option<&'a [u8]>, ending: Ending, args: &Data<'a>) -> Option<Line<'a>>
-    ensures { Says result (coded (lines.Completion (tag_in tag.entry) (ending_of ending)) (data_in args.now)) }
+    ensures { Says result
+        (coded (lines.Completion (tag_in tag.entry) (ending_of ending)) (data_in args.now)) }
 {
     let (code, text) = coded(args)?;
     Some(Line::Completion(tag, ending, code, text))
@@ -30,7 +32,8 @@ fn completion<'a>(tag: Option<&'a [u8]>, ending: Ending, args: &Data<'a>) -> Opt
 
 /// An entry that a search finds.
 fn entry<'a>(tag: Option<&'a [u8]>, args: &Data<'a>) -> Option<Line<'a>>
-    ensures { Says result (texted (λ name items. Some (lines.Entry (tag_in tag.entry) name items)) (data_in args.now)) }
+    ensures { Says result
+        (texted (λ name items. Some (lines.Entry (tag_in tag.entry) name items)) (data_in args.now)) }
 {
     let (name, data) = args.text()?;
     Some(Line::Entry(tag, name, data))
@@ -38,21 +41,24 @@ fn entry<'a>(tag: Option<&'a [u8]>, args: &Data<'a>) -> Option<Line<'a>>
 
 /// The moment of a search.
 fn moment<'a>(tag: Option<&'a [u8]>, args: &Data<'a>) -> Option<Line<'a>>
-    ensures { Says result (texted (λ stamp. alone (lines.Moment (tag_in tag.entry) stamp)) (data_in args.now)) }
+    ensures { Says result
+        (texted (λ stamp. alone (lines.Moment (tag_in tag.entry) stamp)) (data_in args.now)) }
 {
     Some(Line::Moment(tag, text_alone(args)?))
 }
 
 /// An entry that was deleted.
 fn deleted<'a>(tag: Option<&'a [u8]>, args: &Data<'a>) -> Option<Line<'a>>
-    ensures { Says result (texted (λ name. alone (lines.Deleted (tag_in tag.entry) name)) (data_in args.now)) }
+    ensures { Says result
+        (texted (λ name. alone (lines.Deleted (tag_in tag.entry) name)) (data_in args.now)) }
 {
     Some(Line::Deleted(tag, text_alone(args)?))
 }
 
 /// The rights that the client has.
 fn rights<'a>(tag: Option<&'a [u8]>, args: &Data<'a>) -> Option<Line<'a>>
-    ensures { Says result (texted (λ rights. alone (lines.Rights (tag_in tag.entry) rights)) (data_in args.now)) }
+    ensures { Says result
+        (texted (λ rights. alone (lines.Rights (tag_in tag.entry) rights)) (data_in args.now)) }
 {
     Some(Line::Rights(tag, text_alone(args)?))
 }

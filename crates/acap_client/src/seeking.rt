@@ -45,8 +45,8 @@ fn comparator(writing: &mut Writing, comparator: Comparator) -> Result<(), Memor
 
 /// DEPTH and HARDLIMIT.
 fn number_if_there(writing: &mut Writing, name: &[u8], n: Option<u32>) -> Result<(), Memory>
-    ensures { OnOk result
-        (Writes (spelling.if_there (λ n after. spelling.word name.now (spelling.number n after)) n) writing.old writing.new) }
+    ensures { let word = spelling.if_there (λ n after. spelling.word name.now (spelling.number n after)) n in
+        OnOk result (Writes word writing.old writing.new) }
 {
     match n {
         None => Ok(()),
@@ -73,7 +73,8 @@ fn limit(writing: &mut Writing, limit: &Option<Limit>) -> Result<(), Memory>
 
 /// MAKECONTEXT.
 fn make_context(writing: &mut Writing, make: &Option<MakeContext>) -> Result<(), Memory>
-    ensures { OnOk result (Writes (spelling.if_there spelling.make_context make.now) writing.old writing.new) }
+    ensures { OnOk result
+        (Writes (spelling.if_there spelling.make_context make.now) writing.old writing.new) }
 {
     match make {
         None => Ok(()),
@@ -281,7 +282,8 @@ fn key(writing: &mut Writing, wanted: &Key) -> Result<(), Memory>
 
 /// What is looked through.
 fn target(writing: &mut Writing, target: &Target) -> Result<(), Memory>
-    ensures { OnOk result (Writes (spelling.string (spelling.target_text target.now)) writing.old writing.new) }
+    ensures { OnOk result
+        (Writes (spelling.string (spelling.target_text target.now)) writing.old writing.new) }
 {
     match target {
         Target::Dataset(name) => string(writing, dataset_text(name)),

@@ -99,7 +99,8 @@ fn first_items<'a>(
     item: &'a StoreItem,
     others: &'a [StoreItem],
 ) -> Result<&'a [StoreItem], Memory>
-    ensures { IfOk result (λ left. LeavesItems item.entry.now others.entry.now writing.old left.now writing.new) }
+    ensures { IfOk result
+        (λ left. LeavesItems item.entry.now others.entry.now writing.old left.now writing.new) }
 {
     let Some((other, left)) = others.split_first() else {
         one_item(writing, item)?;
@@ -134,7 +135,8 @@ fn since(writing: &mut Writing, moment: Moment) -> Result<(), Memory>
 
 /// UNCHANGEDSINCE, if it stands there.
 fn unchanged_since(writing: &mut Writing, modified: Option<Moment>) -> Result<(), Memory>
-    ensures { OnOk result (Writes (spelling.if_there spelling.unchanged_since modified) writing.old writing.new) }
+    ensures { OnOk result
+        (Writes (spelling.if_there spelling.unchanged_since modified) writing.old writing.new) }
 {
     match modified {
         None => Ok(()),

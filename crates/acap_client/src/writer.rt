@@ -22,8 +22,8 @@ fn set_acl(
     name: &Label,
     rights: &Label,
 ) -> Result<(), Memory>
-    ensures { OnOk result (Writes (λ after.
-        spelling.object of.now (spelling.string name.now (spelling.string rights.now after))) writing.old writing.new) }
+    ensures { OnOk result (Writes (λ after. spelling.object of.now
+        (spelling.string name.now (spelling.string rights.now after))) writing.old writing.new) }
 {
     object(writing, of)?;
     string(writing, name.as_slice())?;

@@ -20,7 +20,8 @@ pub(crate) struct Writing {
 
 /// Begins a line with a tag.
 pub(crate) fn tagged(alloc: Global, tag: &[u8]) -> Result<Writing, Memory>
-    ensures { IfOk result (λ made. (tokens : _) → line_with made tokens ≡ tag.now ++ text_after kinds.Tag tokens) }
+    ensures { IfOk result
+        (λ made. (tokens : _) → line_with made tokens ≡ tag.now ++ text_after kinds.Tag tokens) }
 {
     let octets = Vec::from_slice(alloc, tag)?;
     Ok(Writing {
@@ -41,7 +42,8 @@ pub(crate) fn untagged(alloc: Global) -> Writing
 
 /// Adds a space, where one may stand after the last token.
 fn space(writing: &mut Writing) -> Result<(), Memory>
-    ensures octets { OnOk result (writing.new.octets.items ≡ writing.old.octets.items ++ space_after writing.old.last) }
+    ensures octets { OnOk result
+        (writing.new.octets.items ≡ writing.old.octets.items ++ space_after writing.old.last) }
     ensures last { writing.new.last ≡ writing.old.last }
 {
     if writing.last != Kind::Open {

@@ -28,9 +28,9 @@ fn fatal_of(lexed: &Lexed) -> Option<LexFault>
     }
 }
 
-/// Takes the front off where it is longer than the rest, so that each octet is moved once at the most for each
-/// that is taken off. Gives the place of the rest.
-fn compact(text: &mut Vec<u8>, start: usize) -> usize
+/// Removes the octets before a place where they are more than the rest, so that each octet is moved once at the
+/// most for each that is removed. Gives the place at which the rest then begins.
+pub fn compact(text: &mut Vec<u8>, start: usize) -> usize
     requires { start ≤ length text.old.items }
     ensures rest { drop result text.new.items ≡ drop start text.old.items }
     ensures within { result ≤ length text.new.items }

@@ -36,7 +36,7 @@ pub use laws::{
     octet_examples, printed_examples, reads_parts, reads_quoted, reads_spellings, takes_octets,
 };
 pub use lexed::{Lexed, Tag};
-pub use lexer::Lexer;
+pub use lexer::{Lexer, compact};
 pub use marks::count_of;
 pub use mode::Mode;
 pub use pieces::answers;

@@ -3,7 +3,7 @@ use Rattle.std.specs.Prelude.{Err}
 use Rattle.std.specs.List.{insert}
 use Rattle.acap_client.specs.Arguments.{data_in}
 use Rattle.acap_client.specs.Following.{row_of}
-use Rattle.acap_client.specs.declared.keep_fault.KeepFault.TheVariants.{Memory}
+use Rattle.acap_notices.specs.declared.held_fault.HeldFault.TheVariants.{Memory}
 use Rattle.acap_client.proofs.Placed.{tied_in, placed_in, added_at, add_leads, add_misfits}
 use Rattle.acap_client.proofs.by_name.add.Goals as goal
 

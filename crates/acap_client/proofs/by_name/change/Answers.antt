@@ -2,7 +2,7 @@ use Rattle.std.proofs.Common.{rules, ◌≡◌, ap, refl, set}
 use Rattle.std.specs.Prelude.{Err}
 use Rattle.acap_client.specs.Arguments.{data_in}
 use Rattle.acap_client.specs.Following.{row_of}
-use Rattle.acap_client.specs.declared.keep_fault.KeepFault.TheVariants.{Memory}
+use Rattle.acap_notices.specs.declared.held_fault.HeldFault.TheVariants.{Memory}
 use Rattle.acap_client.proofs.Placed.{tied_in, placed_in, changed_at, change_leads, change_misfits}
 use Rattle.acap_client.proofs.by_name.change.Goals as goal
 
