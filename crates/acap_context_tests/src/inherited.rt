@@ -4,8 +4,8 @@ ghost use Rattle.std.specs.Prelude.{◌≡◌, ◌<◌};
 
 use crate::dice::join;
 use crate::world::{World, command_of};
-use crate::wrong::Wrong;
-use acap_commands::{Command, Key, Said};
+use crate::wrong::{Wrong, trouble_in};
+use acap_commands::{Command, Key};
 use acap_entries::{Dataset, EntryName, Steps, UserName, Value};
 use acap_inherit::{Found, Lent, Resolved, chain, resolve};
 use acap_machine::State;
@@ -251,14 +251,7 @@ fn are_wanted<L: Ledger>(
 
 // Whether all rows hold over a machine to which these lines were sent.
 fn are_right<L: Ledger>(alloc: Global, steps: &mut Steps<L>) -> Result<bool, Wrong> {
-    let mut world = World::new(alloc)?;
-    let _hello = world.enter(1, b"joe", steps)?;
-    for line in SENT {
-        match world.send(1, line, steps)? {
-            Said::Done(_) => {}
-            _ => return Err(Wrong::Answer),
-        }
-    }
+    let world = World::filled(alloc, &SENT, steps)?;
     let state = world.state();
     Ok(are_found(alloc, state)? && are_wanted(alloc, state, steps)?)
 }
@@ -269,11 +262,7 @@ fn trouble<L: Ledger>(alloc: Global, blank: Blank) -> Option<Wrong>
     requires some { 0 < L.parts }
 {
     let mut steps = Steps::<L>::new(blank);
-    match are_right(alloc, &mut steps) {
-        Ok(true) => None,
-        Ok(false) => Some(Wrong::Held),
-        Err(wrong) => Some(wrong),
-    }
+    trouble_in(are_right(alloc, &mut steps))
 }
 
 #[test]

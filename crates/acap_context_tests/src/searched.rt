@@ -4,8 +4,8 @@ ghost use Rattle.std.specs.Prelude.{◌≡◌, ◌<◌};
 
 use crate::dice::join;
 use crate::world::{World, command_of};
-use crate::wrong::Wrong;
-use acap_commands::{Command, Limit, Said, Search, Target};
+use crate::wrong::{Wrong, trouble_in};
+use acap_commands::{Command, Limit, Search, Target};
 use acap_entries::{Memory, Moment, Row, Steps, UserName};
 use acap_machine::State;
 use acap_search::{
@@ -179,19 +179,6 @@ fn lend_all(alloc: Global, hits: &Hits) -> Result<Vec<&Hit>, Memory> {
     Ok(lent)
 }
 
-// A machine to which these lines were sent.
-fn filled<L: Ledger>(alloc: Global, steps: &mut Steps<L>) -> Result<World, Wrong> {
-    let mut world = World::new(alloc)?;
-    let _hello = world.enter(1, b"joe", steps)?;
-    for line in SENT {
-        match world.send(1, line, steps)? {
-            Said::Done(_) => {}
-            _ => return Err(Wrong::Answer),
-        }
-    }
-    Ok(world)
-}
-
 // The hits that are handed in.
 fn listed<L: Ledger>(
     alloc: Global,
@@ -221,7 +208,7 @@ fn all_hold<L: Ledger>(
 
 // Whether all rows hold over a machine to which these lines were sent.
 fn are_right<L: Ledger>(alloc: Global, steps: &mut Steps<L>) -> Result<bool, Wrong> {
-    let world = filled(alloc, steps)?;
+    let world = World::filled(alloc, &SENT, steps)?;
     let user = UserName::read(alloc, b"joe")?;
     let hits = listed(alloc, world.state(), &user, steps)?;
     let shown = lend_all(alloc, &hits)?;
@@ -234,11 +221,7 @@ fn trouble<L: Ledger>(alloc: Global, blank: Blank) -> Option<Wrong>
     requires some { 0 < L.parts }
 {
     let mut steps = Steps::<L>::new(blank);
-    match are_right(alloc, &mut steps) {
-        Ok(true) => None,
-        Ok(false) => Some(Wrong::Held),
-        Err(wrong) => Some(wrong),
-    }
+    trouble_in(are_right(alloc, &mut steps))
 }
 
 #[test]

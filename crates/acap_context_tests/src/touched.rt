@@ -3,8 +3,7 @@ ghost use Rattle.std.specs.Prelude.{◌≡◌, ◌<◌, OnOk};
 ghost use Rattle.acap_inherit.specs.Index.{IsIndexOf};
 
 use crate::world::World;
-use crate::wrong::Wrong;
-use acap_commands::Said;
+use crate::wrong::{Wrong, trouble_in};
 use acap_entries::{
     Boxed, Change, Copying, Dataset, EntryName, Fate, Memory, Path, Paths, Record, Steps, Tree,
     Writes,
@@ -175,19 +174,6 @@ fn are_touched(alloc: Global, tree: &Tree, index: &Resolved) -> Result<bool, Wro
     Ok(true)
 }
 
-// A machine to which these lines were sent.
-fn filled<L: Ledger>(alloc: Global, steps: &mut Steps<L>) -> Result<World, Wrong> {
-    let mut world = World::new(alloc)?;
-    let _hello = world.enter(1, b"joe", steps)?;
-    for line in SENT {
-        match world.send(1, line, steps)? {
-            Said::Done(_) => {}
-            _ => return Err(Wrong::Answer),
-        }
-    }
-    Ok(world)
-}
-
 // Whether all rows hold over the store that a change makes of none.
 fn are_touched_after(alloc: Global, change: Change) -> Result<bool, Wrong> {
     let mut tree = Tree::new(alloc);
@@ -198,7 +184,7 @@ fn are_touched_after(alloc: Global, change: Change) -> Result<bool, Wrong> {
 
 // Whether all rows hold over a store that these lines made.
 fn are_right<L: Ledger>(alloc: Global, steps: &mut Steps<L>) -> Result<bool, Wrong> {
-    let world = filled(alloc, steps)?;
+    let world = World::filled(alloc, &SENT, steps)?;
     let change = making(alloc, world.state().tree())?;
     are_touched_after(alloc, change)
 }
@@ -209,11 +195,7 @@ fn trouble<L: Ledger>(alloc: Global, blank: Blank) -> Option<Wrong>
     requires some { 0 < L.parts }
 {
     let mut steps = Steps::<L>::new(blank);
-    match are_right(alloc, &mut steps) {
-        Ok(true) => None,
-        Ok(false) => Some(Wrong::Held),
-        Err(wrong) => Some(wrong),
-    }
+    trouble_in(are_right(alloc, &mut steps))
 }
 
 #[test]

@@ -62,6 +62,23 @@ impl World {
         World::of(self.alloc, self.machine.copy()?)
     }
 
+    /// A machine to which these lines were sent, each of which makes something, at a seat of joe's.
+    pub(crate) fn filled<L: Ledger>(
+        alloc: Global,
+        lines: &[&[u8]],
+        steps: &mut Steps<L>,
+    ) -> Result<World, Wrong> {
+        let mut world = World::new(alloc)?;
+        let _hello = world.enter(1, b"joe", steps)?;
+        for line in lines {
+            match world.send(1, line, steps)? {
+                Said::Done(_) => {}
+                _ => return Err(Wrong::Answer),
+            }
+        }
+        Ok(world)
+    }
+
     /// The machine.
     pub(crate) fn state(&self) -> &State {
         &self.machine

@@ -68,3 +68,12 @@ impl From<HeldFault> for Wrong {
         }
     }
 }
+
+/// What went wrong in a test that answers whether all its rows hold.
+pub(crate) fn trouble_in(holds: Result<bool, Wrong>) -> Option<Wrong> {
+    match holds {
+        Ok(true) => None,
+        Ok(false) => Some(Wrong::Held),
+        Err(wrong) => Some(wrong),
+    }
+}

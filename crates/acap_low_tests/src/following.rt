@@ -138,11 +138,11 @@ const ROWS: [(Step, &[u8]); 56] = [
         b"d! c[w=7] d{x=6 xx=5}+-",
     ),
     // one that the client frees
-    (Sends(b"D1 FREECONTEXT \"c\""), b" c[w=7] d{x=6 xx=5}+-"),
-    (Reads(b"D1 ENTRY \"w\" \"8\""), b" c[w=7] d{x=6 xx=5}+-"),
-    (Reads(b"D1 BAD \"no\""), b" c[w=7] d{x=6 xx=5}+-"),
-    (Sends(b"D2 FREECONTEXT \"c\""), b" c[w=7] d{x=6 xx=5}+-"),
-    (Reads(b"D2 OK \"done\""), b" c[w=7]- d{x=6 xx=5}+-"),
+    (Sends(b"G1 FREECONTEXT \"c\""), b" c[w=7] d{x=6 xx=5}+-"),
+    (Reads(b"G1 ENTRY \"w\" \"8\""), b" c[w=7] d{x=6 xx=5}+-"),
+    (Reads(b"G1 BAD \"no\""), b" c[w=7] d{x=6 xx=5}+-"),
+    (Sends(b"G2 FREECONTEXT \"c\""), b" c[w=7] d{x=6 xx=5}+-"),
+    (Reads(b"G2 OK \"done\""), b" c[w=7]- d{x=6 xx=5}+-"),
     // a SEARCH that makes no context, and lines of none
     (Sends(b"E1 SEARCH \"/x/\" ALL"), b" c[w=7]- d{x=6 xx=5}+-"),
     (Reads(b"E1 ENTRY \"w\" \"8\""), b" c[w=7]- d{x=6 xx=5}+-"),
