@@ -10,7 +10,8 @@ use Rattle.acap_client.specs.declared.due.Due.TheVariants as due
 
 -- these octets lead there from a draft after so many octets of a line
 abbrev pub Leads : ℕ → ℕ → List ℕ → Draft → First → Type 0
-Leads limit at octets draft first = (more : List ℕ) → first_from limit at (client_of draft) (octets ++ more) ≡ first
+Leads limit at octets draft first =
+    (more : List ℕ) → first_from limit at (client_of draft) (octets ++ more) ≡ first
 
 -- all of them were heard, and the line goes on
 pub record Heard (limit at : ℕ) (octets : List ℕ) (old : Draft) (there : ℕ) (new : Draft) : Type 0 where

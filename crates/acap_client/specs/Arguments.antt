@@ -1,5 +1,6 @@
 -- What stands first in the data of a line [RFC 2244 sections 2.2 and 6].
-use Rattle.std.specs.Prelude.{ℕ, Bool, true, false, List, [], ◌∷◌, Option, Some, None, option_map, option_and_then, if◌then◌else◌}
+use Rattle.std.specs.Prelude.{ℕ, Bool, true, false, List, [], ◌∷◌, Option, Some, None, option_map}
+use Rattle.std.specs.Prelude.{option_and_then, if◌then◌else◌}
 use Rattle.acap_grammar.specs.Lines.{Datum, Word, Text, Empty, Pair, group, number_of, value_of}
 use Rattle.acap_client.specs.Data.{before_all, nothing, data_of}
 use Rattle.acap_client.specs.declared.data.Data.{Data}

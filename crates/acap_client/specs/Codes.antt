@@ -116,7 +116,8 @@ asked_back (Freeing context) = refl
 
 abbrev pub asked_code : Coded Asked
 asked_code =
-    code_by ((MakeContext × List PrintedRow) ⊎ List ℕ) (coded⊎ (coded× make_code (coded_list row_code)) octets)
+    code_by ((MakeContext × List PrintedRow) ⊎ List ℕ)
+    (coded⊎ (coded× make_code (coded_list row_code)) octets)
     asked_parts asked_of asked_back
 
 -- ---- a follower

@@ -62,7 +62,8 @@ client_of draft = client_by (nest_of draft.tokens.items) (place_of draft.place d
 abbrev pub joined : List (List Datum) → List Datum → List Datum → List (List Datum) → List Datum
 joined [] inner more others = inner ++ more
 joined (first ∷ outer) inner more [] = []
-joined (first ∷ outer) inner more (next ∷ others) = joined outer (first ++ group (inner ++ more) ∷ []) next others
+joined (first ∷ outer) inner more (next ∷ others) =
+    joined outer (first ++ group (inner ++ more) ∷ []) next others
 
 -- however the tokens go on, their data are those of the nest with what follows
 abbrev pub Stands : List Token → Nest → Type 0

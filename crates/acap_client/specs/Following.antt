@@ -1,7 +1,8 @@
 -- What a client holds of its contexts, line by line [RFC 2244 sections 3.3, 6.4.1 and 6.5].
 use Rattle.std.specs.Prelude.{ℕ, Bool, true, false, List, [], ◌∷◌, ◌++◌, take, drop, length, codes, bytes_eq}
 use Rattle.std.specs.Prelude.{Option, Some, None, option_map, if◌then◌else◌}
-use Rattle.acap_grammar.specs.Lines.{Datum, Line, Ending, Done, Entry, AddTo, RemoveFrom, Change, UpTo, Alert, Completion}
+use Rattle.acap_grammar.specs.Lines.{Datum, Line, Ending, Done, Entry, AddTo, RemoveFrom, Change, UpTo}
+use Rattle.acap_grammar.specs.Lines.{Alert, Completion}
 use Rattle.acap_grammar.specs.Printed.{PrintedRow, PrintedNotice, PrintedMap, printed_by_name}
 use Rattle.acap_grammar.specs.Printed.{printed_list_after, printed_map_after}
 use Rattle.acap_grammar.specs.Printed as printed
@@ -38,7 +39,8 @@ look_up name (first ∷ others) = if bytes_eq name first.0 then Some first.1 els
 
 abbrev pub without : {A : Type 0} → List ℕ → List (List ℕ × A) → List (List ℕ × A)
 without name [] = []
-without name (first ∷ others) = if bytes_eq name first.0 then without name others else first ∷ without name others
+without name (first ∷ others) =
+    if bytes_eq name first.0 then without name others else first ∷ without name others
 
 -- in the place of what has the name, or as the last where nothing has it
 abbrev pub put : {A : Type 0} → List ℕ → A → List (List ℕ × A) → List (List ℕ × A)
@@ -79,7 +81,8 @@ ask tag other f = f
 -- ---- lines under the tag of a command
 
 abbrev pub with_row : List ℕ → PrintedRow → Option Asked → Follower → Follower
-with_row tag row (Some (Making make rows)) f = record f { asked = put tag (Making make (rows ++ row ∷ [])) f.asked }
+with_row tag row (Some (Making make rows)) f =
+    record f { asked = put tag (Making make (rows ++ row ∷ [])) f.asked }
 with_row tag row (Some (Freeing context)) f = f
 with_row tag row None f = f
 
@@ -94,7 +97,8 @@ free context f = freed_by context (look_up context f.contexts) f
 -- the end of a command: a context that was made takes the place of one of its name
 abbrev pub made : MakeContext → List PrintedRow → Follower → Follower
 made make rows f =
-    record f { contexts = put make.name (record { held = held_as make.enumerate rows; complete = false; freed = false }) f.contexts }
+    let kept : Kept = record { held = held_as make.enumerate rows; complete = false; freed = false } in
+    record f { contexts = put make.name kept f.contexts }
 
 abbrev pub done : Option Asked → Follower → Follower
 done (Some (Making make rows)) f = made make rows f
@@ -109,13 +113,15 @@ ended other tag f = record f { asked = without tag f.asked }
 
 abbrev pub changed : List ℕ → Option Held → Follower → Followed
 changed context (Some held) f =
-    Goes (record f { contexts = put context (record { held = held; complete = false; freed = false }) f.contexts })
+    let kept : Kept = record { held = held; complete = false; freed = false } in
+    Goes (record f { contexts = put context kept f.contexts })
 changed context None f = Misfit context
 
 -- a notice of a context that isn't held, or that was freed, is a misfit too
 abbrev pub noticed_of : List ℕ → PrintedNotice → Option Kept → Follower → Followed
 noticed_of context notice None f = Misfit context
-noticed_of context notice (Some kept) f = if kept.freed then Misfit context else changed context (held_after kept.held notice) f
+noticed_of context notice (Some kept) f =
+    if kept.freed then Misfit context else changed context (held_after kept.held notice) f
 
 abbrev pub noticed : List ℕ → PrintedNotice → Follower → Followed
 noticed context notice f = noticed_of context notice (look_up context f.contexts) f
@@ -134,7 +140,8 @@ abbrev pub freeing : List ℕ
 freeing = codes "Context freed: "
 
 abbrev pub alerted : List ℕ → Follower → Follower
-alerted text f = if bytes_eq (take (length freeing) text) freeing then free (drop (length freeing) text) f else f
+alerted text f =
+    if bytes_eq (take (length freeing) text) freeing then free (drop (length freeing) text) f else f
 
 -- ---- a line, and lines
 
@@ -145,15 +152,18 @@ row_of name items = record { name = name; items = items }
 abbrev pub follow : Follower → Line → Followed
 follow f (Entry (Some tag) name items) = Goes (with_row tag (row_of name items) (look_up tag f.asked) f)
 follow f (Completion (Some tag) ending code text) = Goes (ended ending tag f)
-follow f (AddTo context entry position items) = noticed context (printed.AddTo position (row_of entry items)) f
+follow f (AddTo context entry position items) =
+    noticed context (printed.AddTo position (row_of entry items)) f
 follow f (RemoveFrom context entry position) = noticed context (printed.RemoveFrom entry position) f
-follow f (Change context entry old new items) = noticed context (printed.Change old new (row_of entry items)) f
+follow f (Change context entry old new items) =
+    noticed context (printed.Change old new (row_of entry items)) f
 follow f (UpTo context stamp) = completed context f
 follow f (Alert text) = Goes (alerted text f)
 follow f other = Goes f
 
 -- lines one after the other: what is held then, and the contexts of the misfits
-abbrev pub followed_with : (Follower → Follower × List (List ℕ)) → Follower → Followed → Follower × List (List ℕ)
+abbrev pub followed_with : (Follower → Follower × List (List ℕ)) → Follower → Followed
+    → Follower × List (List ℕ)
 followed_with others old (Goes f) = others f
 followed_with others old (Misfit context) = ((others old).0, context ∷ (others old).1)
 

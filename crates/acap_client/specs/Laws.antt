@@ -11,7 +11,8 @@ pub record IsFirst (limit : ℕ) (octets : List ℕ) (says : Option Line) (at : 
   pub within : at ≤ length octets
   pub below : at ≤ limit
   pub none : (n : ℕ) → n < at → (hears (after []) (take n octets)).lines ≡ []
-  pub heard : (before : List (Option Line)) → hears (after before) (take at octets) ≡ after (before ++ says ∷ [])
+  pub heard : (before : List (Option Line))
+      → hears (after before) (take at octets) ≡ after (before ++ says ∷ [])
 
 -- From the octets after a line, whatever was heard before it.
 pub record FirstLaw : Type 0 where

@@ -1,7 +1,8 @@
 -- Parts of the spelling of a command.
 use Rattle.std.specs.Prelude.{◌≡◌, ◌≤◌, ℕ, List, ◌∷◌, ◌++◌, length, codes}
 use Rattle.acap_lexer.specs.Token.{Token}
-use Rattle.acap_grammar.specs.Spelling.{dataset, each, entry, gift, if_there, items, object, one_gift, open_then, search_tokens}
+use Rattle.acap_grammar.specs.Spelling.{dataset, each, entry, gift, if_there, items, object, one_gift}
+use Rattle.acap_grammar.specs.Spelling.{open_then, search_tokens}
 use Rattle.acap_grammar.specs.Spelling.{shut, string, time}
 use Rattle.acap_entries.specs.declared.path.Path.{Path}
 use Rattle.acap_commands.specs.declared.store_item.StoreItem.{StoreItem}
@@ -29,8 +30,10 @@ abbrev pub two_items : StoreItem → StoreItem → List Token → List Token
 two_items i j after = string i.attribute (open_then (gift i (gift j (shut after))))
 
 -- the attribute that comes first was written with its items, and these items are left
-pub record LeavesItems (i : StoreItem) (others : List StoreItem) (old : Writing) (left : List StoreItem) (new : Writing) : Type 0 where
-  pub writes : (after : List Token) → line_with old (items (i ∷ others) after) ≡ line_with new (items left after)
+pub record LeavesItems (i : StoreItem) (others : List StoreItem) (old : Writing) (left : List StoreItem)
+    (new : Writing) : Type 0 where
+  pub writes : (after : List Token)
+      → line_with old (items (i ∷ others) after) ≡ line_with new (items left after)
   pub fewer : length left ≤ length others
 
 -- the verb of a command and its arguments, before what follows

@@ -32,7 +32,8 @@ said (line.Alert text) = lines.Alert text.now
 said (line.Deleted tag name) = lines.Deleted (tag_in tag) name.now
 said (line.Rights tag rights) = lines.Rights (tag_in tag) rights.now
 said (line.RightsList tag ds) = lines.RightsList (tag_in tag) (all_texts (texts_of (data_in ds)))
-said (line.Completion tag ending code text) = lines.Completion (tag_in tag) (ending_of ending) (code_in code) text.now
+said (line.Completion tag ending code text) =
+    lines.Completion (tag_in tag) (ending_of ending) (code_in code) text.now
 said (line.Bye code text) = lines.Bye (code_in code) text.now
 
 -- a line that was read says this, or nothing where nothing was read

@@ -2,7 +2,8 @@
 -- [RFC 2244 sections 2.2 and 2.6].
 use Rattle.std.specs.Prelude.{ℕ, zero, suc, List, [], ◌∷◌, ◌++◌, ◌==◌, if◌then◌else◌, Option, Some, None}
 use Rattle.acap_lexer.specs.Octets.{is_word, is_digit, is_quotable, is_escaped, line_feed, carriage_return}
-use Rattle.acap_lexer.specs.Octets.{space, quote, parenthesis, closing_parenthesis, backslash, brace, closing_brace}
+use Rattle.acap_lexer.specs.Octets.{space, quote, parenthesis, closing_parenthesis, backslash, brace}
+use Rattle.acap_lexer.specs.Octets.{closing_brace}
 use Rattle.acap_grammar.specs.Lines.{Datum, Word, Text, group, Line, line_of, number_of}
 
 -- Where the last octet left the client.

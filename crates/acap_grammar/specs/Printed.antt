@@ -80,7 +80,8 @@ taken_from position entry rows =
 
 -- of an enumerated context a list
 unfoldable pub printed_list_after : List PrintedRow → PrintedNotice → Option (List PrintedRow)
-printed_list_after rows (AddTo position row) = if is_held row.name rows then None else put_at position row rows
+printed_list_after rows (AddTo position row) =
+    if is_held row.name rows then None else put_at position row rows
 printed_list_after rows (RemoveFrom entry position) = taken_from position entry rows
 printed_list_after rows (Change old new row) = option_and_then (put_at new row) (taken_from old row.name rows)
 

@@ -43,7 +43,8 @@ invalid = group (Word (codes "INVALID") ∷ group (Text (codes "/a/b") ∷ Text 
 -- `("x" NIL)`, `(("k"))` and `()`
 abbrev pub three_lists : List Datum
 three_lists =
-    group (Text (codes "x") ∷ Word (codes "NIL") ∷ []) ∷ group (group (Text (codes "k") ∷ []) ∷ []) ∷ Empty ∷ []
+    group (Text (codes "x") ∷ Word (codes "NIL") ∷ []) ∷ group (group (Text (codes "k") ∷ []) ∷ [])
+    ∷ Empty ∷ []
 
 -- two lines, of which the second lacks its last octet
 abbrev pub cut_line : List ℕ

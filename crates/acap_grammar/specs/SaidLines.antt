@@ -24,7 +24,8 @@ use Rattle.acap_commands.specs.declared.status.Status.TheVariants as status
 use Rattle.acap_commands.specs.declared.verb.Verb.{Verb}
 use Rattle.acap_commands.specs.declared.verb.Verb.TheVariants as verb
 use Rattle.acap_grammar.specs.Lines.{Datum, Word, Text, group, Done, Failed, Wrong}
-use Rattle.acap_grammar.specs.Lines.{Line, Greeting, GoOn, Entry, Moment, AddTo, RemoveFrom, Change, UpTo, Alert}
+use Rattle.acap_grammar.specs.Lines.{Line, Greeting, GoOn, Entry, Moment, AddTo, RemoveFrom, Change, UpTo}
+use Rattle.acap_grammar.specs.Lines.{Alert}
 use Rattle.acap_grammar.specs.Lines.{Deleted, Rights, RightsList, Completion, Bye}
 use Rattle.acap_grammar.specs.Refusals.{text_of}
 use Rattle.acap_grammar.specs.Replies.{done_of}

@@ -126,7 +126,8 @@ abbrev pub few : ℕ
 few = 256
 
 abbrev pub changed_if_many : List Match → List Shift → List Shift
-changed_if_many matches shifts = if nat_lt few (length shifts) then filter (has_changed matches) shifts else shifts
+changed_if_many matches shifts =
+    if nat_lt few (length shifts) then filter (has_changed matches) shifts else shifts
 
 -- what is due: of these as much as is needed
 abbrev pub due_among : List Match → ℕ → List Shift → List Shift

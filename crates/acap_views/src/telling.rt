@@ -90,7 +90,8 @@ pub(crate) fn tell_in_turn(
     last: Moment,
 ) -> Result<Sequence<Batch>, Memory>
     requires { InOrder octets_cmp contexts.now }
-    ensures { IfOk result (λ made. all_told made ≡ rule.told_in_turn (as_contexts contexts.now) names.now last) }
+    ensures { IfOk result
+        (λ made. all_told made ≡ rule.told_in_turn (as_contexts contexts.now) names.now last) }
 {
     let mut batches = Vec::with_capacity(alloc, names.len())?;
     for at in 0..names.len() {
@@ -102,7 +103,8 @@ pub(crate) fn tell_in_turn(
 
 // What a drain tells of a context, if it tells something.
 fn batch_drained(name: &ContextName, context: &OpenContext) -> Result<Option<Batch>, Memory>
-    ensures { IfOk result (λ batch. option_map_or told_in batch [] ≡ rule.drain_told name.now context.now.context.kept) }
+    ensures { IfOk result
+        (λ batch. option_map_or told_in batch [] ≡ rule.drain_told name.now context.now.context.kept) }
 {
     if context.is_freed() {
         return Ok(Some(Batch {
