@@ -1,0 +1,351 @@
+#!/usr/bin/env python3
+"""Runs `acapc` against an `acapd serve` of its own over 127.0.0.1, and against servers that break off, and checks what it prints.
+
+    python3 bench/client.py ACAPC ACAPD [CHECK..]
+
+ACAPC and ACAPD are the two programs. Each check is named on a line, and at the first difference it ends with status 1. CHECK is part of the
+name of a check: then those alone are done. It ends only programs that it started.
+"""
+import pathlib
+import random
+import re
+import signal
+import socket
+import subprocess
+import sys
+import tempfile
+import threading
+import time
+
+from serve import SEATS, USERS, Server, done, found, free_port, same
+
+SECONDS = 60  # that a check may take
+EVERY = bytes(range(256))
+CHECKS = []
+
+
+def check(name):
+    """Names a check."""
+    def add(function):
+        CHECKS.append((name, function))
+        return function
+    return add
+
+
+def escaped(value):
+    """Octets as they are printed."""
+    return re.sub(rb"[^ -\[\]-~]", lambda octet: b"\\x%02x" % octet[0][0], value)
+
+
+# ---- calls
+
+class Caller:
+    """Who calls a client, and at which server."""
+
+    def __init__(self, client, port, user="joe", secret=None):
+        self.words, self.user = [client, f"127.0.0.1:{port}", user], user
+        self.environment = {"ACAP_SECRET": USERS[user] if secret is None else secret}
+
+    def call(self, *words, given=b"", options=(), environment=None):
+        """What a call prints, and its status."""
+        client, server, user = self.words
+        environment = self.environment if environment is None else environment
+        ran = subprocess.run([client, *options, server, user, *words], input=given, capture_output=True, timeout=30, check=False, env=environment)
+        return ran.stdout, ran.stderr, ran.returncode
+
+    def does(self, *words, given=b"", options=()):
+        """What a call prints that is to succeed."""
+        out, err, status = self.call(*words, given=given, options=options)
+        same((err, status), (b"", 0))
+        return out
+
+    def fails(self, text, *words, given=b"", status=1):
+        """A call that is to end with this line on standard error, and this status, and prints nothing else."""
+        said = f"acapc: {self.words[1]}: {text}\n".encode()
+        same(self.call(*words, given=given), (b"", said, status))
+
+    def start(self, *words):
+        """A call that goes on."""
+        return subprocess.Popen(
+            [*self.words, *words], stdin=subprocess.PIPE, stdout=subprocess.PIPE, stderr=subprocess.PIPE, env=self.environment)
+
+
+# ---- commands
+
+@check("get, set, unset, list and find")
+def _(client, server):
+    joe = Caller(client, server.port)
+    same(joe.does("set", "/option/~/", "font", "option.value", "mono"), b"")
+    joe.does("set", "/option/~", "sizes", "option.value", "9", "10", "9\t")
+    same(joe.does("get", "/option/~/", "font", "option.value"), b"font\toption.value\tmono\n")
+    same(joe.does("get", "/option/~", "sizes", "option.value"), b"".join(b"sizes\toption.value\t%s\n" % value for value in (b"9", b"10", b"9\\x09")))
+    rows = joe.does("get", "/option/~/").splitlines()
+    same([row for row in rows if b"\tmodtime\t" not in row], [
+        b"font\tentry\tfont", b"font\toption.value\tmono", b"sizes\tentry\tsizes",
+        b"sizes\toption.value\t9", b"sizes\toption.value\t10", b"sizes\toption.value\t9\\x09"])
+    same(len(rows), 8)
+    same(joe.does("get", "/option/~/", "none"), b"")
+    same(joe.does("list", "/option/~/"), b"font\nsizes\n")
+    same(joe.does("list", "/option/", "--depth", "0"), b"/option/user\n/option/user/joe\n/option/user/joe/font\n/option/user/joe/sizes\n")
+    same(joe.does("find", "/option/~/", "option.value", "mono"), b"font\n")
+    same(joe.does("find", "/option/~/", "option.value", "-", given=b"mono"), b"font\n")
+    same(joe.does("find", "/option/~/", "option.value", "9"), b"sizes\n")
+    same(joe.does("find", "/option/~/", "option.value", "serif"), b"")
+    joe.does("unset", "/option/~/", "font", "option.value")
+    same(joe.does("get", "/option/~/", "font", "option.value"), b"")
+    joe.does("unset", "/option/~/", "font")
+    same(joe.does("list", "/option/~/"), b"sizes\n")
+
+
+@check("values of 0 to 65,536 octets, each octet among them")
+def _(client, server):
+    joe = Caller(client, server.port)
+    for count in (0, 1, 1_024, 1_025, 65_536):
+        value = (EVERY * 257)[255:][:count]
+        joe.does("set", "/octets/~/", f"n{count}", "v", "-", given=value)
+        row = b"n%d\tv\t" % count
+        same(joe.does("get", "/octets/~/", f"n{count}", "v"), row + escaped(value) + b"\n")
+        same(joe.does("get", "/octets/~/", f"n{count}", "v", options=["--raw-octets"]), row + value + b"\n")
+        same(joe.does("find", "/octets/~/", "v", "-", given=value), b"n%d\n" % count)
+    joe.does("set", "/octets/~/", "é", "v", "\\")
+    same(joe.does("get", "/octets/~/", "é", "v"), b"\\xc3\\xa9\tv\\x5c\n".replace(b"v", b"v\t"))
+    joe.fails("Limit reached", "set", "/octets/~/", "more", "v", "-", given=bytes(65_537))
+    joe.fails("Command too long", "set", "/octets/~/", "more", "v", "-", given=bytes(300_000))
+
+
+@check("acl, grant and revoke")
+def _(client, server):
+    joe, ann = Caller(client, server.port), Caller(client, server.port, "ann")
+    joe.does("set", "/lists/~/", "a", "k", "1")
+    same(joe.does("acl", "/lists/~/"), b"xrwia\n")
+    same(ann.does("acl", "/lists/user/joe/"), b"\n")
+    joe.does("grant", "/lists/~/", "ann", "xr")
+    same(joe.does("acl", "/lists/~/"), b"xrwia\njoe\txrwia\nann\txr\n")
+    same(ann.does("get", "/lists/user/joe/", "a", "k"), b"a\tk\t1\n")
+    joe.does("grant", "/lists/~/", "k", "ann", "rw")
+    same(joe.does("acl", "/lists/~/", "k").splitlines()[-1], b"ann\trw")
+    joe.does("grant", "/lists/~/", "k", "a", "anyone", "r")
+    same(joe.does("acl", "/lists/~/", "k", "a").splitlines()[-1], b"anyone\tr")
+    joe.does("grant", "/lists/~/", "--", "-ann", "w")
+    same(joe.does("acl", "/lists/~/").splitlines()[-1], b"-ann\tw")
+    joe.does("revoke", "/lists/~/", "ann")
+    same(joe.does("acl", "/lists/~/"), b"xrwia\njoe\txrwia\n-ann\tw\n")
+    same(b"ann\trw" in joe.does("acl", "/lists/~/", "k"), True)
+    joe.does("revoke", "/lists/~/", "k", "--all")
+    same(joe.does("acl", "/lists/~/", "k"), b"xrwia\n")
+    joe.does("revoke", "--all", "/lists/~/", "k", "a")
+    same(joe.does("acl", "/lists/~/", "k", "a"), b"xrwia\n")
+
+
+@check("raw, from a file and by a pipe")
+def _(client, server):
+    joe = Caller(client, server.port)
+    lines = b'A1 STORE ("/raw/~/a" "k" "1")\nA2 SEARCH "/raw/~/" RETURN ("k") EQUAL "entry" "i;octet" "a"\r\nA3 FROB\n'
+    wanted = [rb'A1 OK "STORE done"', rb'A2 ENTRY "a" "1"', rb'A2 MODTIME "\d{20}"', rb'A2 OK "SEARCH done"', rb'A3 BAD "Unknown command"', b""]
+
+    def is_as_wanted(out):
+        same([bool(re.fullmatch(line, said)) for line, said in zip(wanted, out.split(b"\n"), strict=True)], [True] * len(wanted))
+
+    is_as_wanted(joe.does("raw", given=lines))
+    with tempfile.TemporaryFile() as file:
+        file.write(lines)
+        file.seek(0)
+        ran = subprocess.run([*joe.words, "raw"], stdin=file, capture_output=True, timeout=30, check=True, env=joe.environment)
+    is_as_wanted(ran.stdout)
+    many = b"".join(b'B%d SEARCH "/raw/~/" RETURN ("*") ALL\n' % number for number in range(5_000))
+    same(joe.does("raw", given=many).count(b'OK "SEARCH done"\n'), 5_000)
+    talk = joe.start("raw")
+    talk.stdin.write(b"C1 NOOP\n")
+    talk.stdin.flush()
+    same(talk.stdout.readline(), b'C1 OK "NOOP done"\n')
+    out, err = talk.communicate(b"C2 LOGOUT\n", timeout=30)
+    same((out, err, talk.returncode), (b'* BYE "Good bye"\nC2 OK "LOGOUT done"\n', b"", 0))
+
+
+def applied(lines):
+    """The list that printed lines stand for: first its rows, and then changes."""
+    rows = []
+    for line in lines:
+        sign, *columns = line.split(b"\t")
+        if sign == b"+":
+            rows.insert(int(columns[0]) - 1, columns[1:])
+        elif sign == b"-":
+            same(rows.pop(int(columns[0]) - 1)[:1], columns[1:])
+        elif sign == b"=":
+            same(rows.pop(int(columns[0]) - 1)[:1], columns[2:3])
+            rows.insert(int(columns[1]) - 1, columns[2:])
+        else:
+            rows.append([sign, *columns])
+    return rows
+
+
+@check("watch, and 1,000 changes by others")
+def _(client, server):
+    root = server.client("root")
+    done(root, 'STORE ("/watched/" "dataset.acl" ("value" ("anyone\txrwi"))) ("/watched/e0" "k" "5") ("/watched/e1" "k" ("value" ("7" "8")))')
+    joe = Caller(client, server.port)
+    same(joe.does("watch", "/watched/", "--once"), b"e0\ne1\n")
+    same(joe.does("watch", "/watched/", "--once", "--attribute", "k"), b"e0\t5\ne1\t7\t8\n")
+    watching = joe.start("watch", "/watched/", "--attribute", "k", "--sort", "k")
+    same([watching.stdout.readline(), watching.stdout.readline()], [b"e0\t5\n", b"e1\t7\t8\n"])
+    others, picks = [server.client(user) for user in ("ann", "root", "joe")], random.Random(7)
+    for number in range(1_000):
+        given = picks.choice(['"k" "%02d"'] * 8 + ['"k" NIL', '"entry" NIL'])
+        given = given % picks.randrange(100) if "%" in given else given
+        done(others[number % 3], f'STORE ("/watched/e{picks.randrange(30)}" {given})')
+    done(root, 'STORE ("/watched/last" "k" "zz")')
+    lines = [b"e0\t5", b"e1\t7\t8"]
+    while b"\tlast\t" not in lines[-1]:
+        lines.append(watching.stdout.readline().rstrip(b"\n"))
+    watching.send_signal(signal.SIGINT)
+    watching.communicate(timeout=20)
+    same(watching.returncode, -signal.SIGINT)
+    rows = found(root, 'SEARCH "/watched/" RETURN ("k") SORT ("k" "i;octet") NOT EQUAL "entry" "i;octet" ""')
+    held = [[name, *([] if value == "NIL" else value if isinstance(value, list) else [value])] for name, value in rows]
+    same(applied(lines), held)
+    same(joe.does("watch", "/watched/", "--once", "--attribute", "k", "--sort", "k"), b"".join(b"\t".join(row) + b"\n" for row in held))
+    return f"{len(lines) - 2} lines"
+
+
+# ---- files of commands
+
+@check("load")
+def _(client, server):
+    root = Caller(client, server.port, "root")
+    big = b"".join(b'L%d STORE ("/loaded/e%d" "v" {3000+}\r\n%s)\r\n' % (number, number, b"\r\n%04d" % number * 500) for number in range(2_000))
+    same(root.does("load", given=big), b"")
+    same(root.does("get", "/loaded/", "e1999", "v", options=["--raw-octets"]), b"e1999\tv\t" + b"\r\n1999" * 500 + b"\n")
+    refused = b'X1 NOOP\r\nX2 STORE ("/nowhere/a" "modtime" "1")\r\nX3 FROB\r\n'
+    said = f"acapc: {root.words[1]}: commands are refused\n".encode()
+    same(root.call("load", given=refused), (b"X2\tInvalid value\nX3\tUnknown command\n", said, 1))
+
+
+# ---- what is refused
+
+@check("refused logins and commands")
+def _(client, server):
+    joe = Caller(client, server.port)
+    for caller in (Caller(client, server.port, secret="no such words"), Caller(client, server.port, secret="")):
+        caller.fails("Login failed", "list", "/")
+    joe.fails("Permission denied", "set", "/option/user/ann/", "a", "k", "1")
+    joe.fails("No such dataset", "get", "/nowhere/")
+    joe.fails("Invalid value", "set", "/option/~/", "a", "modtime", "1")
+    Caller(client, free_port()).fails("cannot connect: Connection refused (os error 111)", "list", "/")
+
+
+@check("a full server")
+def _(client, server):
+    joe, others = Caller(client, server.port), [server.greeted() for _ in range(SEATS)]
+    same(len(others), SEATS)
+    joe.fails("Too many sessions", "list", "/")
+
+
+@check("the words of a call")
+def _(client, server):
+    joe = Caller(client, server.port)
+    with tempfile.TemporaryDirectory() as folder:
+        file = pathlib.Path(folder) / "secret"
+        for secret in ("secret", "secret\n", "secret\r\n"):
+            file.write_bytes(secret.encode())
+            same(joe.call("list", "/", options=["--secret-file", file], environment={}), (joe.does("list", "/"), b"", 0))
+        out, err, status = joe.call("list", "/", options=["--secret-file", file.with_name("none")], environment={})
+        same((out, status), (b"", 1))
+        same(err.endswith(b": cannot read the secret's file: No such file or directory (os error 2)\n"), True)
+    for words in ((), ("--help",), ("--version",), ("frob",), ("get",), ("set", "/d/", "e", "a"), ("get", "d"), ("get", "/d/", "."), ("list", "/", "--depth", "x")):
+        out, err, status = joe.call(*words)
+        wanted = (0, True, False) if words[:1] in (("--help",), ("--version",)) else (2, False, True)
+        same((status, bool(out), bool(err)), wanted)
+    out, err, status = joe.call("list", "/", environment={})
+    same((out, status, b"ACAP_SECRET" in err), (b"", 2, True))
+
+
+# ---- servers that break off
+
+class Rude(threading.Thread):
+    """A server for one client. After the login it sends these octets, and closes."""
+
+    def __init__(self, answer, greeting=b'* ACAP (SASL "CRAM-MD5")\r\n'):
+        super().__init__(daemon=True)
+        self.listener, self.answer, self.greeting = socket.create_server(("127.0.0.1", 0)), answer, greeting
+        self.port = self.listener.getsockname()[1]
+        self.start()
+
+    def run(self):
+        with self.listener, self.listener.accept()[0] as peer, peer.makefile("rb") as lines:
+            peer.sendall(self.greeting)
+            if not self.greeting.startswith(b"* ACAP"):
+                return
+            for said in (b'+ "<1@here>"\r\n', b'L OK "done"\r\n', self.answer):
+                lines.readline()
+                peer.sendall(said)
+
+
+CLOSED = "the server has closed the session"
+
+
+@check("servers that break off")
+def _(client, server):
+    rows = [
+        (b"", b"", CLOSED),
+        (b'A1 ENTRY "a" "b"', b"", CLOSED),
+        (b'A1 ENTRY "a" "b"\r\nA1 ENTRY "c" {5}\r\nab', b"a\tk\tb\n", CLOSED),
+        (b'A1 ENTRY "a" "b"\r\n* BYE "Going down"\r\n', b"a\tk\tb\n", "Going down"),
+        (b'A1 ENTRY "a" "b"\r\nA1 NO "No \x07 luck\\\\"\r\n', b"a\tk\tb\n", "No \\x07 luck\\x5c"),
+        (b'A1 BAD "What?"\r\n', b"", "What?"),
+        (b"HTTP/1.1 400 Bad Request\r\n\r\n", b"", "the server doesn't speak ACAP"),
+        (b'* ALERT "hear"\r\nA1 ENTRY "a" {300000}\r\n' + b"x" * 300_000 + b'\r\nA1 OK "done"\r\n', b"a\tk\t" + b"x" * 300_000 + b"\n", None),
+    ]
+    for answer, printed, text in rows:
+        rude = Rude(answer)
+        said = f"acapc: 127.0.0.1:{rude.port}: {text}\n".encode() if text else b""
+        same(Caller(client, rude.port).call("get", "/d/", "a", "k"), (printed, said, 1 if text else 0))
+    for greeting, text in ((b"", CLOSED), (b'* BYE "Full"\r\n', "Full"), (b"220 smtp\r\n", "the server doesn't speak ACAP"), (b'A1 OK "?"\r\n', "the server doesn't greet")):
+        Caller(client, Rude(b"", greeting=greeting).port).fails(text, "list", "/")
+
+
+@check("nothing is printed of a secret")
+def _(client, server):
+    for secret in ("swordfish", "\x07" * 8):
+        joe = Caller(client, server.port, secret=secret)
+        for words in (("list", "/"), ("raw",), ("--help",), ("frob",)):
+            out, err, _ = joe.call(*words)
+            same(secret.encode() in out + err, False)
+
+
+# ---- all of it
+
+def stop(number, _frame):
+    if number == signal.SIGTERM:
+        sys.exit("stopped")
+    raise TimeoutError("it took too long")
+
+
+def tell(name, function, *given):
+    """Does a check within its time, and prints how it went."""
+    begun = time.monotonic()
+    signal.alarm(SECONDS)
+    try:
+        more = function(*given)
+    except Exception as fault:
+        sys.exit(f"{name}: NOT as wanted: {type(fault).__name__}: {fault}")
+    finally:
+        signal.alarm(0)
+    print(f"{name}: as wanted{f' ({more})' if more else ''}, {time.monotonic() - begun:.1f} s", flush=True)
+
+
+def main():
+    if len(sys.argv) < 3:
+        sys.exit(__doc__)
+    client, program = (str(pathlib.Path(word).resolve()) for word in sys.argv[1:3])
+    for number in (signal.SIGALRM, signal.SIGTERM):
+        signal.signal(number, stop)
+    with tempfile.TemporaryDirectory() as folder:
+        for name, function in CHECKS:
+            if not sys.argv[3:] or any(word in name for word in sys.argv[3:]):
+                with Server(program, folder) as server:
+                    server.greeted().close()
+                    tell(name, function, client, server)
+
+
+if __name__ == "__main__":
+    main()
