@@ -26,7 +26,7 @@ of when that is. All other refusals are answered exactly where these clauses say
 def crates():
     lines = (TOP / "crates.txt").read_text().splitlines()
     names = [line.split(":")[0] for line in lines if line.strip() and not line.startswith("#")]
-    return [name for name in names if not name.endswith(TESTS) and name != "acapd"]
+    return [name for name in names if not name.endswith(TESTS) and name not in ("acapd", "acapc")]
 
 
 def exported(crate):
