@@ -4,7 +4,7 @@ ghost use Rattle.std.specs.Prelude.{◌≡◌, IfOk, IfSome, Ok};
 
 use crate::failure::Failure;
 use crate::session::{LIMIT, Session};
-use acap_client::{Ending, Heard, Line, Reader};
+use acap_client::{Ending, Heard, Line, ReadFault, Reader};
 use acap_entries::Memory;
 use acap_shell::{Form, print_name, print_octets, print_stream, sent_lines};
 use mio::unix::SourceFd;
@@ -37,6 +37,9 @@ struct Relay<'a> {
     // of `load`, what reads the lines that are answered
     reader: Option<Reader>,
     refusals: bool,
+    // of `raw`, what hears whether the server takes its leave
+    listener: Reader,
+    is_bye: bool,
     unsent: Vec<u8>,
     is_waited_for: bool,
     is_over: bool,
@@ -102,6 +105,23 @@ fn print_refusals(out: &mut Vec<u8>, reader: &mut Reader, form: Form) -> Result<
     Ok(is_refused)
 }
 
+/// Whether the server takes its leave among the lines that have come.
+fn says_bye(reader: &mut Reader) -> Result<bool, Memory> {
+    let mut is_bye = false;
+    for _ in 0..u64::MAX {
+        match reader.next()? {
+            Heard::Line(response) => {
+                if let Some(Line::Bye(_, _)) = response.line() {
+                    is_bye = true;
+                }
+            }
+            Heard::Fault(ReadFault::Unknown) => {}
+            Heard::More | Heard::Fault(_) => break,
+        }
+    }
+    Ok(is_bye)
+}
+
 impl<'a> Relay<'a> {
     /// Reads from standard input once.
     fn read_input(&mut self) -> Result<(), Failure> {
@@ -163,7 +183,11 @@ impl<'a> Relay<'a> {
                 reader.push(octets)?;
                 self.refusals |= print_refusals(&mut out, reader, self.form)?;
             }
-            None => print_stream(&mut out, self.form, octets)?,
+            None => {
+                self.listener.push(octets)?;
+                self.is_bye |= says_bye(&mut self.listener)?;
+                print_stream(&mut out, self.form, octets)?;
+            }
         }
         match io::writer(self.rt).write_all(&out) {
             Ok(()) => Ok(()),
@@ -229,7 +253,7 @@ impl<'a> Relay<'a> {
                 }
             }
         }
-        if !self.is_over {
+        if !self.is_over && !self.is_bye {
             Err(Failure::Other("the server has closed the session"))
         } else if self.refusals {
             Err(Failure::Other("commands are refused"))
@@ -281,6 +305,8 @@ pub(crate) fn pass_lines(
                     None
                 },
                 refusals: false,
+                listener: Reader::new(rt.alloc(), LIMIT),
+                is_bye: false,
                 unsent: Vec::new(rt.alloc()),
                 is_waited_for,
                 is_over: false,
