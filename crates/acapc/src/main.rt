@@ -4,6 +4,7 @@
 mod arguments;
 mod doing;
 mod failure;
+mod hearing;
 mod meaning;
 mod relaying;
 mod secret;
