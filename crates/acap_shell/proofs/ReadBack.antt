@@ -1,7 +1,8 @@
 -- What is printed can be read back.
-use Rattle.std.proofs.Common.{◌≡◌, ℕ, List, [], ◌∷◌, ◌++◌, refl, true, ap, ◌∙◌, arith}
+use Rattle.std.proofs.Common.{◌≡◌, ℕ, List, [], ◌∷◌, ◌++◌, refl, true, false, ap, ◌∙◌, arith}
 use Rattle.std.specs.List.{list_all}
-use Rattle.acap_shell.specs.Escapes.{escape, is_plain, hex_digit, digit_value, printed_value, read_from, read_back, Plain}
+use Rattle.acap_shell.specs.Escapes.{escape, is_plain, hex_digit, digit_value, printed_value, read_from}
+use Rattle.acap_shell.specs.Escapes.{read_back, Plain}
 
 digit_back : (n : ℕ) → digit_value (hex_digit n) ≡ n
 digit_back n = grind arith

@@ -1,5 +1,6 @@
 -- How octets are printed: those that aren't printable ASCII, and the backslash, as `\x` and two hex digits.
-use Rattle.std.specs.Prelude.{ℕ, ◌+◌, ◌-◌, ◌*◌, ◌/◌, ◌%◌, ◌==◌, ◌&&◌, not, nat_le, nat_lt, Bool, List, [], ◌∷◌, flat_map, if◌then◌else◌}
+use Rattle.std.specs.Prelude.{ℕ, ◌+◌, ◌-◌, ◌*◌, ◌/◌, ◌%◌, ◌==◌, ◌&&◌, not, nat_le, nat_lt, Bool, List}
+use Rattle.std.specs.Prelude.{[], ◌∷◌, flat_map, if◌then◌else◌}
 use Rattle.acap_shell.specs.declared.form.Form.{Form}
 use Rattle.acap_shell.specs.declared.form.Form.TheVariants as form
 
@@ -41,7 +42,8 @@ columns_by form.Raw octets = octets
 abbrev pub digit_value : ℕ → ℕ
 digit_value c = if nat_lt c 58 then c - 48 else c - 87
 
--- what comes next: an octet or a code; the `x` of a code; its first digit; its last, where the first stands for this
+-- what comes next: an octet or a code; the `x` of a code; its first digit; its last, where the first stands for
+-- this
 pub data Place : Type 0 where
   Plain : Place
   Marked : Place

@@ -5,3 +5,5 @@ pub mod Stores
 pub mod Objects
 pub mod Streams
 pub mod Watching
+pub mod Dumping
+pub mod Literals

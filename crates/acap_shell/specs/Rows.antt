@@ -1,6 +1,6 @@
 -- What is answered, as lines that are printed [RFC 2244 section 6.4.2].
 use Rattle.std.specs.Prelude.{ℕ, List, [], ◌∷◌, ◌++◌, codes, flat_map}
-use Rattle.acap_grammar.specs.Lines.{Datum, Text, Empty, Pair}
+use Rattle.acap_grammar.specs.Lines.{Datum, Word, Text, Empty, Pair}
 use Rattle.acap_shell.specs.Escapes.{columns_by, printed_by}
 use Rattle.acap_shell.specs.declared.form.Form.{Form}
 

@@ -31,7 +31,8 @@ is_named name = equals entry name
 
 -- one item of RETURN
 abbrev pub returning : ReturnName → List Metadata → SearchModifiers
-returning name metadata = record no_modifiers { returns = Some (record { name = name; metadata = metadata } ∷ []) }
+returning name metadata =
+    record no_modifiers { returns = Some (record { name = name; metadata = metadata } ∷ []) }
 
 abbrev pub value_of : List ℕ → SearchModifiers
 value_of attribute = returning (name.Named attribute) (metadata.Value ∷ [])

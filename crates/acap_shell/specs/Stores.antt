@@ -7,6 +7,7 @@ use Rattle.acap_commands.specs.declared.command.Command.{Command}
 use Rattle.acap_commands.specs.declared.command.Command.TheVariants as command
 use Rattle.acap_commands.specs.declared.given.Given.{Given}
 use Rattle.acap_commands.specs.declared.given.Given.TheVariants as given
+use Rattle.acap_commands.specs.declared.store_entry.StoreEntry.{StoreEntry}
 use Rattle.acap_commands.specs.declared.store_item.StoreItem.{StoreItem}
 use Rattle.acap_commands.specs.declared.store_metadata.StoreMetadata.TheVariants as stored
 use Rattle.acap_shell.specs.Searches.{entry}

@@ -1,6 +1,7 @@
 -- A list that is followed: the SEARCH that makes it, and its rows and changes as lines that are printed
 -- [RFC 2244 sections 3.3, 6.4.1 and 6.5].
-use Rattle.std.specs.Prelude.{ℕ, nat_le, Bool, true, List, [], ◌∷◌, ◌++◌, codes, decimal, flat_map, Option, Some, None, option_map, if◌then◌else◌}
+use Rattle.std.specs.Prelude.{ℕ, nat_le, Bool, true, List, [], ◌∷◌, ◌++◌, codes, decimal, flat_map}
+use Rattle.std.specs.Prelude.{Option, Some, None, option_map, if◌then◌else◌}
 use Rattle.acap_commands.specs.Wanted.{Not}
 use Rattle.acap_commands.specs.declared.command.Command.{Command}
 use Rattle.acap_commands.specs.declared.make_context.MakeContext.{MakeContext}
@@ -25,7 +26,8 @@ attribute_or_name None = entry
 abbrev pub watch : List ℕ → List ℕ → Option (List ℕ) → Option (List ℕ) → Command
 watch dataset context attribute sort =
     search dataset
-    (record (value_of (attribute_or_name attribute)) { make_context = Some (followed context); sort = option_map sorted_by sort })
+    (record (value_of (attribute_or_name attribute))
+    { make_context = Some (followed context); sort = option_map sorted_by sort })
     (Not (is_named []))
 
 -- an entry, and its values if they are wanted
@@ -41,6 +43,8 @@ position n = (if nat_le n 4294967295 then decimal n else codes "?") ++ codes "\t
 
 abbrev pub change : Form → Bool → Line → List ℕ
 change form wanted (AddTo context entry at items) = codes "+\t" ++ position at ++ row form wanted entry items
-change form wanted (RemoveFrom context entry at) = codes "-\t" ++ position at ++ printed_by form entry ++ codes "\n"
-change form wanted (Change context entry old new items) = codes "=\t" ++ position old ++ position new ++ row form wanted entry items
+change form wanted (RemoveFrom context entry at) =
+    codes "-\t" ++ position at ++ printed_by form entry ++ codes "\n"
+change form wanted (Change context entry old new items) =
+    codes "=\t" ++ position old ++ position new ++ row form wanted entry items
 change form wanted _ = []

@@ -1,7 +1,8 @@
 //! Octets, as they are printed.
 
 ghost use Rattle.std.specs.Prelude.{◌≡◌, ◌<◌, ◌++◌, OnOk, flat_map};
-ghost use Rattle.acap_shell.specs.Escapes.{columns_by, escape, escape_column, is_plain, hex_digit, printed_by, printed_value};
+ghost use Rattle.acap_shell.specs.Escapes.{columns_by, escape, escape_column};
+ghost use Rattle.acap_shell.specs.Escapes.{hex_digit, is_plain, printed_by, printed_value};
 
 use crate::form::Form;
 use acap_entries::Memory;

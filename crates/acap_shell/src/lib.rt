@@ -1,9 +1,11 @@
 //! What the words of `acapc` stand for, as commands of the protocol (RFC 2244), and how what is answered is printed. It has no handle.
 #![tactic(auto)]
 
+mod dumping;
 mod escapes;
 mod form;
 mod laws;
+mod literals;
 mod objects;
 mod rows;
 mod searches;
@@ -11,9 +13,11 @@ mod stores;
 mod streams;
 mod watching;
 
+pub use dumping::{dump, is_inheritance, own_item, store_item, stored_items};
 pub use escapes::print_octets;
 pub use form::Form;
 pub use laws::{plain_law, read_back_law};
+pub use literals::{is_long, list_line};
 pub use objects::{access_list, grant, my_rights, revoke, revoke_all};
 pub use rows::{print_attributes, print_name, print_rights, print_value};
 pub use searches::{find, get, list};

@@ -2,7 +2,8 @@
 
 ghost use Rattle.std.specs.Prelude.{◌≡◌, ◌++◌, OnOk, flat_map};
 ghost use Rattle.acap_client.specs.Arguments.{data_in};
-ghost use Rattle.acap_shell.specs.Rows.{attribute_rows, attributes_rows, column, line, list_rows, row, first_texts, pair_row, rights_rows, value_rows};
+ghost use Rattle.acap_shell.specs.Rows.{attribute_rows, attributes_rows, column, first_texts, line, list_rows};
+ghost use Rattle.acap_shell.specs.Rows.{pair_row, rights_rows, row, value_rows};
 
 use crate::escapes::{print_columns, print_octets};
 use crate::form::Form;
@@ -37,7 +38,8 @@ struct Place<'a> {
 
 /// Adds a line of an entry, an attribute and a value.
 fn print_row(out: &mut Vec<u8>, place: &Place, value: &[u8]) -> Result<(), Memory>
-    ensures { OnOk result (out.new.items ≡ out.old.items ++ row place.now.form place.now.entry.now place.now.attribute.now value.now) }
+    ensures { OnOk result (out.new.items
+        ≡ out.old.items ++ row place.now.form place.now.entry.now place.now.attribute.now value.now) }
 {
     print_column(out, place.form, place.entry)?;
     print_column(out, place.form, place.attribute)?;
@@ -46,7 +48,8 @@ fn print_row(out: &mut Vec<u8>, place: &Place, value: &[u8]) -> Result<(), Memor
 
 /// Adds a line for each string that stands first.
 fn print_texts(out: &mut Vec<u8>, place: &Place, texts: &Data) -> Result<(), Memory>
-    ensures { OnOk result (out.new.items ≡ out.old.items ++ flat_map (row place.now.form place.now.entry.now place.now.attribute.now)
+    ensures { OnOk result (out.new.items
+        ≡ out.old.items ++ flat_map (row place.now.form place.now.entry.now place.now.attribute.now)
         (first_texts (data_in texts.now))) }
 {
     let mut left = *texts;
@@ -59,7 +62,8 @@ fn print_texts(out: &mut Vec<u8>, place: &Place, texts: &Data) -> Result<(), Mem
 
 /// Adds a line for each string of the value that stands first.
 fn print_first(out: &mut Vec<u8>, place: &Place, items: &Data) -> Result<(), Memory>
-    ensures { OnOk result (out.new.items ≡ out.old.items ++ value_rows place.now.form place.now.entry.now place.now.attribute.now
+    ensures { OnOk result (out.new.items
+        ≡ out.old.items ++ value_rows place.now.form place.now.entry.now place.now.attribute.now
         (data_in items.now)) }
 {
     match items.group() {
@@ -81,7 +85,8 @@ pub fn print_value(
     attribute: &[u8],
     items: &Data,
 ) -> Result<(), Memory>
-    ensures { OnOk result (out.new.items ≡ out.old.items ++ value_rows form entry.now attribute.now (data_in items.now)) }
+    ensures { OnOk result (out.new.items
+        ≡ out.old.items ++ value_rows form entry.now attribute.now (data_in items.now)) }
 {
     let place = Place {
         form,
@@ -93,7 +98,8 @@ pub fn print_value(
 
 /// Adds the lines of an attribute and its value.
 fn print_attribute(out: &mut Vec<u8>, form: Form, entry: &[u8], pair: &Data) -> Result<(), Memory>
-    ensures { OnOk result (out.new.items ≡ out.old.items ++ attribute_rows form entry.now (data_in pair.now)) }
+    ensures { OnOk result (out.new.items
+        ≡ out.old.items ++ attribute_rows form entry.now (data_in pair.now)) }
 {
     match pair.text() {
         Some((attribute, value)) => print_value(out, form, entry, attribute, &value),
@@ -103,7 +109,8 @@ fn print_attribute(out: &mut Vec<u8>, form: Form, entry: &[u8], pair: &Data) -> 
 
 /// Adds the lines of each attribute and its value.
 fn print_list(out: &mut Vec<u8>, form: Form, entry: &[u8], pairs: &Data) -> Result<(), Memory>
-    ensures { OnOk result (out.new.items ≡ out.old.items ++ list_rows form entry.now (data_in pairs.now)) }
+    ensures { OnOk result (out.new.items
+        ≡ out.old.items ++ list_rows form entry.now (data_in pairs.now)) }
 {
     let mut left = *pairs;
     'pairs: while let Some((pair, others)) = left.group() {
@@ -121,7 +128,8 @@ pub fn print_attributes(
     entry: &[u8],
     items: &Data,
 ) -> Result<(), Memory>
-    ensures { OnOk result (out.new.items ≡ out.old.items ++ attributes_rows form entry.now (data_in items.now)) }
+    ensures { OnOk result (out.new.items
+        ≡ out.old.items ++ attributes_rows form entry.now (data_in items.now)) }
 {
     match items.group() {
         Some((pairs, _)) => print_list(out, form, entry, &pairs),
@@ -145,7 +153,8 @@ pub fn print_rights(out: &mut Vec<u8>, form: Form, items: &Data) -> Result<(), M
 
 /// Adds a line for each string that stands first.
 fn print_pairs(out: &mut Vec<u8>, form: Form, pairs: &Data) -> Result<(), Memory>
-    ensures { OnOk result (out.new.items ≡ out.old.items ++ flat_map (pair_row form) (first_texts (data_in pairs.now))) }
+    ensures { OnOk result (out.new.items
+        ≡ out.old.items ++ flat_map (pair_row form) (first_texts (data_in pairs.now))) }
 {
     let mut left = *pairs;
     'pairs: while let Some((pair, others)) = left.text() {

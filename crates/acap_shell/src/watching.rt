@@ -68,7 +68,8 @@ fn print_cell(out: &mut Vec<u8>, form: Form, value: &[u8]) -> Result<(), Memory>
 
 /// Adds each string that stands first, after a TAB each.
 fn print_texts(out: &mut Vec<u8>, form: Form, texts: &Data) -> Result<(), Memory>
-    ensures { OnOk result (out.new.items ≡ out.old.items ++ flat_map (cell form) (first_texts (data_in texts.now))) }
+    ensures { OnOk result (out.new.items
+        ≡ out.old.items ++ flat_map (cell form) (first_texts (data_in texts.now))) }
 {
     let mut left = *texts;
     'texts: while let Some((text, others)) = left.text() {
@@ -80,7 +81,8 @@ fn print_texts(out: &mut Vec<u8>, form: Form, texts: &Data) -> Result<(), Memory
 
 /// Adds the values of an attribute, after a TAB each.
 fn print_values(out: &mut Vec<u8>, form: Form, items: &Data) -> Result<(), Memory>
-    ensures { OnOk result (out.new.items ≡ out.old.items ++ flat_map (cell form) (values (data_in items.now))) }
+    ensures { OnOk result (out.new.items
+        ≡ out.old.items ++ flat_map (cell form) (values (data_in items.now))) }
 {
     match items.group() {
         Some((list, _)) => print_texts(out, form, &list),
@@ -93,7 +95,8 @@ fn print_values(out: &mut Vec<u8>, form: Form, items: &Data) -> Result<(), Memor
 
 /// Adds the values of an attribute, if they are wanted.
 fn print_wanted(out: &mut Vec<u8>, form: Form, values: bool, items: &Data) -> Result<(), Memory>
-    ensures { OnOk result (out.new.items ≡ out.old.items ++ watching.cells form values (data_in items.now)) }
+    ensures { OnOk result (out.new.items
+        ≡ out.old.items ++ watching.cells form values (data_in items.now)) }
 {
     if values {
         print_values(out, form, items)
@@ -111,7 +114,8 @@ pub fn print_row(
     entry: &[u8],
     items: &Data,
 ) -> Result<(), Memory>
-    ensures { OnOk result (out.new.items ≡ out.old.items ++ watching.row form values entry.now (data_in items.now)) }
+    ensures { OnOk result (out.new.items
+        ≡ out.old.items ++ watching.row form values entry.now (data_in items.now)) }
 {
     print_octets(out, form, entry)?;
     print_wanted(out, form, values, items)?;
@@ -121,7 +125,8 @@ pub fn print_row(
 
 /// Adds a position and a TAB.
 fn print_position(out: &mut Vec<u8>, position: &Number) -> Result<(), Memory>
-    ensures { OnOk result (out.new.items ≡ out.old.items ++ watching.position (value_in position.now)) }
+    ensures { OnOk result (out.new.items
+        ≡ out.old.items ++ watching.position (value_in position.now)) }
 {
     match position.at_most(u32::MAX) {
         Some(position) => {
@@ -139,7 +144,8 @@ fn print_position(out: &mut Vec<u8>, position: &Number) -> Result<(), Memory>
 /// the row of one that has changed. Of any other line it adds none. Fails only for want of memory, and then a prefix may
 /// have been added.
 pub fn print_change(out: &mut Vec<u8>, form: Form, values: bool, line: &Line) -> Result<(), Memory>
-    ensures { OnOk result (out.new.items ≡ out.old.items ++ watching.change form values (said line.now)) }
+    ensures { OnOk result (out.new.items
+        ≡ out.old.items ++ watching.change form values (said line.now)) }
 {
     match line {
         Line::AddTo(_, entry, position, items) => {
