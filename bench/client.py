@@ -17,7 +17,7 @@ import tempfile
 import threading
 import time
 
-from serve import SEATS, USERS, Server, done, found, free_port, same
+from serve import SEATS, USERS, Server, done, found, free_port, same, string
 
 SECONDS = 60  # that a check may take
 EVERY = bytes(range(256))
@@ -207,17 +207,90 @@ def _(client, server):
     return f"{len(lines) - 2} lines"
 
 
-# ---- files of commands
+# ---- a dump, and a server that loads it
 
-@check("load")
+LOST = b"not kept: moments, remembered deletions, NIL and deletions over a base, and lists without a value\n"
+
+
+ODD = [b"plain", b"", b'quo"te \\', b"two\r\nlines", b"\xff\xfe\0", "é".encode(), b"x" * 1_024, b"x" * 1_025, b'"' * 600]
+FIVE = [("joe", "/option/~/"), ("joe", "/option/~/work/"), ("ann", "/option/~/"), ("ann", "/book/~/"), ("joe", "/a/~/")]
+RIGHTS = ['("/option/~/") "ann" "xr"', '("/option/~/" "k1") "ann" ""', '("/option/~/" "k2" "e3") "ann" "r"',
+          '("/a/~/") "anyone" "r"', '("/option/~/" "entry" "e5") "-ann" "xr"']
+
+
+def entry(dataset, number):
+    """A STORE of the entry of that number: some odd strings, and in each second one a list."""
+    items = b"".join(b' "k%d" %s' % (item, string(ODD[(number + item) % len(ODD)])) for item in range(number % 5))
+    members = b' "list" ("value" (%s))' % b" ".join(string(ODD[item]) for item in range(number % 7))
+    return b'STORE ("%se%d" "entry" "e%d"%s%s)' % (dataset.encode(), number, number, items, members * (number % 2))
+
+
+def fill(server):
+    """Stores 200 entries in 5 datasets of two users, inheritance, access lists, datasets without entries, and large entries and lists."""
+    clients = {user: server.client(user) for user in ("joe", "ann")}
+    joe, ann = clients["joe"], clients["ann"]
+    for number in range(40):
+        for user, dataset in FIVE:
+            done(clients[user], entry(dataset, number))
+    done(ann, 'STORE ("/option/~/" "dataset.inherit" "/book/~/" "note" "heir")')
+    done(joe, 'STORE ("/a/~/" "dataset.inherit" "/option/~/work/") ("/option/~/work/" "dataset.inherit" "/option/~/")')
+    done(joe, 'STORE ("/option/~/void/" "note" "x") ("/option/~/bare" "subdataset" ("value" (".")))')
+    for rights in RIGHTS:
+        done(joe, f"SETACL {rights}")
+    for front in range(0, 250, 50):  # more than a command has room for
+        items = b"".join(b' "wide%d" {1500+}\r\n%s' % (item, b"%03d" % item * 500) for item in range(front, front + 50))
+        done(joe, b'STORE ("/option/~/wide"%s)' % items)
+    items = b"".join(b' "%d" {900+}\r\n%s' % (item, b"%03d" % item * 300) for item in range(100))  # more than a line has room for
+    done(joe, b'STORE ("/option/~/long"%s)' % items)
+    done(joe, b'STORE ("/option/~/many" "list" ("value" (%s)))' % b" ".join([b'"i"'] * 256))
+    long = [b"%03d" % number + b'"' * 500 for number in range(200)]
+    done(joe, b'STORE ("/option/~/lists" "v" ("value" (%s)))' % b" ".join(b"{%d+}\r\n%s" % (len(it), it) for it in long))
+    done(joe, b'STORE ("/option/~/lists" "w" ("value" (%s)))' % b" ".join([b"{1000+}\r\n" + b"x" * 1_000] * 256))
+
+
+
+SEARCHES = [
+    f'SEARCH "{dataset}" {modifiers}RETURN ("*" ("attribute" "value" "acl" "myrights")) ALL'
+    for dataset in ("/", "/option/user/joe/", "/option/user/joe/work/", "/option/user/ann/", "/book/user/ann/", "/a/user/joe/")
+    for modifiers in ("", "DEPTH 0 ", "NOINHERIT ")
+]
+
+
+def rows_of(server):
+    """What each user finds by each search, but for modtime."""
+    return {
+        (user, text): [[name, [item for item in data if item[0] != b"modtime"]] for name, data in found(client, text)]
+        for user in USERS
+        for client in [server.client(user)]
+        for text in SEARCHES
+    }
+
+
+@check("dump and load")
 def _(client, server):
-    root = Caller(client, server.port, "root")
-    big = b"".join(b'L%d STORE ("/loaded/e%d" "v" {3000+}\r\n%s)\r\n' % (number, number, b"\r\n%04d" % number * 500) for number in range(2_000))
-    same(root.does("load", given=big), b"")
-    same(root.does("get", "/loaded/", "e1999", "v", options=["--raw-octets"]), b"e1999\tv\t" + b"\r\n1999" * 500 + b"\n")
-    refused = b'X1 NOOP\r\nX2 STORE ("/nowhere/a" "modtime" "1")\r\nX3 FROB\r\n'
-    said = f"acapc: {root.words[1]}: commands are refused\n".encode()
-    same(root.call("load", given=refused), (b"X2\tInvalid value\nX3\tUnknown command\n", said, 1))
+    fill(server)
+    wanted, root = rows_of(server), Caller(client, server.port, "root")
+    out, err, status = root.call("dump")
+    same((err, status), (LOST, 0))
+    Caller(client, server.port).fails("only an administrator can dump all", "dump")
+    with tempfile.TemporaryDirectory() as folder:
+        start = pathlib.Path(folder) / "start.acap"
+        start.write_bytes(out)
+        with Server(server.process.args[0], folder) as loaded, Server(server.process.args[0], folder, start=start) as begun:
+            loaded.greeted().close()
+            same(Caller(client, loaded.port, "root").does("load", given=out), b"")
+            for other in (loaded, begun):
+                for key, rows in rows_of(other).items():
+                    same((key, rows), (key, wanted[key]))
+                same(Caller(client, other.port, "root").call("dump"), (out, LOST, 0))
+            refused = b'X1 NOOP\r\nX2 STORE ("/nowhere/a" "modtime" "1")\r\nX3 FROB\r\n'
+            said = f"acapc: 127.0.0.1:{loaded.port}: commands are refused\n".encode()
+            same(Caller(client, loaded.port, "root").call("load", given=refused), (b"X2\tInvalid value\nX3\tUnknown command\n", said, 1))
+    name = "n" * 1_010
+    done(server.client("joe"), f'STORE ("/option/~/{name}" "k" "v")')
+    said = f"not written: /option/user/joe/{name}\n".encode() + LOST + f"acapc: {root.words[1]}: not all is written\n".encode()
+    same(root.call("dump"), (out, said, 1))
+    return f"{sum(map(len, wanted.values()))} rows, {len(out)} octets, {out.count(b' STORE (')} commands"
 
 
 # ---- what is refused

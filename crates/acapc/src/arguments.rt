@@ -106,7 +106,7 @@ fn with_lists<'a>(alloc: Global, program: Command<'a>) -> Result<Command<'a>, Al
         .subcommand(revoke)
 }
 
-/// `watch`, `load` and `raw`.
+/// `watch`, `dump`, `load` and `raw`.
 fn with_loops<'a>(alloc: Global, program: Command<'a>) -> Result<Command<'a>, AllocError> {
     let attribute = Arg::new(alloc, "attribute")
         .long("attribute")
@@ -129,10 +129,17 @@ fn with_loops<'a>(alloc: Global, program: Command<'a>) -> Result<Command<'a>, Al
     let raw = Command::new(alloc, "raw").about(
         "Send lines of standard input, and print what is answered",
     );
+    let dump = Command::new(alloc, "dump").about(
+        "Print what the server holds, as the commands that make it again",
+    );
     let load = Command::new(alloc, "load").about(
         "Send a file of commands from standard input, and print what is refused",
     );
-    program.subcommand(watch)?.subcommand(load)?.subcommand(raw)
+    program
+        .subcommand(watch)?
+        .subcommand(dump)?
+        .subcommand(load)?
+        .subcommand(raw)
 }
 
 /// The program, with all its commands.

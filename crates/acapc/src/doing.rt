@@ -1,5 +1,6 @@
 //! What a call does.
 
+use crate::dumping::print_dump;
 use crate::failure::Failure;
 use crate::meaning::{Meaning, read_meaning};
 use crate::relaying::pass_lines;
@@ -60,6 +61,10 @@ pub(crate) fn run(rt: &HostRuntime, matches: &ArgMatches) -> Result<(), Failure>
         "watch" => {
             let wanted = read_watch(rt.alloc(), words)?;
             follow_list(rt, &mut logged_in(rt, matches, false)?, form, &wanted)
+        }
+        "dump" => {
+            let user = matches.get_str("USER").unwrap_or("");
+            print_dump(rt, &mut logged_in(rt, matches, false)?, user)
         }
         "raw" => pass_lines(rt, logged_in(rt, matches, true)?, form, false),
         "load" => pass_lines(rt, logged_in(rt, matches, true)?, form, true),

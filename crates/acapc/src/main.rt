@@ -3,6 +3,7 @@
 
 mod arguments;
 mod doing;
+mod dumping;
 mod failure;
 mod hearing;
 mod meaning;
