@@ -1,0 +1,4 @@
+pub mod Ahead
+pub mod Examples
+pub mod Following
+pub mod Seat
