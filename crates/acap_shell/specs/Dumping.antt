@@ -26,7 +26,9 @@ all_metadata = metadata.Attribute ∷ metadata.Value ∷ metadata.Acl ∷ []
 
 abbrev pub dump : List ℕ → Command
 dump root =
-    search root (record (returning (name.Beginning []) all_metadata) { depth = Some 0; no_inherit = true }) (One test.All)
+    search root
+    (record (returning (name.Beginning []) all_metadata) { depth = Some 0; no_inherit = true })
+    (One test.All)
 
 -- a string, a list of strings, or NIL
 abbrev pub list_of : List Datum → Cell
@@ -46,7 +48,8 @@ cell_at (first ∷ others) = Some (cell_in first, others)
 -- what an attribute is given: nothing where that is NIL
 abbrev pub item_of : List ℕ → StoreMetadata → Cell → Option StoreItem
 item_of attribute metadata cell.Nil = None
-item_of attribute metadata c = Some (record { attribute = attribute; metadata = metadata; given = given.Put c })
+item_of attribute metadata c =
+    Some (record { attribute = attribute; metadata = metadata; given = given.Put c })
 
 -- the server makes `modtime`, and `entry` is the name
 abbrev pub is_stored : List ℕ → Bool

@@ -14,7 +14,8 @@ use Rattle.acap_shell.specs.Searches.{entry}
 
 -- a STORE of one item
 abbrev pub store_item : Path → StoreItem → Command
-store_item path item = command.Store (record { path = path; modifiers = unconditional; items = item ∷ [] } ∷ [])
+store_item path item =
+    command.Store (record { path = path; modifiers = unconditional; items = item ∷ [] } ∷ [])
 
 -- a STORE of one value
 abbrev pub item : List ℕ → Given → StoreItem

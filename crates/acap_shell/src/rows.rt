@@ -2,7 +2,8 @@
 
 ghost use Rattle.std.specs.Prelude.{◌≡◌, ◌++◌, OnOk, flat_map};
 ghost use Rattle.acap_client.specs.Arguments.{data_in};
-ghost use Rattle.acap_shell.specs.Rows.{attribute_rows, attributes_rows, column, first_texts, line, list_rows};
+ghost use Rattle.acap_shell.specs.Rows.{attribute_rows, attributes_rows, column, first_texts, line};
+ghost use Rattle.acap_shell.specs.Rows.{list_rows};
 ghost use Rattle.acap_shell.specs.Rows.{pair_row, rights_rows, row, value_rows};
 
 use crate::escapes::{print_columns, print_octets};

@@ -1,5 +1,6 @@
 -- A client that sends commands before it has read all replies to those before them [RFC 2244 section 2.2].
-use Rattle.std.specs.Prelude.{◌≡◌, ℕ, ◌==◌, Bool, false, List, [], ◌∷◌, ◌++◌, map, bytes_eq, Option, Some, None, if◌then◌else◌}
+use Rattle.std.specs.Prelude.{◌≡◌, ℕ, ◌==◌, Bool, false, List, [], ◌∷◌, ◌++◌, map, bytes_eq, Option, Some}
+use Rattle.std.specs.Prelude.{None, if◌then◌else◌}
 use Rattle.acap_commands.specs.declared.command.Command.{Command}
 use Rattle.acap_grammar.specs.Lines.{Line, Completion, Entry}
 use Rattle.acap_client.specs.Following.{Follower, new, ask, follow, followed_with}

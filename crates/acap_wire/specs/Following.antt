@@ -15,9 +15,11 @@ use Rattle.acap_moves.specs.Hits.{is_among}
 use Rattle.acap_notices.specs.declared.told.Told.{Told}
 use Rattle.acap_views.specs.Current.{rows}
 use Rattle.acap_session.specs.Live as live
-use Rattle.acap_session.specs.Live.{AreNamed, MayLogIn, Telling, IsTelling, all_steps, start, told_in, whole_in}
+use Rattle.acap_session.specs.Live.{AreNamed, MayLogIn, Telling, IsTelling, all_steps, start, told_in}
+use Rattle.acap_session.specs.Live.{whole_in}
 use Rattle.acap_session.specs.World.{Step, World, world_after}
-use Rattle.acap_wire.specs.Seat.{ArePrintable, after_lines, before_lines, follower_in, lines_in, lines_read, octets_in, said_in}
+use Rattle.acap_wire.specs.Seat.{ArePrintable, after_lines, before_lines, follower_in, lines_in}
+use Rattle.acap_wire.specs.Seat.{lines_read, octets_in, said_in}
 
 -- the rows of the list that a client was told last, as they are printed: in their positions with ENUMERATE, by
 -- name without
@@ -98,15 +100,17 @@ pub record FollowerLawOf (Named : List User → List Step → Type 0) : Type 0 w
   pub fits : (t : Telling) (x : View) → IsFollowing Named t x → IsReadable t → IsOwn t
       → is_among t.name (after_lines (world_before t) t.last (follower_before t)).1 ≡ false
   -- where an UPDATECONTEXT of its name has just ended it is complete
-  pub complete : (t : Telling) (x : View) (names : List (List ℕ)) (tolds : List Told) → IsFollowing Named t x → IsReadable t
-      → IsOwn t → told_in (world_before t) t.last ≡ Some (asks_update names, said.Updated tolds)
+  pub complete : (t : Telling) (x : View) (names : List (List ℕ)) (tolds : List Told)
+      → IsFollowing Named t x → IsReadable t → IsOwn t
+      → told_in (world_before t) t.last ≡ Some (asks_update names, said.Updated tolds)
       → is_among t.name names ≡ true → HoldsAll x t.name (follower t)
   -- where an UPDATECONTEXT of its name has just ended, or a drain, these rows are what a search finds then
   pub told : (t : Telling) (x : View) → IsTelling Named t x → IsReadable t
       → Holds x t.name (follower t) × IsFound t x
   -- and so they are when a `* MODTIME` of the context has been read
   pub modtimes : (t : Telling) (x : View) (front back : List Line) (stamp : List ℕ)
-      → IsFollowing Named t x → IsReadable t → IsOwn t → lines_in (said_last t) ≡ front ++ UpTo t.name stamp ∷ back
+      → IsFollowing Named t x → IsReadable t → IsOwn t
+      → lines_in (said_last t) ≡ front ++ UpTo t.name stamp ∷ back
       → let read = front ++ UpTo t.name stamp ∷ [] in
       HoldsAll x t.name (follow_all read (follower_asking t)).0 × IsFound t x
 
