@@ -617,87 +617,6 @@ def _(server):
 
 # ---- servers of their own
 
-ODD = [b"plain", b"", b'quo"te \\', b"two\r\nlines", b"\xff\xfe\0", "é".encode(), b"x" * 1_024, b"x" * 1_025, b'"' * 600]
-FIVE = [("joe", "/option/~/"), ("joe", "/option/~/work/"), ("ann", "/option/~/"), ("ann", "/book/~/"), ("joe", "/a/~/")]
-HEIRS = [(b"/book/user/ann/", b"/option/user/ann/"), (b"/option/user/joe/e", b"/option/user/joe/work/"),
-         (b"/option/user/joe/work/", b"/a/user/joe/")]
-RIGHTS = ['("/option/~/") "ann" "xr"', '("/option/~/" "k1") "ann" ""', '("/option/~/" "k2" "e3") "ann" "r"',
-          '("/a/~/") "anyone" "r"', '("/option/~/" "entry" "e5") "-ann" "xr"']
-
-
-def entry(dataset, number):
-    """A STORE of the entry of that number: some odd strings, and in each second one a list."""
-    items = b"".join(b' "k%d" %s' % (item, string(ODD[(number + item) % len(ODD)])) for item in range(number % 5))
-    members = b' "list" ("value" (%s))' % b" ".join(string(ODD[item]) for item in range(number % 7))
-    return b'STORE ("%se%d" "entry" "e%d"%s%s)' % (dataset.encode(), number, number, items, members * (number % 2))
-
-
-def fill(server):
-    """Stores 200 entries in 5 datasets of two users, inheritance, access lists, datasets without entries, and large entries."""
-    clients = {user: server.client(user) for user in ("joe", "ann")}
-    joe, ann = clients["joe"], clients["ann"]
-    for number in range(40):
-        for user, dataset in FIVE:
-            done(clients[user], entry(dataset, number))
-    done(ann, 'STORE ("/option/~/" "dataset.inherit" "/book/~/" "note" "heir")')
-    done(joe, 'STORE ("/a/~/" "dataset.inherit" "/option/~/work/") ("/option/~/work/" "dataset.inherit" "/option/~/")')
-    done(joe, 'STORE ("/option/~/void/" "note" "x") ("/option/~/bare" "subdataset" ("value" (".")))')
-    for rights in RIGHTS:
-        done(joe, f"SETACL {rights}")
-    for front in range(0, 250, 50):  # more than a command has room for
-        items = b"".join(b' "wide%d" {1500+}\r\n%s' % (item, b"%03d" % item * 500) for item in range(front, front + 50))
-        done(joe, b'STORE ("/option/~/wide"%s)' % items)
-    items = b"".join(b' "%d" {900+}\r\n%s' % (item, b"%03d" % item * 300) for item in range(100))  # more than a line has room for
-    done(joe, b'STORE ("/option/~/long"%s)' % items)
-    done(joe, b'STORE ("/option/~/many" "list" ("value" (%s)))' % b" ".join([b'"i"'] * 256))
-
-
-SEARCHES = [
-    f'SEARCH "{dataset}" {modifiers}RETURN ("*" ("attribute" "value" "acl" "myrights")) ALL'
-    for dataset in ("/", "/option/user/joe/", "/option/user/joe/work/", "/option/user/ann/", "/book/user/ann/", "/a/user/joe/")
-    for modifiers in ("", "DEPTH 0 ", "NOINHERIT ")
-]
-
-
-def rows_of(server):
-    """What each user finds by each search, but for modtime."""
-    return {
-        (user, text): [[name, [item for item in data if item[0] != b"modtime"]] for name, data in found(client, text)]
-        for user in USERS
-        for client in [server.client(user)]
-        for text in SEARCHES
-    }
-
-
-def dump(server, user="root", secret="key"):
-    words = [sys.executable, str(TOOLS / "acap_dump.py"), f"127.0.0.1:{server.port}", user, secret]
-    ran = subprocess.run(words, capture_output=True, timeout=60, check=False)
-    return ran.stdout, ran.stderr.decode(), ran.returncode
-
-
-def check_dump(program, folder):
-    """A dump of a server, and another that begins with it. Then a path that is too long to be sent with the user's name in it."""
-    file = pathlib.Path(folder) / "start.acap"
-    with Server(program, folder) as server:
-        fill(server)
-        wanted = rows_of(server)
-        same(dump(server, "joe", "secret")[1:], ("joe is no administrator\n", 1))
-        same(dump(server, "joe", "wrong")[1:], ("the login failed\n", 1))
-        octets, err, status = dump(server)
-        same((err, status), ("", 0))
-        for base, heir in HEIRS:
-            same(octets.rindex(b'STORE ("%s' % base) < octets.index(b'STORE ("%s' % heir), True)
-    file.write_bytes(octets)
-    with Server(program, folder, start=file) as server:
-        for key, rows in rows_of(server).items():
-            same((key, rows), (key, wanted[key]))
-        same(dump(server), (octets, "", 0))
-        name = "n" * 1_010
-        done(server.client("joe"), f'STORE ("/option/~/{name}" "k" "v")')
-        same(dump(server), (octets, f"not written, or not whole: /option/user/joe/{name}\n", 1))
-    return f"{sum(map(len, wanted.values()))} rows, {len(octets)} octets, {octets.count(b' STORE (')} commands"
-
-
 def check_end(program, folder):
     """A server that ends after three sessions."""
     with Server(program, folder, sessions=3) as server:
@@ -796,7 +715,6 @@ def run(program, *words, **given):
 
 
 OWN = {
-    "a dump, and a server that begins with it": check_dump,
     "start files": check_start,
     "sessions = 3, and then status 0": check_end,
     "faults at the start": check_faults,
