@@ -19,8 +19,8 @@ use Rattle.acap_shell.specs.Rows.{first_texts, inside}
 use Rattle.acap_shell.specs.Searches.{entry, returning, search}
 use Rattle.acap_shell.specs.Stores.{item}
 
--- the SEARCH for all entries of a dataset and of those beneath it, with each attribute's name, value and access
--- list, and nothing inherited
+-- the SEARCH for all entries of a dataset and of those beneath it, with each attribute's name, value and
+-- access list, and nothing inherited
 abbrev pub all_metadata : List Metadata
 all_metadata = metadata.Attribute ∷ metadata.Value ∷ metadata.Acl ∷ []
 

@@ -42,8 +42,8 @@ columns_by form.Raw octets = octets
 abbrev pub digit_value : ℕ → ℕ
 digit_value c = if nat_lt c 58 then c - 48 else c - 87
 
--- what comes next: an octet or a code; the `x` of a code; its first digit; its last, where the first stands for
--- this
+-- what comes next: an octet or a code; the `x` of a code; its first digit; its last, where the first stands
+-- for this
 pub data Place : Type 0 where
   Plain : Place
   Marked : Place

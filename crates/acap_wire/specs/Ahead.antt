@@ -24,8 +24,8 @@ is_under tag (Entry (Some other) name items) = bytes_eq tag other
 is_under tag (Completion (Some other) ending code text) = bytes_eq tag other
 is_under tag line = false
 
--- The first acts are the second, but that commands are sent earlier: each before lines of the replies to other
--- commands. As long as no two commands that wait have one tag, any command may be sent so.
+-- The first acts are the second, but that commands are sent earlier: each before lines of the replies to
+-- other commands. As long as no two commands that wait have one tag, any command may be sent so.
 pub data IsAhead : List Act → List Act → Type 0 where
   Same : (acts : List Act) → IsAhead acts acts
   Sooner : (before after others : List Act) (tag : List ℕ) (c : Command) (line : Line)
@@ -49,8 +49,8 @@ acts_in seat (x ∷ xs) w acts =
     let more = with_more w x acts (acts_of w x) in
     acts_in seat xs (after_step w x) (if x.occasion.seat == seat then more else acts)
 
--- However far ahead a client sends its commands, its follower is the same: after all steps of a seat it is that of
--- the seat.
+-- However far ahead a client sends its commands, its follower is the same: after all steps of a seat it is that
+-- of the seat.
 pub record AheadLaw : Type 0 where
   pub same : (acts others : List Act) (f : Follower) → IsAhead acts others
       → follow_acts acts f ≡ follow_acts others f

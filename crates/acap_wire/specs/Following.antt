@@ -21,8 +21,8 @@ use Rattle.acap_session.specs.World.{Step, World, world_after}
 use Rattle.acap_wire.specs.Seat.{ArePrintable, after_lines, before_lines, follower_in, lines_in}
 use Rattle.acap_wire.specs.Seat.{lines_read, octets_in, said_in}
 
--- the rows of the list that a client was told last, as they are printed: in their positions with ENUMERATE, by
--- name without
+-- the rows of the list that a client was told last, as they are printed: in their positions with ENUMERATE,
+-- by name without
 abbrev pub shown_rows : View → Held
 shown_rows x = held_as x.1.0 (map printed_row (rows x.1.1))
 
@@ -56,7 +56,8 @@ follower_asking t = before_lines (world_before t) t.last (follower_before t)
 abbrev pub said_last : Telling → List ℕ
 said_last t = said_in (world_before t) t.last
 
--- all octets that are said at the seat, from the greeting of its present session on, and the lines of its steps
+-- all octets that are said at the seat, from the greeting of its present session on, and the lines of its
+-- steps
 abbrev pub all_octets : Telling → List ℕ
 all_octets t = octets_in t.seat (all_steps t) (start t) []
 
@@ -85,8 +86,8 @@ asks_update names = event.Command (command.UpdateContext names)
 abbrev pub IsFound : Telling → View → Type 0
 IsFound t x = IsFresh (live.after t).machine t.seat x
 
--- The follower of a seat is told the commands of its session, each before the lines of its reply, and reads all
--- lines in the octets that are said there, from the greeting of the present session on. In every run of a new
+-- The follower of a seat is told the commands of its session, each before the lines of its reply, and reads
+-- all lines in the octets that are said there, from the greeting of the present session on. In every run of a new
 -- world:
 pub record FollowerLawOf (Named : List User → List Step → Type 0) : Type 0 where
   -- what is said in a step is whole lines, whatever was heard before
