@@ -2,6 +2,7 @@
 
 use crate::failure::Failure;
 use crate::session::{Session, end_of};
+use crate::shown::write_out;
 use acap_client::{Line, command_line};
 use acap_commands::{Command, Given, ObjectName, StoreItem};
 use acap_entries::{Boxed, Cell, Copying, Dataset, Label, Memory, NameFault, Path};
@@ -9,7 +10,6 @@ use acap_shell as shell;
 use acap_shell::{Form, print_name};
 use itoa::Buffer;
 use std::alloc::Global;
-use std::io;
 use std::io::Write;
 
 /// The tag of the SEARCH.
@@ -158,13 +158,7 @@ impl<'a> Dump<'a> {
 
     /// Writes what isn't written yet.
     fn flush(&mut self) -> Result<(), Failure> {
-        match io::writer(self.rt).write_all(&self.out) {
-            Ok(()) => {
-                self.out.clear();
-                Ok(())
-            }
-            Err(error) => Err(Failure::System("cannot print", error)),
-        }
+        write_out(self.rt, &mut self.out)
     }
 
     /// Prints what the server holds.

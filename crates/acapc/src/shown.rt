@@ -34,6 +34,17 @@ pub(crate) struct Printing<'a> {
     out: Vec<u8>,
 }
 
+/// Writes octets that were collected, and lets them go.
+pub(crate) fn write_out(rt: &HostRuntime, out: &mut Vec<u8>) -> Result<(), Failure> {
+    match io::writer(rt).write_all(out) {
+        Ok(()) => {
+            out.clear();
+            Ok(())
+        }
+        Err(error) => Err(Failure::System("cannot print", error)),
+    }
+}
+
 impl<'a> Printing<'a> {
     /// Nothing is printed yet.
     pub(crate) fn new(rt: &'a HostRuntime, form: Form, shown: Shown<'a>) -> Printing<'a> {
@@ -74,12 +85,6 @@ impl<'a> Printing<'a> {
 
     /// Writes what isn't written yet.
     pub(crate) fn flush(&mut self) -> Result<(), Failure> {
-        match io::writer(self.rt).write_all(&self.out) {
-            Ok(()) => {
-                self.out.clear();
-                Ok(())
-            }
-            Err(error) => Err(Failure::System("cannot print", error)),
-        }
+        write_out(self.rt, &mut self.out)
     }
 }

@@ -3,6 +3,7 @@
 use crate::failure::Failure;
 use crate::meaning::dataset;
 use crate::session::{Session, refused};
+use crate::shown::write_out;
 use acap_client::{Ending, FollowFault, Follower, Line};
 use acap_commands::Command;
 use acap_entries::{Attribute, ContextName};
@@ -10,8 +11,6 @@ use acap_shell as shell;
 use acap_shell::{Form, print_change, print_row};
 use clap::ArgMatches;
 use std::alloc::Global;
-use std::io;
-use std::io::Write;
 
 /// The tag of the SEARCH.
 const TAG: &[u8] = b"A1";
@@ -91,13 +90,7 @@ fn failure_of(fault: FollowFault) -> Failure {
 impl<'a> Watching<'a> {
     /// Writes what isn't written yet.
     fn flush(&mut self) -> Result<(), Failure> {
-        match io::writer(self.rt).write_all(&self.out) {
-            Ok(()) => {
-                self.out.clear();
-                Ok(())
-            }
-            Err(error) => Err(Failure::System("cannot print", error)),
-        }
+        write_out(self.rt, &mut self.out)
     }
 
     /// Prints the list, as it is held.
