@@ -1,7 +1,7 @@
 -- In which datasets something is touched, asked one by one.
 use Rattle.std.proofs.Common.{◌≡◌, ℕ, zero, suc, ◌+◌, ◌<◌, ◌≤◌, length, get_or, Bool, true, false, ◌&&◌, ◌||◌, List, [], ◌∷◌, ◌++◌, map as each, drop, Some, None, refl, sym, ap, ◌∙◌, arith}
 use Rattle.std.specs.Borrow.{Bor}
-use Rattle.std.specs.Prelude.{slice_get, filter}
+use Rattle.std.specs.Prelude.{slice_get, slice_index_or, filter}
 use Rattle.std.specs.FinMap as map
 use Rattle.std.specs.List.{list_any, flat_map}
 use Rattle.std.specs.Cmp.Lexicographic.{nat_list_cmp_total, same_text, texts_ties}
@@ -113,6 +113,19 @@ has_touched change old new links left d index h same =
     ∙ (sym (any_among octets_cmp nat_list_cmp_total d (each (λ (p : Path). p.dataset) (touched_paths change.writes old.records new.records)) []
     ∙ (or_false _ ∙ any_each (is_name d) (λ (p : Path). p.dataset) (touched_paths change.writes old.records new.records)))
     ∙ (λ i. list_any (λ m. sym (texts_ties d m) i) (datasets_touched change.writes old.records new.records)))))
+
+-- where nothing inherits from a written dataset, nothing is touched in another one
+pub touches_none : (change : Change) (old new : Store) (links : List Link) (known : List (Bor (List ℕ))) (d : List ℕ) → IsIndexOf old.records links → AreWritten change.writes old.records known
+    → is_any_inherited links known ≡ false → is_known known d ≡ false → IsStoreAfter change old new → false ≡ list_any (octets_eq d) (datasets_touched change.writes old.records new.records)
+touches_none change old new links known d index are none not h =
+    ap (λ b. b && dataset_exists new.records d) (not_reached change.writes old.records links known index are none d not)
+    ∙ has_touched change old new links new.records d index h refl
+
+-- an only dataset is the one that is known
+pub alone_known : (known : List (Bor (List ℕ))) (other : Bor (List ℕ)) (d : List ℕ) → length known < 2 → octets_eq (slice_index_or known 0 other).now d ≡ false → is_known known d ≡ false
+alone_known [] other d few e = refl
+alone_known (k ∷ []) other d few e = or_false (octets_eq k.now d) ∙ e
+alone_known (k ∷ l ∷ ks) other d few e = absurd (omega (arith, few))
 
 -- ---- the touched paths of some datasets
 

@@ -32,6 +32,11 @@ SaysWhether reach dataset answer =
     ForStoreAfter reach.change reach.old
     (λ new. answer ≡ is_touched_in reach.change.writes reach.old.records new.records dataset)
 
+-- outside of a dataset the change touches nothing
+abbrev pub TouchesNoOther : Reaching → List ℕ → Type 0
+TouchesNoOther reach only =
+    (dataset : List ℕ) → octets_eq only dataset ≡ false → SaysWhether reach dataset false
+
 -- the touched paths that lie in some datasets
 abbrev pub lies_in : List (List ℕ) → Path → Bool
 lies_in datasets path = list_any (octets_eq path.dataset) datasets

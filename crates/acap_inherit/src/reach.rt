@@ -1,5 +1,5 @@
 //! In which datasets a change touches something, asked dataset by dataset.
-ghost use Rattle.std.specs.Prelude.{◌≡◌, ◌++◌, false, IfOk, OnOk, map as each};
+ghost use Rattle.std.specs.Prelude.{◌≡◌, ◌++◌, false, IfOk, IfSome, OnOk, map as each};
 ghost use Rattle.std.specs.List.{flat_map};
 ghost use Rattle.acap_inherit.specs.Index.{IsIndexOf};
 ghost use Rattle.acap_inherit.specs.Leaving.{AreTouchedAt, in_ahead};
@@ -107,6 +107,20 @@ impl<'a> Reach<'a> {
             return true;
         }
         self.inherited
+    }
+
+    /// A dataset outside of which the change touches nothing, if that is so without a look at any chain: the only one in which a
+    /// record is put or removed, from which none inherits. Takes no memory.
+    pub fn only(&self) -> Option<&[u8]>
+        ensures { IfSome result (λ only. rule.TouchesNoOther self.now only.now) }
+    {
+        if self.inherited {
+            return None;
+        }
+        match self.written.as_slice() {
+            [only] => Some(*only),
+            _ => None,
+        }
     }
 
     /// Whether the change touches something in a dataset: the dataset exists afterwards, and of the chain
