@@ -1,5 +1,6 @@
 -- What is at hand of an entry whose dataset inherits nothing: words of private contracts.
 use Rattle.std.specs.Prelude.{◌≡◌, ℕ, Bool, List, [], ◌∷◌, codes, Option, Some, if◌then◌else◌}
+use Rattle.std.specs.Borrow.{Bor}
 use Rattle.std.specs.Option.{unwrap_or, ForSome}
 use Rattle.acap_entries.specs.Orders.{octets_eq}
 use Rattle.acap_entries.specs.Stamp.{stamp_of}
@@ -24,6 +25,10 @@ own_value entry name attribute =
 -- a dataset inherits nothing, and those are the user's rights on its attributes
 abbrev pub IsPlain : View → SharedRights → Type 0
 IsPlain view shared = (view.chain ≡ view.dataset ∷ []) × AreShared view.records view.realm view.user view.dataset shared
+
+-- those rights, where they are at hand
+abbrev pub AreSharedBy : View → Option (Bor SharedRights) → Type 0
+AreSharedBy view shared = ForSome shared (λ rights. IsPlain view rights.now)
 
 -- what is at hand of an entry is its record, and the rights in its dataset, which is such a one
 abbrev pub IsNear : Spotted → Option Kept → Type 0

@@ -58,6 +58,7 @@ pub use laws::{
 pub use matching::matches;
 pub use placed::{Placed, Standing};
 pub use placing::places_at;
+pub use plain::share_rights;
 pub use query::{Asked, Query, Sought};
 pub use rank::{Rank, SortPlace, SortPlaces};
 pub use refusal::SearchRefusal;

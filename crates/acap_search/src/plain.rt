@@ -19,8 +19,9 @@ pub(crate) fn is_alone(chain: &Lineage<'_>, dataset: &[u8]) -> bool
     }
 }
 
-/// The rights that the entries of a dataset share, where it inherits nothing. Fails only for want of memory.
-pub(crate) fn share_rights<R: Records>(
+/// The rights that the entries of a dataset share, where it inherits nothing (RFC 2244 sections 3.5 and 5.2). Fails only for
+/// want of memory.
+pub fn share_rights<R: Records>(
     alloc: Global,
     by: &Viewer<'_, R>,
 ) -> Result<Option<SharedRights>, Memory>

@@ -1,13 +1,11 @@
-//! Who looks at many entries of a dataset.
-ghost use Rattle.std.specs.Prelude.{◌≡◌, ◌+◌, None, IfOk};
-ghost use Rattle.std.specs.Option.{option_copied};
+//! Who looks at the entries of a dataset, with the rights that they share at hand.
+ghost use Rattle.std.specs.Prelude.{◌≡◌, ◌+◌, None, Some, IfOk, IfSome};
 ghost use Rattle.acap_inherit.specs.Records.{record_at};
 ghost use Rattle.acap_search.specs.Views.{found_at, spot_in, standing_at};
 
 use crate::hit::Hit;
 use crate::kept::Kept;
 use crate::placing::places_at;
-use crate::plain::share_rights;
 use crate::query::Sought;
 use crate::rank::SortPlaces;
 use crate::spot::Spot;
@@ -19,17 +17,16 @@ use std::alloc::Global;
 use std::marker::Model;
 use std::sync::ledger::Ledger;
 
-/// Who looks at many entries of a dataset: where it inherits nothing, the rights that they share are made once, and of an entry whose
-/// record is at hand nothing is sought in the store (RFC 2244 sections 3.5 and 5.2).
+/// Who looks at the entries of a dataset. The rights that they share may be at hand where it inherits nothing:
+/// of an entry whose record is at hand too nothing is then sought in the store (RFC 2244 sections 3.5 and 5.2).
 #[derive(Drop)]
 pub struct Surveyor<'a, R: Records> {
     by: Viewer<'a, R>,
-    shared: Option<SharedRights>,
+    shared: Option<&'a SharedRights>,
 }
 
 impl<'a, R: Records> Model for Surveyor<'a, R> {
-    ghost use Rattle.std.specs.Option.{ForSome};
-    ghost use Rattle.acap_search.specs.Near.{IsPlain};
+    ghost use Rattle.acap_search.specs.Near.{AreSharedBy};
     ghost use Rattle.acap_search.specs.Views.{View, view_code};
 
     ghost Value = { View };
@@ -38,19 +35,21 @@ impl<'a, R: Records> Model for Surveyor<'a, R> {
 
     ghost view = { λ s. s.by };
 
-    ghost invariant = { λ s. ForSome s.shared (IsPlain s.by) };
+    ghost invariant = { λ s. AreSharedBy s.by s.shared };
 }
 
 impl<'a, R: Records> Surveyor<'a, R> {
-    /// One that looks as a viewer does. Fails only for want of memory.
-    pub fn new(alloc: Global, by: Viewer<'a, R>) -> Result<Surveyor<'a, R>, Memory>
-        ensures { IfOk result (λ made. made ≡ by.entry) }
+    ghost use Rattle.acap_search.specs.Near.{AreSharedBy};
+
+    /// One that looks as a viewer does, with the rights that are at hand. Takes no memory.
+    pub fn new(by: Viewer<'a, R>, shared: Option<&'a SharedRights>) -> Surveyor<'a, R>
+        requires { AreSharedBy by shared }
+        ensures { result ≡ by.entry }
     {
-        let shared = share_rights(alloc, &by)?;
-        Ok(Surveyor { by, shared })
+        Surveyor { by, shared }
     }
 
-    /// What a search makes of an entry whose record is at hand, if it has one there: one step, as `row_of`. Fails only for want of
+    /// What a search makes of an entry, whose record may be at hand: one step, as `row_of`. Fails only for want of
     /// memory.
     pub fn row<L: Ledger>(
         &self,
@@ -61,14 +60,15 @@ impl<'a, R: Records> Surveyor<'a, R> {
         steps: &mut Steps<L>,
     ) -> Result<Option<Hit>, Memory>
         requires here { self.now.dataset ≡ path.now.dataset }
-        requires entry { option_copied entry ≡ record_at self.now.records self.now.dataset path.now.name }
+        requires entry { IfSome entry
+            (λ entry. record_at self.now.records self.now.dataset path.now.name ≡ Some entry.now) }
         ensures count { steps.new ≡ steps.old + 1 }
         ensures made { IfOk result
             (λ hit. hit ≡ found_at sought.now None (spot_in self.now path.now.name)) }
     {
         let by = &self.by;
         let name = &path.name;
-        if let Some(shared) = &self.shared
+        if let Some(shared) = self.shared
             && let Some(entry) = entry
         {
             let kept = Some(Kept { entry, shared });
@@ -84,7 +84,7 @@ impl<'a, R: Records> Surveyor<'a, R> {
         row_of(alloc, by, name, sought, None, steps)
     }
 
-    /// Where such an entry stands for SORT, as `places_at`. Fails only for want of memory.
+    /// Where an entry stands for SORT, whose record may be at hand, as `places_at`. Fails only for want of memory.
     pub fn places(
         &self,
         alloc: Global,
@@ -93,12 +93,13 @@ impl<'a, R: Records> Surveyor<'a, R> {
         sought: &Sought,
     ) -> Result<SortPlaces, Memory>
         requires here { self.now.dataset ≡ path.now.dataset }
-        requires entry { option_copied entry ≡ record_at self.now.records self.now.dataset path.now.name }
+        requires entry { IfSome entry
+            (λ entry. record_at self.now.records self.now.dataset path.now.name ≡ Some entry.now) }
         ensures { IfOk result (λ places. places ≡ standing_at sought.now (spot_in self.now path.now.name)) }
     {
         let by = &self.by;
         let name = &path.name;
-        if let Some(shared) = &self.shared
+        if let Some(shared) = self.shared
             && let Some(entry) = entry
         {
             let kept = Some(Kept { entry, shared });

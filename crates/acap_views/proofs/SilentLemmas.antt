@@ -4,16 +4,17 @@ use Rattle.std.specs.Prelude.{is_some}
 use Rattle.std.specs.List.{sum_by}
 use Rattle.std.proofs.lemmas.List.Sums.{sum_by-cons}
 use Rattle.acap_entries.specs.declared.path.Path.{Path}
+use Rattle.acap_inherit.specs.Reaching.{TouchesNoOther}
 use Rattle.acap_search.specs.declared.query.Sought.{Sought}
-use Rattle.acap_views.specs.Aheads.{Planned, store_ahead}
+use Rattle.acap_views.specs.Aheads.{Planned, store_ahead, reaching}
 use Rattle.acap_views.specs.Contexts.{Kept, Snapshot, Live, Freed, Context}
 use Rattle.acap_views.specs.Keeping.{RoomyContext}
 use Rattle.acap_views.specs.Plans.{work_in, needed_in, is_still, unless_still}
 use Rattle.acap_views.specs.Preparing.{shift_for, shifts_if, needed_if}
 use Rattle.acap_views.specs.Shifting.{Shift, due_among}
-use Rattle.acap_views.specs.Touching.{is_asked, looked_at_by, may_look, any_may_look}
+use Rattle.acap_views.specs.Touching.{is_asked, looked_at_by, may_look, any_may_look, may_be_in, any_may_be_in}
 use Rattle.acap_views.specs.Work.{is_live}
-use Rattle.acap_views.proofs.TouchingLemmas.{in_no_dataset}
+use Rattle.acap_views.proofs.TouchingLemmas.{in_no_dataset, says_touched}
 use Rattle.acap_views.proofs.TurnLemmas.{work_there, shifts_there}
 
 first_no : (a b : Bool) → (a || b) ≡ false → a ≡ false
@@ -67,3 +68,26 @@ module _ (plan : Planned) (user : List ℕ) where
 
   pub no_turns : (es : List (List ℕ × RoomyContext)) → any_may_look plan es ≡ false → [] ≡ unless_still (each (shifts_there plan user) es)
   no_turns es e = sym (ap (λ b. cond b [] (each (shifts_there plan user) es)) (all_still es e))
+
+-- ---- where nothing is touched outside of a dataset
+
+pair_no : (a b : Bool) → a ≡ false → (a && b) ≡ false
+pair_no true b e = cc
+pair_no false b e = refl
+
+both_no : (a b : Bool) → a ≡ false → b ≡ false → (a || b) ≡ false
+both_no true b e f = cc
+both_no false b e f = f
+
+module _ (plan : Planned) (only : List ℕ) (no_other : TouchesNoOther (reaching plan) only) where
+  not_asked : (sought : Sought) → may_be_in only sought ≡ false → is_asked plan sought ≡ false
+  not_asked sought e =
+      both_no _ _ (first_no _ _ e)
+      (sym (says_touched plan (reaching plan) sought.dataset false refl (no_other sought.dataset (second_no (is_some sought.depth) _ e))))
+
+  pub none_elsewhere : (es : List (List ℕ × RoomyContext)) → any_may_be_in only es ≡ false → any_may_look plan es ≡ false
+  none_elsewhere [] e = refl
+  none_elsewhere (x ∷ es) e =
+      both_no (may_look plan x.1.context) _
+      (pair_no _ _ (not_asked x.1.context.sought (first_no _ _ e)))
+      (none_elsewhere es (second_no (may_be_in only x.1.context.sought) _ e))

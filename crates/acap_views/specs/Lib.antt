@@ -5,6 +5,7 @@ pub mod Clients
 pub mod Contexts
 pub mod Current
 pub mod Examples
+pub mod FirstWrites
 pub mod Followed
 pub mod Holds
 pub mod Keeping
@@ -25,6 +26,7 @@ pub mod Room
 pub mod Scenes
 pub mod Seats
 pub mod Seeking
+pub mod Shares
 pub mod Shifting
 pub mod Started
 pub mod Telling

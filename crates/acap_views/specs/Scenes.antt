@@ -1,9 +1,9 @@
 -- Whose context is looked at, when a change is about to be committed: words of private contracts.
-use Rattle.std.specs.Prelude.{◌≡◌, ℕ, List, [], Option, None, refl}
+use Rattle.std.specs.Prelude.{◌≡◌, ℕ, List, [], ◌∷◌, Option, None, refl}
 use Rattle.std.specs.Borrow.{Bor}
 use Rattle.std.specs.Coded.{Coded, code_by, coded×, coded_list, coded_ℕ}
 use Rattle.std.specs.FinMap as map
-use Rattle.std.specs.Option.{unwrap_or}
+use Rattle.std.specs.Option.{unwrap_or, ForSome}
 use Rattle.acap_entries.specs.Leaving.{records_before, records_ahead}
 use Rattle.acap_entries.specs.Store.{Store, Stored}
 use Rattle.acap_entries.specs.contracts.path.Path as path
@@ -21,8 +21,10 @@ use Rattle.acap_search.specs.Walks.{quest_of, view_in}
 use Rattle.acap_search.specs.contracts.query.Sought as query
 use Rattle.acap_search.specs.declared.query.Sought.{Sought}
 use Rattle.acap_search.specs.declared.rank.SortPlace.{SortPlace}
+use Rattle.acap_views.specs.FirstWrites.{IsOfBoth}
 use Rattle.acap_views.specs.Preparing.{seen_at, shift_for}
 use Rattle.acap_views.specs.Shifting.{Shift}
+use Rattle.acap_views.specs.declared.first_written.FirstWritten.{FirstWritten}
 
 pub record Scene : Type 0 where
   pub old : Stored
@@ -31,28 +33,41 @@ pub record Scene : Type 0 where
   pub user : List ℕ
   pub sought : Sought
 
--- a change leads from these records to those
-pub record IsBetween (old new : Stored) (ahead : Bor After) : Type 0 where
+-- a change leads from these records to those, and what is at hand of its first write is of both
+pub record IsBetween (old new : Stored) (ahead : Bor After) (first : Option FirstWritten) : Type 0 where
   pub before : records_before ahead.now ≡ old
   pub after : records_ahead ahead.now ≡ new
+  pub at_hand : ForSome first (IsOfBoth old new)
 
 -- the management entry of a dataset
 abbrev pub IsAtHand : Store → List ℕ → Option Record → Type 0
 IsAtHand store dataset management = management ≡ record_at store.records dataset []
 
--- who looks into the dataset of the context, before the change and afterwards
+-- who looks into the dataset of a search
+abbrev pub own_view : Stored → Realm → List ℕ → Sought → View
+own_view records realm user sought = view_in (quest_of records realm user sought) sought.dataset
+
+-- so does the user of the context, before the change and afterwards
 abbrev pub view_before : Scene → View
-view_before scene = view_in (quest_of scene.old scene.realm scene.user scene.sought) scene.sought.dataset
+view_before scene = own_view scene.old scene.realm scene.user scene.sought
 
 abbrev pub view_after : Scene → View
-view_after scene = view_in (quest_of scene.new scene.realm scene.user scene.sought) scene.sought.dataset
+view_after scene = own_view scene.new scene.realm scene.user scene.sought
 
--- so do those two, and the records before the change are those
-pub record IsField (scene : Scene) (before after : View) (shelf : Shelf) : Type 0 where
-  pub sees_before : before ≡ view_before scene
-  pub sees_after : after ≡ view_after scene
+-- it looks through its dataset alone
+abbrev pub IsAlone : View → Type 0
+IsAlone view = view.chain ≡ view.dataset ∷ []
+
+-- the records of the dataset before the change
+pub record IsShelfOf (scene : Scene) (shelf : Shelf) : Type 0 where
   pub records : shelf.records ≡ scene.old
   pub dataset : shelf.dataset ≡ scene.sought.dataset
+
+-- so do those two, and those are the records
+pub record IsField (scene : Scene) (before : Option View) (after : View) (shelf : Option Shelf) : Type 0 where
+  pub sees_before : ForSome before (λ view. view ≡ view_before scene)
+  pub sees_after : after ≡ view_after scene
+  pub at_hand : ForSome shelf (IsShelfOf scene)
 
 -- an entry before the change and afterwards: where it stood, what is found of it then, and what becomes of it
 abbrev pub spot_before : Scene → Path → Spotted

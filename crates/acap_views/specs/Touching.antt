@@ -2,6 +2,7 @@
 use Rattle.std.specs.Prelude.{◌≡◌, ℕ, Bool, ◌&&◌, ◌||◌, List, Option, Some, None, is_some, map}
 use Rattle.std.specs.Borrow.{Bor}
 use Rattle.std.specs.List.{filter, list_any}
+use Rattle.std.specs.Option.{ForSome}
 use Rattle.acap_entries.specs.Orders.{octets_eq}
 use Rattle.acap_entries.specs.declared.path.Path.{Path}
 use Rattle.acap_inherit.specs.Leaving.{AreTouchedAt}
@@ -12,6 +13,7 @@ use Rattle.acap_search.specs.declared.query.Sought.{Sought}
 use Rattle.acap_views.specs.Aheads.{Planned, store_ahead, reaching}
 use Rattle.acap_views.specs.Contexts.{Context}
 use Rattle.acap_views.specs.Keeping.{RoomyContext}
+use Rattle.acap_views.specs.Shares.{AreOf, AreSharesNoted}
 use Rattle.acap_views.specs.Work.{is_live, is_looked_at}
 use Rattle.acap_views.specs.declared.noted.Noted.{Noted}
 use Rattle.acap_views.specs.declared.noted.NotedPaths.{NotedPaths}
@@ -56,6 +58,13 @@ is_asked plan sought = is_some sought.depth || is_touched_in plan sought.dataset
 abbrev pub may_look : Planned → Context → Bool
 may_look plan context = is_asked plan context.sought && is_live context.kept
 
+-- whether one may where nothing is touched outside of a dataset: any with DEPTH, and one that looks into that
+abbrev pub may_be_in : List ℕ → Sought → Bool
+may_be_in only sought = is_some sought.depth || octets_eq only sought.dataset
+
+abbrev pub any_may_be_in : List ℕ → List (List ℕ × RoomyContext) → Bool
+any_may_be_in only contexts = list_any (λ entry. may_be_in only entry.1.context.sought) contexts
+
 abbrev pub any_may_look : Planned → List (List ℕ × RoomyContext) → Bool
 any_may_look plan contexts = list_any (λ entry. may_look plan entry.1.context) contexts
 
@@ -75,3 +84,8 @@ AreDatasetsNoted plan (Some noted) = AreReached plan noted.0
 pub record IsNoted (plan : Planned) (noted : Noted) : Type 0 where
   pub last : ArePathsNoted plan noted.last
   pub datasets : AreDatasetsNoted plan noted.datasets
+  pub shares : AreSharesNoted plan noted.shares
+
+-- the rights that are kept, if any are, are of this user and of the dataset of this search
+abbrev pub AreNotedFor : List ℕ → Sought → Noted → Type 0
+AreNotedFor user sought noted = ForSome noted.shares (λ shares. AreOf shares user sought)

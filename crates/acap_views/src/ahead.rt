@@ -1,18 +1,16 @@
 //! A change that is about to be committed, and what of it is known for all contexts.
-use crate::beside::Beside;
 use acap_entries::{After, Change, Tree};
 use acap_inherit::Reach;
 use acap_rights::Realm;
 use std::marker::Model;
 
-/// A change that is about to be committed: the store before it and after it, the latter also with what it has of a written dataset at
-/// hand, who is who, and what decides in which datasets it touches something.
+/// A change that is about to be committed: the store before it and after it, who is who, and what decides in which
+/// datasets it touches something.
 #[derive(Drop)]
 pub(crate) struct Ahead<'a, 'r> {
     pub(crate) tree: &'a Tree,
     pub(crate) change: &'a Change,
     pub(crate) after: &'a After<'a>,
-    pub(crate) beside: &'a Beside<'a, After<'a>>,
     pub(crate) realm: &'a Realm,
     pub(crate) reach: &'a Reach<'r>,
 }
@@ -26,5 +24,5 @@ impl<'a, 'r> Model for Ahead<'a, 'r> {
 
     ghost view = { λ a. record { change = a.change.now; old = a.tree.now.store; realm = a.realm.now } };
 
-    ghost invariant = { λ a. IsAhead a.change a.tree a.after a.beside a.reach };
+    ghost invariant = { λ a. IsAhead a.change a.tree a.after a.reach };
 }

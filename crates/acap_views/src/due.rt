@@ -1,15 +1,14 @@
 //! What is due of a change in a live context: of many entries that it touches those whose match has changed.
-ghost use Rattle.std.specs.Prelude.{◌≡◌, ◌∷◌, ◌+◌, ◌≤◌, [], IfOk, OnOk, length, map as each};
+ghost use Rattle.std.specs.Prelude.{◌≡◌, ◌∷◌, ◌+◌, ◌≤◌, [], IfOk, OnOk, length, nat_lt, map as each};
 ghost use Rattle.std.specs.List.{cons_option, filter};
 ghost use Rattle.std.specs.Option.{option_copied};
 ghost use Rattle.acap_search.specs.Counting.{IsCounted};
 ghost use Rattle.acap_views.specs.Notices.{same_match, same_tuple};
 ghost use Rattle.acap_views.specs.Scenes.{shift_in};
-ghost use Rattle.acap_views.specs.Shifting.{has_changed, due_shifts, until_full};
+ghost use Rattle.acap_views.specs.Shifting.{few, has_changed, due_shifts, until_full};
 
 use crate::delta::Shifts;
 use crate::field::Field;
-use crate::scene::Scene;
 use crate::seeking::Seeker;
 use crate::shift::Shift;
 use crate::shift_making::{all_shifts, count_on, needed_shifts, news_of};
@@ -73,23 +72,23 @@ fn change_at<L: Ledger>(
 // left out count as well.
 fn changing_shifts<L: Ledger>(
     alloc: Global,
-    scene: &Scene<'_>,
+    field: &mut Field<'_>,
     watch: &Watch,
     paths: Paths,
     steps: &mut Steps<L>,
 ) -> Result<Shifts, Memory>
+    ensures same { field.new ≡ field.old }
     ensures count { IsCounted result steps.old steps.new (length paths) }
     ensures shifts { IfOk result (λ shifts. shifts ≡ until_full watch.now.present (length watch.now.pending)
-        (filter (has_changed watch.now.present) (each (shift_in scene.now) paths))) }
+        (filter (has_changed watch.now.present) (each (shift_in field.old) paths))) }
 {
-    let mut field = Field::of(alloc, scene)?;
     let mut hits = Seeker::over(&watch.hits);
     let mut shifts = Vec::new(alloc);
     let mut count = watch.pending().len();
     for path in paths.into_vec() {
         if count > MOST {
             steps.tick();
-        } else if let Some(shift) = change_at(alloc, &mut field, &mut hits, path, steps)? {
+        } else if let Some(shift) = change_at(alloc, field, &mut hits, path, steps)? {
             count = count_on(watch, &shift, count);
             shifts.push(shift)?;
         }
@@ -101,19 +100,27 @@ fn changing_shifts<L: Ledger>(
 // notice is counted.
 fn few_shifts<L: Ledger>(
     alloc: Global,
-    scene: &Scene<'_>,
+    field: &mut Field<'_>,
     watch: &Watch,
     paths: Paths,
     steps: &mut Steps<L>,
 ) -> Result<Shifts, Memory>
+    ensures same { field.new ≡ field.old }
     ensures count { IsCounted result steps.old steps.new (length paths) }
     ensures shifts { IfOk result (λ shifts.
-        shifts ≡ until_full watch.now.present (length watch.now.pending) (each (shift_in scene.now) paths)) }
+        shifts ≡ until_full watch.now.present (length watch.now.pending) (each (shift_in field.old) paths)) }
 {
     if paths.len() <= MOST - watch.pending.len() {
-        return all_shifts(alloc, scene, paths, steps);
+        return all_shifts(alloc, field, paths, steps);
     }
-    needed_shifts(alloc, scene, watch, paths, steps)
+    needed_shifts(alloc, field, watch, paths, steps)
+}
+
+/// Whether so many entries are looked at that it is worth while to look for those that stay.
+pub(crate) fn are_many(paths: &Paths) -> bool
+    ensures { result ≡ nat_lt few (length paths.now) }
+{
+    paths.len() > FEW
 }
 
 /// What is due of some entries that a live context looks at, one after the other: of many of them those whose match has changed,
@@ -121,16 +128,17 @@ fn few_shifts<L: Ledger>(
 /// memory.
 pub(crate) fn shifts_at<L: Ledger>(
     alloc: Global,
-    scene: &Scene<'_>,
+    field: &mut Field<'_>,
     watch: &Watch,
     paths: Paths,
     steps: &mut Steps<L>,
 ) -> Result<Shifts, Memory>
+    ensures same { field.new ≡ field.old }
     ensures count { IsCounted result steps.old steps.new (length paths) }
-    ensures shifts { IfOk result (λ shifts. shifts ≡ due_shifts watch.now (each (shift_in scene.now) paths)) }
+    ensures shifts { IfOk result (λ shifts. shifts ≡ due_shifts watch.now (each (shift_in field.old) paths)) }
 {
-    if paths.len() > FEW {
-        return changing_shifts(alloc, scene, watch, paths, steps);
+    if are_many(&paths) {
+        return changing_shifts(alloc, field, watch, paths, steps);
     }
-    few_shifts(alloc, scene, watch, paths, steps)
+    few_shifts(alloc, field, watch, paths, steps)
 }

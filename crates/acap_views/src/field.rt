@@ -1,28 +1,30 @@
 //! The dataset that a context looks into, with what is made once for all of its touched entries.
-ghost use Rattle.std.specs.Prelude.{◌≡◌, ◌+◌, ◌≤◌, IfOk, OnOk};
+ghost use Rattle.std.specs.Prelude.{◌≡◌, ◌+◌, ◌≤◌, Some, IfOk, OnOk, IfSome};
 ghost use Rattle.std.specs.Option.{option_copied};
 ghost use Rattle.acap_entries.specs.Leaving.{records_before, records_ahead};
 ghost use Rattle.acap_inherit.specs.Records.{record_at};
 ghost use Rattle.acap_views.specs.Scenes as rule;
+ghost use Rattle.acap_views.specs.Shares.{AreLentFor};
 
 use crate::beside::Beside;
 use crate::scene::Scene;
-use crate::shift_making::{find_after, places_before};
+use crate::shares::LentShares;
 use acap_entries::{After, Fate, Memory, Path, Record, Records, Steps, Tree};
 use acap_inherit::chain_unless;
-use acap_search::{Hit, Shelf, SortPlaces, Sought, Surveyor, Viewer};
+use acap_search::{Hit, Shelf, SortPlaces, Sought, Surveyor, Viewer, places_at, row_of};
 use std::alloc::Global;
 use std::marker::Model;
 use std::sync::ledger::Ledger;
 
-/// The dataset that a context looks into, before a change and as the change will leave it: its chains and the rights that its entries
-/// share are made once, and its records are at hand in their order.
+/// The dataset that a context looks into, before a change and as the change will leave it: its chains and the rights that its
+/// entries share are made once. Of many entries the records are at hand in their order.
 #[derive(Drop)]
 pub(crate) struct Field<'a> {
     scene: &'a Scene<'a>,
-    before: Surveyor<'a, Tree>,
+    before: Option<Surveyor<'a, Tree>>,
     after: Surveyor<'a, Beside<'a, Beside<'a, After<'a>>>>,
-    shelf: Shelf<'a>,
+    shelf: Option<Shelf<'a>>,
+    is_plain: bool,
 }
 
 impl<'a> Model for Field<'a> {
@@ -38,32 +40,45 @@ impl<'a> Model for Field<'a> {
     ghost invariant = { λ f. IsField f.scene.now f.before f.after f.shelf };
 }
 
-// Who looks into the dataset before the change.
-fn view_before<'a>(scene: &'a Scene<'a>) -> Viewer<'a, Tree>
-    ensures { result ≡ rule.view_before scene.now }
+// Where an entry of any dataset stood before the change. Fails only for want of memory.
+fn places_before(alloc: Global, scene: &Scene<'_>, path: &Path) -> Result<SortPlaces, Memory>
+    ensures { IfOk result (λ places. places ≡ rule.places_before scene.now path.now) }
 {
     let sought = scene.sought;
-    Viewer {
-        records: scene.before,
+    if sought.sort.is_none() {
+        return Ok(SortPlaces::new(alloc));
+    }
+    let tree = scene.before;
+    let by = Viewer {
+        records: tree,
         realm: scene.realm,
         user: scene.user,
-        dataset: &sought.dataset,
-        chain: chain_unless(scene.before, &sought.dataset, sought.no_inherit),
-    }
+        dataset: &path.dataset,
+        chain: chain_unless(tree, &path.dataset, sought.no_inherit),
+    };
+    places_at(alloc, &by, &path.name, sought)
 }
 
-// Who looks into it afterwards.
-fn view_after<'a>(scene: &'a Scene<'a>) -> Viewer<'a, Beside<'a, Beside<'a, After<'a>>>>
-    ensures { result ≡ rule.view_after scene.now }
+// What is found of it afterwards: one step. Fails only for want of memory.
+fn find_after<L: Ledger>(
+    alloc: Global,
+    scene: &Scene<'_>,
+    path: &Path,
+    steps: &mut Steps<L>,
+) -> Result<Option<Hit>, Memory>
+    ensures count { steps.new ≡ steps.old + 1 }
+    ensures found { IfOk result (λ found. found ≡ rule.found_after scene.now path.now) }
 {
+    let after = scene.after;
     let sought = scene.sought;
-    Viewer {
-        records: scene.after,
+    let by = Viewer {
+        records: after,
         realm: scene.realm,
         user: scene.user,
-        dataset: &sought.dataset,
-        chain: chain_unless(scene.after, &sought.dataset, sought.no_inherit),
-    }
+        dataset: &path.dataset,
+        chain: chain_unless(after, &path.dataset, sought.no_inherit),
+    };
+    row_of(alloc, &by, &path.name, sought, None, steps)
 }
 
 // The record of an entry after a change, where the one before it is at hand, if there is one.
@@ -84,16 +99,27 @@ fn record_after<'a>(
 }
 
 impl<'a> Field<'a> {
-    /// That of a context. Fails only for want of memory.
-    pub(crate) fn of(alloc: Global, scene: &'a Scene<'a>) -> Result<Field<'a>, Memory>
-        ensures { IfOk result (λ made. made ≡ scene.now) }
+    /// That of a context, of which few or many entries are looked at. Takes no memory.
+    pub(crate) fn of(scene: &'a Scene<'a>, lent: LentShares<'a>, are_many: bool) -> Field<'a>
+        requires { AreLentFor scene.now lent }
+        ensures { result ≡ scene.now }
     {
-        Ok(Field {
+        let before = match &scene.sought.sort {
+            Some(_) => Some(Surveyor::new(scene.view_before(lent.before.is_some()), lent.before)),
+            None => None,
+        };
+        let shelf = if are_many {
+            Some(Shelf::of(scene.before, &scene.sought.dataset))
+        } else {
+            None
+        };
+        Field {
             scene,
-            before: Surveyor::new(alloc, view_before(scene))?,
-            after: Surveyor::new(alloc, view_after(scene))?,
-            shelf: Shelf::of(scene.before, &scene.sought.dataset),
-        })
+            before,
+            after: Surveyor::new(scene.view_after(lent.after.is_some()), lent.after),
+            shelf,
+            is_plain: lent.after.is_some(),
+        }
     }
 
     /// What the context looks for.
@@ -102,6 +128,80 @@ impl<'a> Field<'a> {
     {
         let scene = self.scene;
         scene.sought
+    }
+
+    // The record of an entry of the dataset before the change.
+    fn record_before(&mut self, path: &Path) -> Option<&'a Record>
+        requires { self.old.sought.dataset ≡ path.now.dataset }
+        ensures same { self.new ≡ self.old }
+        ensures found { option_copied result ≡ record_at self.old.old path.now.dataset path.now.name }
+    {
+        let scene = self.scene;
+        match &mut self.shelf {
+            Some(shelf) => shelf.find(&path.name),
+            None => scene
+                .before
+                .find(path.dataset.as_slice(), path.name.as_slice()),
+        }
+    }
+
+    // The same before the change and afterwards, where the dataset inherits nothing: else they are of no use.
+    fn records(&mut self, path: &Path) -> (Option<&'a Record>, Option<&'a Record>)
+        requires { self.old.sought.dataset ≡ path.now.dataset }
+        ensures same { self.new ≡ self.old }
+        ensures before { IfSome result.0
+            (λ entry. record_at self.old.old path.now.dataset path.now.name ≡ Some entry.now) }
+        ensures after { IfSome result.1
+            (λ entry. record_at self.old.new path.now.dataset path.now.name ≡ Some entry.now) }
+    {
+        if !self.is_plain {
+            return (None, None);
+        }
+        let scene = self.scene;
+        if let Some(written) = scene.first
+            && *written.path == *path
+        {
+            return (written.before, written.after);
+        }
+        let before = self.record_before(path);
+        (before, record_after(scene.ahead, path, before))
+    }
+
+    // Where an entry of the dataset stood before the change, whose record may be at hand.
+    fn places(
+        &self,
+        alloc: Global,
+        path: &Path,
+        entry: Option<&Record>,
+    ) -> Result<SortPlaces, Memory>
+        requires here { self.now.sought.dataset ≡ path.now.dataset }
+        requires entry { IfSome entry
+            (λ entry. record_at self.now.old path.now.dataset path.now.name ≡ Some entry.now) }
+        ensures { IfOk result (λ places. places ≡ rule.places_before self.now path.now) }
+    {
+        let scene = self.scene;
+        match &self.before {
+            Some(surveyor) => surveyor.places(alloc, path, entry, scene.sought),
+            None => places_before(alloc, scene, path),
+        }
+    }
+
+    // What is found of it afterwards: one step.
+    fn row<L: Ledger>(
+        &self,
+        alloc: Global,
+        path: &Path,
+        entry: Option<&Record>,
+        steps: &mut Steps<L>,
+    ) -> Result<Option<Hit>, Memory>
+        requires here { self.now.sought.dataset ≡ path.now.dataset }
+        requires entry { IfSome entry
+            (λ entry. record_at self.now.new path.now.dataset path.now.name ≡ Some entry.now) }
+        ensures count { steps.new ≡ steps.old + 1 }
+        ensures found { IfOk result (λ found. found ≡ rule.found_after self.now path.now) }
+    {
+        let scene = self.scene;
+        self.after.row(alloc, path, entry, scene.sought, steps)
     }
 
     // Where an entry of the dataset stood before the change, and what is found of it afterwards: one step.
@@ -119,11 +219,9 @@ impl<'a> Field<'a> {
         ensures places { IfOk result (λ looked. looked.0 ≡ rule.places_before self.old path.now) }
         ensures found { IfOk result (λ looked. looked.1 ≡ rule.found_after self.old path.now) }
     {
-        let scene = self.scene;
-        let before = self.shelf.find(&path.name);
-        let after = record_after(scene.ahead, path, before);
-        let places = self.before.places(alloc, path, before, scene.sought)?;
-        let found = self.after.row(alloc, path, after, scene.sought, steps)?;
+        let (before, after) = self.records(path);
+        let places = self.places(alloc, path, before)?;
+        let found = self.row(alloc, path, after, steps)?;
         Ok((places, found))
     }
 

@@ -1,4 +1,5 @@
 //! What of a change is kept for the next context.
+use crate::shares::NotedShares;
 use acap_entries::{Boxed, Dataset, Paths, Ranked};
 
 /// A dataset that a context looks into, and the entries in it that a change touches.
@@ -8,13 +9,14 @@ pub(crate) struct NotedPaths<'a> {
     pub(crate) paths: Paths,
 }
 
-/// What was listed for one context and serves the next ones: the touched entries of the last dataset that was
-/// asked, since the next context often looks into the same one, and for all contexts with DEPTH the datasets
-/// in which something may be touched.
+/// What was made for one context and serves the next ones: the touched entries of the last dataset that was
+/// asked, since the next context often looks into the same one, the rights that its entries share, and for all
+/// contexts with DEPTH the datasets in which something may be touched.
 #[derive(Drop)]
 pub(crate) struct Noted<'a> {
     pub(crate) last: Option<NotedPaths<'a>>,
     pub(crate) datasets: Option<Ranked<Boxed<Dataset>>>,
+    pub(crate) shares: Option<NotedShares<'a>>,
 }
 
 impl<'a> Noted<'a> {
@@ -24,10 +26,12 @@ impl<'a> Noted<'a> {
     pub(crate) fn nothing() -> Noted<'a>
         ensures last { result.last ≡ None }
         ensures datasets { result.datasets ≡ None }
+        ensures shares { result.shares ≡ None }
     {
         Noted {
             last: None,
             datasets: None,
+            shares: None,
         }
     }
 }

@@ -10,7 +10,6 @@ ghost use Rattle.acap_views.specs.Plans as rule;
 ghost use Rattle.acap_views.specs.Preparing.{IsPreparedFor, touched_in};
 
 use crate::ahead::Ahead;
-use crate::beside::Beside;
 use crate::delta::{Delta, Turns};
 use crate::moving::prepared_law;
 use crate::noted::Noted;
@@ -20,14 +19,6 @@ use acap_entries::{After, Change, Memory, Sequence, Steps, Tree};
 use acap_inherit::Resolved;
 use acap_rights::Realm;
 use std::sync::ledger::Ledger;
-
-// A dataset that a change writes, if there is one. Any is right: it only saves look-ups.
-fn written_dataset(change: &Change) -> &[u8] {
-    match change.writes.entries().first() {
-        Some((path, _)) => path.dataset.as_slice(),
-        None => b"/",
-    }
-}
 
 impl Views {
     // What becomes of the entries that the contexts of all seats look at, seat by seat, and how many these are.
@@ -74,12 +65,10 @@ impl Views {
         change.writes.form_law();
         let reach = index.reach(tree, change)?;
         let after = After::of(tree, change);
-        let beside = Beside::of(&after, written_dataset(change));
         let ahead = Ahead {
             tree,
             change,
             after: &after,
-            beside: &beside,
             realm,
             reach: &reach,
         };

@@ -1,16 +1,23 @@
 //! Whose context is looked at, when a change is about to be committed.
+ghost use Rattle.std.specs.Prelude.{◌≡◌, IsTrue};
+ghost use Rattle.acap_views.specs.Scenes as rule;
+ghost use Rattle.acap_views.specs.Scenes.{IsAlone};
+
 use crate::beside::Beside;
+use crate::first_written::FirstWritten;
 use acap_entries::{After, Tree, UserName};
+use acap_inherit::chain_unless;
 use acap_rights::Realm;
-use acap_search::Sought;
+use acap_search::{Sought, Viewer};
 use std::marker::Model;
 
-/// What is looked at for a context: the store before a change and after it, the latter also as the change alone says it, who is who,
-/// whose context it is, and what it looks for.
+/// What is looked at for a context: the store before a change and after it, the latter also as the change alone
+/// says it, what the change writes first, who is who, whose context it is, and what it looks for.
 #[derive(Drop)]
 pub(crate) struct Scene<'a> {
     pub(crate) before: &'a Tree,
     pub(crate) ahead: &'a After<'a>,
+    pub(crate) first: Option<FirstWritten<'a>>,
     pub(crate) after: &'a Beside<'a, Beside<'a, After<'a>>>,
     pub(crate) realm: &'a Realm,
     pub(crate) user: &'a UserName,
@@ -33,5 +40,41 @@ impl<'a> Model for Scene<'a> {
       sought = s.sought.now;
     } };
 
-    ghost invariant = { λ s. IsBetween s.before.now.store.records s.after.now.records s.ahead };
+    ghost invariant = { λ s. IsBetween s.before.now.store.records s.after.now.records s.ahead s.first };
+}
+
+impl<'a> Scene<'a> {
+    /// Who looks into the context's dataset before the change, where it may be known that it inherits nothing.
+    /// Takes no memory.
+    pub(crate) fn view_before(&'a self, is_alone: bool) -> Viewer<'a, Tree>
+        requires { IsTrue is_alone → IsAlone (rule.view_before self.now) }
+        ensures { result ≡ rule.view_before self.now }
+    {
+        let sought = self.sought;
+        Viewer {
+            records: self.before,
+            realm: self.realm,
+            user: self.user,
+            dataset: &sought.dataset,
+            chain: chain_unless(self.before, &sought.dataset, is_alone || sought.no_inherit),
+        }
+    }
+
+    /// Who looks into it afterwards, in the same way. Takes no memory.
+    pub(crate) fn view_after(
+        &'a self,
+        is_alone: bool,
+    ) -> Viewer<'a, Beside<'a, Beside<'a, After<'a>>>>
+        requires { IsTrue is_alone → IsAlone (rule.view_after self.now) }
+        ensures { result ≡ rule.view_after self.now }
+    {
+        let sought = self.sought;
+        Viewer {
+            records: self.after,
+            realm: self.realm,
+            user: self.user,
+            dataset: &sought.dataset,
+            chain: chain_unless(self.after, &sought.dataset, is_alone || sought.no_inherit),
+        }
+    }
 }

@@ -4,19 +4,17 @@ ghost use Rattle.acap_notices.specs.Waiting.{most_waiting};
 ghost use Rattle.acap_search.specs.Counting.{IsCounted};
 ghost use Rattle.acap_search.specs.Tuples as tuples;
 ghost use Rattle.acap_views.specs.News.{name_in, come_in, name_for, IsTold};
-ghost use Rattle.acap_views.specs.Scenes as rule;
 ghost use Rattle.acap_views.specs.Scenes.{shift_in};
 ghost use Rattle.acap_views.specs.Shifting as moves;
 ghost use Rattle.acap_views.specs.Shifting.{until_full};
 
 use crate::delta::Shifts;
-use crate::scene::Scene;
+use crate::field::Field;
 use crate::shift::{News, Shift};
 use crate::watch::Watch;
 use acap_entries::{Copying, Label, Memory, Octets, Path, Paths, Steps};
-use acap_inherit::chain_unless;
 use acap_notices::MOST;
-use acap_search::{Hit, Placed, SortPlaces, Sought, Standing, Viewer, places_at, row_of};
+use acap_search::{Hit, Placed, Sought, Standing};
 use std::alloc::Global;
 use std::sync::ledger::Ledger;
 
@@ -33,51 +31,6 @@ fn tell_name(alloc: Global, path: &Path, sought: &Sought) -> Result<Label, Memor
     full.extend_from_slice(dataset)?;
     full.extend_from_slice(name)?;
     Ok(Label::new(Octets::from_vec(full)))
-}
-
-/// Where an entry stood before the change. Fails only for want of memory.
-pub(crate) fn places_before(
-    alloc: Global,
-    scene: &Scene<'_>,
-    path: &Path,
-) -> Result<SortPlaces, Memory>
-    ensures { IfOk result (λ places. places ≡ rule.places_before scene.now path.now) }
-{
-    let sought = scene.sought;
-    if sought.sort.is_none() {
-        return Ok(SortPlaces::new(alloc));
-    }
-    let tree = scene.before;
-    let by = Viewer {
-        records: tree,
-        realm: scene.realm,
-        user: scene.user,
-        dataset: &path.dataset,
-        chain: chain_unless(tree, &path.dataset, sought.no_inherit),
-    };
-    places_at(alloc, &by, &path.name, sought)
-}
-
-/// What is found of it afterwards: one step. Fails only for want of memory.
-pub(crate) fn find_after<L: Ledger>(
-    alloc: Global,
-    scene: &Scene<'_>,
-    path: &Path,
-    steps: &mut Steps<L>,
-) -> Result<Option<Hit>, Memory>
-    ensures count { steps.new ≡ steps.old + 1 }
-    ensures found { IfOk result (λ found. found ≡ rule.found_after scene.now path.now) }
-{
-    let after = scene.after;
-    let sought = scene.sought;
-    let by = Viewer {
-        records: after,
-        realm: scene.realm,
-        user: scene.user,
-        dataset: &path.dataset,
-        chain: chain_unless(after, &path.dataset, sought.no_inherit),
-    };
-    row_of(alloc, &by, &path.name, sought, None, steps)
 }
 
 /// What is to be told of an entry, of which this is found. Fails only for want of memory.
@@ -103,18 +56,18 @@ pub(crate) fn news_of(
 // What becomes of one entry.
 fn shift_at<L: Ledger>(
     alloc: Global,
-    scene: &Scene<'_>,
+    field: &mut Field<'_>,
     path: Path,
     steps: &mut Steps<L>,
 ) -> Result<Shift, Memory>
+    ensures same { field.new ≡ field.old }
     ensures least { steps.old ≤ steps.new }
     ensures most { steps.new ≤ steps.old + 1 }
     ensures count { OnOk result (steps.new ≡ steps.old + 1) }
-    ensures shift { IfOk result (λ shift. shift ≡ shift_in scene.now path) }
+    ensures shift { IfOk result (λ shift. shift ≡ shift_in field.old path) }
 {
-    let places = places_before(alloc, scene, &path)?;
-    let found = find_after(alloc, scene, &path, steps)?;
-    let news = news_of(alloc, &path, scene.sought, found)?;
+    let (places, found) = field.look(alloc, &path, steps)?;
+    let news = news_of(alloc, &path, field.sought(), found)?;
     Ok(Shift { places, path, news })
 }
 
@@ -148,16 +101,17 @@ pub(crate) fn count_on(watch: &Watch, shift: &Shift, count: usize) -> usize
 /// What becomes of some entries, one after the other. Each counts as a step. Fails only for want of memory.
 pub(crate) fn all_shifts<L: Ledger>(
     alloc: Global,
-    scene: &Scene<'_>,
+    field: &mut Field<'_>,
     paths: Paths,
     steps: &mut Steps<L>,
 ) -> Result<Shifts, Memory>
+    ensures same { field.new ≡ field.old }
     ensures count { IsCounted result steps.old steps.new (length paths) }
-    ensures shifts { IfOk result (λ shifts. shifts ≡ each (shift_in scene.now) paths) }
+    ensures shifts { IfOk result (λ shifts. shifts ≡ each (shift_in field.old) paths) }
 {
     let mut shifts = Vec::with_capacity(alloc, paths.len())?;
     for path in paths.into_vec() {
-        shifts.push(shift_at(alloc, scene, path, steps)?)?;
+        shifts.push(shift_at(alloc, field, path, steps)?)?;
     }
     Ok(Shifts::from_vec(shifts))
 }
@@ -165,14 +119,15 @@ pub(crate) fn all_shifts<L: Ledger>(
 /// The same of no more entries once the context is certain to be freed. Those that are left out count as well.
 pub(crate) fn needed_shifts<L: Ledger>(
     alloc: Global,
-    scene: &Scene<'_>,
+    field: &mut Field<'_>,
     watch: &Watch,
     paths: Paths,
     steps: &mut Steps<L>,
 ) -> Result<Shifts, Memory>
+    ensures same { field.new ≡ field.old }
     ensures count { IsCounted result steps.old steps.new (length paths) }
     ensures shifts { IfOk result (λ shifts.
-        shifts ≡ until_full watch.now.present (length watch.now.pending) (each (shift_in scene.now) paths)) }
+        shifts ≡ until_full watch.now.present (length watch.now.pending) (each (shift_in field.old) paths)) }
 {
     let mut shifts = Vec::with_capacity(alloc, paths.len())?;
     let mut count = watch.pending().len();
@@ -180,7 +135,7 @@ pub(crate) fn needed_shifts<L: Ledger>(
         if count > MOST {
             steps.tick();
         } else {
-            let shift = shift_at(alloc, scene, path, steps)?;
+            let shift = shift_at(alloc, field, path, steps)?;
             count = count_on(watch, &shift, count);
             shifts.push(shift)?;
         }

@@ -5,7 +5,7 @@ ghost use Rattle.acap_views.specs.Touching as rule;
 
 use crate::ahead::Ahead;
 use crate::noted::{Noted, NotedPaths};
-use acap_entries::{Boxed, Copying, Dataset, Memory, Paths, Ranked};
+use acap_entries::{Boxed, Copying, Dataset, Memory, Paths, Ranked, is_same};
 use acap_search::{Sought, looks_in};
 use std::alloc::Global;
 
@@ -94,7 +94,7 @@ fn known_paths<'n>(
     ensures { IfSome result (λ paths. rule.AreLookedAt ahead.now sought.now paths.now) }
 {
     let known = noted.last.as_ref()?;
-    if known.dataset == sought.dataset.as_slice() {
+    if is_same(known.dataset, sought.dataset.as_slice()) {
         Some(&known.paths)
     } else {
         None

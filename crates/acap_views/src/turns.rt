@@ -1,24 +1,31 @@
 //! What a change does to the contexts of each seat, in the order in which they are kept.
-ghost use Rattle.std.specs.Prelude.{◌≡◌, ◌+◌, IfOk, OnOk, length, map as each};
+ghost use Rattle.std.specs.Prelude.{◌≡◌, ◌+◌, false, IfOk, OnOk, length, map as each};
+ghost use Rattle.acap_entries.specs.Orders.{octets_eq};
 ghost use Rattle.acap_search.specs.Counting.{IsCounted};
 ghost use Rattle.acap_views.specs.Keeping.{occupant_in};
 ghost use Rattle.acap_views.specs.Plans as rule;
 ghost use Rattle.acap_views.specs.Plans.{live_needed};
+ghost use Rattle.acap_views.specs.Shares.{AreLentFor, scene_by};
 ghost use Rattle.acap_views.specs.Touching as touching;
 ghost use Rattle.acap_views.specs.Touching.{IsNoted, looked_at_by};
 
 use crate::ahead::Ahead;
 use crate::beside::Beside;
 use crate::delta::{Shifts, Turns};
-use crate::due::shifts_at;
+use crate::due::{are_many, shifts_at};
+use crate::field::Field;
+use crate::first_written::lies_in;
 use crate::held::Held;
+use crate::lookout::Lookout;
 use crate::noted::Noted;
 use crate::open_context::OpenContext;
 use crate::scene::Scene;
+use crate::shares::LentShares;
+use crate::sharing::{are_noted, lend_shares, note_shares};
 use crate::sitting::Sitting;
 use crate::touching::{is_touched_in, list_touched};
 use crate::watch::Watch;
-use acap_entries::{ContextName, Memory, Paths, Sequence, Steps, UserName};
+use acap_entries::{ContextName, Memory, Paths, Sequence, Steps, UserName, is_same};
 use acap_search::Sought;
 use std::alloc::Global;
 use std::sync::ledger::Ledger;
@@ -33,57 +40,91 @@ fn and_more(count: u64, more: usize) -> Result<u64, Memory>
     }
 }
 
-// What becomes of the entries that a live context looks at.
-fn live_turn<L: Ledger>(
+// What becomes of entries that a live context looks at. The rights that they share may be at hand.
+fn looked_turn<L: Ledger>(
     alloc: Global,
-    ahead: &Ahead<'_, '_>,
+    lookout: &Lookout<'_, '_, '_>,
     user: &UserName,
     sought: &Sought,
     watch: &Watch,
     paths: Paths,
+    lent: LentShares<'_>,
     steps: &mut Steps<L>,
 ) -> Result<Shifts, Memory>
-    requires { paths ≡ looked_at_by ahead.now sought.now }
+    requires paths { paths ≡ looked_at_by lookout.now sought.now }
+    requires lent { AreLentFor (scene_by lookout.now user.now sought.now) lent }
     ensures count { IsCounted result steps.old steps.new (length paths) }
-    ensures shifts { IfOk result (λ shifts. shifts ≡ live_needed ahead.now user.now sought.now watch.now) }
+    ensures shifts { IfOk result (λ shifts. shifts ≡ live_needed lookout.now user.now sought.now watch.now) }
 {
-    if paths.is_empty() {
-        return Ok(Shifts::new(alloc));
-    }
-    let after = Beside::of(ahead.beside, sought.dataset.as_slice());
+    let ahead = lookout.ahead;
+    let after = Beside::of(&lookout.beside, sought.dataset.as_slice());
     let scene = Scene {
         before: ahead.tree,
         ahead: ahead.after,
+        first: lookout.first,
         after: &after,
         realm: ahead.realm,
         user,
         sought,
     };
-    shifts_at(alloc, &scene, watch, paths, steps)
+    let mut field = Field::of(&scene, lent, are_many(&paths));
+    shifts_at(alloc, &mut field, watch, paths, steps)
+}
+
+// The same, where there may be none. A dataset that inherits nothing is touched only where it is written.
+fn live_turn<'a, L: Ledger>(
+    alloc: Global,
+    lookout: &Lookout<'_, '_, '_>,
+    user: &'a UserName,
+    sought: &'a Sought,
+    watch: &Watch,
+    paths: Paths,
+    noted: &mut Noted<'a>,
+    steps: &mut Steps<L>,
+) -> Result<Shifts, Memory>
+    requires paths { paths ≡ looked_at_by lookout.now sought.now }
+    requires noted { IsNoted lookout.now noted.old }
+    ensures noted { IsNoted lookout.now noted.new }
+    ensures count { IsCounted result steps.old steps.new (length paths) }
+    ensures shifts { IfOk result (λ shifts. shifts ≡ live_needed lookout.now user.now sought.now watch.now) }
+{
+    if paths.is_empty() {
+        return Ok(Shifts::new(alloc));
+    }
+    if !are_noted(noted, user, sought) {
+        if !lies_in(lookout.first, &sought.dataset) {
+            let none = LentShares::nothing();
+            return looked_turn(alloc, lookout, user, sought, watch, paths, none, steps);
+        }
+        note_shares(alloc, lookout.ahead, user, sought, noted)?;
+    }
+    let lent = lend_shares(lookout.ahead, noted, user, sought);
+    looked_turn(alloc, lookout, user, sought, watch, paths, lent, steps)
 }
 
 // What becomes of the entries that a context looks at, and how many these are: none where it isn't live.
 fn turn_of<'a, L: Ledger>(
     alloc: Global,
-    ahead: &Ahead<'_, '_>,
-    user: &UserName,
+    lookout: &Lookout<'_, '_, '_>,
+    user: &'a UserName,
     context: &'a OpenContext,
     noted: &mut Noted<'a>,
     work: &mut u64,
     steps: &mut Steps<L>,
 ) -> Result<Shifts, Memory>
-    requires { IsNoted ahead.now noted.old }
-    ensures noted { IsNoted ahead.now noted.new }
-    ensures count { IsCounted result steps.old steps.new (rule.work_in ahead.now context.now.context) }
-    ensures work { OnOk result (work.new ≡ work.old + rule.work_in ahead.now context.now.context) }
-    ensures shifts { IfOk result (λ shifts. shifts ≡ rule.needed_in ahead.now user.now context.now.context) }
+    requires { IsNoted lookout.now noted.old }
+    ensures noted { IsNoted lookout.now noted.new }
+    ensures count { IsCounted result steps.old steps.new (rule.work_in lookout.now context.now.context) }
+    ensures work { OnOk result (work.new ≡ work.old + rule.work_in lookout.now context.now.context) }
+    ensures shifts { IfOk result
+        (λ shifts. shifts ≡ rule.needed_in lookout.now user.now context.now.context) }
 {
     let sought = &context.sought;
     match &context.held {
         Held::Live(watch) => {
-            let paths = list_touched(alloc, ahead, sought, noted)?;
+            let paths = list_touched(alloc, lookout.ahead, sought, noted)?;
             *work = and_more(*work, paths.len())?;
-            live_turn(alloc, ahead, user, sought, watch, paths, steps)
+            live_turn(alloc, lookout, user, sought, watch, paths, noted, steps)
         }
         Held::Snapshot(_) | Held::Freed => Ok(Shifts::new(alloc)),
     }
@@ -108,6 +149,38 @@ fn any_may_look(ahead: &Ahead<'_, '_>, contexts: &[(ContextName, OpenContext)]) 
     ensures { result ≡ touching.any_may_look ahead.now contexts.now }
 {
     contexts.iter().any(|entry| may_look(ahead, &entry.1))
+}
+
+// Whether two datasets are one: most have other lengths.
+fn is_that(dataset: &[u8], other: &[u8]) -> bool
+    ensures { result ≡ octets_eq dataset.now other.now }
+{
+    dataset.len() == other.len() && is_same(dataset, other)
+}
+
+// Whether a context may, where nothing is touched outside of a dataset.
+fn may_be_in(only: &[u8], context: &OpenContext) -> bool
+    ensures { result ≡ touching.may_be_in only.now context.now.context.sought }
+{
+    context.sought.depth.is_some() || is_that(only, context.sought.dataset.as_slice())
+}
+
+// The same of some contexts.
+fn any_may_be_in(only: &[u8], contexts: &[(ContextName, OpenContext)]) -> bool
+    ensures { result ≡ touching.any_may_be_in only.now contexts.now }
+{
+    contexts.iter().any(|entry| may_be_in(only, &entry.1))
+}
+
+// Whether it may be that one of some contexts looks at a touched entry. No chain is looked up where all that is
+// touched lies in one dataset.
+fn some_may_look(ahead: &Ahead<'_, '_>, contexts: &[(ContextName, OpenContext)]) -> bool
+    ensures { result ≡ false → touching.any_may_look ahead.now contexts.now ≡ false }
+{
+    match ahead.reach.only() {
+        Some(only) => any_may_be_in(only, contexts),
+        None => any_may_look(ahead, contexts),
+    }
 }
 
 // Whether no context of a seat looks at a touched entry.
@@ -145,12 +218,13 @@ pub(crate) fn turns_of<'a, L: Ledger>(
     ensures work { OnOk result (work.new ≡ work.old + rule.work_at ahead.now (occupant_in sitting.now)) }
     ensures turns { IfOk result (λ turns. turns ≡ rule.needed_at ahead.now (occupant_in sitting.now)) }
 {
-    if !any_may_look(ahead, sitting.contexts()) {
+    if !some_may_look(ahead, sitting.contexts()) {
         return Ok(Turns::new(alloc));
     }
+    let lookout = Lookout::of(ahead);
     let mut turns = Vec::with_capacity(alloc, sitting.contexts.len())?;
     for entry in &sitting.contexts {
-        turns.push(turn_of(alloc, ahead, &sitting.user, &entry.1, noted, work, steps)?)?;
+        turns.push(turn_of(alloc, &lookout, &sitting.user, &entry.1, noted, work, steps)?)?;
     }
     Ok(trim(alloc, Turns::from_vec(turns)))
 }

@@ -11,8 +11,8 @@ loop-path-preserved-then-count-gt-MOST g c =
     record {
       field = c.loop-path.invariant.field;
       hits = c.loop-path.invariant.hits;
-      shifts = left_out c.args.watch.now.present c.loop-path.count c.loop-path.shifts.items _ (filter due (each (shift_in c.args.scene.now) c.next.new.self.rest.items))
-          (filter due (each (shift_in c.args.scene.now) c.loop-path.path-iterator.rest.items)) (omega (arith, c.if-count-gt-MOST.true)) c.loop-path.invariant.shifts;
+      shifts = left_out c.args.watch.now.present c.loop-path.count c.loop-path.shifts.items _ (filter due (each (shift_in c.args.field.now) c.next.new.self.rest.items))
+          (filter due (each (shift_in c.args.field.now) c.loop-path.path-iterator.rest.items)) (omega (arith, c.if-count-gt-MOST.true)) c.loop-path.invariant.shifts;
       count = omega (arith, c.tick.ensures, ap length c.in-Some.ensures.steps.0, c.loop-path.invariant.count);
       least = omega (arith, c.tick.ensures, c.loop-path.invariant.least);
     }
@@ -23,19 +23,19 @@ loop-path-preserved-then-count-gt-MOST-2 g c =
     record {
       field = c.loop-path.invariant.field;
       hits = c.loop-path.invariant.hits;
-      shifts = left_out c.args.watch.now.present c.loop-path.count c.loop-path.shifts.items _ (filter due (each (shift_in c.args.scene.now) c.next.new.self.rest.items))
-          (filter due (each (shift_in c.args.scene.now) c.loop-path.path-iterator.rest.items)) (omega (arith, c.if-count-gt-MOST.true)) c.loop-path.invariant.shifts;
+      shifts = left_out c.args.watch.now.present c.loop-path.count c.loop-path.shifts.items _ (filter due (each (shift_in c.args.field.now) c.next.new.self.rest.items))
+          (filter due (each (shift_in c.args.field.now) c.loop-path.path-iterator.rest.items)) (omega (arith, c.if-count-gt-MOST.true)) c.loop-path.invariant.shifts;
       count = omega (arith, c.tick.ensures, ap length c.in-Some.ensures.steps.0, c.loop-path.invariant.count);
       least = omega (arith, c.tick.ensures, c.loop-path.invariant.least);
     }
 
-pub loop-path-preserved-in-Continue-branch-4 : goal.loop-path-preserved-in-Continue-branch-4
-loop-path-preserved-in-Continue-branch-4 g c =
+pub loop-path-preserved-in-Continue-branch-3 : goal.loop-path-preserved-in-Continue-branch-3
+loop-path-preserved-in-Continue-branch-3 g c =
     let matches = c.args.watch.now.present in
-    let rest = filter (has_changed matches) (each (shift_in c.args.scene.now) c.next.new.self.rest.items) in
-    let shifts = filter (has_changed matches) (each (shift_in c.args.scene.now) c.loop-path.path-iterator.rest.items) in
+    let rest = filter (has_changed matches) (each (shift_in c.args.field.now) c.next.new.self.rest.items) in
+    let shifts = filter (has_changed matches) (each (shift_in c.args.field.now) c.loop-path.path-iterator.rest.items) in
     let first : shifts ≡ cons_option c.in_ok-shift.field-0 rest =
-    first_due matches c.loop-path.hits c.args.scene.now c.loop-path.field c.in-Some.path c.next.new.self.rest.items _ c.in_ok-shift.field-0
+    first_due matches c.loop-path.hits c.args.field.now c.loop-path.field c.in-Some.path c.next.new.self.rest.items _ c.in_ok-shift.field-0
     c.loop-path.invariant.hits c.loop-path.invariant.field c.in-Some.ensures.steps.0 c.in_ok-shift.ensures.shift in
     record {
       field = c.in_ok-shift.ensures.field ∙ c.loop-path.invariant.field;
@@ -49,10 +49,10 @@ loop-path-preserved-in-Continue-branch-4 g c =
 pub loop-path-preserved : goal.loop-path-preserved
 loop-path-preserved g c =
     let matches = c.args.watch.now.present in
-    let rest = filter (has_changed matches) (each (shift_in c.args.scene.now) c.next.new.self.rest.items) in
-    let shifts = filter (has_changed matches) (each (shift_in c.args.scene.now) c.loop-path.path-iterator.rest.items) in
+    let rest = filter (has_changed matches) (each (shift_in c.args.field.now) c.next.new.self.rest.items) in
+    let shifts = filter (has_changed matches) (each (shift_in c.args.field.now) c.loop-path.path-iterator.rest.items) in
     let left : shifts ≡ rest =
-    first_due matches c.loop-path.hits c.args.scene.now c.loop-path.field c.in-Some.path c.next.new.self.rest.items _ c.in_ok-shift.field-0
+    first_due matches c.loop-path.hits c.args.field.now c.loop-path.field c.in-Some.path c.next.new.self.rest.items _ c.in_ok-shift.field-0
     c.loop-path.invariant.hits c.loop-path.invariant.field c.in-Some.ensures.steps.0 c.in_ok-shift.ensures.shift
     ∙ ap (λ made. cons_option made rest) (none_if c.in_ok-shift.field-0 c.in_default.not-Some) in
     record {

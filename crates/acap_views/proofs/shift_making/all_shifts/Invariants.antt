@@ -4,7 +4,8 @@ use Rattle.acap_views.proofs.shift_making.all_shifts.Given as goal
 
 abbrev pub invariant-loop-path : goal.invariant-loop-path
 invariant-loop-path g l = record {
-  shifts : l.shifts.items ++ each (shift_in l.scene) l.path-iterator.rest.items ≡ each (shift_in l.scene) l.fn.paths;
+  field : l.field ≡ l.fn.field;
+  shifts : l.shifts.items ++ each (shift_in l.fn.field) l.path-iterator.rest.items ≡ each (shift_in l.fn.field) l.fn.paths;
   count : l.steps + length l.path-iterator.rest.items ≡ l.fn.steps + length l.fn.paths;
   least : l.fn.steps ≤ l.steps;
 }

@@ -9,7 +9,7 @@ use Rattle.acap_views.proofs.turns.turn_of.Goals as goal
 pub returns-in_ok-work-in-Live-clause-shifts : goal.returns-in_ok-work-in-Live-clause-shifts
 returns-in_ok-work-in-Live-clause-shifts g c =
     let inside = c.context.inside in
-    let plan = c.args.ahead.now in
+    let plan = c.args.lookout.now in
     subst (λ (k : RoomyContext). IfOk c.live_turn.result (λ shifts. shifts ≡ needed_in plan c.args.user.now k.context)) c.context.view_is
     (subst (λ (held : Held). IfOk c.live_turn.result (λ shifts. shifts
     ≡ needed_in plan c.args.user.now (record { sought = inside.sought; enumerated = inside.enumerated; told = inside.told; kept = kept_in held }))) (sym c.in-Live.is) c.live_turn.ensures.shifts)

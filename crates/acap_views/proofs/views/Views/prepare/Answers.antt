@@ -1,7 +1,6 @@
 use Rattle.std.proofs.Common.{rules, ◌∙◌, ap, arith, sym}
 use Rattle.std.specs.FinMap as table
 use Rattle.acap_entries.specs.Changes.{store_after}
-use Rattle.acap_entries.specs.Store.{Store}
 use Rattle.acap_entries.proofs.StoreLaws.{value_after}
 use Rattle.acap_views.specs.Aheads.{Planned}
 use Rattle.acap_views.specs.Keeping.{seats_in}
@@ -19,7 +18,6 @@ invariant_of-ahead g c =
       formed = c.form_law.ensures;
       reached = c.in_ok-reach.ensures;
       before = search rules;
-      near = ap (λ (s : Store). s.records) c.of-beside.ensures ∙ c.of-after.ensures.store.records new (value_after change old);
       ahead = c.of-after.ensures.store.records new (value_after change old);
     }
 

@@ -3,7 +3,7 @@ use Rattle.std.specs.Option.{unwrap_or}
 use Rattle.std.proofs.lemmas.Result.{IfOk-weaker}
 use Rattle.acap_search.specs.Views.{places_at, spot_in}
 use Rattle.acap_views.specs.Scenes.{places_before}
-use Rattle.acap_views.proofs.shift_making.places_before.Goals as goal
+use Rattle.acap_views.proofs.field.places_before.Goals as goal
 
 pub returns : goal.returns
 returns c =
