@@ -6,7 +6,7 @@ use crate::parting::Parting;
 use acap_locked::Site;
 use futures::task::{Context, Poll};
 use futures::{Future, Stream, ready};
-use std::alloc::AllocGlobal;
+use std::alloc::{AllocGlobal, Global};
 use std::random::RandomSource;
 use std::sync::Wait;
 use std::sync::ledger::Ledger;
@@ -94,6 +94,29 @@ impl<R: Wait, S: Site, L: Ledger, T: Leaving<S>> Drop for Sitting<'_, R, S, L, T
     }
 }
 
+/// A client at a worker, in memory of its own. At each poll of the worker several enums are written that may hold a client, each of them in
+/// its full length.
+#[derive(Drop)]
+pub(crate) struct Client<'a, R: Wait, S: Site, L: Ledger, T: Leaving<S>> {
+    sitting: Box<Sitting<'a, R, S, L, T>>,
+}
+
+impl<'a, R: Wait, S: Site, L: Ledger, T: Leaving<S>> Client<'a, R, S, L, T> {
+    // `None` where memory is refused: what the client had comes back then, as where it is let go.
+    fn new(alloc: Global, sitting: Sitting<'a, R, S, L, T>) -> Option<Client<'a, R, S, L, T>> {
+        let sitting = Box::new(alloc, sitting).ok()?;
+        Some(Client { sitting })
+    }
+}
+
+impl<R: Wait + Clock, S: Site, L: Ledger, T: Leaving<S>> Future for Client<'_, R, S, L, T> {
+    type Output = ();
+
+    fn poll(&mut self, cx: &mut Context<'_>) -> Poll<()> {
+        self.sitting.as_mut().poll(cx)
+    }
+}
+
 /// The clients of the jobs of a channel, as the jobs come. That the worker has begun is noted at the first look.
 #[derive(Drop)]
 pub(crate) struct Sittings<'a, R: Wait, S: Site, L: Ledger> {
@@ -130,6 +153,12 @@ where
             self.office.begin_worker();
         }
     }
+
+    // The client of a job, if there is to be one.
+    fn admit(&self, job: Job<S>) -> Option<Client<'a, R, S, L, Task<'a, R, S, L>>> {
+        let sitting = self.office.begin(job, &self.handle)?;
+        Client::new(self.office.rt.alloc(), sitting)
+    }
 }
 
 impl<'a, R, S, L> Stream for Sittings<'a, R, S, L>
@@ -138,19 +167,19 @@ where
     S: Site,
     L: Ledger,
 {
-    type Item = Sitting<'a, R, S, L, Task<'a, R, S, L>>;
+    type Item = Client<'a, R, S, L, Task<'a, R, S, L>>;
 
     fn poll_next(
         &mut self,
         cx: &mut Context<'_>,
-    ) -> Poll<Option<Sitting<'a, R, S, L, Task<'a, R, S, L>>>> {
+    ) -> Poll<Option<Client<'a, R, S, L, Task<'a, R, S, L>>>> {
         self.begin();
         for _ in 0..BUDGET {
             let Some(job) = ready!(self.jobs.poll_recv(cx)) else {
                 return Poll::Ready(None);
             };
-            if let Some(sitting) = self.office.begin(job, &self.handle) {
-                return Poll::Ready(Some(sitting));
+            if let Some(client) = self.admit(job) {
+                return Poll::Ready(Some(client));
             }
         }
         cx.yield_now()

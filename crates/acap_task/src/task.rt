@@ -103,6 +103,25 @@ fn end_as<'u, W: Wire, D: Desk, S: Source, B: Bell>(
 }
 
 impl<'u, W: Wire, D: Desk, S: Source, B: Bell> SessionTask<'u, W, D, S, B> {
+    ghost use Rattle.std.specs.Prelude.{◌≡◌, ◌≤◌, IfSome, IsSomeAnd};
+    ghost use Rattle.acap_task.specs.Progress.{progress};
+    ghost use Rattle.acap_task.specs.Waiting.{EndsAt};
+
+    // The end of the session that runs, after so many polls.
+    fn end_at(&mut self, end: TaskEnd, polls: u64) -> Over<'u, W, D, S, B>
+        requires polls { polls ≤ self.old.turns }
+        requires ends { IsSomeAnd self.old.running (λ r. EndsAt end r.parties.users.now (W.told r.wire)
+            (progress r.course) polls self.old.turns) }
+        ensures count { (result.turns ≡ self.old.turns) × (result.polls ≡ polls) × (result.end ≡ end) }
+        ensures same { IfSome self.old.running (λ r. (result.running.parties ≡ r.parties)
+            × (D.seat result.running.desk ≡ D.seat r.desk)) }
+    {
+        let running = self.running.take().unwrap();
+        end_as(running, end, polls, self.turns)
+    }
+}
+
+impl<'u, W: Wire, D: Desk, S: Source, B: Bell> SessionTask<'u, W, D, S, B> {
     ghost use Rattle.std.specs.Prelude.{◌≡◌, ◌<◌, ◌≤◌, ◌+◌, IfSome, IsSomeAnd};
     ghost use Rattle.futures.specs.Poll.{IfReady, OnPending};
     ghost use Rattle.futures.specs.Task.{IsArmed, Keeps};
@@ -129,17 +148,16 @@ impl<'u, W: Wire, D: Desk, S: Source, B: Bell> SessionTask<'u, W, D, S, B> {
     {
         let turns = self.turns;
         let polls = self.polls + 1;
-        let Some(mut running) = self.running.take() else {
+        let Some(running) = &mut self.running else {
             return cx.yield_now();
         };
         match running.advance(cx) {
-            Poll::Ready(end) => Poll::Ready(end_as(running, end, polls, turns)),
+            Poll::Ready(end) => Poll::Ready(self.end_at(end, polls)),
             Poll::Pending if polls < turns => {
                 self.polls = polls;
-                self.running = Some(running);
                 Poll::Pending
             }
-            Poll::Pending => Poll::Ready(end_as(running, TaskEnd::TurnsSpent, polls, turns)),
+            Poll::Pending => Poll::Ready(self.end_at(TaskEnd::TurnsSpent, polls)),
         }
     }
 
