@@ -8,15 +8,16 @@ use crate::data::append_items;
 use crate::strings::append_string;
 use acap_entries::{ContextName, Label, Memory, Moment, Row, stamp};
 use acap_notices::{Notice, ToldRef, Tolds};
+use itoa::Buffer;
 
-// A number behind a space.
+// A number after a space.
 #[tactic(auto, unfolding(crate::specs::Replies::position_form))]
 fn append_position(position: usize, out: &mut Vec<u8>) -> Result<(), Memory>
     ensures { Appends result out.old.items out.new.items (position_form position) }
 {
-    let digits = position.to_string(*out.allocator())?;
+    let mut digits = Buffer::new();
     out.push(b' ')?;
-    out.extend_from_slice(digits.as_bytes())?;
+    out.extend_from_slice(digits.format(position).as_bytes())?;
     Ok(())
 }
 

@@ -14,6 +14,7 @@ use crate::strings::{append_spaced, append_string};
 use acap_commands::{Refusal, Reply, Said, SearchReply, Status, Verb};
 use acap_entries::{Memory, Moment, Octets, Row, Value, stamp};
 use acap_notices::Tolds;
+use itoa::Buffer;
 
 #[tactic(auto, unfolding(crate::specs::Replies::row_form))]
 fn append_row(tag: &[u8], row: &Row, out: &mut Vec<u8>) -> Result<(), Memory>
@@ -120,9 +121,9 @@ fn append_greeting(out: &mut Vec<u8>) -> Result<(), Memory>
 fn append_total(total: u32, out: &mut Vec<u8>) -> Result<(), Memory>
     ensures { Appends result out.old.items out.new.items (total_form total) }
 {
-    let digits = total.to_string(*out.allocator())?;
+    let mut digits = Buffer::new();
     out.extend_from_slice(b"(TOOMANY ")?;
-    out.extend_from_slice(digits.as_bytes())?;
+    out.extend_from_slice(digits.format(total).as_bytes())?;
     out.extend_from_slice(b") ")?;
     Ok(())
 }
