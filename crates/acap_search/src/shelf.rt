@@ -1,5 +1,5 @@
 //! The records of a dataset, sought one after the other.
-ghost use Rattle.std.specs.Prelude.{◌≡◌};
+ghost use Rattle.std.specs.Prelude.{◌≡◌, Some, IfSome};
 ghost use Rattle.std.specs.Option.{option_copied};
 ghost use Rattle.acap_inherit.specs.Records.{record_at};
 ghost use Rattle.acap_search.specs.Near.{AreKept};
@@ -70,6 +70,21 @@ impl<'a> Shelf<'a> {
         }
     }
 
+    // The next record, taken if it is of this name.
+    fn take_next(&mut self, name: &EntryName) -> Option<&'a Record>
+        ensures same { self.new ≡ self.old }
+        ensures found { IfSome result (λ entry.
+            record_at self.old.records self.old.dataset name.now ≡ Some entry.now) }
+    {
+        if let Some((path, record)) = self.next
+            && path.name == *name
+        {
+            self.next = None;
+            return Some(record);
+        }
+        None
+    }
+
     /// The record of an entry, which is often the next. Takes no memory.
     pub fn find(&mut self, name: &EntryName) -> Option<&'a Record>
         ensures same { self.new ≡ self.old }
@@ -77,14 +92,16 @@ impl<'a> Shelf<'a> {
     {
         let tree = self.tree;
         let dataset = self.dataset;
-        let next = first_from(tree, dataset, self.next, &mut self.others, name);
-        if let Some((path, record)) = next
-            && path.name == *name
-        {
-            self.next = None;
+        if self.next.is_none() {
+            self.next = self.others.next();
+        }
+        if let Some(record) = self.take_next(name) {
             return Some(record);
         }
-        self.next = next;
-        tree.find(dataset.as_slice(), name.as_slice())
+        self.next = first_from(tree, dataset, self.next, &mut self.others, name);
+        match self.take_next(name) {
+            Some(record) => Some(record),
+            None => tree.find(dataset.as_slice(), name.as_slice()),
+        }
     }
 }
