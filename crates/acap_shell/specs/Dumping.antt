@@ -10,6 +10,7 @@ use Rattle.acap_commands.specs.declared.given.Given.TheVariants as given
 use Rattle.acap_commands.specs.declared.metadata.Metadata.{Metadata}
 use Rattle.acap_commands.specs.declared.metadata.Metadata.TheVariants as metadata
 use Rattle.acap_commands.specs.declared.return_name.ReturnName.TheVariants as name
+use Rattle.acap_commands.specs.declared.search_modifiers.SearchModifiers.{SearchModifiers}
 use Rattle.acap_commands.specs.declared.store_item.StoreItem.{StoreItem}
 use Rattle.acap_commands.specs.declared.store_metadata.StoreMetadata.{StoreMetadata}
 use Rattle.acap_commands.specs.declared.store_metadata.StoreMetadata.TheVariants as stored
@@ -24,11 +25,11 @@ use Rattle.acap_shell.specs.Stores.{item}
 abbrev pub all_metadata : List Metadata
 all_metadata = metadata.Attribute ∷ metadata.Value ∷ metadata.Acl ∷ []
 
+abbrev pub all_stored : SearchModifiers
+all_stored = record (returning (name.Beginning []) all_metadata) { depth = Some 0; no_inherit = true }
+
 abbrev pub dump : List ℕ → Command
-dump root =
-    search root
-    (record (returning (name.Beginning []) all_metadata) { depth = Some 0; no_inherit = true })
-    (One test.All)
+dump root = search root all_stored (One test.All)
 
 -- a string, a list of strings, or NIL
 abbrev pub list_of : List Datum → Cell

@@ -5,6 +5,7 @@ use Rattle.std.specs.Prelude.{Option, Some, None, option_map, if◌then◌else�
 use Rattle.acap_commands.specs.Wanted.{Not}
 use Rattle.acap_commands.specs.declared.command.Command.{Command}
 use Rattle.acap_commands.specs.declared.make_context.MakeContext.{MakeContext}
+use Rattle.acap_commands.specs.declared.search_modifiers.SearchModifiers.{SearchModifiers}
 use Rattle.acap_commands.specs.declared.sort_item.SortItem.{SortItem}
 use Rattle.acap_grammar.specs.Lines.{Datum, Line, AddTo, RemoveFrom, Change}
 use Rattle.acap_shell.specs.Escapes.{printed_by}
@@ -23,12 +24,14 @@ abbrev pub attribute_or_name : Option (List ℕ) → List ℕ
 attribute_or_name (Some attribute) = attribute
 attribute_or_name None = entry
 
+abbrev pub modifiers : List ℕ → Option (List ℕ) → Option (List ℕ) → SearchModifiers
+modifiers context attribute sort =
+    record (value_of (attribute_or_name attribute))
+    { make_context = Some (followed context); sort = option_map sorted_by sort }
+
 abbrev pub watch : List ℕ → List ℕ → Option (List ℕ) → Option (List ℕ) → Command
 watch dataset context attribute sort =
-    search dataset
-    (record (value_of (attribute_or_name attribute))
-    { make_context = Some (followed context); sort = option_map sorted_by sort })
-    (Not (is_named []))
+    search dataset (modifiers context attribute sort) (Not (is_named []))
 
 -- an entry, and its values if they are wanted
 abbrev pub cells : Form → Bool → List Datum → List ℕ

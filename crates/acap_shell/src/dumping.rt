@@ -11,7 +11,8 @@ use crate::searches::{entry_attribute, returning, search};
 use crate::stores::store_one;
 use acap_client::Data;
 use acap_commands::{
-    Command, Given, Key, Metadata, MetadataList, ReturnName, StoreItem, StoreMetadata, Test,
+    Command, Given, Key, Metadata, MetadataList, ReturnName, SearchModifiers, StoreItem,
+    StoreMetadata, Test,
 };
 use acap_entries::{Attribute, Cell, Dataset, Label, Memory, Path, Sequence, Value, Values};
 use std::alloc::Global;
@@ -19,18 +20,34 @@ use std::alloc::Global;
 /// The attribute whose value says what a dataset inherits from (RFC 2244 section 5.1).
 const INHERIT: &[u8] = b"dataset.inherit";
 
-/// The SEARCH for all that a store holds, without what is inherited. Fails only for want of memory.
-pub fn dump(alloc: Global, root: Dataset) -> Result<Command, Memory>
-    ensures { IfOk result (λ made. made ≡ dumping.dump root) }
+/// All of an attribute that may be stored.
+fn all_metadata(alloc: Global) -> Result<MetadataList, Memory>
+    ensures { IfOk result (λ made. made ≡ dumping.all_metadata) }
 {
     let mut metadata = MetadataList::new(alloc);
     metadata.push(Metadata::Attribute)?;
     metadata.push(Metadata::Value)?;
     metadata.push(Metadata::Acl)?;
+    Ok(metadata)
+}
+
+/// All of each attribute, in all datasets, without what is inherited.
+fn all_stored(alloc: Global) -> Result<SearchModifiers, Memory>
+    ensures { IfOk result (λ made. made ≡ dumping.all_stored) }
+{
+    let metadata = all_metadata(alloc)?;
     let all = Label::from_slice(alloc, b"")?;
     let mut modifiers = returning(alloc, ReturnName::Beginning(all), metadata)?;
     modifiers.depth = Some(0);
     modifiers.no_inherit = true;
+    Ok(modifiers)
+}
+
+/// The SEARCH for all that a store holds, without what is inherited. Fails only for want of memory.
+pub fn dump(alloc: Global, root: Dataset) -> Result<Command, Memory>
+    ensures { IfOk result (λ made. made ≡ dumping.dump root) }
+{
+    let modifiers = all_stored(alloc)?;
     search(alloc, root, modifiers, Key::one(Test::All))
 }
 

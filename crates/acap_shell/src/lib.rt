@@ -1,6 +1,7 @@
 //! What the words of `acapc` stand for, as commands of the protocol (RFC 2244), and how what is answered is printed. It has no handle.
 #![tactic(auto)]
 
+mod both;
 mod dumping;
 mod escapes;
 mod form;

@@ -1,12 +1,15 @@
 //! Words that speak of access lists, as commands (RFC 2244 sections 3.5 and 6.7).
 
-ghost use Rattle.std.specs.Prelude.{◌≡◌, ◌++◌, IfOk, codes};
+ghost use Rattle.std.specs.Prelude.{◌≡◌, [], ◌∷◌, ◌++◌, IfOk, codes};
 ghost use Rattle.acap_commands.specs.declared.command.Command.TheVariants as command;
+ghost use Rattle.acap_commands.specs.declared.metadata.Metadata.TheVariants as metadata;
+ghost use Rattle.acap_commands.specs.declared.return_name.ReturnName.TheVariants as name;
 ghost use Rattle.acap_shell.specs.Objects as objects;
 ghost use Rattle.acap_shell.specs.Searches as search;
 
+use crate::both::both;
 use crate::searches::{is_named, returning, search, value_of};
-use acap_commands::{Command, Metadata, MetadataList, ObjectName, ReturnName};
+use acap_commands::{Command, Metadata, MetadataList, ObjectName, ReturnName, SearchModifiers};
 use acap_entries::{Attribute, Boxed, Dataset, EntryName, Label, Memory};
 use std::alloc::Global;
 
@@ -61,9 +64,17 @@ fn list_name(alloc: Global, attribute: &Attribute) -> Result<Attribute, Memory>
 fn managed(alloc: Global, dataset: Dataset, attribute: Attribute) -> Result<Command, Memory>
     ensures { IfOk result (λ made. made ≡ objects.managed dataset attribute) }
 {
-    let modifiers = value_of(alloc, attribute)?;
-    let key = is_named(alloc, b"")?;
+    let (modifiers, key) = both(value_of(alloc, attribute), is_named(alloc, b""))?;
     search(alloc, dataset, modifiers, key)
+}
+
+/// The access list of an attribute.
+fn list_of(alloc: Global, attribute: Attribute) -> Result<SearchModifiers, Memory>
+    ensures { IfOk result (λ made. made ≡ search.returning (name.Named attribute) (metadata.Acl ∷ [])) }
+{
+    let mut metadata = MetadataList::new(alloc);
+    metadata.push(Metadata::Acl)?;
+    returning(alloc, ReturnName::Named(attribute), metadata)
 }
 
 /// The SEARCH for the access list of an attribute of one entry.
@@ -75,10 +86,8 @@ fn kept(
 ) -> Result<Command, Memory>
     ensures { IfOk result (λ made. made ≡ objects.kept dataset attribute name) }
 {
-    let mut metadata = MetadataList::new(alloc);
-    metadata.push(Metadata::Acl)?;
-    let modifiers = returning(alloc, ReturnName::Named(attribute), metadata)?;
-    let key = is_named(alloc, name.as_slice())?;
+    let key = is_named(alloc, name.as_slice());
+    let (modifiers, key) = both(list_of(alloc, attribute), key)?;
     search(alloc, dataset, modifiers, key)
 }
 

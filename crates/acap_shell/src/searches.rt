@@ -1,8 +1,10 @@
 //! Words that ask for entries, as a SEARCH (RFC 2244 section 6.4.1).
 
-ghost use Rattle.std.specs.Prelude.{◌≡◌, IfOk};
+ghost use Rattle.std.specs.Prelude.{◌≡◌, [], IfOk};
+ghost use Rattle.acap_commands.specs.Wanted.{Not};
 ghost use Rattle.acap_shell.specs.Searches as search;
 
+use crate::both::both;
 use acap_commands::{
     Command, Key, Metadata, MetadataList, Relation, ReturnItem, ReturnName, Returns, Search,
     SearchModifiers, Target, Test,
@@ -40,6 +42,14 @@ pub(crate) fn is_named(alloc: Global, name: &[u8]) -> Result<Key, Memory>
     equals(alloc, attribute, name)
 }
 
+/// That an entry isn't the management entry.
+pub(crate) fn but_management(alloc: Global) -> Result<Key, Memory>
+    ensures { IfOk result (λ made. made ≡ Not (search.is_named [])) }
+{
+    let management = is_named(alloc, b"")?;
+    Ok(Key::not(alloc, management)?)
+}
+
 /// An item of RETURN, alone.
 pub(crate) fn returning(
     alloc: Global,
@@ -62,6 +72,14 @@ pub(crate) fn value_of(alloc: Global, attribute: Attribute) -> Result<SearchModi
     let mut metadata = MetadataList::new(alloc);
     metadata.push(Metadata::Value)?;
     returning(alloc, ReturnName::Named(attribute), metadata)
+}
+
+/// The names of entries.
+pub(crate) fn names(alloc: Global) -> Result<SearchModifiers, Memory>
+    ensures { IfOk result (λ made. made ≡ search.value_of search.entry) }
+{
+    let attribute = entry_attribute(alloc)?;
+    value_of(alloc, attribute)
 }
 
 /// The name and the value of each attribute.
@@ -122,8 +140,8 @@ pub fn get(
 ) -> Result<Command, Memory>
     ensures { IfOk result (λ made. made ≡ search.get dataset entry attribute) }
 {
-    let modifiers = wanted_values(alloc, attribute)?;
-    let key = wanted_entries(alloc, entry)?;
+    let modifiers = wanted_values(alloc, attribute);
+    let (modifiers, key) = both(modifiers, wanted_entries(alloc, entry))?;
     search(alloc, dataset, modifiers, key)
 }
 
@@ -132,10 +150,8 @@ pub fn get(
 pub fn list(alloc: Global, dataset: Dataset, depth: Option<u32>) -> Result<Command, Memory>
     ensures { IfOk result (λ made. made ≡ search.list dataset depth) }
 {
-    let mut modifiers = value_of(alloc, entry_attribute(alloc)?)?;
+    let (mut modifiers, key) = both(names(alloc), but_management(alloc))?;
     modifiers.depth = depth;
-    let management = is_named(alloc, b"")?;
-    let key = Key::not(alloc, management)?;
     search(alloc, dataset, modifiers, key)
 }
 
@@ -149,7 +165,7 @@ pub fn find(
 ) -> Result<Command, Memory>
     ensures { IfOk result (λ made. made ≡ search.find dataset attribute value.now) }
 {
-    let modifiers = value_of(alloc, entry_attribute(alloc)?)?;
-    let key = equals(alloc, attribute, value)?;
+    let key = equals(alloc, attribute, value);
+    let (modifiers, key) = both(names(alloc), key)?;
     search(alloc, dataset, modifiers, key)
 }

@@ -1,17 +1,20 @@
 //! A list that is followed: the SEARCH that makes it, and its rows and changes as lines that are printed (RFC 2244 sections 3.3, 6.4.1
 //! and 6.5).
 
-ghost use Rattle.std.specs.Prelude.{◌≡◌, ◌++◌, IfOk, OnOk, flat_map};
+ghost use Rattle.std.specs.Prelude.{◌≡◌, ◌++◌, IfOk, OnOk, flat_map, option_map};
 ghost use Rattle.acap_client.specs.Arguments.{data_in, value_in};
 ghost use Rattle.acap_client.specs.Saying.{said};
 ghost use Rattle.acap_shell.specs.Rows.{cell, first_texts, values};
+ghost use Rattle.acap_shell.specs.Searches.{value_of};
 ghost use Rattle.acap_shell.specs.Watching as watching;
 
+use crate::both::both;
 use crate::escapes::print_octets;
 use crate::form::Form;
-use crate::searches::{OCTET, entry_attribute, is_named, search, value_of};
+use crate::searches;
+use crate::searches::{OCTET, but_management, search};
 use acap_client::{Data, Line, Number};
-use acap_commands::{Command, Key, MakeContext, SortItem, SortItems};
+use acap_commands::{Command, MakeContext, SearchModifiers, SortItem, SortItems};
 use acap_entries::{Attribute, ContextName, Dataset, Memory};
 use itoa::Buffer;
 use std::alloc::Global;
@@ -28,6 +31,45 @@ fn sorted_by(alloc: Global, attribute: Attribute) -> Result<SortItems, Memory>
     Ok(items)
 }
 
+/// The items of a SORT, if an attribute is given.
+fn sort_of(alloc: Global, attribute: Option<Attribute>) -> Result<Option<SortItems>, Memory>
+    ensures { IfOk result (λ made. made ≡ option_map watching.sorted_by attribute) }
+{
+    match attribute {
+        Some(attribute) => Ok(Some(sorted_by(alloc, attribute)?)),
+        None => Ok(None),
+    }
+}
+
+/// The value of an attribute, or the names of entries.
+fn shown(alloc: Global, attribute: Option<Attribute>) -> Result<SearchModifiers, Memory>
+    ensures { IfOk result (λ made. made ≡ value_of (watching.attribute_or_name attribute)) }
+{
+    match attribute {
+        Some(attribute) => searches::value_of(alloc, attribute),
+        None => searches::names(alloc),
+    }
+}
+
+/// What is told of entries, and in which order, by a context that follows the store.
+fn followed(
+    alloc: Global,
+    context: ContextName,
+    attribute: Option<Attribute>,
+    sort: Option<Attribute>,
+) -> Result<SearchModifiers, Memory>
+    ensures { IfOk result (λ made. made ≡ watching.modifiers context attribute sort) }
+{
+    let (mut modifiers, sort) = both(shown(alloc, attribute), sort_of(alloc, sort))?;
+    modifiers.make_context = Some(MakeContext {
+        enumerate: true,
+        notify: true,
+        name: context,
+    });
+    modifiers.sort = sort;
+    Ok(modifiers)
+}
+
 /// The SEARCH that makes a context of this name of the entries of a dataset but its management entry, which follows the store. Its
 /// rows have the value of an attribute, or the names of the entries, and are sorted by an attribute if one is given. Fails only
 /// for want of memory.
@@ -40,21 +82,8 @@ pub fn watch(
 ) -> Result<Command, Memory>
     ensures { IfOk result (λ made. made ≡ watching.watch dataset context attribute sort) }
 {
-    let attribute = match attribute {
-        Some(attribute) => attribute,
-        None => entry_attribute(alloc)?,
-    };
-    let mut modifiers = value_of(alloc, attribute)?;
-    modifiers.make_context = Some(MakeContext {
-        enumerate: true,
-        notify: true,
-        name: context,
-    });
-    if let Some(attribute) = sort {
-        modifiers.sort = Some(sorted_by(alloc, attribute)?);
-    }
-    let management = is_named(alloc, b"")?;
-    let key = Key::not(alloc, management)?;
+    let modifiers = followed(alloc, context, attribute, sort);
+    let (modifiers, key) = both(modifiers, but_management(alloc))?;
     search(alloc, dataset, modifiers, key)
 }
 
