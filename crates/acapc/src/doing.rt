@@ -1,7 +1,8 @@
 //! What a call does.
 
+use crate::beside::beside;
 use crate::dumping::print_dump;
-use crate::failure::Failure;
+use crate::failure::{Failure, Wanted};
 use crate::meaning::{Meaning, read_meaning};
 use crate::relaying::pass_lines;
 use crate::secret::secret;
@@ -15,20 +16,40 @@ use clap::ArgMatches;
 fn logged_in(rt: &HostRuntime, matches: &ArgMatches, singly: bool) -> Result<Session, Failure> {
     let secret = secret(rt, matches)?;
     let user = matches.get_str("USER").unwrap_or("");
-    let mut session = Session::connect(rt, matches.get_str("HOST:PORT").unwrap_or(""), singly)?;
-    session.log_in(user.as_bytes(), &secret)?;
-    Ok(session)
+    let session = Session::connect(rt, matches.get_str("HOST:PORT").unwrap_or(""), singly)?;
+    session.logged_in(user.as_bytes(), &secret)
+}
+
+/// Sends the line of a command under a tag, and prints what is answered.
+fn exchange(
+    session: &mut Session,
+    printing: &mut Printing,
+    tag: &[u8],
+    line: &[u8],
+) -> Result<(), Failure> {
+    session.ask(line)?;
+    session.finish(tag, printing)
 }
 
 /// Sends the commands of a call one after the other, and prints what is answered.
 fn talk(session: &mut Session, printing: &mut Printing, meaning: &Meaning) -> Result<(), Failure> {
-    session.ask(b"A1", &meaning.command)?;
-    session.finish(b"A1", printing)?;
-    if let Some(next) = &meaning.next {
-        session.ask(b"A2", next)?;
-        session.finish(b"A2", printing)?;
+    exchange(session, printing, b"A1", &meaning.line)?;
+    match &meaning.next {
+        Some(next) => exchange(session, printing, b"A2", next),
+        None => Ok(()),
     }
-    Ok(())
+}
+
+/// Sends the commands of a call, and prints what is answered, also where that ends in a failure.
+fn converse(
+    rt: &HostRuntime,
+    session: &mut Session,
+    form: Form,
+    meaning: &Meaning,
+) -> Result<(), Failure> {
+    let mut printing = Printing::new(rt, form, meaning.shown);
+    let done = talk(session, &mut printing, meaning);
+    printing.end(done)
 }
 
 /// Does what a call says that needs no loop of its own.
@@ -40,34 +61,55 @@ fn do_commands(
     words: &ArgMatches,
 ) -> Result<(), Failure> {
     let meaning = read_meaning(rt, verb, words)?;
+    let (meaning, mut session) = beside(meaning, logged_in(rt, matches, false))?;
+    converse(rt, &mut session, form, &meaning)
+}
+
+/// `watch`.
+fn watch(
+    rt: &HostRuntime,
+    matches: &ArgMatches,
+    form: Form,
+    words: &ArgMatches,
+) -> Result<(), Failure> {
+    let wanted = read_watch(rt.alloc(), words)?;
+    let (wanted, mut session) = beside(wanted, logged_in(rt, matches, false))?;
+    follow_list(rt, &mut session, form, wanted)
+}
+
+/// `dump`.
+fn dump(rt: &HostRuntime, matches: &ArgMatches) -> Result<(), Failure> {
+    let user = matches.get_str("USER").unwrap_or("");
     let mut session = logged_in(rt, matches, false)?;
-    let mut printing = Printing::new(rt, form, meaning.shown);
-    let done = talk(&mut session, &mut printing, &meaning);
-    printing.flush()?;
-    done
+    print_dump(rt, &mut session, user)
+}
+
+/// `raw`, and `load`.
+fn relay(rt: &HostRuntime, matches: &ArgMatches, form: Form, is_load: bool) -> Result<(), Failure> {
+    let session = logged_in(rt, matches, true)?;
+    pass_lines(rt, session, form, is_load)
+}
+
+/// How octets are printed.
+fn form(matches: &ArgMatches) -> Form {
+    if matches.get_flag("raw-octets") {
+        Form::Raw
+    } else {
+        Form::Escaped
+    }
 }
 
 /// Does what a call says.
 pub(crate) fn run(rt: &HostRuntime, matches: &ArgMatches) -> Result<(), Failure> {
     let Some((verb, words)) = matches.subcommand() else {
-        return Err(Failure::Word("a command"));
+        return Err(Failure::Word(Wanted::Verb));
     };
-    let form = if matches.get_flag("raw-octets") {
-        Form::Raw
-    } else {
-        Form::Escaped
-    };
+    let form = form(matches);
     match verb {
-        "watch" => {
-            let wanted = read_watch(rt.alloc(), words)?;
-            follow_list(rt, &mut logged_in(rt, matches, false)?, form, &wanted)
-        }
-        "dump" => {
-            let user = matches.get_str("USER").unwrap_or("");
-            print_dump(rt, &mut logged_in(rt, matches, false)?, user)
-        }
-        "raw" => pass_lines(rt, logged_in(rt, matches, true)?, form, false),
-        "load" => pass_lines(rt, logged_in(rt, matches, true)?, form, true),
+        "watch" => watch(rt, matches, form, words),
+        "dump" => dump(rt, matches),
+        "raw" => relay(rt, matches, form, false),
+        "load" => relay(rt, matches, form, true),
         _ => do_commands(rt, matches, form, verb, words),
     }
 }

@@ -1,14 +1,15 @@
 //! `dump`: what a server holds, as the commands that make it again.
 
-use crate::failure::Failure;
-use crate::session::{Session, end_of};
+use crate::beside::beside;
+use crate::failure::{Deed, Failure, Mishap, Wanted};
+use crate::session::{Session, end_of, line_of};
 use crate::shown::write_out;
-use acap_client::{Line, command_line};
-use acap_commands::{Command, Given, ObjectName, StoreItem};
-use acap_entries::{Boxed, Cell, Copying, Dataset, Label, Memory, NameFault, Path};
+use crate::storing::{full_name, stored};
+use acap_client::{Line, Response};
+use acap_commands::{Command, ObjectName, StoreItem};
+use acap_entries::{Boxed, Copying, Dataset, Label, Memory, NameFault, Path};
 use acap_shell as shell;
 use acap_shell::{Form, print_name};
-use itoa::Buffer;
 use std::alloc::Global;
 use std::io::Write;
 
@@ -38,16 +39,23 @@ struct Dump<'a> {
 
 /// The root of all datasets.
 fn root(alloc: Global) -> Result<Dataset, Failure> {
-    Dataset::read(alloc, b"/").map_err(|fault| Failure::of_word("a dataset", fault))
+    match Dataset::read(alloc, b"/") {
+        Ok(dataset) => Ok(dataset),
+        Err(fault) => Err(Failure::of_word(Wanted::Dataset, fault)),
+    }
+}
+
+/// The root of all datasets, as an object.
+fn root_object(alloc: Global) -> Result<Boxed<ObjectName>, Failure> {
+    let dataset = root(alloc)?;
+    Ok(Boxed::new(alloc, ObjectName::Dataset { dataset })?)
 }
 
 /// Asks whether a user has all rights everywhere, which administrators have.
 fn administrates(alloc: Global, user: &[u8]) -> Result<Command, Failure> {
-    let object = ObjectName::Dataset {
-        dataset: root(alloc)?,
-    };
-    let user = Label::from_slice(alloc, user)?;
-    Ok(Command::ListRights(Boxed::new(alloc, object)?, user))
+    let object = root_object(alloc)?;
+    let (object, user) = beside(object, Label::from_slice(alloc, user))?;
+    Ok(Command::ListRights(object, user))
 }
 
 /// Whether a line says so.
@@ -61,32 +69,18 @@ fn is_administrator(line: &Line) -> bool {
     }
 }
 
-/// The line of a STORE of an item under a tag.
-fn line_of(alloc: Global, tag: &[u8], path: Path, item: StoreItem) -> Result<Vec<u8>, Memory> {
-    if let Given::Put(Cell::Multi(values)) = &item.given {
-        if shell::is_long(values.as_slice()) {
-            let values = values.as_slice();
-            return shell::list_line(alloc, tag, &path, &item.attribute, item.metadata, values);
-        }
-    }
-    let command = shell::store_item(alloc, path, item)?;
-    command_line(alloc, tag, &command)
-}
-
-/// The tag of this number.
-fn tag_of(alloc: Global, number: u64) -> Result<Vec<u8>, Memory> {
-    let mut digits = Buffer::new();
-    let mut tag = Vec::from_slice(alloc, b"D")?;
-    tag.extend_from_slice(digits.format(number).as_bytes())?;
-    Ok(tag)
+/// What is said of an entry that isn't written.
+fn left_out(alloc: Global, path: &[u8]) -> Result<Vec<u8>, Memory> {
+    let mut line = Vec::from_slice(alloc, b"not written: ")?;
+    print_name(&mut line, Form::Escaped, path)?;
+    Ok(line)
 }
 
 impl<'a> Dump<'a> {
     /// Says on standard error what isn't written.
     fn leave_out(&mut self, path: &[u8]) -> Result<(), Failure> {
         self.is_whole = false;
-        let mut line = Vec::from_slice(self.rt.alloc(), b"not written: ")?;
-        print_name(&mut line, Form::Escaped, path)?;
+        let line = left_out(self.rt.alloc(), path)?;
         self.complain(&line)
     }
 
@@ -94,66 +88,113 @@ impl<'a> Dump<'a> {
     fn complain(&self, line: &[u8]) -> Result<(), Failure> {
         match self.rt.stderr().write_all(line) {
             Ok(()) => Ok(()),
-            Err(error) => Err(Failure::System("cannot print", error)),
+            Err(error) => Err(Failure::System(Deed::Print, error)),
         }
     }
 
-    /// Prints the STORE of an item.
-    fn store(&mut self, path: Path, item: StoreItem) -> Result<(), Failure> {
-        let alloc = self.rt.alloc();
-        let name = path.copy()?;
-        let line = line_of(alloc, &tag_of(alloc, self.number)?, path, item)?;
+    /// Prints the line of a STORE in an entry, or says that it isn't written since it is too long.
+    fn add_line(&mut self, name: &[u8], line: &[u8]) -> Result<(), Failure> {
         if line.len() > COMMAND {
-            let mut full = Vec::from_slice(alloc, name.dataset.as_slice())?;
-            full.extend_from_slice(name.name.as_slice())?;
-            return self.leave_out(&full);
+            return self.leave_out(name);
         }
         self.number = self.number.saturating_add(1);
-        self.out.extend_from_slice(&line)?;
+        self.out.extend_from_slice(line)?;
         if self.out.len() >= ROOM {
             self.flush()?;
         }
         Ok(())
     }
 
-    /// Prints the STOREs of an entry, but for what its dataset inherits from.
-    fn add(&mut self, path: Path, items: Vec<StoreItem>) -> Result<(), Failure> {
-        if items.is_empty() {
-            let item = shell::own_item(self.rt.alloc(), &path)?;
-            return self.store(path, item);
+    /// Prints the STORE of an item.
+    fn store(&mut self, path: Path, item: StoreItem) -> Result<(), Failure> {
+        let name = full_name(self.rt.alloc(), &path);
+        let line = stored(self.rt.alloc(), self.number, path, item)?;
+        self.add_line(&name?, &line)
+    }
+
+    /// Prints the STORE of an item, or keeps it for later if it says what a dataset inherits from.
+    fn put(&mut self, path: Path, item: StoreItem) -> Result<(), Failure> {
+        if shell::is_inheritance(&item) {
+            self.later.push((path, item))?;
+            Ok(())
+        } else {
+            self.store(path, item)
         }
+    }
+
+    /// Prints the STORE of an item of an entry, or keeps it for later.
+    fn add_item(&mut self, path: &Path, item: StoreItem) -> Result<(), Failure> {
+        match path.copy() {
+            Ok(path) => self.put(path, item),
+            Err(Memory) => Err(Failure::Memory),
+        }
+    }
+
+    /// Prints the STOREs of the items of an entry.
+    fn add_items(&mut self, path: &Path, items: Vec<StoreItem>) -> Result<(), Failure> {
         for item in items {
-            let path = path.copy()?;
-            if shell::is_inheritance(&item) {
-                self.later.push((path, item))?;
-            } else {
-                self.store(path, item)?;
-            }
+            self.add_item(path, item)?;
         }
         Ok(())
     }
 
-    /// Heeds a line of the answer.
-    fn heed(&mut self, line: &Line) -> Result<(), Failure> {
-        let Line::Entry(_, name, items) = line else {
-            return Ok(());
-        };
-        let alloc = self.rt.alloc();
-        match Path::read(alloc, *name) {
-            Ok(path) => self.add(path, shell::stored_items(alloc, items)?),
-            Err(NameFault::BadName) => self.leave_out(*name),
+    /// Prints the STORE of an entry that has no items.
+    fn add_name(&mut self, path: &Path) -> Result<(), Failure> {
+        let item = shell::own_item(self.rt.alloc(), path)?;
+        self.add_item(path, item)
+    }
+
+    /// Prints the STOREs of an entry, but for what its dataset inherits from.
+    fn add(&mut self, path: &Path, items: Vec<StoreItem>) -> Result<(), Failure> {
+        if items.is_empty() {
+            self.add_name(path)
+        } else {
+            self.add_items(path, items)
+        }
+    }
+
+    /// Prints the STOREs of the entry of this name.
+    fn add_entry(&mut self, name: &[u8], items: Vec<StoreItem>) -> Result<(), Failure> {
+        match Path::read(self.rt.alloc(), name) {
+            Ok(path) => self.add(&path, items),
+            Err(NameFault::BadName) => self.leave_out(name),
             Err(NameFault::Memory) => Err(Failure::Memory),
         }
     }
 
+    /// Heeds a line of the answer.
+    fn heed(&mut self, line: &Line) -> Result<(), Failure> {
+        match line {
+            Line::Entry(_, name, items) => {
+                let items = shell::stored_items(self.rt.alloc(), items)?;
+                self.add_entry(*name, items)
+            }
+            _ => Ok(()),
+        }
+    }
+
+    /// Heeds a response. Whether it ends the answer.
+    fn hear(&mut self, response: &Response) -> Result<bool, Failure> {
+        let Some(line) = response.line() else {
+            return Ok(false);
+        };
+        match end_of(self.rt.alloc(), TAG, &line) {
+            Some(Ok(())) => Ok(true),
+            Some(Err(failure)) => Err(failure),
+            None => {
+                self.heed(&line)?;
+                Ok(false)
+            }
+        }
+    }
+
     /// Prints what datasets inherit from.
-    fn finish(&mut self) -> Result<(), Failure> {
+    fn add_later(&mut self) -> Result<(), Failure> {
         let later = std::mem::replace(&mut self.later, Vec::new(self.rt.alloc()));
         for (path, item) in later {
             self.store(path, item)?;
         }
-        self.flush()?;
-        self.complain(LOST)
+        Ok(())
     }
 
     /// Writes what isn't written yet.
@@ -161,35 +202,67 @@ impl<'a> Dump<'a> {
         write_out(self.rt, &mut self.out)
     }
 
+    /// Prints what comes after the answer.
+    fn finish(&mut self) -> Result<(), Failure> {
+        self.add_later()?;
+        self.flush()?;
+        self.complain(LOST)?;
+        if self.is_whole {
+            Ok(())
+        } else {
+            Err(Failure::Other(Mishap::NotWhole))
+        }
+    }
+
     /// Prints what the server holds.
     fn run(&mut self, session: &mut Session) -> Result<(), Failure> {
         for _ in 0..u64::MAX {
             let response = session.hear()?;
-            if let Some(line) = response.line() {
-                match end_of(self.rt.alloc(), TAG, &line) {
-                    Some(Ok(())) => return self.finish(),
-                    Some(Err(failure)) => return Err(failure),
-                    None => self.heed(&line)?,
-                }
+            let is_end = self.hear(&response);
+            drop(response);
+            if is_end? {
+                return self.finish();
             }
         }
         Ok(())
     }
 }
 
+/// Whether a response says that a user is an administrator.
+fn admits(response: &Response) -> bool {
+    match response.line() {
+        Some(line) => is_administrator(&line),
+        None => false,
+    }
+}
+
+/// Fails unless what comes next says that a user is an administrator.
+fn hear_administrator(session: &mut Session) -> Result<(), Failure> {
+    let response = session.hear()?;
+    if admits(&response) {
+        Ok(())
+    } else {
+        Err(Failure::Other(Mishap::NoAdministrator))
+    }
+}
+
+/// Asks whether a user is an administrator.
+fn ask_rights(alloc: Global, session: &mut Session, user: &[u8]) -> Result<(), Failure> {
+    let line = line_of(alloc, b"A1", administrates(alloc, user)?)?;
+    session.ask(&line)
+}
+
 /// Fails unless a user is an administrator: another may not see all.
 fn need_administrator(alloc: Global, session: &mut Session, user: &[u8]) -> Result<(), Failure> {
-    session.ask(b"A1", &administrates(alloc, user)?)?;
-    let response = session.hear()?;
-    match response.line() {
-        Some(line) => {
-            if !is_administrator(&line) {
-                return Err(Failure::Other("only an administrator can dump all"));
-            }
-        }
-        None => return Err(Failure::Other("only an administrator can dump all")),
-    }
+    ask_rights(alloc, session, user)?;
+    hear_administrator(session)?;
     session.wait(b"A1")
+}
+
+/// Asks for all that the server holds.
+fn ask_all(alloc: Global, session: &mut Session) -> Result<(), Failure> {
+    let line = line_of(alloc, TAG, shell::dump(alloc, root(alloc)?)?)?;
+    session.ask(&line)
 }
 
 /// Prints what a server holds as STOREs.
@@ -200,7 +273,7 @@ pub(crate) fn print_dump(
 ) -> Result<(), Failure> {
     let alloc = rt.alloc();
     need_administrator(alloc, session, user.as_bytes())?;
-    session.ask(TAG, &shell::dump(alloc, root(alloc)?)?)?;
+    ask_all(alloc, session)?;
     let mut dump = Dump {
         rt,
         out: Vec::new(alloc),
@@ -208,10 +281,5 @@ pub(crate) fn print_dump(
         number: 1,
         is_whole: true,
     };
-    dump.run(session)?;
-    if dump.is_whole {
-        Ok(())
-    } else {
-        Err(Failure::Other("not all is written"))
-    }
+    dump.run(session)
 }

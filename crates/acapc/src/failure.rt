@@ -7,17 +7,128 @@ use std::io;
 use std::io::Write;
 use std::process::ExitCode;
 
-/// Why the program ends with another status than 0.
+/// What a word of a call should be.
+#[derive(Drop)]
+pub(crate) enum Wanted {
+    /// A command of the program.
+    Verb,
+    /// An object of access lists.
+    Object,
+    /// A dataset.
+    Dataset,
+    /// The name of an entry.
+    Entry,
+    /// The name of an attribute.
+    Attribute,
+    /// The name of a context.
+    Context,
+    /// A secret is named at all.
+    Secret,
+}
+
+impl Wanted {
+    /// What a word isn't.
+    fn text(&self) -> &'static str {
+        match self {
+            Wanted::Verb => "a command",
+            Wanted::Object => "an object: a dataset, an attribute in it, or that of one entry",
+            Wanted::Dataset => "a dataset, as /option/~/",
+            Wanted::Entry => "the name of an entry",
+            Wanted::Attribute => "the name of an attribute",
+            Wanted::Context => "a context",
+            Wanted::Secret => "whole: name a --secret-file, or set ACAP_SECRET",
+        }
+    }
+}
+
+/// What the system couldn't do.
+#[derive(Drop)]
+pub(crate) enum Deed {
+    /// To connect to the server.
+    Connect,
+    /// To send to it.
+    Send,
+    /// To read from it.
+    Read,
+    /// To wait for it and for standard input.
+    Wait,
+    /// To read standard input.
+    ReadInput,
+    /// To read the file of the secret.
+    ReadSecret,
+    /// To print.
+    Print,
+}
+
+impl Deed {
+    /// What couldn't be done.
+    fn text(&self) -> &'static str {
+        match self {
+            Deed::Connect => "cannot connect",
+            Deed::Send => "cannot send",
+            Deed::Read => "cannot read",
+            Deed::Wait => "cannot wait",
+            Deed::ReadInput => "cannot read standard input",
+            Deed::ReadSecret => "cannot read the secret's file",
+            Deed::Print => "cannot print",
+        }
+    }
+}
+
+/// What went wrong.
+#[derive(Drop)]
+pub(crate) enum Mishap {
+    /// The server has closed the session.
+    Closed,
+    /// The server sends what is no line of ACAP.
+    NoLine,
+    /// The server doesn't begin with a greeting.
+    NoGreeting,
+    /// The server has no challenge for who logs in.
+    NoChallenge,
+    /// Commands that were passed on are refused.
+    Refusals,
+    /// The user isn't an administrator.
+    NoAdministrator,
+    /// A dump has left out something.
+    NotWhole,
+    /// A change doesn't fit the list that is followed.
+    Misfit,
+    /// The server follows the list no more.
+    Freed,
+    /// The secret in the environment is no text.
+    SecretText,
+}
+
+impl Mishap {
+    /// What went wrong.
+    fn text(&self) -> &'static str {
+        match self {
+            Mishap::Closed => "the server has closed the session",
+            Mishap::NoLine => "the server doesn't speak ACAP",
+            Mishap::NoGreeting => "the server doesn't greet",
+            Mishap::NoChallenge => "the server doesn't let anybody log in",
+            Mishap::Refusals => "commands are refused",
+            Mishap::NoAdministrator => "only an administrator can dump all",
+            Mishap::NotWhole => "not all is written",
+            Mishap::Misfit => "a change doesn't fit the list",
+            Mishap::Freed => "the server has freed the list",
+            Mishap::SecretText => "ACAP_SECRET isn't UTF-8",
+        }
+    }
+}
+
+/// Why the program ends with another status than 0. It holds no reference, so that it is short where a proof spells types.
 #[derive(Drop)]
 pub(crate) enum Failure {
-    /// A word of the call isn't the name that has to stand there: what it should be.
-    Word(&'static str),
+    /// A word of the call isn't what has to stand there.
+    Word(Wanted),
     /// The server refuses something, or ends the session: its text.
     Refused(Label),
     /// What couldn't be done, and why.
-    System(&'static str, io::Error),
+    System(Deed, io::Error),
     /// What went wrong.
-    Other(&'static str),
+    Other(Mishap),
     /// Memory was refused.
     Memory,
 }
@@ -30,7 +141,7 @@ impl From<Memory> for Failure {
 
 impl Failure {
     /// A word of the call, which should be this.
-    pub(crate) fn of_word(wanted: &'static str, fault: NameFault) -> Failure {
+    pub(crate) fn of_word(wanted: Wanted, fault: NameFault) -> Failure {
         match fault {
             NameFault::BadName => Failure::Word(wanted),
             NameFault::Memory => Failure::Memory,
@@ -59,31 +170,45 @@ fn refusal(alloc: Global, text: &[u8]) -> Result<Vec<u8>, Memory> {
     Ok(line)
 }
 
-/// What is printed of a failure, behind the program's name.
+/// What a word of the call isn't, as it is printed.
+fn misfit(alloc: Global, wanted: &Wanted) -> Result<Vec<u8>, Memory> {
+    let mut line = Vec::from_slice(alloc, b"a word of the call isn't ")?;
+    line.extend_from_slice(wanted.text().as_bytes())?;
+    Ok(line)
+}
+
+/// What couldn't be done and why, as it is printed.
+fn trouble(alloc: Global, deed: &Deed, error: &io::Error) -> Result<Vec<u8>, Memory> {
+    let deed = deed.text();
+    let text = format!(in alloc; "{deed}: {error}")?;
+    Ok(Vec::from_slice(alloc, text.as_bytes())?)
+}
+
+/// What is printed of a failure, after the program's name.
 fn text_of(alloc: Global, failure: &Failure) -> Result<Vec<u8>, Memory> {
     match failure {
-        Failure::Word(wanted) => {
-            let mut line = Vec::from_slice(alloc, b"a word of the call isn't ")?;
-            line.extend_from_slice(wanted.as_bytes())?;
-            Ok(line)
-        }
+        Failure::Word(wanted) => misfit(alloc, wanted),
         Failure::Refused(text) => refusal(alloc, text.as_slice()),
-        Failure::System(what, error) => {
-            let text = format!(in alloc; "{what}: {error}")?;
-            Vec::from_slice(alloc, text.as_bytes())
-        }
-        Failure::Other(what) => Vec::from_slice(alloc, what.as_bytes()),
-        Failure::Memory => Vec::from_slice(alloc, b"no memory"),
+        Failure::System(deed, error) => trouble(alloc, deed, error),
+        Failure::Other(mishap) => Ok(Vec::from_slice(alloc, mishap.text().as_bytes())?),
+        Failure::Memory => Ok(Vec::from_slice(alloc, b"no memory")?),
     }
+}
+
+/// The line that is printed of a failure.
+fn line_of(alloc: Global, server: &str, text: &[u8]) -> Result<Vec<u8>, Memory> {
+    let mut line = Vec::from_slice(alloc, b"acapc: ")?;
+    line.extend_from_slice(server.as_bytes())?;
+    line.extend_from_slice(b": ")?;
+    line.extend_from_slice(text)?;
+    line.push(b'\n')?;
+    Ok(line)
 }
 
 /// Prints a failure on standard error, and gives the program's status.
 pub(crate) fn report(rt: &HostRuntime, server: &str, failure: &Failure) -> io::Result<ExitCode> {
-    let mut line = Vec::from_slice(rt.alloc(), b"acapc: ")?;
-    line.extend_from_slice(server.as_bytes())?;
-    line.extend_from_slice(b": ")?;
-    line.extend_from_slice(&text_of(rt.alloc(), failure)?)?;
-    line.push(b'\n')?;
+    let text = text_of(rt.alloc(), failure)?;
+    let line = line_of(rt.alloc(), server, &text)?;
     rt.stderr().write_all(&line)?;
     Ok(ExitCode::from(failure.status()))
 }

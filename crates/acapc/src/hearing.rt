@@ -1,7 +1,7 @@
 //! What is heard of a server's lines where octets are passed on.
 
-use crate::failure::Failure;
-use acap_client::{Ending, Heard, Line, ReadFault, Reader};
+use crate::failure::{Failure, Mishap};
+use acap_client::{Ending, Heard, Line, ReadFault, Reader, Response};
 use acap_entries::Memory;
 use acap_shell::{Form, print_name, print_octets};
 
@@ -17,32 +17,55 @@ fn print_refusal(
     print_name(out, form, text)
 }
 
+/// Adds a line for a refusal, if a response is one. Whether it is.
+fn print_if_refused(out: &mut Vec<u8>, form: Form, response: &Response) -> Result<bool, Memory> {
+    match response.line() {
+        Some(Line::Completion(tag, Ending::Failed | Ending::Wrong, _, text)) => {
+            print_refusal(out, form, tag, text)?;
+            Ok(true)
+        }
+        Some(Line::Bye(_, text)) => {
+            print_refusal(out, form, None, text)?;
+            Ok(true)
+        }
+        _ => Ok(false),
+    }
+}
+
 /// Adds a line for each refusal among the lines that have come. Whether there was one.
-pub(crate) fn print_refusals(
-    out: &mut Vec<u8>,
-    reader: &mut Reader,
-    form: Form,
-) -> Result<bool, Failure> {
+fn print_refusals(out: &mut Vec<u8>, reader: &mut Reader, form: Form) -> Result<bool, Failure> {
     let mut is_refused = false;
     for _ in 0..u64::MAX {
-        let response = match reader.next()? {
+        match reader.next()? {
             Heard::More => break,
-            Heard::Line(response) => response,
-            Heard::Fault(_) => return Err(Failure::Other("the server doesn't speak ACAP")),
-        };
-        match response.line() {
-            Some(Line::Completion(tag, Ending::Failed | Ending::Wrong, _, text)) => {
-                print_refusal(out, form, tag, text)?;
-                is_refused = true;
+            Heard::Line(response) => {
+                let refused = print_if_refused(out, form, &response);
+                drop(response);
+                is_refused |= refused?;
             }
-            Some(Line::Bye(_, text)) => {
-                print_refusal(out, form, None, text)?;
-                is_refused = true;
-            }
-            _ => {}
+            Heard::Fault(_) => return Err(Failure::Other(Mishap::NoLine)),
         }
     }
     Ok(is_refused)
+}
+
+/// Takes the octets that came next, and adds a line for each refusal among the lines that have come. Whether there was one.
+pub(crate) fn refusals_in(
+    out: &mut Vec<u8>,
+    reader: &mut Reader,
+    form: Form,
+    octets: &[u8],
+) -> Result<bool, Failure> {
+    reader.push(octets)?;
+    print_refusals(out, reader, form)
+}
+
+/// Whether the server takes its leave in a response.
+fn is_farewell(response: &Response) -> bool {
+    match response.line() {
+        Some(Line::Bye(_, _)) => true,
+        _ => false,
+    }
 }
 
 /// Whether the server takes its leave among the lines that have come.
@@ -50,11 +73,7 @@ pub(crate) fn says_bye(reader: &mut Reader) -> Result<bool, Memory> {
     let mut is_bye = false;
     for _ in 0..u64::MAX {
         match reader.next()? {
-            Heard::Line(response) => {
-                if let Some(Line::Bye(_, _)) = response.line() {
-                    is_bye = true;
-                }
-            }
+            Heard::Line(response) => is_bye |= is_farewell(&response),
             Heard::Fault(ReadFault::Unknown) => {}
             Heard::More | Heard::Fault(_) => break,
         }

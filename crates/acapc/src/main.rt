@@ -2,41 +2,60 @@
 #![tactic(auto)]
 
 mod arguments;
+mod beside;
 mod doing;
 mod dumping;
 mod failure;
 mod hearing;
 mod meaning;
+mod objects;
+mod polling;
 mod relaying;
 mod secret;
 mod session;
 mod shown;
+mod storing;
+mod verbs;
 mod watching;
 
 use crate::arguments::program;
 use crate::doing::run;
-use crate::failure::{Failure, report};
+use crate::failure::report;
+use clap::{ArgMatches, Error};
 use std::process::ExitCode;
 use std::{env, io};
 
-/// Parses the words of the call and does what they say.
-fn start(rt: &HostRuntime) -> io::Result<ExitCode> {
-    let alloc = rt.alloc();
-    let mut words = Vec::new(alloc);
+/// The words of the call.
+fn words(rt: &HostRuntime) -> io::Result<Vec<String>> {
+    let mut words = Vec::new(rt.alloc());
     for word in env::args(rt)? {
         words.push(word)?;
     }
-    let command = program(alloc)?;
+    Ok(words)
+}
+
+/// Does what the words of the call say.
+fn obey(rt: &HostRuntime, matches: &ArgMatches) -> io::Result<ExitCode> {
+    match run(rt, matches) {
+        Ok(()) => Ok(ExitCode::SUCCESS),
+        Err(failure) => report(rt, matches.get_str("HOST:PORT").unwrap_or(""), &failure),
+    }
+}
+
+/// Prints what the words of the call ask of the program itself, or why they can't be read.
+fn explain(rt: &HostRuntime, error: &Error) -> io::Result<ExitCode> {
+    error.print(rt)?;
+    let status = if error.use_stderr() { 2 } else { 0 };
+    Ok(ExitCode::from(status))
+}
+
+/// Parses the words of the call and does what they say.
+fn start(rt: &HostRuntime) -> io::Result<ExitCode> {
+    let words = words(rt)?;
+    let command = program(rt.alloc())?;
     match command.try_get_matches_from(words.as_slice()) {
-        Ok(matches) => match run(rt, &matches) {
-            Ok(()) => Ok(ExitCode::SUCCESS),
-            Err(failure) => report(rt, matches.get_str("HOST:PORT").unwrap_or(""), &failure),
-        },
-        Err(error) => {
-            error.print(rt)?;
-            let status = if error.use_stderr() { 2 } else { 0 };
-            Ok(ExitCode::from(status))
-        }
+        Ok(matches) => obey(rt, &matches),
+        Err(error) => explain(rt, &error),
     }
 }
 

@@ -1,37 +1,26 @@
 //! The command that the words of a call stand for.
 
-use crate::failure::Failure;
+use crate::beside::{beside, both};
+use crate::failure::{Deed, Failure, Wanted};
+use crate::objects::{access_list, grant, my_rights, revoke};
+use crate::session::line_of;
 use crate::shown::Shown;
-use acap_commands::{Command, ObjectName};
-use acap_entries::{Attribute, Dataset, EntryName, Path, Value};
+use acap_commands::Command;
+use acap_entries::{Attribute, Dataset, EntryName, Memory, Path, Value};
 use acap_shell as shell;
 use clap::ArgMatches;
 use std::alloc::Global;
 use std::io::Read;
 
-/// What words should name.
-const OBJECT: &str = "an object: a dataset, an attribute in it, or that of one entry";
-
-/// Commands, and what is printed of their answers.
+/// Lines of commands, and what is printed of their answers.
 #[derive(Drop)]
 pub(crate) struct Meaning<'a> {
-    /// The command.
-    pub(crate) command: Command,
-    /// The command after it, if there is one.
-    pub(crate) next: Option<Command>,
+    /// The line of the command.
+    pub(crate) line: Vec<u8>,
+    /// That of the command after it, if there is one.
+    pub(crate) next: Option<Vec<u8>>,
     /// What is printed.
     pub(crate) shown: Shown<'a>,
-}
-
-impl<'a> Meaning<'a> {
-    /// One command.
-    fn one(command: Command, shown: Shown<'a>) -> Meaning<'a> {
-        Meaning {
-            command,
-            next: None,
-            shown,
-        }
-    }
 }
 
 /// A word that is there.
@@ -40,47 +29,27 @@ fn word<'a>(matches: &ArgMatches<'a>, name: &str) -> &'a [u8] {
 }
 
 /// The dataset that a word names.
-fn dataset_of(alloc: Global, word: &[u8]) -> Result<Dataset, Failure> {
-    Dataset::read(alloc, word).map_err(|fault| Failure::of_word("a dataset, as /option/~/", fault))
+pub(crate) fn dataset_of(alloc: Global, word: &[u8]) -> Result<Dataset, Failure> {
+    match Dataset::read(alloc, word) {
+        Ok(dataset) => Ok(dataset),
+        Err(fault) => Err(Failure::of_word(Wanted::Dataset, fault)),
+    }
 }
 
 /// The entry that a word names.
-fn entry_of(alloc: Global, word: &[u8]) -> Result<EntryName, Failure> {
-    EntryName::read(alloc, word).map_err(|fault| Failure::of_word("the name of an entry", fault))
+pub(crate) fn entry_of(alloc: Global, word: &[u8]) -> Result<EntryName, Failure> {
+    match EntryName::read(alloc, word) {
+        Ok(name) => Ok(name),
+        Err(fault) => Err(Failure::of_word(Wanted::Entry, fault)),
+    }
 }
 
 /// The attribute that a word names.
-fn attribute_of(alloc: Global, word: &[u8]) -> Result<Attribute, Failure> {
-    Attribute::read(alloc, word).map_err(|fault| Failure::of_word(
-        "the name of an attribute",
-        fault,
-    ))
-}
-
-/// The object that words name: a dataset, an attribute in it, or that of one entry.
-fn object(alloc: Global, words: &[&str]) -> Result<ObjectName, Failure> {
-    let (of, attribute, name) = match words {
-        [of] => (of, None, None),
-        [of, attribute] => (of, Some(attribute), None),
-        [of, attribute, name] => (of, Some(attribute), Some(name)),
-        _ => return Err(Failure::Word(
-            "an object: a dataset, an attribute in it, or that of one entry",
-        )),
-    };
-    let dataset = dataset_of(alloc, of.as_bytes())?;
-    let Some(attribute) = attribute else {
-        return Ok(ObjectName::Dataset { dataset });
-    };
-    let attribute = attribute_of(alloc, attribute.as_bytes())?;
-    let Some(name) = name else {
-        return Ok(ObjectName::Attribute { dataset, attribute });
-    };
-    let name = entry_of(alloc, name.as_bytes())?;
-    Ok(ObjectName::Entry {
-        dataset,
-        attribute,
-        name,
-    })
+pub(crate) fn attribute_of(alloc: Global, word: &[u8]) -> Result<Attribute, Failure> {
+    match Attribute::read(alloc, word) {
+        Ok(attribute) => Ok(attribute),
+        Err(fault) => Err(Failure::of_word(Wanted::Attribute, fault)),
+    }
 }
 
 /// The dataset of a call.
@@ -116,10 +85,8 @@ fn attribute_if_there(alloc: Global, matches: &ArgMatches) -> Result<Option<Attr
 
 /// Where the entry of a call is.
 fn path(alloc: Global, matches: &ArgMatches) -> Result<Path, Failure> {
-    Ok(Path {
-        dataset: dataset(alloc, matches)?,
-        name: entry(alloc, matches)?,
-    })
+    let (dataset, name) = both(dataset(alloc, matches), entry(alloc, matches))?;
+    Ok(Path { dataset, name })
 }
 
 /// The value that a word stands for: `-` stands for what standard input has.
@@ -130,7 +97,7 @@ fn value(rt: &HostRuntime, word: &str) -> Result<Value, Failure> {
     let mut octets = Vec::new(rt.alloc());
     match rt.stdin().read_to_end(&mut octets) {
         Ok(_) => Ok(Value::from_slice(rt.alloc(), &octets)?),
-        Err(error) => Err(Failure::System("cannot read standard input", error)),
+        Err(error) => Err(Failure::System(Deed::ReadInput, error)),
     }
 }
 
@@ -146,103 +113,52 @@ fn values(rt: &HostRuntime, matches: &ArgMatches) -> Result<Vec<Value>, Failure>
 }
 
 /// `get`.
-fn get<'a>(alloc: Global, matches: &ArgMatches<'a>) -> Result<Meaning<'a>, Failure> {
-    let dataset = dataset(alloc, matches)?;
-    let entry = entry_if_there(alloc, matches)?;
-    let attribute = attribute_if_there(alloc, matches)?;
-    let shown = match matches.get_str("ATTRIBUTE") {
-        Some(attribute) => Shown::Values(attribute.as_bytes()),
-        None => Shown::Attributes,
-    };
-    Ok(Meaning::one(shell::get(alloc, dataset, entry, attribute)?, shown))
+fn get(alloc: Global, matches: &ArgMatches) -> Result<Command, Failure> {
+    let dataset = dataset(alloc, matches);
+    let entry = entry_if_there(alloc, matches);
+    let attribute = attribute_if_there(alloc, matches);
+    let (dataset, (entry, attribute)) = both(dataset, both(entry, attribute))?;
+    Ok(shell::get(alloc, dataset, entry, attribute)?)
 }
 
 /// `list`.
-fn list<'a>(alloc: Global, matches: &ArgMatches<'a>) -> Result<Meaning<'a>, Failure> {
+fn list(alloc: Global, matches: &ArgMatches) -> Result<Command, Failure> {
     let dataset = dataset(alloc, matches)?;
     let depth = matches.get_one::<u32>("depth");
-    Ok(Meaning::one(shell::list(alloc, dataset, depth)?, Shown::Names))
+    Ok(shell::list(alloc, dataset, depth)?)
+}
+
+/// `find`, of a value.
+fn find_value(alloc: Global, of: (Dataset, Attribute), value: &Value) -> Result<Command, Memory> {
+    let (dataset, attribute) = of;
+    shell::find(alloc, dataset, attribute, value.as_slice())
 }
 
 /// `find`.
-fn find<'a>(rt: &HostRuntime, matches: &ArgMatches<'a>) -> Result<Meaning<'a>, Failure> {
+fn find(rt: &HostRuntime, matches: &ArgMatches) -> Result<Command, Failure> {
     let alloc = rt.alloc();
-    let dataset = dataset(alloc, matches)?;
-    let attribute = attribute(alloc, matches)?;
-    let value = value(rt, matches.get_str("VALUE").unwrap_or(""))?;
-    let command = shell::find(alloc, dataset, attribute, value.as_slice())?;
-    Ok(Meaning::one(command, Shown::Names))
+    let of = both(dataset(alloc, matches), attribute(alloc, matches))?;
+    let value = value(rt, matches.get_str("VALUE").unwrap_or(""));
+    let (of, value) = beside(of, value)?;
+    Ok(find_value(alloc, of, &value)?)
 }
 
 /// `set`.
-fn set<'a>(rt: &HostRuntime, matches: &ArgMatches<'a>) -> Result<Meaning<'a>, Failure> {
+fn set(rt: &HostRuntime, matches: &ArgMatches) -> Result<Command, Failure> {
     let alloc = rt.alloc();
-    let path = path(alloc, matches)?;
-    let attribute = attribute(alloc, matches)?;
-    let values = values(rt, matches)?;
-    Ok(Meaning::one(shell::set(alloc, path, attribute, values)?, Shown::Nothing))
+    let of = both(path(alloc, matches), attribute(alloc, matches))?;
+    let ((path, attribute), values) = beside(of, values(rt, matches))?;
+    Ok(shell::set(alloc, path, attribute, values)?)
 }
 
 /// `unset`.
-fn unset<'a>(alloc: Global, matches: &ArgMatches<'a>) -> Result<Meaning<'a>, Failure> {
-    let path = path(alloc, matches)?;
-    let attribute = attribute_if_there(alloc, matches)?;
-    Ok(Meaning::one(shell::unset(alloc, path, attribute)?, Shown::Nothing))
+fn unset(alloc: Global, matches: &ArgMatches) -> Result<Command, Failure> {
+    let (path, attribute) = both(path(alloc, matches), attribute_if_there(alloc, matches))?;
+    Ok(shell::unset(alloc, path, attribute)?)
 }
 
-/// `acl`.
-fn acl<'a>(alloc: Global, matches: &ArgMatches<'a>) -> Result<Meaning<'a>, Failure> {
-    let Some(words) = matches.get_strs("WORD") else {
-        return Err(Failure::Word(OBJECT));
-    };
-    let command = shell::my_rights(alloc, object(alloc, words)?)?;
-    let next = Some(shell::access_list(alloc, object(alloc, words)?)?);
-    Ok(Meaning {
-        command,
-        next,
-        shown: Shown::Rights,
-    })
-}
-
-/// `grant`: the last two words are an identifier and rights.
-fn grant<'a>(alloc: Global, matches: &ArgMatches<'a>) -> Result<Meaning<'a>, Failure> {
-    let Some(words) = matches.get_strs("WORD") else {
-        return Err(Failure::Word(OBJECT));
-    };
-    let Some((rights, words)) = words.split_last() else {
-        return Err(Failure::Word(OBJECT));
-    };
-    let Some((identifier, words)) = words.split_last() else {
-        return Err(Failure::Word(OBJECT));
-    };
-    let object = object(alloc, words)?;
-    let command = shell::grant(alloc, object, identifier.as_bytes(), rights.as_bytes())?;
-    Ok(Meaning::one(command, Shown::Nothing))
-}
-
-/// `revoke`: the last word is an identifier, but where the whole list is removed.
-fn revoke<'a>(alloc: Global, matches: &ArgMatches<'a>) -> Result<Meaning<'a>, Failure> {
-    let Some(words) = matches.get_strs("WORD") else {
-        return Err(Failure::Word(OBJECT));
-    };
-    if matches.get_flag("all") {
-        let command = shell::revoke_all(alloc, object(alloc, words)?)?;
-        return Ok(Meaning::one(command, Shown::Nothing));
-    }
-    let Some((identifier, words)) = words.split_last() else {
-        return Err(Failure::Word(OBJECT));
-    };
-    let object = object(alloc, words)?;
-    let command = shell::revoke(alloc, object, identifier.as_bytes())?;
-    Ok(Meaning::one(command, Shown::Nothing))
-}
-
-/// What the words of a call stand for, of those that need no loop of their own.
-pub(crate) fn read_meaning<'a>(
-    rt: &HostRuntime,
-    verb: &str,
-    matches: &ArgMatches<'a>,
-) -> Result<Meaning<'a>, Failure> {
+/// The command of a call, of those that need no loop of their own.
+fn command(rt: &HostRuntime, verb: &str, matches: &ArgMatches) -> Result<Command, Failure> {
     let alloc = rt.alloc();
     match verb {
         "get" => get(alloc, matches),
@@ -250,9 +166,45 @@ pub(crate) fn read_meaning<'a>(
         "find" => find(rt, matches),
         "set" => set(rt, matches),
         "unset" => unset(alloc, matches),
-        "acl" => acl(alloc, matches),
+        "acl" => my_rights(alloc, matches),
         "grant" => grant(alloc, matches),
         "revoke" => revoke(alloc, matches),
-        _ => Err(Failure::Word("a command")),
+        _ => Err(Failure::Word(Wanted::Verb)),
     }
+}
+
+/// The line of the command after that, if there is one.
+fn next(alloc: Global, verb: &str, matches: &ArgMatches) -> Result<Option<Vec<u8>>, Failure> {
+    match verb {
+        "acl" => Ok(Some(line_of(alloc, b"A2", access_list(alloc, matches)?)?)),
+        _ => Ok(None),
+    }
+}
+
+/// What is printed of the answers.
+fn shown<'a>(verb: &str, matches: &ArgMatches<'a>) -> Shown<'a> {
+    match verb {
+        "get" => match matches.get_str("ATTRIBUTE") {
+            Some(attribute) => Shown::Values(attribute.as_bytes()),
+            None => Shown::Attributes,
+        },
+        "list" | "find" => Shown::Names,
+        "acl" => Shown::Rights,
+        _ => Shown::Nothing,
+    }
+}
+
+/// What the words of a call stand for, of those that need no loop of their own. The tags are `A1` and `A2`.
+pub(crate) fn read_meaning<'a>(
+    rt: &HostRuntime,
+    verb: &str,
+    matches: &ArgMatches<'a>,
+) -> Result<Meaning<'a>, Failure> {
+    let line = line_of(rt.alloc(), b"A1", command(rt, verb, matches)?)?;
+    let next = next(rt.alloc(), verb, matches)?;
+    Ok(Meaning {
+        line,
+        next,
+        shown: shown(verb, matches),
+    })
 }

@@ -2,26 +2,21 @@
 
 ghost use Rattle.std.specs.Prelude.{◌≡◌, IfOk, IfSome, Ok};
 
-use crate::failure::Failure;
-use crate::hearing::{print_refusals, says_bye};
+use crate::failure::{Deed, Failure, Mishap};
+use crate::hearing::{refusals_in, says_bye};
+use crate::polling::{INPUT, SERVER, is_input_ready, wait_for, waiting};
 use crate::session::{LIMIT, Session};
+use crate::shown::write_out;
 use acap_client::Reader;
 use acap_entries::Memory;
 use acap_shell::{Form, print_stream, sent_lines};
-use mio::unix::SourceFd;
-use mio::{Events, Interest, Poll, Token};
+use mio::{Events, Interest, Poll};
 use std::alloc::Global;
 use std::io;
 use std::io::{ErrorKind, Read, Write};
 use std::net::{Shutdown, TcpStream};
 use std::os::fd::AsRawFd;
 use std::time::Duration;
-
-/// Standard input.
-const INPUT: Token = Token(0);
-
-/// The server.
-const SERVER: Token = Token(1);
 
 /// So many events are told of at once.
 const EVENTS: usize = 4;
@@ -47,14 +42,14 @@ struct Relay<'a> {
 }
 
 /// What comes of a read or a write: how many octets, or none where it would wait.
-fn progress(what: &'static str, done: io::Result<usize>) -> Result<Option<usize>, Failure>
+fn progress(deed: Deed, done: io::Result<usize>) -> Result<Option<usize>, Failure>
     ensures { IfOk result (λ count. IfSome count (λ n. done ≡ Ok n)) }
 {
     match done {
         Ok(count) => Ok(Some(count)),
         Err(error) => match error.kind() {
             ErrorKind::Interrupted | ErrorKind::WouldBlock => Ok(None),
-            _ => Err(Failure::System(what, error)),
+            _ => Err(Failure::System(deed, error)),
         },
     }
 }
@@ -71,13 +66,31 @@ fn drop_first(octets: &mut Vec<u8>, count: usize) {
 }
 
 impl<'a> Relay<'a> {
+    /// What passes nothing yet. Of a file of commands that is loaded it passes the octets as they are, and prints what is refused.
+    fn new(rt: &'a HostRuntime, stream: TcpStream, form: Form, is_load: bool) -> Relay<'a> {
+        let reader = if is_load {
+            Some(Reader::new(rt.alloc(), LIMIT))
+        } else {
+            None
+        };
+        Relay {
+            rt,
+            form,
+            stream,
+            reader,
+            refusals: false,
+            listener: Reader::new(rt.alloc(), LIMIT),
+            is_bye: false,
+            unsent: Vec::new(rt.alloc()),
+            is_waited_for: false,
+            is_over: false,
+        }
+    }
+
     /// Reads from standard input once.
     fn read_input(&mut self) -> Result<(), Failure> {
         let mut piece = [0; PIECE];
-        match progress(
-            "cannot read standard input",
-            self.rt.stdin().read(&mut piece),
-        )? {
+        match progress(Deed::ReadInput, self.rt.stdin().read(&mut piece))? {
             None => Ok(()),
             Some(0) => {
                 self.is_over = true;
@@ -101,11 +114,9 @@ impl<'a> Relay<'a> {
         if self.unsent.is_empty() {
             return Ok(());
         }
-        if let Some(count) = progress("cannot send", self.stream.write(&self.unsent))? {
+        if let Some(count) = progress(Deed::Send, self.stream.write(&self.unsent))? {
             drop_first(&mut self.unsent, count);
-            if self.is_over && self.unsent.is_empty() {
-                let _ = self.stream.shutdown(Shutdown::Write);
-            }
+            self.end_input();
         }
         Ok(())
     }
@@ -113,7 +124,7 @@ impl<'a> Relay<'a> {
     /// Reads from the server once, and prints it. Whether the server goes on.
     fn read_server(&mut self) -> Result<bool, Failure> {
         let mut piece = [0; PIECE];
-        match progress("cannot read", self.stream.read(&mut piece))? {
+        match progress(Deed::Read, self.stream.read(&mut piece))? {
             None => Ok(true),
             Some(0) => Ok(false),
             Some(count) => {
@@ -123,24 +134,29 @@ impl<'a> Relay<'a> {
         }
     }
 
-    /// Prints octets of the server: of `load` what they refuse, else as lines.
-    fn print(&mut self, octets: &[u8]) -> Result<(), Failure> {
-        let mut out = Vec::new(self.rt.alloc());
+    /// Adds what is printed of octets that `raw` hears.
+    fn hear(&mut self, out: &mut Vec<u8>, octets: &[u8]) -> Result<(), Memory> {
+        self.listener.push(octets)?;
+        self.is_bye |= says_bye(&mut self.listener)?;
+        print_stream(out, self.form, octets)
+    }
+
+    /// Adds what is printed of octets of the server: of `load` what they refuse, else their lines.
+    fn heed(&mut self, out: &mut Vec<u8>, octets: &[u8]) -> Result<(), Failure> {
         match &mut self.reader {
             Some(reader) => {
-                reader.push(octets)?;
-                self.refusals |= print_refusals(&mut out, reader, self.form)?;
+                self.refusals |= refusals_in(out, reader, self.form, octets)?;
+                Ok(())
             }
-            None => {
-                self.listener.push(octets)?;
-                self.is_bye |= says_bye(&mut self.listener)?;
-                print_stream(&mut out, self.form, octets)?;
-            }
+            None => Ok(self.hear(out, octets)?),
         }
-        match io::writer(self.rt).write_all(&out) {
-            Ok(()) => Ok(()),
-            Err(error) => Err(Failure::System("cannot print", error)),
-        }
+    }
+
+    /// Prints octets of the server.
+    fn print(&mut self, octets: &[u8]) -> Result<(), Failure> {
+        let mut out = Vec::new(self.rt.alloc());
+        self.heed(&mut out, octets)?;
+        write_out(self.rt, &mut out)
     }
 
     /// Whether more of standard input is wanted now.
@@ -157,110 +173,96 @@ impl<'a> Relay<'a> {
         }
     }
 
+    /// Says what is waited for.
+    fn register(&self, poll: &Poll) -> io::Result<()> {
+        wait_for(poll, self.stream.as_raw_fd(), SERVER, self.interest())?;
+        if self.is_waited_for && self.wants_input() {
+            wait_for(poll, self.rt.stdin().as_raw_fd(), INPUT, Interest::READABLE)?;
+        }
+        Ok(())
+    }
+
     /// Waits until something can go on. Whether standard input can be read.
     fn wait(&mut self, poll: &mut Poll, events: &mut Events<Global>) -> io::Result<bool> {
-        let server = self.stream.as_raw_fd();
-        let input = self.rt.stdin().as_raw_fd();
-        poll.registry()
-            .reregister(&mut SourceFd(&server), SERVER, self.interest())?;
-        if self.is_waited_for && self.wants_input() {
-            poll.registry()
-                .reregister(&mut SourceFd(&input), INPUT, Interest::READABLE)?;
-        }
+        self.register(poll)?;
         let goes_on = !self.is_waited_for && self.wants_input();
         let timeout = if goes_on { Some(Duration::ZERO) } else { None };
         poll.poll(events, timeout)?;
-        let mut is_ready = goes_on;
-        for event in events.iter() {
-            is_ready |= event.token() == INPUT;
+        Ok((goes_on || is_input_ready(events)) && self.wants_input())
+    }
+
+    /// Lets the server know that no more comes, once all is sent.
+    fn end_input(&self) {
+        if self.is_over && self.unsent.is_empty() {
+            let _ = self.stream.shutdown(Shutdown::Write);
         }
-        Ok(is_ready && self.wants_input())
     }
 
     /// Passes what can be passed now. Whether the server goes on.
     fn pass(&mut self, is_ready: bool) -> Result<bool, Failure> {
         if is_ready {
             self.read_input()?;
-            if self.is_over && self.unsent.is_empty() {
-                let _ = self.stream.shutdown(Shutdown::Write);
-            }
+            self.end_input();
         }
         self.send()?;
         self.read_server()
     }
 
-    /// Passes lines until the server closes the session.
-    fn run(&mut self, poll: &mut Poll, events: &mut Events<Global>) -> Result<(), Failure> {
-        for _ in 0..u64::MAX {
-            match progress("cannot wait", self.wait(poll, events).map(usize::from))? {
-                None => {}
-                Some(is_ready) => {
-                    if !self.pass(is_ready == 1)? {
-                        break;
-                    }
-                }
-            }
+    /// Waits, and passes what can be passed then. Whether the server goes on.
+    fn step(&mut self, poll: &mut Poll, events: &mut Events<Global>) -> Result<bool, Failure> {
+        match self.wait(poll, events) {
+            Ok(is_ready) => self.pass(is_ready),
+            Err(error) => match error.kind() {
+                ErrorKind::Interrupted | ErrorKind::WouldBlock => Ok(true),
+                _ => Err(Failure::System(Deed::Wait, error)),
+            },
         }
+    }
+
+    /// What is left to say once the server has closed the session.
+    fn verdict(&self) -> Result<(), Failure> {
         if !self.is_over && !self.is_bye {
-            Err(Failure::Other("the server has closed the session"))
+            Err(Failure::Other(Mishap::Closed))
         } else if self.refusals {
-            Err(Failure::Other("commands are refused"))
+            Err(Failure::Other(Mishap::Refusals))
         } else {
             Ok(())
         }
     }
-}
 
-/// What waits for a server and, where that can be waited for, for standard input. Whether it can.
-fn waiting(rt: &HostRuntime, stream: &TcpStream) -> io::Result<(Poll, bool)> {
-    stream.set_nonblocking(true)?;
-    let poll = Poll::new(rt)?;
-    let server = stream.as_raw_fd();
-    poll.registry()
-        .register(&mut SourceFd(&server), SERVER, Interest::READABLE)?;
-    let input = rt.stdin().as_raw_fd();
-    match poll
-        .registry()
-        .register(&mut SourceFd(&input), INPUT, Interest::READABLE)
-    {
-        Ok(()) => Ok((poll, true)),
-        Err(error) => match error.kind() {
-            ErrorKind::PermissionDenied => Ok((poll, false)),
-            _ => Err(error),
-        },
+    /// Passes lines until the server closes the session.
+    fn run(&mut self, poll: &mut Poll, events: &mut Events<Global>) -> Result<(), Failure> {
+        for _ in 0..u64::MAX {
+            if !self.step(poll, events)? {
+                break;
+            }
+        }
+        self.verdict()
+    }
+
+    /// Passes lines, as this poll tells when, until the server closes the session.
+    fn run_by(&mut self, poll: Poll) -> Result<(), Failure> {
+        let mut poll = poll;
+        match Events::with_capacity(self.rt.alloc(), EVENTS) {
+            Ok(mut events) => self.run(&mut poll, &mut events),
+            Err(_) => Err(Failure::Memory),
+        }
     }
 }
 
-/// Passes lines from standard input to a server, and prints what is answered, until the server closes the session. Of a file of commands
-/// that is loaded it passes the octets as they are, and prints what is refused.
+/// Passes lines from standard input to a server, and prints what is answered, until the server closes the session.
 pub(crate) fn pass_lines(
     rt: &HostRuntime,
     session: Session,
     form: Form,
     is_load: bool,
 ) -> Result<(), Failure> {
-    let stream = session.into_stream();
-    let mut events = Events::with_capacity(rt.alloc(), EVENTS)?;
-    match waiting(rt, &stream) {
-        Ok((mut poll, is_waited_for)) => {
-            let mut relay = Relay {
-                rt,
-                form,
-                stream,
-                reader: if is_load {
-                    Some(Reader::new(rt.alloc(), LIMIT))
-                } else {
-                    None
-                },
-                refusals: false,
-                listener: Reader::new(rt.alloc(), LIMIT),
-                is_bye: false,
-                unsent: Vec::new(rt.alloc()),
-                is_waited_for,
-                is_over: false,
-            };
-            relay.run(&mut poll, &mut events)
+    let mut relay = Relay::new(rt, session.into_stream(), form, is_load);
+    match waiting(rt, &relay.stream) {
+        Ok((poll, is_waited_for)) => {
+            relay.is_waited_for = is_waited_for;
+            relay.run_by(poll)
         }
-        Err(error) => Err(Failure::System("cannot wait", error)),
+        Err(error) => Err(Failure::System(Deed::Wait, error)),
     }
 }

@@ -1,6 +1,6 @@
 //! The secret of the user, which is no word of the call.
 
-use crate::failure::Failure;
+use crate::failure::{Deed, Failure, Mishap, Wanted};
 use acap_entries::Memory;
 use clap::ArgMatches;
 use std::alloc::Global;
@@ -18,7 +18,7 @@ fn without_end(alloc: Global, secret: &[u8]) -> Result<Vec<u8>, Memory> {
 fn from_file(rt: &HostRuntime, file: &str) -> Result<Vec<u8>, Failure> {
     match fs::read(rt, file) {
         Ok(octets) => Ok(without_end(rt.alloc(), &octets)?),
-        Err(error) => Err(Failure::System("cannot read the secret's file", error)),
+        Err(error) => Err(Failure::System(Deed::ReadSecret, error)),
     }
 }
 
@@ -26,10 +26,8 @@ fn from_file(rt: &HostRuntime, file: &str) -> Result<Vec<u8>, Failure> {
 fn from_environment(rt: &HostRuntime) -> Result<Vec<u8>, Failure> {
     match env::var(rt, "ACAP_SECRET") {
         Ok(secret) => Ok(Vec::from_slice(rt.alloc(), secret.as_bytes())?),
-        Err(VarError::NotPresent) => Err(Failure::Word(
-            "whole: name a --secret-file, or set ACAP_SECRET",
-        )),
-        Err(VarError::NotUnicode) => Err(Failure::Other("ACAP_SECRET isn't UTF-8")),
+        Err(VarError::NotPresent) => Err(Failure::Word(Wanted::Secret)),
+        Err(VarError::NotUnicode) => Err(Failure::Other(Mishap::SecretText)),
         Err(VarError::OutOfMemory) => Err(Failure::Memory),
     }
 }

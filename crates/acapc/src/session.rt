@@ -1,6 +1,6 @@
 //! A session with a server: a login, and commands with their answers.
 
-use crate::failure::Failure;
+use crate::failure::{Deed, Failure, Mishap};
 use crate::shown::Printing;
 use acap_client::{Ending, Heard, Line, Reader, Response, answer_line, command_line};
 use acap_commands::Command;
@@ -24,6 +24,13 @@ pub(crate) struct Session {
     singly: bool,
 }
 
+/// The line of a command under a tag.
+pub(crate) fn line_of(alloc: Global, tag: &[u8], command: Command) -> Result<Vec<u8>, Memory> {
+    let line = command_line(alloc, tag, &command);
+    drop(command);
+    line
+}
+
 /// A text of the server, which refuses something.
 pub(crate) fn refused(alloc: Global, text: &[u8]) -> Failure {
     match Label::from_slice(alloc, text) {
@@ -44,6 +51,47 @@ pub(crate) fn end_of(alloc: Global, tag: &[u8], line: &Line) -> Option<Result<()
     }
 }
 
+/// How a response ends a command, if it does.
+fn ending(alloc: Global, tag: &[u8], response: &Response) -> Option<Result<(), Failure>> {
+    match response.line() {
+        Some(line) => end_of(alloc, tag, &line),
+        None => None,
+    }
+}
+
+/// The text with which a response ends the session, if it does.
+fn farewell(alloc: Global, response: &Response) -> Option<Failure> {
+    match response.line() {
+        Some(Line::Bye(_, text)) => Some(refused(alloc, text)),
+        _ => None,
+    }
+}
+
+/// Whether a response greets.
+fn greeted(alloc: Global, response: &Response) -> Result<(), Failure> {
+    match response.line() {
+        Some(Line::Greeting(_)) => Ok(()),
+        Some(Line::Bye(_, text)) => Err(refused(alloc, text)),
+        _ => Err(Failure::Other(Mishap::NoGreeting)),
+    }
+}
+
+/// The line that answers a response, if that is a challenge.
+fn answer_to(
+    alloc: Global,
+    user: &[u8],
+    secret: &[u8],
+    response: &Response,
+) -> Result<Vec<u8>, Failure> {
+    match response.line() {
+        Some(Line::GoOn(challenge)) => Ok(answer_line(alloc, user, secret, challenge)?),
+        Some(Line::Completion(_, _, _, text)) | Some(Line::Bye(_, text)) => Err(refused(
+            alloc, text,
+        )),
+        _ => Err(Failure::Other(Mishap::NoChallenge)),
+    }
+}
+
 impl Session {
     /// Connects to a server, which is a host and a port. Where octets are read singly, none is read that comes after a line.
     pub(crate) fn connect(
@@ -61,7 +109,7 @@ impl Session {
                     singly,
                 })
             }
-            Err(error) => Err(Failure::System("cannot connect", error)),
+            Err(error) => Err(Failure::System(Deed::Connect, error)),
         }
     }
 
@@ -74,31 +122,30 @@ impl Session {
     pub(crate) fn send(&mut self, octets: &[u8]) -> Result<(), Failure> {
         match self.stream.write_all(octets) {
             Ok(()) => Ok(()),
-            Err(error) => Err(Failure::System("cannot send", error)),
+            Err(error) => Err(Failure::System(Deed::Send, error)),
         }
     }
 
-    /// The text with which the server ended the session, or else this failure.
-    fn parting(&mut self, failure: Failure) -> Failure {
+    /// The text with which the server has ended the session, if it has sent one.
+    fn parting(&mut self) -> Option<Failure> {
         for _ in 0..u64::MAX {
             match self.hear() {
                 Ok(response) => {
-                    if let Some(Line::Bye(_, text)) = response.line() {
-                        return refused(self.alloc, text);
+                    if let Some(failure) = farewell(self.alloc, &response) {
+                        return Some(failure);
                     }
                 }
                 Err(_) => break,
             }
         }
-        failure
+        None
     }
 
-    /// Sends a command under a tag. A server may end the session before it has read all of it.
-    pub(crate) fn ask(&mut self, tag: &[u8], command: &Command) -> Result<(), Failure> {
-        let line = command_line(self.alloc, tag, command)?;
-        match self.send(&line) {
+    /// Sends the line of a command. A server may end the session before it has read all of it.
+    pub(crate) fn ask(&mut self, line: &[u8]) -> Result<(), Failure> {
+        match self.send(line) {
             Ok(()) => Ok(()),
-            Err(failure) => Err(self.parting(failure)),
+            Err(failure) => Err(self.parting().unwrap_or(failure)),
         }
     }
 
@@ -107,11 +154,11 @@ impl Session {
         let mut piece = [0; PIECE];
         let room = if self.singly { 1 } else { PIECE };
         match self.stream.read(&mut piece[..room]) {
-            Ok(0) => Err(Failure::Other("the server has closed the session")),
+            Ok(0) => Err(Failure::Other(Mishap::Closed)),
             Ok(count) => Ok(self.reader.push(&piece[..count])?),
             Err(error) => match error.kind() {
                 ErrorKind::Interrupted => Ok(()),
-                _ => Err(Failure::System("cannot read", error)),
+                _ => Err(Failure::System(Deed::Read, error)),
             },
         }
     }
@@ -121,7 +168,7 @@ impl Session {
         match self.reader.next()? {
             Heard::More => Ok(None),
             Heard::Line(response) => Ok(Some(response)),
-            Heard::Fault(_) => Err(Failure::Other("the server doesn't speak ACAP")),
+            Heard::Fault(_) => Err(Failure::Other(Mishap::NoLine)),
         }
     }
 
@@ -133,65 +180,69 @@ impl Session {
             }
             self.take()?;
         }
-        Err(Failure::Other("the server has closed the session"))
+        Err(Failure::Other(Mishap::Closed))
     }
 
     /// Reads the greeting.
     fn greet(&mut self) -> Result<(), Failure> {
         let response = self.hear()?;
-        match response.line() {
-            Some(Line::Greeting(_)) => Ok(()),
-            Some(Line::Bye(_, text)) => Err(refused(self.alloc, text)),
-            _ => Err(Failure::Other("the server doesn't greet")),
-        }
+        greeted(self.alloc, &response)
     }
 
     /// The line that answers the challenge of the server.
     fn answer(&mut self, user: &[u8], secret: &[u8]) -> Result<Vec<u8>, Failure> {
         let response = self.hear()?;
-        match response.line() {
-            Some(Line::GoOn(challenge)) => Ok(answer_line(self.alloc, user, secret, challenge)?),
-            Some(Line::Completion(_, _, _, text)) | Some(Line::Bye(_, text)) => Err(refused(
-                self.alloc, text,
-            )),
-            _ => Err(Failure::Other("the server doesn't let anybody log in")),
-        }
+        answer_to(self.alloc, user, secret, &response)
+    }
+
+    /// Answers the challenge of the server.
+    fn send_answer(&mut self, user: &[u8], secret: &[u8]) -> Result<(), Failure> {
+        let answer = self.answer(user, secret)?;
+        self.send(&answer)
+    }
+
+    /// Asks for a challenge.
+    fn ask_challenge(&mut self) -> Result<(), Failure> {
+        let mechanism = Label::from_slice(self.alloc, b"CRAM-MD5")?;
+        let line = line_of(self.alloc, b"L", Command::Authenticate(mechanism))?;
+        self.ask(&line)
     }
 
     /// Reads the greeting, and logs in by CRAM-MD5 (RFC 2195).
-    pub(crate) fn log_in(&mut self, user: &[u8], secret: &[u8]) -> Result<(), Failure> {
+    fn log_in(&mut self, user: &[u8], secret: &[u8]) -> Result<(), Failure> {
         self.greet()?;
-        let mechanism = Label::from_slice(self.alloc, b"CRAM-MD5")?;
-        self.ask(b"L", &Command::Authenticate(mechanism))?;
-        let answer = self.answer(user, secret)?;
-        self.send(&answer)?;
+        self.ask_challenge()?;
+        self.send_answer(user, secret)?;
         self.wait(b"L")
+    }
+
+    /// The session, once its user is logged in.
+    pub(crate) fn logged_in(mut self, user: &[u8], secret: &[u8]) -> Result<Session, Failure> {
+        match self.log_in(user, secret) {
+            Ok(()) => Ok(self),
+            Err(failure) => Err(failure),
+        }
     }
 
     /// Reads the lines up to the end of a command.
     pub(crate) fn wait(&mut self, tag: &[u8]) -> Result<(), Failure> {
         for _ in 0..u64::MAX {
             let response = self.hear()?;
-            if let Some(line) = response.line() {
-                if let Some(done) = end_of(self.alloc, tag, &line) {
-                    return done;
-                }
+            if let Some(done) = ending(self.alloc, tag, &response) {
+                return done;
             }
         }
-        Err(Failure::Other("the server has closed the session"))
+        Err(Failure::Other(Mishap::Closed))
     }
 
     /// Reads the lines up to the end of a command, and prints what they say.
     pub(crate) fn finish(&mut self, tag: &[u8], printing: &mut Printing) -> Result<(), Failure> {
         for _ in 0..u64::MAX {
             let response = self.hear()?;
-            if let Some(line) = response.line() {
-                match end_of(self.alloc, tag, &line) {
-                    Some(done) => return done,
-                    None => printing.print(&line)?,
-                }
+            if let Some(done) = printing.heed(tag, &response) {
+                return done;
             }
         }
-        Err(Failure::Other("the server has closed the session"))
+        Err(Failure::Other(Mishap::Closed))
     }
 }

@@ -1,7 +1,8 @@
 //! What is printed of the lines that answer a command.
 
-use crate::failure::Failure;
-use acap_client::{Data, Line};
+use crate::failure::{Deed, Failure};
+use crate::session::end_of;
+use acap_client::{Data, Line, Response};
 use acap_entries::Memory;
 use acap_shell::{Form, print_attributes, print_name, print_rights, print_value};
 use std::io;
@@ -41,7 +42,7 @@ pub(crate) fn write_out(rt: &HostRuntime, out: &mut Vec<u8>) -> Result<(), Failu
             out.clear();
             Ok(())
         }
-        Err(error) => Err(Failure::System("cannot print", error)),
+        Err(error) => Err(Failure::System(Deed::Print, error)),
     }
 }
 
@@ -71,7 +72,7 @@ impl<'a> Printing<'a> {
     }
 
     /// Prints what a line of an answer says.
-    pub(crate) fn print(&mut self, line: &Line) -> Result<(), Failure> {
+    fn print(&mut self, line: &Line) -> Result<(), Failure> {
         match line {
             Line::Entry(_, name, items) => self.print_entry(*name, items)?,
             Line::Rights(_, rights) => print_name(&mut self.out, self.form, *rights)?,
@@ -83,8 +84,28 @@ impl<'a> Printing<'a> {
         Ok(())
     }
 
+    /// Prints what a response says, but for one that ends the command: how it ends, or what has failed.
+    pub(crate) fn heed(&mut self, tag: &[u8], response: &Response) -> Option<Result<(), Failure>> {
+        let line = response.line()?;
+        match end_of(self.rt.alloc(), tag, &line) {
+            Some(done) => Some(done),
+            None => match self.print(&line) {
+                Ok(()) => None,
+                Err(failure) => Some(Err(failure)),
+            },
+        }
+    }
+
     /// Writes what isn't written yet.
-    pub(crate) fn flush(&mut self) -> Result<(), Failure> {
+    fn flush(&mut self) -> Result<(), Failure> {
         write_out(self.rt, &mut self.out)
+    }
+
+    /// Writes what isn't written yet, and says what was done, where that can be written.
+    pub(crate) fn end(&mut self, done: Result<(), Failure>) -> Result<(), Failure> {
+        match self.flush() {
+            Ok(()) => done,
+            Err(failure) => Err(failure),
+        }
     }
 }

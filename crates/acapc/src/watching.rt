@@ -1,12 +1,13 @@
 //! `watch`: a list that is followed.
 
-use crate::failure::Failure;
-use crate::meaning::dataset;
+use crate::beside::both;
+use crate::failure::{Failure, Mishap, Wanted};
+use crate::meaning::{attribute_of, dataset};
 use crate::session::{Session, refused};
 use crate::shown::write_out;
-use acap_client::{Ending, FollowFault, Follower, Line};
+use acap_client::{Ending, FollowFault, Follower, Kept, Line, Response, command_line};
 use acap_commands::Command;
-use acap_entries::{Attribute, ContextName};
+use acap_entries::{Attribute, ContextName, Memory};
 use acap_shell as shell;
 use acap_shell::{Form, print_change, print_row};
 use clap::ArgMatches;
@@ -21,7 +22,8 @@ const NAME: &[u8] = b"watch";
 /// What is watched.
 #[derive(Drop)]
 pub(crate) struct Watch {
-    command: Command,
+    line: Vec<u8>,
+    follower: Follower,
     values: bool,
     once: bool,
 }
@@ -32,31 +34,52 @@ fn attribute(
     matches: &ArgMatches,
     name: &str,
 ) -> Result<Option<Attribute>, Failure> {
-    let Some(word) = matches.get_str(name) else {
-        return Ok(None);
-    };
-    match Attribute::read(alloc, word.as_bytes()) {
-        Ok(attribute) => Ok(Some(attribute)),
-        Err(fault) => Err(Failure::of_word("the name of an attribute", fault)),
+    match matches.get_str(name) {
+        Some(word) => Ok(Some(attribute_of(alloc, word.as_bytes())?)),
+        None => Ok(None),
     }
+}
+
+/// The name of the context.
+fn context_name(alloc: Global) -> Result<ContextName, Failure> {
+    match ContextName::read(alloc, NAME) {
+        Ok(name) => Ok(name),
+        Err(fault) => Err(Failure::of_word(Wanted::Context, fault)),
+    }
+}
+
+/// The SEARCH that the words of a call stand for.
+fn search(alloc: Global, matches: &ArgMatches) -> Result<Command, Failure> {
+    let dataset = both(dataset(alloc, matches), context_name(alloc));
+    let shown = attribute(alloc, matches, "attribute");
+    let sort = attribute(alloc, matches, "sort");
+    let ((dataset, name), (shown, sort)) = both(dataset, both(shown, sort))?;
+    Ok(shell::watch(alloc, dataset, name, shown, sort)?)
+}
+
+/// Lets a follower know of a SEARCH, and makes its line.
+fn begin_by(alloc: Global, follower: &mut Follower, command: &Command) -> Result<Vec<u8>, Memory> {
+    follower.ask(TAG, command)?;
+    command_line(alloc, TAG, command)
+}
+
+/// The same, of a SEARCH that is let go.
+fn begin(alloc: Global, follower: &mut Follower, command: Command) -> Result<Vec<u8>, Memory> {
+    let line = begin_by(alloc, follower, &command);
+    drop(command);
+    line
 }
 
 /// What the words of a call want watched.
 pub(crate) fn read_watch(alloc: Global, matches: &ArgMatches) -> Result<Watch, Failure> {
-    let dataset = dataset(alloc, matches)?;
-    let shown = attribute(alloc, matches, "attribute")?;
-    let sort = attribute(alloc, matches, "sort")?;
-    let name = ContextName::read(alloc, NAME).map_err(|fault| Failure::of_word(
-        "a context",
-        fault,
-    ))?;
-    let values = shown.is_some();
-    let command = shell::watch(alloc, dataset, name, shown, sort)?;
-    let once = matches.get_flag("once");
+    let command = search(alloc, matches)?;
+    let mut follower = Follower::new(alloc);
+    let line = begin(alloc, &mut follower, command)?;
     Ok(Watch {
-        command,
-        values,
-        once,
+        line,
+        follower,
+        values: matches.get_str("attribute").is_some(),
+        once: matches.get_flag("once"),
     })
 }
 
@@ -65,8 +88,7 @@ pub(crate) fn read_watch(alloc: Global, matches: &ArgMatches) -> Result<Watch, F
 struct Watching<'a> {
     rt: &'a HostRuntime,
     form: Form,
-    wanted: &'a Watch,
-    follower: Follower,
+    wanted: Watch,
     out: Vec<u8>,
     is_listed: bool,
 }
@@ -79,12 +101,21 @@ fn end_of<'a>(line: &Line<'a>) -> Option<(Ending, &'a [u8])> {
     }
 }
 
-/// What the list can't be followed for.
-fn failure_of(fault: FollowFault) -> Failure {
-    match fault {
-        FollowFault::Misfit(_) => Failure::Other("a change doesn't fit the list"),
-        FollowFault::Memory => Failure::Memory,
+/// Lets a follower heed a line.
+fn follow(follower: &mut Follower, line: &Line) -> Result<(), Failure> {
+    match follower.follow(line) {
+        Ok(()) => Ok(()),
+        Err(FollowFault::Misfit(_)) => Err(Failure::Other(Mishap::Misfit)),
+        Err(FollowFault::Memory) => Err(Failure::Memory),
     }
+}
+
+/// Adds a line for each row of a list.
+fn print_rows(out: &mut Vec<u8>, form: Form, values: bool, kept: &Kept) -> Result<(), Memory> {
+    for row in kept.held().rows() {
+        print_row(out, form, values, row.name(), &row.items())?;
+    }
+    Ok(())
 }
 
 impl<'a> Watching<'a> {
@@ -94,27 +125,37 @@ impl<'a> Watching<'a> {
     }
 
     /// Prints the list, as it is held.
-    fn list(&mut self) -> Result<(), Failure> {
+    fn list(&mut self) -> Result<(), Memory> {
         self.is_listed = true;
-        if let Some(kept) = self.follower.context(NAME) {
-            for row in kept.held().rows() {
-                print_row(
-                    &mut self.out,
-                    self.form,
-                    self.wanted.values,
-                    row.name(),
-                    &row.items(),
-                )?;
-            }
+        match self.wanted.follower.context(NAME) {
+            Some(kept) => print_rows(&mut self.out, self.form, self.wanted.values, kept),
+            None => Ok(()),
         }
-        Ok(())
     }
 
     /// Whether the server goes on to follow the list.
     fn is_followed(&self) -> bool {
-        match self.follower.context(NAME) {
+        match self.wanted.follower.context(NAME) {
             Some(kept) => !kept.is_freed(),
             None => true,
+        }
+    }
+
+    /// Prints the list, where a line ends its SEARCH, and else a change.
+    fn print(&mut self, line: &Line) -> Result<(), Failure> {
+        match end_of(line) {
+            Some((Ending::Done, _)) => Ok(self.list()?),
+            Some((_, text)) => Err(refused(self.rt.alloc(), text)),
+            None => Ok(print_change(&mut self.out, self.form, self.wanted.values, line)?),
+        }
+    }
+
+    /// Fails once the server follows the list no more.
+    fn go_on(&self) -> Result<(), Failure> {
+        if self.is_followed() {
+            Ok(())
+        } else {
+            Err(Failure::Other(Mishap::Freed))
         }
     }
 
@@ -123,38 +164,54 @@ impl<'a> Watching<'a> {
         if let Line::Bye(_, text) = line {
             return Err(refused(self.rt.alloc(), *text));
         }
-        self.follower.follow(line).map_err(failure_of)?;
-        match end_of(line) {
-            Some((Ending::Done, _)) => self.list()?,
-            Some((_, text)) => return Err(refused(self.rt.alloc(), text)),
-            None => print_change(&mut self.out, self.form, self.wanted.values, line)?,
+        follow(&mut self.wanted.follower, line)?;
+        self.print(line)?;
+        self.go_on()
+    }
+
+    /// Heeds a response.
+    fn hear(&mut self, response: &Response) -> Result<(), Failure> {
+        match response.line() {
+            Some(line) => self.heed(&line),
+            None => Ok(()),
         }
-        if self.is_followed() {
-            Ok(())
-        } else {
-            Err(Failure::Other("the server has freed the list"))
+    }
+
+    /// Heeds what has come, or else writes what isn't written yet and waits.
+    fn step(&mut self, session: &mut Session) -> Result<(), Failure> {
+        match session.heard()? {
+            Some(response) => self.hear(&response),
+            None => {
+                self.flush()?;
+                session.take()
+            }
         }
     }
 
     /// Heeds what comes, until the list is printed if no more is wanted, and else for ever.
     fn run(&mut self, session: &mut Session) -> Result<(), Failure> {
         for _ in 0..u64::MAX {
-            match session.heard()? {
-                Some(response) => {
-                    if let Some(line) = response.line() {
-                        self.heed(&line)?;
-                    }
-                }
-                None => {
-                    self.flush()?;
-                    session.take()?;
-                }
-            }
+            self.step(session)?;
             if self.is_listed && self.wanted.once {
                 return Ok(());
             }
         }
         Ok(())
+    }
+
+    /// Writes what isn't written yet, and says what was done, where that can be written.
+    fn end(&mut self, done: Result<(), Failure>) -> Result<(), Failure> {
+        match self.flush() {
+            Ok(()) => done,
+            Err(failure) => Err(failure),
+        }
+    }
+
+    /// Asks for the list, and heeds what comes.
+    fn follow(&mut self, session: &mut Session) -> Result<(), Failure> {
+        session.ask(&self.wanted.line)?;
+        let done = self.run(session);
+        self.end(done)
     }
 }
 
@@ -163,20 +220,14 @@ pub(crate) fn follow_list(
     rt: &HostRuntime,
     session: &mut Session,
     form: Form,
-    wanted: &Watch,
+    wanted: Watch,
 ) -> Result<(), Failure> {
-    let mut follower = Follower::new(rt.alloc());
-    follower.ask(TAG, &wanted.command)?;
-    session.ask(TAG, &wanted.command)?;
     let mut watching = Watching {
         rt,
         form,
         wanted,
-        follower,
         out: Vec::new(rt.alloc()),
         is_listed: false,
     };
-    let done = watching.run(session);
-    watching.flush()?;
-    done
+    watching.follow(session)
 }

@@ -1,0 +1,103 @@
+//! The commands of `acl`, `grant` and `revoke`.
+
+use crate::beside::both;
+use crate::failure::{Failure, Wanted};
+use crate::meaning::{attribute_of, dataset_of, entry_of};
+use acap_commands::{Command, ObjectName};
+use acap_shell as shell;
+use clap::ArgMatches;
+use std::alloc::Global;
+
+/// The object that words name: a dataset, an attribute in it, or that of one entry.
+fn object(alloc: Global, words: &[&str]) -> Result<ObjectName, Failure> {
+    match words {
+        [dataset] => Ok(ObjectName::Dataset {
+            dataset: dataset_of(alloc, dataset.as_bytes())?,
+        }),
+        [dataset, attribute] => attribute_object(alloc, dataset, attribute),
+        [dataset, attribute, name] => entry_object(alloc, dataset, attribute, name),
+        _ => Err(Failure::Word(Wanted::Object)),
+    }
+}
+
+/// An attribute in a dataset.
+fn attribute_object(alloc: Global, dataset: &str, attribute: &str) -> Result<ObjectName, Failure> {
+    let (dataset, attribute) = both(
+        dataset_of(alloc, dataset.as_bytes()),
+        attribute_of(alloc, attribute.as_bytes()),
+    )?;
+    Ok(ObjectName::Attribute { dataset, attribute })
+}
+
+/// An attribute of one entry.
+fn entry_object(
+    alloc: Global,
+    dataset: &str,
+    attribute: &str,
+    name: &str,
+) -> Result<ObjectName, Failure> {
+    let (dataset, (attribute, name)) = both(
+        dataset_of(alloc, dataset.as_bytes()),
+        both(
+            attribute_of(alloc, attribute.as_bytes()),
+            entry_of(alloc, name.as_bytes()),
+        ),
+    )?;
+    Ok(ObjectName::Entry {
+        dataset,
+        attribute,
+        name,
+    })
+}
+
+/// The object that all words of a call name.
+fn whole_object(alloc: Global, matches: &ArgMatches) -> Result<ObjectName, Failure> {
+    match matches.get_strs("WORD") {
+        Some(words) => object(alloc, words),
+        None => Err(Failure::Word(Wanted::Object)),
+    }
+}
+
+/// `acl`: first my rights.
+pub(crate) fn my_rights(alloc: Global, matches: &ArgMatches) -> Result<Command, Failure> {
+    let object = whole_object(alloc, matches)?;
+    Ok(shell::my_rights(alloc, object)?)
+}
+
+/// `acl`: then the access list.
+pub(crate) fn access_list(alloc: Global, matches: &ArgMatches) -> Result<Command, Failure> {
+    let object = whole_object(alloc, matches)?;
+    Ok(shell::access_list(alloc, object)?)
+}
+
+/// `grant`: the last two words are an identifier and rights.
+pub(crate) fn grant(alloc: Global, matches: &ArgMatches) -> Result<Command, Failure> {
+    match matches.get_strs("WORD") {
+        Some([words @ .., identifier, rights]) => {
+            let object = object(alloc, words)?;
+            Ok(shell::grant(alloc, object, identifier.as_bytes(), rights.as_bytes())?)
+        }
+        _ => Err(Failure::Word(Wanted::Object)),
+    }
+}
+
+/// `revoke` of an identifier, which is the last word.
+fn revoke_one(alloc: Global, matches: &ArgMatches) -> Result<Command, Failure> {
+    match matches.get_strs("WORD") {
+        Some([words @ .., identifier]) => {
+            let object = object(alloc, words)?;
+            Ok(shell::revoke(alloc, object, identifier.as_bytes())?)
+        }
+        _ => Err(Failure::Word(Wanted::Object)),
+    }
+}
+
+/// `revoke`: of an identifier, or of the whole list.
+pub(crate) fn revoke(alloc: Global, matches: &ArgMatches) -> Result<Command, Failure> {
+    if matches.get_flag("all") {
+        let object = whole_object(alloc, matches)?;
+        Ok(shell::revoke_all(alloc, object)?)
+    } else {
+        revoke_one(alloc, matches)
+    }
+}
