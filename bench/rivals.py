@@ -68,6 +68,10 @@ class Acapd(Server):
     def read_all(self, name, count):
         return self.search(name, count, b"ALL", count)
 
+    def find_one(self, name, count):
+        """What walks a whole set: one entry by its value."""
+        return self.search(name, count, b'EQUAL "option.value" "i;octet" "%s"' % FIRST, 1)
+
     def write(self):
         """What a writer sends, of which watchers are told."""
         return self.set("joe", "watched").request
@@ -136,6 +140,10 @@ def words_of(*words):
     return b"*%d\r\n" % len(words) + b"".join(b"$%d\r\n%s\r\n" % (len(word), word) for word in words)
 
 
+WALK = ("local all = redis.call('HGETALL', KEYS[1]) local found = {} for at = 2, #all, 2 do "
+        "if all[at] == ARGV[1] then found[#found + 1] = all[at - 1] found[#found + 1] = all[at] end end return found")
+
+
 class Redis(Rival):
     """Redis: an option is a field of a hash, and a writer publishes what it has written."""
 
@@ -174,6 +182,10 @@ class Redis(Rival):
     def read_all(self, name, count):
         return Ask("HGETALL", words_of("HGETALL", self.place("joe", name)), count, 2 * count, b"%s\r\n$11\r\n%s\r\n" % (ENTRY, FIRST))
 
+    def find_one(self, name, count):
+        """Redis has no such search, so a script in the server walks the hash."""
+        return Ask("EVAL", words_of("EVAL", WALK, "1", self.place("joe", name), FIRST), count, 2, b"%s\r\n$11\r\n%s\r\n" % (ENTRY, FIRST))
+
     def write(self):
         return self.set("joe", "watched").request + words_of("PUBLISH", self.place("joe", "watched"), ENTRY + b" " + VALUE)
 
@@ -189,7 +201,7 @@ class Redis(Rival):
 
 SUFFIX = "cn=versus"
 SYNC = "1.3.6.1.4.1.4203.1.9.1.1"  # the control of syncrepl (RFC 4533)
-BIND, SEARCH, MODIFY, ADD, EQUAL_PRESENT = 0x60, 0x63, 0x66, 0x68, 0x87
+BIND, SEARCH, MODIFY, ADD, EQUAL, PRESENT = 0x60, 0x63, 0x66, 0x68, 0xa3, 0x87
 SEARCH_ENTRY, INTERMEDIATE = 0x64, 0x79
 SLAPD = """moduleload back_mdb
 moduleload syncprov
@@ -242,10 +254,12 @@ def adding(name, kind, **attributes):
     return message(encoded(ADD, strings(name), encoded(0x30, attribute("objectClass", kind), *given)))
 
 
-def searching(base, scope, *attributes, controls=b""):
+ANY = strings("objectClass", tag=PRESENT)
+
+
+def searching(base, scope, *attributes, wanted=ANY, controls=b""):
     limits = number(0, 10) + number(0) + number(0) + number(0, 1)  # aliases, entries, seconds, names alone
-    asked = encoded(0x30, strings(*attributes))
-    return message(encoded(SEARCH, strings(base), number(scope, 10), limits, strings("objectClass", tag=EQUAL_PRESENT), asked), controls)
+    return message(encoded(SEARCH, strings(base), number(scope, 10), limits, wanted, encoded(0x30, strings(*attributes))), controls)
 
 
 class Slapd(Rival):
@@ -311,6 +325,11 @@ class Slapd(Rival):
 
     def read_all(self, name, count):
         return Ask("search beneath", searching(self.place("joe", name), 1, "optionValue"), count, count, FIRST)
+
+    def find_one(self, name, count):
+        """There is no index of values."""
+        wanted = encoded(EQUAL, strings("optionValue", FIRST))
+        return Ask("search by value", searching(self.place("joe", name), 1, "optionValue", wanted=wanted), count, 1, FIRST)
 
     def write(self):
         return self.set("joe", "watched").request

@@ -19,9 +19,10 @@ of one, a round of the next, begun at another one each time. Figures are medians
 In the tables `cpu us` is the server's processor time of one round trip, or of one write and all that are told of it. `spread` is the highest
 rate less the lowest, to the median: measure on a machine with nothing beside it. `last` is the time until the last of those that watch is told.
 `once` and `once more` are octets an option, stored once, and stored once and then set once more. `ratio` is acapd's figure to this server's, of
-round trips, of the time until the last is told, and of octets.
+round trips, of the time until the last is told, and of octets. The ratios of round trips are printed once more, a line for each row.
 """
 import argparse
+import collections
 import contextlib
 import os
 import statistics
@@ -41,6 +42,7 @@ ROWS = {
     "read one by name of 1,000": lambda server: server.read_one("thousand", 1_000),
     "read one by name of 10,000": lambda server: server.read_one("myriad", 10_000),
     "read 100": lambda server: server.read_all("hundred", 100),
+    "find one by value of 1,000": lambda server: server.find_one("thousand", 1_000),
 }
 TOLD, MEMORY, IDLE = "told of a write to 1,000", "memory of an option", "memory of an idle session"
 HEADS = {
@@ -72,7 +74,7 @@ class Measure:
     """Starts the servers, and measures them."""
 
     def __init__(self, folder, asked):
-        self.folder, self.asked = folder, asked
+        self.folder, self.asked, self.ratios = folder, asked, collections.defaultdict(dict)
         self.kinds = [type("Asked", (Acapd,), {"command": asked.program}), Redis, Slapd]
         if asked.other:
             self.kinds.insert(1, type("Other", (Acapd,), {"command": asked.other, "name": "other"}))
@@ -124,6 +126,14 @@ class Measure:
                     mine += [server.session() for _ in range(count - len(mine))]
                 for row in wanted:
                     self.trips_row(row, count, connections)
+        self.print_ratios()
+
+    def print_ratios(self):
+        """How many round trips acapd makes where another makes one, a line for each row."""
+        columns = [(kind.name, count) for kind in self.kinds[1:] for count in sorted({1, self.asked.sessions})]
+        print(f"\n{'round trips, ratio':27}" + "".join(f"{f'{name}, {count}':>12}" for name, count in columns))
+        for row, cells in self.ratios.items():
+            print(f"{row:27}" + "".join(f"{cells[column]:>12}" for column in columns), flush=True)
 
     def trips_row(self, row, count, connections):
         """One row: a shorter round of each to warm up, and then rounds by turns."""
@@ -140,6 +150,7 @@ class Measure:
             spread = (max(rates[server]) - min(rates[server])) / rate
             p50, p99 = (statistics.median(it[at] for it in mine) for at in (2, 3))
             cost = sum(it[4] for it in mine) / sum(it[0] for it in mine) * 1e6
+            self.ratios[row][server.name, count] = ratio(first, rate)
             cells = [f"{rate:,.0f}", f"{spread:.0%}", f"{p50:,.1f}", f"{p99:,.1f}", f"{cost:,.1f}", ratio(first, rate)]
             print_line(row, count, server.name, cells)
 
