@@ -94,7 +94,7 @@ class Actor(threading.Thread):
         self.world, self.number, self.stays = world, number, stays
         self.random = random.Random(f"{world.seed} {self.kind} {number}")
         self.user = ["joe", "ann"][number % 2]
-        self.client, self.times, self.compared = None, Times(), 0
+        self.client, self.times, self.compared, self.doing = None, Times(), 0, "nothing"
         self.past, self.count = 0, 0  # events of sessions before, and of all so far
 
     def __str__(self):
@@ -105,7 +105,7 @@ class Actor(threading.Thread):
         return self.client.asked if self.client else 0
 
     def timed(self, kind, function, *given):
-        begun = time.perf_counter()
+        self.doing, begun = kind, time.perf_counter()
         result = function(*given)
         self.times.add(kind, time.perf_counter() - begun)
         return result
@@ -157,4 +157,4 @@ class Actor(threading.Thread):
             while not self.world.is_over():
                 self.live()
         except Exception as fault:  # told by bench/soak.py
-            self.world.fail(self, fault)
+            self.world.fail(f"{self}, last at {self.doing}", fault)

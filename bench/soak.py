@@ -10,10 +10,12 @@ finds, where both are of one moment: at least 1,000 times in a run of a minute o
 (`sessions` of its settings) is set at the start: when the time is over the clients leave, and others come and go until it is reached. Then the
 server has to end with status 0, which says that its history agrees with what its sessions were told.
 
-It prints memory over time, events a second, the times of each kind of event, the longest of them, and how many comparisons were made. Where
-something isn't as wanted it prints the first difference, and ends with status 1. Times hold what the client itself takes: the row `a sleep of
-1 ms` says by how much that was too long, and so what is to be taken off.
+It prints memory over time, events a second, the times of each kind of event, the longest of them, and how many comparisons were made. Where all
+was as wanted the last line says so. Else it names the first difference, and ends with status 1; with status 2 where it isn't called as above. A wait
+of 20 seconds is a difference too, whatever else the machine does. Times hold what the client itself takes: the row `a sleep of 1 ms` says by how much
+that was too long, and so what is to be taken off.
 """
+import argparse
 import os
 import pathlib
 import subprocess
@@ -22,7 +24,7 @@ import tempfile
 import threading
 import time
 
-from load import memory  # which finds tools/
+from load import memory, whole  # which finds tools/
 from acap_client import Client
 from actor import RATE, Times, World
 from crowd import BIG, OPEN, QUIET, crowd
@@ -59,8 +61,9 @@ def prepare(server):
 
 
 def print_progress(world, clients):
-    """Runs until the end, and prints a line each minute, or each five seconds of a short run."""
-    print(f"{'minute':>8}{'events/s':>10}{'MiB':>8}{'most MiB':>10}{'events':>12}{'of the four':>13}{'sessions':>10}{'comparisons':>13}")
+    """Runs until the end, and prints sixty lines, or one each five seconds of a short run."""
+    print(f"{'minute':>8}{'events/s':>10}{'MiB':>8}{'most MiB':>10}{'events':>12}", end="")
+    print(f"{'of the four':>13}{'of all here':>13}{'sessions':>10}{'comparisons':>13}")
     step, before = max((world.end - world.begun) / 60, 5), 0
     while not world.is_over():
         time.sleep(0.2)
@@ -78,10 +81,12 @@ def most_memory(server):
 
 def print_line(world, clients):
     events, passed = sum(it.count for it in clients), time.monotonic() - world.begun
-    four, compared = sum(it.count for it in clients if it.stays), sum(it.compared for it in clients)
+    four, here = sum(it.count for it in clients if it.stays), sum(it.count - it.past for it in clients)
+    compared = sum(it.compared for it in clients)
     has_ended = world.server.process.poll() is not None
     held, most = (0 if has_ended else octets(world.server) / 2**20 for octets in (memory, most_memory))
-    print(f"{passed / 60:8.2f}{events / passed:10,.0f}{held:8,.0f}{most:10,.0f}{events:12,}{four:13,}{world.sessions:10,}{compared:13,}", flush=True)
+    print(f"{passed / 60:8.2f}{events / passed:10,.0f}{held:8,.0f}{most:10,.0f}{events:12,}", end="")
+    print(f"{four:13,}{here:13,}{world.sessions:10,}{compared:13,}", flush=True)
 
 
 def finish(world, sessions):
@@ -102,9 +107,10 @@ def print_times(world, clients):
     for kind in sorted(all_times.counts):
         middle, most = (all_times.kept_by(kind, part) for part in (0.5, 0.99))
         print(f"{kind:30}{all_times.counts[kind].total():12,}{middle:10,.0f}{most:10,.0f}{all_times.longest[kind][0] * 1000:12,.1f}")
-    kind = max(all_times.longest, key=all_times.longest.get)
-    seconds, ended = all_times.longest[kind]
-    print(f"the longest wait: {seconds * 1000:,.1f} ms, {kind}, in minute {(ended - world.begun) / 60:.2f}")
+    if all_times.longest:
+        kind = max(all_times.longest, key=all_times.longest.get)
+        seconds, ended = all_times.longest[kind]
+        print(f"the longest wait: {seconds * 1000:,.1f} ms, {kind}, in minute {(ended - world.begun) / 60:.2f}")
     return sum(counter.total() for counter in all_times.counts.values())
 
 
@@ -124,11 +130,11 @@ def run(program, folder, minutes, seed):
         for thread in clients:
             thread.join(60)
         spent, passed = sum(os.times()[:2]), time.monotonic() - world.begun
+        least = print_times(world, [clock, *clients])
         if world.fault:
             status = server.process.poll()
             raise AssertionError(world.fault + (f"\nthe server has ended: {server.end()}" if status is not None else ""))
         finish(world, sessions)
-        least = print_times(world, [clock, *clients])
         most = sum(it.count for it in clients) + 2 * sessions  # where each notice was told by a drain of its own
         compared = sum(it.compared for it in clients)
         print(f"{compared:,} comparisons; {least // EPOCH} to {most // EPOCH} new epochs; {world.refused:,} times too many sessions; "
@@ -139,16 +145,18 @@ def run(program, folder, minutes, seed):
 
 
 def main():
-    if len(sys.argv) not in (2, 3, 4):
-        sys.exit(__doc__)
-    program = str(pathlib.Path(sys.argv[1]).resolve())
-    minutes, seed = float((sys.argv[2:] or ["60"])[0]), int((sys.argv[3:] or ["1"])[0])
+    words = argparse.ArgumentParser(description=__doc__, formatter_class=argparse.RawDescriptionHelpFormatter)
+    words.add_argument("program", type=whole)
+    words.add_argument("minutes", nargs="?", type=float, default=60)
+    words.add_argument("seed", nargs="?", type=int, default=1)
+    asked = words.parse_args()
     sys.setswitchinterval(0.001)  # so that a thread with much to do holds up the others less
     with tempfile.TemporaryDirectory() as folder:
         try:
-            run(program, folder, minutes, seed)
+            run(asked.program, folder, asked.minutes, asked.seed)
         except (AssertionError, OSError, EOFError, subprocess.TimeoutExpired) as fault:
             sys.exit(f"NOT as wanted: {fault}")
+    print("all was as wanted")
 
 
 if __name__ == "__main__":
