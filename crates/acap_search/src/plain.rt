@@ -1,5 +1,5 @@
 //! Datasets that inherit nothing.
-ghost use Rattle.std.specs.Prelude.{◌≡◌, ◌∷◌, [], IfOk, IsTrue};
+ghost use Rattle.std.specs.Prelude.{◌≡◌, ◌∷◌, [], IfOk, IsSome, IsTrue};
 ghost use Rattle.std.specs.Option.{ForSome};
 ghost use Rattle.acap_search.specs.Near.{IsPlain};
 
@@ -11,7 +11,8 @@ use std::alloc::Global;
 
 /// Whether a chain is the dataset alone.
 pub(crate) fn is_alone(chain: &Lineage<'_>, dataset: &[u8]) -> bool
-    ensures { IsTrue result → chain.now ≡ dataset.now ∷ [] }
+    ensures alone { IsTrue result → chain.now ≡ dataset.now ∷ [] }
+    ensures found { chain.now ≡ dataset.now ∷ [] → IsTrue result }
 {
     match chain.names().split_first() {
         Some((first, others)) => others.is_empty() && *first == dataset,
@@ -25,7 +26,8 @@ pub fn share_rights<R: Records>(
     alloc: Global,
     by: &Viewer<'_, R>,
 ) -> Result<Option<SharedRights>, Memory>
-    ensures { IfOk result (λ shared. ForSome shared (IsPlain by.now)) }
+    ensures rights { IfOk result (λ shared. ForSome shared (IsPlain by.now)) }
+    ensures made { IfOk result (λ shared. by.now.chain ≡ by.now.dataset ∷ [] → IsSome shared) }
 {
     let dataset = by.dataset.as_slice();
     if !is_alone(&by.chain, dataset) {
