@@ -141,6 +141,8 @@ def inputs():
     yield "DELETEDSINCE of 4,096, deleted in order", "ms", deleted(names), since, 40
     shuffled.shuffle(names)
     yield "DELETEDSINCE of 4,096, deleted in any order", "ms", deleted(names), since, 40
+    deep = lines(['SEARCH "/heirs/~/" DEPTH 0 RETURN ("option.a0") EQUAL "option.a0" "i;octet" "none"'] * 2)
+    yield "SEARCH with DEPTH, 400 heirs of 2,000", "ms", filled(2000, 1) + heirs("/option/user/joe/", 400), deep, 2
     yield "SEARCH of 2,000 rows of 1,000 octets", "us", filled(2000, 1, 1000), lines([search(1)] * 80), 80
     for name, octets in (
         ("short tokens", line_of(" ab (cd ef) ghi") * 2500),

@@ -13,6 +13,7 @@ use Rattle.acap_inherit.specs.Records.{record_at, cell_in}
 use Rattle.acap_rights.specs.Sharing.{AreShared}
 use Rattle.acap_rights.specs.declared.sharing.SharedRights.{SharedRights}
 use Rattle.acap_search.specs.Views.{View, Spotted}
+use Rattle.acap_search.specs.declared.along.Along.{Along}
 use Rattle.acap_search.specs.declared.kept.Kept.{Kept}
 
 -- what a record has for an attribute, where nothing is inherited
@@ -34,6 +35,21 @@ AreSharedBy view shared = ForSome shared (λ rights. IsPlain view rights.now)
 abbrev pub IsNear : Spotted → Option Kept → Type 0
 IsNear spot kept =
     ForSome kept (λ kept. IsPlain spot.by kept.shared.now × (record_at spot.by.records spot.by.dataset spot.name ≡ Some kept.entry.now))
+
+-- the rights at hand are those in the searched dataset, and in its base
+abbrev pub AreAlong : View → Option Along → Type 0
+AreAlong view along = ForSome along (λ along.
+    AreShared view.records view.realm view.user view.dataset along.own.now
+    × AreShared view.records view.realm view.user along.base.now along.inherited.now)
+
+-- such rights are the user's on the attributes of a dataset
+abbrev pub SharesIn : Spotted → List ℕ → SharedRights → Type 0
+SharesIn spot dataset shared = AreShared spot.by.records spot.by.realm spot.by.user dataset shared
+
+-- what is at hand where an entry is looked at
+pub record IsAtHandOf (spot : Spotted) (kept : Option Kept) (along : Option Along) : Type 0 where
+  pub near : IsNear spot kept
+  pub rights : AreAlong spot.by along
 
 -- whether a record lies in a dataset
 abbrev pub lies_in : List ℕ → Path × Record → Bool

@@ -1,15 +1,18 @@
 //! What a search finds in one dataset: among its own records, among all names along its chain, or at the only name that the key can hold
 //! for.
-ghost use Rattle.std.specs.Prelude.{◌≡◌, ◌+◌, ◌<◌, None, OnOk, Some};
+ghost use Rattle.std.specs.Prelude.{◌≡◌, ◌+◌, ◌<◌, IfOk, None, OnOk, Some};
 ghost use Rattle.std.specs.List.{filter};
 ghost use Rattle.std.specs.FinMap as map;
+ghost use Rattle.acap_rights.specs.Sharing.{AreShared};
 ghost use Rattle.acap_search.specs.Counting.{IsCounted};
 ghost use Rattle.acap_search.specs.Gathering.{with_more, with_one};
 ghost use Rattle.acap_search.specs.Named as naming;
 ghost use Rattle.acap_search.specs.Near as near;
+ghost use Rattle.acap_search.specs.Near.{AreAlong};
 ghost use Rattle.acap_search.specs.Views.{found_at, spot_in};
 ghost use Rattle.acap_search.specs.Walks as walks;
 
+use crate::along::Along;
 use crate::front::Front;
 use crate::gathered::Gathered;
 use crate::kept::Kept;
@@ -48,6 +51,7 @@ fn add_own<'a: 'b, 'b, L: Ledger>(
             by,
             name: &path.name,
             kept: Some(Kept { entry, shared }),
+            along: None,
         };
         found.add_at(alloc, &spot, Some(path), sought, None, steps)?;
     }
@@ -62,24 +66,33 @@ pub(crate) fn base_of<'a>(chain: &Lineage<'a>) -> &'a [u8] {
     }
 }
 
-// Adds what is found at a name along a chain, with its records at hand.
+// Adds what is found at a name along a chain, with its records at hand. The rights may be.
 fn add_near<'a, L: Ledger>(
     alloc: Global,
     by: &Viewer<'_, Tree>,
     near: &Near<'_, Tree>,
     name: &EntryName,
+    along: Option<Along<'_>>,
     sought: &Sought,
     found: &mut Gathered<'a>,
     steps: &mut Steps<L>,
 ) -> Result<(), Memory>
-    requires { near.now.records ≡ by.now.records }
+    requires records { near.now.records ≡ by.now.records }
+    requires rights { AreAlong by.now along }
     ensures count { steps.new ≡ steps.old + 1 }
     ensures found { OnOk result
         (found.new ≡ with_one found.old (found_at sought.now None (spot_in by.now name.now))) }
 {
     let nearer = by.over(near);
-    let spot = Spot::far(&nearer, name);
+    let spot = Spot::along(&nearer, name, along);
     found.add_at(alloc, &spot, None, sought, None, steps)
+}
+
+// The rights that the entries of a dataset share.
+fn rights_in(alloc: Global, by: &Viewer<'_, Tree>, dataset: &[u8]) -> Result<SharedRights, Memory>
+    ensures { IfOk result (λ shared. AreShared by.now.records by.now.realm by.now.user dataset.now shared) }
+{
+    shared_rights(alloc, by.records, by.realm, by.user, dataset)
 }
 
 // Adds what is found at all names along a chain.
@@ -94,11 +107,19 @@ fn add_far<'a, L: Ledger>(
     ensures count { IsCounted result steps.old steps.new (walks.names_count by.now) }
     ensures found { OnOk result (found.new ≡ with_more found.old (walks.hits_along by.now sought.now)) }
 {
+    let below = base_of(&by.chain);
+    let own_rights = rights_in(alloc, by, by.dataset.as_slice())?;
+    let base_rights = rights_in(alloc, by, below)?;
+    let along = Some(Along {
+        own: &own_rights,
+        base: below,
+        inherited: &base_rights,
+    });
     let own = Front::of(by.records, by.dataset.as_slice());
-    let base = Front::of(by.records, base_of(&by.chain));
+    let base = Front::of(by.records, below);
     for name in names_on(by.records, &by.chain) {
         let near = Near::new(by.records, own, base, name.as_slice());
-        add_near(alloc, by, &near, name, sought, found, steps)?;
+        add_near(alloc, by, &near, name, along, sought, found, steps)?;
     }
     Ok(())
 }
@@ -119,7 +140,7 @@ fn add_named<'a, L: Ledger>(
 {
     count_others(by, steps);
     let near = near_by(by, name);
-    add_near(alloc, by, &near, name, sought, found, steps)
+    add_near(alloc, by, &near, name, None, sought, found, steps)
 }
 
 // Adds what is found where the key gives the only name that it can hold for: one entry is looked at.
@@ -172,7 +193,7 @@ pub(crate) fn add_in<'a, L: Ledger>(
     if !is_alone(&by.chain, dataset.as_slice()) {
         return add_far(alloc, &by, sought, found, steps);
     }
-    let shared = shared_rights(alloc, by.records, by.realm, by.user, dataset.as_slice())?;
+    let shared = rights_in(alloc, &by, dataset.as_slice())?;
     let entries = search.tree.entries_of(dataset.as_slice());
     add_own(alloc, &by, entries, &shared, sought, found, steps)
 }

@@ -144,6 +144,7 @@ impl<'a> Ground<'a> {
                 by: &self.by,
                 name: &path.name,
                 kept: Some(Kept { entry, shared }),
+                along: None,
             };
             return found.add_at(alloc, &spot, Some(path), sought, place, steps);
         }
@@ -174,7 +175,12 @@ impl<'a> Ground<'a> {
     }
 
     /// What is told of an entry of it. Fails only for want of memory.
-    pub(crate) fn tell(&self, alloc: Global, path: &Path, sought: &Sought) -> Result<Row, Memory>
+    pub(crate) fn tell<'x>(
+        &'x self,
+        alloc: Global,
+        path: &'x Path,
+        sought: &Sought,
+    ) -> Result<Row, Memory>
         requires { self.now.view.dataset ≡ path.now.dataset }
         ensures { IfOk result
             (λ row. row ≡ (match_at sought.now (spot_in self.now.view path.now.name)).row) }
@@ -187,6 +193,7 @@ impl<'a> Ground<'a> {
                 by: &self.by,
                 name: &path.name,
                 kept: Some(Kept { entry, shared }),
+                along: None,
             };
             return tell_row(alloc, &spot, sought);
         }

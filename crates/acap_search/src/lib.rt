@@ -2,6 +2,7 @@
 //! search over a dataset finds, in which order.
 #![tactic(auto)]
 
+mod along;
 mod context;
 mod context_laws;
 mod cutting;

@@ -1,16 +1,16 @@
 //! What is seen of an attribute.
-ghost use Rattle.std.specs.Prelude.{◌≡◌, is_some};
+ghost use Rattle.std.specs.Prelude.{◌≡◌, is_some, IfSome};
 ghost use Rattle.std.specs.FinMap as map;
 ghost use Rattle.acap_search.specs.Near as near;
 ghost use Rattle.acap_search.specs.Sight as rule;
+ghost use Rattle.acap_search.specs.Sight.{own_acl};
 ghost use Rattle.acap_search.specs.Shown as shown;
 ghost use Rattle.acap_search.specs.Views.{answers_of, is_readable_at, rights_in};
 
 use crate::spot::Spot;
-use crate::viewer::Viewer;
 use acap_entries::{Cell, EntryName, Record, Records, is_same, stamp};
 use acap_inherit::{Found, Lent, lookup};
-use acap_rights::{Object, Rights, rights_of};
+use acap_rights::{Object, Rights, SharedRights, rights_of};
 
 /// What a user sees of an attribute of an entry, as it is lent: nothing is copied (RFC 2244 section 3.5).
 #[derive(Clone, Copy)]
@@ -39,38 +39,65 @@ impl<'a> Shown<'a> {
     }
 }
 
-// The user's rights on an attribute of an entry, in some dataset.
-fn rights_on<R: Records>(
-    by: &Viewer<'_, R>,
-    dataset: &[u8],
-    attribute: &[u8],
-    name: &[u8],
-) -> Rights
-    ensures { result ≡ rights_in by.now dataset.now attribute.now name.now }
+// The rights that the entries of a dataset share, where they are at hand.
+fn shared_in<'a, R: Records>(spot: &Spot<'a, R>, dataset: &[u8]) -> Option<&'a SharedRights>
+    ensures { IfSome result (λ shared. near.SharesIn spot.now dataset.now shared.now) }
 {
+    let along = spot.along?;
+    let by = spot.by;
+    if is_same(dataset, by.dataset.as_slice()) {
+        return Some(along.own);
+    }
+    if is_same(dataset, along.base) {
+        return Some(along.inherited);
+    }
+    None
+}
+
+// Whether the entry's record in a dataset has a list for the attribute.
+fn has_list_in<R: Records>(spot: &Spot<'_, R>, dataset: &[u8], attribute: &[u8]) -> bool
+    ensures { result ≡ is_some (own_acl spot.now.by.records dataset.now spot.now.name attribute.now) }
+{
+    let by = spot.by;
+    match by.records.find(dataset, spot.name.as_slice()) {
+        Some(entry) => has_list(entry, attribute),
+        None => false,
+    }
+}
+
+// The user's rights on an attribute of the entry, in some dataset.
+fn rights_on<R: Records>(spot: &Spot<'_, R>, dataset: &[u8], attribute: &[u8]) -> Rights
+    ensures { result ≡ rights_in spot.now.by dataset.now attribute.now spot.now.name }
+{
+    if let Some(shared) = shared_in(spot, dataset)
+        && !has_list_in(spot, dataset, attribute)
+    {
+        return shared.on(attribute);
+    }
+    let by = spot.by;
     let object = Object::Entry {
         dataset,
         attribute,
-        name,
+        name: spot.name.as_slice(),
     };
     rights_of(by.records, by.realm, by.user, &object)
 }
 
 // The same where a value lies, asked again only where that is another dataset than the searched one.
 fn rights_there<R: Records>(
-    by: &Viewer<'_, R>,
+    spot: &Spot<'_, R>,
     here: Rights,
     dataset: &[u8],
     attribute: &[u8],
-    name: &[u8],
 ) -> Rights
-    requires { here ≡ rights_in by.now by.now.dataset attribute.now name.now }
-    ensures { result ≡ rights_in by.now dataset.now attribute.now name.now }
+    requires { here ≡ rights_in spot.now.by spot.now.by.dataset attribute.now spot.now.name }
+    ensures { result ≡ rights_in spot.now.by dataset.now attribute.now spot.now.name }
 {
+    let by = spot.by;
     if is_same(dataset, by.dataset.as_slice()) {
         here
     } else {
-        rights_on(by, dataset, attribute, name)
+        rights_on(spot, dataset, attribute)
     }
 }
 
@@ -103,10 +130,10 @@ fn look_far<'a, R: Records>(spot: &Spot<'a, R>, attribute: &[u8]) -> Shown<'a>
 {
     let by = spot.by;
     let name = spot.name.as_slice();
-    let rights = rights_on(by, by.dataset.as_slice(), attribute, name);
+    let rights = rights_on(spot, by.dataset.as_slice(), attribute);
     match lookup(by.records, &by.chain, name, attribute) {
         Found::At { dataset, value } => {
-            let there = rights_there(by, rights, dataset, attribute, name);
+            let there = rights_there(spot, rights, dataset, attribute);
             Shown {
                 value: Some(value),
                 is_testable: may_test(rights) && may_test(there),

@@ -1,12 +1,13 @@
 //! An entry that is looked at.
 
+use crate::along::Along;
 use crate::kept::Kept;
 use crate::viewer::Viewer;
 use acap_entries::{EntryName, Records};
 use std::marker::Model;
 
-/// An entry that is looked at by its name. Where its dataset inherits nothing, its record and the rights that it shares may be
-/// at hand: the store is then asked for neither.
+/// An entry that is looked at by its name. Where its dataset inherits nothing, its record and the rights that it shares
+/// may be at hand: the store is then asked for neither. Where it inherits, the rights along its chain may be.
 #[derive(Drop)]
 pub(crate) struct Spot<'a, R: Records> {
     /// Who looks, and from where.
@@ -15,10 +16,12 @@ pub(crate) struct Spot<'a, R: Records> {
     pub(crate) name: &'a EntryName,
     /// What is at hand of it.
     pub(crate) kept: Option<Kept<'a>>,
+    /// The rights that are at hand along its dataset's chain.
+    pub(crate) along: Option<Along<'a>>,
 }
 
 impl<'a, R: Records> Model for Spot<'a, R> {
-    ghost use Rattle.acap_search.specs.Near.{IsNear};
+    ghost use Rattle.acap_search.specs.Near.{IsAtHandOf};
     ghost use Rattle.acap_search.specs.Views.{Spotted, spot_in, spotted_code};
 
     ghost Value = { Spotted };
@@ -27,21 +30,35 @@ impl<'a, R: Records> Model for Spot<'a, R> {
 
     ghost view = { λ s. spot_in s.by.now s.name.now };
 
-    ghost invariant = { λ s. IsNear (spot_in s.by.now s.name.now) s.kept };
+    ghost invariant = { λ s. IsAtHandOf (spot_in s.by.now s.name.now) s.kept s.along };
 }
 
 impl<'a, R: Records> Spot<'a, R> {
     ghost use Rattle.std.specs.Prelude.{◌≡◌};
+    ghost use Rattle.acap_search.specs.Near.{AreAlong};
     ghost use Rattle.acap_search.specs.Views.{spot_in};
 
     /// An entry of which nothing is at hand.
     pub(crate) fn far(by: &'a Viewer<'a, R>, name: &'a EntryName) -> Spot<'a, R>
         ensures { result ≡ spot_in by.now name.now }
     {
+        Spot::along(by, name, None)
+    }
+
+    /// An entry of which no record is at hand. The rights along its dataset's chain may be.
+    pub(crate) fn along(
+        by: &'a Viewer<'a, R>,
+        name: &'a EntryName,
+        along: Option<Along<'a>>,
+    ) -> Spot<'a, R>
+        requires { AreAlong by.now along }
+        ensures { result ≡ spot_in by.now name.now }
+    {
         Spot {
             by,
             name,
             kept: None,
+            along,
         }
     }
 }

@@ -51,11 +51,11 @@ impl<'a, R: Records> Surveyor<'a, R> {
 
     /// What a search makes of an entry, whose record may be at hand: one step, as `row_of`. Fails only for want of
     /// memory.
-    pub fn row<L: Ledger>(
-        &self,
+    pub fn row<'x, L: Ledger>(
+        &'x self,
         alloc: Global,
-        path: &Path,
-        entry: Option<&Record>,
+        path: &'x Path,
+        entry: Option<&'x Record>,
         sought: &Sought,
         steps: &mut Steps<L>,
     ) -> Result<Option<Hit>, Memory>
@@ -72,24 +72,23 @@ impl<'a, R: Records> Surveyor<'a, R> {
             && let Some(entry) = entry
         {
             let kept = Some(Kept { entry, shared });
-            return hit_at(
-                alloc,
-                &Spot { by, name, kept },
-                Some(path),
-                sought,
-                None,
-                steps,
-            );
+            let spot = Spot {
+                by,
+                name,
+                kept,
+                along: None,
+            };
+            return hit_at(alloc, &spot, Some(path), sought, None, steps);
         }
         row_of(alloc, by, name, sought, None, steps)
     }
 
     /// Where an entry stands for SORT, whose record may be at hand, as `places_at`. Fails only for want of memory.
-    pub fn places(
-        &self,
+    pub fn places<'x>(
+        &'x self,
         alloc: Global,
-        path: &Path,
-        entry: Option<&Record>,
+        path: &'x Path,
+        entry: Option<&'x Record>,
         sought: &Sought,
     ) -> Result<SortPlaces, Memory>
         requires here { self.now.dataset ≡ path.now.dataset }
@@ -103,7 +102,13 @@ impl<'a, R: Records> Surveyor<'a, R> {
             && let Some(entry) = entry
         {
             let kept = Some(Kept { entry, shared });
-            return places_by(alloc, &Spot { by, name, kept }, sought);
+            let spot = Spot {
+                by,
+                name,
+                kept,
+                along: None,
+            };
+            return places_by(alloc, &spot, sought);
         }
         places_at(alloc, by, name, sought)
     }

@@ -7,7 +7,7 @@ use Rattle.acap_search.proofs.looking.sees.Goals as goal
 
 pub returns : goal.returns
 returns g c =
-    let near = c.spot.invariant c.in-Some.kept c.in-Some.is in
+    let near = c.spot.invariant.near c.in-Some.kept c.in-Some.is in
     let seen = sym (near_seen _ _ _ near.0 near.1 (none_of _ _ c.has_list.ensures c.if-not-has_list.true)) ∙ ap (λ spot. is_seen (answers_of spot)) c.spot.view_is in
     elim c.if-kept.branch [
       | then-kept w ↦ met _ _ _ w.if-kept.true (w.result-is ∙ ap (λ rights. rights.r) w.on.ensures) ∙ seen
