@@ -5,6 +5,7 @@ pub mod Datasets
 pub mod Deletions
 pub mod FullPaths
 pub mod Homes
+pub mod Items
 pub mod Laws
 pub mod Leaves
 pub mod Leaving

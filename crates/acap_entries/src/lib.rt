@@ -17,6 +17,7 @@ mod existence;
 mod fate;
 mod homes;
 mod item;
+mod items;
 mod keys;
 mod laws;
 mod leaf;
@@ -64,6 +65,7 @@ pub use deletion::Deletion;
 pub use existence::makes_dataset;
 pub use fate::Fate;
 pub use item::Item;
+pub use items::{Items, LentItems};
 pub use keys::{AttributeText, JoinedText, PathText, Probe, Whole};
 pub use laws::{
     after_law, change_law, dataset_examples, deletion_law, existence_law, form_law, full_path_law,
@@ -71,7 +73,7 @@ pub use laws::{
     rank_law, removal_law, stamp_examples, stamp_law, time_examples, time_law, two_changes_law,
 };
 pub use listing::Listing;
-pub use lists::{CellList, CellLists, Items, Paths};
+pub use lists::{CellList, CellLists, Paths};
 pub use memory::Memory;
 pub use moment::Moment;
 pub use name_fault::NameFault;

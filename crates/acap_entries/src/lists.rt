@@ -1,12 +1,8 @@
 //! The lists of which values and rows are made.
 
 use crate::cell::Cell;
-use crate::item::Item;
 use crate::path::Path;
 use crate::sequence::Sequence;
-
-/// The items that are printed of an entry, in their order (RFC 2244 section 6.4.1).
-pub type Items = Sequence<Item>;
 
 /// The data that are printed in one parenthesis (RFC 2244 section 6.4.1).
 pub type CellList = Sequence<Cell>;

@@ -2,7 +2,7 @@
 ghost use Rattle.std.specs.Prelude.{◌≡◌, ◌↔◌, IsTrue};
 
 use crate::copying::Copying;
-use crate::lists::Items;
+use crate::items::Items;
 use crate::memory::Memory;
 use crate::text::Label;
 

@@ -1,10 +1,12 @@
 //! The data of a row, as octets (RFC 2244 section 6.4.1).
 
+ghost use Rattle.std.specs.Prelude.{◌∷◌};
+ghost use Rattle.acap_lexer.specs.Printing.{printed_form};
 ghost use Rattle.acap_grammar.specs.Appending.{Appends};
 ghost use Rattle.acap_grammar.specs.Replies.{behind_spaces, list_form, cell_form, item_form};
 
 use crate::strings::{append_string, append_values};
-use acap_entries::{Cell, CellList, Item, Memory};
+use acap_entries::{Cell, CellList, Item, Items, LentItems, Memory, Value};
 
 #[tactic(auto, unfolding(crate::specs::Replies::cell_form))]
 fn append_cell(cell: &Cell, out: &mut Vec<u8>) -> Result<(), Memory>
@@ -77,8 +79,17 @@ fn append_item(item: &Item, out: &mut Vec<u8>) -> Result<(), Memory>
     }
 }
 
-/// Each item behind a space.
-pub(crate) fn append_items(items: &[Item], out: &mut Vec<u8>) -> Result<(), Memory>
+// One string after a space.
+fn append_text(text: &Value, out: &mut Vec<u8>) -> Result<(), Memory>
+    ensures { Appends result out.old.items out.new.items (32 ∷ printed_form text.now) }
+{
+    out.push(b' ')?;
+    append_string(text.as_slice(), out)?;
+    Ok(())
+}
+
+// Each item of a list after a space.
+fn append_listed(items: &[Item], out: &mut Vec<u8>) -> Result<(), Memory>
     ensures { Appends result out.old.items out.new.items (behind_spaces item_form items.now) }
 {
     for item in items {
@@ -86,4 +97,15 @@ pub(crate) fn append_items(items: &[Item], out: &mut Vec<u8>) -> Result<(), Memo
         append_item(item, out)?;
     }
     Ok(())
+}
+
+/// Each item after a space.
+#[tactic(auto, unfolding(crate::specs::Replies::item_form, crate::specs::Replies::cell_form))]
+pub(crate) fn append_items(items: &Items, out: &mut Vec<u8>) -> Result<(), Memory>
+    ensures { Appends result out.old.items out.new.items (behind_spaces item_form items.now) }
+{
+    match items.lend() {
+        LentItems::Text(text) => append_text(text, out),
+        LentItems::List(list) => append_listed(list, out),
+    }
 }

@@ -44,7 +44,7 @@ fn append_added(
 {
     append_about(b"* ADDTO ", context.as_slice(), row.name.as_slice(), out)?;
     append_position(position, out)?;
-    append_items(row.items.as_slice(), out)?;
+    append_items(&row.items, out)?;
     out.extend_from_slice(b"\r\n")?;
     Ok(())
 }
@@ -77,7 +77,7 @@ fn append_changed(
     append_about(b"* CHANGE ", context.as_slice(), row.name.as_slice(), out)?;
     append_position(old, out)?;
     append_position(new, out)?;
-    append_items(row.items.as_slice(), out)?;
+    append_items(&row.items, out)?;
     out.extend_from_slice(b"\r\n")?;
     Ok(())
 }

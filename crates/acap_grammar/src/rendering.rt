@@ -23,7 +23,7 @@ fn append_row(tag: &[u8], row: &Row, out: &mut Vec<u8>) -> Result<(), Memory>
     out.extend_from_slice(tag)?;
     out.extend_from_slice(b" ENTRY ")?;
     append_string(row.name.as_slice(), out)?;
-    append_items(row.items.as_slice(), out)?;
+    append_items(&row.items, out)?;
     out.extend_from_slice(b"\r\n")?;
     Ok(())
 }

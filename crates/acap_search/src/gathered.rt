@@ -152,6 +152,7 @@ fn first_of(rows: Sequence<Row>, most: usize) -> Sequence<Row>
 {
     let mut rows = rows.into_vec();
     rows.truncate(most);
+    rows.shrink_to_fit();
     Sequence::from_vec(rows)
 }
 

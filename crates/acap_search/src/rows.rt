@@ -252,6 +252,33 @@ fn item_of<R: Records>(
     }
 }
 
+// What the only item of RETURN tells.
+fn one_item<R: Records>(
+    alloc: Global,
+    spot: &Spot<'_, R>,
+    asked: &ReturnItem,
+) -> Result<Items, Memory>
+    ensures { IfOk result (λ items. items ≡ item_at spot.now asked.now ∷ []) }
+{
+    let item = item_of(alloc, spot, asked)?;
+    Items::one(alloc, item)
+}
+
+// What each item of RETURN tells.
+fn all_items<R: Records>(
+    alloc: Global,
+    spot: &Spot<'_, R>,
+    returns: &[ReturnItem],
+) -> Result<Vec<Item>, Memory>
+    ensures { IfOk result (λ items. items.items ≡ items_at spot.now returns.now) }
+{
+    let mut items = Vec::with_capacity(alloc, returns.len())?;
+    for asked in returns {
+        items.push(item_of(alloc, spot, asked)?)?;
+    }
+    Ok(items)
+}
+
 /// What a RETURN tells of an entry that is looked at.
 pub(crate) fn items_of<R: Records>(
     alloc: Global,
@@ -260,9 +287,11 @@ pub(crate) fn items_of<R: Records>(
 ) -> Result<Items, Memory>
     ensures { IfOk result (λ items. items ≡ items_at spot.now returns.now) }
 {
-    let mut items = Vec::with_capacity(alloc, returns.len())?;
-    for asked in returns {
-        items.push(item_of(alloc, spot, asked)?)?;
+    match returns {
+        [asked] => one_item(alloc, spot, asked),
+        _ => {
+            let items = all_items(alloc, spot, returns)?;
+            Ok(Items::from_list(Sequence::from_vec(items)))
+        }
     }
-    Ok(Items::from_vec(items))
 }

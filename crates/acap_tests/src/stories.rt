@@ -182,8 +182,8 @@ fn story(alloc: Global, tale: &Tale) -> Result<Story, Trouble> {
 fn rows_of(alloc: Global, told: Pairs) -> Result<Sequence<Row>, Memory> {
     let mut rows = Sequence::new(alloc);
     for (name, value) in told {
-        let mut items = Items::new(alloc);
-        items.push(Item::One(Cell::Single(Value::from_slice(alloc, *value)?)))?;
+        let text = Value::from_slice(alloc, *value)?;
+        let items = Items::one(alloc, Item::One(Cell::Single(text)))?;
         let name = Label::from_slice(alloc, *name)?;
         rows.push(Row { name, items })?;
     }
