@@ -7,7 +7,7 @@ ghost use Rattle.acap_client.specs.Writing.{Writes};
 
 use crate::writing::{Writing, close, open, string};
 use acap_commands::ObjectName;
-use acap_entries::{Dataset, Label, Memory};
+use acap_entries::{Boxed, Dataset, Label, Memory};
 
 /// A dataset, without its closing slash unless that is all of it.
 pub(crate) fn dataset_text(dataset: &Dataset) -> &[u8]
@@ -28,12 +28,15 @@ pub(crate) fn dataset(writing: &mut Writing, dataset: &Dataset) -> Result<(), Me
 }
 
 /// A string that may be left out.
-pub(crate) fn string_if_there(writing: &mut Writing, text: &Option<Label>) -> Result<(), Memory>
+pub(crate) fn string_if_there(
+    writing: &mut Writing,
+    text: &Option<Boxed<Label>>,
+) -> Result<(), Memory>
     ensures { OnOk result (Writes (spelling.if_there spelling.string text.now) writing.old writing.new) }
 {
     match text {
         None => Ok(()),
-        Some(text) => string(writing, text.as_slice()),
+        Some(text) => string(writing, text.get().as_slice()),
     }
 }
 
@@ -48,7 +51,7 @@ fn object_parts(writing: &mut Writing, object: &ObjectName) -> Result<(), Memory
             attribute,
         } => {
             dataset(writing, name)?;
-            string(writing, attribute.as_slice())
+            string(writing, attribute.get().as_slice())
         }
         ObjectName::Entry {
             dataset: of,
@@ -56,8 +59,8 @@ fn object_parts(writing: &mut Writing, object: &ObjectName) -> Result<(), Memory
             name,
         } => {
             dataset(writing, of)?;
-            string(writing, attribute.as_slice())?;
-            string(writing, name.as_slice())
+            string(writing, attribute.get().as_slice())?;
+            string(writing, name.get().as_slice())
         }
     }
 }

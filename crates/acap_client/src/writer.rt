@@ -39,7 +39,9 @@ fn arguments(writing: &mut Writing, command: &Command) -> Result<(), Memory>
         Command::Authenticate(mechanism) => string(writing, mechanism.as_slice()),
         Command::Store(all) => entries(writing, all.as_slice()),
         Command::Search(wanted) => search(writing, wanted.get()),
-        Command::SetAcl(of, name, rights) => set_acl(writing, of.get(), name, rights),
+        Command::SetAcl(of, name, rights) => {
+            set_acl(writing, of.get(), name.get(), rights.get())
+        }
         Command::DeleteAcl(of, name) => {
             object(writing, of.get())?;
             string_if_there(writing, name)

@@ -19,10 +19,10 @@ pub enum Command {
     Store(Entries),
     /// SEARCH: entries are to be found (section 6.4.1). It stands in a box, so that the other commands are short.
     Search(Boxed<Search>),
-    /// SETACL: the identifier is to have these rights on the object, both as sent (section 6.7). Objects stand in boxes too.
-    SetAcl(Boxed<ObjectName>, Label, Label),
+    /// SETACL: the identifier is to have these rights on the object, both as sent (section 6.7). They stand in boxes too.
+    SetAcl(Boxed<ObjectName>, Boxed<Label>, Boxed<Label>),
     /// DELETEACL: the identifier is to be taken off the object's list, or the whole list to be removed (section 6.7).
-    DeleteAcl(Boxed<ObjectName>, Option<Label>),
+    DeleteAcl(Boxed<ObjectName>, Option<Boxed<Label>>),
     /// MYRIGHTS: the rights are to be told that the user has on the object (section 6.7).
     MyRights(Boxed<ObjectName>),
     /// LISTRIGHTS: the rights are to be told that the identifier may have on the object (section 6.7).

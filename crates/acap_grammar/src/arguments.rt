@@ -240,14 +240,10 @@ fn entry_part(
     ensures { Reads result cursor.new (argument.entry_part dataset attribute cursor.old) }
 {
     if cursor.closes() {
-        return Ok(ObjectName::Attribute { dataset, attribute });
+        return Ok(ObjectName::attribute(cursor.alloc(), dataset, attribute)?);
     }
     let name = entry_name_at(&dataset, cursor)?;
-    Ok(ObjectName::Entry {
-        dataset,
-        attribute,
-        name,
-    })
+    Ok(ObjectName::entry(cursor.alloc(), dataset, attribute, name)?)
 }
 
 // An object behind its dataset: an attribute, and the name of an entry behind it, where they are there.

@@ -26,7 +26,7 @@ fn append_object(object: &ObjectName, out: &mut Vec<u8>) -> Result<(), Memory>
         ObjectName::Dataset { dataset } => append_string(dataset.as_slice(), out)?,
         ObjectName::Attribute { dataset, attribute } => {
             append_string(dataset.as_slice(), out)?;
-            append_argument(attribute.as_slice(), out)?;
+            append_argument(attribute.get().as_slice(), out)?;
         }
         ObjectName::Entry {
             dataset,
@@ -34,8 +34,8 @@ fn append_object(object: &ObjectName, out: &mut Vec<u8>) -> Result<(), Memory>
             name,
         } => {
             append_string(dataset.as_slice(), out)?;
-            append_argument(attribute.as_slice(), out)?;
-            append_argument(name.as_slice(), out)?;
+            append_argument(attribute.get().as_slice(), out)?;
+            append_argument(name.get().as_slice(), out)?;
         }
     }
     out.push(b')')?;

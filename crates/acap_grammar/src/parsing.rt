@@ -4,6 +4,7 @@ ghost use Rattle.std.specs.Prelude.{◌≡◌, ◌↔◌, Ok, true};
 ghost use Rattle.acap_commands.specs.declared.command.Command.TheVariants as commands;
 ghost use Rattle.acap_grammar.specs.Outcome.{Gives, Reads};
 ghost use Rattle.acap_grammar.specs.Arguments.{object_at as object_in};
+ghost use Rattle.acap_grammar.specs.Marks.{string_at as string_in};
 ghost use Rattle.acap_grammar.specs.Grammar as grammar;
 
 use crate::arguments::{name_at, object_at};
@@ -26,25 +27,33 @@ fn boxed_object_at(cursor: &mut Cursor<'_>) -> Result<Boxed<ObjectName>, Grammar
     Ok(Boxed::new(cursor.alloc(), object)?)
 }
 
+// A string, in a box.
+fn boxed_label(cursor: &mut Cursor<'_>) -> Result<Boxed<Label>, GrammarFault>
+    ensures { Reads result cursor.new (string_in cursor.old) }
+{
+    let text = cursor.label()?;
+    Ok(Boxed::new(cursor.alloc(), text)?)
+}
+
 // Behind SETACL: object identifier rights.
 #[tactic(auto, unfolding(crate::specs::Grammar::set_acl_at))]
 fn set_acl_at(cursor: &mut Cursor<'_>) -> Result<Command, GrammarFault>
     ensures { Reads result cursor.new (grammar.set_acl_at cursor.old) }
 {
     let object = boxed_object_at(cursor)?;
-    let identifier = cursor.label()?;
-    let rights = cursor.label()?;
+    let identifier = boxed_label(cursor)?;
+    let rights = boxed_label(cursor)?;
     Ok(Command::SetAcl(object, identifier, rights))
 }
 
 // Behind DELETEACL and its object: [identifier].
-fn identifier_part(cursor: &mut Cursor<'_>) -> Result<Option<Label>, GrammarFault>
+fn identifier_part(cursor: &mut Cursor<'_>) -> Result<Option<Boxed<Label>>, GrammarFault>
     ensures { Reads result cursor.new (grammar.identifier_part cursor.old) }
 {
     if cursor.ends() {
         return Ok(None);
     }
-    Ok(Some(cursor.label()?))
+    Ok(Some(boxed_label(cursor)?))
 }
 
 // Behind DELETEACL: object [identifier].

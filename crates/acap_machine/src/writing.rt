@@ -49,7 +49,7 @@ fn form_object(object: &ObjectName)
         }
         ObjectName::Entry { dataset, name, .. } => {
             let _octets = dataset.as_slice();
-            name.form_law();
+            name.get().form_law();
         }
     }
 }

@@ -20,6 +20,13 @@ pub fn my_rights(alloc: Global, object: ObjectName) -> Result<Command, Memory>
     Ok(Command::MyRights(Boxed::new(alloc, object)?))
 }
 
+/// A string of a command, in a box.
+fn boxed_label(alloc: Global, text: &[u8]) -> Result<Boxed<Label>, Memory>
+    ensures { IfOk result (λ made. made ≡ text.now) }
+{
+    Boxed::new(alloc, Label::from_slice(alloc, text)?)
+}
+
 /// The SETACL that gives an identifier these rights on an object. Fails only for want of memory.
 pub fn grant(
     alloc: Global,
@@ -30,8 +37,8 @@ pub fn grant(
     ensures { IfOk result (λ made. made ≡ command.SetAcl object identifier.now rights.now) }
 {
     let object = Boxed::new(alloc, object)?;
-    let identifier = Label::from_slice(alloc, identifier)?;
-    let rights = Label::from_slice(alloc, rights)?;
+    let identifier = boxed_label(alloc, identifier)?;
+    let rights = boxed_label(alloc, rights)?;
     Ok(Command::SetAcl(object, identifier, rights))
 }
 
@@ -40,7 +47,7 @@ pub fn revoke(alloc: Global, object: ObjectName, identifier: &[u8]) -> Result<Co
     ensures { IfOk result (λ made. made ≡ objects.revoke object identifier.now) }
 {
     let object = Boxed::new(alloc, object)?;
-    let identifier = Label::from_slice(alloc, identifier)?;
+    let identifier = boxed_label(alloc, identifier)?;
     Ok(Command::DeleteAcl(object, Some(identifier)))
 }
 
@@ -101,13 +108,13 @@ pub fn access_list(alloc: Global, object: ObjectName) -> Result<Command, Memory>
             managed(alloc, dataset, attribute)
         }
         ObjectName::Attribute { dataset, attribute } => {
-            let attribute = list_name(alloc, &attribute)?;
+            let attribute = list_name(alloc, attribute.get())?;
             managed(alloc, dataset, attribute)
         }
         ObjectName::Entry {
             dataset,
             attribute,
             name,
-        } => kept(alloc, dataset, attribute, name),
+        } => kept(alloc, dataset, attribute.into_value(), name.into_value()),
     }
 }

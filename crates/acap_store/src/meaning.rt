@@ -73,7 +73,7 @@ fn list_store(alloc: Global, object: ObjectName, given: Given) -> Result<Entries
             management_store(alloc, dataset, attribute, given)
         }
         ObjectName::Attribute { dataset, attribute } => {
-            let attribute = list_attribute(alloc, attribute.as_slice())?;
+            let attribute = list_attribute(alloc, attribute.get().as_slice())?;
             management_store(alloc, dataset, attribute, given)
         }
         ObjectName::Entry {
@@ -81,8 +81,9 @@ fn list_store(alloc: Global, object: ObjectName, given: Given) -> Result<Entries
             attribute,
             name,
         } => {
+            let name = name.into_value();
             let item = StoreItem {
-                attribute,
+                attribute: attribute.into_value(),
                 metadata: StoreMetadata::Acl,
                 given,
             };
@@ -165,14 +166,14 @@ pub(crate) fn meaning(
                 alloc,
                 tree,
                 object,
-                identifier.as_slice(),
-                letters.as_slice(),
+                identifier.get().as_slice(),
+                letters.get().as_slice(),
             )
         }
         Write::DeleteAcl(object, listed) => {
             let object = object_for(user, object.into_value())?;
             match listed {
-                Some(identifier) => take_off(alloc, tree, object, identifier.as_slice()),
+                Some(identifier) => take_off(alloc, tree, object, identifier.get().as_slice()),
                 None => drop_list(alloc, object),
             }
         }

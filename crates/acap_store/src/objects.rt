@@ -17,7 +17,7 @@ pub fn lent_object(object: &ObjectName) -> Object<'_>
         },
         ObjectName::Attribute { dataset, attribute } => Object::Attribute {
             dataset: dataset.as_slice(),
-            attribute: attribute.as_slice(),
+            attribute: attribute.get().as_slice(),
         },
         ObjectName::Entry {
             dataset,
@@ -25,8 +25,8 @@ pub fn lent_object(object: &ObjectName) -> Object<'_>
             name,
         } => Object::Entry {
             dataset: dataset.as_slice(),
-            attribute: attribute.as_slice(),
-            name: name.as_slice(),
+            attribute: attribute.get().as_slice(),
+            name: name.get().as_slice(),
         },
     }
 }

@@ -181,16 +181,12 @@ fn name_object(alloc: Global, path: &Path, object: &Object<'_>) -> Result<Object
         Object::Dataset { .. } => Ok(ObjectName::Dataset { dataset }),
         Object::Attribute { attribute, .. } => {
             let attribute = Attribute::from_slice(alloc, attribute)?;
-            Ok(ObjectName::Attribute { dataset, attribute })
+            ObjectName::attribute(alloc, dataset, attribute)
         }
         Object::Entry { attribute, .. } => {
             let attribute = Attribute::from_slice(alloc, attribute)?;
             let name = path.name.copy()?;
-            Ok(ObjectName::Entry {
-                dataset,
-                attribute,
-                name,
-            })
+            ObjectName::entry(alloc, dataset, attribute, name)
         }
     }
 }

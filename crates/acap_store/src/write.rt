@@ -9,7 +9,7 @@ pub enum Write {
     /// STORE: the entries are stored, all or none.
     Store(Entries),
     /// SETACL: the identifier gets these rights on the object.
-    SetAcl(Boxed<ObjectName>, Label, Label),
+    SetAcl(Boxed<ObjectName>, Boxed<Label>, Boxed<Label>),
     /// DELETEACL: the identifier is taken off the object's list, or the whole list is removed.
-    DeleteAcl(Boxed<ObjectName>, Option<Label>),
+    DeleteAcl(Boxed<ObjectName>, Option<Boxed<Label>>),
 }

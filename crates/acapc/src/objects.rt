@@ -26,7 +26,7 @@ fn attribute_object(alloc: Global, dataset: &str, attribute: &str) -> Result<Obj
         dataset_of(alloc, dataset.as_bytes()),
         attribute_of(alloc, attribute.as_bytes()),
     )?;
-    Ok(ObjectName::Attribute { dataset, attribute })
+    Ok(ObjectName::attribute(alloc, dataset, attribute)?)
 }
 
 /// An attribute of one entry.
@@ -43,11 +43,7 @@ fn entry_object(
             entry_of(alloc, name.as_bytes()),
         ),
     )?;
-    Ok(ObjectName::Entry {
-        dataset,
-        attribute,
-        name,
-    })
+    Ok(ObjectName::entry(alloc, dataset, attribute, name)?)
 }
 
 /// The object that all words of a call name.
