@@ -564,8 +564,9 @@ def told(what, times):
 
 
 def tell_memory(program, before, what, call, count):
-    """What the history and the pass hold of one of so many equal calls that come after others."""
-    used = program.used(before + [call] * count) - program.used(before)
+    """What the history and the pass hold of one of so many equal calls that come after others. The program holds the lines that it
+    is given: those of the other run are as long, and are passed over, since they have no space."""
+    used = program.used(before + [call] * count) - program.used(before + ["-" * len(call)] * count)
     print(f"memory of one of {count:,} {what}: {used / count:.0f} octets", flush=True)
 
 
