@@ -142,7 +142,8 @@ def main(name, *begins):
             if os.path.isdir(f"{TOP}/crates/{crate}/out"):
                 shutil.copytree(f"{TOP}/crates/{crate}/out", f"{clone}/repo/crates/{crate}/out", symlinks=True)
         folder = f"{clone}/repo/bench/edits/{name}"
-        edits = [it for it in sorted(os.listdir(folder)) if not begins or it.startswith(begins)]
+        names = [it for it in sorted(os.listdir(folder)) if it.endswith(".edit")]
+        edits = [it for it in names if not begins or it.startswith(begins)]
         refused = 0
         for edit in edits:
             is_refused, said = tried(f"{clone}/repo/crates/{name}", f"{folder}/{edit}")
