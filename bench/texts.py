@@ -7,8 +7,10 @@ It proves and runs nothing, and takes a second or two. It prints a line for each
 
 - the `old:` text of each edit, which must stand in its file exactly once, after the pairs before it are put in place; so must what
   `bench/threads.py` and `bench/locked.py` replace;
-- each name in backticks of README.md and docs/: a file must be there, and each word of a name of code that has `_` or `::` in it (a function, a
-  clause, a law) must be a word of the sources or of a script;
+- each name in backticks of README.md, CONTRIBUTING.md, CHANGELOG.md, docs/ and the pages beside the edits: a file must be there, and each word
+  of a name of code that has `_` or `::` in it (a function, a clause, a law) must be a word of the sources or of a script;
+- each file of definitions, which docs/DEFINITIONS.md must name in the section of its crate, and each that it names there;
+- each file of code, which docs/ARCHITECTURE.md must name in the section of its crate, and each function that it names beside a file;
 - each crate that makes a counter, or the parts of a ledger, and isn't one of the few that may: a body that counted in a counter of its own
   would meet the bounds on work, which speak of the counter that is lent.
 """
@@ -95,13 +97,62 @@ def is_named(token):
     return True
 
 
+def pages():
+    """The documents."""
+    return [*sorted(TOP.glob("*.md")), *sorted((TOP / "docs").glob("*.md")), *sorted((TOP / "bench/edits").glob("*/*.md"))]
+
+
 def stale_names():
     """A line for each name in backticks of a document that is nowhere."""
-    for page in [TOP / "README.md", *sorted((TOP / "docs").glob("*.md"))]:
+    for page in pages():
         for number, line in enumerate(page.read_text().split("\n"), 1):
             for token in re.findall(r"`([^`]+)`", line):
                 if not is_named(token):
                     yield f"{page.relative_to(TOP)}:{number}: names what isn't there: {token}"
+
+
+def sections(page, mark):
+    """The sections of a page by the crates that head them."""
+    parts = re.split(rf"^{mark} (acap\w+)$", page.read_text(), flags=re.MULTILINE)
+    return dict(zip(parts[1::2], parts[2::2]))
+
+
+def unnamed_files(page, mark, kind, but):
+    """A line for each file of a kind that the page doesn't name in the section of its crate."""
+    named = sections(page, mark)
+    for crate in sorted((TOP / "crates").iterdir()):
+        stems = {it.stem for it in crate.glob(f"{kind}/*")} - but
+        words = set(re.findall(r"`(\w+)(?:\.antt)?`", named.get(crate.name, "")))
+        for stem in sorted(stems - words):
+            yield f"{page.relative_to(TOP)}: doesn't name {crate.name}/{kind}/{stem}"
+
+
+def misplaced_files():
+    """A line for each file of definitions that is named in the section of a crate that doesn't have it."""
+    page = TOP / "docs/DEFINITIONS.md"
+    for crate, text in sections(page, "##").items():
+        for stem in sorted(set(re.findall(r"`(\w+)\.antt`", text))):
+            if not (TOP / f"crates/{crate}/specs/{stem}.antt").is_file():
+                yield f"{page.relative_to(TOP)}: {crate} has no {stem}.antt"
+
+
+def misplaced_functions():
+    """A line for each function or constant that docs/ARCHITECTURE.md names beside a file that doesn't have it."""
+    page = TOP / "docs/ARCHITECTURE.md"
+    for file, listed in re.findall(r"`(\w+/src/\w+\.rt)`(?:: ((?:`\w+`(?:, )?)+))?", page.read_text()):
+        path = TOP / "crates" / file
+        text = path.read_text() if path.is_file() else ""
+        for name in re.findall(r"`(\w+)`", listed):
+            if not re.search(rf"\b(fn|const|static) {name}\b", text):
+                yield f"{page.relative_to(TOP)}: {file} has no {name}"
+
+
+def stale_tables():
+    """A line for each file or function that a table of files lacks, or has where it isn't."""
+    yield from unnamed_files(TOP / "docs/DEFINITIONS.md", "##", "specs", {"Lib"})
+    yield from misplaced_files()
+    yield from unnamed_files(TOP / "docs/ARCHITECTURE.md", "###", "src", {"lib", "laws"})
+    yield from misplaced_functions()
 
 
 def script(name):
@@ -151,7 +202,7 @@ def counting_crates():
 
 
 def main():
-    stale = [*stale_edits(), *stale_patches(), *stale_names(), *counting_crates()]
+    stale = [*stale_edits(), *stale_patches(), *stale_names(), *stale_tables(), *counting_crates()]
     print("\n".join(stale) or "every text stands")
     sys.exit(bool(stale))
 
