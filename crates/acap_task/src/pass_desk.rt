@@ -1,6 +1,6 @@
 //! A desk that calls a book behind its lock.
-ghost use Rattle.std.specs.Prelude.{◌≡◌, ◌<◌, ◌++◌, ◌∷◌, [], IfOk, OnErr, vec_len, vec_capacity};
-ghost use Rattle.acap_task.specs.Desks.{EndsAlike, HasCalled};
+ghost use Rattle.std.specs.Prelude.{◌≡◌, ◌<◌, ◌++◌, ◌∷◌, [], IfOk, OnErr, OnOk, vec_len, vec_capacity};
+ghost use Rattle.acap_task.specs.Desks.{EndsAlike, HasCalled, HasLeft};
 
 use crate::count::count_up;
 use crate::desk::Desk;
@@ -62,6 +62,23 @@ fn call_with<S: Site, L: Ledger, R: Wait>(
     Ok(answer)
 }
 
+// A Leave that is owed.
+fn ask_leave<S: Site, L: Ledger, R: Wait, N: Ringer>(
+    rt: &R,
+    served: &Served<S, L>,
+    ringer: &N,
+    pass: &mut Pass<S>,
+    now: Moment,
+) -> Result<(), Fault>
+    ensures ok { OnOk result (HasLeft now pass.old pass.new) }
+    ensures err { OnErr result (pass.new ≡ pass.old) }
+    ensures seat { pass.new.seat ≡ pass.old.seat }
+{
+    let answer = served.call(rt, pass, Event::Leave, now)?;
+    ringer.ring(answer.rings);
+    Ok(())
+}
+
 impl<'a, S: Site, L: Ledger, R: Wait, N: Ringer> PassDesk<'a, S, L, R, N> {
     ghost use Rattle.std.specs.Prelude.{◌≡◌, [], false, true, IfOk, IfErr};
     ghost use Rattle.acap_task.specs.Desks.{HasLeft};
@@ -106,11 +123,8 @@ impl<'a, S: Site, L: Ledger, R: Wait, N: Ringer> PassDesk<'a, S, L, R, N> {
     {
         let Seating { pass, owes_leave } = place;
         let mut pass = pass;
-        if owes_leave {
-            match served.call(rt, &mut pass, Event::Leave, now) {
-                Ok(answer) => ringer.ring(answer.rings),
-                Err(_) => return Err(Seating { pass, owes_leave }),
-            }
+        if owes_leave && ask_leave(rt, served, ringer, &mut pass, now).is_err() {
+            return Err(Seating { pass, owes_leave });
         }
         Ok(PassDesk::new(alloc, rt, served, ringer, pass))
     }
