@@ -82,14 +82,14 @@ pub items_send : IsSend (vec.the_row item.the_row heap.the_row ghosts)
 items_send = items_of item_send
 
 pass_fields : (S : RattleType) (h : ledger.Ghosts S.Denot)
-    → FieldsHave IsSend (seat.the_field ∷ share.the_field S h ∷ vec.the_field item.the_row heap.the_row ghosts ∷ u64-field ∷ u64-field ∷ [])
+    → FieldsHave IsSend (seat.the_field ∷ share.the_field S h ∷ vec.the_field item.the_row heap.the_row ghosts ∷ vec.the_field item.the_row heap.the_row ghosts ∷ u64-field ∷ u64-field ∷ [])
 pass_fields S h = (
   search (sendable, crosses) depth 20,
   (
     of_share.the_send S h,
     (
       items_send,
-      (search (sendable, crosses) depth 20, (search (sendable, crosses) depth 20, tt)),
+      (items_send, (search (sendable, crosses) depth 20, (search (sendable, crosses) depth 20, tt))),
     ),
   ),
 )

@@ -27,16 +27,19 @@ module _ (S : RattleType) (g : site.Ghosts S.Denot) (h : ledger.Ghosts S.Denot) 
     (
       search (entry_send, crosses, sendable) depth 60,
       (
-        search sendable depth 20,
+        search (entry_send, crosses, sendable) depth 60,
         (
           search sendable depth 20,
           (
-            search (state_send, crosses, sendable) depth 60,
+            search sendable depth 20,
             (
-              search (crosses, sendable) depth 20,
+              search (state_send, crosses, sendable) depth 60,
               (
-                search sendable depth 20,
-                (of_ledger_book.the_send S h, (of_share.the_send S h, (of_steps.the_send L l, tt))),
+                search (crosses, sendable) depth 20,
+                (
+                  search sendable depth 20,
+                  (of_ledger_book.the_send S h, (of_share.the_send S h, (of_steps.the_send L l, tt))),
+                ),
               ),
             ),
           ),

@@ -13,7 +13,7 @@ use crate::entry::Entry;
 use crate::pass::{Pass, make_passes};
 use crate::performing::{Performed, perform};
 use crate::report::Report;
-use crate::retiring::{gain, retire_all};
+use crate::retiring::{gain, make_room, retire_all, set_aside};
 use crate::rings::{flags_after, seats_to_ring};
 use crate::room::push_in_room;
 use crate::site::Site;
@@ -57,6 +57,8 @@ pub struct Book<S: Site, L: Ledger> {
     // In boxes, so that a book moves little.
     state: Box<State>,
     history: Vec<Entry>,
+    // Calls of epochs that are over, until they are let go. No contract sees them.
+    spent: Vec<Entry>,
     flags: u64,
     epoch: u64,
     base: Box<State>,
@@ -115,6 +117,7 @@ impl<S: Site, L: Ledger> Book<S, L> {
         let book = Book {
             state,
             history: Vec::new(alloc),
+            spent: Vec::new(alloc),
             flags: 0,
             epoch: 0,
             base,
@@ -150,7 +153,7 @@ impl<S: Site, L: Ledger> Book<S, L> {
         self.gone += count;
         self.base = base;
         self.epoch += 1;
-        self.history.clear();
+        set_aside(&mut self.history, &mut self.spent);
     }
 
     /// Performs one event at the pass's seat when the clock shows that moment: exactly one step of the machine, which becomes the last
@@ -175,7 +178,9 @@ impl<S: Site, L: Ledger> Book<S, L> {
         if place >= EVENTS {
             return refuse(event, Fault::HistoryFull);
         }
-        if self.history.reserve(1).is_err() || pass.items.reserve(1).is_err() {
+        if make_room(&mut self.history, &mut self.spent).is_err()
+            || make_room(&mut pass.items, &mut pass.spent).is_err()
+        {
             return refuse(event, Fault::Memory);
         }
         let flags = flags_after(pass.seat, &event, self.flags);
@@ -195,6 +200,7 @@ impl<S: Site, L: Ledger> Book<S, L> {
         self.ledger.audit(&mut pass.share);
         gain(
             &mut pass.items,
+            &mut pass.spent,
             &mut pass.retired,
             &mut pass.epoch,
             self.epoch,
@@ -238,6 +244,7 @@ impl<S: Site, L: Ledger> Book<S, L> {
         let Book {
             state: _,
             history,
+            spent: _,
             flags: _,
             epoch,
             base,

@@ -141,11 +141,12 @@ fn hand_in<S: Site>(book: &mut Book<S>, all: &mut Share<S>, epoch: u64, pass: Pa
         seat,
         mut share,
         mut items,
+        mut spent,
         epoch: mut at,
         mut retired,
     } = pass;
     book.audit(&mut share);
-    renew(&mut items, &mut retired, &mut at, epoch);
+    renew(&mut items, &mut spent, &mut retired, &mut at, epoch);
     all.merge(share);
     Held {
         seat,

@@ -1,8 +1,10 @@
 //! The right to make calls at one seat.
-ghost use Rattle.std.specs.Prelude.{◌≡◌, IfOk};
+ghost use Rattle.std.specs.Prelude.{◌≡◌, IfOk, max};
+ghost use Rattle.acap_locked.specs.Epochs.{held_in};
 ghost use Rattle.acap_locked.specs.Passes.{new_pass, new_passes};
 
 use crate::item::Item;
+use crate::retiring::{let_go, renew};
 use crate::site::Site;
 use acap_entries::{Memory, Seat};
 use std::alloc::Global;
@@ -19,12 +21,14 @@ pub struct Pass<S: Site> {
     pub(crate) seat: Seat,
     pub(crate) share: Share<S>,
     pub(crate) items: Vec<Item>,
+    // Calls of epochs that are over, until they are let go. No contract sees them.
+    pub(crate) spent: Vec<Item>,
     pub(crate) epoch: u64,
     pub(crate) retired: u64,
 }
 
 impl<S: Site> Model for Pass<S> {
-    ghost use Rattle.std.specs.Prelude.{◌≡◌, ◌+◌, length};
+    ghost use Rattle.std.specs.Prelude.{◌≡◌, ◌+◌, ◌<◌, ◌^◌, length};
     ghost use Rattle.acap_locked.specs.contracts.held.Held as held;
     ghost use Rattle.acap_locked.specs.declared.held.Held.{Held};
 
@@ -39,7 +43,8 @@ impl<S: Site> Model for Pass<S> {
       retired = p.retired;
     } };
 
-    ghost invariant = { λ p. (p.share.parts ≡ 1) × (p.share.amount ≡ p.retired + length p.items.items) };
+    ghost invariant = { λ p. (p.share.parts ≡ 1) × (p.share.amount ≡ p.retired + length p.items.items)
+        × (p.retired + length p.items.items < 2 ^ 64) };
 }
 
 impl<S: Site> Pass<S> {
@@ -52,6 +57,7 @@ impl<S: Site> Pass<S> {
             seat,
             share,
             items: Vec::new(alloc),
+            spent: Vec::new(alloc),
             epoch: 0,
             retired: 0,
         }
@@ -64,11 +70,28 @@ impl<S: Site> Pass<S> {
         self.seat
     }
 
-    /// The calls that were made through it in the epoch of the last of them, in their order.
+    /// The calls that were made through it in the last epoch of which it knows, in their order.
     pub fn items(&self) -> &[Item]
         ensures { result.now ≡ self.now.items }
     {
         self.items.as_slice()
+    }
+
+    /// Counts the calls of epochs that were over at the last call of another pass, and lets so many of them go. It is for a pass through
+    /// which no calls are made: each call does the same. Says whether some are still to be let go. Takes no lock.
+    pub fn let_go(&mut self, other: &Pass<S>, count: usize) -> bool
+        ensures { self.new ≡ held_in (max self.old.epoch other.now.epoch) self.old }
+    {
+        let latest = self.epoch.max(other.epoch);
+        renew(
+            &mut self.items,
+            &mut self.spent,
+            &mut self.retired,
+            &mut self.epoch,
+            latest,
+        );
+        let_go(&mut self.spent, count);
+        !self.spent.is_empty()
     }
 }
 

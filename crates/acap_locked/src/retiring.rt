@@ -1,38 +1,89 @@
-//! Calls of older epochs are counted.
+//! Calls of epochs that are over are counted at once, and let go a few at a time.
 ghost use Rattle.std.specs.Prelude.{◌≡◌, ◌≤◌, ◌<◌, ◌+◌, ◌^◌, ◌==◌, ◌++◌, ◌∷◌, [], if◌then◌else◌, length, sum};
-ghost use Rattle.std.specs.Prelude.{vec_len, vec_capacity};
+ghost use Rattle.std.specs.Prelude.{OnOk, vec_len, vec_capacity};
 ghost use Rattle.acap_locked.specs.Epochs.{retire};
 
 use crate::entry::Entry;
 use crate::item::Item;
 use crate::room::push_in_room;
+use std::alloc::AllocError;
+use std::mem;
 
-/// Lets the items of an older epoch go, and counts them. Takes no memory, and keeps the room.
-pub(crate) fn renew(items: &mut Vec<Item>, retired: &mut u64, epoch: &mut u64, current: u64)
+/// So many calls are let go at each call, of the history and of its pass. An epoch has at most twice as many calls as the next one, so
+/// that all of them are gone before that is over.
+const EACH: usize = 2;
+
+/// Lets so many of those go that were set aside, the last ones first, and with the first of them their room. Takes no memory.
+pub(crate) fn let_go<T: Drop>(spent: &mut Vec<T>, count: usize) {
+    let all = spent.len();
+    if all > 0 {
+        spent.truncate(all.saturating_sub(count));
+        if spent.is_empty() {
+            spent.shrink_to_fit();
+        }
+    }
+}
+
+/// Lets a few of those go that were set aside, and makes room for one more of the others, also for when these are set aside first. Fails
+/// only for want of memory.
+pub(crate) fn make_room<T: Drop>(items: &mut Vec<T>, spent: &mut Vec<T>) -> Result<(), AllocError>
+    ensures items { items.new.items ≡ items.old.items }
+    ensures room { OnOk result
+        ((vec_len items.new < vec_capacity items.new) × (vec_len spent.new < vec_capacity spent.new)) }
+{
+    let_go(spent, EACH);
+    items.reserve(1)?;
+    spent.reserve(1)
+}
+
+/// Sets all aside, to be let go later. Where others are set aside still, they are put to these, if there is memory for it, and else let go
+/// at once.
+pub(crate) fn set_aside<T: Drop>(items: &mut Vec<T>, spent: &mut Vec<T>)
+    ensures items { items.new.items ≡ [] }
+    ensures room { vec_len items.old < vec_capacity items.old → vec_len spent.old < vec_capacity spent.old
+        → vec_len items.new < vec_capacity items.new }
+{
+    if spent.is_empty() {
+        mem::swap(items, spent);
+    } else if spent.append(items).is_err() {
+        items.clear();
+    }
+}
+
+/// Counts the items of an older epoch, and sets them aside.
+pub(crate) fn renew(
+    items: &mut Vec<Item>,
+    spent: &mut Vec<Item>,
+    retired: &mut u64,
+    epoch: &mut u64,
+    current: u64,
+)
     requires { retired.old + length items.old.items < 2 ^ 64 }
     ensures items { items.new.items ≡ (if epoch.old == current then items.old.items else []) }
     ensures retired { retired.new
         ≡ (if epoch.old == current then retired.old else retired.old + length items.old.items) }
     ensures epoch { epoch.new ≡ current }
     ensures same { retired.new + length items.new.items ≡ retired.old + length items.old.items }
-    ensures room { vec_len items.old < vec_capacity items.old → vec_len items.new < vec_capacity items.new }
+    ensures room { vec_len items.old < vec_capacity items.old → vec_len spent.old < vec_capacity spent.old
+        → vec_len items.new < vec_capacity items.new }
 {
     if *epoch != current {
         *retired += items.len() as u64;
-        items.clear();
+        set_aside(items, spent);
         *epoch = current;
     }
 }
 
-/// Adds an item of this epoch, in room that is there, and lets those of an older one go. Takes no memory.
+/// Adds an item of this epoch, in room that is there. Those of an older one are counted, and set aside.
 pub(crate) fn gain(
     items: &mut Vec<Item>,
+    spent: &mut Vec<Item>,
     retired: &mut u64,
     epoch: &mut u64,
     current: u64,
     item: Item,
 )
-    requires room { vec_len items.old < vec_capacity items.old }
+    requires room { (vec_len items.old < vec_capacity items.old) × (vec_len spent.old < vec_capacity spent.old) }
     requires fits { retired.old + length items.old.items < 2 ^ 64 }
     ensures items { items.new.items ≡ (if epoch.old == current then items.old.items else []) ++ item ∷ [] }
     ensures retired { retired.new
@@ -40,7 +91,7 @@ pub(crate) fn gain(
     ensures epoch { epoch.new ≡ current }
     ensures count { retired.new + length items.new.items ≡ retired.old + length items.old.items + 1 }
 {
-    renew(items, retired, epoch, current);
+    renew(items, spent, retired, epoch, current);
     push_in_room(items, item);
 }
 

@@ -6,7 +6,7 @@ use Rattle.acap_locked.proofs.book.Book.serve_here.Goals as goal
 pub invariant_of-self-2 : goal.invariant_of-self-2
 invariant_of-self-2 g c =
     let below : length c.self.inside.history.items < 1000000 = omega arith in (
-      kept_push _ _ _ _ _ _ _ _ _ _ _ _ _ _ _ _ _ _ _ c.self.invariant.0 below c.in_ok-done.ensures.step c.reserve.ensures.items c.push_in_room.ensures
+      kept_push _ _ _ _ _ _ _ _ _ _ _ _ _ _ _ _ _ _ _ c.self.invariant.0 below c.in_ok-done.ensures.step c.make_room.ensures.items c.push_in_room.ensures
           c.in_ok-done.ensures.entry (omega (arith, c.add.ensures.total, c.audit.ensures.total)),
       c.self.invariant.1,
       c.self.invariant.2,

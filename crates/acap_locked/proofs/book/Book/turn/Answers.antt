@@ -12,7 +12,7 @@ invariant_of-self g c =
     rw c.deref-2.ensures.value at c.retire_all.ensures.counts in
     let total : sum c.retire_all.new.counts.items ≡ sum c.self.inside.retired.items + length c.self.inside.history.items =
     rw c.deref-2.ensures.value at c.retire_all.ensures.total in (
-      kept_turn _ _ _ _ _ _ _ _ _ _ _ _ _ c.self.invariant.0 long same c.clear.ensures.items counts total c.retire_all.ensures.seats (omega arith) (omega arith),
+      kept_turn _ _ _ _ _ _ _ _ _ _ _ _ _ c.self.invariant.0 long same c.set_aside.ensures.items counts total c.retire_all.ensures.seats (omega arith) (omega arith),
       c.self.invariant.1,
       c.self.invariant.2,
       c.self.invariant.3,
