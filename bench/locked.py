@@ -580,6 +580,21 @@ def tell_epoch(program, enter, entries, rounds=7):
     told("    a STORE of one item behind it", [time for times in rounds for time in times[7:12]])
 
 
+def tell_other_seat(program, rounds=3):
+    """What the call costs that begins an epoch where another seat made most calls of the one before, and what the first calls of that seat
+    cost then, and those among which the last of its old calls goes."""
+    searches, old = 100_000, 499_978
+    rows = [f'1 A1 STORE ("/option/~/e{i:06}" "option.a0" "{i:08}")' for i in range(20)]
+    search = '1 A1 SEARCH "/option/~/" RETURN ("option.a0") ALL'
+    before = ["0 enter ann", "1 enter joe", *rows, f"1 drains {old - searches}", *[search] * searches]
+    last = f"1 drains {old // 2 - 10}"
+    rounds = [program.times([*before, "now 0 drain", *["now 1 drain"] * 6, last, *["now 1 drain"] * 40]) for _ in range(rounds)]
+    told(f"the Drain that begins an epoch, another seat made {searches:,} SEARCHes of 20 rows", [times[0] for times in rounds])
+    told("    the first Drain of that seat", [times[1] for times in rounds])
+    told("    a Drain behind it, with two of these SEARCHes or Drains", [time for times in rounds for time in times[2:7]])
+    told("    the longest of those among which the room goes", [max(times[7:47]) for times in rounds])
+
+
 def figures(path):
     enter, store = "0 enter joe", '0 A1 STORE ("/option/~/e000000" "option.a0" "00000000")'
     with tempfile.TemporaryDirectory() as folder:
@@ -593,6 +608,7 @@ def figures(path):
         told("`close` at 500,000 calls of one seat", [program.times([enter, "0 drains 499999"])[-1] for _ in range(7)])
         tell_epoch(program, enter, 0)
         tell_epoch(program, enter, 10_000)
+        tell_other_seat(program)
 
 
 # ---- instructions within a call
