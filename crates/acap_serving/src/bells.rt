@@ -40,6 +40,9 @@ impl Bells {
 
 impl Ringer for Bells {
     fn ring(&self, seats: u64) {
+        if seats == 0 {
+            return;
+        }
         for (seat, sender) in &self.senders {
             if has_seat(seats, *seat) {
                 let _ = sender.send(());
