@@ -50,7 +50,7 @@ module _ (S : RattleType) (g : site.Ghosts S.Denot) (h : ledger.Ghosts S.Denot) 
       search sendable depth 20,
       (
         search sendable depth 20,
-        (search sendable depth 20, (search (job_send, crosses, sendable) depth 60 fits 20000, (search sendable depth 20, tt))),
+        (search sendable depth 20, (search (job_send, crosses, sendable) depth 60 fits 20000, (search sendable depth 20, (search sendable depth 20, tt)))),
       ),
     ),
   )

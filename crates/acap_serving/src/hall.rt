@@ -13,6 +13,9 @@ use tokio::sync::mpsc::UnboundedReceiver;
 /// So many streams at most are read to their ends at once, after their sessions.
 const STREAMS: u64 = 64;
 
+/// So many old calls of free places are let go at once: as many as a session makes at most in one poll.
+const CALLS: usize = 64;
+
 /// So many jobs at most wait at once: one for each place, and one for each of those streams.
 const JOBS: usize = 128;
 
@@ -42,6 +45,8 @@ pub(crate) struct Hall<S: Site> {
     gone: u64,
     left: VecDeque<Job<S>>,
     parting: u64,
+    // At which place the next calls are let go: its number, and any multiple of 64.
+    tidied: u8,
     ghost seats: { length free.items ≡ 64 },
 }
 
@@ -74,6 +79,7 @@ impl<S: Site> Hall<S> {
             gone: 0,
             left,
             parting: 0,
+            tidied: 0,
         })
     }
 
@@ -97,6 +103,19 @@ impl<S: Site> Hall<S> {
     {
         self.give(place);
         self.ended = count_up(self.ended);
+    }
+
+    /// Lets a few calls go that the pass of a free place has of epochs which were over at the last call of another pass: at one place after
+    /// another, at each until all are gone.
+    pub(crate) fn tidy(&mut self, latest: &Pass<S>) {
+        let number = usize::from(self.tidied) % 64;
+        let has_more = match &mut self.free[number] {
+            Some(place) => place.seating.pass.let_go(latest, CALLS),
+            None => false,
+        };
+        if !has_more {
+            self.tidied = self.tidied.wrapping_add(1);
+        }
     }
 
     /// Whether so many sessions have ended; never with 0.

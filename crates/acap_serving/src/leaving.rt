@@ -4,7 +4,7 @@ ghost use Rattle.futures.specs.Task.{IsArmed, Keeps};
 
 use crate::hall::SeatPlace;
 use crate::office::{Ended, Task};
-use acap_locked::Site;
+use acap_locked::{Pass, Site};
 use acap_task::{Over, Running, SessionTask};
 use futures::ready;
 use futures::task::{Context, Poll};
@@ -26,6 +26,9 @@ pub(crate) trait Leaving<S: Site>: Drop {
     fn go_on(&mut self, cx: &mut Context<'_>) -> Poll<Left<S>>
         ensures armed { OnPending result (IsArmed cx.new) }
         ensures kept { Keeps cx.old cx.new };
+
+    /// The pass of its seat. `None` where it has ended already.
+    fn pass(&self) -> Option<&Pass<S>>;
 
     /// Ends it now: its seat is left. `None` where it has ended already.
     fn end(self) -> Option<Left<S>>;
@@ -54,6 +57,13 @@ impl<R: Wait + Clock, S: Site, L: Ledger> Leaving<S> for Task<'_, R, S, L> {
     fn go_on(&mut self, cx: &mut Context<'_>) -> Poll<Left<S>> {
         let over = ready!(SessionTask::go_on(self, cx));
         Poll::Ready(left_of(over))
+    }
+
+    fn pass(&self) -> Option<&Pass<S>> {
+        match &self.running {
+            Some(running) => Some(&running.desk.pass),
+            None => None,
+        }
     }
 
     fn end(self) -> Option<Left<S>> {

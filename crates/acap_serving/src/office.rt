@@ -11,7 +11,7 @@ use crate::parting::{MILLIS, Parting};
 use crate::sitting::Sitting;
 use crate::tcp_wire::TcpWire;
 use acap_entries::{Copying, Octets};
-use acap_locked::{Served, Site};
+use acap_locked::{Pass, Served, Site};
 use acap_login::Users;
 use acap_task::{Conn, Over, PassDesk, SessionTask, Source, Wire};
 use mio::Waker;
@@ -213,6 +213,14 @@ impl<R: Wait, S: Site, L: Ledger> Office<'_, R, S, L> {
     pub(crate) fn cut_off(&self, left: Option<Left<S>>) {
         if let Some(left) = left {
             drop(self.end(left));
+        }
+    }
+
+    /// Lets a few calls go that passes of free places have of epochs which were over at the last call of this pass, unless somebody else
+    /// has the hall just now.
+    pub(crate) fn tidy(&self, latest: &Pass<S>) {
+        if let Some(mut hall) = self.hall.try_lock() {
+            hall.tidy(latest);
         }
     }
 

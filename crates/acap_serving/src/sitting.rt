@@ -61,6 +61,9 @@ impl<R: Wait + Clock, S: Site, L: Ledger, T: Leaving<S>> Future for Sitting<'_, 
 
     fn poll(&mut self, cx: &mut Context<'_>) -> Poll<()> {
         if let Some(task) = &mut self.task {
+            if let Some(pass) = task.pass() {
+                self.office.tidy(pass);
+            }
             let left = ready!(task.go_on(cx));
             self.task = None;
             let stream = self.office.end(left);
