@@ -66,8 +66,8 @@ def free_port():
 class Server:
     """A server that was started here, and its clients."""
 
-    def __init__(self, program, folder, **settings):
-        self.port, self.clients = free_port(), []
+    def __init__(self, program, folder, port=None, **settings):
+        self.port, self.clients = free_port() if port is None else port, []
         self.file = settings_file(folder, listen=f"127.0.0.1:{self.port}", **settings)
         words = [program, "serve", self.file]
         self.process = subprocess.Popen(words, stdin=subprocess.DEVNULL, stdout=subprocess.PIPE, stderr=subprocess.PIPE)
@@ -133,6 +133,11 @@ class Server:
         """What it prints, and its status, when it ends of itself."""
         out, err = self.process.communicate(timeout=20)
         return out, err, self.process.returncode
+
+
+def listening(port):
+    """The line that a server prints once it listens."""
+    return f"acapd: listening on 127.0.0.1:{port}\n".encode("ascii")
 
 
 def settings_file(folder, listen, start=None, sessions=0, turns=1_000_000):
@@ -624,7 +629,16 @@ def check_end(program, folder):
         done(server.client("ann"), "LOGOUT")
         server.greeted()
         server.close_clients()
-        same(server.end(), (b"", b"", 0))
+        same(server.end(), (listening(server.port), b"", 0))
+
+
+def check_port(program, folder):
+    """A server at port 0 prints the port that the system gave, and serves there."""
+    with Server(program, folder, port=0) as server:
+        line = server.process.stdout.readline()
+        server.port = int(line.rpartition(b":")[2])
+        same(line, listening(server.port))
+        done(server.client("joe"), "LOGOUT")
 
 
 STARTS = [  # what a start file holds, and which entries are there then
@@ -716,6 +730,7 @@ def run(program, *words, **given):
 
 OWN = {
     "start files": check_start,
+    "the port that the system gives": check_port,
     "sessions = 3, and then status 0": check_end,
     "faults at the start": check_faults,
     "words that are no call": check_calls,

@@ -28,7 +28,7 @@ from load import memory, whole  # which finds tools/
 from acap_client import Client
 from actor import RATE, Times, World
 from crowd import BIG, OPEN, QUIET, crowd
-from serve import GREETING, SEATS, Server, done, same, store_big
+from serve import GREETING, SEATS, Server, done, listening, same, store_big
 
 COMPARISONS = 1_000  # that are wanted
 EPOCH = 500_000  # calls, at which the server begins a new history
@@ -96,7 +96,7 @@ def finish(world, sessions):
         world.sessions += client.reply() == GREETING
         client.close()
     out, err = world.server.process.communicate(timeout=300)
-    same((out, err, world.server.process.returncode), (b"", b"", 0))
+    same((out, err, world.server.process.returncode), (listening(world.server.port), b"", 0))
 
 
 def print_times(world, clients):

@@ -8,7 +8,7 @@ use crate::bells::Bells;
 use crate::fault::ServeFault;
 use crate::hall::{Hall, Job};
 use crate::office::Office;
-use crate::setup::{Door, Setup};
+use crate::setup::Setup;
 use crate::start::run_start;
 use crate::work::Working;
 use acap_entries::{Memory, Octets, Steps};
@@ -16,11 +16,12 @@ use acap_locked::{Pass, Report, Served, Site};
 use acap_login::Users;
 use acap_machine::State;
 use acap_rights::Realm;
+use acap_settings::Settings;
 use mio::{Events, Interest, Poll, Token, Waker};
 use std::alloc::{AllocGlobal, Global};
 use std::fs::Files;
 use std::marker::Brand;
-use std::net::{Net, TcpListener, TcpStream};
+use std::net::{Net, SocketAddr, TcpListener, TcpStream};
 use std::random::RandomSource;
 use std::sync::ledger::{Blank, Ledger};
 use std::sync::{Mutex, Wait};
@@ -36,20 +37,29 @@ const WAKER: Token = Token(1);
 /// How many events a wait tells of at once.
 const EVENTS: usize = 16;
 
-// The listener of a door. What is accepted there never waits.
-fn open<R>(rt: &R, door: Door, listen: &Octets) -> io::Result<TcpListener>
+// A listener at an address and port.
+fn bind<R>(rt: &R, listen: &Octets) -> io::Result<TcpListener>
 where
     R: Net<Listener = TcpListener, Stream = TcpStream>,
 {
-    let listener = match door {
-        Door::Open(listener) => listener,
-        Door::Listed => match std::str::from_utf8(listen.as_slice()) {
-            Ok(address) => TcpListener::bind(rt, address)?,
-            Err(_) => return Err(io::ErrorKind::InvalidInput.into()),
-        },
-    };
+    match std::str::from_utf8(listen.as_slice()) {
+        Ok(address) => TcpListener::bind(rt, address),
+        Err(_) => Err(io::ErrorKind::InvalidInput.into()),
+    }
+}
+
+/// A listener at the address and port that settings name.
+pub fn open<R>(rt: &R, settings: &Settings) -> Result<TcpListener, ServeFault>
+where
+    R: Net<Listener = TcpListener, Stream = TcpStream>,
+{
+    bind(rt, &settings.listen).map_err(ServeFault::of_listening)
+}
+
+// The listener as mio has it: what is accepted there never waits.
+fn unwaiting(listener: TcpListener) -> io::Result<mio::net::TcpListener> {
     listener.set_nonblocking(true)?;
-    Ok(listener)
+    Ok(mio::net::TcpListener::from_std(listener))
 }
 
 // What waits for the listener, and what ends such a wait.
@@ -112,7 +122,6 @@ fn channels<S: Site>(
 /// What of its settings a server needs once it listens.
 #[derive(Drop)]
 struct Terms {
-    listen: Octets,
     host: Octets,
     workers: u32,
     turns: u64,
@@ -120,14 +129,14 @@ struct Terms {
     users: Users,
 }
 
-// Listens, serves sessions until so many have ended, and gives the passes back.
+// Serves sessions until so many have ended, and gives the passes back.
 fn listen<R, S, L>(
     rt: &R,
     served: &Served<S, L>,
     bells: &Bells,
     hall: Hall<S>,
     terms: &Terms,
-    door: Door,
+    listener: TcpListener,
 ) -> Result<Vec<Pass<S>>, ServeFault>
 where
     R: Threads
@@ -142,8 +151,7 @@ where
     requires turns { 0 < terms.now.turns }
 {
     let alloc = rt.alloc();
-    let listener = open(rt, door, &terms.listen).map_err(ServeFault::of_listening)?;
-    let mut listener = mio::net::TcpListener::from_std(listener);
+    let mut listener = unwaiting(listener).map_err(ServeFault::of_listening)?;
     let (poll, waker) = wait_for(rt, &mut listener).map_err(ServeFault::of_listening)?;
     let (workers, receivers) = channels(alloc, terms.workers)?;
     let events = Events::with_capacity(alloc, EVENTS)?;
@@ -173,7 +181,7 @@ fn run_site<R, S, L>(
     counter: Blank,
     terms: &Terms,
     start: Option<Vec<u8>>,
-    door: Door,
+    listener: TcpListener,
 ) -> Result<Report, ServeFault>
 where
     R: Threads
@@ -206,12 +214,12 @@ where
             hall.give(place);
         }
     }
-    let passes = listen(rt, &served, &bells, hall, terms, door)?;
+    let passes = listen(rt, &served, &bells, hall, terms, listener)?;
     Ok(served.close(passes)?)
 }
 
-/// Serves what was set up, as `serve` does, at that door, and gives the report of its machine.
-pub fn serve_at<R>(rt: &R, setup: Setup, door: Door) -> Result<Report, ServeFault>
+/// Serves what was set up, as `serve` does, whoever comes to that listener, and gives the report of its machine.
+pub fn serve_at<R>(rt: &R, setup: Setup, listener: TcpListener) -> Result<Report, ServeFault>
 where
     R: Threads
         + Wait
@@ -229,7 +237,6 @@ where
         groups: settings.groups,
     };
     let terms = Terms {
-        listen: settings.listen,
         host: settings.host,
         workers: settings.workers,
         turns: u64::from(settings.turns).max(1),
@@ -244,12 +251,12 @@ where
         Blank::new(1),
         &terms,
         start,
-        door,
+        listener,
     )
 }
 
-/// Serves sessions over TCP as a settings file says.
-pub fn serve<R>(rt: &R, file: &str) -> Result<(), ServeFault>
+/// Serves sessions over TCP as a settings file says. Once it listens it lets `opened` know at which address.
+pub fn serve<R, F>(rt: &R, file: &str, opened: F) -> Result<(), ServeFault>
 where
     R: Threads
         + Wait
@@ -259,8 +266,12 @@ where
         + AllocGlobal
         + Files
         + Sync,
+    F: FnOnce(SocketAddr),
+    requires { (address : _) → F.pre opened address }
 {
     let setup = Setup::read(rt, file)?;
-    let _report = serve_at(rt, setup, Door::Listed)?;
+    let listener = open(rt, &setup.settings)?;
+    opened(listener.local_addr().map_err(ServeFault::of_listening)?);
+    let _report = serve_at(rt, setup, listener)?;
     Ok(())
 }

@@ -8,24 +8,14 @@ use acap_settings::Settings;
 use std::alloc::{AllocGlobal, Global};
 use std::fs;
 use std::fs::Files;
-use std::net::TcpListener;
 
 /// What a server is made of: its settings, and what its start file holds, if it has one.
 #[derive(Drop)]
 pub struct Setup {
     /// Its settings.
     pub settings: Settings,
-    /// The commands that are run before it listens.
+    /// The commands that are run before anybody is served.
     pub start: Option<Vec<u8>>,
-}
-
-/// Where a server listens.
-#[derive(Drop)]
-pub enum Door {
-    /// At the address and port of its settings.
-    Listed,
-    /// With a listener that is open already.
-    Open(TcpListener),
 }
 
 // The settings in the text of a file.

@@ -1,6 +1,6 @@
 //! A server on a thread of its own, beside its clients.
 use crate::meeting::Meeting;
-use acap_serving::{Door, ServeFault, Setup, serve_at};
+use acap_serving::{ServeFault, Setup, serve_at};
 use acap_settings::Settings;
 use std::alloc::{AllocGlobal, Global};
 use std::net::{Net, SocketAddr, TcpListener, TcpStream};
@@ -68,7 +68,7 @@ where
     let (ended, content) = thread::join(
         rt,
         || {
-            let ended = serve_at(rt, setup, Door::Open(listener)).is_ok();
+            let ended = serve_at(rt, setup, listener).is_ok();
             over.store(true, Ordering::SeqCst);
             ended
         },

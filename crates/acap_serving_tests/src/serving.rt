@@ -2,7 +2,7 @@
 use crate::meeting::{Deed, Meeting, Step};
 use crate::server::{is_served, setup_of};
 use acap_entries::Octets;
-use acap_serving::{Door, ServeFault, Setup, serve, serve_at};
+use acap_serving::{ServeFault, Setup, open, serve};
 use std::alloc::Global;
 use std::fs;
 use std::net::TcpListener;
@@ -178,7 +178,7 @@ fn a_port_in_use_and_no_address_are_refused(rt: HostRuntime) -> Result<(), Fail>
     let used = format!(in alloc; "{}", listener.local_addr()?)?;
     for listen in [used.as_bytes(), b"nowhere", b"127.0.0.1", b""] {
         let ended = match listening(alloc, listen) {
-            Ok(setup) => serve_at(&rt, setup, Door::Listed).map(|_| ()),
+            Ok(setup) => open(&rt, &setup.settings).map(|_| ()),
             Err(fault) => Err(fault),
         };
         assert!(rt; ended == Err(ServeFault::Listen));
@@ -203,10 +203,10 @@ fn files_that_are_missing_or_no_settings_are_refused(rt: HostRuntime) -> Result<
     // Nobody else has a port while it is held, so nobody else has a file of its name.
     let held = TcpListener::bind(&rt, "127.0.0.1:0")?;
     let name = format!(in alloc; "/tmp/acapd_{}", held.local_addr()?.port())?;
-    assert!(rt; serve(&rt, name.as_str()) == Err(ServeFault::Read));
+    assert!(rt; serve(&rt, name.as_str(), |_| ()) == Err(ServeFault::Read));
     for (text, fault) in &FILES {
         fs::write(&rt, name.as_str(), *text)?;
-        let refused = serve(&rt, name.as_str());
+        let refused = serve(&rt, name.as_str(), |_| ());
         fs::remove_file(&rt, name.as_str())?;
         assert!(rt; refused == Err(*fault));
     }

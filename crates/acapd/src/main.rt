@@ -10,7 +10,7 @@ use std::alloc::AllocGlobal;
 use std::fs::Files;
 use std::io::ErrorKind;
 use std::marker::Brand;
-use std::net::{Net, TcpListener, TcpStream};
+use std::net::{Net, SocketAddr, TcpListener, TcpStream};
 use std::process::ExitCode;
 use std::random::RandomSource;
 use std::sync::Wait;
@@ -28,6 +28,11 @@ fn words(rt: &HostRuntime) -> io::Result<Vec<String>> {
         listed.push(word)?;
     }
     Ok(listed)
+}
+
+// Says on standard output where a server listens. Where that can't be written it serves all the same.
+fn announce(rt: &HostRuntime, address: SocketAddr) {
+    let _ = println!(rt; "acapd: listening on {}", address);
 }
 
 // Does what the words behind the program's name ask for. What its searches look at is counted. A server is given the handle.
@@ -54,7 +59,7 @@ where
         &mut io::writer(rt),
         &mut rt.stderr(),
         &mut steps,
-        |file| serve(handle, file.as_str()),
+        |file| serve(handle, file.as_str(), |address| announce(rt, address)),
     );
     match status {
         Ok(status) => Ok(ExitCode::from(status)),
