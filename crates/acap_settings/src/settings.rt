@@ -30,7 +30,7 @@ pub struct Settings {
     pub administrators: Sequence<UserName>,
     /// Who may log in, with their secrets.
     pub users: Users,
-    /// The file of commands that is run before the server listens.
+    /// The file of commands that is run before anybody is served.
     pub start: Option<Octets>,
     /// The groups of users.
     pub groups: Groups,
