@@ -70,7 +70,7 @@ fn with_verb<'a>(
 /// The program without words and commands.
 fn bare<'a>(alloc: Global) -> Command<'a> {
     Command::new(alloc, "acapc")
-        .version("0.1")
+        .version("0.1.0")
         .about("A client of ACAP servers (RFC 2244)")
         .subcommand_required(true)
 }

@@ -3,6 +3,7 @@
 use crate::beside::beside;
 use crate::dumping::print_dump;
 use crate::failure::{Failure, Wanted};
+use crate::keeper::keep;
 use crate::meaning::{Meaning, read_meaning};
 use crate::relaying::pass_lines;
 use crate::secret::secret;
@@ -108,6 +109,7 @@ pub(crate) fn run(rt: &HostRuntime, matches: &ArgMatches) -> Result<(), Failure>
     match verb {
         "watch" => watch(rt, matches, form, words),
         "dump" => dump(rt, matches),
+        "keep" => keep(rt, matches, words),
         "raw" => relay(rt, matches, form, false),
         "load" => relay(rt, matches, form, true),
         _ => do_commands(rt, matches, form, verb, words),

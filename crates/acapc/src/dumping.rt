@@ -5,12 +5,13 @@ use crate::failure::{Deed, Failure, Mishap, Wanted};
 use crate::session::{Session, end_of, line_of};
 use crate::shown::write_out;
 use crate::storing::{full_name, stored};
-use acap_client::{Line, Response};
+use acap_client::{Kept, Line, Response, Row};
 use acap_commands::{Command, ObjectName, StoreItem};
 use acap_entries::{Boxed, Copying, Dataset, Label, Memory, NameFault, Path};
 use acap_shell as shell;
 use acap_shell::{Form, print_name};
 use std::alloc::Global;
+use std::fs::File;
 use std::io::Write;
 
 /// The tag of the SEARCH.
@@ -23,22 +24,43 @@ const COMMAND: usize = 262_144;
 const ROOM: usize = 65_536;
 
 /// What no dump keeps.
-const LOST: &[u8] =
+pub(crate) const LOST: &[u8] =
     b"not kept: moments, remembered deletions, NIL and deletions over a base, and lists without a value\n";
 
-/// What is printed of a server, and what of it is still to be written.
+/// Where a dump is written.
+#[derive(Clone, Copy)]
+enum Place<'a> {
+    /// To standard output.
+    Output,
+    /// Into a file.
+    File(&'a File),
+}
+
+/// What is written of a server, and what of it is still to be written.
 #[derive(Drop)]
 struct Dump<'a> {
     rt: &'a HostRuntime,
+    place: Place<'a>,
     out: Vec<u8>,
     // what datasets inherit from, which is stored after all else
     later: Vec<(Path, StoreItem)>,
     number: u64,
-    is_whole: bool,
+    // how many items and entries aren't written, and whether each is named
+    left_out: u64,
+    names_these: bool,
+}
+
+/// What comes of a dump into a file.
+#[derive(Clone, Copy)]
+pub(crate) struct Dumped {
+    /// Whether a dataset inherits.
+    pub(crate) has_heirs: bool,
+    /// How many items and entries couldn't be written.
+    pub(crate) left_out: u64,
 }
 
 /// The root of all datasets.
-fn root(alloc: Global) -> Result<Dataset, Failure> {
+pub(crate) fn root(alloc: Global) -> Result<Dataset, Failure> {
     match Dataset::read(alloc, b"/") {
         Ok(dataset) => Ok(dataset),
         Err(fault) => Err(Failure::of_word(Wanted::Dataset, fault)),
@@ -76,20 +98,48 @@ fn left_out(alloc: Global, path: &[u8]) -> Result<Vec<u8>, Memory> {
     Ok(line)
 }
 
+/// Writes on standard error.
+fn complain(rt: &HostRuntime, line: &[u8]) -> Result<(), Failure> {
+    match rt.stderr().write_all(line) {
+        Ok(()) => Ok(()),
+        Err(error) => Err(Failure::System(Deed::Print, error)),
+    }
+}
+
+/// Writes octets into a file, and lets them go.
+fn write_into(file: &File, out: &mut Vec<u8>) -> Result<(), Failure> {
+    let mut file = file;
+    match file.write_all(out) {
+        Ok(()) => {
+            out.clear();
+            Ok(())
+        }
+        Err(error) => Err(Failure::System(Deed::WriteKept, error)),
+    }
+}
+
 impl<'a> Dump<'a> {
-    /// Says on standard error what isn't written.
-    fn leave_out(&mut self, path: &[u8]) -> Result<(), Failure> {
-        self.is_whole = false;
-        let line = left_out(self.rt.alloc(), path)?;
-        self.complain(&line)
+    /// Nothing is written yet.
+    fn new(rt: &'a HostRuntime, place: Place<'a>, names_these: bool) -> Dump<'a> {
+        Dump {
+            rt,
+            place,
+            out: Vec::new(rt.alloc()),
+            later: Vec::new(rt.alloc()),
+            number: 1,
+            left_out: 0,
+            names_these,
+        }
     }
 
-    /// Writes on standard error.
-    fn complain(&self, line: &[u8]) -> Result<(), Failure> {
-        match self.rt.stderr().write_all(line) {
-            Ok(()) => Ok(()),
-            Err(error) => Err(Failure::System(Deed::Print, error)),
+    /// Says on standard error what isn't written.
+    fn leave_out(&mut self, path: &[u8]) -> Result<(), Failure> {
+        self.left_out = self.left_out.saturating_add(1);
+        if !self.names_these {
+            return Ok(());
         }
+        let line = left_out(self.rt.alloc(), path)?;
+        complain(self.rt, &line)
     }
 
     /// Prints the line of a STORE in an entry, or says that it isn't written since it is too long.
@@ -199,19 +249,48 @@ impl<'a> Dump<'a> {
 
     /// Writes what isn't written yet.
     fn flush(&mut self) -> Result<(), Failure> {
-        write_out(self.rt, &mut self.out)
+        match self.place {
+            Place::Output => write_out(self.rt, &mut self.out),
+            Place::File(file) => write_into(file, &mut self.out),
+        }
     }
 
     /// Prints what comes after the answer.
     fn finish(&mut self) -> Result<(), Failure> {
         self.add_later()?;
         self.flush()?;
-        self.complain(LOST)?;
-        if self.is_whole {
+        complain(self.rt, LOST)?;
+        if self.left_out == 0 {
             Ok(())
         } else {
             Err(Failure::Other(Mishap::NotWhole))
         }
+    }
+
+    /// Prints the STOREs of the entry of a row.
+    fn add_row(&mut self, row: &Row) -> Result<(), Failure> {
+        let items = shell::stored_items(self.rt.alloc(), &row.items())?;
+        self.add_entry(row.name(), items)
+    }
+
+    /// Prints the STOREs of the entries of all rows.
+    fn add_rows(&mut self, rows: &[Row]) -> Result<(), Failure> {
+        for row in rows {
+            self.add_row(row)?;
+        }
+        Ok(())
+    }
+
+    /// Prints all that rows have, and says what came of it.
+    fn add_all(&mut self, rows: &[Row]) -> Result<Dumped, Failure> {
+        self.add_rows(rows)?;
+        let has_heirs = !self.later.is_empty();
+        self.add_later()?;
+        self.flush()?;
+        Ok(Dumped {
+            has_heirs,
+            left_out: self.left_out,
+        })
     }
 
     /// Prints what the server holds.
@@ -253,7 +332,11 @@ fn ask_rights(alloc: Global, session: &mut Session, user: &[u8]) -> Result<(), F
 }
 
 /// Fails unless a user is an administrator: another may not see all.
-fn need_administrator(alloc: Global, session: &mut Session, user: &[u8]) -> Result<(), Failure> {
+pub(crate) fn need_administrator(
+    alloc: Global,
+    session: &mut Session,
+    user: &[u8],
+) -> Result<(), Failure> {
     ask_rights(alloc, session, user)?;
     hear_administrator(session)?;
     session.wait(b"A1")
@@ -274,12 +357,18 @@ pub(crate) fn print_dump(
     let alloc = rt.alloc();
     need_administrator(alloc, session, user.as_bytes())?;
     ask_all(alloc, session)?;
-    let mut dump = Dump {
-        rt,
-        out: Vec::new(alloc),
-        later: Vec::new(alloc),
-        number: 1,
-        is_whole: true,
-    };
+    let mut dump = Dump::new(rt, Place::Output, true);
     dump.run(session)
+}
+
+/// Writes what a server holds as STOREs into a file: these rows of a SEARCH for all. What can't be written is named on standard error,
+/// if that is wanted.
+pub(crate) fn dump_into(
+    rt: &HostRuntime,
+    file: &File,
+    kept: &Kept,
+    names_these: bool,
+) -> Result<Dumped, Failure> {
+    let mut dump = Dump::new(rt, Place::File(file), names_these);
+    dump.add_all(kept.held().rows())
 }

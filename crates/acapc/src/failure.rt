@@ -4,7 +4,7 @@ use acap_entries::{Label, Memory, NameFault};
 use acap_shell::{Form, print_octets};
 use std::alloc::{AllocFailed, Global};
 use std::io;
-use std::io::Write;
+use std::io::{ErrorKind, Write};
 use std::process::ExitCode;
 
 /// What a word of a call should be.
@@ -24,6 +24,8 @@ pub(crate) enum Wanted {
     Context,
     /// A secret is named at all.
     Secret,
+    /// One of two options that exclude each other.
+    Remedy,
 }
 
 impl Wanted {
@@ -37,6 +39,7 @@ impl Wanted {
             Wanted::Attribute => "the name of an attribute",
             Wanted::Context => "a context",
             Wanted::Secret => "whole: name a --secret-file, or set ACAP_SECRET",
+            Wanted::Remedy => "alone: --restore or --accept",
         }
     }
 }
@@ -58,6 +61,10 @@ pub(crate) enum Deed {
     ReadSecret,
     /// To print.
     Print,
+    /// To read the file that is kept.
+    ReadKept,
+    /// To write it, or a file beside it.
+    WriteKept,
 }
 
 impl Deed {
@@ -71,12 +78,22 @@ impl Deed {
             Deed::ReadInput => "cannot read standard input",
             Deed::ReadSecret => "cannot read the secret's file",
             Deed::Print => "cannot print",
+            Deed::ReadKept => "cannot read the file",
+            Deed::WriteKept => "cannot write the file",
+        }
+    }
+
+    /// Whether it may be done another time.
+    fn may_pass(&self) -> bool {
+        match self {
+            Deed::Connect | Deed::Send | Deed::Read | Deed::Wait | Deed::WriteKept => true,
+            Deed::ReadInput | Deed::ReadSecret | Deed::Print | Deed::ReadKept => false,
         }
     }
 }
 
 /// What went wrong.
-#[derive(Drop)]
+#[derive(Clone, Copy, PartialEq, Eq)]
 pub(crate) enum Mishap {
     /// The server has closed the session.
     Closed,
@@ -98,6 +115,22 @@ pub(crate) enum Mishap {
     Freed,
     /// The secret in the environment is no text.
     SecretText,
+    /// The server doesn't answer within the time that it is given.
+    Silent,
+    /// The server has too few entries to be what the file was made from.
+    TooFew,
+    /// A restore was broken off.
+    HalfRestored,
+    /// The server ends the session while the file is restored.
+    Unrestored,
+    /// A dataset inherits.
+    Heirs,
+    /// The file holds something else than whole commands.
+    NoCommands,
+    /// Another program keeps the file.
+    KeptAlready,
+    /// The file was put aside before.
+    AsideAlready,
 }
 
 impl Mishap {
@@ -114,6 +147,34 @@ impl Mishap {
             Mishap::Misfit => "a change doesn't fit the list",
             Mishap::Freed => "the server has freed the list",
             Mishap::SecretText => "ACAP_SECRET isn't UTF-8",
+            Mishap::Silent => "the server doesn't answer",
+            Mishap::TooFew => {
+                "the server has less than half of the file's entries: the file stays as it is (--restore, --accept)"
+            }
+            Mishap::HalfRestored => {
+                "a restore was broken off: the file stays as it is (--restore, --accept)"
+            }
+            Mishap::Unrestored => "the server ends the session while the file is restored",
+            Mishap::Heirs => {
+                "a dataset inherits, and what hides entries of its base isn't kept (--over-bases)"
+            }
+            Mishap::NoCommands => "the file isn't one of whole commands (--accept)",
+            Mishap::KeptAlready => "the file is kept by another program",
+            Mishap::AsideAlready => "the file can't be put aside: FILE.1 is there already",
+        }
+    }
+
+    /// Whether it is over once another session is begun.
+    fn may_pass(&self) -> bool {
+        match self {
+            Mishap::Closed
+            | Mishap::NoLine
+            | Mishap::NoGreeting
+            | Mishap::NoChallenge
+            | Mishap::Misfit
+            | Mishap::Freed
+            | Mishap::Silent => true,
+            _ => false,
         }
     }
 }
@@ -145,6 +206,18 @@ impl Failure {
         match fault {
             NameFault::BadName => Failure::Word(wanted),
             NameFault::Memory => Failure::Memory,
+        }
+    }
+
+    /// Whether it may be over once another session is begun: what a server refuses, where it was once less strict.
+    pub(crate) fn may_pass(&self, was_let_in: bool) -> bool {
+        match self {
+            Failure::Word(_) | Failure::Memory => false,
+            Failure::Refused(_) => was_let_in,
+            Failure::System(deed, error) => {
+                deed.may_pass() && error.kind() != ErrorKind::InvalidInput
+            }
+            Failure::Other(mishap) => mishap.may_pass(),
         }
     }
 
@@ -195,7 +268,7 @@ fn text_of(alloc: Global, failure: &Failure) -> Result<Vec<u8>, Memory> {
     }
 }
 
-/// The line that is printed of a failure.
+/// The line that is printed of a text.
 fn line_of(alloc: Global, server: &str, text: &[u8]) -> Result<Vec<u8>, Memory> {
     let mut line = Vec::from_slice(alloc, b"acapc: ")?;
     line.extend_from_slice(server.as_bytes())?;
@@ -205,10 +278,15 @@ fn line_of(alloc: Global, server: &str, text: &[u8]) -> Result<Vec<u8>, Memory> 
     Ok(line)
 }
 
+/// The line that is printed of a failure.
+pub(crate) fn said(alloc: Global, server: &str, failure: &Failure) -> Result<Vec<u8>, Memory> {
+    let text = text_of(alloc, failure)?;
+    line_of(alloc, server, &text)
+}
+
 /// Prints a failure on standard error, and gives the program's status.
 pub(crate) fn report(rt: &HostRuntime, server: &str, failure: &Failure) -> io::Result<ExitCode> {
-    let text = text_of(rt.alloc(), failure)?;
-    let line = line_of(rt.alloc(), server, &text)?;
+    let line = said(rt.alloc(), server, failure)?;
     rt.stderr().write_all(&line)?;
     Ok(ExitCode::from(failure.status()))
 }

@@ -18,7 +18,11 @@ fn print_refusal(
 }
 
 /// Adds a line for a refusal, if a response is one. Whether it is.
-fn print_if_refused(out: &mut Vec<u8>, form: Form, response: &Response) -> Result<bool, Memory> {
+pub(crate) fn print_if_refused(
+    out: &mut Vec<u8>,
+    form: Form,
+    response: &Response,
+) -> Result<bool, Memory> {
     match response.line() {
         Some(Line::Completion(tag, Ending::Failed | Ending::Wrong, _, text)) => {
             print_refusal(out, form, tag, text)?;

@@ -2,18 +2,26 @@
 #![tactic(auto)]
 
 mod arguments;
+mod asking;
 mod beside;
+mod contents;
 mod doing;
 mod dumping;
 mod failure;
 mod hearing;
+mod judging;
+mod keeper;
+mod keeping;
+mod kept_file;
 mod meaning;
 mod objects;
 mod polling;
 mod relaying;
+mod restoring;
 mod secret;
 mod session;
 mod shown;
+mod states;
 mod storing;
 mod verbs;
 mod watching;

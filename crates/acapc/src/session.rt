@@ -8,6 +8,7 @@ use acap_entries::{Label, Memory};
 use std::alloc::Global;
 use std::io::{ErrorKind, Read, Write};
 use std::net::TcpStream;
+use std::time::Duration;
 
 /// So many octets a line of the server may have, its literals counted.
 pub(crate) const LIMIT: u32 = 1 << 30;
@@ -149,17 +150,39 @@ impl Session {
         }
     }
 
-    /// Reads the octets that come next.
-    pub(crate) fn take(&mut self) -> Result<(), Failure> {
+    /// Gives the server so much time for each read and each write.
+    pub(crate) fn give_time(&self, time: Duration) -> Result<(), Failure> {
+        let done = self.stream.set_read_timeout(Some(time));
+        match done.and(self.stream.set_write_timeout(Some(time))) {
+            Ok(()) => Ok(()),
+            Err(error) => Err(Failure::System(Deed::Wait, error)),
+        }
+    }
+
+    /// Reads the octets that come next. Whether some came within the time that the server is given.
+    pub(crate) fn take_in_time(&mut self) -> Result<bool, Failure> {
         let mut piece = [0; PIECE];
         let room = if self.singly { 1 } else { PIECE };
         match self.stream.read(&mut piece[..room]) {
             Ok(0) => Err(Failure::Other(Mishap::Closed)),
-            Ok(count) => Ok(self.reader.push(&piece[..count])?),
+            Ok(count) => {
+                self.reader.push(&piece[..count])?;
+                Ok(true)
+            }
             Err(error) => match error.kind() {
-                ErrorKind::Interrupted => Ok(()),
+                ErrorKind::Interrupted => Ok(true),
+                ErrorKind::WouldBlock => Ok(false),
                 _ => Err(Failure::System(Deed::Read, error)),
             },
+        }
+    }
+
+    /// Reads the octets that come next.
+    pub(crate) fn take(&mut self) -> Result<(), Failure> {
+        if self.take_in_time()? {
+            Ok(())
+        } else {
+            Err(Failure::Other(Mishap::Silent))
         }
     }
 

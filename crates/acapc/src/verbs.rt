@@ -74,7 +74,7 @@ pub(crate) static PROGRAM: [Word; 4] = [
 ];
 
 /// The commands, in the order in which help lists them.
-pub(crate) static VERBS: [Verb; 12] = [
+pub(crate) static VERBS: [Verb; 13] = [
     Verb {
         name: "get",
         about: "Print values, a line each: entry, attribute and value, with TABs between them",
@@ -230,6 +230,33 @@ pub(crate) static VERBS: [Verb; 12] = [
         about: "Print what the server holds, as the commands that make it again",
         usage: None,
         words: &[],
+    },
+    Verb {
+        name: "keep",
+        about: "Keep a file current that makes what the server holds again, until interrupted",
+        usage: None,
+        words: &[
+            Word {
+                name: "FILE",
+                kind: Kind::Needed,
+                help: "The file, which is begun where there is none",
+            },
+            Word {
+                name: "restore",
+                kind: Kind::Flag,
+                help: "Where the server has less than half of the file's entries, send it the file's commands",
+            },
+            Word {
+                name: "accept",
+                kind: Kind::Flag,
+                help: "There keep what the server has, once the file has become FILE.1",
+            },
+            Word {
+                name: "over-bases",
+                kind: Kind::Flag,
+                help: "Begin also where a dataset inherits, though what hides entries of a base isn't kept",
+            },
+        ],
     },
     Verb {
         name: "load",

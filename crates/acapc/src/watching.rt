@@ -14,10 +14,10 @@ use clap::ArgMatches;
 use std::alloc::Global;
 
 /// The tag of the SEARCH.
-const TAG: &[u8] = b"A1";
+pub(crate) const TAG: &[u8] = b"A1";
 
 /// The name of the context.
-const NAME: &[u8] = b"watch";
+pub(crate) const NAME: &[u8] = b"watch";
 
 /// What is watched.
 #[derive(Drop)]
@@ -41,7 +41,7 @@ fn attribute(
 }
 
 /// The name of the context.
-fn context_name(alloc: Global) -> Result<ContextName, Failure> {
+pub(crate) fn context_name(alloc: Global) -> Result<ContextName, Failure> {
     match ContextName::read(alloc, NAME) {
         Ok(name) => Ok(name),
         Err(fault) => Err(Failure::of_word(Wanted::Context, fault)),
@@ -64,7 +64,11 @@ fn begin_by(alloc: Global, follower: &mut Follower, command: &Command) -> Result
 }
 
 /// The same, of a SEARCH that is let go.
-fn begin(alloc: Global, follower: &mut Follower, command: Command) -> Result<Vec<u8>, Memory> {
+pub(crate) fn begin(
+    alloc: Global,
+    follower: &mut Follower,
+    command: Command,
+) -> Result<Vec<u8>, Memory> {
     let line = begin_by(alloc, follower, &command);
     drop(command);
     line
@@ -102,7 +106,7 @@ fn end_of<'a>(line: &Line<'a>) -> Option<(Ending, &'a [u8])> {
 }
 
 /// Lets a follower heed a line.
-fn follow(follower: &mut Follower, line: &Line) -> Result<(), Failure> {
+pub(crate) fn follow(follower: &mut Follower, line: &Line) -> Result<(), Failure> {
     match follower.follow(line) {
         Ok(()) => Ok(()),
         Err(FollowFault::Misfit(_)) => Err(Failure::Other(Mishap::Misfit)),

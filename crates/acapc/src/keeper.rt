@@ -1,0 +1,202 @@
+//! `keep`: a file of commands that makes again what a server holds, kept current for as long as the program runs.
+
+use crate::dumping::{Dumped, LOST};
+use crate::failure::{Deed, Failure, Wanted, said};
+use crate::kept_file::lock;
+use crate::secret::secret;
+use crate::session::Session;
+use acap_client::Follower;
+use acap_entries::Memory;
+use clap::ArgMatches;
+use std::alloc::Global;
+use std::fs::File;
+use std::io::Write;
+use std::thread;
+use std::time::{Duration, Instant};
+
+/// So many seconds a server is given to answer, and it is left alone where nothing changes.
+pub(crate) const MINUTE: u64 = 60;
+
+/// So many seconds it takes at least from one state of the file to the next, and from one session to the next.
+pub(crate) const SECOND: u64 = 1;
+
+/// What is done where a server has too little to be what the file was made from.
+#[derive(Clone, Copy, PartialEq, Eq)]
+pub(crate) enum Remedy {
+    /// The program ends.
+    Stop,
+    /// The file's commands are sent to the server.
+    Restore,
+    /// The file is put aside.
+    Accept,
+}
+
+/// How far a session with the server has come.
+#[derive(Clone, Copy)]
+pub(crate) struct Course {
+    /// The SEARCH isn't answered yet.
+    pub(crate) is_listing: bool,
+    /// An UPDATECONTEXT isn't answered yet.
+    pub(crate) is_asked: bool,
+    /// The file doesn't have all that came.
+    pub(crate) is_behind: bool,
+    /// No list has come yet.
+    pub(crate) is_first: bool,
+    /// The file was restored in this session.
+    pub(crate) is_restored: bool,
+}
+
+/// A file that is kept, and what is followed of its server.
+#[derive(Drop)]
+pub(crate) struct Keeper<'a> {
+    pub(crate) rt: &'a HostRuntime,
+    pub(crate) server: String,
+    pub(crate) user: String,
+    pub(crate) secret: Vec<u8>,
+    pub(crate) file: String,
+    pub(crate) remedy: Remedy,
+    pub(crate) over_bases: bool,
+    pub(crate) lock: Option<File>,
+    /// Whether a server has let the user in before.
+    pub(crate) was_let_in: bool,
+    pub(crate) follower: Follower,
+    pub(crate) course: Course,
+    /// When the server was last asked for changes, or the file was last written after that.
+    pub(crate) last: Option<Instant>,
+    /// What came of the file's last state, once the program has written one.
+    pub(crate) dumped: Option<Dumped>,
+    /// The last line that was said.
+    pub(crate) said: Vec<u8>,
+}
+
+/// The moment.
+pub(crate) fn now(rt: &HostRuntime) -> Result<Instant, Failure> {
+    match Instant::now(rt) {
+        Ok(now) => Ok(now),
+        Err(error) => Err(Failure::System(Deed::Wait, error)),
+    }
+}
+
+/// The beginning of a session.
+pub(crate) fn beginning() -> Course {
+    Course {
+        is_listing: false,
+        is_asked: false,
+        is_behind: false,
+        is_first: true,
+        is_restored: false,
+    }
+}
+
+/// What a call wants done where a server has too little.
+fn remedy_of(words: &ArgMatches) -> Result<Remedy, Failure> {
+    match (words.get_flag("restore"), words.get_flag("accept")) {
+        (true, true) => Err(Failure::Word(Wanted::Remedy)),
+        (true, false) => Ok(Remedy::Restore),
+        (false, true) => Ok(Remedy::Accept),
+        (false, false) => Ok(Remedy::Stop),
+    }
+}
+
+/// A word of a call.
+fn word(alloc: Global, matches: &ArgMatches, name: &str) -> Result<String, Memory> {
+    Ok(String::from_str(alloc, matches.get_str(name).unwrap_or(""))?)
+}
+
+/// What the words of a call want kept.
+fn keeper_of<'a>(
+    rt: &'a HostRuntime,
+    matches: &ArgMatches,
+    words: &ArgMatches,
+) -> Result<Keeper<'a>, Failure> {
+    let remedy = remedy_of(words)?;
+    let secret = secret(rt, matches)?;
+    let alloc = rt.alloc();
+    Ok(Keeper {
+        rt,
+        server: word(alloc, matches, "HOST:PORT")?,
+        user: word(alloc, matches, "USER")?,
+        secret,
+        file: word(alloc, words, "FILE")?,
+        remedy,
+        over_bases: words.get_flag("over-bases"),
+        lock: None,
+        was_let_in: false,
+        follower: Follower::new(alloc),
+        course: beginning(),
+        last: None,
+        dumped: None,
+        said: Vec::new(alloc),
+    })
+}
+
+impl<'a> Keeper<'a> {
+    /// Says on standard error what the program goes on after, unless that was said last.
+    pub(crate) fn say(&mut self, failure: &Failure) -> Result<(), Memory> {
+        let line = said(self.rt.alloc(), self.server.as_str(), failure)?;
+        if line != self.said {
+            let _ = self.rt.stderr().write_all(&line);
+            self.said = line;
+        }
+        Ok(())
+    }
+
+    /// Fails where the program can't go on after a failure, and else says it.
+    fn outlive(&mut self, failure: Failure) -> Result<(), Failure> {
+        if !failure.may_pass(self.was_let_in) {
+            return Err(failure);
+        }
+        Ok(self.say(&failure)?)
+    }
+
+    /// Goes on after a session, or fails.
+    pub(crate) fn go_on(&mut self, ended: Result<(), Failure>) -> Result<(), Failure> {
+        match ended {
+            Ok(()) => Ok(()),
+            Err(failure) => self.outlive(failure),
+        }
+    }
+
+    /// Locks the file against other programs that would keep it.
+    fn take_lock(&mut self) -> Result<(), Failure> {
+        if self.lock.is_none() {
+            self.lock = Some(lock(self.rt, self.file.as_str())?);
+        }
+        Ok(())
+    }
+
+    /// A session with the server.
+    fn enter(&self) -> Result<Session, Failure> {
+        let session = Session::connect(self.rt, self.server.as_str(), false)?;
+        session.give_time(Duration::from_secs(MINUTE))?;
+        session.logged_in(self.user.as_bytes(), &self.secret)
+    }
+
+    /// Keeps the file for one session with the server.
+    fn visit(&mut self) -> Result<(), Failure> {
+        self.take_lock()?;
+        let mut session = self.enter()?;
+        self.attend(&mut session)
+    }
+
+    /// Keeps the file for one session after the other.
+    fn run(&mut self) -> Result<(), Failure> {
+        for _ in 0..u64::MAX {
+            let ended = self.visit();
+            self.go_on(ended)?;
+            thread::sleep(self.rt, Duration::from_secs(SECOND));
+        }
+        Ok(())
+    }
+}
+
+/// `keep`.
+pub(crate) fn keep(
+    rt: &HostRuntime,
+    matches: &ArgMatches,
+    words: &ArgMatches,
+) -> Result<(), Failure> {
+    let mut keeper = keeper_of(rt, matches, words)?;
+    let _ = rt.stderr().write_all(LOST);
+    keeper.run()
+}
