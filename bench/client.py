@@ -6,6 +6,7 @@
 ACAPC and ACAPD are the two programs. Each check is named on a line, and at the first difference it ends with status 1. CHECK is part of the
 name of a check: then those alone are done. It ends only programs that it started.
 """
+import os
 import pathlib
 import random
 import re
@@ -17,7 +18,7 @@ import tempfile
 import threading
 import time
 
-from serve import SEATS, USERS, Server, done, found, free_port, same, string
+from serve import SEATS, USERS, Server, answer, done, found, free_port, same, settings_file, string
 
 SECONDS = 60  # that a check may take
 EVERY = bytes(range(256))
@@ -293,6 +294,368 @@ def _(client, server):
     return f"{sum(map(len, wanted.values()))} rows, {len(out)} octets, {out.count(b' STORE (')} commands"
 
 
+# ---- a file that is kept
+
+class Keep:
+    """A client that keeps a file."""
+
+    def __init__(self, root, file, *options):
+        self.file = file
+        self.process = root.start("keep", str(file), *options)
+
+    def __enter__(self):
+        return self
+
+    def __exit__(self, *_):
+        self.process.kill()
+        self.process.communicate()
+
+    def end(self):
+        """What it says, and its status, when it ends of itself."""
+        out, err = self.process.communicate(timeout=20)
+        return out, err, self.process.returncode
+
+    def says(self, line):
+        """Waits until it says this line on standard error."""
+        while (said := self.process.stderr.readline()) != line:
+            same(bool(said), True)
+
+    def holds(self, wanted, seconds=10):
+        """Waits until the file has these octets."""
+        end = time.monotonic() + seconds
+        while not self.file.exists() or self.file.read_bytes() != wanted:
+            if time.monotonic() > end:
+                same(self.file.read_bytes(), wanted)
+            time.sleep(0.01)
+
+
+class Again(Server):
+    """A server at the port of one that has ended."""
+
+    def __init__(self, before, folder, **settings):
+        self.port, self.clients = before.port, []
+        words = [before.process.args[0], "serve", settings_file(folder, listen=f"127.0.0.1:{self.port}", **settings)]
+        self.process = subprocess.Popen(words, stdin=subprocess.DEVNULL, stdout=subprocess.PIPE, stderr=subprocess.PIPE)
+        self.greeted().close()
+
+
+def dumped(root):
+    """What `dump` prints."""
+    out, err, status = root.call("dump")
+    same((err, status), (LOST, 0))
+    return out
+
+
+def entries(client, names, value):
+    """Stores a value in entries of /kept/, 250 at a time."""
+    for at in range(0, len(names), 250):
+        done(client, "STORE " + " ".join(f'("/kept/{name}" "k" {{{len(value)}+}}\r\n{value})' for name in names[at:at + 250]))
+
+
+def random_change(picks, user):
+    """A change of what a user has. NIL, deletions and access lists keep out of datasets that inherit: no dump has them there without a value."""
+    base, new = {"joe": "/option/~/", "ann": "/book/~/"}[user], f"/new{picks.randrange(4)}/~/"
+    dataset = picks.choice([base, base, "/option/~/", new])
+    name, attribute = f"e{picks.randrange(60)}", f"k{picks.randrange(5)}"
+    if picks.random() < 0.1:
+        return f'SETACL ("{new}" "{attribute}" "{name}") "anyone" "{picks.choice(["r", "rw", ""])}"'
+    if dataset == base and picks.random() < 0.2:
+        return f'STORE ("{dataset}{name}" "{picks.choice([attribute, "entry"])}" NIL)'
+    if picks.random() < 0.2:
+        return f'STORE ("{dataset}{name}" "{attribute}" ("value" ("{picks.random()}" "" "x")))'
+    return b'STORE ("%s" "%s" %s)' % (f"{dataset}{name}".encode(), attribute.encode(), string(picks.choice(ODD) + b"%d" % picks.randrange(99)))
+
+
+@check("keep, and 1,000 changes by four clients")
+def _(client, server):
+    fill(server)
+    root = Caller(client, server.port, "root")
+    with tempfile.TemporaryDirectory() as folder:
+        file = pathlib.Path(folder) / "kept.acap"
+        with Keep(root, file, "--over-bases") as keep:
+            keep.says(LOST)
+            others, picks = [(user, server.client(user)) for user in ("joe", "ann", "joe", "ann")], random.Random(11)
+            refused = 0
+            for number in range(1_000):
+                user, other = others[number % 4]
+                refused += answer(other, random_change(picks, user))[0] != "OK"
+            keep.holds(dumped(root))
+            same(file.stat().st_mode & 0o777, 0o600)
+            same(sorted(path.name for path in file.parent.iterdir() if path.is_file()), ["kept.acap", "kept.acap.lock"])
+        with Server(server.process.args[0], folder, start=file) as begun:
+            begun.greeted().close()
+            wanted = rows_of(server)
+            for key, rows in rows_of(begun).items():
+                same((key, rows), (key, wanted[key]))
+    return f"{refused} of them refused, {sum(map(len, wanted.values()))} rows"
+
+
+class Writer(threading.Thread):
+    """A client that stores its number in three entries at once, counting on, until its server is gone."""
+
+    def __init__(self, server, who):
+        super().__init__(daemon=True)
+        self.client, self.who, self.sent, self.done = server.client("root"), who, [], []
+        self.start()
+
+    def run(self):
+        try:
+            for number in range(100_000):
+                self.sent.append(time.monotonic())
+                done(self.client, "STORE " + " ".join(f'("/count/{self.who}{place}" "n" "{number}")' for place in "abc"))
+                self.done.append(time.monotonic())
+        except (OSError, EOFError):
+            pass
+
+
+def cut(server, writers):
+    """The number of each writer that a server has, and that none of them has an earlier one than its place in time allows."""
+    rows = dict(found(server.client("root"), 'SEARCH "/count/" RETURN ("n") NOT EQUAL "entry" "i;octet" ""'))
+    held = [{int(rows.get(f"{writer.who}{place}".encode(), b"-1")) for place in "abc"} for writer in writers]
+    same([len(numbers) for numbers in held], [1] * len(writers))
+    held = [numbers.pop() for numbers in held]
+    for one, number in zip(writers, held):
+        for other, theirs in zip(writers, held):
+            if theirs >= 0 and number + 1 < len(one.done):
+                same(one.done[number + 1] > other.sent[theirs], True)
+    return held
+
+
+@check("keep, and a server that is killed at ten moments")
+def _(client, server):
+    lost = []
+    with tempfile.TemporaryDirectory() as folder:
+        file, before = pathlib.Path(folder) / "kept.acap", server
+        before.process.kill()
+        before.process.communicate()
+        file.touch()
+        with Keep(Caller(client, server.port, "root"), file) as keep:
+            for number in range(10):
+                with Again(before, folder, start=file) as running:
+                    writers = [Writer(running, f"{number}{who}") for who in "pqrs"]
+                    time.sleep(1.2 + 0.13 * number)
+                    running.process.kill()
+                    killed = time.monotonic()
+                for writer in writers:
+                    writer.join()
+                time.sleep(0.3)
+                with Again(before, folder, start=file) as begun:
+                    held = cut(begun, writers)
+                    lost += [killed - min([killed, *(writer.done[at + 1] for writer, at in zip(writers, held) if at + 1 < len(writer.done))])]
+                    keep.holds(dumped(Caller(client, server.port, "root")))
+    same(max(lost) < 3, True)
+    return f"at most {max(lost):.2f} s lost, {min(lost):.2f} at least"
+
+
+TOO_FEW = "the server has less than half of the file's entries: the file stays as it is (--restore, --accept)"
+
+
+@check("keep, and a server that has too little")
+def _(client, server):
+    root = Caller(client, server.port, "root")
+    with tempfile.TemporaryDirectory() as folder:
+        file = pathlib.Path(folder) / "kept.acap"
+        aside = file.with_name("kept.acap.1")
+        names = [f"e{number:03}" for number in range(100)]
+        with Keep(root, file) as keep:
+            entries(server.client("root"), names, "1")
+            whole = dumped(root)
+            keep.holds(whole)
+            server.process.kill()
+            server.process.communicate()
+            with Again(server, folder):
+                out, err, status = keep.end()
+                same((out, err.splitlines()[-1], status), (b"", f"acapc: {root.words[1]}: {TOO_FEW}".encode(), 1))
+                same(file.read_bytes(), whole)
+        with Again(server, folder) as few:
+            entries(few.client("root"), names[:49], "2")
+            said = LOST + f"acapc: {root.words[1]}: {TOO_FEW}\n".encode()
+            same(root.call("keep", str(file)), (b"", said, 1))
+            same(root.call("keep", str(file), "--restore", "--accept")[2], 2)
+            same(file.read_bytes(), whole)
+            with Keep(root, file, "--restore") as keep:
+                keep.says(LOST)
+                end = time.monotonic() + 10
+                while dumped(root) != whole and time.monotonic() < end:
+                    time.sleep(0.05)
+                keep.holds(whole)
+                done(few.client("root"), 'STORE ("/kept/more" "k" "1")')
+                whole = dumped(root)
+                keep.holds(whole)
+        with Again(server, folder) as few:
+            entries(few.client("root"), names[:3], "3")
+            small = dumped(root)
+            with Keep(root, file, "--accept") as keep:
+                keep.holds(small)
+            same(aside.read_bytes(), whole)
+            file.write_bytes(whole)
+            said = LOST + f"acapc: {root.words[1]}: the file can't be put aside: FILE.1 is there already\n".encode()
+            same(root.call("keep", str(file), "--accept"), (b"", said, 1))
+            same((file.read_bytes(), aside.read_bytes()), (whole, whole))
+            aside.unlink()
+            refused = b'X1 FROB\r\nX2 STORE ("/kept/e000" "modtime" "1")\r\n' + whole
+            file.write_bytes(refused)
+            with Keep(root, file, "--restore") as keep:
+                same([keep.process.stdout.readline() for _ in range(2)], [b"X1\tUnknown command\n", b"X2\tInvalid value\n"])
+                keep.holds(whole)
+                same(aside.read_bytes(), refused)
+            same(file.with_name("kept.acap.restoring").exists(), False)
+
+
+@check("keep, and a restore that is broken off")
+def _(client, server):
+    root, names = Caller(client, server.port, "root"), [f"e{number:05}" for number in range(20_000)]
+    entries(server.client("root"), names, "1")
+    whole = dumped(root)
+    with tempfile.TemporaryDirectory() as folder:
+        file = pathlib.Path(folder) / "kept.acap"
+        marked = file.with_name("kept.acap.restoring")
+        file.write_bytes(whole)
+        server.process.kill()
+        server.process.communicate()
+        with Keep(root, file, "--restore") as keep:
+            with Again(server, folder) as other:
+                watcher, wanted = other.client("root"), 'SEARCH "/kept/" RETURN ("entry") EQUAL "entry" "i;octet" "e12000"'
+                while len(watcher.command(wanted)) < 3:
+                    same(keep.process.poll(), None)
+                other.process.kill()
+            same((marked.exists(), file.read_bytes()), (True, whole))
+            with Again(server, folder) as other:  # where the first restore had come to more than half of the file
+                entries(other.client("root"), names[:12_000], "2")
+                while marked.exists():
+                    same((keep.process.poll(), file.read_bytes()), (None, whole))
+                same(dumped(root), whole)
+                keep.holds(whole)
+
+
+@check("keep, and files that it doesn't touch")
+def _(client, server):
+    joe, root = Caller(client, server.port), Caller(client, server.port, "root")
+
+    def refuses(text, *words, caller=root):
+        same(caller.call("keep", *words), (b"", LOST + f"acapc: {root.words[1]}: {text}\n".encode(), 1))
+
+    with tempfile.TemporaryDirectory() as folder:
+        file = pathlib.Path(folder) / "kept.acap"
+        refuses("only an administrator can dump all", str(file), caller=joe)
+        refuses("Login failed", str(file), caller=Caller(client, server.port, "root", secret="no"))
+        same(file.exists(), False)
+        for text in (b"root:x:0:0\n", b'A1 NOOP\r\nA2 STORE ("/kept/a" "k" "1"', b"\r\n"):
+            file.write_bytes(text)
+            refuses("the file isn't one of whole commands (--accept)", str(file), "--restore")
+            same(file.read_bytes(), text)
+        with Keep(root, file, "--accept") as keep:
+            keep.holds(dumped(root))
+            same(file.with_name("kept.acap.1").read_bytes(), b"\r\n")
+            refuses("the file is kept by another program", str(file))
+        done(server.client("joe"), 'STORE ("/option/~/" "dataset.inherit" "/option/")')
+        text = "a dataset inherits, and what hides entries of its base isn't kept (--over-bases)"
+        kept = file.read_bytes()
+        refuses(text, str(file))
+        same(file.read_bytes(), kept)
+        with Keep(root, file, "--over-bases") as keep:
+            keep.holds(dumped(root))
+        done(server.client("joe"), 'STORE ("/option/~/" "dataset.inherit" NIL)')
+        with Keep(root, file) as keep:
+            keep.holds(dumped(root))
+            done(server.client("joe"), 'STORE ("/option/~/" "dataset.inherit" "/option/")')
+            keep.says(f"acapc: {root.words[1]}: {text}\n".encode())
+            keep.holds(dumped(root))
+        done(server.client("joe"), 'STORE ("/option/~/" "dataset.inherit" NIL)')
+        marked = file.with_name("kept.acap.restoring")
+        marked.touch()
+        refuses("a restore was broken off: the file stays as it is (--restore, --accept)", str(file))
+        with Keep(root, file, "--restore", "--over-bases") as keep:
+            while marked.exists():
+                same(keep.process.poll(), None)
+            keep.holds(dumped(root))
+
+
+@check("keep, and a disk that is full, a folder that is gone")
+def _(client, server):
+    root, joe = Caller(client, server.port, "root"), server.client("joe")
+    with tempfile.TemporaryDirectory() as folder:
+        disk = pathlib.Path(folder) / "disk"
+        disk.mkdir()
+        if subprocess.run(["mount", "-t", "tmpfs", "-o", "size=256k", "tmpfs", disk], check=False, capture_output=True).returncode:
+            return "not tried: no tmpfs can be mounted"
+        try:
+            file, filler = disk / "kept.acap", disk / "filler"
+            with Keep(root, file) as keep:
+                done(joe, 'STORE ("/option/~/a" "k" "1")')
+                first = dumped(root)
+                keep.holds(first)
+                filler.write_bytes(bytes(200_000))
+                done(joe, b'STORE ("/option/~/b" "k" %s)' % string(bytes(60_000)))
+                keep.says(f"acapc: {root.words[1]}: cannot write the file: No space left on device (os error 28)\n".encode())
+                done(joe, 'STORE ("/option/~/a" "k" "2")')
+                time.sleep(1.5)
+                same((file.read_bytes(), sorted(path.name for path in disk.iterdir())), (first, ["filler", "kept.acap", "kept.acap.lock"]))
+                filler.unlink()
+                keep.holds(dumped(root))
+        finally:
+            subprocess.run(["umount", disk], check=True)
+        here, gone = pathlib.Path(folder) / "here", pathlib.Path(folder) / "gone"
+        here.mkdir()
+        with Keep(root, here / "kept.acap") as keep:
+            keep.holds(dumped(root))
+            here.rename(gone)
+            done(joe, 'STORE ("/option/~/a" "k" "3")')
+            keep.says(f"acapc: {root.words[1]}: cannot write the file: No such file or directory (os error 2)\n".encode())
+            gone.rename(here)
+            keep.holds(dumped(root))
+
+
+@check("keep, and 10,000 entries")
+def _(client, server):
+    root, writer = Caller(client, server.port, "root"), server.client("root")
+    names = [f"e{number:05}" for number in range(10_000)]
+    with tempfile.TemporaryDirectory() as folder, Keep(root, pathlib.Path(folder) / "kept.acap") as keep:
+        entries(writer, names, "1")
+        keep.holds(dumped(root))
+        done(writer, 'SETACL ("/kept/" "k") "joe" "r"')
+        keep.holds(dumped(root))
+        done(writer, 'SETACL ("/kept/") "ann" "xr"')
+        keep.holds(dumped(root))
+        keep.process.send_signal(signal.SIGSTOP)
+        for number in range(3):  # more notices than its socket takes, and 4,096 beside
+            entries(writer, names, "x" * 900 + str(number))
+        keep.process.send_signal(signal.SIGCONT)
+        begun = time.monotonic()
+        keep.holds(dumped(root), 30)
+        return f"current {time.monotonic() - begun:.1f} s after 30,000 changes that it didn't hear"
+
+
+def spent(process):
+    """The processor time that a process has taken, in seconds, and the memory that it has, in octets."""
+    fields = pathlib.Path(f"/proc/{process.pid}/stat").read_text().rsplit(")", 1)[1].split()
+    return (int(fields[11]) + int(fields[12])) / os.sysconf("SC_CLK_TCK"), int(fields[21]) * os.sysconf("SC_PAGESIZE")
+
+
+def cost(server, keep, count):
+    """What `count` STOREs take, one after the other, in 1,000 entries: microseconds of the server and of the keeper, and octets of the server, of each."""
+    writer = server.client("root")
+    entries(writer, [f"e{number:03}" for number in range(1_000)], "1")
+    processes = [server.process, *([keep.process] if keep else [])]
+    time.sleep(2)
+    before = [spent(process) for process in processes]
+    for number in range(count):
+        done(writer, f'STORE ("/kept/e{number % 1_000:03}" "k" "{number}")')
+    time.sleep(2)
+    after = [spent(process) for process in processes]
+    return [*((later[0] - earlier[0]) * 1e6 / count for earlier, later in zip(before, after)), (after[0][1] - before[0][1]) / count]
+
+
+@check("keep, and what it costs")
+def _(client, server):
+    with tempfile.TemporaryDirectory() as folder:
+        alone = cost(server, None, 5_000)
+        with Server(server.process.args[0], folder) as other, Keep(Caller(client, other.port, "root"), pathlib.Path(folder) / "kept.acap") as keep:
+            keep.says(LOST)
+            kept = cost(other, keep, 5_000)
+    return f"a STORE takes {kept[0]:.0f} us of the server and {kept[1]:.0f} of the keeper, {alone[0]:.0f} without it; {kept[2]:.0f} octets, {alone[1]:.0f} without it"
+
+
 # ---- what is refused
 
 @check("refused logins and commands")
@@ -328,6 +691,7 @@ def _(client, server):
         out, err, status = joe.call(*words)
         wanted = (0, True, False) if words[:1] in (("--help",), ("--version",)) else (2, False, True)
         same((status, bool(out), bool(err)), wanted)
+    same(joe.call("--version"), (b"acapc 0.1.0\n", b"", 0))
     out, err, status = joe.call("list", "/", environment={})
     same((out, status, b"ACAP_SECRET" in err), (b"", 2, True))
 
