@@ -12,6 +12,7 @@ use Rattle.std.specs.FinMap.{find, from_entries_push, get-from_entries, same_map
 use Rattle.acap_entries.specs.Orders.{octets_cmp}
 use Rattle.acap_entries.specs.Sorted.{place, is_tied, InOrder}
 use Rattle.acap_entries.proofs.StoreLemmas.{octets_same}
+use Rattle.acap_entries.proofs.Logic.{Equal_from_is_eq}
 use Rattle.acap_grammar.specs.Printed.{PrintedRow, printed_by_name}
 use Rattle.acap_client.proofs.Placed.{tied_held, insert_is, place_in, add_order}
 use Rattle.acap_client.specs.Placing.{keyed, by_order, with_first}
@@ -27,11 +28,6 @@ pub first_at : (rows new : List PrintedRow) (row : PrintedRow) (at : ℕ) → In
 first_at rows new row at h t p e =
     let left : new ≡ insert rows (place_in rows row.name) row = e ∙ ap (λ i. insert rows i row) p in
     (ap by_order left ∙ sym (first_new rows row h t), subst (λ t. InOrder octets_cmp (keyed t)) (sym left) (add_order rows row h t))
-
-equal : (o : Ordering) → is_eq o ≡ true → o ≡ Equal
-equal Less e = cc
-equal Equal e = refl
-equal Greater e = cc
 
 keyed_push : (rows : List PrintedRow) (row : PrintedRow) → keyed (rows ++ row ∷ []) ≡ keyed rows ++ (row.name, row) ∷ []
 keyed_push [] row = refl
@@ -52,7 +48,7 @@ module _ {X : Type 0} where
   find_again : (es : List (List ℕ × X)) (k : List ℕ) (v y : X) (q : List ℕ) → find octets_cmp k es ≡ Some y → find octets_cmp q (es ++ (k, v) ∷ []) ≡ find octets_cmp q es
   find_again es k v y q h = elim (eq_by_cmp octets_cmp q k) as (λ b. eq_by_cmp octets_cmp q k ≡ b → find octets_cmp q (es ++ (k, v) ∷ []) ≡ find octets_cmp q es) [
     | true ↦ λ t.
-        let same : q ≡ k = octets_same q k (equal _ t) in
+        let same : q ≡ k = octets_same q k (Equal_from_is_eq _ t) in
         let there : find octets_cmp q es ≡ Some y = ap (λ q. find octets_cmp q es) same ∙ h in
         find_on es ((k, v) ∷ []) q y there ∙ sym there
     | false ↦ λ t. find_off es k v q t

@@ -1,7 +1,7 @@
 -- Lists, item by item.
-use Rattle.std.proofs.Common.{◌≡◌, ℕ, true, false, cond, List, [], ◌∷◌, length, drop, Result, Ok, Err, sym, ap, ◌∙◌, arith}
-use Rattle.std.specs.Prelude.{OnOk, bytes_eq}
-use Rattle.acap_commands.specs.declared.store_item.StoreItem.{StoreItem}
+use Rattle.std.proofs.Common.{◌≡◌, ℕ, true, false, cond, List, [], ◌∷◌, length, drop, sym, ap, ◌∙◌, arith}
+use Rattle.std.specs.Prelude.{bytes_eq}
+use Rattle.acap_commands.specs.declared.store.StoreItem.{StoreItem}
 use Rattle.acap_client.specs.Parts.{LeavesItems, one_item, two_items}
 use Rattle.acap_lexer.specs.Token.{Token}
 use Rattle.acap_grammar.specs.Spelling.{each, items}
@@ -11,11 +11,6 @@ use Rattle.acap_client.specs.declared.writing.Writing.{Writing}
 -- with the items that are left, the line is what it was with all of them
 abbrev pub IsSoFar : {A : Type 0} → (A → List Token → List Token) → List A → Writing → ℕ → Writing → Type 0
 IsSoFar spell items old index new = (after : List Token) → line_with old (each spell items after) ≡ line_with new (each spell (drop index items) after)
-
--- what follows where a call did not fail
-pub also : {A E : Type 0} {P Q : Type 0} (r : Result A E) → OnOk r P → (P → Q) → OnOk r Q
-also (Ok x) p f = f p
-also (Err e) p f = tt
 
 -- ---- the items of a STORE
 

@@ -3,8 +3,8 @@ use Rattle.std.proofs.Common.{◌≡◌, ℕ, ◌+◌, ◌≤◌, false, List, [
 use Rattle.acap_grammar.specs.Lines.{Datum, group}
 use Rattle.acap_client.specs.Data.{before_all, grouped, nothing, data_of}
 use Rattle.acap_client.specs.Arguments.{are_none, word_at, text_at, group_at, first_outer, outside}
-use Rattle.acap_client.specs.declared.token.Token.{Token}
-use Rattle.acap_client.specs.declared.token.Token.TheVariants as token
+use Rattle.acap_client.specs.declared.draft.Token.{Token}
+use Rattle.acap_client.specs.declared.draft.Token.TheVariants as token
 
 -- a parenthesis is no word and no string, and is a datum
 opened_data : (inner : List Datum) (outer : List (List Datum)) → (grouped inner outer).inner ≡ group inner ∷ first_outer outer

@@ -8,8 +8,8 @@ use Rattle.acap_client.specs.Drafting.{Nest, empty, shut, grown, nest_from, nest
 use Rattle.acap_client.specs.Hearing.{GoesOn, IsLost}
 use Rattle.acap_client.specs.declared.draft.Draft.{Draft}
 use Rattle.acap_client.specs.declared.place.Place.TheVariants as place
-use Rattle.acap_client.specs.declared.token.Token.{Token}
-use Rattle.acap_client.specs.declared.token.Token.TheVariants as token
+use Rattle.acap_client.specs.declared.draft.Token.{Token}
+use Rattle.acap_client.specs.declared.draft.Token.TheVariants as token
 
 nest-push : (nest : Nest) (ts : List Token) (t : Token) → nest_from nest (ts ++ t ∷ []) ≡ grown (nest_from nest ts) t
 nest-push nest [] t = refl

@@ -5,6 +5,7 @@ use Rattle.std.specs.Prelude.{fold}
 use Rattle.std.specs.List.{list_all}
 use Rattle.std.proofs.lemmas.Bool.{le-leb, and_right}
 use Rattle.acap_lexer.specs.Octets.{is_digit}
+use Rattle.acap_lexer.proofs.Counting.{number_grows}
 use Rattle.acap_grammar.specs.Lines.{number_of, value_of}
 
 -- the number of the digits that follow those that stand for a number
@@ -14,11 +15,6 @@ number_from count rest = fold (λ n d. 10 * n + (d - 48)) count rest
 pub record IsSoFar (digits : List ℕ) (most count : ℕ) (rest : List ℕ) : Type 0 where
   pub number : number_from count rest ≡ value_of digits
   pub fits : count ≤ most
-
--- more digits give no smaller number
-number_grows : (rest : List ℕ) (count : ℕ) → count ≤ number_from count rest
-number_grows [] count = omega arith
-number_grows (d ∷ rest) count = omega (arith, number_grows rest (10 * count + (d - 48)))
 
 pub number_is : (digits : List ℕ) → list_all is_digit digits ≡ true → 0 < length digits → number_of digits ≡ Some (value_of digits)
 unfolding number_of

@@ -3,10 +3,8 @@ use Rattle.std.proofs.Common.{◌≡◌, ℕ, suc, ◌+◌, ◌<◌, ◌≤◌, 
 use Rattle.std.specs.Prelude.{bytes_eq}
 use Rattle.std.specs.List.{filter, position, position_or_len, remove}
 use Rattle.std.specs.Cmp.Lexicographic.{bytes_decides}
+use Rattle.std.proofs.Math.Numerals.{one-add}
 use Rattle.acap_client.specs.Following.{look_up, put, without}
-
-one_more : (n : ℕ) → 1 + n ≡ suc n
-one_more n = omega arith
 
 module _ {A : Type 0} where
   abbrev pub seat : List ℕ → List (List ℕ × A) → ℕ
@@ -28,14 +26,14 @@ module _ {A : Type 0} where
   key_at name [] d = λ h. absurd (omega arith)
   key_at name (e ∷ es) d = elim (bytes_eq name e.0) as (λ b. bytes_eq name e.0 ≡ b → cond (not b) (1 + seat name es) 0 < suc (length es) → (get_or (e ∷ es) (cond (not b) (1 + seat name es) 0) d).0 ≡ name) [
     | true ↦ λ t h. sym ((bytes_decides name e.0).0 t)
-    | false ↦ λ t h. ap (λ i. (get_or (e ∷ es) i d).0) (one_more (seat name es)) ∙ key_at name es d (omega (arith, h))
+    | false ↦ λ t h. ap (λ i. (get_or (e ∷ es) i d).0) (one-add (seat name es)) ∙ key_at name es d (omega (arith, h))
   ] refl
 
   pub look_at : (name : List ℕ) (es : List (List ℕ × A)) (d : List ℕ × A) → seat name es < length es → look_up name es ≡ Some (get_or es (seat name es) d).1
   look_at name [] d = λ h. absurd (omega arith)
   look_at name (e ∷ es) d = elim (bytes_eq name e.0) as (λ b. cond (not b) (1 + seat name es) 0 < suc (length es) → cond b (Some e.1) (look_up name es) ≡ Some (get_or (e ∷ es) (cond (not b) (1 + seat name es) 0) d).1) [
     | true ↦ λ h. refl
-    | false ↦ λ h. look_at name es d (omega (arith, h)) ∙ ap (λ i. Some (get_or (e ∷ es) i d).1) (sym (one_more (seat name es)))
+    | false ↦ λ h. look_at name es d (omega (arith, h)) ∙ ap (λ i. Some (get_or (e ∷ es) i d).1) (sym (one-add (seat name es)))
   ]
 
   pub look_past : (name : List ℕ) (es : List (List ℕ × A)) → length es ≤ seat name es → look_up name es ≡ None
@@ -49,7 +47,7 @@ module _ {A : Type 0} where
   put_at name x [] = λ h. absurd (omega arith)
   put_at name x (e ∷ es) = elim (bytes_eq name e.0) as (λ b. cond (not b) (1 + seat name es) 0 < suc (length es) → cond b ((name, x) ∷ es) (e ∷ put name x es) ≡ set (e ∷ es) (cond (not b) (1 + seat name es) 0) (name, x)) [
     | true ↦ λ h. refl
-    | false ↦ λ h. ap (λ t. e ∷ t) (put_at name x es (omega (arith, h))) ∙ ap (λ i. set (e ∷ es) i (name, x)) (sym (one_more (seat name es)))
+    | false ↦ λ h. ap (λ t. e ∷ t) (put_at name x es (omega (arith, h))) ∙ ap (λ i. set (e ∷ es) i (name, x)) (sym (one-add (seat name es)))
   ]
 
   pub put_past : (name : List ℕ) (x : A) (es : List (List ℕ × A)) → length es ≤ seat name es → put name x es ≡ es ++ (name, x) ∷ []
@@ -71,7 +69,7 @@ module _ {A : Type 0} where
   without_at name [] = refl
   without_at name (e ∷ es) = elim (bytes_eq name e.0) as (λ b. bytes_eq name e.0 ≡ b → without name (remove (e ∷ es) (cond (not b) (1 + seat name es) 0)) ≡ cond b (without name es) (e ∷ without name es)) [
     | true ↦ λ t. refl
-    | false ↦ λ t. ap (λ i. without name (remove (e ∷ es) i)) (one_more (seat name es)) ∙ ap (λ b. cond b (without name (remove es (seat name es))) (e ∷ without name (remove es (seat name es)))) t ∙ ap (λ t. e ∷ t) (without_at name es)
+    | false ↦ λ t. ap (λ i. without name (remove (e ∷ es) i)) (one-add (seat name es)) ∙ ap (λ b. cond b (without name (remove es (seat name es))) (e ∷ without name (remove es (seat name es)))) t ∙ ap (λ t. e ∷ t) (without_at name es)
   ] refl
 
   pub without_past : (name : List ℕ) (es : List (List ℕ × A)) → length es ≤ seat name es → without name es ≡ es

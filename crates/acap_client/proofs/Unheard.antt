@@ -9,10 +9,10 @@ use Rattle.acap_client.specs.Reading.{First, NotYet, Whole, Astray, TooLong, fir
 use Rattle.acap_client.specs.Advancing.{Leads, Heard, Ended}
 use Rattle.acap_client.specs.Unread.{Unread, IsReader, Answers, AnswersLine, left_by, left_of, next_of}
 use Rattle.acap_client.specs.declared.draft.Draft.{Draft}
-use Rattle.acap_client.specs.declared.fault.ReadFault.TheVariants as fault
+use Rattle.acap_client.specs.declared.heard.ReadFault.TheVariants as fault
 use Rattle.acap_client.specs.declared.heard.Heard as answers
 use Rattle.acap_client.specs.declared.heard.Heard.TheVariants as heard
-use Rattle.acap_client.specs.declared.token.Token.{Token}
+use Rattle.acap_client.specs.declared.draft.Token.{Token}
 
 -- of which no octet was heard
 pub unheard : (limit : ℕ) (text : List ℕ) (start : ℕ) (draft : Draft) → start ≤ length text → client_of draft ≡ after [] → IsDraft draft → IsReader limit text start 0 draft

@@ -5,7 +5,7 @@ use Rattle.acap_grammar.specs.Lines.{Datum, Word, Text, Empty, Pair, group, numb
 use Rattle.acap_client.specs.Data.{before_all, nothing, data_of}
 use Rattle.acap_client.specs.declared.data.Data.{Data}
 use Rattle.acap_client.specs.declared.number.Number.{Number}
-use Rattle.acap_client.specs.declared.token.Token.{Token}
+use Rattle.acap_client.specs.declared.draft.Token.{Token}
 
 -- the data from a token on, up to the end of the parenthesis that it stands in
 abbrev pub data_in : Data → List Datum

@@ -5,7 +5,7 @@ use Rattle.std.specs.FinMap as finite
 use Rattle.std.proofs.Common.{inl, inr, ap, ◌∙◌}
 use Rattle.acap_grammar.specs.Lines.{Datum, Word, Text, Empty, Pair}
 use Rattle.acap_grammar.specs.Printed.{PrintedRow, PrintedMap}
-use Rattle.acap_commands.specs.declared.make_context.MakeContext.{MakeContext}
+use Rattle.acap_commands.specs.declared.search_modifiers.MakeContext.{MakeContext}
 use Rattle.acap_client.specs.Following.{Held, Listed, Mapped, Kept, Asked, Making, Freeing, Follower}
 
 abbrev octets : Coded (List ℕ)

@@ -1,8 +1,8 @@
 -- The data that tokens stand for [RFC 2244 section 2.2].
 use Rattle.std.specs.Prelude.{List, [], ◌∷◌}
 use Rattle.acap_grammar.specs.Lines.{Datum, Word, Text, group}
-use Rattle.acap_client.specs.declared.token.Token.{Token}
-use Rattle.acap_client.specs.declared.token.Token.TheVariants as token
+use Rattle.acap_client.specs.declared.draft.Token.{Token}
+use Rattle.acap_client.specs.declared.draft.Token.TheVariants as token
 
 -- What stands from a token on: the data up to the end of the parenthesis that the token stands in, and those that
 -- follow each parenthesis around it, the innermost first.

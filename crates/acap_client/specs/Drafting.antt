@@ -7,8 +7,8 @@ use Rattle.acap_client.specs.Data.{Rest, before_all}
 use Rattle.acap_client.specs.declared.draft.Draft.{Draft}
 use Rattle.acap_client.specs.declared.place.Place.{Place}
 use Rattle.acap_client.specs.declared.place.Place.TheVariants as place
-use Rattle.acap_client.specs.declared.token.Token.{Token}
-use Rattle.acap_client.specs.declared.token.Token.TheVariants as token
+use Rattle.acap_client.specs.declared.draft.Token.{Token}
+use Rattle.acap_client.specs.declared.draft.Token.TheVariants as token
 
 -- what stands before each parenthesis that is open, the innermost first, and what stands after it
 pub record Nest : Type 0 where

@@ -8,7 +8,7 @@ use Rattle.acap_grammar.specs.Printed.{printed_list_after, printed_map_after}
 use Rattle.acap_grammar.specs.Printed as printed
 use Rattle.acap_commands.specs.declared.command.Command.{Command}
 use Rattle.acap_commands.specs.declared.command.Command.TheVariants as command
-use Rattle.acap_commands.specs.declared.make_context.MakeContext.{MakeContext}
+use Rattle.acap_commands.specs.declared.search_modifiers.MakeContext.{MakeContext}
 
 -- ---- what is held of one context
 

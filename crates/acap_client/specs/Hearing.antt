@@ -6,8 +6,8 @@ use Rattle.acap_grammar.specs.Listening as client
 use Rattle.acap_client.specs.Data.{data_of}
 use Rattle.acap_client.specs.Drafting.{IsDraft, client_of}
 use Rattle.acap_client.specs.declared.draft.Draft.{Draft}
-use Rattle.acap_client.specs.declared.step.Step.{Step}
-use Rattle.acap_client.specs.declared.step.Step.TheVariants as step
+use Rattle.acap_client.specs.declared.due.Step.{Step}
+use Rattle.acap_client.specs.declared.due.Step.TheVariants as step
 
 -- the literal that is announced, if one is, is no longer than this
 abbrev pub Fits : ℕ → client.Place → Type 0

@@ -5,7 +5,7 @@ use Rattle.acap_grammar.specs.Spelling.{dataset, each, entry, gift, if_there, it
 use Rattle.acap_grammar.specs.Spelling.{open_then, search_tokens}
 use Rattle.acap_grammar.specs.Spelling.{shut, string, time}
 use Rattle.acap_entries.specs.declared.path.Path.{Path}
-use Rattle.acap_commands.specs.declared.store_item.StoreItem.{StoreItem}
+use Rattle.acap_commands.specs.declared.store.StoreItem.{StoreItem}
 use Rattle.acap_client.specs.Writing.{line_with}
 use Rattle.acap_client.specs.declared.writing.Writing.{Writing}
 use Rattle.acap_commands.specs.declared.command.Command.{Command}

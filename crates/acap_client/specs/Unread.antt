@@ -5,7 +5,7 @@ use Rattle.acap_client.specs.Data.{data_of}
 use Rattle.acap_client.specs.Drafting.{IsDraft, client_of}
 use Rattle.acap_client.specs.Reading.{First, NotYet, Whole, Astray, TooLong, first_of, first_from}
 use Rattle.acap_client.specs.declared.draft.Draft.{Draft}
-use Rattle.acap_client.specs.declared.fault.ReadFault.TheVariants as fault
+use Rattle.acap_client.specs.declared.heard.ReadFault.TheVariants as fault
 use Rattle.acap_client.specs.declared.heard.Heard.{Heard}
 use Rattle.acap_client.specs.declared.heard.Heard.TheVariants as heard
 

@@ -8,10 +8,9 @@ ghost use Rattle.acap_client.specs.declared.place.Place.TheVariants as places;
 ghost use Rattle.acap_client.specs.Drafting.{IsDraft, IsFree, client_of, place_of};
 ghost use Rattle.acap_client.specs.Hearing.{ComesTo};
 
-use crate::draft::Draft;
+use crate::draft::{Draft, Token};
+use crate::due::Step;
 use crate::place::Place;
-use crate::step::Step;
-use crate::token::Token;
 use acap_entries::{Memory, Octets};
 use std::alloc::Global;
 use std::mem;

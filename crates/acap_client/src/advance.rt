@@ -5,9 +5,8 @@ ghost use Rattle.acap_client.specs.Drafting.{IsDraft};
 ghost use Rattle.acap_client.specs.Advancing.{IsDue};
 
 use crate::draft::Draft;
-use crate::due::Due;
+use crate::due::{Due, Step};
 use crate::hearing::hear;
-use crate::step::Step;
 use acap_entries::Memory;
 use std::alloc::Global;
 

@@ -5,7 +5,7 @@ ghost use Rattle.acap_grammar.specs.Lines.{group};
 ghost use Rattle.acap_client.specs.Data.{data_of};
 ghost use Rattle.acap_client.specs.Arguments.{data_in, are_none, word_at, text_at, group_at, outside};
 
-use crate::token::Token;
+use crate::draft::Token;
 use acap_entries::{Copying, Memory};
 use std::alloc::Global;
 

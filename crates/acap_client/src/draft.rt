@@ -1,10 +1,28 @@
-//! The line that is being read, as far as it was heard.
-
+//! The tokens of a line from the server, and the line that is being read.
 ghost use Rattle.acap_client.specs.Drafting.{IsDraft};
 
 use crate::place::Place;
-use crate::token::Token;
+use acap_entries::{Copying, Memory, Octets};
 use std::alloc::Global;
+
+/// A token of a line from the server (RFC 2244 section 2.2).
+#[derive(Clone, Drop)]
+pub enum Token {
+    /// A word, as `OK`, `NIL` or a number.
+    Word(Octets),
+    /// A string: the octets that it stands for, whether it was quoted or a literal.
+    Text(Octets),
+    /// `(`
+    Open,
+    /// `)`
+    Close,
+}
+
+impl Copying for Token {
+    fn copy(&self) -> Result<Token, Memory> {
+        self.clone()
+    }
+}
 
 /// The line that is being read: its tokens so far, the octets so far of the one that has begun, how many parentheses
 /// are open, and where the last octet left the reader.

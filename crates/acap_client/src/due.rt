@@ -1,4 +1,17 @@
-//! What octets come to.
+//! What the octets after those that were heard come to: one of them, and all.
+
+/// What the next octet of a line comes to.
+#[derive(Clone, Copy, PartialEq, Eq)]
+pub(crate) enum Step {
+    /// The line goes on.
+    Goes,
+    /// The line is whole.
+    Ends,
+    /// No line of a server begins so.
+    Lost,
+    /// A literal is announced with which the line is longer than the limit.
+    TooLong,
+}
 
 /// What the octets after those that were heard come to.
 #[derive(Clone, Copy, PartialEq, Eq)]

@@ -1,7 +1,17 @@
-//! What a reader answers.
+//! What a reader answers, and what may be wrong with what a server sent.
 
-use crate::fault::ReadFault;
 use crate::response::Response;
+
+/// What is wrong with what a server sent.
+#[derive(Clone, Copy, PartialEq, Eq, Debug)]
+pub enum ReadFault {
+    /// A line that says nothing of what a server may say. The lines after it are read.
+    Unknown,
+    /// No line of a server begins with the octets that follow the last line: nothing is read after it.
+    Astray,
+    /// The line that follows is longer than the limit: nothing is read after it.
+    TooLong,
+}
 
 /// What comes next in the octets of a server.
 #[derive(Drop)]

@@ -11,9 +11,9 @@ ghost use Rattle.acap_client.specs.Hearing.{Comes, ComesTo, IsEmpty};
 use crate::adding::{add_text, add_word, begin, close, open, put};
 use crate::counting::{Count, count_within};
 use crate::draft::Draft;
+use crate::due::Step;
 use crate::octet_kinds::{is_digit, is_escaped, is_quotable, is_word};
 use crate::place::Place;
-use crate::step::Step;
 use acap_entries::Memory;
 use std::alloc::Global;
 

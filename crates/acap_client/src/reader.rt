@@ -7,12 +7,10 @@ ghost use Rattle.acap_client.specs.Unread.{Answers, AnswersLine, left_of, next_o
 
 use crate::adding::new_draft;
 use crate::advance::advance;
-use crate::draft::Draft;
+use crate::draft::{Draft, Token};
 use crate::due::Due;
-use crate::fault::ReadFault;
-use crate::heard::Heard;
+use crate::heard::{Heard, ReadFault};
 use crate::response::Response;
-use crate::token::Token;
 use acap_entries::Memory;
 use acap_lexer::compact;
 use std::alloc::Global;

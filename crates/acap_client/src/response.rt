@@ -1,9 +1,9 @@
 //! A line from the server, as its tokens.
 
 use crate::data::Data;
+use crate::draft::Token;
 use crate::line::Line;
 use crate::saying::line_of;
-use crate::token::Token;
 use std::marker::Model;
 
 /// A line from the server (RFC 2244 section 2.2): its tokens, each with the octets that it stands for. Contracts see
@@ -15,7 +15,7 @@ pub struct Response {
 
 impl Model for Response {
     ghost use Rattle.std.specs.Prelude.{List};
-    ghost use Rattle.acap_client.specs.declared.token.Token.{Token};
+    ghost use Rattle.acap_client.specs.declared.draft.Token.{Token};
 
     ghost Value = { List Token };
 

@@ -1,7 +1,7 @@
 //! A row of a context, as a line printed it.
 
 use crate::data::Data;
-use crate::token::Token;
+use crate::draft::Token;
 use acap_entries::{Label, Memory};
 use std::alloc::Global;
 use std::marker::Model;

@@ -15,54 +15,54 @@ use Rattle.acap_order.specs.contracts.comparator.ComparatorEq.TheImpl.Laws as co
 use Rattle.acap_order.specs.contracts.comparator.DirectionPartialEq.TheImpl as direction_eq
 use Rattle.acap_order.specs.contracts.comparator.DirectionEq.TheImpl.Laws as direction_laws
 use Rattle.acap_entries.proofs.Equalities.{pair_exact, cell_exact}
-use Rattle.acap_commands.specs.declared.given.Given.{Given}
-use Rattle.acap_commands.specs.declared.given.Given.TheVariants as given
-use Rattle.acap_commands.specs.declared.limit.Limit.{Limit}
-use Rattle.acap_commands.specs.declared.make_context.MakeContext.{MakeContext}
-use Rattle.acap_commands.specs.declared.metadata.Metadata.{Metadata}
-use Rattle.acap_commands.specs.declared.metadata.Metadata.TheVariants as metadata
-use Rattle.acap_commands.specs.declared.relation.Relation.{Relation}
-use Rattle.acap_commands.specs.declared.relation.Relation.TheVariants as relation
-use Rattle.acap_commands.specs.declared.return_item.ReturnItem.{ReturnItem}
-use Rattle.acap_commands.specs.declared.return_name.ReturnName.{ReturnName}
-use Rattle.acap_commands.specs.declared.return_name.ReturnName.TheVariants as return_name
+use Rattle.acap_commands.specs.declared.store.Given.{Given}
+use Rattle.acap_commands.specs.declared.store.Given.TheVariants as given
+use Rattle.acap_commands.specs.declared.search_modifiers.Limit.{Limit}
+use Rattle.acap_commands.specs.declared.search_modifiers.MakeContext.{MakeContext}
+use Rattle.acap_commands.specs.declared.returns.Metadata.{Metadata}
+use Rattle.acap_commands.specs.declared.returns.Metadata.TheVariants as metadata
+use Rattle.acap_commands.specs.declared.test.Relation.{Relation}
+use Rattle.acap_commands.specs.declared.test.Relation.TheVariants as relation
+use Rattle.acap_commands.specs.declared.returns.ReturnItem.{ReturnItem}
+use Rattle.acap_commands.specs.declared.returns.ReturnName.{ReturnName}
+use Rattle.acap_commands.specs.declared.returns.ReturnName.TheVariants as return_name
 use Rattle.acap_commands.specs.declared.search_modifiers.SearchModifiers.{SearchModifiers}
-use Rattle.acap_commands.specs.declared.sort_item.SortItem.{SortItem}
-use Rattle.acap_commands.specs.declared.store_entry.StoreEntry.{StoreEntry}
-use Rattle.acap_commands.specs.declared.store_item.StoreItem.{StoreItem}
-use Rattle.acap_commands.specs.declared.store_metadata.StoreMetadata.{StoreMetadata}
-use Rattle.acap_commands.specs.declared.store_metadata.StoreMetadata.TheVariants as store_metadata
-use Rattle.acap_commands.specs.declared.store_modifiers.StoreModifiers.{StoreModifiers}
+use Rattle.acap_commands.specs.declared.search_modifiers.SortItem.{SortItem}
+use Rattle.acap_commands.specs.declared.store.StoreEntry.{StoreEntry}
+use Rattle.acap_commands.specs.declared.store.StoreItem.{StoreItem}
+use Rattle.acap_commands.specs.declared.store.StoreMetadata.{StoreMetadata}
+use Rattle.acap_commands.specs.declared.store.StoreMetadata.TheVariants as store_metadata
+use Rattle.acap_commands.specs.declared.store.StoreModifiers.{StoreModifiers}
 use Rattle.acap_commands.specs.declared.target.Target.{Target}
 use Rattle.acap_commands.specs.declared.target.Target.TheVariants as target
 use Rattle.acap_commands.specs.declared.test.Test.{Test}
 use Rattle.acap_commands.specs.declared.test.Test.TheVariants as test
-use Rattle.acap_commands.specs.contracts.given.GivenPartialEq.TheImpl as given_eq
-use Rattle.acap_commands.specs.contracts.given.GivenEq.TheImpl.Laws as given_laws
-use Rattle.acap_commands.specs.contracts.limit.LimitPartialEq.TheImpl as limit_eq
-use Rattle.acap_commands.specs.contracts.limit.LimitEq.TheImpl.Laws as limit_laws
-use Rattle.acap_commands.specs.contracts.make_context.MakeContextPartialEq.TheImpl as make_context_eq
-use Rattle.acap_commands.specs.contracts.make_context.MakeContextEq.TheImpl.Laws as make_context_laws
-use Rattle.acap_commands.specs.contracts.metadata.MetadataPartialEq.TheImpl as metadata_eq
-use Rattle.acap_commands.specs.contracts.metadata.MetadataEq.TheImpl.Laws as metadata_laws
-use Rattle.acap_commands.specs.contracts.relation.RelationPartialEq.TheImpl as relation_eq
-use Rattle.acap_commands.specs.contracts.relation.RelationEq.TheImpl.Laws as relation_laws
-use Rattle.acap_commands.specs.contracts.return_item.ReturnItemPartialEq.TheImpl as return_item_eq
-use Rattle.acap_commands.specs.contracts.return_item.ReturnItemEq.TheImpl.Laws as return_item_laws
-use Rattle.acap_commands.specs.contracts.return_name.ReturnNamePartialEq.TheImpl as return_name_eq
-use Rattle.acap_commands.specs.contracts.return_name.ReturnNameEq.TheImpl.Laws as return_name_laws
+use Rattle.acap_commands.specs.contracts.store.GivenPartialEq.TheImpl as given_eq
+use Rattle.acap_commands.specs.contracts.store.GivenEq.TheImpl.Laws as given_laws
+use Rattle.acap_commands.specs.contracts.search_modifiers.LimitPartialEq.TheImpl as limit_eq
+use Rattle.acap_commands.specs.contracts.search_modifiers.LimitEq.TheImpl.Laws as limit_laws
+use Rattle.acap_commands.specs.contracts.search_modifiers.MakeContextPartialEq.TheImpl as make_context_eq
+use Rattle.acap_commands.specs.contracts.search_modifiers.MakeContextEq.TheImpl.Laws as make_context_laws
+use Rattle.acap_commands.specs.contracts.returns.MetadataPartialEq.TheImpl as metadata_eq
+use Rattle.acap_commands.specs.contracts.returns.MetadataEq.TheImpl.Laws as metadata_laws
+use Rattle.acap_commands.specs.contracts.test.RelationPartialEq.TheImpl as relation_eq
+use Rattle.acap_commands.specs.contracts.test.RelationEq.TheImpl.Laws as relation_laws
+use Rattle.acap_commands.specs.contracts.returns.ReturnItemPartialEq.TheImpl as return_item_eq
+use Rattle.acap_commands.specs.contracts.returns.ReturnItemEq.TheImpl.Laws as return_item_laws
+use Rattle.acap_commands.specs.contracts.returns.ReturnNamePartialEq.TheImpl as return_name_eq
+use Rattle.acap_commands.specs.contracts.returns.ReturnNameEq.TheImpl.Laws as return_name_laws
 use Rattle.acap_commands.specs.contracts.search_modifiers.SearchModifiersPartialEq.TheImpl as search_modifiers_eq
 use Rattle.acap_commands.specs.contracts.search_modifiers.SearchModifiersEq.TheImpl.Laws as search_modifiers_laws
-use Rattle.acap_commands.specs.contracts.sort_item.SortItemPartialEq.TheImpl as sort_item_eq
-use Rattle.acap_commands.specs.contracts.sort_item.SortItemEq.TheImpl.Laws as sort_item_laws
-use Rattle.acap_commands.specs.contracts.store_entry.StoreEntryPartialEq.TheImpl as store_entry_eq
-use Rattle.acap_commands.specs.contracts.store_entry.StoreEntryEq.TheImpl.Laws as store_entry_laws
-use Rattle.acap_commands.specs.contracts.store_item.StoreItemPartialEq.TheImpl as store_item_eq
-use Rattle.acap_commands.specs.contracts.store_item.StoreItemEq.TheImpl.Laws as store_item_laws
-use Rattle.acap_commands.specs.contracts.store_metadata.StoreMetadataPartialEq.TheImpl as store_metadata_eq
-use Rattle.acap_commands.specs.contracts.store_metadata.StoreMetadataEq.TheImpl.Laws as store_metadata_laws
-use Rattle.acap_commands.specs.contracts.store_modifiers.StoreModifiersPartialEq.TheImpl as store_modifiers_eq
-use Rattle.acap_commands.specs.contracts.store_modifiers.StoreModifiersEq.TheImpl.Laws as store_modifiers_laws
+use Rattle.acap_commands.specs.contracts.search_modifiers.SortItemPartialEq.TheImpl as sort_item_eq
+use Rattle.acap_commands.specs.contracts.search_modifiers.SortItemEq.TheImpl.Laws as sort_item_laws
+use Rattle.acap_commands.specs.contracts.store.StoreEntryPartialEq.TheImpl as store_entry_eq
+use Rattle.acap_commands.specs.contracts.store.StoreEntryEq.TheImpl.Laws as store_entry_laws
+use Rattle.acap_commands.specs.contracts.store.StoreItemPartialEq.TheImpl as store_item_eq
+use Rattle.acap_commands.specs.contracts.store.StoreItemEq.TheImpl.Laws as store_item_laws
+use Rattle.acap_commands.specs.contracts.store.StoreMetadataPartialEq.TheImpl as store_metadata_eq
+use Rattle.acap_commands.specs.contracts.store.StoreMetadataEq.TheImpl.Laws as store_metadata_laws
+use Rattle.acap_commands.specs.contracts.store.StoreModifiersPartialEq.TheImpl as store_modifiers_eq
+use Rattle.acap_commands.specs.contracts.store.StoreModifiersEq.TheImpl.Laws as store_modifiers_laws
 use Rattle.acap_commands.specs.contracts.target.TargetPartialEq.TheImpl as target_eq
 use Rattle.acap_commands.specs.contracts.target.TargetEq.TheImpl.Laws as target_laws
 use Rattle.acap_commands.specs.contracts.test.TestPartialEq.TheImpl as test_eq

@@ -1,31 +1,29 @@
 -- Entries in the order of their paths: what is found among them, and what one entry more brings.
-use Rattle.std.proofs.Common.{◌≡◌, ℕ, zero, suc, ◌<◌, ◌+◌, Bool, true, false, cond, T, List, [], ◌∷◌, ◌++◌, length, map, take, drop, get_or, Option, Some, None, refl, sym, ap, subst, ◌∙◌, arith, length-append, ◌&&◌, ◌||◌}
+use Rattle.std.proofs.Common.{◌≡◌, ℕ, zero, suc, ◌<◌, Bool, true, false, cond, T, List, [], ◌∷◌, ◌++◌, length, map, take, drop, get_or, Option, Some, None, refl, sym, ap, subst, ◌∙◌, arith, ◌&&◌, ◌||◌}
 use Rattle.std.specs.Prelude.{is_some}
 use Rattle.std.specs.List.{All, list_any, insert}
 use Rattle.std.specs.Option.{option_map_or}
 use Rattle.std.specs.declared.cmp.Ordering.{Ordering}
 use Rattle.std.specs.declared.cmp.Ordering.TheVariants.{Less, Equal, Greater}
-use Rattle.std.specs.Ordering.{eq_by_cmp, is_eq, ordering_then, ordering_reverse}
+use Rattle.std.specs.Ordering.{eq_by_cmp, is_eq, ordering_reverse}
 use Rattle.std.specs.FinMap.Entries.{find, find-put, find_tied, is_sorted-put, is_some-find}
 use Rattle.std.specs.Str.{bytes_eq}
-use Rattle.std.proofs.lemmas.List.{length-map, get_or-map, map-append, take-map, drop-map}
+use Rattle.std.proofs.lemmas.List.{length-map, get_or-map, map-append, take-map, drop-map, length_push}
 use Rattle.std.proofs.lemmas.List.Elements.{All-nil, All-cons, All-head, All-tail, All-take, All-drop, All-append, All-weaker, All-get_or}
 use Rattle.std.proofs.lemmas.List.Folds.{list_any_none}
 use Rattle.std.proofs.lemmas.Map.Text.{is_eq-slice_cmp}
 use Rattle.std.proofs.lemmas.Option.{slice_get-get_or}
+use Rattle.std.proofs.Math.Bool.{or-true}
 use Rattle.acap_entries.specs.Orders.{octets_cmp}
 use Rattle.acap_entries.specs.Sorted.{place, is_tied, put_in, found, InOrder}
 use Rattle.acap_entries.specs.Store.{path_cmp}
 use Rattle.acap_entries.specs.declared.path.Path.{Path}
 use Rattle.acap_entries.proofs.SortedLemmas.{put_in_absent, found_absent, found_tied}
 use Rattle.acap_entries.proofs.StoreLemmas.{path_cmp_total}
+use Rattle.acap_entries.proofs.Logic.{true_from_T, is_eq-then, is_eq-reverse}
 use Rattle.acap_commands.specs.EntryOrder.{path_at, places_by_path, Orders}
 use Rattle.acap_commands.specs.EntryOrder.{has_path}
-use Rattle.acap_commands.specs.declared.store_entry.StoreEntry.{StoreEntry}
-
-true_of : (b : Bool) → T b → b ≡ true
-true_of true h = refl
-true_of false h = absurd h
+use Rattle.acap_commands.specs.declared.store.StoreEntry.{StoreEntry}
 
 -- ---- the path at a place
 
@@ -49,18 +47,8 @@ keyed_len entries places = length-map places (λ i. (path_at entries i, i))
 
 -- ---- what is found
 
-both_tie : (a b : Ordering) → is_eq (ordering_then a b) ≡ (is_eq a && is_eq b)
-both_tie Less b = refl
-both_tie Equal b = refl
-both_tie Greater b = refl
-
-reversed_tie : (o : Ordering) → is_eq (ordering_reverse o) ≡ is_eq o
-reversed_tie Less = refl
-reversed_tie Equal = refl
-reversed_tie Greater = refl
-
 turned_tie : (p q : Path) → eq_by_cmp path_cmp p q ≡ eq_by_cmp path_cmp q p
-turned_tie p q = ap is_eq (path_cmp_total.antisymm p q) ∙ reversed_tie (path_cmp q p)
+turned_tie p q = ap is_eq (path_cmp_total.antisymm p q) ∙ is_eq-reverse (path_cmp q p)
 
 is_own_reverse : (o : Ordering) → o ≡ ordering_reverse o → is_eq o ≡ true
 is_own_reverse Less e = cc
@@ -72,7 +60,7 @@ ties_itself p = is_own_reverse (path_cmp p p) (path_cmp_total.antisymm p p)
 
 path_tie : (p q : Path) → eq_by_cmp path_cmp p q ≡ (bytes_eq p.dataset q.dataset && bytes_eq p.name q.name)
 path_tie p q =
-    both_tie (octets_cmp p.dataset q.dataset) (octets_cmp p.name q.name)
+    is_eq-then (octets_cmp p.dataset q.dataset) (octets_cmp p.name q.name)
     ∙ ap (λ b. b && is_eq (octets_cmp p.name q.name)) (is_eq-slice_cmp p.dataset q.dataset)
     ∙ ap (λ b. bytes_eq p.dataset q.dataset && b) (is_eq-slice_cmp p.name q.name)
 
@@ -87,14 +75,10 @@ has_by_tie path (e ∷ entries) =
     ap (λ b. b || list_any (λ (x : StoreEntry). bytes_eq x.path.dataset path.dataset && bytes_eq x.path.name path.name) entries) (sym (path_tie e.path path) ∙ turned_tie e.path path)
     ∙ ap (λ b. eq_by_cmp path_cmp path e.path || b) (has_by_tie path entries)
 
-or_true : (b : Bool) → b || true ≡ true
-or_true true = refl
-or_true false = refl
-
 has_there : (path : Path) (entries : List StoreEntry) (i : ℕ) → i < length entries → eq_by_cmp path_cmp path (path_at entries i) ≡ true → has_tie path entries ≡ true
 has_there path [] i h t = absurd (omega (arith, h))
 has_there path (e ∷ entries) zero h t = ap (λ b. b || has_tie path entries) t
-has_there path (e ∷ entries) (suc i) h t = ap (λ b. eq_by_cmp path_cmp path e.path || b) (has_there path entries i (omega (arith, h)) t) ∙ or_true _
+has_there path (e ∷ entries) (suc i) h t = ap (λ b. eq_by_cmp path_cmp path e.path || b) (has_there path entries i (omega (arith, h)) t) ∙ or-true _
 
 -- a path that is found stands at the place of an entry
 stands : (entries : List StoreEntry) (path : Path) (places : List ℕ) → All (λ i. i < length entries) places → list_any (eq_by_cmp path_cmp path) (map (λ x. x.0) (places_by_path entries places)) ≡ true → has_tie path entries ≡ true
@@ -155,15 +139,12 @@ inside entries i = i < length entries
 abbrev is_there : List (Path × ℕ) → StoreEntry → Type 0
 is_there keys e = is_some (found path_cmp e.path keys) ≡ true
 
-more_len : (entries : List StoreEntry) (next : StoreEntry) → length (entries ++ next ∷ []) ≡ length entries + 1
-more_len entries next = length-append entries (next ∷ [])
-
 within_more : (entries : List StoreEntry) (next : StoreEntry) (places : List ℕ) → All (λ i. i < length entries) places → All (λ i. i < length (entries ++ next ∷ [])) places
-within_more entries next places w = All-weaker (inside entries) (inside (entries ++ next ∷ [])) (λ i h. omega (arith, h, more_len entries next)) places w
+within_more entries next places w = All-weaker (inside entries) (inside (entries ++ next ∷ [])) (λ i h. omega (arith, h, length_push entries next)) places w
 
 rises_more : (keys : List (Path × ℕ)) (path : Path) (i : ℕ) → InOrder path_cmp keys → InOrder path_cmp (put_in path_cmp path i keys)
 unfolding put_in
-rises_more keys path i o = record { rises = true_of _ (is_sorted-put path_cmp path_cmp_total path i keys (subst T (sym o.rises) tt)) }
+rises_more keys path i o = record { rises = true_from_T _ (is_sorted-put path_cmp path_cmp_total path i keys (subst T (sym o.rises) tt)) }
 
 found_more : (keys : List (Path × ℕ)) (path : Path) (i : ℕ) (q : Path) → found path_cmp q (put_in path_cmp path i keys) ≡ cond (eq_by_cmp path_cmp q path) (Some i) (found path_cmp q keys)
 unfolding found put_in
@@ -188,7 +169,7 @@ orders_new entries places next orders new =
     let there = found_more keys next.path n in
     let test = inside (entries ++ next ∷ []) in
     record {
-      within = All-append test (take at places) (n ∷ drop at places) (All-take test at places within) (All-cons test n (drop at places) (omega (arith, more_len entries next)) (All-drop test at places within));
+      within = All-append test (take at places) (n ∷ drop at places) (All-take test at places within) (All-cons test n (drop at places) (omega (arith, length_push entries next)) (All-drop test at places within));
       rises = rw now (rises_more keys next.path n orders.rises);
       whole = rw now (All-append (is_there (put_in path_cmp next.path n keys)) entries (next ∷ [])
           (All-weaker (is_there keys) (is_there (put_in path_cmp next.path n keys)) (λ e some. ap is_some (there e.path) ∙ still_some _ n _ some) entries orders.whole)

@@ -10,7 +10,7 @@ use Rattle.acap_entries.proofs.Equalities.{pair_exact, values_exact, rows_exact}
 use Rattle.acap_notices.specs.declared.told.Told.{Told}
 use Rattle.acap_notices.specs.contracts.told.ToldPartialEq.TheImpl as told_eq
 use Rattle.acap_notices.proofs.NoticeEquality.{told_exact}
-use Rattle.acap_commands.specs.declared.search_reply.SearchReply.{SearchReply}
+use Rattle.acap_commands.specs.declared.said.SearchReply.{SearchReply}
 use Rattle.acap_commands.specs.declared.object_name.ObjectName.{ObjectName}
 use Rattle.acap_commands.specs.declared.object_name.ObjectName.TheVariants as object_name
 use Rattle.acap_commands.specs.declared.refusal.Refusal.{Refusal}
@@ -18,10 +18,10 @@ use Rattle.acap_commands.specs.declared.refusal.Refusal.TheVariants as refusal
 use Rattle.acap_commands.specs.declared.reply.Reply.{Reply}
 use Rattle.acap_commands.specs.declared.said.Said.{Said}
 use Rattle.acap_commands.specs.declared.said.Said.TheVariants as said
-use Rattle.acap_commands.specs.declared.verb.Verb.{Verb}
-use Rattle.acap_commands.specs.declared.verb.Verb.TheVariants as verb
-use Rattle.acap_commands.specs.contracts.search_reply.SearchReplyPartialEq.TheImpl as found_eq
-use Rattle.acap_commands.specs.contracts.search_reply.SearchReplyEq.TheImpl.Laws as found_laws
+use Rattle.acap_commands.specs.declared.command.Verb.{Verb}
+use Rattle.acap_commands.specs.declared.command.Verb.TheVariants as verb
+use Rattle.acap_commands.specs.contracts.said.SearchReplyPartialEq.TheImpl as found_eq
+use Rattle.acap_commands.specs.contracts.said.SearchReplyEq.TheImpl.Laws as found_laws
 use Rattle.acap_commands.specs.contracts.object_name.ObjectNamePartialEq.TheImpl as object_name_eq
 use Rattle.acap_commands.specs.contracts.object_name.ObjectNameEq.TheImpl.Laws as object_name_laws
 use Rattle.acap_commands.specs.contracts.refusal.RefusalPartialEq.TheImpl as refusal_eq
@@ -30,8 +30,8 @@ use Rattle.acap_commands.specs.contracts.reply.ReplyPartialEq.TheImpl as reply_e
 use Rattle.acap_commands.specs.contracts.reply.ReplyEq.TheImpl.Laws as reply_laws
 use Rattle.acap_commands.specs.contracts.said.SaidPartialEq.TheImpl as said_eq
 use Rattle.acap_commands.specs.contracts.said.SaidEq.TheImpl.Laws as said_laws
-use Rattle.acap_commands.specs.contracts.verb.VerbPartialEq.TheImpl as verb_eq
-use Rattle.acap_commands.specs.contracts.verb.VerbEq.TheImpl.Laws as verb_laws
+use Rattle.acap_commands.specs.contracts.command.VerbPartialEq.TheImpl as verb_eq
+use Rattle.acap_commands.specs.contracts.command.VerbEq.TheImpl.Laws as verb_laws
 use Rattle.acap_commands.proofs.Exact.{exact_of, option_exact}
 
 path_same : (a b : Path) → path_eq.ghosts.eq a b ≡ true → a ≡ b

@@ -6,7 +6,7 @@ use Rattle.std.specs.Str.{bytes_eq}
 use Rattle.acap_entries.specs.Sorted.{found, InOrder}
 use Rattle.acap_entries.specs.Store.{path_cmp}
 use Rattle.acap_entries.specs.declared.path.Path.{Path}
-use Rattle.acap_commands.specs.declared.store_entry.StoreEntry.{StoreEntry}
+use Rattle.acap_commands.specs.declared.store.StoreEntry.{StoreEntry}
 
 -- whether an entry with this path stands among those before
 unfoldable pub has_path : Path → List StoreEntry → Bool

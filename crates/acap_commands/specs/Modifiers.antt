@@ -1,7 +1,7 @@
 -- Commands without modifiers [RFC 2244 sections 6.4.1 and 6.6.1].
 use Rattle.std.specs.Prelude.{None, false}
 use Rattle.acap_commands.specs.declared.search_modifiers.SearchModifiers.{SearchModifiers}
-use Rattle.acap_commands.specs.declared.store_modifiers.StoreModifiers.{StoreModifiers}
+use Rattle.acap_commands.specs.declared.store.StoreModifiers.{StoreModifiers}
 
 -- a SEARCH that has none
 abbrev pub no_modifiers : SearchModifiers

@@ -1,8 +1,8 @@
 -- Which refusals are told as NO, BAD or BYE [RFC 2244 section 6.2].
 use Rattle.acap_commands.specs.declared.refusal.Refusal.{Refusal}
 use Rattle.acap_commands.specs.declared.refusal.Refusal.TheVariants as refusal
-use Rattle.acap_commands.specs.declared.status.Status.{Status}
-use Rattle.acap_commands.specs.declared.status.Status.TheVariants as status
+use Rattle.acap_commands.specs.declared.refusal.Status.{Status}
+use Rattle.acap_commands.specs.declared.refusal.Status.TheVariants as status
 
 -- NO where the command failed, BAD where it can't be one, BYE where the session is closed
 abbrev pub status_of : Refusal → Status

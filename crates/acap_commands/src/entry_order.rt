@@ -5,7 +5,7 @@ ghost use Rattle.acap_entries.specs.Store.{path_cmp};
 ghost use Rattle.acap_commands.specs.EntryOrder.{places_by_path, Orders};
 ghost use Rattle.acap_commands.specs.EntryOrder.{has_path};
 
-use crate::store_entry::StoreEntry;
+use crate::store::StoreEntry;
 use acap_entries::{Memory, Path};
 use std::alloc::Global;
 use std::cmp::Ordering;

@@ -1,8 +1,32 @@
-//! What sessions bring to the machine.
+//! The events that sessions bring to the machine, and why one isn't performed.
 ghost use Rattle.std.specs.Prelude.{◌≡◌, ◌↔◌, IsTrue};
 
 use crate::command::Command;
 use acap_entries::{Copying, Memory, UserName};
+
+/// Why an event isn't performed; the machine is as before.
+#[derive(Clone, Copy, PartialEq, Eq)]
+pub enum Fault {
+    /// Memory was refused.
+    Memory,
+    /// Nobody has the seat.
+    NotEntered,
+    /// The seat has a user already.
+    AlreadyEntered,
+    /// The history holds as many events as it may; the machine itself never says so.
+    HistoryFull,
+}
+
+impl From<Memory> for Fault {
+    ghost use Rattle.std.specs.Prelude.{◌≡◌};
+    ghost use Rattle.acap_commands.specs.declared.event.Fault.TheVariants as fault;
+
+    ghost from_gives = { λ memory made. made ≡ fault.Memory };
+
+    fn from(_memory: Memory) -> Fault {
+        Fault::Memory
+    }
+}
 
 /// What a session brings to the machine (RFC 2244 sections 2 and 6).
 #[derive(Clone, Drop)]

@@ -1,10 +1,8 @@
 //! The lists of which commands and replies are made.
 
-use crate::metadata::Metadata;
-use crate::return_item::ReturnItem;
-use crate::sort_item::SortItem;
-use crate::store_entry::StoreEntry;
-use crate::store_item::StoreItem;
+use crate::returns::{Metadata, ReturnItem};
+use crate::search_modifiers::SortItem;
+use crate::store::{StoreEntry, StoreItem};
 use acap_entries::{ContextName, Row, Sequence, Shared};
 
 /// The entries of a STORE, in the order sent (RFC 2244 section 6.6.1).

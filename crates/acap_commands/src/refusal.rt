@@ -1,10 +1,20 @@
-//! Why a command is refused.
+//! Why a command is refused, and how a refusal is printed.
 ghost use Rattle.std.specs.Prelude.{◌≡◌};
 ghost use Rattle.acap_commands.specs.Statuses.{status_of};
 
 use crate::object_name::ObjectName;
-use crate::status::Status;
 use acap_entries::{Attribute, Boxed, Copying, Dataset, Memory, Path};
+
+/// How a refusal is told (RFC 2244 section 6.2).
+#[derive(Clone, Copy, PartialEq, Eq)]
+pub enum Status {
+    /// NO: the command failed.
+    No,
+    /// BAD: the command can't be one.
+    Bad,
+    /// BYE: the session is closed.
+    Bye,
+}
 
 /// Why a command, or a connection, is refused (RFC 2244 sections 3.6 and 6.2).
 #[derive(Clone, PartialEq, Eq, Drop)]

@@ -1,10 +1,28 @@
-//! What is said to a client.
+//! What is said to a client, and what a SEARCH prints.
 
+use crate::command::Verb;
+use crate::lists::Rows;
 use crate::refusal::Refusal;
-use crate::search_reply::SearchReply;
-use crate::verb::Verb;
-use acap_entries::{Copying, Memory, Octets, Value, Values};
+use acap_entries::{Copying, Memory, Moment, Octets, Value, Values};
 use acap_notices::Tolds;
+
+/// What a SEARCH tells: its rows, the store's last moment where a RETURN asked for rows, and how many entries matched
+/// where not all of them are printed (RFC 2244 section 6.4.1).
+#[derive(Clone, PartialEq, Eq, Drop)]
+pub struct SearchReply {
+    /// The rows, each printed as an ENTRY.
+    pub rows: Rows,
+    /// The moment printed as a MODTIME after them, if one is.
+    pub last: Option<Moment>,
+    /// How many entries matched, told where LIMIT kept some of them from being printed.
+    pub total: Option<u32>,
+}
+
+impl Copying for SearchReply {
+    fn copy(&self) -> Result<SearchReply, Memory> {
+        self.clone()
+    }
+}
 
 /// What is said to a client (RFC 2244 section 6.2).
 #[derive(Clone, PartialEq, Eq, Drop)]

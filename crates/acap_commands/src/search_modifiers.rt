@@ -1,10 +1,50 @@
-//! How a SEARCH is made.
+//! How a SEARCH looks, and what it prints, sorts and keeps.
 ghost use Rattle.std.specs.Prelude.{◌≡◌, ◌↔◌, IsTrue};
 
-use crate::limit::Limit;
 use crate::lists::{Returns, SortItems};
-use crate::make_context::MakeContext;
-use acap_entries::{Copying, Memory};
+use acap_entries::{Attribute, ContextName, Copying, Memory};
+use acap_order::Comparator;
+
+/// LIMIT: how many entries a SEARCH tells where many match (RFC 2244 section 6.4.1).
+#[derive(Clone, Copy, PartialEq, Eq)]
+pub struct Limit {
+    /// So many matches are told in full.
+    pub over: u32,
+    /// So many of more matches are told.
+    pub most: u32,
+}
+
+/// MAKECONTEXT: what a SEARCH finds is to be kept as a context (RFC 2244 section 6.4.1).
+#[derive(Clone, PartialEq, Eq, Drop)]
+pub struct MakeContext {
+    /// ENUMERATE: its entries have positions.
+    pub enumerate: bool,
+    /// NOTIFY: it follows the store.
+    pub notify: bool,
+    /// Its name.
+    pub name: ContextName,
+}
+
+impl Copying for MakeContext {
+    fn copy(&self) -> Result<MakeContext, Memory> {
+        self.clone()
+    }
+}
+
+/// An item of SORT (RFC 2244 section 6.4.1).
+#[derive(Clone, PartialEq, Eq, Drop)]
+pub struct SortItem {
+    /// The attribute whose values order the entries.
+    pub attribute: Attribute,
+    /// How they do.
+    pub comparator: Comparator,
+}
+
+impl Copying for SortItem {
+    fn copy(&self) -> Result<SortItem, Memory> {
+        self.clone()
+    }
+}
 
 /// How a SEARCH is made, and what is told of it (RFC 2244 section 6.4.1).
 #[derive(PartialEq, Eq, Drop)]

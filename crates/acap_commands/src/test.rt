@@ -1,9 +1,23 @@
-//! One test of a key.
+//! One test of a key, and how a value is compared with a string.
 ghost use Rattle.std.specs.Prelude.{◌≡◌, ◌↔◌, IsTrue};
 
-use crate::relation::Relation;
 use acap_entries::{Attribute, Copying, Label, Memory, Moment};
 use acap_order::Comparator;
+
+/// How a value is to stand to the string of a key (RFC 2244 section 6.4.1).
+#[derive(Clone, Copy, PartialEq, Eq)]
+pub enum Relation {
+    /// EQUAL: neither is before the other.
+    Equal,
+    /// COMPARE: the value isn't before the string.
+    AtLeast,
+    /// COMPARESTRICT: the value is behind the string.
+    Greater,
+    /// PREFIX: the value begins with the string.
+    Begins,
+    /// SUBSTRING: the string stands in the value.
+    Contains,
+}
 
 /// What a key asks of an entry (RFC 2244 section 6.4.1).
 #[derive(Clone, PartialEq, Eq, Drop)]

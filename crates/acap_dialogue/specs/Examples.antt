@@ -12,9 +12,9 @@ use Rattle.acap_commands.specs.declared.command.Command.TheVariants as command
 use Rattle.acap_commands.specs.declared.reply.Reply.{Reply}
 use Rattle.acap_commands.specs.declared.said.Said.{Said}
 use Rattle.acap_commands.specs.declared.said.Said.TheVariants as said
-use Rattle.acap_commands.specs.declared.verb.Verb.TheVariants as verb
+use Rattle.acap_commands.specs.declared.command.Verb.TheVariants as verb
 use Rattle.acap_commands.specs.declared.event.Event.TheVariants as event
-use Rattle.acap_commands.specs.declared.fault.Fault.TheVariants as fault
+use Rattle.acap_commands.specs.declared.event.Fault.TheVariants as fault
 use Rattle.acap_dialogue.specs.Hearing.{response_to, heard_answer, opening, seconds_of}
 use Rattle.acap_dialogue.specs.Running.{At, Did, Drain, Leave, Outcome, Piece, Turn, after_steps, start}
 use Rattle.acap_dialogue.specs.Session.{after_answer, is_asked, session_next, session_drain}

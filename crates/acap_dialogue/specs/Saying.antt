@@ -2,8 +2,8 @@
 use Rattle.std.specs.Prelude.{◌≡◌, ℕ, Vec, List, ◌++◌, Result, Ok, Err}
 use Rattle.std.specs.declared.alloc.Global.{Global}
 use Rattle.std.specs.declared.alloc.AllocError.{AllocError as Memory}
-use Rattle.acap_dialogue.specs.declared.heard.Heard.{Heard}
-use Rattle.acap_dialogue.specs.declared.heard.Heard.TheVariants as heard
+use Rattle.acap_dialogue.specs.declared.next.Heard.{Heard}
+use Rattle.acap_dialogue.specs.declared.next.Heard.TheVariants as heard
 use Rattle.acap_dialogue.specs.declared.next.Next.{Next}
 use Rattle.acap_dialogue.specs.declared.next.Next.TheVariants as next
 use Rattle.acap_dialogue.specs.declared.stage.Stage.{Stage}

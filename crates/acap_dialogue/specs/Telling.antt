@@ -15,7 +15,7 @@ use Rattle.acap_dialogue.specs.Listening.{Listening}
 use Rattle.acap_dialogue.specs.Saying.{Hears}
 use Rattle.acap_dialogue.specs.Session.{listening}
 use Rattle.acap_dialogue.specs.Talking.{Talking}
-use Rattle.acap_dialogue.specs.declared.heard.Heard.{Heard}
+use Rattle.acap_dialogue.specs.declared.next.Heard.{Heard}
 use Rattle.acap_dialogue.specs.declared.next.Next.{Next}
 use Rattle.acap_dialogue.specs.declared.stage.Stage.{Stage}
 

@@ -6,8 +6,8 @@ ghost use Rattle.acap_dialogue.specs.Running.{closes};
 ghost use Rattle.acap_dialogue.specs.Saying.{Hears};
 ghost use Rattle.acap_dialogue.specs.Session as talk;
 
-use crate::heard::Heard;
 use crate::hearing::says;
+use crate::next::Heard;
 use crate::stage::Stage;
 use acap_commands::{Fault, Refusal, Reply, Said, Verb};
 use acap_entries::{Memory, Octets, UserName};

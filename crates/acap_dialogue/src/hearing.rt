@@ -7,10 +7,10 @@ ghost use Rattle.acap_dialogue.specs.Hearing as hearing;
 ghost use Rattle.acap_dialogue.specs.Hearing.{challenges, closes, response_to, opening, says};
 ghost use Rattle.acap_dialogue.specs.Saying.{Hears};
 ghost use Rattle.acap_dialogue.specs.Telling.{asks_by, command_by, HearsLogin};
-ghost use Rattle.acap_dialogue.specs.declared.heard.Heard.TheVariants as hears;
+ghost use Rattle.acap_dialogue.specs.declared.next.Heard.TheVariants as hears;
 
-use crate::heard::Heard;
 use crate::listener::Listener;
+use crate::next::Heard;
 use crate::stage::Stage;
 use acap_commands::{Command, Event, Refusal, Said, Verb};
 use acap_entries::{Copying, Label, Memory, Moment, Octets, UserName};

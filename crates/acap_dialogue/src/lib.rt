@@ -2,7 +2,6 @@
 #![tactic(auto)]
 
 mod answering;
-mod heard;
 mod hearing;
 mod laws;
 mod listener;
@@ -11,11 +10,10 @@ mod next;
 mod session;
 mod stage;
 
-pub use heard::Heard;
 pub use laws::{
     answer_examples, hearing_examples, login_examples, next_examples, quiet_law, run_examples,
     seated_law,
 };
-pub use next::Next;
+pub use next::{Heard, Next};
 pub use session::Session;
 pub use stage::Stage;

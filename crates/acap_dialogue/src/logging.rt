@@ -5,8 +5,8 @@ ghost use Rattle.acap_dialogue.specs.Hearing as hearing;
 ghost use Rattle.acap_dialogue.specs.Telling.{HearsAnswer, HearsLine, HearsString, HearsOne};
 
 use crate::answering::lend;
-use crate::heard::Heard;
 use crate::hearing::{closes, continues, says};
+use crate::next::Heard;
 use crate::stage::Stage;
 use acap_commands::{Event, Refusal, Said};
 use acap_entries::{Copying, Memory, Octets, UserName};

@@ -1,4 +1,4 @@
-//! What a session does next.
+//! What a session does next, with the octets that it says and without them.
 
 use acap_commands::Event;
 use acap_entries::Octets;
@@ -14,4 +14,17 @@ pub enum Next {
     Ask(Event),
     /// These octets are to be written, and then the session is closed.
     Close(Octets),
+}
+
+/// What comes of what a session hears, where the octets that it says go to a vector that is lent.
+#[derive(Drop)]
+pub enum Heard {
+    /// Nothing is next.
+    More,
+    /// Something was said.
+    Said,
+    /// This event is to be performed.
+    Asks(Event),
+    /// Something was said, and the session is over.
+    Closes,
 }

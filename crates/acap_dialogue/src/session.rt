@@ -11,11 +11,10 @@ ghost use Rattle.acap_dialogue.specs.Talking.{beginning};
 ghost use Rattle.acap_dialogue.specs.declared.stage.Stage.TheVariants as stages;
 
 use crate::answering::answer;
-use crate::heard::Heard;
 use crate::hearing::{hear, hear_line, open};
 use crate::listener::Listener;
 use crate::logging::hear_login;
-use crate::next::Next;
+use crate::next::{Heard, Next};
 use crate::stage::Stage;
 use acap_commands::{Event, Fault, Reply};
 use acap_entries::{Memory, Moment, Octets, UserName};

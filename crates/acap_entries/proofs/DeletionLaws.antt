@@ -1,8 +1,9 @@
 -- Which deletions are kept.
-use Rattle.std.proofs.Common.{◌≡◌, ℕ, zero, suc, ◌+◌, ◌-◌, ◌<◌, ◌≤◌, List, [], ◌∷◌, ◌++◌, length, take, drop, Option, Some, refl, sym, ap, ◌∙◌, arith, length-append, length-drop, take-append-drop, append_assoc, append-nil, ◌⊎◌, inl, inr}
+use Rattle.std.proofs.Common.{◌≡◌, suc, ◌+◌, ◌-◌, ◌<◌, ◌≤◌, List, [], ◌∷◌, ◌++◌, length, take, drop, Option, Some, refl, sym, ap, ◌∙◌, arith, length-append, length-drop, take-append-drop, append_assoc, append-nil, inl, inr}
 use Rattle.std.specs.Prelude.{ℤ, slice_get}
 use Rattle.std.proofs.lemmas.List.{drop-append-le}
 use Rattle.std.proofs.Math.Seq.{drop-drop}
+use Rattle.std.proofs.lemmas.Bool.{cases_lt}
 use Rattle.acap_entries.specs.Deletions.{newest_of, others_of, forgotten_of, deletions_at, Remembered, IsAdded}
 use Rattle.acap_entries.specs.Laws.{DeletionLaw}
 use Rattle.acap_entries.specs.declared.deletion.Deletion.{Deletion}
@@ -92,13 +93,8 @@ forgotten_at before earlier others (o ∷ rest) d h =
     last_forgotten earlier [] o (rest ++ d ∷ []) long
     ∙ sym (ap (forgotten_of before) (append_assoc others (o ∷ rest) (d ∷ [])) ∙ last_forgotten before others o (rest ++ d ∷ []) long)
 
-full_or_not : (n m : ℕ) → (n < m) ⊎ (m ≤ n)
-full_or_not n zero = inr (omega arith)
-full_or_not zero (suc m) = inl (omega arith)
-full_or_not (suc n) (suc m) = elim (full_or_not n m) [ inl h ↦ inl (omega arith) | inr h ↦ inr (omega arith) ]
-
 pub forgotten_next : (before : Option ℤ) (all : List Deletion) (d : Deletion) → forgotten_of (forgotten_of before all) (newest_of all ++ d ∷ []) ≡ forgotten_of before (all ++ d ∷ [])
-forgotten_next before all d = elim (full_or_not (length all) 4096) [
+forgotten_next before all d = elim (cases_lt (length all) 4096) [
   | inl few ↦
       let short : length all ≤ 4096 = omega arith in
       rw (kept_whole all short, none_forgotten before all short) refl

@@ -1,16 +1,11 @@
 -- The entry of a key, and the value that is found at it.
 use Rattle.std.proofs.Common.{◌≡◌, true, false, cond, List, [], ◌∷◌, Some, refl, sym, ap, ◌∙◌}
 use Rattle.std.specs.declared.cmp.Ordering.{Ordering}
-use Rattle.std.specs.declared.cmp.Ordering.TheVariants.{Less, Equal, Greater}
-use Rattle.std.specs.Ordering.{eq_by_cmp, is_eq}
+use Rattle.std.specs.Ordering.{eq_by_cmp}
 use Rattle.std.specs.FinMap.{IsAntisymmetric}
 use Rattle.std.specs.Option.{option_map}
 use Rattle.acap_entries.specs.Sorted.{found, entry_of}
-
-equal : (r : Ordering) → is_eq r ≡ true → r ≡ Equal
-equal Less e = absurd (cc (e))
-equal Equal e = refl
-equal Greater e = absurd (cc (e))
+use Rattle.acap_entries.proofs.Logic.{Equal_from_is_eq}
 
 module _ {K X : Type 0} (R : K → K → Ordering) where
   pub entry_found : (k : K) (es : List (K × X)) → option_map (λ (e : K × X). e.1) (entry_of R k es) ≡ found R k es
@@ -27,6 +22,6 @@ module _ {K X : Type 0} (R : K → K → Ordering) where
   entry_key same k [] e h = absurd (cc (h))
   entry_key same k (x ∷ es) e h =
       elim (eq_by_cmp R k x.0) as (λ b. eq_by_cmp R k x.0 ≡ b → cond b (Some x) (entry_of R k es) ≡ Some e → e.0 ≡ k) [
-        | true ↦ λ t i. let there : x ≡ e = cc (i) in ap (λ (e : K × X). e.0) (sym there) ∙ sym (same k x.0 (equal _ t))
+        | true ↦ λ t i. let there : x ≡ e = cc (i) in ap (λ (e : K × X). e.0) (sym there) ∙ sym (same k x.0 (Equal_from_is_eq _ t))
         | false ↦ λ t i. entry_key same k es e i
       ] refl h

@@ -1,5 +1,5 @@
 -- The form of datasets and paths: what is made of them is well formed too.
-use Rattle.std.proofs.Common.{◌≡◌, ℕ, zero, suc, ◌+◌, ◌-◌, ◌<◌, Bool, true, false, not, cond, ◌&&◌, ◌||◌, List, [], ◌∷◌, ◌++◌, length, take, drop, Some, refl, sym, ap, ◌∙◌, arith, append_assoc, length-drop}
+use Rattle.std.proofs.Common.{◌≡◌, ℕ, zero, suc, ◌+◌, ◌-◌, ◌<◌, Bool, true, false, not, cond, ◌&&◌, List, [], ◌∷◌, ◌++◌, length, take, drop, Some, refl, sym, ap, ◌∙◌, arith, append_assoc, length-drop}
 use Rattle.std.proofs.lemmas.Bool.Decides.{nat_tests}
 use borrow.Author.Tests.{eqb-true}
 use Rattle.std.specs.Prelude.{nat_eq, nat_lt, nat_le, ◌==◌, codes}
@@ -8,6 +8,8 @@ use Rattle.std.proofs.lemmas.List.Folds.{list_all-append}
 use Rattle.std.proofs.lemmas.List.{append-nil}
 use Rattle.std.proofs.lemmas.List.Splits.{slice_split-cons_yes, slice_split-cons_no}
 use Rattle.std.proofs.Math.ListN.{take-append-drop}
+use Rattle.std.proofs.Math.Bool.{and-false, and-true}
+use Rattle.std.proofs.lemmas.Bool.{and_parts, or_parts, and_from, not-true, false≢true}
 use Rattle.acap_entries.specs.FullPaths.{IsSplit, IsWellFormed}
 use Rattle.acap_entries.specs.Laws.{FormLaw}
 use Rattle.acap_entries.specs.Homes.{for_user, is_home, second_at}
@@ -16,24 +18,6 @@ use Rattle.acap_entries.specs.declared.path.Path.{Path}
 use Rattle.acap_entries.proofs.PlainNames.{plain_utf8}
 use Rattle.acap_entries.proofs.OwnLaws.{own_entry_law}
 use Rattle.acap_entries.proofs.NameLemmas.{closed_again, closed_behind, closed_by_slash, closed_dropped}
-
-not_so : false ≡ true → ⊥
-not_so e = cc
-
-both : (a b : Bool) → a && b ≡ true → (a ≡ true) × (b ≡ true)
-both true b e = (refl, e)
-both false b e = cc
-
-and_true : (a b : Bool) → a ≡ true → b ≡ true → a && b ≡ true
-and_true a b p q = ap (λ v. v && b) p ∙ q
-
-and_unit : (a : Bool) → a && true ≡ a
-and_unit true = refl
-and_unit false = refl
-
-not_true : (b : Bool) → not b ≡ true → b ≡ false
-not_true true e = cc
-not_true false e = refl
 
 -- ---- parts between slashes
 
@@ -75,22 +59,18 @@ parts_joined : (a b : List ℕ) → all_parts (a ++ slash ∷ b) ≡ (all_parts 
 unfolding all_parts
 parts_joined a b = ap (list_all is_component) (split_joined a b) ∙ list_all-append is_component (slice_split is_slash a) (slice_split is_slash b)
 
-or_no : (a b : Bool) → a || b ≡ false → (a ≡ false) × (b ≡ false)
-or_no true b e = cc
-or_no false b e = (refl, e)
-
 -- octets without a slash are one part
 one_split : (n : List ℕ) → has slash n ≡ false → slice_split is_slash n ≡ n ∷ []
 one_split [] e = refl
-one_split (x ∷ n) e = let parts = or_no _ _ e in slice_split-cons_no is_slash x n parts.0 ∙ ap (onto_first x) (one_split n parts.1)
+one_split (x ∷ n) e = let parts = or_parts _ _ e in slice_split-cons_no is_slash x n parts.0 ∙ ap (onto_first x) (one_split n parts.1)
 
 one_part : (n : List ℕ) → has slash n ≡ false → all_parts n ≡ is_component n
 unfolding all_parts
-one_part n e = ap (list_all is_component) (one_split n e) ∙ and_unit (is_component n)
+one_part n e = ap (list_all is_component) (one_split n e) ∙ and-true (is_component n)
 
 pub component_plain : (n : List ℕ) → is_component n ≡ true → has slash n ≡ false
 unfolding is_component
-component_plain n e = not_true _ (both _ _ (both _ _ e).0).1
+component_plain n e = not-true _ (and_parts _ _ (and_parts _ _ e).0).1
 
 parts_of_component : (n : List ℕ) → is_component n ≡ true → all_parts n ≡ true
 parts_of_component n e = one_part n (component_plain n e) ∙ e
@@ -120,12 +100,12 @@ steps_is (x ∷ w) y ys = ap all_parts (but_last_behind (x ∷ w) y ys)
 -- steps behind parts, and parts with a slash behind them
 steps_behind : (w x : List ℕ) → steps (w ++ slash ∷ x) ≡ (all_parts w && steps x)
 unfolding steps but_last
-steps_behind w [] = steps_is w slash [] ∙ ap all_parts (append-nil w) ∙ sym (and_unit (all_parts w))
+steps_behind w [] = steps_is w slash [] ∙ ap all_parts (append-nil w) ∙ sym (and-true (all_parts w))
 steps_behind w (y ∷ ys) = steps_is w slash (y ∷ ys) ∙ parts_joined w (but_last (y ∷ ys))
 
 steps_closed : (w : List ℕ) → steps (w ++ slash ∷ []) ≡ all_parts w
 unfolding steps
-steps_closed w = steps_behind w [] ∙ and_unit (all_parts w)
+steps_closed w = steps_behind w [] ∙ and-true (all_parts w)
 
 steps_joined : (b x : List ℕ) → ends_with slash b ≡ true → steps (b ++ x) ≡ (steps b && steps x)
 steps_joined b x e =
@@ -136,19 +116,15 @@ steps_joined b x e =
 
 -- ---- datasets
 
-and_none : (a : Bool) → a && false ≡ false
-and_none true = refl
-and_none false = refl
-
 closed_parts : (d : List ℕ) → is_closed_dataset d ≡ true → (is_dataset d ≡ true) × (ends_with slash d ≡ true)
 unfolding is_closed_dataset
-closed_parts d e = both (is_dataset d) (ends_with slash d) e
+closed_parts d e = and_parts (is_dataset d) (ends_with slash d) e
 
 pub closed_ends : (d : List ℕ) → is_closed_dataset d ≡ true → ends_with slash d ≡ true
 closed_ends d e = (closed_parts d e).1
 
 pub closed_begins : (d : List ℕ) → is_closed_dataset d ≡ true → begins_with slash d ≡ true
-closed_begins d e = (both (begins_with slash d) (list_all is_component (components d)) (closed_parts d e).0).0
+closed_begins d e = (and_parts (begins_with slash d) (list_all is_component (components d)) (closed_parts d e).0).0
 
 -- what stands behind the first slash of a dataset with its closing slash: nothing, or octets closed by a slash
 closed_is : (b : List ℕ) → is_closed_dataset (slash ∷ b) ≡ (steps b && ends_with slash (slash ∷ b))
@@ -160,19 +136,19 @@ closed_is (y ∷ ys) =
     elim (ends_with slash (slash ∷ y ∷ ys)) as (λ t. ends_with slash (slash ∷ y ∷ ys) ≡ t
     → (list_all is_component (slice_split is_slash (drop 1 (cond t (take (suc (suc (length ys)) - 1) (slash ∷ y ∷ ys)) (slash ∷ y ∷ ys)))) && t) ≡ (all_parts (but_last (y ∷ ys)) && t)) [
       | true ↦ λ e. ap (λ w. list_all is_component (slice_split is_slash (drop 1 w)) && true) (but_last_is (slash ∷ y ∷ ys))
-      | false ↦ λ e. and_none _ ∙ sym (and_none _)
+      | false ↦ λ e. and-false _ ∙ sym (and-false _)
     ] refl
 
 -- a dataset begins with a slash
 opened : (d : List ℕ) → is_dataset d ≡ true → slash ∷ drop 1 d ≡ d
-opened [] e = absurd (not_so e)
-opened (x ∷ xs) e = ap (λ v. v ∷ xs) (sym (eqb-true x slash (both (begins_with slash (x ∷ xs)) (list_all is_component (components (x ∷ xs))) e).0))
+opened [] e = absurd (false≢true e)
+opened (x ∷ xs) e = ap (λ v. v ∷ xs) (sym (eqb-true x slash (and_parts (begins_with slash (x ∷ xs)) (list_all is_component (components (x ∷ xs))) e).0))
 
 steps_of : (b : List ℕ) → is_closed_dataset (slash ∷ b) ≡ true → steps b ≡ true
-steps_of b e = (both _ _ (sym (closed_is b) ∙ e)).0
+steps_of b e = (and_parts _ _ (sym (closed_is b) ∙ e)).0
 
 closed_of : (b : List ℕ) → steps b ≡ true → ends_with slash (slash ∷ b) ≡ true → is_closed_dataset (slash ∷ b) ≡ true
-closed_of b s e = closed_is b ∙ and_true _ _ s e
+closed_of b s e = closed_is b ∙ and_from _ _ s e
 
 -- what stands behind it is nothing, or is closed itself
 inner : (x y : ℕ) (ys : List ℕ) → ends_with slash (x ∷ y ∷ ys) ≡ true → ends_with slash (y ∷ ys) ≡ true
@@ -195,18 +171,18 @@ beneath_closed d n e c =
     let known : is_closed_dataset (slash ∷ b) ≡ true = ap is_closed_dataset begun ∙ e in
     let ends = closed_ends (slash ∷ b) known in
     ap is_closed_dataset (ap (λ t. t ++ n ++ slash ∷ []) (sym begun) ∙ append_assoc (slash ∷ b) n (slash ∷ []))
-    ∙ closed_of (b ++ (n ++ slash ∷ [])) (steps_more b (n ++ slash ∷ []) ends ∙ and_true _ _ (steps_of b known) (step_of n c)) (closed_behind (slash ∷ b) (n ++ slash ∷ []) (closed_by_slash n))
+    ∙ closed_of (b ++ (n ++ slash ∷ [])) (steps_more b (n ++ slash ∷ []) ends ∙ and_from _ _ (steps_of b known) (step_of n c)) (closed_behind (slash ∷ b) (n ++ slash ∷ []) (closed_by_slash n))
 
 -- ---- the own entry of a dataset
 
 own_formed : (m n d : List ℕ) → is_closed_dataset d ≡ true → ends_with slash m ≡ true → has slash n ≡ false → (m ++ n) ++ slash ∷ [] ≡ d → (is_closed_dataset m ≡ true) × (is_component n ≡ true)
-own_formed [] n d e ends plain whole = absurd (not_so ends)
+own_formed [] n d e ends plain whole = absurd (false≢true ends)
 own_formed (x ∷ b) n d e ends plain whole =
     let all : is_closed_dataset (x ∷ ((b ++ n) ++ slash ∷ [])) ≡ true = ap is_closed_dataset whole ∙ e in
-    let first : x ≡ slash = eqb-true x slash (both (begins_with slash (x ∷ ((b ++ n) ++ slash ∷ []))) (list_all is_component (components (x ∷ ((b ++ n) ++ slash ∷ [])))) (closed_parts _ all).0).0 in
+    let first : x ≡ slash = eqb-true x slash (and_parts (begins_with slash (x ∷ ((b ++ n) ++ slash ∷ []))) (list_all is_component (components (x ∷ ((b ++ n) ++ slash ∷ [])))) (closed_parts _ all).0).0 in
     let closes : ends_with slash (slash ∷ b) ≡ true = ap (λ v. ends_with slash (v ∷ b)) (sym first) ∙ ends in
     let known : is_closed_dataset (slash ∷ ((b ++ n) ++ slash ∷ [])) ≡ true = ap (λ v. is_closed_dataset (v ∷ ((b ++ n) ++ slash ∷ []))) (sym first) ∙ all in
-    let parts = both (steps b) (steps (n ++ slash ∷ [])) (sym (steps_more b (n ++ slash ∷ []) closes) ∙ ap steps (sym (append_assoc b n (slash ∷ []))) ∙ steps_of _ known) in
+    let parts = and_parts (steps b) (steps (n ++ slash ∷ [])) (sym (steps_more b (n ++ slash ∷ []) closes) ∙ ap steps (sym (append_assoc b n (slash ∷ []))) ∙ steps_of _ known) in
     (ap (λ v. is_closed_dataset (v ∷ b)) first ∙ closed_of b parts.0 closes, sym (one_part n plain) ∙ sym (steps_closed n) ∙ parts.1)
 
 named : (n : List ℕ) → is_component n ≡ true → is_entry_name n ≡ true
@@ -232,24 +208,24 @@ through_slash (x ∷ t) = elim (is_slash x) as (λ b. is_slash x ≡ b → cond 
 ] refl
 
 tilde : (g : List ℕ) → starts_with nat_eq g (codes "~/") ≡ true → 126 ∷ slash ∷ drop 2 g ≡ g
-tilde [] e = absurd (not_so e)
-tilde (x ∷ []) e = absurd (not_so (both _ _ e).1)
+tilde [] e = absurd (false≢true e)
+tilde (x ∷ []) e = absurd (false≢true (and_parts _ _ e).1)
 tilde (x ∷ y ∷ g) e =
-    let parts = both (nat_eq 126 x) _ e in
+    let parts = and_parts (nat_eq 126 x) _ e in
     let first = eqb-true 126 x parts.0 in
-    let second = eqb-true 47 y (both _ _ parts.1).0 in
+    let second = eqb-true 47 y (and_parts _ _ parts.1).0 in
     λ i. first i ∷ second i ∷ g
 
 home_text : (t : List ℕ) → is_home (slash ∷ t) ≡ true → starts_with nat_eq (drop (second_at (slash ∷ t)) (slash ∷ t)) (codes "~/") ≡ true
 unfolding is_home
-home_text t h = (both (begins_with slash (slash ∷ t)) (starts_with nat_eq (drop (second_at (slash ∷ t)) (slash ∷ t)) (codes "~/")) h).1
+home_text t h = (and_parts (begins_with slash (slash ∷ t)) (starts_with nat_eq (drop (second_at (slash ∷ t)) (slash ∷ t)) (codes "~/")) h).1
 
 some_left : (n : ℕ) (t g : List ℕ) → drop (n + 1) t ≡ 126 ∷ g → n < length t
 some_left n t g e = let more : length (drop (n + 1) t) ≡ suc (length g) = ap (λ xs. length xs) e in omega (arith, length-drop (n + 1) t, more)
 
 user_component : (user : List ℕ) → is_user_name user ≡ true → is_component user ≡ true
 unfolding is_user_name is_identity
-user_component user u = (both _ _ (both _ _ (both _ _ (both _ _ (both _ _ u).0).0).0).0).0
+user_component user u = (and_parts _ _ (and_parts _ _ (and_parts _ _ (and_parts _ _ (and_parts _ _ u).0).0).0).0).0
 
 user_is : is_component (codes "user") ≡ true
 unfolding is_component
@@ -263,10 +239,10 @@ drop_more (suc k) (x ∷ t) = let two : suc k + 1 ≡ suc (k + 1) = omega arith 
 -- with what stands around `~`: through the slash before it, and behind the slash after it
 around : (f r user : List ℕ) → is_component user ≡ true → ends_with slash (slash ∷ f) ≡ true → steps (f ++ 126 ∷ slash ∷ r) ≡ true → steps (f ++ (codes "user/" ++ (user ++ slash ∷ r))) ≡ true
 around f r user u ends all =
-    let front = both (steps f) (steps (126 ∷ slash ∷ r)) (sym (steps_more f (126 ∷ slash ∷ r) ends) ∙ all) in
-    let rest = both (all_parts (126 ∷ [])) (steps r) (sym (steps_behind (126 ∷ []) r) ∙ front.1) in
+    let front = and_parts (steps f) (steps (126 ∷ slash ∷ r)) (sym (steps_more f (126 ∷ slash ∷ r) ends) ∙ all) in
+    let rest = and_parts (all_parts (126 ∷ [])) (steps r) (sym (steps_behind (126 ∷ []) r) ∙ front.1) in
     steps_more f (codes "user/" ++ (user ++ slash ∷ r)) ends
-    ∙ and_true _ _ front.0 (steps_behind (codes "user") (user ++ slash ∷ r) ∙ and_true _ _ (parts_of_component (codes "user") user_is) (steps_behind user r ∙ and_true _ _ (parts_of_component user u) rest.1))
+    ∙ and_from _ _ front.0 (steps_behind (codes "user") (user ++ slash ∷ r) ∙ and_from _ _ (parts_of_component (codes "user") user_is) (steps_behind user r ∙ and_from _ _ (parts_of_component user u) rest.1))
 
 home_closed : (user t : List ℕ) → is_component user ≡ true → is_closed_dataset (slash ∷ t) ≡ true → is_home (slash ∷ t) ≡ true
     → is_closed_dataset (take (second_at (slash ∷ t)) (slash ∷ t) ++ codes "user/" ++ user ++ drop (second_at (slash ∷ t) + 1) (slash ∷ t)) ≡ true
@@ -307,16 +283,16 @@ meant_closed user d u e = elim (is_home d) as (λ b. is_home d ≡ b → is_clos
 
 whole_closed : (text : List ℕ) → is_dataset text ≡ true → ends_with slash text ≡ true → is_closed_dataset text ≡ true
 unfolding is_closed_dataset
-whole_closed text e h = and_true _ _ e h
+whole_closed text e h = and_from _ _ e h
 
 -- the parts of a dataset without its closing slash
 open_parts : (b : List ℕ) → is_dataset (slash ∷ b) ≡ true → ends_with slash (slash ∷ b) ≡ false → all_parts b ≡ true
 unfolding all_parts components
-open_parts [] e h = absurd (not_so (sym h))
+open_parts [] e h = absurd (false≢true (sym h))
 open_parts (y ∷ ys) e h =
     let long : nat_le (suc (suc (length ys))) 1 ≡ false = grind (arith, nat_tests) in
     sym (ap (λ c. list_all is_component (cond c [] (slice_split is_slash (inside (slash ∷ y ∷ ys))))) long ∙ ap (λ c. list_all is_component (slice_split is_slash (drop 1 (cond c (take (suc (suc (length ys)) - 1) (slash ∷ y ∷ ys)) (slash ∷ y ∷ ys))))) h)
-    ∙ (both (begins_with slash (slash ∷ y ∷ ys)) _ e).1
+    ∙ (and_parts (begins_with slash (slash ∷ y ∷ ys)) _ e).1
 
 pub read_closed : (text : List ℕ) → is_dataset text ≡ true → is_closed_dataset (with_slash text) ≡ true
 read_closed text e = elim (ends_with slash text) as (λ b. ends_with slash text ≡ b → is_closed_dataset (cond b text (text ++ slash ∷ [])) ≡ true) [
@@ -329,15 +305,15 @@ read_closed text e = elim (ends_with slash text) as (λ b. ends_with slash text 
 
 pub argument_dataset : (text : List ℕ) → is_dataset_argument text ≡ true → is_dataset text ≡ true
 unfolding is_dataset_argument
-argument_dataset text e = (both _ _ (both _ _ e).0).1
+argument_dataset text e = (and_parts _ _ (and_parts _ _ e).0).1
 
 pub path_dataset : (text : List ℕ) → is_path text ≡ true → ends_with slash (dataset_of text) ≡ true → is_closed_dataset (dataset_of text) ≡ true
 unfolding is_path
-path_dataset text e h = whole_closed (dataset_of text) (both _ _ (both _ _ (both _ _ e).0).0).1 h
+path_dataset text e h = whole_closed (dataset_of text) (and_parts _ _ (and_parts _ _ (and_parts _ _ e).0).0).1 h
 
 pub path_name : (text : List ℕ) → is_path text ≡ true → is_entry_name (name_of text) ≡ true
 unfolding is_path
-path_name text e = (both _ _ (both _ _ e).0).1
+path_name text e = (and_parts _ _ (and_parts _ _ e).0).1
 
 pub entry_component : (n : List ℕ) → 0 < length n → is_entry_name n ≡ true → is_component n ≡ true
 entry_component [] lt e = absurd (omega (arith, lt))

@@ -1,11 +1,10 @@
 -- Maps from paths that are well formed.
-use Rattle.std.proofs.Common.{◌≡◌, Bool, true, false, cond, ◌&&◌, List, [], ◌∷◌, Option, Some, None, refl, sym, subst, ◌∙◌}
+use Rattle.std.proofs.Common.{◌≡◌, true, false, cond, List, [], ◌∷◌, Option, Some, None, refl, sym, subst, ◌∙◌}
 use Rattle.std.specs.List.{list_all}
-use Rattle.std.specs.declared.cmp.Ordering.{Ordering}
-use Rattle.std.specs.declared.cmp.Ordering.TheVariants.{Less, Equal, Greater}
-use Rattle.std.specs.Ordering.{eq_by_cmp, is_eq}
+use Rattle.std.specs.Ordering.{eq_by_cmp}
 use Rattle.std.specs.FinMap as map
 use Rattle.std.specs.FinMap.{find, get-insert, get-remove}
+use Rattle.std.proofs.lemmas.Bool.{and_parts}
 use Rattle.acap_entries.specs.FullPaths.{IsWellFormed, AreWellFormed, AreInForm, is_well_formed}
 use Rattle.acap_entries.specs.Sorted.{InOrder, put_in, without}
 use Rattle.acap_entries.specs.Store.{Stored, Written, IsPathByPath, path_cmp, after_fate}
@@ -15,27 +14,19 @@ use Rattle.acap_entries.specs.declared.path.Path.{Path}
 use Rattle.acap_entries.specs.declared.record.Record.{Record}
 use Rattle.acap_entries.proofs.MapLemmas.{get_found, insert_kept, put_in_order, remove_kept, without_in_order, none_in_order}
 use Rattle.acap_entries.proofs.StoreLemmas.{path_cmp_total, path_same}
-
-both : (a b : Bool) → a && b ≡ true → (a ≡ true) × (b ≡ true)
-both true b e = (refl, e)
-both false b e = cc
-
-ties : (o : Ordering) → is_eq o ≡ true → o ≡ Equal
-ties Less e = cc
-ties Equal e = refl
-ties Greater e = cc
+use Rattle.acap_entries.proofs.Logic.{Equal_from_is_eq}
 
 same_path : (p q : Path) → eq_by_cmp path_cmp p q ≡ true → p ≡ q
-same_path p q e = path_same p q (ties _ e)
+same_path p q e = path_same p q (Equal_from_is_eq _ e)
 
 pub formed : (p : Path) → is_well_formed p ≡ true → IsWellFormed p
-formed p e = let parts = both _ _ e in record { dataset = parts.0; name = parts.1 }
+formed p e = let parts = and_parts _ _ e in record { dataset = parts.0; name = parts.1 }
 
 find_formed : {X : Type 0} (es : List (Path × X)) (p : Path) (x : X) → list_all (λ e. is_well_formed e.0) es ≡ true → find path_cmp p es ≡ Some x → IsWellFormed p
 find_formed [] p x all = λ g. cc
 find_formed (e ∷ es) p x all = elim (eq_by_cmp path_cmp p e.0) as (λ b. eq_by_cmp path_cmp p e.0 ≡ b → cond b (Some e.1) (find path_cmp p es) ≡ Some x → IsWellFormed p) [
-  | true ↦ λ t g. subst IsWellFormed (sym (same_path p e.0 t)) (formed e.0 (both _ _ all).0)
-  | false ↦ λ t g. find_formed es p x (both _ _ all).1 g
+  | true ↦ λ t g. subst IsWellFormed (sym (same_path p e.0 t)) (formed e.0 (and_parts _ _ all).0)
+  | false ↦ λ t g. find_formed es p x (and_parts _ _ all).1 g
 ] refl
 
 pub in_form : {X : Type 0} (es : List (Path × X)) → InOrder path_cmp es → list_all (λ e. is_well_formed e.0) es ≡ true → AreInForm es

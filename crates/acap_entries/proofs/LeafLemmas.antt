@@ -1,5 +1,5 @@
 -- Entries that lie in leaves: what an edit of the key's leaf makes of all.
-use Rattle.std.proofs.Common.{◌≡◌, ℕ, zero, suc, ◌+◌, ◌<◌, ◌≤◌, Bool, true, false, not, cond, T, IsTrue, List, [], ◌∷◌, ◌++◌, length, get_or, set, take, drop, Option, Some, None, IfSome, IfNone, ◌==◌, refl, sym, ap, subst, ◌∙◌, arith, ◌&&◌, length-append, length-take, length-drop, take-append-drop, ◌-◌, ◌/◌, append_assoc, append-nil, ◌⊎◌, inl, inr}
+use Rattle.std.proofs.Common.{◌≡◌, ℕ, zero, suc, ◌+◌, ◌<◌, ◌≤◌, Bool, true, false, not, cond, T, List, [], ◌∷◌, ◌++◌, length, get_or, set, take, drop, Option, Some, None, IfSome, IfNone, ◌==◌, refl, sym, ap, subst, ◌∙◌, arith, length-append, length-take, length-drop, take-append-drop, ◌-◌, ◌/◌, append_assoc, append-nil, ◌⊎◌, inl, inr}
 use Rattle.std.specs.declared.cmp.Ordering.{Ordering}
 use Rattle.std.specs.declared.cmp.Ordering.TheVariants.{Less, Equal, Greater}
 use Rattle.std.specs.Ordering.{is_eq}
@@ -10,23 +10,13 @@ use Rattle.std.specs.FinMap.Entries.{by_order, below_all}
 use Rattle.acap_entries.specs.Sorted.{place, is_tied, without, found, entry_of, put_in, InOrder}
 use Rattle.acap_entries.specs.Leaves.{contents, before, is_filled, AreFilled, IsAmong, IsBehind}
 use Rattle.std.proofs.lemmas.List.{get_or-append-add, get_or_default}
-use Rattle.std.proofs.Math.Seq.{drop-append_seam, drop-drop}
+use Rattle.std.proofs.Math.Seq.{drop-append_seam, drop-drop, take-length}
 use Rattle.std.proofs.Math.ListN.{get_or-append}
+use Rattle.std.proofs.lemmas.Bool.{false_from_ne_true}
 use borrow.Author.Tests.{eqb-true}
 use Rattle.acap_entries.proofs.SortedLemmas.{below_missing, below_kept, equal_kept, without_absent, found_absent, below_entry, entry_absent, put_in_absent, place_le, tied_lt}
 use Rattle.acap_entries.proofs.Halves.{less_at, equal_at, greater_at}
-
-first : (a b : Bool) → T (a && b) → T a
-first true b p = tt
-first false b p = p
-
-second : (a b : Bool) → T (a && b) → T b
-second true b p = p
-second false b p = absurd p
-
-both : (a b : Bool) → T a → T b → T (a && b)
-both true b p q = q
-both false b p q = absurd p
+use Rattle.acap_entries.proofs.Logic.{first_T, second_T, both_T, IsTrue_from_T}
 
 -- ---- where a leaf lies among all
 
@@ -76,37 +66,33 @@ is_positive : {A : Type 0} (leaf : List A) → 0 < length leaf → T (is_filled 
 is_positive [] h = absurd (omega arith)
 is_positive (x ∷ xs) h = tt
 
-yes : (b : Bool) → T b → IsTrue b
-yes true h = refl
-yes false h = absurd h
-
 abbrev are_filled : {A : Type 0} → List (List A) → Bool
 are_filled ls = list_all is_filled ls
 
 filled_within : {A : Type 0} (ls : List (List A)) (i : ℕ) → T (are_filled ls) → i < length ls → 0 < length (get_or ls i [])
 filled_within [] i h lt = absurd (omega arith)
-filled_within (x ∷ ls) zero h lt = positive _ (first _ _ h)
-filled_within (x ∷ ls) (suc i) h lt = filled_within ls i (second _ _ h) (omega arith)
+filled_within (x ∷ ls) zero h lt = positive _ (first_T _ _ h)
+filled_within (x ∷ ls) (suc i) h lt = filled_within ls i (second_T _ _ h) (omega arith)
 
 set_filled : {A : Type 0} (ls : List (List A)) (i : ℕ) (y : List A) → T (are_filled ls) → 0 < length y → T (are_filled (set ls i y))
 set_filled [] i y h lt = tt
-set_filled (x ∷ ls) zero y h lt = both _ _ (is_positive _ lt) (second _ _ h)
-set_filled (x ∷ ls) (suc i) y h lt = both _ _ (first _ _ h) (set_filled ls i y (second _ _ h) lt)
+set_filled (x ∷ ls) zero y h lt = both_T _ _ (is_positive _ lt) (second_T _ _ h)
+set_filled (x ∷ ls) (suc i) y h lt = both_T _ _ (first_T _ _ h) (set_filled ls i y (second_T _ _ h) lt)
 
 insert_filled : {A : Type 0} (ls : List (List A)) (i : ℕ) (y : List A) → T (are_filled ls) → 0 < length y → T (are_filled (insert ls i y))
-insert_filled [] zero y h lt = both _ _ (is_positive _ lt) tt
-insert_filled [] (suc i) y h lt = both _ _ (is_positive _ lt) tt
-insert_filled (x ∷ ls) zero y h lt = both _ _ (is_positive _ lt) h
-insert_filled (x ∷ ls) (suc i) y h lt = both _ _ (first _ _ h) (insert_filled ls i y (second _ _ h) lt)
+insert_filled [] zero y h lt = both_T _ _ (is_positive _ lt) tt
+insert_filled [] (suc i) y h lt = both_T _ _ (is_positive _ lt) tt
+insert_filled (x ∷ ls) zero y h lt = both_T _ _ (is_positive _ lt) h
+insert_filled (x ∷ ls) (suc i) y h lt = both_T _ _ (first_T _ _ h) (insert_filled ls i y (second_T _ _ h) lt)
 
 pub filled_at : {A : Type 0} (ls : List (List A)) (i : ℕ) → AreFilled ls → i < length ls → 0 < length (get_or ls i [])
 filled_at ls i h lt = filled_within ls i (subst T (sym h.each) tt) lt
 
 pub filled_set : {A : Type 0} (ls : List (List A)) (i : ℕ) (y : List A) → AreFilled ls → 0 < length y → AreFilled (set ls i y)
-filled_set ls i y h lt = record { each = yes _ (set_filled ls i y (subst T (sym h.each) tt) lt) }
+filled_set ls i y h lt = record { each = IsTrue_from_T _ (set_filled ls i y (subst T (sym h.each) tt) lt) }
 
 pub filled_insert : {A : Type 0} (ls : List (List A)) (i : ℕ) (y : List A) → AreFilled ls → 0 < length y → AreFilled (insert ls i y)
-filled_insert ls i y h lt = record { each = yes _ (insert_filled ls i y (subst T (sym h.each) tt) lt) }
+filled_insert ls i y h lt = record { each = IsTrue_from_T _ (insert_filled ls i y (subst T (sym h.each) tt) lt) }
 
 -- ---- a leaf that is taken apart, or away
 
@@ -140,10 +126,6 @@ pub before_lt : {A : Type 0} (ls : List (List A)) (i : ℕ) → i < length ls �
 before_lt ls i h filled =
     let e = ap length (joined_at ls i h) in
     omega (arith, e, length-append (contents (take i ls)) (get_or ls i [] ++ contents (drop (suc i) ls)), length-append (get_or ls i []) (contents (drop (suc i) ls)))
-
-untied : (b : Bool) → (b ≡ true → ⊥) → b ≡ false
-untied true h = absurd (h refl)
-untied false h = refl
 
 -- what a look at the first entry of a leaf tells
 pub record IsFirst {A : Type 0} (ls : List (List A)) (i : ℕ) (x : A) : Type 0 where
@@ -181,7 +163,7 @@ module _ {K X : Type 0} (R : K → K → Ordering) (o : IsTotalOrder R) where
       let above = greater_at R o k es m x h (omega arith) (ap (λ (y : K × X). R k y.0) (sym read) ∙ e) in
       record {
         place = omega (arith, above, place_le R k es);
-        absent = untied (is_tied R k es) (λ t. omega (arith, above, tied_lt R k es t));
+        absent = false_from_ne_true (is_tied R k es) (λ t. omega (arith, above, tied_lt R k es t));
       }
 
 module _ {K X : Type 0} (R : K → K → Ordering) where
@@ -298,21 +280,21 @@ module _ {K X : Type 0} (R : K → K → Ordering) where
 
 below_front : {K X : Type 0} (R : K → K → Ordering) (l : K) (a r : List (K × X)) → T (below_all R l (a ++ r)) → T (below_all R l a)
 below_front R l [] r h = tt
-below_front R l (x ∷ a) r h = both _ _ (first _ _ h) (below_front R l a r (second _ _ h))
+below_front R l (x ∷ a) r h = both_T _ _ (first_T _ _ h) (below_front R l a r (second_T _ _ h))
 
 sorted_front : {K X : Type 0} (R : K → K → Ordering) (a r : List (K × X)) → T (is_sorted R (a ++ r)) → T (is_sorted R a)
 sorted_front R [] r h = tt
-sorted_front R (x ∷ a) r h = both _ _ (below_front R x.0 a r (first _ _ h)) (sorted_front R a r (second _ _ h))
+sorted_front R (x ∷ a) r h = both_T _ _ (below_front R x.0 a r (first_T _ _ h)) (sorted_front R a r (second_T _ _ h))
 
 sorted_rest : {K X : Type 0} (R : K → K → Ordering) (a r : List (K × X)) → T (is_sorted R (a ++ r)) → T (is_sorted R r)
 sorted_rest R [] r h = h
-sorted_rest R (x ∷ a) r h = sorted_rest R a r (second _ _ h)
+sorted_rest R (x ∷ a) r h = sorted_rest R a r (second_T _ _ h)
 
 module _ {K X : Type 0} (R : K → K → Ordering) where
   pub leaf_in_order : (ls : List (List (K × X))) (i : ℕ) → InOrder R (contents ls) → i < length ls → InOrder R (get_or ls i [])
   leaf_in_order ls i h lt =
       let whole = subst (λ (es : List (K × X)). T (is_sorted R es)) (joined_at ls i lt) (subst T (sym h.rises) tt) in
-      record { rises = yes _ (sorted_front R (get_or ls i []) _ (sorted_rest R (contents (take i ls)) _ whole)) }
+      record { rises = IsTrue_from_T _ (sorted_front R (get_or ls i []) _ (sorted_rest R (contents (take i ls)) _ whole)) }
 
   put_grows : (k : K) (v : X) (es : List (K × X)) → (length es ≤ length (put R k v es)) × (0 < length (put R k v es))
   put_grows k v [] = (omega arith, omega arith)
@@ -337,14 +319,14 @@ module _ {K X : Type 0} (R : K → K → Ordering) where
 
     find_behind : (k : K) (c : List (K × X)) → T (is_sorted R c) → (is_tied R k c ≡ true → place R k c < 0) → find R k c ≡ None
     unfolding found
-    find_behind k c h t = found_absent R o k c (record { rises = yes _ h }) (untied (is_tied R k c) (λ e. omega (arith, t e)))
+    find_behind k c h t = found_absent R o k c (record { rises = IsTrue_from_T _ h }) (false_from_ne_true (is_tied R k c) (λ e. omega (arith, t e)))
 
     find_within : (k : K) (b c : List (K × X)) → T (is_sorted R (b ++ c)) → place R k (b ++ c) ≤ length b → (is_tied R k (b ++ c) ≡ true → place R k (b ++ c) < length b) → find R k (b ++ c) ≡ find R k b
     find_within k [] c s = λ h t. find_behind k c s t
     find_within k (x ∷ b) c s = elim (R k x.0) as (λ p. R k x.0 ≡ p → by_order p 0 0 (suc (place R k (b ++ c))) ≤ suc (length b) → (by_order p false true (is_tied R k (b ++ c)) ≡ true → by_order p 0 0 (suc (place R k (b ++ c))) < suc (length b)) → cond (is_eq p) (Some x.1) (find R k (b ++ c)) ≡ cond (is_eq p) (Some x.1) (find R k b)) [
-      | Less ↦ λ e h t. below_missing R o k x.0 (b ++ c) e (first _ _ s) ∙ sym (below_missing R o k x.0 b e (below_front R x.0 b c (first _ _ s)))
+      | Less ↦ λ e h t. below_missing R o k x.0 (b ++ c) e (first_T _ _ s) ∙ sym (below_missing R o k x.0 b e (below_front R x.0 b c (first_T _ _ s)))
       | Equal ↦ λ e h t. refl
-      | Greater ↦ λ e h t. find_within k b c (second _ _ s) (omega arith) (λ u. omega (arith, t u))
+      | Greater ↦ λ e h t. find_within k b c (second_T _ _ s) (omega arith) (λ u. omega (arith, t u))
     ] refl
 
     pub found_in_leaf : (k : K) (ls : List (List (K × X))) (i : ℕ) → InOrder R (contents ls) → IsAmong R k ls i (i + 1) → found R k (get_or ls i []) ≡ found R k (contents ls)
@@ -367,15 +349,15 @@ module _ {K X : Type 0} (R : K → K → Ordering) where
     ]
 
     entry_behind : (k : K) (c : List (K × X)) → T (is_sorted R c) → (is_tied R k c ≡ true → place R k c < 0) → entry_of R k c ≡ None
-    entry_behind k c h t = entry_absent R o k c (record { rises = yes _ h }) (untied (is_tied R k c) (λ e. omega (arith, t e)))
+    entry_behind k c h t = entry_absent R o k c (record { rises = IsTrue_from_T _ h }) (false_from_ne_true (is_tied R k c) (λ e. omega (arith, t e)))
 
     entry_within : (k : K) (b c : List (K × X)) → T (is_sorted R (b ++ c)) → place R k (b ++ c) ≤ length b → (is_tied R k (b ++ c) ≡ true → place R k (b ++ c) < length b) → entry_of R k (b ++ c) ≡ entry_of R k b
     unfolding entry_of
     entry_within k [] c s = λ h t. entry_behind k c s t
     entry_within k (x ∷ b) c s = elim (R k x.0) as (λ p. R k x.0 ≡ p → by_order p 0 0 (suc (place R k (b ++ c))) ≤ suc (length b) → (by_order p false true (is_tied R k (b ++ c)) ≡ true → by_order p 0 0 (suc (place R k (b ++ c))) < suc (length b)) → cond (is_eq p) (Some x) (entry_of R k (b ++ c)) ≡ cond (is_eq p) (Some x) (entry_of R k b)) [
-      | Less ↦ λ e h t. below_entry R o k x.0 (b ++ c) e (first _ _ s) ∙ sym (below_entry R o k x.0 b e (below_front R x.0 b c (first _ _ s)))
+      | Less ↦ λ e h t. below_entry R o k x.0 (b ++ c) e (first_T _ _ s) ∙ sym (below_entry R o k x.0 b e (below_front R x.0 b c (first_T _ _ s)))
       | Equal ↦ λ e h t. refl
-      | Greater ↦ λ e h t. entry_within k b c (second _ _ s) (omega arith) (λ u. omega (arith, t u))
+      | Greater ↦ λ e h t. entry_within k b c (second_T _ _ s) (omega arith) (λ u. omega (arith, t u))
     ] refl
 
     pub entry_in_leaf : (k : K) (ls : List (List (K × X))) (i : ℕ) → InOrder R (contents ls) → IsAmong R k ls i (i + 1) → entry_of R k (get_or ls i []) ≡ entry_of R k (contents ls)
@@ -397,15 +379,15 @@ module _ {K X : Type 0} (R : K → K → Ordering) where
     ]
 
     without_behind : (k : K) (c : List (K × X)) → T (is_sorted R c) → (is_tied R k c ≡ true → place R k c < 0) → without R k c ≡ c
-    without_behind k c h t = without_absent R o k c (record { rises = yes _ h }) (untied (is_tied R k c) (λ e. omega (arith, t e)))
+    without_behind k c h t = without_absent R o k c (record { rises = IsTrue_from_T _ h }) (false_from_ne_true (is_tied R k c) (λ e. omega (arith, t e)))
 
     without_within : (k : K) (b c : List (K × X)) → T (is_sorted R (b ++ c)) → place R k (b ++ c) ≤ length b → (is_tied R k (b ++ c) ≡ true → place R k (b ++ c) < length b) → without R k (b ++ c) ≡ without R k b ++ c
     unfolding without
     without_within k [] c s = λ h t. without_behind k c s t
     without_within k (x ∷ b) c s = elim (R k x.0) as (λ p. R k x.0 ≡ p → by_order p 0 0 (suc (place R k (b ++ c))) ≤ suc (length b) → (by_order p false true (is_tied R k (b ++ c)) ≡ true → by_order p 0 0 (suc (place R k (b ++ c))) < suc (length b)) → cond (not (is_eq p)) (x ∷ without R k (b ++ c)) (without R k (b ++ c)) ≡ cond (not (is_eq p)) (x ∷ without R k b) (without R k b) ++ c) [
-      | Less ↦ λ e h t. ap (λ (u : List (K × X)). x ∷ u) (below_kept R o k x.0 (b ++ c) e (first _ _ s) ∙ ap (λ (u : List (K × X)). u ++ c) (sym (below_kept R o k x.0 b e (below_front R x.0 b c (first _ _ s)))))
-      | Equal ↦ λ e h t. equal_kept R o k x.0 (b ++ c) e (first _ _ s) ∙ ap (λ (u : List (K × X)). u ++ c) (sym (equal_kept R o k x.0 b e (below_front R x.0 b c (first _ _ s))))
-      | Greater ↦ λ e h t. ap (λ (u : List (K × X)). x ∷ u) (without_within k b c (second _ _ s) (omega arith) (λ v. omega (arith, t v)))
+      | Less ↦ λ e h t. ap (λ (u : List (K × X)). x ∷ u) (below_kept R o k x.0 (b ++ c) e (first_T _ _ s) ∙ ap (λ (u : List (K × X)). u ++ c) (sym (below_kept R o k x.0 b e (below_front R x.0 b c (first_T _ _ s)))))
+      | Equal ↦ λ e h t. equal_kept R o k x.0 (b ++ c) e (first_T _ _ s) ∙ ap (λ (u : List (K × X)). u ++ c) (sym (equal_kept R o k x.0 b e (below_front R x.0 b c (first_T _ _ s))))
+      | Greater ↦ λ e h t. ap (λ (u : List (K × X)). x ∷ u) (without_within k b c (second_T _ _ s) (omega arith) (λ v. omega (arith, t v)))
     ] refl
 
     pub without_in_leaf : (k : K) (ls : List (List (K × X))) (i : ℕ) → InOrder R (contents ls) → IsAmong R k ls i (i + 1) → contents (set ls i (without R k (get_or ls i []))) ≡ without R k (contents ls)
@@ -484,11 +466,11 @@ joined_emptied {A} (x ∷ ls) (suc i) y lt none = ap (λ (t : List A). x ++ t) (
 filled_emptied_within : {A : Type 0} (ls : List (List A)) (i : ℕ) (y : List A) → T (are_filled ls) → T (are_filled (remove (set ls i y) i))
 filled_emptied_within [] zero y h = tt
 filled_emptied_within [] (suc i) y h = tt
-filled_emptied_within (x ∷ ls) zero y h = second _ _ h
-filled_emptied_within (x ∷ ls) (suc i) y h = both _ _ (first _ _ h) (filled_emptied_within ls i y (second _ _ h))
+filled_emptied_within (x ∷ ls) zero y h = second_T _ _ h
+filled_emptied_within (x ∷ ls) (suc i) y h = both_T _ _ (first_T _ _ h) (filled_emptied_within ls i y (second_T _ _ h))
 
 pub filled_emptied : {A : Type 0} (ls : List (List A)) (i : ℕ) (y : List A) → AreFilled ls → AreFilled (remove (set ls i y) i)
-filled_emptied ls i y h = record { each = yes _ (filled_emptied_within ls i y (subst T (sym h.each) tt)) }
+filled_emptied ls i y h = record { each = IsTrue_from_T _ (filled_emptied_within ls i y (subst T (sym h.each) tt)) }
 
 pub positive_if : (n : ℕ) → (n ≡ 0 → ⊥) → 0 < n
 positive_if zero h = absurd (h refl)
@@ -593,10 +575,10 @@ joined_parts {A} (x ∷ ls) (suc i) = ap (λ (t : List A). x ++ t) (joined_parts
 drop_filled : {A : Type 0} (ls : List (List A)) (i : ℕ) → T (are_filled ls) → T (are_filled (drop i ls))
 drop_filled ls zero h = h
 drop_filled [] (suc i) h = tt
-drop_filled (x ∷ ls) (suc i) h = drop_filled ls i (second _ _ h)
+drop_filled (x ∷ ls) (suc i) h = drop_filled ls i (second_T _ _ h)
 
 pub filled_drop : {A : Type 0} (ls : List (List A)) (i : ℕ) → AreFilled ls → AreFilled (drop i ls)
-filled_drop ls i h = record { each = yes _ (drop_filled ls i (subst T (sym h.each) tt)) }
+filled_drop ls i h = record { each = IsTrue_from_T _ (drop_filled ls i (subst T (sym h.each) tt)) }
 
 drop_past : {A : Type 0} (a b : List A) (n : ℕ) → drop (length a + n) (a ++ b) ≡ drop n b
 drop_past {A} a b n = sym (drop-drop n (length a) (a ++ b)) ∙ ap (λ (t : List A). drop n t) (drop-append_seam a b)
@@ -608,7 +590,7 @@ module _ {K X : Type 0} (R : K → K → Ordering) where
   pub rest_in_order : (ls : List (List (K × X))) (i : ℕ) → InOrder R (contents ls) → InOrder R (contents (drop i ls))
   rest_in_order ls i h =
       let whole = subst (λ (es : List (K × X)). T (is_sorted R es)) (joined_parts ls i) (subst T (sym h.rises) tt) in
-      record { rises = yes _ (sorted_rest R (contents (take i ls)) _ whole) }
+      record { rises = IsTrue_from_T _ (sorted_rest R (contents (take i ls)) _ whole) }
 
   pub place_behind : (k : K) (ls : List (List (K × X))) (i : ℕ) → before ls i ≤ place R k (contents ls) → place R k (contents ls) ≡ before ls i + place R k (contents (drop i ls))
   place_behind k ls i h =
@@ -648,9 +630,5 @@ pub first_taken : {A : Type 0} (n : ℕ) (x : A) (r : List A) → (n ≡ 0 → �
 first_taken zero x r h = absurd (h refl)
 first_taken {A} (suc n) x r h = let less : suc n - 1 ≡ n = omega arith in rw less refl
 
-whole_taken : {A : Type 0} (es : List A) → take (length es) es ≡ es
-whole_taken [] = refl
-whole_taken {A} (x ∷ es) = ap (λ (t : List A). x ∷ t) (whole_taken es)
-
 pub taken_whole : {A : Type 0} (n : ℕ) (es : List A) → n ≡ length es → take n es ≡ es
-taken_whole n es h = rw h (whole_taken es)
+taken_whole n es h = rw h (take-length es)

@@ -1,3 +1,4 @@
+pub mod Logic
 pub mod EntryLemmas
 pub mod SortedLemmas
 pub mod LeafLemmas

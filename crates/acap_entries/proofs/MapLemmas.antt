@@ -7,13 +7,10 @@ use Rattle.std.specs.Cmp.{IsTotalOrder, alike_right, eq_by_cmp_equiv}
 use Rattle.std.specs.FinMap.{IsAntisymmetric, find, put, get, insert, remove, empty, entries, from_sorted, entries-from_sorted, get-from_sorted, same_entries_map, entries-insert, same_map, get-remove, empty_of_len, len, len-entries}
 use Rattle.std.specs.FinMap.Entries.{find-where_key, is_sorted-where_key, is_sorted-put}
 use Rattle.acap_entries.specs.Sorted.{without, found, put_in, InOrder}
+use Rattle.acap_entries.proofs.Logic.{IsTrue_from_T}
 
 in_order : (b : Bool) → IsTrue b → T b
 in_order b h = subst T (sym h) tt
-
-yes : (b : Bool) → T b → IsTrue b
-yes true h = refl
-yes false h = absurd h
 
 alike : {K : Type 0} {R : K → K → Ordering} → IsTotalOrder R → (k q x : K) → R q x ≡ Equal → eq_by_cmp R k x ≡ eq_by_cmp R k q
 alike o k q x t = ap is_eq (sym (alike_right o q x k t))
@@ -50,11 +47,11 @@ module _ {K X : Type 0} (R : K → K → Ordering) where
 
     pub put_in_order : (es : List (K × X)) (k : K) (v : X) → InOrder R es → InOrder R (put_in R k v es)
     unfolding put_in
-    put_in_order es k v h = record { rises = yes _ (is_sorted-put R o k v es (in_order _ h.rises)) }
+    put_in_order es k v h = record { rises = IsTrue_from_T _ (is_sorted-put R o k v es (in_order _ h.rises)) }
 
     pub without_in_order : (es : List (K × X)) (k : K) → InOrder R es → InOrder R (without R k es)
     unfolding without
-    without_in_order es k h = record { rises = yes _ (is_sorted-where_key R _ es (in_order _ h.rises)) }
+    without_in_order es k h = record { rises = IsTrue_from_T _ (is_sorted-where_key R _ es (in_order _ h.rises)) }
 
     pub remove_kept : IsAntisymmetric R → (es : List (K × X)) (k : K) → InOrder R es → from_sorted {R = R} (without R k es) ≡ remove (from_sorted es) k
     unfolding without found

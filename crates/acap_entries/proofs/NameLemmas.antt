@@ -1,9 +1,9 @@
 -- Texts between slashes, and UTF-8 as a test.
 use Rattle.std.proofs.Common.{◌≡◌, ℕ, suc, ◌+◌, ◌<◌, ◌≤◌, Bool, true, false, not, cond, List, [], ◌∷◌, ◌++◌, ◌-◌, zero, length, take, drop, length-drop, Some, None, Result, Ok, Err, MatchResult, refl, sym, ap, ◌∙◌, arith}
-use Rattle.std.proofs.lemmas.Bool.{ltb-true, ltb-false}
+use Rattle.std.proofs.lemmas.Bool.{ltb-true, ltb-false, and_parts, false≢true}
 use Rattle.std.proofs.lemmas.Bool.Decides.{nat_tests}
 use borrow.Author.Tests.{eqb-true}
-use Rattle.std.specs.Prelude.{nat_lt, count_by, slice_index, ◌==◌, ◌&&◌, ◌||◌, nat_eq, codes}
+use Rattle.std.specs.Prelude.{nat_lt, count_by, slice_index, ◌==◌, ◌||◌, nat_eq, codes}
 use Rattle.std.specs.Result.{is_ok}
 use Rattle.std.specs.List.{starts_with, slice_split, position, position_or_len, suffix_len}
 use Rattle.std.specs.Str.{IsUtf8, is_utf8}
@@ -17,6 +17,7 @@ use Rattle.std.proofs.lemmas.Iterator.{YieldsList}
 use Rattle.std.proofs.lemmas.Iterator.Consumers.{YieldsList-from_shown}
 use Rattle.std.proofs.lemmas.Iterator.Search.{position_from_yields_List}
 use Rattle.std.proofs.lemmas.List.Splits.{length-slice_split}
+use Rattle.std.proofs.Math.Bool.{or-true}
 use Rattle.acap_entries.specs.Names.{is_slash, slash, ends_with, begins_with, has, is_path, dataset_of}
 use Rattle.acap_entries.specs.Homes.{for_user, is_home, second_at}
 
@@ -133,30 +134,23 @@ last_taken (suc (suc n)) (x ∷ y ∷ xs) some within e =
 pub taken_closed : (n : ℕ) (xs : List ℕ) → 0 < n → n ≤ length xs → slice_index xs (n - 1) ≡ 47 → ends_with slash (take n xs) ≡ true
 taken_closed n xs some within e = ends_same (take n xs) ∙ last_taken n xs some within e
 
-not_so : false ≡ true → ⊥
-not_so e = cc
-
-both_hold : (a b : Bool) → a && b ≡ true → (a ≡ true) × (b ≡ true)
-both_hold true b e = (refl, e)
-both_hold false b e = cc
-
 begun_some : (xs : List ℕ) → begins_with slash xs ≡ true → 0 < length xs
-begun_some [] e = absurd (not_so e)
+begun_some [] e = absurd (false≢true e)
 begun_some (x ∷ xs) e = omega arith
 
 -- a path has a dataset
 pub path_has_dataset : (text : List ℕ) → is_path text ≡ true → 0 < length (dataset_of text)
 unfolding is_path
-path_has_dataset text e = begun_some (dataset_of text) (both_hold _ _ (both_hold _ _ (both_hold _ _ (both_hold _ _ e).0).0).1).0
+path_has_dataset text e = begun_some (dataset_of text) (and_parts _ _ (and_parts _ _ (and_parts _ _ (and_parts _ _ e).0).0).1).0
 
 long_enough : (xs : List ℕ) → starts_with nat_eq xs (codes "~/") ≡ true → 1 < length xs
-long_enough [] e = absurd (not_so e)
-long_enough (x ∷ []) e = absurd (not_so (both_hold _ _ e).1)
+long_enough [] e = absurd (false≢true e)
+long_enough (x ∷ []) e = absurd (false≢true (and_parts _ _ e).1)
 long_enough (x ∷ y ∷ xs) e = omega arith
 
 home_within : (d : List ℕ) → is_home d ≡ true → second_at d + 1 < length d
 unfolding is_home
-home_within d e = let long : 1 < length (drop (second_at d) d) = long_enough (drop (second_at d) d) (both_hold _ _ e).1 in omega (arith, length-drop (second_at d) d, long)
+home_within d e = let long : 1 < length (drop (second_at d) d) = long_enough (drop (second_at d) d) (and_parts _ _ e).1 in omega (arith, length-drop (second_at d) d, long)
 
 -- the dataset that is meant is closed as the one that is named
 pub for_user_closed : (user d : List ℕ) → ends_with slash d ≡ true → ends_with slash (for_user user d) ≡ true
@@ -166,14 +160,10 @@ for_user_closed user d h = elim (is_home d) as (λ b. is_home d ≡ b → ends_w
   | false ↦ λ e. h
 ] refl
 
-or_true : (b : Bool) → b || true ≡ true
-or_true true = refl
-or_true false = refl
-
 has_slash : (xs n : List ℕ) → ends_here xs ≡ true → has slash (xs ++ n) ≡ true
-has_slash [] n h = absurd (not_so h)
+has_slash [] n h = absurd (false≢true h)
 has_slash (x ∷ []) n h = ap (λ v. v || has slash n) h
-has_slash (x ∷ y ∷ xs) n h = ap (λ v. (x == slash) || v) (has_slash (y ∷ xs) n h) ∙ or_true (x == slash)
+has_slash (x ∷ y ∷ xs) n h = ap (λ v. (x == slash) || v) (has_slash (y ∷ xs) n h) ∙ or-true (x == slash)
 
 tail_of : List ℕ → List ℕ
 tail_of [] = []
@@ -185,11 +175,11 @@ head_of (x ∷ xs) = x
 
 parts_within : (a b m n : List ℕ) → has slash m ≡ false → has slash n ≡ false → ends_here a ≡ true → ends_here b ≡ true → a ++ m ≡ b ++ n → (a ≡ b) × (m ≡ n)
 unfolding tail_of head_of
-parts_within [] b m n hm hn ha hb e = absurd (not_so ha)
-parts_within (x ∷ a) [] m n hm hn ha hb e = absurd (not_so hb)
+parts_within [] b m n hm hn ha hb e = absurd (false≢true ha)
+parts_within (x ∷ a) [] m n hm hn ha hb e = absurd (false≢true hb)
 parts_within (x ∷ []) (y ∷ []) m n hm hn ha hb e = (ap (λ v. v ∷ []) (ap head_of e), ap tail_of e)
-parts_within (x ∷ []) (y ∷ z ∷ b) m n hm hn ha hb e = absurd (not_so (sym hm ∙ ap (has slash) (ap tail_of e) ∙ has_slash (z ∷ b) n hb))
-parts_within (x ∷ w ∷ a) (y ∷ []) m n hm hn ha hb e = absurd (not_so (sym hn ∙ ap (has slash) (sym (ap tail_of e)) ∙ has_slash (w ∷ a) m ha))
+parts_within (x ∷ []) (y ∷ z ∷ b) m n hm hn ha hb e = absurd (false≢true (sym hm ∙ ap (has slash) (ap tail_of e) ∙ has_slash (z ∷ b) n hb))
+parts_within (x ∷ w ∷ a) (y ∷ []) m n hm hn ha hb e = absurd (false≢true (sym hn ∙ ap (has slash) (sym (ap tail_of e)) ∙ has_slash (w ∷ a) m ha))
 parts_within (x ∷ w ∷ a) (y ∷ z ∷ b) m n hm hn ha hb e =
     let rest = parts_within (w ∷ a) (z ∷ b) m n hm hn ha hb (ap tail_of e) in
     let first = ap head_of e in

@@ -8,15 +8,12 @@ use Rattle.std.proofs.Math.Seq.{take-append_seam}
 use Rattle.std.proofs.lemmas.Bool.{and_from}
 use Rattle.std.specs.Cmp.{first_so, second_so}
 use Rattle.std.specs.List.{suffix_len}
+use Rattle.std.proofs.Math.Bool.{or-false}
 use Rattle.acap_entries.specs.FullPaths.{full_path, IsSplit}
 use Rattle.acap_entries.specs.Laws.{OwnEntryLaw}
 use Rattle.acap_entries.specs.Names.{slash, is_slash, has, begins_with, ends_with, own_entry, dataset_len, dataset_of, name_of}
 use Rattle.acap_entries.specs.declared.path.Path.{Path}
 use Rattle.acap_entries.proofs.NameLemmas.{closed_behind, closed_again, closed_by_slash, same_parts}
-
-or_false : (b : Bool) → b || false ≡ b
-or_false true = refl
-or_false false = refl
 
 -- how many octets there are through the last slash
 pub cut : List ℕ → ℕ
@@ -36,7 +33,7 @@ unfolding cut
 cut_some [] h = cc
 cut_some (x ∷ xs) h = elim (has slash xs) as (λ b. (x == slash) || b ≡ true → 0 < cond b (suc (cut xs)) (cond (x == slash) 1 0)) [
   | true ↦ λ g. omega arith
-  | false ↦ λ g. let here : (x == slash) ≡ true = sym (or_false (x == slash)) ∙ g in subst (λ b. 0 < cond b 1 0) (sym here) (omega arith)
+  | false ↦ λ g. let here : (x == slash) ≡ true = sym (or-false (x == slash)) ∙ g in subst (λ b. 0 < cond b 1 0) (sym here) (omega arith)
 ] h
 
 cut_within : (xs : List ℕ) → cut xs ≤ length xs
@@ -93,7 +90,7 @@ unfolding cut
 cut_closed [] = λ h. cc
 cut_closed (x ∷ xs) = elim (has slash xs) as (λ b. has slash xs ≡ b → (x == slash) || b ≡ true → ends_with slash (take (cond b (suc (cut xs)) (cond (x == slash) 1 0)) (x ∷ xs)) ≡ true) [
   | true ↦ λ h g. closed_behind (x ∷ []) (take (cut xs) xs) (cut_closed xs h)
-  | false ↦ λ h g. let here : (x == slash) ≡ true = sym (or_false (x == slash)) ∙ g in ap (λ b. ends_with slash (take (cond b 1 0) (x ∷ xs))) here ∙ here
+  | false ↦ λ h g. let here : (x == slash) ≡ true = sym (or-false (x == slash)) ∙ g in ap (λ b. ends_with slash (take (cond b 1 0) (x ∷ xs))) here ∙ here
 ] refl
 
 pub cut_begins : (x : ℕ) (xs : List ℕ) → (x == slash) ≡ true → begins_with slash (take (cut (x ∷ xs)) (x ∷ xs)) ≡ true

@@ -1,6 +1,6 @@
 -- Octets that each pass one test: ASCII above an octet, and not one more.
 use Rattle.std.proofs.Common.{◌≡◌, ℕ, ◌≤◌, Bool, true, false, not, List, [], ◌∷◌, refl, sym, ap, ◌∙◌, arith}
-use Rattle.std.proofs.lemmas.Bool.{ltb-true}
+use Rattle.std.proofs.lemmas.Bool.{ltb-true, and_parts, false≢true}
 use Rattle.std.proofs.lemmas.Bool.Decides.{nat_tests}
 use borrow.Author.Tests.{eqb-true}
 use Rattle.std.specs.Prelude.{nat_lt, ◌==◌, ◌&&◌}
@@ -13,16 +13,9 @@ use Rattle.acap_entries.specs.Names.{has}
 abbrev pub plain : ℕ → ℕ → ℕ → Bool
 plain above other octet = nat_lt above octet && nat_lt octet 128 && not (octet == other)
 
-not_so : false ≡ true → ⊥
-not_so e = cc
-
-both_hold : (a b : Bool) → a && b ≡ true → (a ≡ true) × (b ≡ true)
-both_hold true b e = (refl, e)
-both_hold false b e = cc
-
 differs : (test : ℕ → Bool) (octet x : ℕ) → test octet ≡ false → test x ≡ true → (x == octet) ≡ false
 differs test octet x fails passes = elim (x == octet) as (λ b. (x == octet) ≡ b → b ≡ false) [
-  | true ↦ λ e. absurd (not_so (sym fails ∙ ap test (sym (eqb-true x octet e)) ∙ passes))
+  | true ↦ λ e. absurd (false≢true (sym fails ∙ ap test (sym (eqb-true x octet e)) ∙ passes))
   | false ↦ λ e. refl
 ] refl
 
@@ -30,15 +23,15 @@ differs test octet x fails passes = elim (x == octet) as (λ b. (x == octet) ≡
 without : (test : ℕ → Bool) (octet : ℕ) (xs : List ℕ) → test octet ≡ false → list_all test xs ≡ true → has octet xs ≡ false
 without test octet [] fails all = refl
 without test octet (x ∷ xs) fails all =
-    let parts = both_hold _ _ all in
+    let parts = and_parts _ _ all in
     rw (differs test octet x fails parts.0) (without test octet xs fails parts.1)
 
 module _ (above other : ℕ) where
   ascii : (xs : List ℕ) → list_all (plain above other) xs ≡ true → IsAscii xs
   ascii [] all = IsAscii-nil
   ascii (x ∷ xs) all =
-      let parts = both_hold _ _ all in
-      IsAscii-cons x xs (ltb-true _ _ (both_hold _ _ (both_hold _ _ parts.0).0).1) (ascii xs parts.1)
+      let parts = and_parts _ _ all in
+      IsAscii-cons x xs (ltb-true _ _ (and_parts _ _ (and_parts _ _ parts.0).0).1) (ascii xs parts.1)
 
   pub plain_utf8 : (xs : List ℕ) → list_all (plain above other) xs ≡ true → is_utf8 xs ≡ true
   plain_utf8 xs all = is_utf8-from_IsUtf8 xs (IsUtf8-from_ascii xs (ascii xs all))

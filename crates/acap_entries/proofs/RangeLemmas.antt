@@ -4,7 +4,7 @@ use Rattle.std.specs.Prelude.{filter}
 use Rattle.std.specs.List.{starts_with}
 use Rattle.std.specs.declared.cmp.Ordering.{Ordering}
 use Rattle.std.specs.declared.cmp.Ordering.TheVariants.{Less, Equal, Greater}
-use Rattle.std.specs.Ordering.{is_eq, is_lt, is_gt, ordering_then, ordering_reverse, nat_cmp}
+use Rattle.std.specs.Ordering.{is_eq, is_gt, ordering_then, ordering_reverse, nat_cmp}
 use Rattle.std.specs.Cmp.{IsTotalOrder}
 use Rattle.std.specs.Cmp.Lexicographic.{texts_ties, nat_list_cmp_total}
 use Rattle.std.specs.FinMap.{is_sorted}
@@ -13,19 +13,7 @@ use Rattle.std.proofs.lemmas.Cmp.{ranked, nat_cmp_total}
 use Rattle.std.proofs.lemmas.Bool.Decides.{nat_tests}
 use Rattle.acap_entries.specs.Orders.{octets_cmp, octets_eq}
 use Rattle.acap_entries.specs.Sorted.{place, InOrder}
-
-first : (a b : Bool) → T (a && b) → T a
-first true b p = tt
-first false b p = p
-
-second : (a b : Bool) → T (a && b) → T b
-second true b p = p
-second false b p = absurd p
-
-is_less : (o : Ordering) → T (is_lt o) → o ≡ Less
-is_less Less p = refl
-is_less Equal p = absurd p
-is_less Greater p = absurd p
+use Rattle.acap_entries.proofs.Logic.{first_T, second_T, Less_from_T}
 
 told : (r : Ordering) → (r ≡ Greater) ⊎ ((r ≡ Less) ⊎ (r ≡ Equal))
 told Less = inr (inl refl)
@@ -47,12 +35,12 @@ module _ {K X : Type 0} (R : K → K → Ordering) (o : IsTotalOrder R) where
   none_between : (k l x : K) (es : List (K × X)) → (R l x ≡ Less) ⊎ (R l x ≡ Equal) → T (below_all R x es) → filter (lies_between k l) es ≡ []
   none_between k l x [] e h = refl
   none_between k l x (y ∷ es) e h =
-      let past : R l y.0 ≡ Less = beyond R o l x y.0 e (is_less _ (first _ _ h)) in
-      rw past (none_between k l x es e (second _ _ h))
+      let past : R l y.0 ≡ Less = beyond R o l x y.0 e (Less_from_T _ (first_T _ _ h)) in
+      rw past (none_between k l x es e (second_T _ _ h))
 
   none_before : (k x : K) (es : List (K × X)) → (R k x ≡ Less) ⊎ (R k x ≡ Equal) → T (below_all R x es) → place R k es ≡ 0
   none_before k x [] e h = refl
-  none_before k x (y ∷ es) e h = ap (λ r. by_order r 0 0 (suc (place R k es))) (beyond R o k x y.0 e (is_less _ (first _ _ h)))
+  none_before k x (y ∷ es) e h = ap (λ r. by_order r 0 0 (suc (place R k es))) (beyond R o k x y.0 e (Less_from_T _ (first_T _ _ h)))
 
   at_front : (k l : K) (x : K × X) (es : List (K × X)) → (R k x.0 ≡ Less) ⊎ (R k x.0 ≡ Equal) → is_gt (R k x.0) ≡ false → by_order (R k x.0) 0 0 (suc (place R k es)) ≡ 0
       → T (below_all R x.0 es) → filter (lies_between k l) es ≡ take (place R l es - place R k es) (drop (place R k es) es)
@@ -76,9 +64,9 @@ module _ {K X : Type 0} (R : K → K → Ordering) (o : IsTotalOrder R) where
       elim (told (R k x.0)) [
         | inl e ↦
             let less : suc (place R l es) - suc (place R k es) ≡ place R l es - place R k es = omega arith in
-            rw (e, h x.0 e, less) (between_within k l h es (second _ _ s))
-        | inr (inl e) ↦ at_front k l x es (inl e) (ap is_gt e) (ap (λ r. by_order r 0 0 (suc (place R k es))) e) (first _ _ s) (between_within k l h es (second _ _ s))
-        | inr (inr e) ↦ at_front k l x es (inr e) (ap is_gt e) (ap (λ r. by_order r 0 0 (suc (place R k es))) e) (first _ _ s) (between_within k l h es (second _ _ s))
+            rw (e, h x.0 e, less) (between_within k l h es (second_T _ _ s))
+        | inr (inl e) ↦ at_front k l x es (inl e) (ap is_gt e) (ap (λ r. by_order r 0 0 (suc (place R k es))) e) (first_T _ _ s) (between_within k l h es (second_T _ _ s))
+        | inr (inr e) ↦ at_front k l x es (inr e) (ap is_gt e) (ap (λ r. by_order r 0 0 (suc (place R k es))) e) (first_T _ _ s) (between_within k l h es (second_T _ _ s))
       ]
 
   pub between : (k l : K) → ((x : K) → R k x ≡ Greater → R l x ≡ Greater) → (es : List (K × X)) → InOrder R es → filter (lies_between k l) es ≡ take (place R l es - place R k es) (drop (place R k es) es)

@@ -1,5 +1,5 @@
 -- Items in their own order, as the keys of entries.
-use Rattle.std.proofs.Common.{◌≡◌, ℕ, zero, suc, ◌+◌, ◌<◌, ◌≤◌, Bool, true, false, not, cond, T, IsTrue, List, [], ◌∷◌, ◌++◌, map, length, drop, ◌-◌, Option, Some, refl, sym, ap, subst, ◌∙◌, arith, ◌&&◌}
+use Rattle.std.proofs.Common.{◌≡◌, ℕ, zero, suc, ◌+◌, ◌<◌, ◌≤◌, true, false, not, cond, T, IsTrue, List, [], ◌∷◌, ◌++◌, map, length, drop, ◌-◌, Option, Some, refl, sym, ap, subst, ◌∙◌, arith}
 use Rattle.std.specs.Option.{option_map}
 use Rattle.std.specs.declared.cmp.Ordering.{Ordering}
 use Rattle.std.specs.declared.cmp.Ordering.TheVariants.{Less, Equal, Greater}
@@ -14,15 +14,8 @@ use Rattle.std.proofs.lemmas.List.Sums.{sum_by-cons}
 use Rattle.acap_entries.specs.Sorted.{place, without, entry_of, put_in, InOrder}
 use Rattle.acap_entries.specs.Leaves.{contents}
 use Rattle.acap_entries.specs.Ranks.{units, Ascending, rank_of, item_at, with_item, without_item}
-use Rattle.acap_entries.proofs.SortedLemmas.{first, second, is_less, lower, lower_equal, rises_behind}
-
-both : (a b : Bool) → T a → T b → T (a && b)
-both true b p q = q
-both false b p q = absurd p
-
-yes : (b : Bool) → T b → IsTrue b
-yes true h = refl
-yes false h = absurd h
+use Rattle.acap_entries.proofs.SortedLemmas.{lower, lower_equal, rises_behind}
+use Rattle.acap_entries.proofs.Logic.{both_T, IsTrue_from_T, first_T, second_T, Less_from_T}
 
 -- the keys of entries
 abbrev pub items : {K X : Type 0} → List (K × X) → List K
@@ -102,36 +95,36 @@ module _ {K X : Type 0} (R : K → K → Ordering) where
   -- the keys of entries in order ascend, and the other way round
   all_below : (l : K) (es : List (K × X)) → T (below_all R l es) → All (λ y. R l y ≡ Less) (items es)
   all_below l [] h = λ k d lt. absurd (omega arith)
-  all_below l (x ∷ es) h = All-cons (λ y. R l y ≡ Less) x.0 (items es) (is_less _ (first _ _ h)) (all_below l es (second _ _ h))
+  all_below l (x ∷ es) h = All-cons (λ y. R l y ≡ Less) x.0 (items es) (Less_from_T _ (first_T _ _ h)) (all_below l es (second_T _ _ h))
 
   pairs_of : (es : List (K × X)) → T (is_sorted R es) → AllPairs (λ x y. R x y ≡ Less) (items es)
   pairs_of [] h = λ i j d lt within. absurd (omega arith)
-  pairs_of (x ∷ es) h = AllPairs-cons (λ x y. R x y ≡ Less) x.0 (items es) (all_below x.0 es (first _ _ h)) (pairs_of es (second _ _ h))
+  pairs_of (x ∷ es) h = AllPairs-cons (λ x y. R x y ≡ Less) x.0 (items es) (all_below x.0 es (first_T _ _ h)) (pairs_of es (second_T _ _ h))
 
   pub ascending : (es : List (K × X)) → InOrder R es → Ascending R (items es)
   ascending es h = record { rises = pairs_of es (subst T (sym h.rises) tt) }
 
   below_from : (l : K) (es : List (K × X)) → All (λ y. R l y ≡ Less) (items es) → T (below_all R l es)
   below_from l [] h = tt
-  below_from l (x ∷ es) h = both _ _ (subst (λ r. T (is_lt r)) (sym (h zero x.0 (omega arith))) tt) (below_from l es (λ k d lt. h (suc k) d (omega arith)))
+  below_from l (x ∷ es) h = both_T _ _ (subst (λ r. T (is_lt r)) (sym (h zero x.0 (omega arith))) tt) (below_from l es (λ k d lt. h (suc k) d (omega arith)))
 
   sorted_from : (es : List (K × X)) → AllPairs (λ x y. R x y ≡ Less) (items es) → T (is_sorted R es)
   sorted_from [] h = tt
-  sorted_from (x ∷ es) h = both _ _ (below_from x.0 es (λ k d lt. h zero (suc k) d (omega arith) (omega arith))) (sorted_from es (λ i j d lt within. h (suc i) (suc j) d (omega arith) (omega arith)))
+  sorted_from (x ∷ es) h = both_T _ _ (below_from x.0 es (λ k d lt. h zero (suc k) d (omega arith) (omega arith))) (sorted_from es (λ i j d lt within. h (suc i) (suc j) d (omega arith) (omega arith)))
 
   pub in_order : (es : List (K × X)) → Ascending R (items es) → InOrder R es
-  in_order es h = record { rises = yes _ (sorted_from es h.rises) }
+  in_order es h = record { rises = IsTrue_from_T _ (sorted_from es h.rises) }
 
   module _ (o : IsTotalOrder R) where
     -- nothing is less than a key that is below all
     rank_below : (k : K) (es : List (K × X)) → T (below_all R k es) → rank_of R k (items es) ≡ 0
     rank_below k [] h = rank_none R k
     rank_below k (x ∷ es) h =
-        let less : R k x.0 ≡ Less = is_less _ (first _ _ h) in
+        let less : R k x.0 ≡ Less = Less_from_T _ (first_T _ _ h) in
         let more : R x.0 k ≡ Greater = o.antisymm x.0 k ∙ ap ordering_reverse less in
         let head : ◌≡◌ {A = ℕ} (cond (is_lt (R x.0 k)) 1 0) 0 = ap (λ r. cond (is_lt r) 1 0) more in
         let cons = rank_cons R k x.0 (items es) in
-        omega (arith, cons, head, rank_below k es (second _ _ h))
+        omega (arith, cons, head, rank_below k es (second_T _ _ h))
 
     -- in entries that are in order a key's place is its rank
     place_of : (k : K) (es : List (K × X)) → T (is_sorted R es) → place R k es ≡ rank_of R k (items es)
@@ -142,15 +135,15 @@ module _ {K X : Type 0} (R : K → K → Ordering) where
           | Less ↦ λ p.
               let back : R x.0 k ≡ Greater = o.antisymm x.0 k ∙ ap ordering_reverse p in
               let head : ◌≡◌ {A = ℕ} (cond (is_lt (R x.0 k)) 1 0) 0 = ap (λ r. cond (is_lt r) 1 0) back in
-              omega (arith, cons, head, rank_below k es (lower R o k x.0 es p (first _ _ h)))
+              omega (arith, cons, head, rank_below k es (lower R o k x.0 es p (first_T _ _ h)))
           | Equal ↦ λ p.
               let back : R x.0 k ≡ Equal = o.antisymm x.0 k ∙ ap ordering_reverse p in
               let head : ◌≡◌ {A = ℕ} (cond (is_lt (R x.0 k)) 1 0) 0 = ap (λ r. cond (is_lt r) 1 0) back in
-              omega (arith, cons, head, rank_below k es (lower_equal R o k x.0 es p (first _ _ h)))
+              omega (arith, cons, head, rank_below k es (lower_equal R o k x.0 es p (first_T _ _ h)))
           | Greater ↦ λ p.
               let back : R x.0 k ≡ Less = o.antisymm x.0 k ∙ ap ordering_reverse p in
               let head : ◌≡◌ {A = ℕ} (cond (is_lt (R x.0 k)) 1 0) 1 = ap (λ r. cond (is_lt r) 1 0) back in
-              omega (arith, cons, head, place_of k es (second _ _ h))
+              omega (arith, cons, head, place_of k es (second_T _ _ h))
         ] refl
 
     pub place_rank : (k : K) (es : List (K × X)) → InOrder R es → place R k es ≡ rank_of R k (items es)

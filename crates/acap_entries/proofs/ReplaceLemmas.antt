@@ -12,14 +12,15 @@ use Rattle.std.proofs.lemmas.List.Edits.{length-insert}
 use Rattle.acap_entries.specs.Sorted.{place, is_tied, without, entry_of, put_in, InOrder}
 use Rattle.acap_entries.specs.Leaves.{contents, before, weight, AreFilled}
 use Rattle.acap_entries.specs.Replacing.{LiesAt, replaced}
-use Rattle.acap_entries.proofs.SortedLemmas.{first, second, is_less, lower_equal, equal_kept, place_le, tied_lt, entry_tied, put_in_absent, without_absent}
+use Rattle.acap_entries.proofs.SortedLemmas.{lower_equal, equal_kept, place_le, tied_lt, entry_tied, put_in_absent, without_absent}
 use Rattle.acap_entries.proofs.LeafLemmas.{joined_at, joined_set, filled_at, filled_set, joined_set_length, leaf_in_order, entry_in_leaf, put_in_leaf, place_of_leaf, tied_in_leaf, without_none}
 use Rattle.acap_entries.proofs.WeightLemmas.{weight_set}
+use Rattle.acap_entries.proofs.Logic.{first_T, second_T, Less_from_T}
 
 module _ {K X : Type 0} (R : K → K → Ordering) (o : IsTotalOrder R) where
   put_below : (k : K) (v : X) (es : List (K × X)) → T (below_all R k es) → put R k v es ≡ (k, v) ∷ es
   put_below k v [] h = refl
-  put_below k v (x ∷ es) h = ap (λ r. by_order r ((k, v) ∷ x ∷ es) ((x.0, v) ∷ es) (x ∷ put R k v es)) (is_less _ (first _ _ h))
+  put_below k v (x ∷ es) h = ap (λ r. by_order r ((k, v) ∷ x ∷ es) ((x.0, v) ∷ es) (x ∷ put R k v es)) (Less_from_T _ (first_T _ _ h))
 
   -- an entry whose key is there takes its place
   set_there : (k : K) (v : X) (es : List (K × X)) → T (is_sorted R es) → is_tied R k es ≡ true → set es (place R k es) (k, v) ≡ put R k v (without R k es)
@@ -28,9 +29,9 @@ module _ {K X : Type 0} (R : K → K → Ordering) (o : IsTotalOrder R) where
   set_there k v (x ∷ es) h = elim (R k x.0) as (λ r. R k x.0 ≡ r → by_order r false true (is_tied R k es) ≡ true
       → set (x ∷ es) (by_order r 0 0 (suc (place R k es))) (k, v) ≡ put R k v (cond (not (is_eq r)) (x ∷ without R k es) (without R k es))) [
         | Less ↦ λ p e. cc
-        | Equal ↦ λ p e. sym (ap (λ (t : List (K × X)). put R k v t) (equal_kept R o k x.0 es p (first _ _ h)) ∙ put_below k v es (lower_equal R o k x.0 es p (first _ _ h)))
+        | Equal ↦ λ p e. sym (ap (λ (t : List (K × X)). put R k v t) (equal_kept R o k x.0 es p (first_T _ _ h)) ∙ put_below k v es (lower_equal R o k x.0 es p (first_T _ _ h)))
         | Greater ↦ λ p e.
-            ap (λ (t : List (K × X)). x ∷ t) (set_there k v es (second _ _ h) e)
+            ap (λ (t : List (K × X)). x ∷ t) (set_there k v es (second_T _ _ h) e)
             ∙ sym (ap (λ r. by_order r ((k, v) ∷ x ∷ without R k es) ((x.0, v) ∷ without R k es) (x ∷ put R k v (without R k es))) p)
       ] refl
 

@@ -1,26 +1,14 @@
 -- What the place of a key says of a list of entries.
-use Rattle.std.proofs.Common.{◌≡◌, suc, ◌<◌, ◌≤◌, Bool, true, false, not, cond, T, List, [], ◌∷◌, length, get_or, set, Some, None, refl, sym, ap, subst, ◌∙◌, arith, ◌&&◌}
+use Rattle.std.proofs.Common.{◌≡◌, suc, ◌<◌, ◌≤◌, true, false, not, cond, T, List, [], ◌∷◌, length, get_or, set, Some, None, refl, sym, ap, subst, ◌∙◌, arith, ◌&&◌}
 use Rattle.std.specs.declared.cmp.Ordering.{Ordering}
 use Rattle.std.specs.declared.cmp.Ordering.TheVariants.{Less, Equal, Greater}
-use Rattle.std.specs.Ordering.{is_eq, is_lt}
+use Rattle.std.specs.Ordering.{is_eq}
 use Rattle.std.specs.Cmp.{IsTotalOrder}
 use Rattle.std.specs.List.{insert, remove, slice_get}
 use Rattle.std.specs.FinMap.{find, put, is_sorted}
 use Rattle.std.specs.FinMap.Entries.{by_order, below_all}
 use Rattle.acap_entries.specs.Sorted.{place, is_tied, without, found, entry_of, put_in, InOrder}
-
-pub first : (a b : Bool) → T (a && b) → T a
-first true b p = tt
-first false b p = p
-
-pub second : (a b : Bool) → T (a && b) → T b
-second true b p = p
-second false b p = absurd p
-
-pub is_less : (o : Ordering) → T (is_lt o) → o ≡ Less
-is_less Less p = refl
-is_less Equal p = absurd p
-is_less Greater p = absurd p
+use Rattle.acap_entries.proofs.Logic.{first_T, second_T, Less_from_T}
 
 module _ {K X : Type 0} (R : K → K → Ordering) where
   pub place_le : (k : K) (es : List (K × X)) → place R k es ≤ length es
@@ -67,23 +55,23 @@ module _ {K X : Type 0} (R : K → K → Ordering) where
     pub lower : (k l : K) (es : List (K × X)) → R k l ≡ Less → T (below_all R l es) → T (below_all R k es)
     lower k l [] p h = tt
     lower k l (x ∷ es) p h =
-        let less : R k x.0 ≡ Less = o.trans k l x.0 p (is_less _ (first _ _ h)) in
-        rw less (lower k l es p (second _ _ h))
+        let less : R k x.0 ≡ Less = o.trans k l x.0 p (Less_from_T _ (first_T _ _ h)) in
+        rw less (lower k l es p (second_T _ _ h))
 
     pub lower_equal : (k l : K) (es : List (K × X)) → R k l ≡ Equal → T (below_all R l es) → T (below_all R k es)
     lower_equal k l [] p h = tt
     lower_equal k l (x ∷ es) p h =
-        let less : R k x.0 ≡ Less = o.congr k l x.0 p ∙ is_less _ (first _ _ h) in
-        rw less (lower_equal k l es p (second _ _ h))
+        let less : R k x.0 ≡ Less = o.congr k l x.0 p ∙ Less_from_T _ (first_T _ _ h) in
+        rw less (lower_equal k l es p (second_T _ _ h))
 
-    -- a key below the first adds nothing to ask for
+    -- a key below the first_T adds nothing to ask for
     rises_on : (x y : K × X) (es : List (K × X)) → R x.0 y.0 ≡ Less → is_sorted R (x ∷ y ∷ es) ≡ is_sorted R (y ∷ es)
     rises_on x y es p = rw p (elim (below_all R y.0 es) as (λ b. below_all R y.0 es ≡ b → (below_all R x.0 es && (b && is_sorted R es)) ≡ (b && is_sorted R es)) [
       | true ↦ λ e. let low : T (below_all R x.0 es) = lower x.0 y.0 es p (subst T (sym e) tt) in elim (below_all R x.0 es) as (λ b. T b → (b && is_sorted R es) ≡ is_sorted R es) [ true ↦ λ t. refl | false ↦ λ t. absurd t ] low
       | false ↦ λ e. elim (below_all R x.0 es) as (λ b. (b && false) ≡ false) [ true ↦ refl | false ↦ refl ]
     ] refl)
 
-    -- the same, the first of those behind being known
+    -- the same, the first_T of those behind being known
     pub rises_behind : (x y : K × X) (others : List (K × X)) → slice_get others 0 ≡ Some y → R x.0 y.0 ≡ Less → is_sorted R (x ∷ others) ≡ is_sorted R others
     rises_behind x y [] e p = cc
     rises_behind x y (z ∷ es) e p = let same : z ≡ y = cc in rises_on x z es (ap (λ t. R x.0 t.0) same ∙ p)
@@ -91,37 +79,37 @@ module _ {K X : Type 0} (R : K → K → Ordering) where
     pub below_missing : (k l : K) (es : List (K × X)) → R k l ≡ Less → T (below_all R l es) → find R k es ≡ None
     below_missing k l [] p h = refl
     below_missing k l (x ∷ es) p h =
-        let less : R k x.0 ≡ Less = o.trans k l x.0 p (is_less _ (first _ _ h)) in
-        ap (λ r. cond (is_eq r) (Some x.1) (find R k es)) less ∙ below_missing k l es p (second _ _ h)
+        let less : R k x.0 ≡ Less = o.trans k l x.0 p (Less_from_T _ (first_T _ _ h)) in
+        ap (λ r. cond (is_eq r) (Some x.1) (find R k es)) less ∙ below_missing k l es p (second_T _ _ h)
 
     pub below_kept : (k l : K) (es : List (K × X)) → R k l ≡ Less → T (below_all R l es) → without R k es ≡ es
     unfolding without
     below_kept k l [] p h = refl
     below_kept k l (x ∷ es) p h =
-        let less : R k x.0 ≡ Less = o.trans k l x.0 p (is_less _ (first _ _ h)) in
-        ap (λ r. cond (not (is_eq r)) (x ∷ without R k es) (without R k es)) less ∙ ap (λ t. x ∷ t) (below_kept k l es p (second _ _ h))
+        let less : R k x.0 ≡ Less = o.trans k l x.0 p (Less_from_T _ (first_T _ _ h)) in
+        ap (λ r. cond (not (is_eq r)) (x ∷ without R k es) (without R k es)) less ∙ ap (λ t. x ∷ t) (below_kept k l es p (second_T _ _ h))
 
     pub equal_kept : (k l : K) (es : List (K × X)) → R k l ≡ Equal → T (below_all R l es) → without R k es ≡ es
     unfolding without
     equal_kept k l [] p h = refl
     equal_kept k l (x ∷ es) p h =
-        let less : R k x.0 ≡ Less = o.congr k l x.0 p ∙ is_less _ (first _ _ h) in
-        ap (λ r. cond (not (is_eq r)) (x ∷ without R k es) (without R k es)) less ∙ ap (λ t. x ∷ t) (equal_kept k l es p (second _ _ h))
+        let less : R k x.0 ≡ Less = o.congr k l x.0 p ∙ Less_from_T _ (first_T _ _ h) in
+        ap (λ r. cond (not (is_eq r)) (x ∷ without R k es) (without R k es)) less ∙ ap (λ t. x ∷ t) (equal_kept k l es p (second_T _ _ h))
 
     find_at : (k : K) (es : List (K × X)) (d : K × X) → T (is_sorted R es) → is_tied R k es ≡ true → find R k es ≡ Some (get_or es (place R k es) d).1
     find_at k [] d h = λ e. cc
     find_at k (x ∷ es) d h = elim (R k x.0) as (λ r. by_order r false true (is_tied R k es) ≡ true → cond (is_eq r) (Some x.1) (find R k es) ≡ Some (get_or (x ∷ es) (by_order r 0 0 (suc (place R k es))) d).1) [
       | Less ↦ λ e. cc
       | Equal ↦ λ e. refl
-      | Greater ↦ λ e. find_at k es d (second _ _ h) e
+      | Greater ↦ λ e. find_at k es d (second_T _ _ h) e
     ]
 
     pub below_entry : (k l : K) (es : List (K × X)) → R k l ≡ Less → T (below_all R l es) → entry_of R k es ≡ None
     unfolding entry_of
     below_entry k l [] p h = refl
     below_entry k l (x ∷ es) p h =
-        let less : R k x.0 ≡ Less = o.trans k l x.0 p (is_less _ (first _ _ h)) in
-        ap (λ r. cond (is_eq r) (Some x) (entry_of R k es)) less ∙ below_entry k l es p (second _ _ h)
+        let less : R k x.0 ≡ Less = o.trans k l x.0 p (Less_from_T _ (first_T _ _ h)) in
+        ap (λ r. cond (is_eq r) (Some x) (entry_of R k es)) less ∙ below_entry k l es p (second_T _ _ h)
 
     entry_at : (k : K) (es : List (K × X)) (d : K × X) → T (is_sorted R es) → is_tied R k es ≡ true → entry_of R k es ≡ Some (get_or es (place R k es) d)
     unfolding entry_of
@@ -129,33 +117,33 @@ module _ {K X : Type 0} (R : K → K → Ordering) where
     entry_at k (x ∷ es) d h = elim (R k x.0) as (λ r. by_order r false true (is_tied R k es) ≡ true → cond (is_eq r) (Some x) (entry_of R k es) ≡ Some (get_or (x ∷ es) (by_order r 0 0 (suc (place R k es))) d)) [
       | Less ↦ λ e. cc
       | Equal ↦ λ e. refl
-      | Greater ↦ λ e. entry_at k es d (second _ _ h) e
+      | Greater ↦ λ e. entry_at k es d (second_T _ _ h) e
     ]
 
     entry_none : (k : K) (es : List (K × X)) → T (is_sorted R es) → is_tied R k es ≡ false → entry_of R k es ≡ None
     unfolding entry_of
     entry_none k [] h = λ e. refl
     entry_none k (x ∷ es) h = elim (R k x.0) as (λ r. R k x.0 ≡ r → by_order r false true (is_tied R k es) ≡ false → cond (is_eq r) (Some x) (entry_of R k es) ≡ None) [
-      | Less ↦ λ p e. below_entry k x.0 es p (first _ _ h)
+      | Less ↦ λ p e. below_entry k x.0 es p (first_T _ _ h)
       | Equal ↦ λ p e. cc
-      | Greater ↦ λ p e. entry_none k es (second _ _ h) e
+      | Greater ↦ λ p e. entry_none k es (second_T _ _ h) e
     ] refl
 
     find_none : (k : K) (es : List (K × X)) → T (is_sorted R es) → is_tied R k es ≡ false → find R k es ≡ None
     find_none k [] h = λ e. refl
     find_none k (x ∷ es) h = elim (R k x.0) as (λ r. R k x.0 ≡ r → by_order r false true (is_tied R k es) ≡ false → cond (is_eq r) (Some x.1) (find R k es) ≡ None) [
-      | Less ↦ λ p e. below_missing k x.0 es p (first _ _ h)
+      | Less ↦ λ p e. below_missing k x.0 es p (first_T _ _ h)
       | Equal ↦ λ p e. cc
-      | Greater ↦ λ p e. find_none k es (second _ _ h) e
+      | Greater ↦ λ p e. find_none k es (second_T _ _ h) e
     ] refl
 
     without_at : (k : K) (es : List (K × X)) → T (is_sorted R es) → without R k es ≡ cond (is_tied R k es) (remove es (place R k es)) es
     unfolding without
     without_at k [] h = refl
     without_at k (x ∷ es) h = elim (R k x.0) as (λ r. R k x.0 ≡ r → cond (not (is_eq r)) (x ∷ without R k es) (without R k es) ≡ cond (by_order r false true (is_tied R k es)) (remove (x ∷ es) (by_order r 0 0 (suc (place R k es)))) (x ∷ es)) [
-      | Less ↦ λ p. ap (λ t. x ∷ t) (below_kept k x.0 es p (first _ _ h))
-      | Equal ↦ λ p. equal_kept k x.0 es p (first _ _ h)
-      | Greater ↦ λ p. ap (λ t. x ∷ t) (without_at k es (second _ _ h)) ∙ elim (is_tied R k es) as (λ b. x ∷ cond b (remove es (place R k es)) es ≡ cond b (remove (x ∷ es) (suc (place R k es))) (x ∷ es)) [ true ↦ refl | false ↦ refl ]
+      | Less ↦ λ p. ap (λ t. x ∷ t) (below_kept k x.0 es p (first_T _ _ h))
+      | Equal ↦ λ p. equal_kept k x.0 es p (first_T _ _ h)
+      | Greater ↦ λ p. ap (λ t. x ∷ t) (without_at k es (second_T _ _ h)) ∙ elim (is_tied R k es) as (λ b. x ∷ cond b (remove es (place R k es)) es ≡ cond b (remove (x ∷ es) (suc (place R k es))) (x ∷ es)) [ true ↦ refl | false ↦ refl ]
     ] refl
 
     -- the same by the words of `specs/`

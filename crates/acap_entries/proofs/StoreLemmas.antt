@@ -1,8 +1,6 @@
 -- The order of paths, and what writes leave at each path.
 use Rattle.std.proofs.Common.{◌≡◌, true, false, cond, List, [], ◌∷◌, ◌++◌, Option, Some, None, refl, sym, ap, ◌∙◌}
-use Rattle.std.specs.declared.cmp.Ordering.{Ordering}
-use Rattle.std.specs.declared.cmp.Ordering.TheVariants.{Less, Equal, Greater}
-use Rattle.std.specs.Ordering.{eq_by_cmp, ordering_then}
+use Rattle.std.specs.Ordering.{eq_by_cmp}
 use Rattle.std.specs.Cmp.{IsTotalOrder, then_total}
 use Rattle.std.specs.Cmp.Lexicographic.{on_texts}
 use Rattle.std.specs.FinMap.{IsAntisymmetric, find, from_sorted, get, get-entries, entries, get-insert, get-remove, slice_cmp-IsAntisymmetric, nat_cmp-IsAntisymmetric}
@@ -14,6 +12,7 @@ use Rattle.acap_entries.specs.declared.fate.Fate.{Fate}
 use Rattle.acap_entries.specs.declared.fate.Fate.TheVariants.{Put, Remove}
 use Rattle.acap_entries.specs.Sorted.{InOrder}
 use Rattle.acap_entries.proofs.MapLemmas.{get_found}
+use Rattle.acap_entries.proofs.Logic.{both_Equal}
 
 pub path_cmp_total : IsTotalOrder path_cmp
 path_cmp_total = then_total (on_texts (λ (p : Path). p.dataset)) (on_texts (λ (p : Path). p.name))
@@ -21,14 +20,9 @@ path_cmp_total = then_total (on_texts (λ (p : Path). p.dataset)) (on_texts (λ 
 pub octets_same : IsAntisymmetric octets_cmp
 octets_same = slice_cmp-IsAntisymmetric nat_cmp-IsAntisymmetric
 
-parts_equal : (a b : Ordering) → ordering_then a b ≡ Equal → (a ≡ Equal) × (b ≡ Equal)
-parts_equal Less b e = cc
-parts_equal Equal b e = (refl, e)
-parts_equal Greater b e = cc
-
 pub path_same : IsAntisymmetric path_cmp
 path_same a b e =
-    let parts = parts_equal _ _ e in
+    let parts = both_Equal _ _ e in
     let dataset = octets_same _ _ parts.0 in
     let name = octets_same _ _ parts.1 in
     λ i. record { dataset = dataset i; name = name i }

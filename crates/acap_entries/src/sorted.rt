@@ -1,7 +1,7 @@
 //! Entries in the order of their keys: look-ups by halves, and edits in room that there is.
 ghost use Rattle.std.specs.Prelude.{◌≡◌, ◌+◌, ◌<◌, ◌≤◌, length, false};
 ghost use Rattle.std.specs.Prelude.{IsTrue, IfSome, IfNone, OnOk, OnErr, vec_len, vec_capacity};
-ghost use Rattle.std.specs.Option.{option_copied};
+ghost use Rattle.std.specs.Option.{is_some, option_copied};
 ghost use Rattle.std.specs.FinMap.{is_sorted};
 ghost use Rattle.acap_entries.specs.Sorted.{place, is_tied, without, found, entry_of, put_in, InOrder};
 
@@ -139,6 +139,7 @@ pub fn take_out<K: Ord + Drop, V: Drop, Q: Probe<K>>(
 ) -> Option<(K, V)>
     requires { InOrder K.cmp entries.old.items }
     ensures taken { result ≡ entry_of K.cmp (Q.key probe.now) entries.old.items }
+    ensures tied { is_some result ≡ is_tied K.cmp (Q.key probe.now) entries.old.items }
     ensures items { entries.new.items ≡ without K.cmp (Q.key probe.now) entries.old.items }
     ensures some { IfSome result (λ _. vec_len entries.new + 1 ≡ vec_len entries.old) }
     ensures none { IfNone result (vec_len entries.new ≡ vec_len entries.old) }

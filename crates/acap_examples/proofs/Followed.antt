@@ -2,15 +2,15 @@
 use Rattle.std.proofs.Common.{◌≡◌, ℕ, ℤ, ◌||◌, is_ok, Bool, true, false, List, [], ◌∷◌, ◌++◌, zero, suc, length, Option, Some, None, option_map, Result, Ok, Err, IfOk, IfSome, refl, sym, ap, subst, ◌∙◌, ◌<◌, get_or, arith}
 use Rattle.std.specs.Option.{option_and_then}
 use Rattle.acap_commands.specs.declared.event.Event.{Event}
-use Rattle.acap_commands.specs.declared.fault.Fault.{Fault}
+use Rattle.acap_commands.specs.declared.event.Fault.{Fault}
 use Rattle.acap_commands.specs.declared.reply.Reply.{Reply}
 use Rattle.acap_commands.specs.declared.said.Said.{Said}
 use Rattle.acap_dialogue.specs.Running.{event_in}
 use Rattle.acap_dialogue.specs.Saying.{with_said, heard_of}
 use Rattle.acap_dialogue.specs.Session.{after_answer, has_seat, is_closed, session_next}
 use Rattle.acap_dialogue.specs.Talking.{Talking, beginning}
-use Rattle.acap_dialogue.specs.declared.heard.Heard.{Heard}
-use Rattle.acap_dialogue.specs.declared.heard.Heard.TheVariants as heard
+use Rattle.acap_dialogue.specs.declared.next.Heard.{Heard}
+use Rattle.acap_dialogue.specs.declared.next.Heard.TheVariants as heard
 use Rattle.acap_dialogue.specs.declared.next.Next.{Next}
 use Rattle.acap_dialogue.specs.declared.next.Next.TheVariants as next
 use Rattle.acap_examples.specs.Followed.{IsAnswered, IsDone, IsPerformed, IsToldTurn, goes_on, told_by}
@@ -19,7 +19,7 @@ use Rattle.acap_machine.specs.Machine.{Machine}
 use Rattle.acap_machine.specs.Runs.{machine_after, outcome_of}
 use Rattle.acap_machine.specs.Stepping.{step_of}
 use Rattle.acap_session.proofs.Alone.{did_by, did_is}
-use Rattle.acap_session.proofs.Placing.{nothing_behind}
+use Rattle.acap_session.proofs.Placing.{nothing_behind, place_or}
 use Rattle.acap_session.specs.Laws.{asked_by, own_at}
 use Rattle.acap_session.specs.Live.{told_with}
 use Rattle.acap_session.specs.Places.{Place, Places, if_open, place_at, with_place}
@@ -168,11 +168,6 @@ open_at_once p false e f = rw e refl
 
 pub stands_open : (w : World) (k : ℕ) (p : Place) → place_at w.places k ≡ Some p → is_closed p.talk.stage ≡ false → open_at w k ≡ Some p
 stands_open w k p e f = ap if_open e ∙ open_at_once p (is_closed p.talk.stage) refl f
-
-place_or : (xs : Places) (k : ℕ) (d : Option Place) → k < length xs → place_at xs k ≡ get_or xs k d
-place_or [] k d e = absurd (omega (arith, e))
-place_or (x ∷ xs) zero d e = refl
-place_or (x ∷ xs) (suc k) d e = place_or xs k d (omega (arith, e))
 
 pub there_open : (w : World) (i k n : ℕ) (d item : Option Place) (p : Place) → i ≡ k → i < n → n ≡ length w.places → item ≡ get_or w.places i d → item ≡ Some p → is_closed p.talk.stage ≡ false → open_at w k ≡ Some p
 there_open w i k n d item p same e size g s f =

@@ -2,18 +2,18 @@
 use Rattle.std.specs.Prelude.{◌≡◌, ℕ, ℤ, ◌==◌, Bool, true, false, is_some, List, Option, Some, Ok, IfSome, IsSome, IsTrue, if◌then◌else◌}
 use Rattle.std.specs.Option.{option_and_then}
 use Rattle.acap_commands.specs.declared.event.Event.{Event}
-use Rattle.acap_commands.specs.declared.make_context.MakeContext.{MakeContext}
+use Rattle.acap_commands.specs.declared.search_modifiers.MakeContext.{MakeContext}
 use Rattle.acap_commands.specs.declared.reply.Reply.{Reply}
 use Rattle.acap_commands.specs.declared.said.Said.{Said}
 use Rattle.acap_commands.specs.declared.said.Said.TheVariants as said
 use Rattle.acap_commands.specs.declared.search.Search.{Search}
-use Rattle.acap_commands.specs.declared.search_reply.SearchReply.{SearchReply}
+use Rattle.acap_commands.specs.declared.said.SearchReply.{SearchReply}
 use Rattle.acap_dialogue.specs.Running.{event_in}
 use Rattle.acap_dialogue.specs.Saying.{with_said, heard_of}
 use Rattle.acap_dialogue.specs.Session.{after_answer, session_next}
 use Rattle.acap_dialogue.specs.Talking.{Talking}
-use Rattle.acap_dialogue.specs.declared.heard.Heard.{Heard}
-use Rattle.acap_dialogue.specs.declared.heard.Heard.TheVariants as heard
+use Rattle.acap_dialogue.specs.declared.next.Heard.{Heard}
+use Rattle.acap_dialogue.specs.declared.next.Heard.TheVariants as heard
 use Rattle.acap_login.specs.Login.{User}
 use Rattle.acap_machine.specs.Client.{Client, begun_with, is_told_whole, live_at, tells_named}
 use Rattle.acap_machine.specs.Machine.{Machine}

@@ -15,12 +15,13 @@ use Rattle.std.proofs.lemmas.Option.{slice_get-get_or}
 use Rattle.acap_entries.specs.Orders.{octets_cmp}
 use Rattle.acap_entries.specs.Store.{path_cmp}
 use Rattle.acap_entries.specs.declared.path.Path.{Path}
+use Rattle.acap_entries.proofs.Logic.{Less_from_is_lt}
 use Rattle.acap_grammar.specs.Ascending.{item_cmp, last_cmp, Ascends}
 use Rattle.acap_commands.specs.EntryOrder.{has_path}
 use Rattle.acap_grammar.specs.Storing.{has_attribute, has_item, same_metadata}
-use Rattle.acap_commands.specs.declared.store_entry.StoreEntry.{StoreEntry}
-use Rattle.acap_commands.specs.declared.store_item.StoreItem.{StoreItem}
-use Rattle.acap_commands.specs.declared.store_metadata.StoreMetadata.{StoreMetadata}
+use Rattle.acap_commands.specs.declared.store.StoreEntry.{StoreEntry}
+use Rattle.acap_commands.specs.declared.store.StoreItem.{StoreItem}
+use Rattle.acap_commands.specs.declared.store.StoreMetadata.{StoreMetadata}
 
 -- ---- the last item
 
@@ -67,11 +68,6 @@ module _ {A K : Type 0} (key : A → K) (R : K → K → Ordering) (o : IsTotalO
 
 -- ---- what differs
 
-is_less : (a : Ordering) → is_lt a ≡ true → a ≡ Less
-is_less Less h = refl
-is_less Equal h = cc
-is_less Greater h = cc
-
 differs : (a b : List ℕ) → octets_cmp a b ≡ Less → bytes_eq a b ≡ false
 differs a b less = sym (is_eq-slice_cmp a b) ∙ ap is_eq less
 
@@ -82,18 +78,18 @@ path_differs Greater b less = refl
 
 pub no_path : (b : Bool) (seen : List StoreEntry) (path : Path) → Ascends (λ e. e.path) path_cmp b seen → b ≡ true → is_lt (last_cmp (λ e. e.path) path_cmp seen path) ≡ true → has_path path seen ≡ false
 unfolding has_path
-no_path b seen path h e less = list_any_none _ seen (All-weaker _ _ other seen (h.below e path (is_less _ less))) where
+no_path b seen path h e less = list_any_none _ seen (All-weaker _ _ other seen (h.below e path (Less_from_is_lt _ less))) where
   other : (x : StoreEntry) → path_cmp x.path path ≡ Less → (bytes_eq x.path.dataset path.dataset && bytes_eq x.path.name path.name) ≡ false
   other x p = rw (← is_eq-slice_cmp x.path.dataset path.dataset, ← is_eq-slice_cmp x.path.name path.name) (path_differs _ _ p)
 
 pub no_attribute : (b : Bool) (seen : List StoreItem) (attribute : List ℕ) → Ascends (λ i. i.attribute) octets_cmp b seen → b ≡ true → is_lt (last_cmp (λ i. i.attribute) octets_cmp seen attribute) ≡ true → has_attribute attribute seen ≡ false
 unfolding has_attribute
-no_attribute b seen attribute h e less = list_any_none _ seen (All-weaker _ _ other seen (h.below e attribute (is_less _ less))) where
+no_attribute b seen attribute h e less = list_any_none _ seen (All-weaker _ _ other seen (h.below e attribute (Less_from_is_lt _ less))) where
   other : (i : StoreItem) → octets_cmp i.attribute attribute ≡ Less → bytes_eq i.attribute attribute ≡ false
   other i p = differs i.attribute attribute p
 
 pub no_item : (b : Bool) (seen : List StoreItem) (attribute : List ℕ) (m : StoreMetadata) → Ascends (λ i. i.attribute) octets_cmp b seen → b ≡ true → is_lt (last_cmp (λ i. i.attribute) octets_cmp seen attribute) ≡ true → has_item attribute m seen ≡ false
 unfolding has_item
-no_item b seen attribute m h e less = list_any_none _ seen (All-weaker _ _ other seen (h.below e attribute (is_less _ less))) where
+no_item b seen attribute m h e less = list_any_none _ seen (All-weaker _ _ other seen (h.below e attribute (Less_from_is_lt _ less))) where
   other : (i : StoreItem) → octets_cmp i.attribute attribute ≡ Less → (bytes_eq i.attribute attribute && same_metadata i.metadata m) ≡ false
   other i p = and_left _ _ (differs i.attribute attribute p)

@@ -16,9 +16,10 @@ use Rattle.acap_lexer.proofs.SpelledTokens.{longest}
 use Rattle.acap_entries.specs.Names.{is_slash, slash, dot, star, percent, nul, has, begins_with, ends_with, is_component, components, dataset_len, dataset_of, name_of, is_entry_name, step_count, is_path, is_dataset_argument, is_attribute, is_context_name, with_slash}
 use Rattle.acap_entries.specs.declared.path.Path.{Path}
 use Rattle.acap_entries.proofs.NameLemmas.{closed_by_slash, part_count, path_has_dataset, same_parts, taken_closed}
+use Rattle.acap_entries.proofs.FormLemmas.{entry_plain}
 use Rattle.acap_grammar.specs.declared.command_fault.CommandFault.{CommandFault}
-use Rattle.acap_commands.specs.declared.return_name.ReturnName.{ReturnName}
-use Rattle.acap_commands.specs.declared.return_name.ReturnName.TheVariants as name
+use Rattle.acap_commands.specs.declared.returns.ReturnName.{ReturnName}
+use Rattle.acap_commands.specs.declared.returns.ReturnName.TheVariants as name
 use Rattle.acap_commands.specs.declared.target.Target.{Target}
 use Rattle.acap_commands.specs.declared.target.Target.TheVariants as target
 use Rattle.acap_grammar.specs.Arguments.{if_named, path_named, dataset_named, entry_named, attribute_named, context_named, target_named}
@@ -214,16 +215,6 @@ name_steps (x ∷ n) count h few =
     let f : count + 1 ≤ 16 = subst (λ (b : Bool). count + (if b then 0 else 1) ≤ 16) some few in
     inr (component_is (x ∷ n) c, omega (arith, f))
 
-component_slash : (c : List ℕ) → is_component c ≡ true → has slash c ≡ false
-unfolding is_component
-component_slash c h = let a = and_parts _ _ h in let b = and_parts _ _ a.0 in not-true (has slash c) b.1
-
-name_slash : (n : List ℕ) → is_entry_name n ≡ true → has slash n ≡ false
-name_slash [] h = refl
-name_slash (x ∷ n) h =
-    let some : (length (x ∷ n) == 0) ≡ false = grind (arith, nat_tests) in
-    component_slash (x ∷ n) (subst (λ (b : Bool). (if b then true else is_component (x ∷ n)) ≡ true) some h)
-
 formed_parts : (text : List ℕ) → is_path text ≡ true → IsFormed (record { dataset = dataset_of text; name = name_of text })
 unfolding dataset_of name_of
 formed_parts text h =
@@ -254,7 +245,7 @@ formed_entry d n k e = by_good (is_entry_name n && is_path (d ++ n)) refl e wher
       let a = and_parts (is_entry_name n) (is_path (d ++ n)) h in
       let whole : dataset_of (d ++ n) ++ name_of (d ++ n) ≡ d ++ n = take-append-drop (dataset_len (d ++ n)) (d ++ n) in
       let ends = dataset_ends (d ++ n) (path_has_dataset (d ++ n) a.1) in
-      let parts = same_parts (dataset_of (d ++ n)) d (name_of (d ++ n)) n (name_slash (name_of (d ++ n)) (good_path (d ++ n) a.1).name) (name_slash n a.0) ends (ends_in_slash d k) whole in
+      let parts = same_parts (dataset_of (d ++ n)) d (name_of (d ++ n)) n (entry_plain (name_of (d ++ n)) (good_path (d ++ n) a.1).name) (entry_plain n a.0) ends (ends_in_slash d k) whole in
       let same : ◌≡◌ {A = Path} (record { dataset = dataset_of (d ++ n); name = name_of (d ++ n) }) (record { dataset = d; name = n }) = rw (parts.0, parts.1) refl in
       subst IsFormed same (formed_parts (d ++ n) a.1)
 

@@ -5,7 +5,7 @@ use Rattle.acap_commands.specs.declared.command.Command.{Command}
 use Rattle.acap_commands.specs.declared.command.Command.TheVariants as command
 use Rattle.acap_commands.specs.declared.object_name.ObjectName.{ObjectName}
 use Rattle.acap_commands.specs.declared.object_name.ObjectName.TheVariants as object_name
-use Rattle.acap_commands.specs.declared.store_entry.StoreEntry.{StoreEntry}
+use Rattle.acap_commands.specs.declared.store.StoreEntry.{StoreEntry}
 use Rattle.acap_grammar.specs.Formed.{IsFormed, IsFormedObject, HasFormedPaths, ReadsFormed}
 use Rattle.acap_grammar.specs.Sendable.{IsObject, Each, IsEntry, IsSendable}
 use Rattle.acap_grammar.specs.Spelling.{target_text}

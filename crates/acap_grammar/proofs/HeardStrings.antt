@@ -1,13 +1,14 @@
 -- Numbers and strings that were printed are heard as what they were.
 use Rattle.std.proofs.Common.{◌≡◌, ℕ, zero, suc, ◌+◌, ◌-◌, ◌*◌, ◌<◌, ◌^◌, Bool, true, false, List, [], ◌∷◌, ◌++◌, length, Some, refl, sym, ap, ◌∙◌, append_assoc, append-nil, eqb, leb, arith, rules, decimal, Option}
-use Rattle.std.specs.Prelude.{not, ◌||◌, ◌&&◌, fold}
+use Rattle.std.specs.Prelude.{◌&&◌, fold}
 use Rattle.std.specs.List.{list_all}
 use Rattle.std.specs.Str.{is_utf8}
-use Rattle.std.proofs.lemmas.Bool.{and_parts, or_parts, or_from, not-true, not_from_false, le-leb, leb-true, ne_eqb}
+use Rattle.std.proofs.lemmas.Bool.{and_parts, le-leb, leb-true, ne_eqb}
 use Rattle.std.proofs.lemmas.Fmt.{digits_decimal, digits_value-decimal, decimal_nonempty}
 use Rattle.std.proofs.lemmas.Str.Parse.{IsNumeralModel, numerals_by_fold}
-use Rattle.acap_lexer.specs.Octets.{is_word, is_digit, is_quotable, is_escaped}
+use Rattle.acap_lexer.specs.Octets.{is_word, is_digit, is_escaped}
 use Rattle.acap_lexer.specs.Printing.{escape, escaped_form, is_printable, may_quote, quoted_form, literal, printed_form}
+use Rattle.acap_lexer.proofs.Quoting.{plain, is_plain}
 use Rattle.acap_grammar.specs.Lines.{Text, number_of}
 use Rattle.acap_grammar.specs.Listening.{Client, Place, Fresh, InQuotes, Escaping, Marking, Marked, Opening, Taking, turned, added, taking, marked, heard, hears}
 
@@ -37,25 +38,6 @@ number_back n small =
     rw (all_digits n small, some_digits n small, value) refl
 
 -- ---- between quotes
-
-not_special : (a b : Bool) → not (a || b) ≡ true → (a ≡ false) × (b ≡ false)
-not_special true b e = absurd cc
-not_special false true e = absurd cc
-not_special false false e = (refl, refl)
-
-plain : (c : ℕ) → is_quotable c ≡ true → (eqb c 34 ≡ false) × (eqb c 92 ≡ false)
-unfolding is_quotable
-plain c e =
-    let outer = not_special (eqb c 0 || eqb c 10 || eqb c 13 || eqb c 34) (eqb c 92) e in
-    let inner = not_special (eqb c 0 || eqb c 10 || eqb c 13) (eqb c 34) (ap not outer.0) in
-    (inner.1, outer.1)
-
-is_plain : (c : ℕ) → is_printable c ≡ true → is_escaped c ≡ false → is_quotable c ≡ true
-unfolding is_printable is_escaped is_quotable
-is_plain c p e =
-    let special = or_parts (eqb c 34) (eqb c 92) e in
-    let control = not-true (eqb c 0 || eqb c 10 || eqb c 13) p in
-    not_from_false _ (or_from (eqb c 0 || eqb c 10 || eqb c 13 || eqb c 34) (eqb c 92) (or_from (eqb c 0 || eqb c 10 || eqb c 13) (eqb c 34) control special.0) special.1)
 
 hears_escape : (client : Client) (so_far : List ℕ) (c : ℕ) (b : Bool) → is_escaped c ≡ b → is_printable c ≡ true
     → hears (turned client (InQuotes so_far)) (escape c) ≡ turned client (InQuotes (so_far ++ c ∷ []))

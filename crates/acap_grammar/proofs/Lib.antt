@@ -13,6 +13,7 @@ pub mod ViableItems
 pub mod ViableStores
 pub mod ViableSearches
 pub mod Viable
+pub mod Induction
 pub mod FaultPlaces
 pub mod Computing
 pub mod Ascending

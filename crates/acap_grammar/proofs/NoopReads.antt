@@ -6,8 +6,8 @@ use Rattle.std.specs.Str.{str_eq_ignore_ascii_case}
 use Rattle.acap_lexer.specs.Token.{Token}
 use Rattle.acap_commands.specs.declared.command.Command.{Command}
 use Rattle.acap_commands.specs.declared.command.Command.TheVariants as command
-use Rattle.acap_commands.specs.declared.verb.Verb.{Verb}
-use Rattle.acap_commands.specs.declared.verb.Verb.TheVariants as verb
+use Rattle.acap_commands.specs.declared.command.Verb.{Verb}
+use Rattle.acap_commands.specs.declared.command.Verb.TheVariants as verb
 use Rattle.acap_grammar.specs.declared.command_fault.CommandFault.TheVariants as fault
 use Rattle.acap_grammar.specs.Arguments.{context_named, dataset_named, named_at, object_at, time_named}
 use Rattle.acap_grammar.specs.Grammar.{verbs, arguments_at, set_acl_at, delete_acl_at, list_rights_at, deleted_since_at, identifier_part, contexts_at, command_by, command_at, command_of, whole, without_place}

@@ -1,5 +1,5 @@
 -- Readers read the same of tokens without their places.
-use Rattle.std.proofs.Common.{◌≡◌, ℕ, zero, suc, ◌-◌, Bool, true, false, List, [], ◌∷◌, ◌++◌, drop, Option, Some, None, Result, Ok, Err, refl, sym, ap, ◌∙◌}
+use Rattle.std.proofs.Common.{◌≡◌, ◌⊎◌, ℕ, zero, suc, ◌-◌, Bool, true, false, List, [], ◌∷◌, ◌++◌, drop, Option, Some, None, Result, Ok, Err, refl, sym, ap, ◌∙◌}
 use Rattle.std.specs.Prelude.{codes, if◌then◌else◌, map, option_map, is_none}
 use Rattle.std.specs.Str.{str_eq_ignore_ascii_case}
 use Rattle.std.proofs.lemmas.List.{length-map}
@@ -12,20 +12,20 @@ use Rattle.acap_commands.specs.Modifiers as plain_modifiers
 use Rattle.acap_commands.specs.declared.command.Command.{Command}
 use Rattle.acap_grammar.specs.declared.command_fault.CommandFault.{CommandFault}
 use Rattle.acap_grammar.specs.declared.command_fault.CommandFault.TheVariants as fault
-use Rattle.acap_commands.specs.declared.make_context.MakeContext.{MakeContext}
-use Rattle.acap_commands.specs.declared.relation.Relation.{Relation}
-use Rattle.acap_commands.specs.declared.relation.Relation.TheVariants as relation
-use Rattle.acap_commands.specs.declared.return_item.ReturnItem.{ReturnItem}
-use Rattle.acap_commands.specs.declared.return_name.ReturnName.{ReturnName}
+use Rattle.acap_commands.specs.declared.search_modifiers.MakeContext.{MakeContext}
+use Rattle.acap_commands.specs.declared.test.Relation.{Relation}
+use Rattle.acap_commands.specs.declared.test.Relation.TheVariants as relation
+use Rattle.acap_commands.specs.declared.returns.ReturnItem.{ReturnItem}
+use Rattle.acap_commands.specs.declared.returns.ReturnName.{ReturnName}
 use Rattle.acap_commands.specs.declared.search_modifiers.SearchModifiers.{SearchModifiers}
 use Rattle.acap_grammar.specs.declared.searching.Scope.{Scope}
-use Rattle.acap_commands.specs.declared.store_entry.StoreEntry.{StoreEntry}
-use Rattle.acap_commands.specs.declared.store_item.StoreItem.{StoreItem}
-use Rattle.acap_commands.specs.declared.store_modifiers.StoreModifiers.{StoreModifiers}
+use Rattle.acap_commands.specs.declared.store.StoreEntry.{StoreEntry}
+use Rattle.acap_commands.specs.declared.store.StoreItem.{StoreItem}
+use Rattle.acap_commands.specs.declared.store.StoreModifiers.{StoreModifiers}
 use Rattle.acap_grammar.specs.declared.storing.Gifts.{Gifts}
 use Rattle.acap_commands.specs.declared.target.Target.{Target}
-use Rattle.acap_commands.specs.declared.verb.Verb.{Verb}
-use Rattle.acap_commands.specs.declared.verb.Verb.TheVariants as verb
+use Rattle.acap_commands.specs.declared.command.Verb.{Verb}
+use Rattle.acap_commands.specs.declared.command.Verb.TheVariants as verb
 use Rattle.acap_grammar.specs.declared.words.KeyWord.{KeyWord}
 use Rattle.acap_grammar.specs.declared.words.KeyWord.TheVariants as key_word
 use Rattle.acap_grammar.specs.declared.words.SearchWord.{SearchWord}
@@ -43,6 +43,7 @@ use Rattle.acap_grammar.specs.Searching as searching
 use Rattle.acap_grammar.specs.Several.{several, some_of, in_parenthesis}
 use Rattle.acap_grammar.specs.Storing as storing
 use Rattle.acap_commands.specs.Wanted.{Wanted}
+use Rattle.acap_grammar.proofs.Induction.{Judged, Closed, arguments}
 
 -- what was read, with the tokens left as plain ones
 abbrev plain_fault : Fault → Fault
@@ -196,15 +197,12 @@ worded_first {W} table = record { same = λ ts. rw (word_same table ts) (by_word
   by_word (Some x) = refl
 
 -- what is read by a word of a table
-worded : {W A : Type 0} (table : List (List ℕ × W)) (g : List Token → Option (W × List Token) → Read A) → Blind (λ ts. g ts None)
-    → ((w : W) (ts rest : List Token) → g (map plain ts) (Some (w, map plain rest)) ≡ plain_read (g ts (Some (w, rest)))) → Blind (λ ts. g ts (mark.word_at table ts))
+worded : {W A : Type 0} (table : List (List ℕ × W)) (g : List Token → Option (W × List Token) → Read A) → ((ts : List Token) → g ts None ≡ fault_here ts fault.Arguments)
+    → ((w : W) → Judged (λ A (read : List Token → Read A). Blind read) g w) → Blind (λ ts. g ts (mark.word_at table ts))
 worded {W} {A} table g none some = record { same = λ ts. rw (word_same table ts) (by_word ts (mark.word_at table ts)) } where
   by_word : (ts : List Token) (o : Option (W × List Token)) → g (map plain ts) (plain_word o) ≡ plain_read (g ts o)
-  by_word ts None = none.same ts
-  by_word ts (Some x) = some x.0 ts x.1
-
-missing : {A : Type 0} (e : CommandFault) → Blind {A = A} (λ ts. fault_here ts e)
-missing e = record { same = λ ts. refl }
+  by_word ts None = none (map plain ts) ∙ ap plain_read (sym (none ts))
+  by_word ts (Some x) = let s = some x.0 in s.is (map plain ts) (map plain x.1) ∙ judged_same s.judgement s.next s.holds ts x.1 ∙ ap plain_read (sym (s.is ts x.1))
 
 -- what is read where a word stands first, and where not
 abbrev plain_rest : Option (List Token) → Option (List Token)
@@ -220,45 +218,21 @@ flag_same text (t ∷ rest) = rw (words_kind t.kind) (by_tests (mark.is_word t.k
   by_tests true false = refl
   by_tests true true = refl
 
-flagged : {A : Type 0} (text : List ℕ) (g : List Token → Option (List Token) → Read A) → Blind (λ ts. g ts None)
-    → ((ts rest : List Token) → g (map plain ts) (Some (map plain rest)) ≡ plain_read (g ts (Some rest))) → Blind (λ ts. g ts (mark.behind_word text ts))
-flagged text g none some = record { same = λ ts. rw (flag_same text ts) (by_flag ts (mark.behind_word text ts)) } where
+flagged : {A : Type 0} (text : List ℕ) (g : List Token → Option (List Token) → Read A) (next : List Token → Read A) → Blind (λ ts. g ts None) → Blind next
+    → ((ts rest : List Token) → g ts (Some rest) ≡ next rest) → Blind (λ ts. g ts (mark.behind_word text ts))
+flagged text g next none p is = record { same = λ ts. rw (flag_same text ts) (by_flag ts (mark.behind_word text ts)) } where
   by_flag : (ts : List Token) (o : Option (List Token)) → g (map plain ts) (plain_rest o) ≡ plain_read (g ts o)
   by_flag ts None = none.same ts
-  by_flag ts (Some rest) = some ts rest
+  by_flag ts (Some rest) = is (map plain ts) (map plain rest) ∙ p.same rest ∙ ap plain_read (sym (is ts rest))
 
 -- ---- items one after the other
 
-items : {A : Type 0} (over fits : List Token → Bool) (item : A → List Token → Read A) → Sees over → Sees fits → ((seen : A) → Blind (item seen)) → (room : ℕ) (seen : A) → Blind (several over fits item room seen)
+items : {A : Type 0} (over fits : List Token → Bool) (item : A → List Token → Read A) → Sees over → Sees fits → over [] ≡ true ⊎ fits [] ≡ false → ((seen : A) → Blind (item seen)) → (room : ℕ) (seen : A) → Blind (several over fits item room seen)
 unfolding several
-items over fits item o f p zero seen = choose over _ _ o (value seen) (record { same = λ ts. rw (f.same ts) refl })
-items over fits item o f p (suc room) seen = choose over _ _ o (value seen) (bind (item seen) _ (p seen) (λ x. items over fits item o f p room x))
+items over fits item o f n p zero seen = choose over _ _ o (value seen) (record { same = λ ts. rw (f.same ts) refl })
+items over fits item o f n p (suc room) seen = choose over _ _ o (value seen) (bind (item seen) _ (p seen) (λ x. items over fits item o f n p room x))
 
-some_items : {A : Type 0} (over fits : List Token → Bool) (item : A → List Token → Read A) → Sees over → Sees fits → ((seen : A) → Blind (item seen)) → (most : ℕ) (none : A) → Blind (some_of over fits item most none)
-unfolding some_of
-some_items over fits item o f p most none = bind (item none) _ (p none) (λ x. items over fits item o f p (most - 1) x)
-
--- strings in a parenthesis
-enclosed_items : {A : Type 0} (item : A → List Token → Read A) → ((seen : A) → Blind (item seen)) → (most : ℕ) (none : A) → Blind (in_parenthesis (mark.starts mark.is_close) (mark.starts mark.is_string) item most none)
-unfolding in_parenthesis
-enclosed_items item p most none =
-    behind mark.is_open _ opens_kind (bind _ _ (some_items _ _ item (starting mark.is_close closes_kind) (starting mark.is_string strings_kind) p most none) (λ x. behind mark.is_close _ closes_kind (value x)))
-
--- ---- objects
-
-entry_part : (dataset attribute : List ℕ) → Blind (argument.entry_part dataset attribute)
-unfolding argument.entry_part
-entry_part dataset attribute = choose _ _ _ (starting mark.is_close closes_kind) (value _) (bind _ _ (named _) (λ x. value _))
-
-attribute_part : (dataset : List ℕ) → Blind (argument.attribute_part dataset)
-unfolding argument.attribute_part
-attribute_part dataset = choose _ _ _ (starting mark.is_close closes_kind) (value _) (bind _ _ (named _) (λ a. entry_part dataset a))
-
-object : Blind argument.object_at
-unfolding argument.object_at
-object = behind mark.is_open _ opens_kind (bind _ _ (named _) (λ d. bind _ _ (attribute_part d) (λ o. behind mark.is_close _ closes_kind (value _))))
-
--- ---- STORE
+-- ---- lists of strings
 
 strings_same : (ts : List Token) (seen : List (List ℕ)) → storing.strings_at seen (map plain ts) ≡ plain_read (storing.strings_at seen ts)
 unfolding storing.strings_at
@@ -278,185 +252,37 @@ past_first read p = record { same = same } where
   same [] = p.same []
   same (t ∷ rest) = p.same rest
 
-plain_value : Blind storing.plain_at
-unfolding storing.plain_at
-plain_value =
-    choose _ _ _ (starting mark.is_string strings_kind) (bind _ _ string (λ x. value _))
-    (worded storing.given_words (λ ts o. verdict_at ts (argument.or_fault fault.Arguments o)) (missing fault.Arguments) (λ w ts rest. refl))
+-- ---- the arguments of each verb
 
-given : Blind storing.given_at
-unfolding storing.given_at
-given = choose _ _ _ (starting mark.is_open opens_kind) (bind _ _ (past_first _ (record { same = λ ts. strings_same ts [] })) (λ x. value _)) plain_value
-
-gift : (seen : Gifts) → Blind (storing.gift_at seen)
-unfolding storing.gift_at
-gift seen =
-    new_name storing.metadata_named (λ m. storing.has_item seen.attribute m seen.items)
-    (λ m ts. storing.given_at ts >>= λ g. Ok (record seen { items = seen.items ++ record { attribute = seen.attribute; metadata = m; given = g.0 } ∷ [] }, g.1)) (λ m. bind _ _ given (λ g. value _))
-
-gifts : (seen : Gifts) → Blind (storing.gifts_at seen)
-unfolding storing.gifts_at
-gifts seen = choose _ _ _ (starting mark.is_open opens_kind) (bind _ _ (enclosed_items storing.gift_at gift 3 seen) (λ x. value _)) (bind _ _ plain_value (λ x. value _))
-
-item : (seen : List StoreItem) → Blind (storing.item_at seen)
-unfolding storing.item_at
-item seen =
-    new_name argument.attribute_named (λ a. storing.has_attribute a seen) (λ a ts. storing.gifts_at (record { attribute = a; items = seen }) ts) (λ a. gifts _)
-
-store_items : Blind storing.items_at
-unfolding storing.items_at
-store_items = some_items _ _ storing.item_at (starting mark.is_close closes_kind) (starting mark.is_string strings_kind) item 256 []
-
-conditioned : (seen : StoreModifiers) (w : StoreWord) → Blind (storing.behind_condition seen w)
-unfolding storing.behind_condition
-conditioned seen store_word.NoCreate = value _
-conditioned seen store_word.UnchangedSince = bind _ _ (named _) (λ x. value _)
-
-condition : (seen : StoreModifiers) → Blind (storing.condition_at seen)
-unfolding storing.condition_at
-condition seen =
-    worded storing.store_words (storing.condition_by seen) (missing fault.Arguments) (λ w ts rest. judged_same (storing.once (storing.has_condition seen w)) (storing.behind_condition seen w) (conditioned seen w) ts rest)
-
-conditions : Blind storing.conditions_at
-unfolding storing.conditions_at storing.no_condition
-conditions = items storing.no_condition storing.no_condition storing.condition_at (worded_first storing.store_words) (worded_first storing.store_words) condition 3 plain_modifiers.unconditional
-
-new_path : (seen : List StoreEntry) → Blind (storing.path_at seen)
-unfolding storing.path_at
-new_path seen = new_name argument.path_named (λ p. entry_order.has_path p seen) (λ p ts. Ok (p, ts)) (λ p. value p)
-
-store_entry : (seen : List StoreEntry) → Blind (storing.entry_at seen)
-unfolding storing.entry_at
-store_entry seen =
-    behind mark.is_open _ opens_kind (bind _ _ (new_path seen) (λ p. bind _ _ conditions (λ m. bind _ _ store_items (λ i. behind mark.is_close _ closes_kind (value _)))))
-
-entries : Blind storing.entries_at
-unfolding storing.entries_at
-entries = some_items _ _ storing.entry_at ending (starting mark.is_open opens_kind) store_entry 256 []
-
--- ---- keys
-
-string_part : (r : Relation) (of : List ℕ) (by : Comparator) → Blind (keys.string_part r of by)
-string_part r of by = bind _ _ string (λ x. value _)
-
-value_part : (r : Relation) (of : List ℕ) (by : Comparator) → Blind (keys.value_part r of by)
-unfolding keys.value_part
-value_part relation.Equal of by = flagged (codes "NIL") (keys.equal_part of by) (string_part relation.Equal of by) (λ ts rest. refl)
-value_part relation.AtLeast of by = string_part relation.AtLeast of by
-value_part relation.Greater of by = string_part relation.Greater of by
-value_part relation.Begins of by = string_part relation.Begins of by
-value_part relation.Contains of by = string_part relation.Contains of by
-
-meets : (r : Relation) → Blind (keys.meets_at r)
-unfolding keys.meets_at
-meets r = bind _ _ (named _) (λ a. bind _ _ (named _) (λ c. value_part r a c))
-
-range : Blind keys.range_at
-unfolding keys.range_at
-range = bind _ _ number (λ first. bind _ _ number (λ last. bind _ _ (named _) (λ since. value _)))
-
-two : (join : Wanted → Wanted → Wanted) (inner : List Token → Read Wanted) → Blind inner → Blind (keys.two_of join inner)
-two join inner p = bind _ _ p (λ first. bind _ _ p (λ second. value _))
-
-key_behind : (inner : List Token → Read Wanted) → Blind inner → (w : KeyWord) → Blind (keys.key_behind inner w)
-unfolding keys.key_behind
-key_behind inner p key_word.All = value _
-key_behind inner p key_word.And = two _ inner p
-key_behind inner p key_word.Or = two _ inner p
-key_behind inner p key_word.Not = bind _ _ p (λ x. value _)
-key_behind inner p key_word.Range = bind _ _ range (λ x. value _)
-key_behind inner p (key_word.Meets r) = bind _ _ (meets r) (λ x. value _)
-
-key : (levels : ℕ) → Blind (keys.key_at levels)
+too_deep : Blind (keys.key_at zero)
 unfolding keys.key_at
-key zero = record { same = λ ts. rw (ending.same ts) refl }
-key (suc levels) = worded keys.key_words (keys.key_by (keys.key_at levels)) (missing fault.Arguments) (λ w ts rest. (key_behind _ (key levels) w).same rest)
+too_deep = record { same = λ ts. rw (ending.same ts) refl }
 
--- ---- SEARCH
-
-metadata_part : (of : ReturnName) → Blind (searching.metadata_part of)
-unfolding searching.metadata_part searching.metadata_at
-metadata_part of = choose _ _ _ (starting mark.is_open opens_kind) (enclosed_items searching.metadata_at (λ seen. bind _ _ (named _) (λ x. value _)) 32 []) (value _)
-
-return_item : (seen : List ReturnItem) → Blind (searching.return_at seen)
-unfolding searching.return_at
-return_item seen = bind _ _ (named _) (λ n. bind _ _ (metadata_part n) (λ m. value _))
-
-returns : Blind searching.returns_at
-unfolding searching.returns_at
-returns =
-    behind mark.is_open _ opens_kind
-    (bind _ _ (items _ _ searching.return_at (starting mark.is_close closes_kind) (starting mark.is_string strings_kind) return_item 256 []) (λ all. behind mark.is_close _ closes_kind (value _)))
-
-sorts : Blind searching.sorts_at
-unfolding searching.sorts_at searching.sort_at
-sorts = enclosed_items searching.sort_at (λ seen. bind _ _ (named _) (λ a. bind _ _ (named _) (λ c. value _))) 16 []
-
-limit : Blind searching.limit_at
-unfolding searching.limit_at
-limit = bind _ _ number (λ over. bind _ _ number (λ most. value _))
-
-abbrev context_behind : Bool → Bool → List Token → Read MakeContext
-context_behind e n ts = argument.named_at argument.context_named ts >>= λ x. Ok (record { enumerate = e; notify = n; name = x.0 }, x.1)
-
-one_context : (e n : Bool) → Blind (context_behind e n)
-one_context e n = bind _ _ (named _) (λ x. value _)
-
-abbrev notified_behind : Bool → List Token → Read MakeContext
-notified_behind e ts = let notify = searching.flag_at (codes "NOTIFY") ts in context_behind e notify.0 notify.1
-
-notified : (e : Bool) → Blind (notified_behind e)
-unfolding searching.flag_at
-notified e = flagged (codes "NOTIFY") (λ ts o. context_behind e (searching.flag_by ts o).0 (searching.flag_by ts o).1) (one_context e false) (λ ts rest. (one_context e true).same rest)
-
-make_context : Blind searching.make_context_at
-unfolding searching.make_context_at searching.flag_at
-make_context = flagged (codes "ENUMERATE") (λ ts o. notified_behind (searching.flag_by ts o).0 (searching.flag_by ts o).1) (notified false) (λ ts rest. (notified true).same rest)
-
-modified : (m : SearchModifiers) (w : SearchWord) → Blind (searching.behind_modifier m w)
-unfolding searching.behind_modifier
-modified m search_word.Depth = bind _ _ number (λ x. value _)
-modified m search_word.HardLimit = bind _ _ number (λ x. value _)
-modified m search_word.Limit = bind _ _ limit (λ x. value _)
-modified m search_word.MakeContext = bind _ _ make_context (λ x. value _)
-modified m search_word.NoInherit = value _
-modified m search_word.Return = bind _ _ returns (λ x. value _)
-modified m search_word.Sort = bind _ _ sorts (λ x. value _)
-
-modifier : (s : Scope) → Blind (searching.modifier_at s)
-unfolding searching.modifier_at
-modifier s =
-    worded searching.search_words (searching.modifier_by s) (missing fault.Arguments)
-    (λ w ts rest. judged_same (searching.may_modify s w) (λ left. searching.behind_modifier s.modifiers w left >>= λ all. Ok (record s { modifiers = all.0 }, all.1)) (bind _ _ (modified s.modifiers w) (λ all. value _)) ts rest)
-
-modifiers : (of : Target) → Blind (searching.modifiers_at of)
-unfolding searching.modifiers_at searching.no_modifier
-modifiers of = items searching.no_modifier searching.no_modifier searching.modifier_at (worded_first searching.search_words) (worded_first searching.search_words) modifier 8 _
-
-search_all : Blind searching.search_at
-unfolding searching.search_at
-search_all = bind _ _ (named _) (λ of. bind _ _ (modifiers of) (λ s. bind _ _ (key 32) (λ k. value _)))
+blind : Closed (λ A (read : List Token → Read A). Blind read) Sees IsOfKinds
+blind = record {
+  string_kind = strings_kind;
+  open_kind = opens_kind;
+  close_kind = closes_kind;
+  starting = starting;
+  ending = ending;
+  worded_first = worded_first;
+  value = value;
+  bind = bind;
+  choose = choose;
+  behind = behind;
+  past_first = past_first;
+  string = string;
+  strings = record { same = λ ts. strings_same ts [] };
+  number = number;
+  named = named;
+  new_name = new_name;
+  worded = worded;
+  flagged = flagged;
+  items = items;
+  too_deep = too_deep;
+}
 
 -- ---- the whole
-
-contexts : Blind grammar.contexts_at
-unfolding grammar.contexts_at grammar.context_at
-contexts = some_items _ _ grammar.context_at ending (starting mark.is_string strings_kind) (λ seen. bind _ _ (named _) (λ x. value _)) 200 []
-
-arguments : (v : Verb) → Blind (grammar.arguments_at v)
-unfolding grammar.arguments_at grammar.set_acl_at grammar.delete_acl_at grammar.list_rights_at grammar.deleted_since_at
-arguments verb.Noop = value _
-arguments verb.Logout = value _
-arguments verb.Authenticate = bind _ _ string (λ x. value _)
-arguments verb.Store = bind _ _ entries (λ x. value _)
-arguments verb.Search = bind _ _ search_all (λ x. value _)
-arguments verb.SetAcl = bind _ _ object (λ o. bind _ _ string (λ i. bind _ _ string (λ r. value _)))
-arguments verb.DeleteAcl = bind _ _ object (λ o. bind _ _ (choose _ _ _ ending (value _) (bind _ _ string (λ x. value _))) (λ i. value _))
-arguments verb.MyRights = bind _ _ object (λ x. value _)
-arguments verb.ListRights = bind _ _ object (λ o. bind _ _ string (λ i. value _))
-arguments verb.DeletedSince = bind _ _ (named _) (λ d. bind _ _ (named _) (λ t. value _))
-arguments verb.FreeContext = bind _ _ (named _) (λ x. value _)
-arguments verb.UpdateContext = bind _ _ contexts (λ x. value _)
 
 abbrev plain_result : Result Command Fault → Result Command Fault
 plain_result (Ok c) = Ok c
@@ -473,7 +299,7 @@ by_verb : (ts : List Token) → grammar.command_by (map plain ts) (mark.word_at 
 by_verb ts = rw (word_same grammar.verbs ts) (by_word (mark.word_at grammar.verbs ts)) where
   by_word : (o : Option (Verb × List Token)) → grammar.command_by (map plain ts) (plain_word o) ≡ plain_result (grammar.command_by ts o)
   by_word None = refl
-  by_word (Some x) = rw ((arguments x.0).same x.1) (whole_same (grammar.arguments_at x.0 x.1))
+  by_word (Some x) = rw ((arguments blind x.0).same x.1) (whole_same (grammar.arguments_at x.0 x.1))
 
 command_same : (ts : List Token) → grammar.command_at (map plain ts) ≡ plain_result (grammar.command_at ts)
 command_same [] = by_verb []

@@ -10,13 +10,13 @@ use Rattle.acap_lexer.specs.Token.{Token}
 use Rattle.acap_entries.specs.Moments.{IsMoment}
 use Rattle.acap_entries.specs.declared.cell.Cell.TheVariants as cell
 use Rattle.acap_entries.proofs.TimeLaws.{time_law}
-use Rattle.acap_commands.specs.declared.given.Given.{Given}
-use Rattle.acap_commands.specs.declared.given.Given.TheVariants as given
-use Rattle.acap_commands.specs.declared.store_entry.StoreEntry.{StoreEntry}
-use Rattle.acap_commands.specs.declared.store_item.StoreItem.{StoreItem}
-use Rattle.acap_commands.specs.declared.store_metadata.StoreMetadata.{StoreMetadata}
-use Rattle.acap_commands.specs.declared.store_metadata.StoreMetadata.TheVariants as metadata
-use Rattle.acap_commands.specs.declared.store_modifiers.StoreModifiers.{StoreModifiers}
+use Rattle.acap_commands.specs.declared.store.Given.{Given}
+use Rattle.acap_commands.specs.declared.store.Given.TheVariants as given
+use Rattle.acap_commands.specs.declared.store.StoreEntry.{StoreEntry}
+use Rattle.acap_commands.specs.declared.store.StoreItem.{StoreItem}
+use Rattle.acap_commands.specs.declared.store.StoreMetadata.{StoreMetadata}
+use Rattle.acap_commands.specs.declared.store.StoreMetadata.TheVariants as metadata
+use Rattle.acap_commands.specs.declared.store.StoreModifiers.{StoreModifiers}
 use Rattle.acap_grammar.specs.Several.{several, some_of, in_parenthesis}
 use Rattle.acap_grammar.specs.Marks.{is_string, is_open, is_close, ends, starts, behind, string_at, word_at}
 use Rattle.acap_grammar.specs.Arguments.{named_at}

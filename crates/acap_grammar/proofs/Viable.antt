@@ -4,8 +4,8 @@ use Rattle.std.specs.Prelude.{if◌then◌else◌}
 use Rattle.acap_grammar.specs.Searching as searching
 use Rattle.acap_commands.specs.declared.command.Command.{Command}
 use Rattle.acap_commands.specs.declared.command.Command.TheVariants as command
-use Rattle.acap_commands.specs.declared.verb.Verb.{Verb}
-use Rattle.acap_commands.specs.declared.verb.Verb.TheVariants as verb
+use Rattle.acap_commands.specs.declared.command.Verb.{Verb}
+use Rattle.acap_commands.specs.declared.command.Verb.TheVariants as verb
 use Rattle.acap_grammar.specs.Grammar as grammar
 use Rattle.acap_lexer.specs.Token.{Token}
 use Rattle.acap_grammar.specs.declared.command_fault.CommandFault.TheVariants as fault
@@ -125,7 +125,7 @@ fronted v tokens e t left (Ok x) m n l deep = by_end (mark.ends x.1) n where
         ends = record { more = []; what = x.0; is = whole_there v (s.front ++ []) x.0 (s.is [] nothing_left) };
       }
 
-verb_missing : {A : Type 0} (tokens : List Token) (e : Fault) → ◌≡◌ {A = Result A Fault} (fault_here tokens fault.UnknownCommand) (Err e) → record { fault = fault.UnknownCommand; left = tokens } ≡ e
+pub verb_missing : {A : Type 0} (tokens : List Token) (e : Fault) → ◌≡◌ {A = Result A Fault} (fault_here tokens fault.UnknownCommand) (Err e) → record { fault = fault.UnknownCommand; left = tokens } ≡ e
 verb_missing tokens e m = cc
 
 a_noop : (tag : Token) → grammar.command_at (tag ∷ word (codes "NOOP") ∷ []) ≡ Ok command.Noop

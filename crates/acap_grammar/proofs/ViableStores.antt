@@ -8,9 +8,9 @@ use Rattle.std.proofs.lemmas.Str.{IsUtf8-from_ascii}
 use Rattle.std.proofs.lemmas.Bool.{eqb-false, eqb-true}
 use Rattle.acap_commands.specs.EntryOrder as entry_order
 use Rattle.acap_commands.specs.Modifiers as plain_modifiers
-use Rattle.acap_commands.specs.declared.store_entry.StoreEntry.{StoreEntry}
-use Rattle.acap_commands.specs.declared.store_item.StoreItem.{StoreItem}
-use Rattle.acap_commands.specs.declared.store_modifiers.StoreModifiers.{StoreModifiers}
+use Rattle.acap_commands.specs.declared.store.StoreEntry.{StoreEntry}
+use Rattle.acap_commands.specs.declared.store.StoreItem.{StoreItem}
+use Rattle.acap_commands.specs.declared.store.StoreModifiers.{StoreModifiers}
 use Rattle.std.specs.Str.{IsAscii, bytes_eq}
 use Rattle.acap_lexer.specs.Token.{Token}
 use Rattle.acap_grammar.specs.Arguments as argument

@@ -15,20 +15,20 @@ use Rattle.acap_notices.specs.declared.notice.Notice.TheVariants as notice
 use Rattle.acap_notices.specs.declared.told.Told.{Told}
 use Rattle.acap_notices.specs.declared.told.Told.TheVariants as told
 use Rattle.acap_commands.specs.declared.command.Command.TheVariants as command
-use Rattle.acap_commands.specs.declared.given.Given.TheVariants as given
+use Rattle.acap_commands.specs.declared.store.Given.TheVariants as given
 use Rattle.acap_grammar.specs.declared.command_fault.CommandFault.TheVariants as fault
-use Rattle.acap_commands.specs.declared.metadata.Metadata.TheVariants as metadata
+use Rattle.acap_commands.specs.declared.returns.Metadata.TheVariants as metadata
 use Rattle.acap_commands.specs.declared.object_name.ObjectName.{ObjectName}
 use Rattle.acap_commands.specs.declared.object_name.ObjectName.TheVariants as object_name
 use Rattle.acap_commands.specs.declared.refusal.Refusal.{Refusal}
 use Rattle.acap_commands.specs.declared.refusal.Refusal.TheVariants as refusal
-use Rattle.acap_commands.specs.declared.relation.Relation.TheVariants as relation
-use Rattle.acap_commands.specs.declared.return_name.ReturnName.TheVariants as name
+use Rattle.acap_commands.specs.declared.test.Relation.TheVariants as relation
+use Rattle.acap_commands.specs.declared.returns.ReturnName.TheVariants as name
 use Rattle.acap_commands.specs.declared.said.Said.TheVariants as said
-use Rattle.acap_commands.specs.declared.store_metadata.StoreMetadata.TheVariants as stored
+use Rattle.acap_commands.specs.declared.store.StoreMetadata.TheVariants as stored
 use Rattle.acap_commands.specs.declared.target.Target.TheVariants as target
 use Rattle.acap_commands.specs.declared.test.Test.TheVariants as test
-use Rattle.acap_commands.specs.declared.verb.Verb.TheVariants as verb
+use Rattle.acap_commands.specs.declared.command.Verb.TheVariants as verb
 use Rattle.acap_grammar.specs.Grammar.{command_of}
 use Rattle.acap_grammar.specs.Laws.{fault_of, word_token, under, alone, refusal_under}
 use Rattle.acap_grammar.specs.Refusals.{of_lexical, of_grammar}

@@ -2,7 +2,7 @@
 use Rattle.std.specs.Prelude.{ℕ, List, true, Option, Some, None}
 use Rattle.acap_entries.specs.Store.{path_cmp}
 use Rattle.acap_commands.specs.EntryOrder.{Orders}
-use Rattle.acap_commands.specs.declared.store_entry.StoreEntry.{StoreEntry}
+use Rattle.acap_commands.specs.declared.store.StoreEntry.{StoreEntry}
 use Rattle.acap_grammar.specs.Ascending.{Ascends}
 
 -- their paths ascend while there is no order of them

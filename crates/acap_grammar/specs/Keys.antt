@@ -3,8 +3,8 @@ use Rattle.std.specs.Prelude.{ℕ, zero, suc, List, [], ◌∷◌, codes, Option
 use Rattle.acap_lexer.specs.Token.{Token}
 use Rattle.acap_order.specs.declared.comparator.Comparator.{Comparator}
 use Rattle.acap_grammar.specs.declared.command_fault.CommandFault.TheVariants as fault
-use Rattle.acap_commands.specs.declared.relation.Relation.{Relation}
-use Rattle.acap_commands.specs.declared.relation.Relation.TheVariants as relation
+use Rattle.acap_commands.specs.declared.test.Relation.{Relation}
+use Rattle.acap_commands.specs.declared.test.Relation.TheVariants as relation
 use Rattle.acap_commands.specs.declared.test.Test.{Test}
 use Rattle.acap_commands.specs.declared.test.Test.TheVariants as test
 use Rattle.acap_grammar.specs.declared.words.KeyWord.{KeyWord}

@@ -10,22 +10,22 @@ use Rattle.acap_entries.specs.declared.item.Item.TheVariants as item
 use Rattle.acap_entries.specs.declared.row.Row.{Row}
 use Rattle.acap_commands.specs.declared.command.Command.{Command}
 use Rattle.acap_commands.specs.declared.command.Command.TheVariants as command
-use Rattle.acap_commands.specs.declared.given.Given.TheVariants as given
+use Rattle.acap_commands.specs.declared.store.Given.TheVariants as given
 use Rattle.acap_grammar.specs.declared.command_fault.CommandFault.{CommandFault}
 use Rattle.acap_grammar.specs.declared.command_fault.CommandFault.TheVariants as fault
-use Rattle.acap_commands.specs.declared.metadata.Metadata.TheVariants as metadata
+use Rattle.acap_commands.specs.declared.returns.Metadata.TheVariants as metadata
 use Rattle.acap_commands.specs.declared.object_name.ObjectName.TheVariants as object_name
 use Rattle.acap_commands.specs.declared.reply.Reply.{Reply}
 use Rattle.acap_commands.specs.declared.refusal.Refusal.{Refusal}
 use Rattle.acap_commands.specs.declared.refusal.Refusal.TheVariants as refusal
-use Rattle.acap_commands.specs.declared.return_item.ReturnItem.{ReturnItem}
-use Rattle.acap_commands.specs.declared.return_name.ReturnName.TheVariants as name
+use Rattle.acap_commands.specs.declared.returns.ReturnItem.{ReturnItem}
+use Rattle.acap_commands.specs.declared.returns.ReturnName.TheVariants as name
 use Rattle.acap_commands.specs.declared.said.Said.{Said}
 use Rattle.acap_commands.specs.declared.said.Said.TheVariants as said
-use Rattle.acap_commands.specs.declared.store_metadata.StoreMetadata.TheVariants as stored
+use Rattle.acap_commands.specs.declared.store.StoreMetadata.TheVariants as stored
 use Rattle.acap_commands.specs.declared.target.Target.TheVariants as target
 use Rattle.acap_commands.specs.declared.test.Test.TheVariants as test
-use Rattle.acap_commands.specs.declared.verb.Verb.TheVariants as verb
+use Rattle.acap_commands.specs.declared.command.Verb.TheVariants as verb
 use Rattle.acap_grammar.specs.Grammar.{command_at, command_of}
 use Rattle.acap_grammar.specs.Outcome.{Fault}
 use Rattle.acap_grammar.specs.Replies.{octets_of, crlf}

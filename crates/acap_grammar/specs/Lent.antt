@@ -4,7 +4,7 @@ use Rattle.std.specs.Borrow.{Bor}
 use Rattle.acap_lexer.specs.Printing.{printed_form}
 use Rattle.acap_commands.specs.declared.reply.Reply.{Reply}
 use Rattle.acap_commands.specs.declared.said.Said.{Said}
-use Rattle.acap_commands.specs.declared.verb.Verb.{Verb}
+use Rattle.acap_commands.specs.declared.command.Verb.{Verb}
 use Rattle.acap_grammar.specs.Replies.{crlf, done_of}
 
 abbrev pub lent_tag : Option (Bor (List ℕ)) → Option (List ℕ)

@@ -11,15 +11,15 @@ use Rattle.acap_notices.specs.declared.notice.Notice.{Notice}
 use Rattle.acap_notices.specs.declared.notice.Notice.TheVariants as notice
 use Rattle.acap_notices.specs.declared.told.Told.{Told}
 use Rattle.acap_notices.specs.declared.told.Told.TheVariants as told
-use Rattle.acap_commands.specs.declared.search_reply.SearchReply.{SearchReply}
+use Rattle.acap_commands.specs.declared.said.SearchReply.{SearchReply}
 use Rattle.acap_commands.specs.declared.refusal.Refusal.{Refusal}
 use Rattle.acap_commands.specs.declared.reply.Reply.{Reply}
 use Rattle.acap_commands.specs.declared.said.Said.{Said}
 use Rattle.acap_commands.specs.declared.said.Said.TheVariants as said
-use Rattle.acap_commands.specs.declared.status.Status.{Status}
-use Rattle.acap_commands.specs.declared.status.Status.TheVariants as status
-use Rattle.acap_commands.specs.declared.verb.Verb.{Verb}
-use Rattle.acap_commands.specs.declared.verb.Verb.TheVariants as verb
+use Rattle.acap_commands.specs.declared.refusal.Status.{Status}
+use Rattle.acap_commands.specs.declared.refusal.Status.TheVariants as status
+use Rattle.acap_commands.specs.declared.command.Verb.{Verb}
+use Rattle.acap_commands.specs.declared.command.Verb.TheVariants as verb
 use Rattle.acap_commands.specs.Statuses.{status_of}
 use Rattle.acap_grammar.specs.Refusals.{code_of, text_of}
 

@@ -18,11 +18,11 @@ use Rattle.acap_commands.specs.declared.refusal.Refusal.TheVariants as refusal
 use Rattle.acap_commands.specs.declared.reply.Reply.{Reply}
 use Rattle.acap_commands.specs.declared.said.Said.{Said}
 use Rattle.acap_commands.specs.declared.said.Said.TheVariants as said
-use Rattle.acap_commands.specs.declared.search_reply.SearchReply.{SearchReply}
-use Rattle.acap_commands.specs.declared.status.Status.{Status}
-use Rattle.acap_commands.specs.declared.status.Status.TheVariants as status
-use Rattle.acap_commands.specs.declared.verb.Verb.{Verb}
-use Rattle.acap_commands.specs.declared.verb.Verb.TheVariants as verb
+use Rattle.acap_commands.specs.declared.said.SearchReply.{SearchReply}
+use Rattle.acap_commands.specs.declared.refusal.Status.{Status}
+use Rattle.acap_commands.specs.declared.refusal.Status.TheVariants as status
+use Rattle.acap_commands.specs.declared.command.Verb.{Verb}
+use Rattle.acap_commands.specs.declared.command.Verb.TheVariants as verb
 use Rattle.acap_grammar.specs.Lines.{Datum, Word, Text, group, Done, Failed, Wrong}
 use Rattle.acap_grammar.specs.Lines.{Line, Greeting, GoOn, Entry, Moment, AddTo, RemoveFrom, Change, UpTo}
 use Rattle.acap_grammar.specs.Lines.{Alert}

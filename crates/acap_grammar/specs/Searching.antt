@@ -4,18 +4,18 @@ use Rattle.acap_lexer.specs.Token.{Token}
 use Rattle.acap_entries.specs.Names.{is_attribute, ends_with, star}
 use Rattle.acap_grammar.specs.declared.command_fault.CommandFault.{CommandFault}
 use Rattle.acap_grammar.specs.declared.command_fault.CommandFault.TheVariants as fault
-use Rattle.acap_commands.specs.declared.limit.Limit.{Limit}
-use Rattle.acap_commands.specs.declared.make_context.MakeContext.{MakeContext}
-use Rattle.acap_commands.specs.declared.metadata.Metadata.{Metadata}
-use Rattle.acap_commands.specs.declared.metadata.Metadata.TheVariants as metadata
-use Rattle.acap_commands.specs.declared.return_item.ReturnItem.{ReturnItem}
-use Rattle.acap_commands.specs.declared.return_name.ReturnName.{ReturnName}
-use Rattle.acap_commands.specs.declared.return_name.ReturnName.TheVariants as name
+use Rattle.acap_commands.specs.declared.search_modifiers.Limit.{Limit}
+use Rattle.acap_commands.specs.declared.search_modifiers.MakeContext.{MakeContext}
+use Rattle.acap_commands.specs.declared.returns.Metadata.{Metadata}
+use Rattle.acap_commands.specs.declared.returns.Metadata.TheVariants as metadata
+use Rattle.acap_commands.specs.declared.returns.ReturnItem.{ReturnItem}
+use Rattle.acap_commands.specs.declared.returns.ReturnName.{ReturnName}
+use Rattle.acap_commands.specs.declared.returns.ReturnName.TheVariants as name
 use Rattle.acap_commands.specs.declared.search.Search.{Search}
 use Rattle.acap_grammar.specs.declared.searching.Scope.{Scope}
 use Rattle.acap_commands.specs.Modifiers.{no_modifiers}
 use Rattle.acap_commands.specs.declared.search_modifiers.SearchModifiers.{SearchModifiers}
-use Rattle.acap_commands.specs.declared.sort_item.SortItem.{SortItem}
+use Rattle.acap_commands.specs.declared.search_modifiers.SortItem.{SortItem}
 use Rattle.acap_commands.specs.declared.target.Target.{Target}
 use Rattle.acap_commands.specs.declared.target.Target.TheVariants as target
 use Rattle.acap_grammar.specs.declared.words.SearchWord.{SearchWord}

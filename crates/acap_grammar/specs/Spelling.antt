@@ -15,27 +15,27 @@ use Rattle.acap_entries.specs.Stamp.{stamp_of}
 use Rattle.acap_entries.specs.declared.cell.Cell.TheVariants as cell
 use Rattle.acap_commands.specs.declared.command.Command.{Command}
 use Rattle.acap_commands.specs.declared.command.Command.TheVariants as command
-use Rattle.acap_commands.specs.declared.given.Given.{Given}
-use Rattle.acap_commands.specs.declared.given.Given.TheVariants as given
-use Rattle.acap_commands.specs.declared.limit.Limit.{Limit}
-use Rattle.acap_commands.specs.declared.make_context.MakeContext.{MakeContext}
-use Rattle.acap_commands.specs.declared.metadata.Metadata.{Metadata}
-use Rattle.acap_commands.specs.declared.metadata.Metadata.TheVariants as metadata
+use Rattle.acap_commands.specs.declared.store.Given.{Given}
+use Rattle.acap_commands.specs.declared.store.Given.TheVariants as given
+use Rattle.acap_commands.specs.declared.search_modifiers.Limit.{Limit}
+use Rattle.acap_commands.specs.declared.search_modifiers.MakeContext.{MakeContext}
+use Rattle.acap_commands.specs.declared.returns.Metadata.{Metadata}
+use Rattle.acap_commands.specs.declared.returns.Metadata.TheVariants as metadata
 use Rattle.acap_commands.specs.declared.object_name.ObjectName.{ObjectName}
 use Rattle.acap_commands.specs.declared.object_name.ObjectName.TheVariants as object_name
-use Rattle.acap_commands.specs.declared.relation.Relation.{Relation}
-use Rattle.acap_commands.specs.declared.relation.Relation.TheVariants as relation
-use Rattle.acap_commands.specs.declared.return_item.ReturnItem.{ReturnItem}
-use Rattle.acap_commands.specs.declared.return_name.ReturnName.{ReturnName}
-use Rattle.acap_commands.specs.declared.return_name.ReturnName.TheVariants as name
+use Rattle.acap_commands.specs.declared.test.Relation.{Relation}
+use Rattle.acap_commands.specs.declared.test.Relation.TheVariants as relation
+use Rattle.acap_commands.specs.declared.returns.ReturnItem.{ReturnItem}
+use Rattle.acap_commands.specs.declared.returns.ReturnName.{ReturnName}
+use Rattle.acap_commands.specs.declared.returns.ReturnName.TheVariants as name
 use Rattle.acap_commands.specs.declared.search.Search.{Search}
 use Rattle.acap_commands.specs.declared.search_modifiers.SearchModifiers.{SearchModifiers}
-use Rattle.acap_commands.specs.declared.sort_item.SortItem.{SortItem}
-use Rattle.acap_commands.specs.declared.store_entry.StoreEntry.{StoreEntry}
-use Rattle.acap_commands.specs.declared.store_item.StoreItem.{StoreItem}
-use Rattle.acap_commands.specs.declared.store_metadata.StoreMetadata.{StoreMetadata}
-use Rattle.acap_commands.specs.declared.store_metadata.StoreMetadata.TheVariants as stored
-use Rattle.acap_commands.specs.declared.store_modifiers.StoreModifiers.{StoreModifiers}
+use Rattle.acap_commands.specs.declared.search_modifiers.SortItem.{SortItem}
+use Rattle.acap_commands.specs.declared.store.StoreEntry.{StoreEntry}
+use Rattle.acap_commands.specs.declared.store.StoreItem.{StoreItem}
+use Rattle.acap_commands.specs.declared.store.StoreMetadata.{StoreMetadata}
+use Rattle.acap_commands.specs.declared.store.StoreMetadata.TheVariants as stored
+use Rattle.acap_commands.specs.declared.store.StoreModifiers.{StoreModifiers}
 use Rattle.acap_commands.specs.declared.target.Target.{Target}
 use Rattle.acap_commands.specs.declared.target.Target.TheVariants as target
 use Rattle.acap_commands.specs.declared.test.Test.{Test}

@@ -7,15 +7,15 @@ use Rattle.acap_entries.specs.declared.cell.Cell.TheVariants as cell
 use Rattle.acap_entries.specs.declared.path.Path.{Path}
 use Rattle.acap_commands.specs.EntryOrder.{has_path}
 use Rattle.acap_commands.specs.Modifiers.{unconditional}
-use Rattle.acap_commands.specs.declared.given.Given.{Given}
-use Rattle.acap_commands.specs.declared.given.Given.TheVariants as given
+use Rattle.acap_commands.specs.declared.store.Given.{Given}
+use Rattle.acap_commands.specs.declared.store.Given.TheVariants as given
 use Rattle.acap_grammar.specs.declared.command_fault.CommandFault.{CommandFault}
 use Rattle.acap_grammar.specs.declared.command_fault.CommandFault.TheVariants as fault
-use Rattle.acap_commands.specs.declared.store_entry.StoreEntry.{StoreEntry}
-use Rattle.acap_commands.specs.declared.store_item.StoreItem.{StoreItem}
-use Rattle.acap_commands.specs.declared.store_metadata.StoreMetadata.{StoreMetadata}
-use Rattle.acap_commands.specs.declared.store_metadata.StoreMetadata.TheVariants as metadata
-use Rattle.acap_commands.specs.declared.store_modifiers.StoreModifiers.{StoreModifiers}
+use Rattle.acap_commands.specs.declared.store.StoreEntry.{StoreEntry}
+use Rattle.acap_commands.specs.declared.store.StoreItem.{StoreItem}
+use Rattle.acap_commands.specs.declared.store.StoreMetadata.{StoreMetadata}
+use Rattle.acap_commands.specs.declared.store.StoreMetadata.TheVariants as metadata
+use Rattle.acap_commands.specs.declared.store.StoreModifiers.{StoreModifiers}
 use Rattle.acap_grammar.specs.declared.storing.Gifts.{Gifts}
 use Rattle.acap_grammar.specs.declared.words.StoreWord.{StoreWord}
 use Rattle.acap_grammar.specs.declared.words.StoreWord.TheVariants as store_word

@@ -25,7 +25,7 @@ pub(crate) struct GatheredEntries {
 impl Model for GatheredEntries {
     ghost use Rattle.std.specs.Prelude.{List};
     ghost use Rattle.acap_grammar.specs.Gathering.{Gathered};
-    ghost use Rattle.acap_commands.specs.declared.store_entry.StoreEntry.{StoreEntry};
+    ghost use Rattle.acap_commands.specs.declared.store.StoreEntry.{StoreEntry};
 
     ghost Value = { List StoreEntry };
 
@@ -128,7 +128,7 @@ impl Model for GatheredItems {
     ghost use Rattle.std.specs.Prelude.{List};
     ghost use Rattle.acap_entries.specs.Orders.{octets_cmp};
     ghost use Rattle.acap_grammar.specs.Ascending.{Ascends};
-    ghost use Rattle.acap_commands.specs.declared.store_item.StoreItem.{StoreItem};
+    ghost use Rattle.acap_commands.specs.declared.store.StoreItem.{StoreItem};
 
     ghost Value = { List StoreItem };
 

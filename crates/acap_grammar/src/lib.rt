@@ -21,13 +21,6 @@ mod storing;
 mod strings;
 mod words;
 
-pub use acap_commands::{
-    Command, ContextNames, Entries, Given, Key, Limit, MakeContext, Metadata, MetadataList, Node,
-    ObjectName, Refusal, Relation, Reply, ReturnItem, ReturnName, Returns, Rows, Said, Search,
-    SearchModifiers, SearchReply, SortItem, SortItems, Status, StoreEntry, StoreItem, StoreItems,
-    StoreMetadata, StoreModifiers, Target, Test, Tolds, Verb,
-};
-pub use acap_entries::{Copying, Memory};
 pub use command_fault::CommandFault;
 pub use grammar_fault::GrammarFault;
 pub use laws::{

@@ -2,7 +2,7 @@
 
 ghost use Rattle.std.specs.Prelude.{◌≡◌, ◌++◌, OnOk, OnErr};
 ghost use Rattle.acap_grammar.specs.Appending.{Appends};
-ghost use Rattle.acap_commands.specs.declared.verb.Verb.TheVariants as verbs;
+ghost use Rattle.acap_commands.specs.declared.command.Verb.TheVariants as verbs;
 ghost use Rattle.acap_grammar.specs.Lent.{completion_of, lent_tag, reply_of};
 ghost use Rattle.acap_grammar.specs.Replies.{row_form, rows_form, last_form, done_of, done_form, status_form, refused_form, greeting, total_form, searched_form, found_form, deleted_name_form, deleted_names_form, deleted_form, rights_form, rights_list_form, challenge_form, good_bye_form, said_form, updated_form, tag_of, octets_of};
 

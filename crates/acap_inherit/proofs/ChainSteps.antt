@@ -1,10 +1,8 @@
 -- A chain, one dataset after the other.
-use Rattle.std.proofs.Common.{◌≡◌, ℕ, suc, ◌+◌, ◌-◌, ◌<◌, ◌≤◌, List, [], ◌∷◌, ◌++◌, Some, None, arith, sym, ◌∙◌, ap, append_assoc, append-nil}
+use Rattle.std.proofs.Common.{◌≡◌, ℕ, ◌+◌, ◌-◌, ◌<◌, ◌≤◌, List, [], ◌∷◌, ◌++◌, Some, None, arith, sym, ◌∙◌, ap, append_assoc, append-nil}
 use Rattle.acap_entries.specs.Store.{Stored}
+use Rattle.acap_entries.proofs.Logic.{one_fewer}
 use Rattle.acap_inherit.specs.Chains.{chain_within, onward, base_at}
-
-one_fewer : (n i : ℕ) → i < n → n - i ≡ suc (n - (i + 1))
-one_fewer n i h = omega arith
 
 -- with some names left, a chain is the dataset and what follows it
 chain_step : (n i : ℕ) (records : Stored) (dataset : List ℕ) → i < n → chain_within (n - i) records dataset ≡ dataset ∷ onward (base_at records dataset) (chain_within (n - (i + 1)) records)

@@ -1,17 +1,19 @@
 -- Which record decides, and what is not inherited.
-use Rattle.std.proofs.Common.{◌≡◌, ℕ, suc, zero, ℤ, ◌≤ℤ◌, true, false, cond, List, [], ◌∷◌, map, Option, Some, None, arith, refl, sym, ap, subst, ◌∙◌}
+use Rattle.std.proofs.Common.{◌≡◌, ℕ, ℤ, ◌≤ℤ◌, true, false, cond, List, [], ◌∷◌, map, Option, Some, None, arith, refl, sym, ap, subst, ◌∙◌}
 use Rattle.std.specs.Prelude.{codes, is_some, if◌then◌else◌, slice_get, int_lt}
 use Rattle.std.specs.Int.{int_max}
 use Rattle.std.specs.List.{cons_option, Contains, All}
 use Rattle.std.specs.Option.{option_map, option_map_or, option_and_then}
 use Rattle.std.proofs.lemmas.Int.{ints, int_max_is}
 use Rattle.std.proofs.lemmas.List.Elements.{All-cons}
+use Rattle.std.proofs.lemmas.Option.{same_Some}
 use Rattle.acap_entries.specs.Orders.{octets_eq}
 use Rattle.acap_entries.specs.Stamp.{stamp_of}
 use Rattle.acap_entries.specs.Store.{Stored}
 use Rattle.acap_entries.specs.declared.cell.Cell.{Cell}
 use Rattle.acap_entries.specs.declared.cell.Cell.TheVariants.{Single}
 use Rattle.acap_entries.specs.declared.record.Record.{Record}
+use Rattle.acap_entries.proofs.Logic.{Contains-here, Contains-there}
 use Rattle.acap_inherit.specs.Records.{record_at, cell_in, ends_inheritance}
 use Rattle.acap_inherit.specs.Resolving.{Resolution, lying, by_cell, by_record, by_presence, value_on, entry_on, records_along, until_end, greatest, modtime_on, stamp_value, members_for, members_of, lookup, entry_exists, modtime_of}
 use Rattle.acap_inherit.specs.Laws.{FirstLaw, MomentLaw, FirstDatasetLaw, placed_records, down_to_end, cells_among}
@@ -74,22 +76,13 @@ first_law = record {
 
 -- ---- the greatest moment
 
-pub here : {A : Type 0} (x : A) (xs : List A) → Contains (x ∷ xs) x
-here x xs = (zero, omega arith, refl)
-
-pub there : {A : Type 0} (x y : A) (xs : List A) → Contains xs y → Contains (x ∷ xs) y
-there x y xs h = (suc h.0, omega (arith, h.1), h.2)
-
-same_some : {A : Type 0} (x y : A) → Some x ≡ Some y → x ≡ y
-same_some x y e = cc
-
 reached : (moments : List ℤ) (moment : ℤ) → greatest moments ≡ Some moment → Contains moments moment
 reached [] moment e = cc
 reached (m ∷ moments) moment e =
     elim (greatest moments) as (λ g. greatest moments ≡ g → Some (option_map_or (int_max m) g m) ≡ Some moment → Contains (m ∷ moments) moment) [
-      | None ↦ λ g e. subst (λ x. Contains (m ∷ moments) x) (same_some _ _ e) (here m moments)
-      | Some n ↦ λ g e. subst (λ x. Contains (m ∷ moments) x) (same_some _ _ e)
-          (elim (int_lt n m) as (λ b. Contains (m ∷ moments) (cond b m n)) [ true ↦ here m moments | false ↦ there m n moments (reached moments n g) ])
+      | None ↦ λ g e. subst (λ x. Contains (m ∷ moments) x) (same_Some _ _ e) (Contains-here m moments)
+      | Some n ↦ λ g e. subst (λ x. Contains (m ∷ moments) x) (same_Some _ _ e)
+          (elim (int_lt n m) as (λ b. Contains (m ∷ moments) (cond b m n)) [ true ↦ Contains-here m moments | false ↦ Contains-there m n moments (reached moments n g) ])
     ] refl e
 
 empty : (moments : List ℤ) → greatest moments ≡ None → moments ≡ []
@@ -101,11 +94,11 @@ bound [] moment e = cc
 bound (m ∷ moments) moment e =
     elim (greatest moments) as (λ g. greatest moments ≡ g → Some (option_map_or (int_max m) g m) ≡ Some moment → All (λ other. other ≤ℤ moment) (m ∷ moments)) [
       | None ↦ λ g e.
-          let same : m ≡ moment = same_some _ _ e in
+          let same : m ≡ moment = same_Some _ _ e in
           let none : moments ≡ [] = empty moments g in
           All-cons (λ other. other ≤ℤ moment) m moments (omega (arith, ints)) (subst (λ ms. All (λ other. other ≤ℤ moment) ms) (sym none) (λ k d h. absurd (omega arith)))
       | Some n ↦ λ g e.
-          let same : int_max m n ≡ moment = same_some _ _ e in
+          let same : int_max m n ≡ moment = same_Some _ _ e in
           let top = int_max_is m n in
           let below = bound moments n g in
           All-cons (λ other. other ≤ℤ moment) m moments (omega (arith, ints)) (λ k d h. let b = below k d h in omega (arith, ints))

@@ -5,9 +5,10 @@ use Rattle.std.specs.FinMap as map
 use Rattle.std.specs.List.{list_any, flat_map}
 use Rattle.std.specs.declared.cmp.Ordering.{Ordering}
 use Rattle.std.specs.Ordering.{eq_by_cmp}
-use Rattle.std.specs.Cmp.{IsTotalOrder, eq_by_cmp_equiv}
+use Rattle.std.specs.Cmp.{IsTotalOrder, eq_by_cmp_equiv, first_so, second_so}
 use Rattle.std.specs.Cmp.Lexicographic.{nat_list_cmp_total, same_text, texts_ties}
 use Rattle.std.proofs.lemmas.List.Folds.{list_any-append}
+use Rattle.std.proofs.Math.Bool.{or-false, and-true}
 use Rattle.acap_entries.specs.Changes.{IsStoreAfter}
 use Rattle.acap_entries.specs.Datasets.{dataset_exists}
 use Rattle.acap_entries.specs.Orders.{octets_cmp, octets_eq}
@@ -15,6 +16,7 @@ use Rattle.acap_entries.specs.Store.{Store, Stored, Written, IsPathByPath, path_
 use Rattle.acap_entries.specs.declared.change.Change.{Change}
 use Rattle.acap_entries.specs.declared.fate.Fate.{Fate}
 use Rattle.acap_entries.specs.declared.path.Path.{Path}
+use Rattle.acap_entries.proofs.Logic.{false_back, or_regrouped, or_crossed, and_either, either_and, false_and, is_eq-then}
 use Rattle.acap_inherit.specs.Chains.{base_at, onward, chain_within, chain_of}
 use Rattle.acap_inherit.specs.EntryNames.{names_in}
 use Rattle.acap_inherit.specs.Index.{is_linked, is_base, IsIndexOf, heirs_in}
@@ -22,9 +24,9 @@ use Rattle.acap_inherit.specs.Records.{record_at}
 use Rattle.acap_inherit.specs.Touched.{is_written, is_written_on, has_record_on, is_reached, is_touched, ordered_among, in_order, touched_paths}
 use Rattle.acap_inherit.specs.Touching.{changes, datasets_each, datasets_written, with_heirs, datasets_reached, path_at, path_written, paths_written, paths_stored, paths_of_member, paths_along, paths_below, paths_in, paths_found}
 use Rattle.acap_inherit.specs.declared.link.Link.{Link}
-use Rattle.acap_inherit.proofs.IndexLemmas.{any_with, and_true, either_and, never, base_kept}
-use Rattle.acap_inherit.proofs.MergeLemmas.{is_name, first_of, second_of}
-use Rattle.acap_inherit.proofs.NamesLaws.{tied_parts, listed}
+use Rattle.acap_inherit.proofs.IndexLemmas.{any_with, base_kept}
+use Rattle.acap_inherit.proofs.MergeLemmas.{is_name}
+use Rattle.acap_inherit.proofs.NamesLaws.{listed}
 use Rattle.acap_inherit.proofs.TouchedLemmas.{is_path, by_parts, any_weaker, absorbed, any_order, order_rises, touched_is}
 use Rattle.acap_inherit.proofs.UnreadLaws.{unwritten, unwritten_on, same_chain}
 use Rattle.acap_inherit.proofs.WrittenLemmas.{paths_of, changes_at}
@@ -36,33 +38,15 @@ shuffled true true r = refl
 shuffled true false r = refl
 shuffled false a r = refl
 
-regrouped : (a b c : Bool) → (a || (b || c)) ≡ ((a || b) || c)
-regrouped true b c = refl
-regrouped false b c = refl
-
-pub or_false : (a : Bool) → (a || false) ≡ a
-or_false true = refl
-or_false false = refl
-
 ends_or : (a b : Bool) → (a || b) ≡ (b || (a || false))
 ends_or true true = refl
 ends_or true false = refl
 ends_or false true = refl
 ends_or false false = refl
 
-unless : (a b : Bool) → (a ≡ true → b ≡ true) → b ≡ false → a ≡ false
-unless true b h e = sym (h refl) ∙ e
-unless false b h e = refl
-
 unless_not : (a b : Bool) → (a ≡ false → b ≡ false) → b ≡ true → a ≡ true
 unless_not true b h e = refl
 unless_not false b h e = sym (h refl) ∙ e
-
-crossed_or : (a b c d : Bool) → ((a || b) || (c || d)) ≡ ((a || c) || (b || d))
-crossed_or true b c d = refl
-crossed_or false true true d = refl
-crossed_or false true false d = refl
-crossed_or false false c d = refl
 
 twice_or : (w : Bool) → w ≡ ((w || false) || (w || false))
 twice_or true = refl
@@ -74,7 +58,7 @@ pub any_among : {K : Type 0} (R : K → K → Ordering) (o : IsTotalOrder R) (q 
 any_among R o q [] acc = refl
 any_among R o q (x ∷ xs) acc =
     any_with R o q x (ordered_among R xs acc)
-    ∙ (ap (λ b. eq_by_cmp R q x || b) (any_among R o q xs acc) ∙ regrouped (eq_by_cmp R q x) (list_any (eq_by_cmp R q) xs) (list_any (eq_by_cmp R q) acc))
+    ∙ (ap (λ b. eq_by_cmp R q x || b) (any_among R o q xs acc) ∙ or_regrouped (eq_by_cmp R q x) (list_any (eq_by_cmp R q) xs) (list_any (eq_by_cmp R q) acc))
 
 -- whether a dataset is among some
 abbrev pub is_in : List ℕ → List (List ℕ) → Bool
@@ -104,7 +88,7 @@ any_heirs (l ∷ links) base heir =
       | false ↦ λ _. any_heirs links base heir
     ] refl
     ∙ (ap (λ b. (b && is_name heir l.heir) || is_linked links base heir) (texts_ties base l.base)
-    ∙ ap (λ b. b || is_linked links base heir) (sym (tied_parts (octets_cmp base l.base) (octets_cmp heir l.heir))))
+    ∙ ap (λ b. b || is_linked links base heir) (sym (is_eq-then (octets_cmp base l.base) (octets_cmp heir l.heir))))
 
 any_level : (records : Stored) (links : List Link) → IsIndexOf records links → (d : List ℕ) (level : List (List ℕ)) → is_in d (flat_map (heirs_in links) level) ≡ list_any (λ b. is_base (base_at records d) b) level
 any_level records links index d [] = refl
@@ -161,13 +145,13 @@ keys_of_datasets d ps (w ∷ es) e = ap (λ b. is_name d w.0.dataset || b) (keys
 pub wrote_at : (written : Written) (old : Stored) (m : List ℕ) → wrote written old m ≡ list_any (λ (p : Path). is_name m p.dataset) (paths_of (filter (changes old) (map.entries written)))
 wrote_at written old m =
     any_among octets_cmp nat_list_cmp_total m (datasets_each written old) []
-    ∙ (or_false (is_in m (datasets_each written old))
+    ∙ (or-false (is_in m (datasets_each written old))
     ∙ keys_of_datasets m (paths_of (filter (changes old) (map.entries written))) (filter (changes old) (map.entries written)) refl)
 
 writes_in : (written : Written) (old : Stored) (m n : List ℕ) → is_written written old m n ≡ true → wrote written old m ≡ true
 writes_in written old m n e =
     wrote_at written old m
-    ∙ any_weaker (eq_by_cmp path_cmp (path_at m n)) (λ (p : Path). is_name m p.dataset) (λ p t. first_of (is_name m p.dataset) (is_name n p.name) (sym (tied_parts (octets_cmp m p.dataset) (octets_cmp n p.name)) ∙ t)) (paths_of (filter (changes old) (map.entries written))) (changes_at written old (path_at m n) ∙ e)
+    ∙ any_weaker (eq_by_cmp path_cmp (path_at m n)) (λ (p : Path). is_name m p.dataset) (λ p t. first_so (is_name m p.dataset) (is_name n p.name) (sym (is_eq-then (octets_cmp m p.dataset) (octets_cmp n p.name)) ∙ t)) (paths_of (filter (changes old) (map.entries written))) (changes_at written old (path_at m n) ∙ e)
 
 -- ---- chains before and after
 
@@ -179,7 +163,7 @@ wrote_before (suc k) written old new h d e =
     elim (wrote written old d) as (λ b. wrote written old d ≡ b → (b || list_any (wrote written old) (onward (base_at new d) (chain_within k new))) ≡ true → (b || list_any (wrote written old) (onward (base_at old d) (chain_within k old))) ≡ true) [
       | true ↦ λ _ _. refl
       | false ↦ λ none e.
-          let kept : base_at old d ≡ base_at new d = base_kept written old new h d (unless (is_written written old d []) (wrote written old d) (writes_in written old d []) none) in
+          let kept : base_at old d ≡ base_at new d = base_kept written old new h d (false_back (is_written written old d []) (wrote written old d) (writes_in written old d []) none) in
           ap (λ base. list_any (wrote written old) (onward base (chain_within k old))) kept
           ∙ elim (base_at new d) as (λ base. list_any (wrote written old) (onward base (chain_within k new)) ≡ true → list_any (wrote written old) (onward base (chain_within k old)) ≡ true) [
             | None ↦ λ e. e
@@ -191,7 +175,7 @@ reach_wrote : (written : Written) (old records : Stored) (chain : List (List ℕ
 reach_wrote written old records chain name e =
     elim (is_written_on written old chain name) as (λ b. is_written_on written old chain name ≡ b → (b || (is_written_on written old chain [] && has_record_on records chain name)) ≡ true → list_any (wrote written old) chain ≡ true) [
       | true ↦ λ w _. any_weaker (λ m. is_written written old m name) (wrote written old) (λ m is. writes_in written old m name is) chain w
-      | false ↦ λ _ e. any_weaker (λ m. is_written written old m []) (wrote written old) (λ m is. writes_in written old m [] is) chain (first_of _ _ e)
+      | false ↦ λ _ e. any_weaker (λ m. is_written written old m []) (wrote written old) (λ m is. writes_in written old m [] is) chain (first_so _ _ e)
     ] refl e
 
 -- where management entries of the old chain are written, those of the new one are, and the other way round
@@ -218,32 +202,28 @@ written_one old p d m w =
     ap (λ b. in_paths p (if b && changes old w then path_at d w.0.name ∷ [] else [])) (texts_ties m w.0.dataset)
     ∙ (elim (is_name m w.0.dataset) as (λ b. in_paths p (if b && changes old w then path_at d w.0.name ∷ [] else []) ≡ (is_name p.dataset d && ((b && is_name p.name w.0.name) && changes old w))) [
       | true ↦ elim (changes old w) as (λ c. in_paths p (if c then path_at d w.0.name ∷ [] else []) ≡ (is_name p.dataset d && (is_name p.name w.0.name && c))) [
-        | true ↦ or_false _ ∙ (by_names p d w.0.name ∙ ap (λ b. is_name p.dataset d && b) (sym (and_true (is_name p.name w.0.name))))
-        | false ↦ never (is_name p.dataset d) ∙ ap (λ b. is_name p.dataset d && b) (never (is_name p.name w.0.name))
+        | true ↦ or-false _ ∙ (by_names p d w.0.name ∙ ap (λ b. is_name p.dataset d && b) (sym (and-true (is_name p.name w.0.name))))
+        | false ↦ false_and (is_name p.dataset d) ∙ ap (λ b. is_name p.dataset d && b) (false_and (is_name p.name w.0.name))
       ]
-      | false ↦ never (is_name p.dataset d)
+      | false ↦ false_and (is_name p.dataset d)
     ]
-    ∙ ap (λ b. is_name p.dataset d && (b && changes old w)) (sym (tied_parts (octets_cmp m w.0.dataset) (octets_cmp p.name w.0.name))))
-
-and_or : (a b c : Bool) → ((a && b) || (a && c)) ≡ (a && (b || c))
-and_or true b c = refl
-and_or false b c = refl
+    ∙ ap (λ b. is_name p.dataset d && (b && changes old w)) (sym (is_eq-then (octets_cmp m w.0.dataset) (octets_cmp p.name w.0.name))))
 
 pub one_kept : (old : Stored) (q : Path → Bool) (w : Path × Fate) (es : List (Path × Fate)) → ((q w.0 && changes old w) || list_any q (paths_of (filter (changes old) es))) ≡ list_any q (paths_of (filter (changes old) (w ∷ es)))
 one_kept old q w es =
     let others = filter (changes old) es in
     elim (changes old w) as (λ c. ((q w.0 && c) || list_any q (paths_of others)) ≡ list_any q (paths_of (cond c (w ∷ others) others))) [
-      | true ↦ ap (λ b. b || list_any q (paths_of others)) (and_true (q w.0))
-      | false ↦ ap (λ b. b || list_any q (paths_of others)) (sym (never (q w.0)))
+      | true ↦ ap (λ b. b || list_any q (paths_of others)) (and-true (q w.0))
+      | false ↦ ap (λ b. b || list_any q (paths_of others)) (sym (false_and (q w.0)))
     ]
 
 written_all : (old : Stored) (p : Path) (d m : List ℕ) (es : List (Path × Fate)) → in_paths p (flat_map (path_written old d m) es) ≡ (is_name p.dataset d && list_any (eq_by_cmp path_cmp (path_at m p.name)) (paths_of (filter (changes old) es)))
-written_all old p d m [] = never (is_name p.dataset d)
+written_all old p d m [] = false_and (is_name p.dataset d)
 written_all old p d m (w ∷ es) =
     let is = eq_by_cmp path_cmp (path_at m p.name) in
     list_any-append (is_path p) (path_written old d m w) (flat_map (path_written old d m) es)
     ∙ ((λ i. written_one old p d m w i || written_all old p d m es i)
-    ∙ (and_or (is_name p.dataset d) (is w.0 && changes old w) (list_any is (paths_of (filter (changes old) es)))
+    ∙ (and_either (is_name p.dataset d) (is w.0 && changes old w) (list_any is (paths_of (filter (changes old) es)))
     ∙ ap (λ b. is_name p.dataset d && b) (one_kept old is w es)))
 
 in_written : (written : Written) (old : Stored) (p : Path) (d m : List ℕ) → in_paths p (paths_written written old d m) ≡ (is_name p.dataset d && is_written written old m p.name)
@@ -251,8 +231,8 @@ in_written written old p d m =
     written_all old p d m (map.entries written) ∙ ap (λ b. is_name p.dataset d && b) (changes_at written old (path_at m p.name))
 
 named_paths : (p : Path) (d : List ℕ) (names : List (List ℕ)) → in_paths p (each (path_at d) names) ≡ (is_name p.dataset d && is_in p.name names)
-named_paths p d [] = never (is_name p.dataset d)
-named_paths p d (n ∷ names) = (λ i. by_names p d n i || named_paths p d names i) ∙ and_or (is_name p.dataset d) (is_name p.name n) (is_in p.name names)
+named_paths p d [] = false_and (is_name p.dataset d)
+named_paths p d (n ∷ names) = (λ i. by_names p d n i || named_paths p d names i) ∙ and_either (is_name p.dataset d) (is_name p.name n) (is_in p.name names)
 
 in_stored : (old : Stored) (p : Path) (d m : List ℕ) → in_paths p (paths_stored old d m) ≡ (is_name p.dataset d && is_some (record_at old m p.name))
 in_stored old p d m = named_paths p d (names_in old m) ∙ ap (λ b. is_name p.dataset d && b) (listed old p.name m)
@@ -261,20 +241,20 @@ in_member : (written : Written) (old : Stored) (all : Bool) (p : Path) (d m : Li
 in_member written old all p d m =
     list_any-append (is_path p) (paths_written written old d m) (if all then paths_stored old d m else [])
     ∙ ((λ i. in_written written old p d m i || in_paths p (if all then paths_stored old d m else []))
-    ∙ (ap (λ b. (is_name p.dataset d && is_written written old m p.name) || b) (elim all as (λ all. in_paths p (if all then paths_stored old d m else []) ≡ (is_name p.dataset d && (all && is_some (record_at old m p.name)))) [ true ↦ in_stored old p d m | false ↦ never (is_name p.dataset d) ])
-    ∙ and_or (is_name p.dataset d) (is_written written old m p.name) (all && is_some (record_at old m p.name))))
+    ∙ (ap (λ b. (is_name p.dataset d && is_written written old m p.name) || b) (elim all as (λ all. in_paths p (if all then paths_stored old d m else []) ≡ (is_name p.dataset d && (all && is_some (record_at old m p.name)))) [ true ↦ in_stored old p d m | false ↦ false_and (is_name p.dataset d) ])
+    ∙ and_either (is_name p.dataset d) (is_written written old m p.name) (all && is_some (record_at old m p.name))))
 
 in_along : (written : Written) (old : Stored) (all : Bool) (p : Path) (d : List ℕ) (chain : List (List ℕ)) → in_paths p (paths_along written old all d chain)
     ≡ (is_name p.dataset d && list_any (λ m. is_written written old m p.name || (all && is_some (record_at old m p.name))) chain)
-in_along written old all p d [] = never (is_name p.dataset d)
+in_along written old all p d [] = false_and (is_name p.dataset d)
 in_along written old all p d (m ∷ chain) =
     list_any-append (is_path p) (paths_of_member written old all d m) (paths_along written old all d chain)
     ∙ ((λ i. in_member written old all p d m i || in_along written old all p d chain i)
-    ∙ and_or (is_name p.dataset d) (is_written written old m p.name || (all && is_some (record_at old m p.name))) (list_any (λ m. is_written written old m p.name || (all && is_some (record_at old m p.name))) chain))
+    ∙ and_either (is_name p.dataset d) (is_written written old m p.name || (all && is_some (record_at old m p.name))) (list_any (λ m. is_written written old m p.name || (all && is_some (record_at old m p.name))) chain))
 
 any_or : (p q : List ℕ → Bool) (xs : List (List ℕ)) → list_any (λ x. p x || q x) xs ≡ (list_any p xs || list_any q xs)
 any_or p q [] = refl
-any_or p q (x ∷ xs) = ap (λ b. (p x || q x) || b) (any_or p q xs) ∙ crossed_or (p x) (q x) (list_any p xs) (list_any q xs)
+any_or p q (x ∷ xs) = ap (λ b. (p x || q x) || b) (any_or p q xs) ∙ or_crossed (p x) (q x) (list_any p xs) (list_any q xs)
 
 -- a record that isn't written is there afterwards just where it was
 same_or : (written : Written) (old new : Stored) → IsPathByPath written old new → (m n : List ℕ) → (is_written written old m n || is_some (record_at old m n)) ≡ (is_written written old m n || is_some (record_at new m n))
@@ -294,7 +274,7 @@ unfolding reach_of
 unmanaged written old new h d n e =
     let w = is_written_on written old (chain_of old d false) n in
     let same = managed_alike written old new h d e in
-    (λ i. list_any (λ m. or_false (is_written written old m n) i) (chain_of old d false))
+    (λ i. list_any (λ m. or-false (is_written written old m n) i) (chain_of old d false))
     ∙ (twice_or w
     ∙ sym ((λ i. (w || (e i && has_record_on old (chain_of old d false) n)) || (is_written_on written old (sym same i) n || (is_written_on written old (sym same i) [] && has_record_on new (sym same i) n)))
     ∙ ap (λ b. (w || false) || (w || (b && has_record_on new (chain_of old d false) n))) e))
@@ -316,7 +296,7 @@ in_below written old new h p d =
       | true ↦ λ e.
           list_any-append (is_path p) (paths_along written old true d (chain_of old d false)) (paths_along written old true d (chain_of new d false))
           ∙ ((λ i. in_along written old true p d (chain_of old d false) i || in_along written old true p d (chain_of new d false) i)
-          ∙ (and_or (is_name p.dataset d) _ _ ∙ ap (λ b. is_name p.dataset d && b) (all_managed written old new h d p.name e)))
+          ∙ (and_either (is_name p.dataset d) _ _ ∙ ap (λ b. is_name p.dataset d && b) (all_managed written old new h d p.name e)))
       | false ↦ λ e. in_along written old false p d (chain_of old d false) ∙ ap (λ b. is_name p.dataset d && b) (unmanaged written old new h d p.name e)
     ] refl
 
@@ -325,7 +305,7 @@ unfolding is_touched reach_of
 in_dataset written old new h p d =
     elim (dataset_exists new d) as (λ b. in_paths p (if b then paths_below written old new d else []) ≡ (is_name p.dataset d && (b && reach_of written old new d p.name))) [
       | true ↦ in_below written old new h p d
-      | false ↦ never (is_name p.dataset d)
+      | false ↦ false_and (is_name p.dataset d)
     ]
     ∙ elim (is_name p.dataset d) as (λ b. is_name p.dataset d ≡ b → (b && (dataset_exists new d && reach_of written old new d p.name)) ≡ (b && (dataset_exists new p.dataset && reach_of written old new p.dataset p.name))) [
       | true ↦ λ e. let same = same_text p.dataset d (sym (texts_ties p.dataset d ∙ e)) in ap (λ k. dataset_exists new k && reach_of written old new k p.name) (sym same)
@@ -348,7 +328,7 @@ touched_reached written old new links h index p e =
     ∙ elim (is_reached written old old (chain_of old p.dataset false) p.name) as (λ b. is_reached written old old (chain_of old p.dataset false) p.name ≡ b → (b || is_reached written old new (chain_of new p.dataset false) p.name) ≡ true → list_any (wrote written old) (chain_of old p.dataset false) ≡ true) [
       | true ↦ λ r _. reach_wrote written old old (chain_of old p.dataset false) p.name r
       | false ↦ λ _ r. wrote_before 8 written old new h p.dataset (reach_wrote written old new (chain_of new p.dataset false) p.name r)
-    ] refl (second_of (dataset_exists new p.dataset) _ e)
+    ] refl (second_so (dataset_exists new p.dataset) _ e)
 
 pub found_touched : (change : Change) (old new : Store) (links : List Link) (left : Stored) (datasets : List (List ℕ)) (paths : List Path) → IsIndexOf old.records links → IsStoreAfter change old new → left ≡ new.records
     → datasets ≡ datasets_reached change.writes old.records links → paths ≡ paths_found change.writes old.records left datasets → paths ≡ touched_paths change.writes old.records new.records

@@ -8,7 +8,7 @@ use Rattle.std.specs.declared.cmp.Ordering.TheVariants.{Less, Equal, Greater}
 use Rattle.std.specs.Ordering.{eq_by_cmp, is_eq, ordering_then, ordering_reverse}
 use Rattle.std.specs.Cmp.{tied_itself}
 use Rattle.std.specs.Cmp.Lexicographic.{nat_list_cmp_total, same_text, texts_ties}
-use Rattle.std.proofs.lemmas.List.{take-append-drop}
+use Rattle.std.proofs.lemmas.List.{take-append-drop, nil_from_length}
 use Rattle.std.proofs.lemmas.List.Elements.{filter-append}
 use Rattle.std.proofs.lemmas.List.{map-append}
 use Rattle.std.proofs.lemmas.Option.{get_or_from_slice_get, slice_get_within}
@@ -16,12 +16,12 @@ use Rattle.acap_entries.specs.Orders.{octets_cmp, octets_eq}
 use Rattle.acap_entries.specs.Ranks.{Ascending, rank_of, item_at, with_item}
 use Rattle.acap_entries.proofs.RankLaws.{rank_holds}
 use Rattle.acap_entries.proofs.StoreLemmas.{octets_same}
+use Rattle.acap_entries.proofs.Logic.{Equal_from_is_eq, one_fewer, both_Equal}
 use Rattle.acap_inherit.specs.Index.{link_cmp, heirs_in}
 use Rattle.acap_inherit.specs.Touched.{ordered_among}
 use Rattle.acap_inherit.specs.Touching.{with_heirs}
 use Rattle.acap_inherit.specs.declared.link.Link.{Link}
 use Rattle.acap_inherit.proofs.IndexLemmas.{link_total}
-use Rattle.acap_inherit.proofs.TouchedLemmas.{both_equal}
 
 -- the key before all heirs of a base
 abbrev pub least_heir : List ℕ → Link
@@ -29,7 +29,7 @@ least_heir base = record { base = base; heir = [] }
 
 link_same : IsAntisymmetric link_cmp
 link_same a b e =
-    let parts = both_equal _ _ e in
+    let parts = both_Equal _ _ e in
     let base = octets_same _ _ parts.0 in
     let heir = octets_same _ _ parts.1 in
     λ i. record { base = base i; heir = heir i }
@@ -73,11 +73,6 @@ parts base n xs =
     ∙ (ap (each (λ (l : Link). l.heir)) (filter-append test (take n xs) (drop n xs))
     ∙ map-append (λ (l : Link). l.heir) (filter test (take n xs)) (filter test (drop n xs)))
 
-equal : (r : Ordering) → is_eq r ≡ true → r ≡ Equal
-equal Less e = cc
-equal Equal e = refl
-equal Greater e = cc
-
 -- the least key of a base is the pair itself, or less
 lower : (base other heir : List ℕ) → base ≡ other → (least_heir base ≡ record { base = other; heir = heir }) ⊎ (link_cmp (least_heir base) (record { base = other; heir = heir }) ≡ Less)
 lower base other [] e = inl (λ i. record { base = e i; heir = [] })
@@ -110,7 +105,7 @@ found_at (y ∷ ys) zero x e =
     ∙ ap (λ r. cond (is_eq r) (Some x) (item_at link_cmp x ys)) (tied_itself link_total x)
 found_at (y ∷ ys) (suc i) x e =
     elim (eq_by_cmp link_cmp x y) as (λ b. eq_by_cmp link_cmp x y ≡ b → cond b (Some y) (item_at link_cmp x ys) ≡ Some x) [
-      | true ↦ λ t. ap Some (sym (link_same x y (equal _ t)))
+      | true ↦ λ t. ap Some (sym (link_same x y (Equal_from_is_eq _ t)))
       | false ↦ λ _. found_at ys i x e
     ] refl
 
@@ -180,9 +175,6 @@ among_last R (y ∷ xs) acc x = ap (with_item R y) (among_last R xs acc x)
 
 -- ---- level by level
 
-one_fewer : (n i : ℕ) → i < n → n - i ≡ suc (n - (i + 1))
-one_fewer n i h = omega arith
-
 none_further : (k : ℕ) (links : List Link) (acc : List (List ℕ)) → with_heirs k links [] acc ≡ acc
 unfolding with_heirs
 none_further zero links acc = refl
@@ -198,15 +190,11 @@ next_level n i links level acc all heirs found lt e f h =
     (λ t. with_heirs (n - (i + 1)) links (e t) (f t))
     ∙ (sym (one_level (n - (i + 1)) links level acc) ∙ (ap (λ k. with_heirs k links level acc) (sym (one_fewer n i lt)) ∙ h))
 
-no_length : {A : Type 0} (xs : List A) → length xs ≡ 0 → xs ≡ []
-no_length [] e = refl
-no_length (x ∷ xs) e = absurd (omega arith)
-
 pub stopped : (n i : ℕ) (links : List Link) (level acc : List (List ℕ)) (all heirs found : List (List ℕ)) → i < n → heirs ≡ flat_map (heirs_in links) level → found ≡ ordered_among octets_cmp level acc
     → length heirs ≡ 0 → with_heirs (n - i) links level acc ≡ all → found ≡ all
 stopped n i links level acc all heirs found lt e f none h =
     sym (none_further (n - (i + 1)) links found)
-    ∙ (ap (λ level. with_heirs (n - (i + 1)) links level found) (sym (no_length heirs none)) ∙ next_level n i links level acc all heirs found lt e f h)
+    ∙ (ap (λ level. with_heirs (n - (i + 1)) links level found) (sym (nil_from_length heirs none)) ∙ next_level n i links level acc all heirs found lt e f h)
 
 pub finished : (n i : ℕ) (links : List Link) (level acc : List (List ℕ)) (all found : List (List ℕ)) → n ≤ i → found ≡ ordered_among octets_cmp level acc
     → with_heirs (n - i) links level acc ≡ all → found ≡ all

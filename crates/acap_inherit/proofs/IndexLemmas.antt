@@ -9,7 +9,7 @@ use Rattle.std.specs.declared.cmp.Ordering.TheVariants.{Less, Equal, Greater}
 use Rattle.std.specs.Ordering.{eq_by_cmp, is_eq}
 use Rattle.std.specs.Cmp.{IsTotalOrder, then_total, alike_right, eq_by_cmp_equiv}
 use Rattle.std.specs.Cmp.Lexicographic.{on_texts, texts_ties, same_text}
-use Rattle.std.proofs.Math.Bool.{or_assoc}
+use Rattle.std.proofs.Math.Bool.{or_assoc, and-true}
 use Rattle.std.proofs.Math.Dec.{eqb-suc-zero}
 use Rattle.std.proofs.lemmas.List.Folds.{list_any-append}
 use Rattle.acap_entries.specs.Changes.{IsStoreAfter}
@@ -19,12 +19,12 @@ use Rattle.acap_entries.specs.Store.{Store, Stored, Written, IsPathByPath, path_
 use Rattle.acap_entries.specs.declared.change.Change.{Change}
 use Rattle.acap_entries.specs.declared.path.Path.{Path}
 use Rattle.acap_entries.specs.declared.fate.Fate.{Fate}
+use Rattle.acap_entries.proofs.Logic.{either_and, false_and, is_eq-then}
 use Rattle.acap_inherit.specs.Chains.{base_at}
 use Rattle.acap_inherit.specs.Index.{link_cmp, is_linked, is_base, IsIndexOf, link_at, links_of, links_written, without_all, with_all, index_with}
 use Rattle.acap_inherit.specs.Records.{record_at}
 use Rattle.acap_inherit.specs.Touched.{is_written}
 use Rattle.acap_inherit.specs.declared.link.Link.{Link}
-use Rattle.acap_inherit.proofs.NamesLaws.{tied_parts}
 use Rattle.acap_inherit.proofs.UnreadLaws.{unwritten}
 use Rattle.acap_inherit.proofs.WrittenLemmas.{has_fate, no_fate}
 
@@ -112,28 +112,20 @@ without_last (y ∷ taken) links x = ap (without_item link_cmp y) (without_last 
 
 -- ---- the pairs of written management entries
 
-pub and_true : (a : Bool) → (a && true) ≡ a
-and_true true = refl
-and_true false = refl
-
 swap_and : (a b : Bool) → ((a && b) || false) ≡ (b && a)
 swap_and true true = refl
 swap_and true false = refl
 swap_and false true = refl
 swap_and false false = refl
 
-pub never : (a : Bool) → false ≡ (a && false)
-never true = refl
-never false = refl
-
 is_same : List ℕ → List ℕ → Bool
 is_same heir dataset = is_eq (octets_cmp heir dataset)
 
 one_at : (dataset : List ℕ) (found : Option (List ℕ)) (base heir : List ℕ) → is_linked (link_at dataset found) base heir ≡ (is_same heir dataset && is_base found base)
 unfolding is_same
-one_at dataset None base heir = never (is_eq (octets_cmp heir dataset))
+one_at dataset None base heir = false_and (is_eq (octets_cmp heir dataset))
 one_at dataset (Some found) base heir =
-    ap (λ b. b || false) (tied_parts (octets_cmp base found) (octets_cmp heir dataset))
+    ap (λ b. b || false) (is_eq-then (octets_cmp base found) (octets_cmp heir dataset))
     ∙ (swap_and (is_eq (octets_cmp base found)) (is_eq (octets_cmp heir dataset))
     ∙ ap (λ b. is_eq (octets_cmp heir dataset) && b) (sym (texts_ties base found)))
 
@@ -153,17 +145,10 @@ unfolding is_same
 one_written records dataset [] base heir =
     one_at dataset (base_at records dataset) base heir
     ∙ (of_same records dataset base heir
-    ∙ ap (λ b. b && is_base (base_at records heir) base) (sym (tied_parts (octets_cmp heir dataset) Equal ∙ and_true (is_eq (octets_cmp heir dataset)))))
+    ∙ ap (λ b. b && is_base (base_at records heir) base) (sym (is_eq-then (octets_cmp heir dataset) Equal ∙ and-true (is_eq (octets_cmp heir dataset)))))
 one_written records dataset (x ∷ xs) base heir =
     ap (λ b. is_linked (if b then link_at dataset (base_at records dataset) else []) base heir) (eqb-suc-zero (length xs))
-    ∙ sym (ap (λ b. b && is_base (base_at records heir) base) (tied_parts (octets_cmp heir dataset) Less ∙ sym (never (is_eq (octets_cmp heir dataset)))))
-
-pub either_and : (a b c : Bool) → ((a && c) || (b && c)) ≡ ((a || b) && c)
-either_and true true true = refl
-either_and true true false = refl
-either_and true false true = refl
-either_and true false false = refl
-either_and false b c = refl
+    ∙ sym (ap (λ b. b && is_base (base_at records heir) base) (is_eq-then (octets_cmp heir dataset) Less ∙ sym (false_and (is_eq (octets_cmp heir dataset)))))
 
 all_written : (records : Stored) (es : List (Path × Fate)) (base heir : List ℕ) → is_linked (flat_map (λ w. links_of records w.0) es) base heir ≡ (list_any (eq_by_cmp path_cmp (managed heir)) (each (λ e. e.0) es) && is_base (base_at records heir) base)
 all_written records [] base heir = refl

@@ -7,14 +7,14 @@ mod HeirLemmas
 mod IndexLemmas
 mod MergeLemmas
 mod Moments
-mod NameLemmas
+pub mod NameLemmas
 mod NamesLaws
 mod PartLemmas
 mod ReachLemmas
 mod ReadingLaws
 mod RepeatLaws
 mod Sampling
-mod TouchedLemmas
+pub mod TouchedLemmas
 mod TouchedSamples
 pub mod UnreadLaws
 pub mod WrittenLemmas

@@ -1,47 +1,29 @@
 -- Ascending lists of names are merged by taking the least of their first names again and again.
-use Rattle.std.proofs.Common.{◌≡◌, ℕ, Bool, true, false, not, cond, ◌&&◌, ◌||◌, List, [], ◌∷◌, ◌++◌, map, length, Option, Some, None, is_some, arith, append-nil, refl, sym, ap, subst, ◌∙◌}
+use Rattle.std.proofs.Common.{◌≡◌, ℕ, Bool, true, false, not, cond, ◌&&◌, ◌||◌, List, [], ◌∷◌, ◌++◌, map, length, Option, Some, None, is_some, append-nil, refl, sym, ap, subst, ◌∙◌}
 use Rattle.std.specs.Prelude.{slice_get, take, drop}
 use Rattle.std.specs.FinMap as names
-use Rattle.std.specs.FinMap.{IsAntisymmetric, slice_cmp-IsAntisymmetric, nat_cmp-IsAntisymmetric, put}
+use Rattle.std.specs.FinMap.{put}
 use Rattle.std.specs.FinMap.Entries.{by_order, is_some-find}
 use Rattle.std.specs.List.{list_all, list_any, flat_map, refill}
 use Rattle.std.specs.declared.cmp.Ordering.{Ordering}
 use Rattle.std.specs.declared.cmp.Ordering.TheVariants.{Less, Equal, Greater}
 use Rattle.std.specs.Ordering.{is_eq, is_lt, is_gt, eq_by_cmp, ordering_reverse}
-use Rattle.std.specs.Cmp.{IsTotalOrder, tied_itself, eq_by_cmp_equiv, upto}
+use Rattle.std.specs.Cmp.{IsTotalOrder, tied_itself, eq_by_cmp_equiv, upto, second_so, first_so}
 use Rattle.std.specs.Cmp.Lexicographic.{texts_ties, nat_list_cmp_total, same_text}
-use Rattle.std.proofs.lemmas.List.{length-map}
+use Rattle.std.proofs.lemmas.List.{length-map, nil_from_length}
 use Rattle.std.proofs.Math.Seq.{drop-length, take-length}
 use Rattle.std.proofs.lemmas.List.Folds.{list_any-append, list_all-append}
+use Rattle.std.proofs.lemmas.Bool.{and_from, or_right, or_left}
 use Rattle.acap_entries.specs.Orders.{octets_cmp, octets_eq}
+use Rattle.acap_entries.proofs.Logic.{Less_from_is_lt}
+use Rattle.acap_entries.proofs.StoreLemmas.{octets_same}
 use Rattle.acap_inherit.specs.EntryNames.{set_of, union_of}
 use Rattle.acap_inherit.specs.Merging.{is_below, is_rising, past_name, is_ended, is_first, is_least, IsLeast, lesser}
 
 total : IsTotalOrder octets_cmp
 total = nat_list_cmp_total
 
-same_names : IsAntisymmetric octets_cmp
-same_names = slice_cmp-IsAntisymmetric nat_cmp-IsAntisymmetric
-
 -- ---- tests
-
-pub first_of : (a b : Bool) → (a && b) ≡ true → a ≡ true
-first_of true b e = refl
-first_of false b e = e
-
-pub second_of : (a b : Bool) → (a && b) ≡ true → b ≡ true
-second_of true b e = e
-second_of false true e = refl
-second_of false false e = e
-
-pub both_of : (a b : Bool) → a ≡ true → b ≡ true → (a && b) ≡ true
-both_of true b e f = f
-both_of false b e f = e
-
-less : (r : Ordering) → is_lt r ≡ true → r ≡ Less
-less Less e = refl
-less Equal e = cc
-less Greater e = cc
 
 -- a test that isn't passed by a name before it, and doesn't tie with it, is passed behind it
 greater : (r : Ordering) → not (is_lt r) ≡ true → is_eq r ≡ false → r ≡ Greater
@@ -64,28 +46,28 @@ apart false false c d e = refl
 below_less : (m x : List ℕ) (xs : List (List ℕ)) → octets_cmp m x ≡ Less → is_below x xs ≡ true → is_below m xs ≡ true
 below_less m x [] h b = refl
 below_less m x (y ∷ xs) h b =
-    both_of _ _ (ap is_lt (total.trans m x y h (less _ (first_of _ _ b)))) (below_less m x xs h (second_of _ _ b))
+    and_from _ _ (ap is_lt (total.trans m x y h (Less_from_is_lt _ (first_so _ _ b)))) (below_less m x xs h (second_so _ _ b))
 
 below_append : (m : List ℕ) (xs ys : List (List ℕ)) → is_below m xs ≡ true → is_below m ys ≡ true → is_below m (xs ++ ys) ≡ true
 below_append m [] ys a b = b
-below_append m (x ∷ xs) ys a b = both_of _ _ (first_of _ _ a) (below_append m xs ys (second_of _ _ a) b)
+below_append m (x ∷ xs) ys a b = and_from _ _ (first_so _ _ a) (below_append m xs ys (second_so _ _ a) b)
 
 -- what is left of a rising list whose first name isn't lesser
 above_passed : (m : List ℕ) (xs : List (List ℕ)) → is_rising xs ≡ true → is_least m xs ≡ true → is_below m (past_name m xs) ≡ true
 above_passed m [] r l = refl
 above_passed m (x ∷ xs) r l =
     elim (octets_eq m x) as (λ b. octets_eq m x ≡ b → is_below m (cond b xs (x ∷ xs)) ≡ true) [
-      | true ↦ λ e. subst (λ k. is_below k xs ≡ true) (sym (same_text m x (sym e))) (first_of _ _ r)
+      | true ↦ λ e. subst (λ k. is_below k xs ≡ true) (sym (same_text m x (sym e))) (first_so _ _ r)
       | false ↦ λ e.
           let tied : is_eq (octets_cmp x m) ≡ false = (eq_by_cmp_equiv total).symm x m ∙ (sym (texts_ties m x) ∙ e) in
           let after : octets_cmp m x ≡ Less = total.antisymm m x ∙ ap ordering_reverse (greater _ l tied) in
-          both_of _ _ (ap is_lt after) (below_less m x xs after (first_of _ _ r))
+          and_from _ _ (ap is_lt after) (below_less m x xs after (first_so _ _ r))
     ] refl
 
 pub rising_passed : (m : List ℕ) (xs : List (List ℕ)) → is_rising xs ≡ true → is_rising (past_name m xs) ≡ true
 rising_passed m [] r = refl
 rising_passed m (x ∷ xs) r =
-    elim (octets_eq m x) as (λ b. is_rising (cond b xs (x ∷ xs)) ≡ true) [ true ↦ second_of _ _ r | false ↦ r ]
+    elim (octets_eq m x) as (λ b. is_rising (cond b xs (x ∷ xs)) ≡ true) [ true ↦ second_so _ _ r | false ↦ r ]
 
 -- each of some lists rises
 abbrev pub all_rising : List (List (List ℕ)) → Bool
@@ -93,7 +75,7 @@ all_rising lists = list_all is_rising lists
 
 pub all_rising_passed : (m : List ℕ) (lists : List (List (List ℕ))) → all_rising lists ≡ true → all_rising (map (past_name m) lists) ≡ true
 all_rising_passed m [] r = refl
-all_rising_passed m (xs ∷ lists) r = both_of _ _ (rising_passed m xs (first_of _ _ r)) (all_rising_passed m lists (second_of _ _ r))
+all_rising_passed m (xs ∷ lists) r = and_from _ _ (rising_passed m xs (first_so _ _ r)) (all_rising_passed m lists (second_so _ _ r))
 
 abbrev pub all_of : List (List (List ℕ)) → List (List ℕ)
 all_of lists = flat_map (λ names. names) lists
@@ -101,7 +83,7 @@ all_of lists = flat_map (λ names. names) lists
 above_all : (m : List ℕ) (lists : List (List (List ℕ))) → all_rising lists ≡ true → list_all (is_least m) lists ≡ true → is_below m (all_of (map (past_name m) lists)) ≡ true
 above_all m [] r l = refl
 above_all m (xs ∷ lists) r l =
-    below_append m (past_name m xs) _ (above_passed m xs (first_of _ _ r) (first_of _ _ l)) (above_all m lists (second_of _ _ r) (second_of _ _ l))
+    below_append m (past_name m xs) _ (above_passed m xs (first_so _ _ r) (first_so _ _ l)) (above_all m lists (second_so _ _ r) (second_so _ _ l))
 
 -- ---- which names there are
 
@@ -142,7 +124,7 @@ marked (Some a) (Some b) e = refl
 
 -- lists of the same names have the same set
 pub same_sets : (xs ys : List (List ℕ)) → ((q : List ℕ) → list_any (is_name q) xs ≡ list_any (is_name q) ys) → set_of xs ≡ set_of ys
-same_sets xs ys h = names.same_map total same_names _ _ (λ q. marked _ _ (in_set xs q ∙ (h q ∙ sym (in_set ys q))))
+same_sets xs ys h = names.same_map total octets_same _ _ (λ q. marked _ _ (in_set xs q ∙ (h q ∙ sym (in_set ys q))))
 
 marked_or : (b : Bool) (x : Option (Unit {0})) → is_some (cond b (Some tt) x) ≡ (b || is_some x)
 marked_or true x = refl
@@ -152,7 +134,7 @@ marked_or false x = refl
 same_set : (m : List ℕ) (lists : List (List (List ℕ))) → list_any (is_first m) lists ≡ true → set_of (all_of lists) ≡ names.insert (set_of (all_of (map (past_name m) lists))) m tt
 same_set m lists f =
     let rest = all_of (map (past_name m) lists) in
-    names.same_map total same_names _ _ (λ q. marked _ _
+    names.same_map total octets_same _ _ (λ q. marked _ _
     (in_set (all_of lists) q
     ∙ (any_all m q lists
     ∙ (ap (λ b. b && is_name q m || list_any (is_name q) rest) f
@@ -166,8 +148,8 @@ behind : (m q : List ℕ) (xs : List (List ℕ)) → is_below m xs ≡ true → 
 behind m q [] b a = cc
 behind m q (x ∷ xs) b a =
     elim (is_name q x) as (λ t. is_name q x ≡ t → (t || list_any (is_name q) xs) ≡ true → octets_cmp m q ≡ Less) [
-      | true ↦ λ e _. ap (octets_cmp m) (same_text q x (sym (texts_ties q x ∙ e))) ∙ less _ (first_of _ _ b)
-      | false ↦ λ e a. behind m q xs (second_of _ _ b) a
+      | true ↦ λ e _. ap (octets_cmp m) (same_text q x (sym (texts_ties q x ∙ e))) ∙ Less_from_is_lt _ (first_so _ _ b)
+      | false ↦ λ e a. behind m q xs (second_so _ _ b) a
     ] refl a
 
 put_front : (m : List ℕ) (es : List (List ℕ × Unit {0})) → ((q : List ℕ) → list_any (is_name q) (map (λ e. e.0) es) ≡ true → octets_cmp m q ≡ Less) → put octets_cmp m tt es ≡ (m, tt) ∷ es
@@ -185,23 +167,19 @@ least_first m xs b =
 pub merged_next : (m : List ℕ) (lists : List (List (List ℕ))) → all_rising lists ≡ true → IsLeast (Some m) lists → union_of lists ≡ m ∷ union_of (map (past_name m) lists)
 unfolding union_of
 merged_next m lists r l =
-    ap (λ s. names.keys s) (same_set m lists (second_of _ _ l))
-    ∙ least_first m (all_of (map (past_name m) lists)) (above_all m lists r (first_of _ _ l))
+    ap (λ s. names.keys s) (same_set m lists (second_so _ _ l))
+    ∙ least_first m (all_of (map (past_name m) lists)) (above_all m lists r (first_so _ _ l))
 
 ended_none : (lists : List (List (List ℕ))) → list_all is_ended lists ≡ true → all_of lists ≡ []
 ended_none [] e = refl
 ended_none ([] ∷ lists) e = ended_none lists e
 ended_none ((x ∷ xs) ∷ lists) e = cc
 
-no_length : {A : Type 0} (xs : List A) → length xs ≡ 0 → xs ≡ []
-no_length [] e = refl
-no_length (x ∷ xs) e = absurd (omega arith)
-
 pub merged_ended : (lists : List (List (List ℕ))) → IsLeast None lists → union_of lists ≡ []
 unfolding union_of
 merged_ended lists e =
     ap (λ names_of. names.keys (set_of names_of)) (ended_none lists e)
-    ∙ ap (map (λ e. e.0)) (no_length _ (sym (names.len-entries {R = octets_cmp} (set_of [])) ∙ names.len-empty octets_cmp (Unit {0})))
+    ∙ ap (map (λ e. e.0)) (nil_from_length _ (sym (names.len-entries {R = octets_cmp} (set_of [])) ∙ names.len-empty octets_cmp (Unit {0})))
 
 -- ---- the least of the first names of lists, one list after the other
 
@@ -220,12 +198,12 @@ least_lower : (m n : List ℕ) (xs : List (List ℕ)) → is_lt (octets_cmp n m)
 least_lower m n [] h l = refl
 least_lower m n (x ∷ xs) h l =
     let not_above : is_gt (octets_cmp m x) ≡ false = ap is_gt (total.antisymm m x) ∙ unturned (octets_cmp x m) l in
-    let level : is_gt (octets_cmp n x) ≡ false = upto total n m x (ap is_gt (less _ h)) not_above in
+    let level : is_gt (octets_cmp n x) ≡ false = upto total n m x (ap is_gt (Less_from_is_lt _ h)) not_above in
     back (octets_cmp n x) (octets_cmp x n) (total.antisymm x n) level
 
 all_lower : (m n : List ℕ) (lists : List (List (List ℕ))) → is_lt (octets_cmp n m) ≡ true → list_all (is_least m) lists ≡ true → list_all (is_least n) lists ≡ true
 all_lower m n [] h l = refl
-all_lower m n (xs ∷ lists) h l = both_of _ _ (least_lower m n xs h (first_of _ _ l)) (all_lower m n lists h (second_of _ _ l))
+all_lower m n (xs ∷ lists) h l = and_from _ _ (least_lower m n xs h (first_so _ _ l)) (all_lower m n lists h (second_so _ _ l))
 
 pub itself : (m : List ℕ) → octets_eq m m ≡ true
 itself m = texts_ties m m ∙ ap is_eq (tied_itself total m)
@@ -236,15 +214,7 @@ none_least m ([] ∷ lists) e = none_least m lists e
 none_least m ((x ∷ xs) ∷ lists) e = cc
 
 all_snoc : (p : List (List ℕ) → Bool) (lists : List (List (List ℕ))) (xs : List (List ℕ)) → list_all p lists ≡ true → p xs ≡ true → list_all p (lists ++ xs ∷ []) ≡ true
-all_snoc p lists xs a b = list_all-append p lists (xs ∷ []) ∙ both_of _ _ a (both_of _ _ b refl)
-
-pub or_left : (a b : Bool) → a ≡ true → (a || b) ≡ true
-or_left true b e = refl
-or_left false b e = cc
-
-pub or_right : (a b : Bool) → b ≡ true → (a || b) ≡ true
-or_right true b e = refl
-or_right false b e = e
+all_snoc p lists xs a b = list_all-append p lists (xs ∷ []) ∙ and_from _ _ a (and_from _ _ b refl)
 
 any_before : (p : List (List ℕ) → Bool) (lists : List (List (List ℕ))) (xs : List (List ℕ)) → list_any p lists ≡ true → list_any p (lists ++ xs ∷ []) ≡ true
 any_before p lists xs a = list_any-append p lists (xs ∷ []) ∙ or_left _ _ a
@@ -256,16 +226,16 @@ pub least_more : (least : Option (List ℕ)) (lists : List (List (List ℕ))) (x
 least_more None lists [] l = all_snoc is_ended lists [] l refl
 least_more None lists (x ∷ xs) l =
     let self : not (is_lt (octets_cmp x x)) ≡ true = ap (λ r. not (is_lt r)) (tied_itself total x) in
-    both_of _ _ (all_snoc (is_least x) lists (x ∷ xs) (none_least x lists l) self) (any_last (is_first x) lists (x ∷ xs) (itself x))
+    and_from _ _ (all_snoc (is_least x) lists (x ∷ xs) (none_least x lists l) self) (any_last (is_first x) lists (x ∷ xs) (itself x))
 least_more (Some m) lists [] l =
-    both_of _ _ (all_snoc (is_least m) lists [] (first_of _ _ l) refl) (any_before (is_first m) lists [] (second_of _ _ l))
+    and_from _ _ (all_snoc (is_least m) lists [] (first_so _ _ l) refl) (any_before (is_first m) lists [] (second_so _ _ l))
 least_more (Some m) lists (x ∷ xs) l =
     elim (is_lt (octets_cmp x m)) as (λ b. is_lt (octets_cmp x m) ≡ b → IsLeast (cond b (Some x) (Some m)) (lists ++ (x ∷ xs) ∷ [])) [
       | true ↦ λ e.
           let self : not (is_lt (octets_cmp x x)) ≡ true = ap (λ r. not (is_lt r)) (tied_itself total x) in
-          both_of _ _ (all_snoc (is_least x) lists (x ∷ xs) (all_lower m x lists e (first_of _ _ l)) self) (any_last (is_first x) lists (x ∷ xs) (itself x))
+          and_from _ _ (all_snoc (is_least x) lists (x ∷ xs) (all_lower m x lists e (first_so _ _ l)) self) (any_last (is_first x) lists (x ∷ xs) (itself x))
       | false ↦ λ e.
-          both_of _ _ (all_snoc (is_least m) lists (x ∷ xs) (first_of _ _ l) (ap not e)) (any_before (is_first m) lists (x ∷ xs) (second_of _ _ l))
+          and_from _ _ (all_snoc (is_least m) lists (x ∷ xs) (first_so _ _ l) (ap not e)) (any_before (is_first m) lists (x ∷ xs) (second_so _ _ l))
     ] refl
 
 -- what is written over all of a list is the list

@@ -5,28 +5,22 @@ use Rattle.std.specs.FinMap as names
 use Rattle.std.specs.FinMap.{is_sorted}
 use Rattle.std.specs.FinMap.Entries.{below_all}
 use Rattle.std.specs.List.{list_any}
-use Rattle.std.specs.Ordering.{eq_by_cmp, is_eq, ordering_then}
-use Rattle.std.specs.declared.cmp.Ordering.{Ordering}
-use Rattle.std.specs.declared.cmp.Ordering.TheVariants.{Less, Equal, Greater}
+use Rattle.std.specs.Ordering.{eq_by_cmp}
 use Rattle.std.specs.Cmp.Lexicographic.{texts_ties}
 use Rattle.std.proofs.lemmas.List.Folds.{list_any-append}
+use Rattle.std.proofs.lemmas.Bool.{and_from}
 use Rattle.acap_entries.specs.Orders.{octets_cmp, octets_eq}
 use Rattle.acap_entries.specs.Store.{Stored, path_cmp}
 use Rattle.acap_entries.specs.declared.path.Path.{Path}
 use Rattle.acap_entries.specs.declared.record.Record.{Record}
+use Rattle.acap_entries.proofs.Logic.{is_eq-then, first_T, second_T, true_from_T}
 use Rattle.acap_inherit.specs.EntryNames.{names_in, set_of, union_of, names_on}
 use Rattle.acap_inherit.specs.Merging.{is_below, is_rising}
 use Rattle.acap_inherit.specs.Records.{record_at}
 use Rattle.acap_inherit.specs.Laws.{NamesLaw}
-use Rattle.acap_inherit.proofs.MergeLemmas.{is_name, all_of, in_set, same_sets, both_of}
-use Rattle.acap_inherit.proofs.NameLemmas.{first, second, yes}
+use Rattle.acap_inherit.proofs.MergeLemmas.{is_name, all_of, in_set, same_sets}
 
 -- ---- a name is listed in a dataset exactly where there is a record
-
-pub tied_parts : (a b : Ordering) → is_eq (ordering_then a b) ≡ (is_eq a && is_eq b)
-tied_parts Less b = refl
-tied_parts Equal b = refl
-tied_parts Greater b = refl
 
 abbrev path_at : List ℕ → List ℕ → Path
 path_at dataset name = record { dataset = dataset; name = name }
@@ -41,7 +35,7 @@ any_filtered q d (e ∷ es) =
       | true ↦ ap (λ b. is_name q e.0.name || b) (any_filtered q d es)
       | false ↦ any_filtered q d es
     ]
-    ∙ ap (λ b. b || behind) (sym (tied_parts (octets_cmp d e.0.dataset) (octets_cmp q e.0.name))))
+    ∙ ap (λ b. b || behind) (sym (is_eq-then (octets_cmp d e.0.dataset) (octets_cmp q e.0.name))))
 
 pub listed : (records : Stored) (q d : List ℕ) → list_any (is_name q) (names_in records d) ≡ is_some (record_at records d q)
 listed records q d = any_filtered q d (names.entries records) ∙ sym (names.contains_key-keys records (path_at d q))
@@ -62,11 +56,11 @@ same_names_on old new a b h =
 
 below_keys : (x : List ℕ) (es : List (List ℕ × Unit {0})) → T (below_all octets_cmp x es) → is_below x (map (λ e. e.0) es) ≡ true
 below_keys x [] h = refl
-below_keys x (e ∷ es) h = both_of _ _ (yes _ (first _ _ h)) (below_keys x es (second _ _ h))
+below_keys x (e ∷ es) h = and_from _ _ (true_from_T _ (first_T _ _ h)) (below_keys x es (second_T _ _ h))
 
 rising_keys : (es : List (List ℕ × Unit {0})) → T (is_sorted octets_cmp es) → is_rising (map (λ e. e.0) es) ≡ true
 rising_keys [] h = refl
-rising_keys (e ∷ es) h = both_of _ _ (below_keys e.0 es (first _ _ h)) (rising_keys es (second _ _ h))
+rising_keys (e ∷ es) h = and_from _ _ (below_keys e.0 es (first_T _ _ h)) (rising_keys es (second_T _ _ h))
 
 names_of : (records : Stored) (chain : List (List ℕ)) (q : List ℕ) → list_any (octets_eq q) (names_on records chain) ≡ list_any (λ d. is_some (record_at records d q)) chain
 unfolding union_of

@@ -7,6 +7,7 @@ use Rattle.std.specs.List.{list_any, flat_map}
 use Rattle.std.specs.Cmp.Lexicographic.{nat_list_cmp_total, same_text, texts_ties}
 use Rattle.std.proofs.lemmas.List.{at_drop_more, drop_all}
 use Rattle.std.proofs.lemmas.List.Folds.{list_any-append}
+use Rattle.std.proofs.Math.Bool.{or-false, and-true}
 use Rattle.acap_entries.specs.Changes.{IsStoreAfter}
 use Rattle.acap_entries.specs.Datasets.{dataset_exists}
 use Rattle.acap_entries.specs.Orders.{octets_cmp, octets_eq}
@@ -15,15 +16,15 @@ use Rattle.acap_entries.specs.Store.{Store, Stored, Written}
 use Rattle.acap_entries.specs.declared.change.Change.{Change}
 use Rattle.acap_entries.specs.declared.fate.Fate.{Fate}
 use Rattle.acap_entries.specs.declared.path.Path.{Path}
+use Rattle.acap_entries.proofs.Logic.{first_not, second_not, or_regrouped, false_and}
 use Rattle.acap_inherit.specs.Chains.{base_at, onward, chain_within, chain_of}
 use Rattle.acap_inherit.specs.Index.{link_cmp, is_base, IsIndexOf, heirs_in}
 use Rattle.acap_inherit.specs.Reaching.{lies_in, touched_among, is_any, is_inherited, is_known, is_written_in, AreWritten, is_any_inherited, writes_in, Notes}
 use Rattle.acap_inherit.specs.Touched.{by_octets, octets_total, in_order, ordered_among, touched_paths, datasets_touched, touched_at}
 use Rattle.acap_inherit.specs.Touching.{changes, datasets_written, datasets_reached, paths_in, paths_found}
 use Rattle.acap_inherit.specs.declared.link.Link.{Link}
-use Rattle.acap_inherit.proofs.FoundLemmas.{any_among, is_in, any_heirs, wrote, reached_datasets, wrote_at, or_false, in_datasets, touched_reached, name_turned, one_kept}
+use Rattle.acap_inherit.proofs.FoundLemmas.{any_among, is_in, any_heirs, wrote, reached_datasets, wrote_at, in_datasets, touched_reached, name_turned, one_kept}
 use Rattle.acap_inherit.proofs.HeirLemmas.{least_heir, from_first, none_left, no_more_heirs, one_heir}
-use Rattle.acap_inherit.proofs.IndexLemmas.{never, and_true}
 use Rattle.acap_inherit.proofs.MergeLemmas.{is_name, itself}
 use Rattle.acap_inherit.proofs.PartLemmas.{kept_rises, any_part, touched_dataset_in, any_each, swapped}
 use Rattle.acap_inherit.proofs.TouchedLemmas.{is_path, same_paths, any_order, order_rises, same_list, any_touched, touched_rises, absorbed}
@@ -50,20 +51,12 @@ module _ (base : List ℕ) (xs : List Link) (n : ℕ) (a : Ascending link_cmp xs
 
 -- ---- where nothing inherits from a written dataset
 
-first_no : (a b : Bool) → (a || b) ≡ false → a ≡ false
-first_no true b e = cc
-first_no false b e = refl
-
-second_no : (a b : Bool) → (a || b) ≡ false → b ≡ false
-second_no true b e = cc
-second_no false b e = e
-
 no_heir : (links : List Link) (known : List (Bor (List ℕ))) (base : List ℕ) → is_any_inherited links known ≡ false → is_known known base ≡ true → is_inherited links base ≡ false
 no_heir links [] base none is = cc
 no_heir links (k ∷ known) base none is =
     elim (octets_eq k.now base) as (λ b. octets_eq k.now base ≡ b → (b || is_known known base) ≡ true → is_inherited links base ≡ false) [
-      | true ↦ λ t _. ap (is_inherited links) (sym (same_text k.now base (sym t))) ∙ first_no _ _ none
-      | false ↦ λ _ s. no_heir links known base (second_no _ _ none) s
+      | true ↦ λ t _. ap (is_inherited links) (sym (same_text k.now base (sym t))) ∙ first_not _ _ none
+      | false ↦ λ _ s. no_heir links known base (second_not _ _ none) s
     ] refl is
 
 one_any : (heir : List ℕ) (heirs : List (List ℕ)) → is_in heir heirs ≡ true → is_any heirs ≡ true
@@ -111,7 +104,7 @@ has_touched change old new links left d index h same =
     ∙ (ap (λ b. b && dataset_exists new.records d) (sym (reached_datasets change.writes old.records links index d))
     ∙ (sym (touched_dataset_in change.writes old.records new.records links h.paths index d)
     ∙ (sym (any_among octets_cmp nat_list_cmp_total d (each (λ (p : Path). p.dataset) (touched_paths change.writes old.records new.records)) []
-    ∙ (or_false _ ∙ any_each (is_name d) (λ (p : Path). p.dataset) (touched_paths change.writes old.records new.records)))
+    ∙ (or-false _ ∙ any_each (is_name d) (λ (p : Path). p.dataset) (touched_paths change.writes old.records new.records)))
     ∙ (λ i. list_any (λ m. sym (texts_ties d m) i) (datasets_touched change.writes old.records new.records)))))
 
 -- where nothing inherits from a written dataset, nothing is touched in another one
@@ -124,7 +117,7 @@ touches_none change old new links known d index are none not h =
 -- an only dataset is the one that is known
 pub alone_known : (known : List (Bor (List ℕ))) (other : Bor (List ℕ)) (d : List ℕ) → length known < 2 → octets_eq (slice_index_or known 0 other).now d ≡ false → is_known known d ≡ false
 alone_known [] other d few e = refl
-alone_known (k ∷ []) other d few e = or_false (octets_eq k.now d) ∙ e
+alone_known (k ∷ []) other d few e = or-false (octets_eq k.now d) ∙ e
 alone_known (k ∷ l ∷ ks) other d few e = absurd (omega (arith, few))
 
 -- ---- the touched paths of some datasets
@@ -184,35 +177,31 @@ known_already old known w is d =
     elim (octets_eq w.0.dataset d) as (λ b. octets_eq w.0.dataset d ≡ b → is_known known d ≡ (is_known known d || (b && changes old w))) [
       | true ↦ λ e. (let here : is_known known d ≡ true = ap (is_known known) (sym (same_text w.0.dataset d (sym e))) ∙ is in
           here ∙ sym (ap (λ b. b || (true && changes old w)) here))
-      | false ↦ λ _. sym (or_false (is_known known d))
+      | false ↦ λ _. sym (or-false (is_known known d))
     ] refl
 
 pub changes_nothing : (old : Stored) (known : List (Bor (List ℕ))) (w : Path × Fate) → changes old w ≡ false → Notes w old known known
 changes_nothing old known w e d =
-    sym (or_false (is_known known d)) ∙ ap (λ b. is_known known d || b) (never (octets_eq w.0.dataset d) ∙ ap (λ b. octets_eq w.0.dataset d && b) (sym e))
+    sym (or-false (is_known known d)) ∙ ap (λ b. is_known known d || b) (false_and (octets_eq w.0.dataset d) ∙ ap (λ b. octets_eq w.0.dataset d && b) (sym e))
 
 pub one_more : (old : Stored) (known : List (Bor (List ℕ))) (w : Path × Fate) (k : Bor (List ℕ)) → k.now ≡ w.0.dataset → changes old w ≡ true → Notes w old known (known ++ k ∷ [])
 one_more old known w k same e d =
     list_any-append (λ (o : Bor (List ℕ)). octets_eq o.now d) known (k ∷ [])
-    ∙ ap (λ b. is_known known d || b) (or_false (octets_eq k.now d) ∙ (ap (λ n. octets_eq n d) same ∙ (sym (and_true (octets_eq w.0.dataset d)) ∙ ap (λ b. octets_eq w.0.dataset d && b) (sym e))))
-
-regrouped : (a b c : Bool) → (a || (b || c)) ≡ ((a || b) || c)
-regrouped true b c = refl
-regrouped false b c = refl
+    ∙ ap (λ b. is_known known d || b) (or-false (octets_eq k.now d) ∙ (ap (λ n. octets_eq n d) same ∙ (sym (and-true (octets_eq w.0.dataset d)) ∙ ap (λ b. octets_eq w.0.dataset d && b) (sym e))))
 
 pub next_write : (old : Stored) (known after : List (Bor (List ℕ))) (w : Path × Fate) (es : List (Path × Fate)) (i : ℕ) (d : List ℕ) {all : Bool} → i < length es → w ≡ get_or es i w → Notes w old known after
     → (is_known known d || list_any (λ v. writes_in old v d) (drop i es)) ≡ all → (is_known after d || list_any (λ v. writes_in old v d) (drop (i + 1) es)) ≡ all
 next_write old known after w es i d within at notes h =
     let rest = list_any (λ v. writes_in old v d) (drop (i + 1) es) in
     ap (λ b. b || rest) (notes d)
-    ∙ (sym (regrouped (is_known known d) (writes_in old w d) rest)
+    ∙ (sym (or_regrouped (is_known known d) (writes_in old w d) rest)
     ∙ (ap (λ b. is_known known d || b) (ap (λ v. writes_in old v d || rest) at ∙ sym (at_drop_more (list_any (λ v. writes_in old v d)) es i w within))
     ∙ h))
 
 pub all_noted : (written : Written) (old : Stored) (known : List (Bor (List ℕ))) (i : ℕ) (d : List ℕ) → length (map.entries written) ≤ i
     → (is_known known d || list_any (λ v. writes_in old v d) (drop i (map.entries written))) ≡ list_any (λ v. writes_in old v d) (map.entries written) → is_known known d ≡ is_written_in written old d
 all_noted written old known i d le h =
-    sym (or_false (is_known known d))
+    sym (or-false (is_known known d))
     ∙ (ap (λ es. is_known known d || list_any (λ v. writes_in old v d) es) (sym (drop_all i (map.entries written) le))
     ∙ (h ∙ all_written written old d))
 
@@ -222,12 +211,12 @@ any_there : (d : List ℕ) (ps : List Path) → list_any (λ (p : Path). octets_
 any_there d ps =
     (λ i. list_any (λ (p : Path). texts_ties d p.dataset i) ps)
     ∙ (sym (any_among octets_cmp nat_list_cmp_total d (each (λ (p : Path). p.dataset) ps) []
-    ∙ (or_false _ ∙ any_each (is_name d) (λ (p : Path). p.dataset) ps))
+    ∙ (or-false _ ∙ any_each (is_name d) (λ (p : Path). p.dataset) ps))
     ∙ (λ i. list_any (λ m. sym (texts_ties d m) i) (ordered_among octets_cmp (each (λ (p : Path). p.dataset) ps) [])))
 
 none_there : (p : Path → Bool) (ps : List Path) → list_any p ps ≡ false → filter p ps ≡ []
 none_there p [] e = refl
-none_there p (x ∷ ps) e = rw (first_no (p x) _ e) (none_there p ps (second_no (p x) _ e))
+none_there p (x ∷ ps) e = rw (first_not (p x) _ e) (none_there p ps (second_not (p x) _ e))
 
 pub none_touched : (written : Written) (old new : Stored) (d : List ℕ) → false ≡ list_any (octets_eq d) (datasets_touched written old new) → [] ≡ touched_at written old new d
 none_touched written old new d e =

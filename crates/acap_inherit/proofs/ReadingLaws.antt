@@ -9,11 +9,12 @@ use Rattle.acap_entries.specs.Store.{Stored}
 use Rattle.acap_entries.specs.declared.cell.Cell.{Cell}
 use Rattle.acap_entries.specs.declared.cell.Cell.TheVariants.{Nil, Single, Multi}
 use Rattle.acap_entries.specs.declared.record.Record.{Record}
+use Rattle.acap_entries.proofs.Logic.{Contains-here, Contains-there}
 use Rattle.acap_inherit.specs.Chains.{name_in, base_at, onward, chain_within, chain_of}
 use Rattle.acap_inherit.specs.Records.{record_at, cell_in, ends_inheritance}
 use Rattle.acap_inherit.specs.Resolving.{Resolution, lying, by_cell, by_record, by_presence, value_on, entry_on, records_along, until_end, greatest, modtime_on, stamp_value, members_for, members_of, lookup, entry_exists, modtime_of}
 use Rattle.acap_inherit.specs.Laws.{NothingLaw, ReadingLaw, AgreeOn}
-use Rattle.acap_inherit.proofs.FirstLaws.{here, there, stored_value}
+use Rattle.acap_inherit.proofs.FirstLaws.{stored_value}
 use Rattle.acap_inherit.proofs.NamesLaws.{same_names_on}
 
 -- ---- the part of a chain that counts is of the chain
@@ -41,17 +42,17 @@ by_none (Some entry) attribute dataset beyond e n =
 value_none : (records : Stored) (chain : List (List ℕ)) (name attribute : List ℕ) → ((d : List ℕ) → Contains chain d → option_and_then (λ r. cell_in r attribute) (record_at records d name) ≡ None) → value_on records chain name attribute ≡ None
 value_none records [] name attribute h = refl
 value_none records (d ∷ chain) name attribute h =
-    by_none (record_at records d name) attribute d (value_on records chain name attribute) (h d (here d chain)) (value_none records chain name attribute (λ x k. h x (there d x chain k)))
+    by_none (record_at records d name) attribute d (value_on records chain name attribute) (h d (Contains-here d chain)) (value_none records chain name attribute (λ x k. h x (Contains-there d x chain k)))
 
 entry_none : (records : Stored) (chain : List (List ℕ)) (name : List ℕ) → ((d : List ℕ) → Contains chain d → record_at records d name ≡ None) → entry_on records chain name ≡ None
 entry_none records [] name h = refl
 entry_none records (d ∷ chain) name h =
-    ap (λ entry. by_presence entry name d (entry_on records chain name)) (h d (here d chain)) ∙ entry_none records chain name (λ x k. h x (there d x chain k))
+    ap (λ entry. by_presence entry name d (entry_on records chain name)) (h d (Contains-here d chain)) ∙ entry_none records chain name (λ x k. h x (Contains-there d x chain k))
 
 records_none : (records : Stored) (chain : List (List ℕ)) (name : List ℕ) → ((d : List ℕ) → Contains chain d → record_at records d name ≡ None) → records_along records chain name ≡ []
 records_none records [] name h = refl
 records_none records (d ∷ chain) name h =
-    ap (λ entry. cons_option entry (records_along records chain name)) (h d (here d chain)) ∙ records_none records chain name (λ x k. h x (there d x chain k))
+    ap (λ entry. cons_option entry (records_along records chain name)) (h d (Contains-here d chain)) ∙ records_none records chain name (λ x k. h x (Contains-there d x chain k))
 
 modtime_none : (records : Stored) (chain : List (List ℕ)) (name : List ℕ) → ((d : List ℕ) → Contains chain d → record_at records d name ≡ None) → modtime_on records chain name ≡ None
 modtime_none records chain name h = ap (λ entries. greatest (map (λ (entry : Record). entry.modtime) (until_end entries))) (records_none records chain name h)
@@ -91,7 +92,7 @@ abbrev at_place : Cell → List ℕ → Resolution
 at_place cell dataset = Some (cell, dataset)
 
 at_first : (cell : Cell) (d : List ℕ) (chain : List (List ℕ)) (found : Cell) (dataset : List ℕ) → at_place cell d ≡ at_place found dataset → Contains (d ∷ chain) dataset
-at_first cell d chain found dataset e = subst (λ x. Contains (d ∷ chain) x) (ap (where_found dataset) e) (here d chain)
+at_first cell d chain found dataset e = subst (λ x. Contains (d ∷ chain) x) (ap (where_found dataset) e) (Contains-here d chain)
 
 not_found : (P : Type 0) (found : Cell × List ℕ) → None ≡ Some found → P
 not_found P found e = cc
@@ -104,10 +105,10 @@ cell_within (Multi values) d chain found dataset e = at_first (Multi values) d c
 by_cell_within : (cell : Option Cell) (entry : Record) (d : List ℕ) (beyond : Resolution) (chain : List (List ℕ)) (found : Cell) (dataset : List ℕ) → (beyond ≡ Some (found, dataset) → Contains chain dataset) → by_cell cell entry d beyond ≡ Some (found, dataset) → Contains (d ∷ chain) dataset
 by_cell_within (Some cell) entry d beyond chain found dataset h e = cell_within cell d chain found dataset e
 by_cell_within None entry d beyond chain found dataset h e =
-    elim (ends_inheritance entry) as (λ b. (if b then None else beyond) ≡ Some (found, dataset) → Contains (d ∷ chain) dataset) [ true ↦ λ e. not_found _ _ e | false ↦ λ e. there d dataset chain (h e) ] e
+    elim (ends_inheritance entry) as (λ b. (if b then None else beyond) ≡ Some (found, dataset) → Contains (d ∷ chain) dataset) [ true ↦ λ e. not_found _ _ e | false ↦ λ e. Contains-there d dataset chain (h e) ] e
 
 by_record_within : (entry : Option Record) (attribute d : List ℕ) (beyond : Resolution) (chain : List (List ℕ)) (found : Cell) (dataset : List ℕ) → (beyond ≡ Some (found, dataset) → Contains chain dataset) → by_record entry attribute d beyond ≡ Some (found, dataset) → Contains (d ∷ chain) dataset
-by_record_within None attribute d beyond chain found dataset h e = there d dataset chain (h e)
+by_record_within None attribute d beyond chain found dataset h e = Contains-there d dataset chain (h e)
 by_record_within (Some entry) attribute d beyond chain found dataset h e = by_cell_within (cell_in entry attribute) entry d beyond chain found dataset h e
 
 value_within : (records : Stored) (chain : List (List ℕ)) (name attribute : List ℕ) (found : Cell) (dataset : List ℕ) → value_on records chain name attribute ≡ Some (found, dataset) → Contains chain dataset
@@ -116,7 +117,7 @@ value_within records (d ∷ chain) name attribute found dataset e =
     by_record_within (record_at records d name) attribute d (value_on records chain name attribute) chain found dataset (value_within records chain name attribute found dataset) e
 
 by_presence_within : (entry : Option Record) (name d : List ℕ) (beyond : Resolution) (chain : List (List ℕ)) (found : Cell) (dataset : List ℕ) → (beyond ≡ Some (found, dataset) → Contains chain dataset) → by_presence entry name d beyond ≡ Some (found, dataset) → Contains (d ∷ chain) dataset
-by_presence_within None name d beyond chain found dataset h e = there d dataset chain (h e)
+by_presence_within None name d beyond chain found dataset h e = Contains-there d dataset chain (h e)
 by_presence_within (Some entry) name d beyond chain found dataset h e =
     elim entry.present as (λ b. (if b then at_place (Single name) d else nothing_found) ≡ at_place found dataset → Contains (d ∷ chain) dataset) [
       | true ↦ λ e. at_first (Single name) d chain found dataset e
@@ -157,22 +158,22 @@ nothing_law = record {
 value_same : (old new : Stored) (chain : List (List ℕ)) (name attribute : List ℕ) → AgreeOn old new chain name → value_on old chain name attribute ≡ value_on new chain name attribute
 value_same old new [] name attribute h = refl
 value_same old new (d ∷ chain) name attribute h =
-    let one = h d (here d chain) in
-    let rest = value_same old new chain name attribute (λ x k. h x (there d x chain k)) in
+    let one = h d (Contains-here d chain) in
+    let rest = value_same old new chain name attribute (λ x k. h x (Contains-there d x chain k)) in
     λ i. by_record (one i) attribute d (rest i)
 
 entry_same : (old new : Stored) (chain : List (List ℕ)) (name : List ℕ) → AgreeOn old new chain name → entry_on old chain name ≡ entry_on new chain name
 entry_same old new [] name h = refl
 entry_same old new (d ∷ chain) name h =
-    let one = h d (here d chain) in
-    let rest = entry_same old new chain name (λ x k. h x (there d x chain k)) in
+    let one = h d (Contains-here d chain) in
+    let rest = entry_same old new chain name (λ x k. h x (Contains-there d x chain k)) in
     λ i. by_presence (one i) name d (rest i)
 
 records_same : (old new : Stored) (chain : List (List ℕ)) (name : List ℕ) → AgreeOn old new chain name → records_along old chain name ≡ records_along new chain name
 records_same old new [] name h = refl
 records_same old new (d ∷ chain) name h =
-    let one = h d (here d chain) in
-    let rest = records_same old new chain name (λ x k. h x (there d x chain k)) in
+    let one = h d (Contains-here d chain) in
+    let rest = records_same old new chain name (λ x k. h x (Contains-there d x chain k)) in
     λ i. cons_option (one i) (rest i)
 
 modtime_same : (old new : Stored) (chain : List (List ℕ)) (name : List ℕ) → AgreeOn old new chain name → modtime_on old chain name ≡ modtime_on new chain name
@@ -220,19 +221,19 @@ chain_same : (most : ℕ) (old new : Stored) (dataset : List ℕ) → AgreeOn ol
 unfolding chain_within base_in
 chain_same zero old new dataset h = ap (λ rest. dataset ∷ rest) (no_more old (base_at old dataset) ∙ sym (no_more new (base_at new dataset)))
 chain_same (suc most) old new dataset h =
-    let same : base_at old dataset ≡ base_at new dataset = ap base_in (h dataset (here dataset _)) in
+    let same : base_at old dataset ≡ base_at new dataset = ap base_in (h dataset (Contains-here dataset _)) in
     ap (λ rest. dataset ∷ rest)
     (elim (base_at old dataset) as (λ base. AgreeOn old new (take most (onward base (chain_within (suc most) old))) [] → onward base (chain_within (suc most) old) ≡ onward base (chain_within (suc most) new)) [
       | None ↦ λ _. refl
       | Some base ↦ λ k. chain_same most old new base k
-    ] (λ x k. h x (there dataset x _ k))
+    ] (λ x k. h x (Contains-there dataset x _ k))
     ∙ ap (λ base. onward base (chain_within (suc most) new)) same)
 
 any_same : (old new : Stored) (chain : List (List ℕ)) (name : List ℕ) → ((d : List ℕ) → Contains chain d → is_some (record_at old d name) ≡ is_some (record_at new d name)) → list_any (λ d. is_some (record_at old d name)) chain ≡ list_any (λ d. is_some (record_at new d name)) chain
 any_same old new [] name h = refl
 any_same old new (d ∷ chain) name h =
-    let one = h d (here d chain) in
-    let rest = any_same old new chain name (λ x k. h x (there d x chain k)) in
+    let one = h d (Contains-here d chain) in
+    let rest = any_same old new chain name (λ x k. h x (Contains-there d x chain k)) in
     λ i. one i || rest i
 
 pub reading_law : ReadingLaw

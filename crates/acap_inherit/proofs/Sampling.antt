@@ -1,5 +1,5 @@
 -- What is touched, by what is looked up of stores; and that of stores that are written out.
-use Rattle.std.proofs.Common.{◌≡◌, ℕ, zero, suc, Bool, true, false, ◌&&◌, ◌||◌, List, [], ◌∷◌, ◌++◌, map as each, length, Option, Some, None, arith, refl, sym, ap, ◌∙◌}
+use Rattle.std.proofs.Common.{◌≡◌, ℕ, zero, suc, Bool, true, false, ◌&&◌, ◌||◌, List, [], ◌∷◌, ◌++◌, map as each, Option, Some, None, refl, sym, ap, ◌∙◌}
 use Rattle.std.specs.Prelude.{codes, filter, is_some, if◌then◌else◌}
 use Rattle.std.specs.List.{list_any}
 use Rattle.std.specs.Option.{option_map, option_and_then, option_map_or}
@@ -8,6 +8,7 @@ use Rattle.std.specs.FinMap.{find, put}
 use Rattle.std.specs.declared.cmp.Ordering.{Ordering}
 use Rattle.std.specs.Cmp.Lexicographic.{nat_list_cmp_total}
 use Rattle.std.specs.Ordering.{eq_by_cmp}
+use Rattle.std.proofs.lemmas.List.{nil_from_length}
 use Rattle.acap_entries.specs.Datasets.{is_dot_list, makes_dataset}
 use Rattle.acap_entries.specs.Names.{slash, own_entry}
 use Rattle.acap_entries.specs.Orders.{octets_cmp, octets_eq}
@@ -97,12 +98,8 @@ abbrev pub all_put : {X : Type 0} → List (Path × X) → List (Path × X)
 all_put [] = []
 all_put (e ∷ es) = put path_cmp e.0 e.1 (all_put es)
 
-none_listed : {A : Type 0} (xs : List A) → length xs ≡ 0 → xs ≡ []
-none_listed [] e = refl
-none_listed (x ∷ xs) e = absurd (omega arith)
-
 entries_put : {X : Type 0} (es : List (Path × X)) → map.entries (map.from_entries {R = path_cmp} es) ≡ all_put es
-entries_put {X} [] = none_listed _ (sym (map.len-entries {R = path_cmp} (map.empty {X = X})) ∙ map.len-empty path_cmp X)
+entries_put {X} [] = nil_from_length _ (sym (map.len-entries {R = path_cmp} (map.empty {X = X})) ∙ map.len-empty path_cmp X)
 entries_put (e ∷ es) = map.entries-insert path_cmp_total (map.from_entries es) e.0 e.1 ∙ ap (put path_cmp e.0 e.1) (entries_put es)
 
 abbrev pub cells_by : Attributes → List ℕ → Option Cell

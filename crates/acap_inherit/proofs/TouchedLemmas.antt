@@ -8,10 +8,11 @@ use Rattle.std.specs.List.{list_any}
 use Rattle.std.specs.declared.cmp.Ordering.{Ordering}
 use Rattle.std.specs.declared.cmp.Ordering.TheVariants.{Less, Equal, Greater}
 use Rattle.std.specs.Ordering.{eq_by_cmp, is_eq, ordering_then}
-use Rattle.std.specs.Cmp.{IsTotalOrder, tied_itself}
+use Rattle.std.specs.Cmp.{IsTotalOrder, tied_itself, first_so, second_so}
 use Rattle.std.specs.Cmp.Lexicographic.{nat_list_cmp_total, same_text}
 use Rattle.std.proofs.lemmas.List.{append_cancel_left}
 use Rattle.std.proofs.lemmas.List.Folds.{list_any-append}
+use Rattle.std.proofs.lemmas.Bool.{or_left, or_right, and_from}
 use Rattle.acap_entries.specs.Datasets.{dataset_exists}
 use Rattle.acap_entries.specs.FullPaths.{full_path_cmp, IsSplit}
 use Rattle.acap_entries.specs.Orders.{octets_cmp, octets_eq}
@@ -24,20 +25,16 @@ use Rattle.acap_entries.proofs.FullPathLaws.{full_paths}
 use Rattle.acap_entries.proofs.RankLaws.{rank_holds}
 use Rattle.acap_entries.proofs.RankLemmas.{items, items_units, order_of_units}
 use Rattle.acap_entries.proofs.StoreLemmas.{octets_same, path_same}
+use Rattle.acap_entries.proofs.Logic.{Equal_from_is_eq, true_without, both_Equal, same_from_both, and_either, one_of_any, either_and, false_and}
 use Rattle.acap_inherit.specs.Chains.{chain_of}
 use Rattle.acap_inherit.specs.Records.{record_at}
 use Rattle.acap_inherit.specs.Touched.{is_written, is_written_on, has_record_on, is_reached, is_touched, paths_known, paths_across, in_question, by_octets, octets_total, in_order, touched_paths}
-use Rattle.acap_inherit.proofs.IndexLemmas.{any_with, either_and, never}
-use Rattle.acap_inherit.proofs.MergeLemmas.{marked, itself, or_left, or_right, first_of, second_of, both_of}
+use Rattle.acap_inherit.proofs.IndexLemmas.{any_with}
+use Rattle.acap_inherit.proofs.MergeLemmas.{marked, itself}
 use Rattle.acap_inherit.proofs.UnreadLaws.{chain_alone}
 use Rattle.acap_inherit.proofs.WrittenLemmas.{has_fate, written_fate}
 
 -- ---- tests
-
-pub alike_if : (a b : Bool) → (a ≡ true → b ≡ true) → (b ≡ true → a ≡ true) → a ≡ b
-alike_if true b h k = sym (h refl)
-alike_if false true h k = k refl
-alike_if false false h k = refl
 
 pub absorbed : (q t : Bool) → (t ≡ true → q ≡ true) → (q && t) ≡ t
 absorbed true t h = refl
@@ -52,51 +49,33 @@ any_weaker p q h (x ∷ xs) e =
       | false ↦ λ _ e. or_right _ _ (any_weaker p q h xs e)
     ] refl e
 
-pub any_one : {A : Type 0} (p : A → Bool) (xs : List A) → list_any p xs ≡ true → (x : A) × (p x ≡ true)
-any_one p [] e = cc
-any_one p (x ∷ xs) e =
-    elim (p x) as (λ b. p x ≡ b → (b || list_any p xs) ≡ true → (x : _) × (p x ≡ true)) [
-      | true ↦ λ is _. (x, is)
-      | false ↦ λ _ e. any_one p xs e
-    ] refl e
-
 -- ---- the order
-
-pub both_equal : (a b : Ordering) → ordering_then a b ≡ Equal → (a ≡ Equal) × (b ≡ Equal)
-both_equal Less b e = cc
-both_equal Equal b e = (refl, e)
-both_equal Greater b e = cc
 
 pub same_paths : IsAntisymmetric by_octets
 same_paths a b e =
-    let parts = both_equal _ _ e in
+    let parts = both_Equal _ _ e in
     let full = octets_same _ _ parts.0 in
     let dataset = octets_same _ _ parts.1 in
     let name = append_cancel_left b.dataset a.name b.name (ap (λ d. d ++ a.name) (sym dataset) ∙ full) in
     λ i. record { dataset = dataset i; name = name i }
-
-pub equal : (r : Ordering) → is_eq r ≡ true → r ≡ Equal
-equal Less e = cc
-equal Equal e = refl
-equal Greater e = cc
 
 -- whether a path is that one
 abbrev pub is_path : Path → Path → Bool
 is_path p = eq_by_cmp by_octets p
 
 pub path_is : (p q : Path) → is_path p q ≡ true → p ≡ q
-path_is p q e = same_paths p q (equal _ e)
+path_is p q e = same_paths p q (Equal_from_is_eq _ e)
 
 pub own_path : (p : Path) → is_path p p ≡ true
 own_path p = ap is_eq (tied_itself octets_total p)
 
 pub by_parts : (p q : Path) → is_path p q ≡ (octets_eq p.dataset q.dataset && octets_eq p.name q.name)
 by_parts p q =
-    alike_if _ _
-    (λ e. subst (λ (r : Path). (octets_eq p.dataset r.dataset && octets_eq p.name r.name) ≡ true) (path_is p q e) (both_of _ _ (itself p.dataset) (itself p.name)))
+    same_from_both _ _
+    (λ e. subst (λ (r : Path). (octets_eq p.dataset r.dataset && octets_eq p.name r.name) ≡ true) (path_is p q e) (and_from _ _ (itself p.dataset) (itself p.name)))
     (λ e.
-    let dataset = same_text p.dataset q.dataset (sym (first_of _ _ e)) in
-    let name = same_text p.name q.name (sym (second_of _ _ e)) in
+    let dataset = same_text p.dataset q.dataset (sym (first_so _ _ e)) in
+    let name = same_text p.name q.name (sym (second_so _ _ e)) in
     let same : p ≡ q = λ i. record { dataset = dataset i; name = name i } in
     subst (λ (r : Path). is_path p r ≡ true) same (own_path p))
 
@@ -134,7 +113,7 @@ any_kept f p (x ∷ xs) =
           ap (λ y. list_any (is_path p) (cond (f y) (x ∷ rest) rest)) (sym (path_is p x e))
           ∙ elim (f p) as (λ b. f p ≡ b → list_any (is_path p) (cond b (x ∷ rest) rest) ≡ b) [
             | true ↦ λ _. or_left _ _ e
-            | false ↦ λ n. any_kept f p xs ∙ (ap (λ b. list_any (is_path p) xs && b) n ∙ sym (never (list_any (is_path p) xs)))
+            | false ↦ λ n. any_kept f p xs ∙ (ap (λ b. list_any (is_path p) xs && b) n ∙ sym (false_and (list_any (is_path p) xs)))
           ] refl
       | false ↦ λ e. elim (f x) as (λ b. list_any (is_path p) (cond b (x ∷ rest) rest) ≡ (list_any (is_path p) xs && f p)) [
         | true ↦ ap (λ b. b || list_any (is_path p) rest) e ∙ any_kept f p xs
@@ -148,12 +127,8 @@ in_dataset p q = octets_eq p.dataset q.dataset
 abbrev of_name : Path → Path → Bool
 of_name p q = octets_eq p.name q.name
 
-and_either : (a b c : Bool) → ((a && b) || (a && c)) ≡ (a && (b || c))
-and_either true b c = refl
-and_either false b c = refl
-
 any_row : (p d : Path) (ns : List Path) → list_any (is_path p) (each (λ (n : Path). record { dataset = d.dataset; name = n.name }) ns) ≡ (in_dataset p d && list_any (of_name p) ns)
-any_row p d [] = never (in_dataset p d)
+any_row p d [] = false_and (in_dataset p d)
 any_row p d (n ∷ ns) =
     (λ i. by_parts p (record { dataset = d.dataset; name = n.name }) i || any_row p d ns i)
     ∙ and_either (in_dataset p d) (of_name p n) (list_any (of_name p) ns)
@@ -176,7 +151,7 @@ path_at m n = record { dataset = m; name = n }
 
 known_by : (written : Written) (old : Stored) (test : Path → Bool) (m n : List ℕ) → test (path_at m n) ≡ true → is_known written old m n ≡ true → list_any test (paths_known written old) ≡ true
 known_by written old test m n h e =
-    let tests : (x : Path) → eq_by_cmp path_cmp (path_at m n) x ≡ true → test x ≡ true = λ x t. subst (λ y. test y ≡ true) (path_same (path_at m n) x (equal _ t)) h in
+    let tests : (x : Path) → eq_by_cmp path_cmp (path_at m n) x ≡ true → test x ≡ true = λ x t. subst (λ y. test y ≡ true) (path_same (path_at m n) x (Equal_from_is_eq _ t)) h in
     list_any-append test (map.keys old) (map.keys written)
     ∙ elim (has_fate written m n) as (λ b. has_fate written m n ≡ b → (b || is_some (record_at old m n)) ≡ true → (list_any test (map.keys old) || list_any test (map.keys written)) ≡ true) [
       | true ↦ λ w _. or_right _ _ (any_weaker _ test tests (map.keys written) (sym (map.contains_key-keys written (path_at m n)) ∙ w))
@@ -197,13 +172,9 @@ known_after written old new h m n e =
 reach_name : (written : Written) (old records : Stored) → IsKnown written old records → (p : Path) (chain : List (List ℕ)) → is_reached written old records chain p.name ≡ true → list_any (of_name p) (paths_known written old) ≡ true
 reach_name written old records k p chain e =
     elim (is_written_on written old chain p.name) as (λ b. is_written_on written old chain p.name ≡ b → (b || (is_written_on written old chain [] && has_record_on records chain p.name)) ≡ true → list_any (of_name p) (paths_known written old) ≡ true) [
-      | true ↦ λ w _. let m = any_one (λ m. is_written written old m p.name) chain w in known_by written old (of_name p) m.0 p.name (itself p.name) (or_left _ _ (written_fate written old m.0 p.name m.1))
-      | false ↦ λ _ e. let m = any_one (λ m. is_some (record_at records m p.name)) chain (second_of _ _ e) in known_by written old (of_name p) m.0 p.name (itself p.name) (k m.0 p.name m.1)
+      | true ↦ λ w _. let m = one_of_any (λ m. is_written written old m p.name) chain w in known_by written old (of_name p) m.0 p.name (itself p.name) (or_left _ _ (written_fate written old m.0 p.name m.1))
+      | false ↦ λ _ e. let m = one_of_any (λ m. is_some (record_at records m p.name)) chain (second_so _ _ e) in known_by written old (of_name p) m.0 p.name (itself p.name) (k m.0 p.name m.1)
     ] refl e
-
-or_none : (a : Bool) → (a || false) ≡ true → a ≡ true
-or_none true e = refl
-or_none false e = e
 
 reach_dataset : (written : Written) (old records : Stored) → IsKnown written old records → (p : Path) → is_reached written old records (chain_of records p.dataset false) p.name ≡ true → list_any (in_dataset p) (paths_known written old) ≡ true
 reach_dataset written old records k p e =
@@ -214,20 +185,20 @@ reach_dataset written old records k p e =
           let alone : is_reached written old records (p.dataset ∷ []) p.name ≡ true = ap (λ chain. is_reached written old records chain p.name) (sym (chain_alone records p.dataset none)) ∙ e in
           elim (is_written written old p.dataset p.name) as (λ b. is_written written old p.dataset p.name ≡ b → ((b || false) || ((w || false) && has_record_on records (p.dataset ∷ []) p.name)) ≡ true → list_any (in_dataset p) (paths_known written old) ≡ true) [
             | true ↦ λ is _. known_by written old (in_dataset p) p.dataset p.name (itself p.dataset) (or_left _ _ (written_fate written old p.dataset p.name is))
-            | false ↦ λ _ e. known_by written old (in_dataset p) p.dataset [] (itself p.dataset) (or_left (has_fate written p.dataset []) (is_some (record_at old p.dataset [])) (written_fate written old p.dataset [] (or_none w (first_of (w || false) (has_record_on records (p.dataset ∷ []) p.name) e))))
+            | false ↦ λ _ e. known_by written old (in_dataset p) p.dataset [] (itself p.dataset) (or_left (has_fate written p.dataset []) (is_some (record_at old p.dataset [])) (written_fate written old p.dataset [] (true_without w (first_so (w || false) (has_record_on records (p.dataset ∷ []) p.name) e))))
           ] refl alone
     ] refl
 
 touched_known : (written : Written) (old new : Stored) → IsPathByPath written old new → (p : Path) → is_touched written old new p ≡ true → list_any (is_path p) (in_question written old) ≡ true
 unfolding is_touched
 touched_known written old new h p e =
-    let reached = second_of (dataset_exists new p.dataset) _ e in
+    let reached = second_so (dataset_exists new p.dataset) _ e in
     let before : IsKnown written old old = λ m n r. or_right _ _ r in
     let after = known_after written old new h in
     any_crossed p (paths_known written old) (paths_known written old)
     ∙ elim (is_reached written old old (chain_of old p.dataset false) p.name) as (λ b. is_reached written old old (chain_of old p.dataset false) p.name ≡ b → (b || is_reached written old new (chain_of new p.dataset false) p.name) ≡ true → (list_any (in_dataset p) (paths_known written old) && list_any (of_name p) (paths_known written old)) ≡ true) [
-      | true ↦ λ r _. both_of _ _ (reach_dataset written old old before p r) (reach_name written old old before p _ r)
-      | false ↦ λ _ r. both_of _ _ (reach_dataset written old new after p r) (reach_name written old new after p _ r)
+      | true ↦ λ r _. and_from _ _ (reach_dataset written old old before p r) (reach_name written old old before p _ r)
+      | false ↦ λ _ r. and_from _ _ (reach_dataset written old new after p r) (reach_name written old new after p _ r)
     ] refl reached
 
 pub any_touched : (written : Written) (old new : Stored) → IsPathByPath written old new → (p : Path) → list_any (is_path p) (touched_paths written old new) ≡ is_touched written old new p

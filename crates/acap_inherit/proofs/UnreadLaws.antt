@@ -1,46 +1,39 @@
 -- What is read of a path that is not touched.
-use Rattle.std.proofs.Common.{◌≡◌, ◌⊎◌, inl, inr, ℕ, zero, suc, Bool, true, false, ◌&&◌, ◌||◌, List, [], ◌∷◌, take, Option, Some, None, arith, refl, sym, ap, subst, ◌∙◌}
+use Rattle.std.proofs.Common.{◌≡◌, ◌⊎◌, inl, inr, ℕ, zero, suc, Bool, true, false, ◌&&◌, ◌||◌, List, [], ◌∷◌, take, Some, None, arith, refl, sym, ap, subst, ◌∙◌}
 use Rattle.std.specs.Prelude.{is_some}
 use Rattle.std.specs.List.{list_any, Contains}
 use Rattle.std.specs.FinMap as map
+use Rattle.std.proofs.lemmas.Bool.{or_parts}
 use Rattle.acap_entries.specs.Datasets.{dataset_exists}
 use Rattle.acap_entries.specs.Sound.{IsHoused}
 use Rattle.acap_entries.specs.Store.{Stored, Written, IsPathByPath}
 use Rattle.acap_entries.specs.declared.path.Path.{Path}
+use Rattle.acap_entries.proofs.Logic.{false_back, None_from_is_some, Contains-here, Contains-there}
 use Rattle.acap_inherit.specs.Chains.{base_at, onward, chain_within, chain_of}
 use Rattle.acap_inherit.specs.Laws.{AgreeOn}
 use Rattle.acap_inherit.specs.Records.{record_at}
 use Rattle.acap_inherit.specs.Resolving.{lookup, entry_exists, modtime_of}
 use Rattle.acap_inherit.specs.Touched.{is_written, is_written_on, has_record_on, is_reached, is_touched}
 use Rattle.acap_inherit.specs.TouchedLaws.{IsStep, IsReadAlike, IsNowhere, IsAnsweredAlike, UnreadLaw}
-use Rattle.acap_inherit.proofs.FirstLaws.{here, there}
 use Rattle.acap_inherit.proofs.ReadingLaws.{nothing_law, reading_law, of_members_for, of_members}
 use Rattle.acap_inherit.proofs.WrittenLemmas.{unchanged}
 
 -- ---- tests that fail
 
-pub neither : (a b : Bool) → (a || b) ≡ false → (a ≡ false) × (b ≡ false)
-neither true b e = cc
-neither false b e = (refl, e)
-
 pub none_of : (p : List ℕ → Bool) (xs : List (List ℕ)) → list_any p xs ≡ false → (d : List ℕ) → Contains xs d → p d ≡ false
 none_of p [] e d (k, lt, s) = absurd (omega (arith, lt))
-none_of p (x ∷ xs) e d (zero, lt, s) = subst (λ y. p y ≡ false) s (neither _ _ e).0
-none_of p (x ∷ xs) e d (suc k, lt, s) = none_of p xs (neither _ _ e).1 d (k, omega (arith, lt), s)
+none_of p (x ∷ xs) e d (zero, lt, s) = subst (λ y. p y ≡ false) s (or_parts _ _ e).0
+none_of p (x ∷ xs) e d (suc k, lt, s) = none_of p xs (or_parts _ _ e).1 d (k, omega (arith, lt), s)
 
 no_one : (p : List ℕ → Bool) (xs : List (List ℕ)) → ((d : List ℕ) → Contains xs d → p d ≡ false) → list_any p xs ≡ false
 no_one p [] h = refl
-no_one p (x ∷ xs) h = ap (λ b. b || list_any p xs) (h x (here x xs)) ∙ no_one p xs (λ d k. h d (there x d xs k))
+no_one p (x ∷ xs) h = ap (λ b. b || list_any p xs) (h x (Contains-here x xs)) ∙ no_one p xs (λ d k. h d (Contains-there x d xs k))
 
 of_take : (n : ℕ) (xs : List (List ℕ)) (d : List ℕ) → Contains (take n xs) d → Contains xs d
 of_take zero xs d (k, lt, s) = absurd (omega (arith, lt))
 of_take (suc n) [] d h = h
 of_take (suc n) (x ∷ xs) d (zero, lt, s) = (zero, omega arith, s)
-of_take (suc n) (x ∷ xs) d (suc k, lt, s) = there x d xs (of_take n xs d (k, omega (arith, lt), s))
-
-pub absent : {A : Type 0} (found : Option A) → is_some found ≡ false → found ≡ None
-absent None e = refl
-absent (Some x) e = cc
+of_take (suc n) (x ∷ xs) d (suc k, lt, s) = Contains-there x d xs (of_take n xs d (k, omega (arith, lt), s))
 
 -- ---- what isn't written stays
 
@@ -93,13 +86,9 @@ none_along records dataset name h =
     ap (λ chain. has_record_on records chain name) (chain_alone records dataset (h []))
     ∙ ap (λ found. is_some found || false) (h name)
 
-exists_not : (a b : Bool) → (a ≡ true → b ≡ true) → b ≡ false → a ≡ false
-exists_not true b h e = sym (h refl) ∙ e
-exists_not false b h e = refl
-
 gone : (written : Written) (old new : Stored) → IsStep written old new → (dataset name : List ℕ) → dataset_exists new dataset ≡ false → IsNowhere old new dataset name
 gone written old new step dataset name e = record {
-  before = none_along old dataset name (empty_there old step.before dataset (exists_not _ _ (step.stays dataset) e));
+  before = none_along old dataset name (empty_there old step.before dataset (false_back _ _ (step.stays dataset) e));
   after = none_along new dataset name (empty_there new step.after dataset e);
 }
 
@@ -108,8 +97,8 @@ gone written old new step dataset name e = record {
 by_reach : (written : Written) (old new : Stored) → IsPathByPath written old new → (dataset name : List ℕ) → is_reached written old old (chain_of old dataset false) name ≡ false → is_reached written old new (chain_of new dataset false) name ≡ false
     → IsReadAlike old new dataset name ⊎ IsNowhere old new dataset name
 by_reach written old new h dataset name e f =
-    let before = neither _ _ e in
-    let after = neither _ _ f in
+    let before = or_parts _ _ e in
+    let after = or_parts _ _ f in
     elim (is_written_on written old (chain_of old dataset false) []) as (λ b. is_written_on written old (chain_of old dataset false) [] ≡ b → (b && has_record_on old (chain_of old dataset false) name) ≡ false → IsReadAlike old new dataset name ⊎ IsNowhere old new dataset name) [
       | false ↦ λ k _. inl (by_old written old new h dataset name before.0 k)
       | true ↦ λ _ r. elim (is_written_on written old (chain_of new dataset false) []) as (λ b. is_written_on written old (chain_of new dataset false) [] ≡ b → (b && has_record_on new (chain_of new dataset false) name) ≡ false → IsReadAlike old new dataset name ⊎ IsNowhere old new dataset name) [
@@ -123,7 +112,7 @@ unfolding is_touched
 read_alike written old new step p e =
     elim (dataset_exists new p.dataset) as (λ b. dataset_exists new p.dataset ≡ b → (b && (is_reached written old old (chain_of old p.dataset false) p.name || is_reached written old new (chain_of new p.dataset false) p.name)) ≡ false → IsReadAlike old new p.dataset p.name ⊎ IsNowhere old new p.dataset p.name) [
       | false ↦ λ is _. inr (gone written old new step p.dataset p.name is)
-      | true ↦ λ _ r. let both = neither _ _ r in by_reach written old new step.paths p.dataset p.name both.0 both.1
+      | true ↦ λ _ r. let both = or_parts _ _ r in by_reach written old new step.paths p.dataset p.name both.0 both.1
     ] refl e
 
 -- ---- the answers
@@ -155,7 +144,7 @@ alike old new dataset name h =
 
 pub none_at : (records : Stored) (dataset name : List ℕ) → has_record_on records (chain_of records dataset false) name ≡ false → (b : Bool) (d : List ℕ) → Contains (chain_of records dataset b) d → record_at records d name ≡ None
 none_at records dataset name e b d k =
-    absent _ (none_of (λ m. is_some (record_at records m name)) (chain_of records dataset false) e d (within_chain records dataset b d k))
+    None_from_is_some _ (none_of (λ m. is_some (record_at records m name)) (chain_of records dataset false) e d (within_chain records dataset b d k))
 
 unseen : (old new : Stored) (dataset name : List ℕ) → IsNowhere old new dataset name → IsAnsweredAlike old new dataset name
 unseen old new dataset name h =

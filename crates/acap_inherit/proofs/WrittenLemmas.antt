@@ -1,19 +1,19 @@
 -- At which paths a change puts or removes a record, and what stays at the others.
-use Rattle.std.proofs.Common.{◌≡◌, ℕ, Bool, true, false, cond, T, ◌&&◌, ◌||◌, List, [], ◌∷◌, map as each, Option, Some, None, refl, sym, ap, ◌∙◌}
+use Rattle.std.proofs.Common.{◌≡◌, ℕ, Bool, true, false, cond, ◌||◌, List, [], ◌∷◌, map as each, Option, Some, None, refl, sym, ap, ◌∙◌}
 use Rattle.std.specs.Prelude.{is_some, filter}
 use Rattle.std.specs.FinMap as map
 use Rattle.std.specs.FinMap.{find, is_sorted}
 use Rattle.std.specs.FinMap.Entries.{below_all}
 use Rattle.std.specs.List.{list_any}
-use Rattle.std.specs.declared.cmp.Ordering.{Ordering}
-use Rattle.std.specs.declared.cmp.Ordering.TheVariants.{Less, Equal, Greater}
-use Rattle.std.specs.Ordering.{eq_by_cmp, is_eq, is_lt}
+use Rattle.std.specs.Ordering.{eq_by_cmp}
+use Rattle.std.specs.Cmp.{second_so, first_so}
 use Rattle.acap_entries.specs.Store.{Stored, Written, path_cmp, after_fate}
 use Rattle.acap_entries.specs.declared.fate.Fate.{Fate}
 use Rattle.acap_entries.specs.declared.fate.Fate.TheVariants.{Put, Remove}
 use Rattle.acap_entries.specs.declared.path.Path.{Path}
 use Rattle.acap_entries.specs.declared.record.Record.{Record}
 use Rattle.acap_entries.proofs.StoreLemmas.{path_same}
+use Rattle.acap_entries.proofs.Logic.{true_from_T, Equal_from_is_eq, unequal_from_is_lt}
 use Rattle.acap_inherit.specs.Records.{record_at}
 use Rattle.acap_inherit.specs.Touched.{is_change, is_written}
 use Rattle.acap_inherit.specs.Touching.{changes}
@@ -57,31 +57,13 @@ paths_of es = each (λ (e : Path × Fate). e.0) es
 is_at : Path → Path → Bool
 is_at p = eq_by_cmp path_cmp p
 
-tied : (r : Ordering) → is_eq r ≡ true → r ≡ Equal
-tied Less e = cc
-tied Equal e = refl
-tied Greater e = cc
-
-first_true : (a b : Bool) → (a && b) ≡ true → a ≡ true
-first_true true b e = refl
-first_true false b e = e
-
-second_true : (a b : Bool) → (a && b) ≡ true → b ≡ true
-second_true true b e = e
-second_true false b e = cc
-
-less : (r : Ordering) → is_lt r ≡ true → is_eq r ≡ false
-less Less e = refl
-less Equal e = cc
-less Greater e = cc
-
 none_beyond : (old : Stored) (p : Path) (es : List (Path × Fate)) → below_all path_cmp p es ≡ true → list_any (is_at p) (paths_of (changing old es)) ≡ false
 unfolding is_at
 none_beyond old p [] e = refl
 none_beyond old p (w ∷ es) e =
-    let rest = none_beyond old p es (second_true _ _ e) in
+    let rest = none_beyond old p es (second_so _ _ e) in
     elim (changes old w) as (λ b. list_any (is_at p) (paths_of (cond b (w ∷ changing old es) (changing old es))) ≡ false) [
-      | true ↦ ap (λ b. b || list_any (is_at p) (paths_of (changing old es))) (less (path_cmp p w.0) (first_true _ _ e)) ∙ rest
+      | true ↦ ap (λ b. b || list_any (is_at p) (paths_of (changing old es))) (unequal_from_is_lt (path_cmp p w.0) (first_so _ _ e)) ∙ rest
       | false ↦ rest
     ]
 
@@ -92,8 +74,8 @@ sorted_changes old p (w ∷ es) e =
     let rest = changing old es in
     elim (eq_by_cmp path_cmp p w.0) as (λ t. eq_by_cmp path_cmp p w.0 ≡ t → list_any (is_at p) (paths_of (cond (changes old w) (w ∷ rest) rest)) ≡ is_change (cond t (Some w.1) (find path_cmp p es)) (map.get old p)) [
       | true ↦ λ t.
-          let same : p ≡ w.0 = path_same p w.0 (tied _ t) in
-          let none = none_beyond old p es (ap (λ q. below_all path_cmp q es) same ∙ first_true _ _ e) in
+          let same : p ≡ w.0 = path_same p w.0 (Equal_from_is_eq _ t) in
+          let none = none_beyond old p es (ap (λ q. below_all path_cmp q es) same ∙ first_so _ _ e) in
           elim (changes old w) as (λ b. list_any (is_at p) (paths_of (cond b (w ∷ rest) rest)) ≡ b) [
             | true ↦ ap (λ b. b || list_any (is_at p) (paths_of rest)) t
             | false ↦ none
@@ -104,15 +86,11 @@ sorted_changes old p (w ∷ es) e =
             | true ↦ ap (λ b. b || list_any (is_at p) (paths_of rest)) t
             | false ↦ refl
           ]
-          ∙ sorted_changes old p es (second_true _ _ e)
+          ∙ sorted_changes old p es (second_so _ _ e)
     ] refl
-
-so : (b : Bool) → T b → b ≡ true
-so true t = refl
-so false t = absurd t
 
 pub changes_at : (written : Written) (old : Stored) (p : Path) → list_any (eq_by_cmp path_cmp p) (paths_of (filter (changes old) (map.entries written))) ≡ is_written written old p.dataset p.name
 unfolding is_at
 changes_at written old p =
-    sorted_changes old p (map.entries written) (so _ (map.entries_sorted written))
+    sorted_changes old p (map.entries written) (true_from_T _ (map.entries_sorted written))
     ∙ ap (λ fate. is_change fate (map.get old p)) (sym (map.get-entries written p))

@@ -1,10 +1,10 @@
 -- What the loop over a command's continuations keeps, and how it ends.
 use Rattle.std.proofs.Common.{◌≡◌, ℕ, ◌-◌, ◌<◌, List, [], ◌∷◌, ◌++◌, None, sym, ap, subst, ◌∙◌, arith}
-use Rattle.acap_lexer.specs.declared.answered.Answered.{Answered}
-use Rattle.acap_lexer.specs.declared.answered.Answered.TheVariants as asked
+use Rattle.acap_lexer.specs.declared.outcomes.Answered.{Answered}
+use Rattle.acap_lexer.specs.declared.outcomes.Answered.TheVariants as asked
 use Rattle.acap_lexer.specs.declared.lexed.Lexed.{Lexed}
 use Rattle.acap_lexer.specs.declared.lexed.Lexed.TheVariants.{More, Plus, Line, Bad, Fatal}
-use Rattle.acap_lexer.specs.declared.mode.Mode.{Mode}
+use Rattle.acap_lexer.specs.declared.lexed.Mode.{Mode}
 use Rattle.acap_lexer.specs.Holding.{Held}
 use Rattle.acap_lexer.specs.Owing.{Owes, AsksFor, with_more, how_whole}
 use Rattle.acap_lexer.specs.Stream.{progress}

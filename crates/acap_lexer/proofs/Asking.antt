@@ -3,12 +3,12 @@ use Rattle.std.proofs.Common.{◌≡◌, ℕ, suc, ◌+◌, ◌-◌, ◌<◌, �
 use Rattle.std.specs.Prelude.{replicate}
 use Rattle.std.proofs.lemmas.List.{drop-append-le}
 use Rattle.std.proofs.lemmas.Bool.{cases_lt, le-ltb, lt-ltb}
-use Rattle.acap_lexer.specs.declared.due.Due.{Due}
-use Rattle.acap_lexer.specs.declared.due.Due.TheVariants as dues
+use Rattle.acap_lexer.specs.declared.outcomes.Due.{Due}
+use Rattle.acap_lexer.specs.declared.outcomes.Due.TheVariants as dues
 use Rattle.acap_lexer.specs.declared.fault.LexFault.{LexFault}
 use Rattle.acap_lexer.specs.declared.lexed.Lexed.{Lexed}
 use Rattle.acap_lexer.specs.declared.lexed.Lexed.TheVariants.{More, Plus, Fatal}
-use Rattle.acap_lexer.specs.declared.mode.Mode.{Mode}
+use Rattle.acap_lexer.specs.declared.lexed.Mode.{Mode}
 use Rattle.acap_lexer.specs.Holding.{Held}
 use Rattle.acap_lexer.specs.Held.{fatal_of, held_behind, next_of, next_by, next_by_item, answers_from, answers_by_item}
 use Rattle.acap_lexer.specs.Owing.{Owes, with_more}

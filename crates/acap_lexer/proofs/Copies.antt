@@ -7,8 +7,8 @@ use Rattle.acap_lexer.specs.declared.fault.LexFault.TheVariants.{BadToken}
 use Rattle.acap_lexer.specs.declared.kind.Kind.{Kind}
 use Rattle.acap_lexer.specs.declared.kind.Kind.TheVariants as kinds
 use Rattle.acap_lexer.specs.Octets.{is_word, is_quotable, is_escaped}
-use Rattle.acap_lexer.specs.declared.mode.Mode.{Mode}
-use Rattle.acap_lexer.specs.declared.mode.Mode.TheVariants as modes
+use Rattle.acap_lexer.specs.declared.lexed.Mode.{Mode}
+use Rattle.acap_lexer.specs.declared.lexed.Mode.TheVariants as modes
 use Rattle.acap_lexer.specs.Part.{with_token, token_of_lexeme, begun_at, tag_token}
 use Rattle.acap_lexer.specs.Places.{LiesIn, Splits}
 use Rattle.acap_lexer.specs.Printing.{Grows}

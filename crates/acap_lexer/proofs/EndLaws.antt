@@ -4,7 +4,7 @@ use Rattle.std.specs.Prelude.{option_map, ◌&&◌}
 use Rattle.std.proofs.lemmas.Bool.{cases_lt, le-ltb, lt-ltb}
 use Rattle.std.proofs.lemmas.List.{take-append-le, take_all}
 use Rattle.std.proofs.Math.Seq.{take-append-add}
-use Rattle.acap_lexer.specs.declared.part_end.PartEnd.TheVariants.{At, Never, NotYet}
+use Rattle.acap_lexer.specs.declared.found.PartEnd.TheVariants.{At, Never, NotYet}
 use Rattle.acap_lexer.specs.Stream.{end_of, part_end, part_end_by, part_limit}
 use Rattle.acap_lexer.proofs.EndPlaces.{end_of_within}
 

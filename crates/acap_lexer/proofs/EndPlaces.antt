@@ -5,7 +5,7 @@ use Rattle.std.proofs.lemmas.Bool.{and_parts, eqb-true, eq-eqb, and_from, cases_
 use Rattle.std.proofs.lemmas.List.{get_or-drop, take_all, take_min}
 use Rattle.memchr.specs.Find.{IsFirstByte, is_byte}
 use Rattle.acap_lexer.specs.Ends.{NoEnd, follows_return}
-use Rattle.acap_lexer.specs.declared.part_end.PartEnd.TheVariants.{At, Never, NotYet}
+use Rattle.acap_lexer.specs.declared.found.PartEnd.TheVariants.{At, Never, NotYet}
 use Rattle.acap_lexer.specs.Stream.{end_of, part_end, part_end_by, part_limit}
 
 -- a CR LF lies there

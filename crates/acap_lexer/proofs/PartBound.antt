@@ -1,7 +1,7 @@
 -- Each token of a part takes an octet at least, so that the bound on their number changes nothing.
 use Rattle.std.proofs.Common.{◌≡◌, ℕ, zero, suc, ◌+◌, ◌<◌, ◌≤◌, Bool, true, false, cond, List, [], ◌∷◌, ◌++◌, length, drop, Option, Some, None, Result, Ok, Err, refl, arith, length-drop, eqb, leb, slice_index}
 use Rattle.std.specs.List.{prefix_len}
-use Rattle.acap_lexer.specs.declared.announced.Announced.{Announced}
+use Rattle.acap_lexer.specs.declared.found.Announced.{Announced}
 use Rattle.acap_lexer.specs.declared.fault.LexFault.{LexFault}
 use Rattle.acap_lexer.specs.declared.fault.LexFault.TheVariants.{BadToken}
 use Rattle.acap_lexer.specs.declared.kind.Kind.{Kind}

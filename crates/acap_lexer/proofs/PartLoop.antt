@@ -1,10 +1,10 @@
 -- What the loop over the tokens of a part keeps.
 use Rattle.std.proofs.Common.{◌≡◌, ℕ, suc, ◌+◌, ◌-◌, ◌<◌, ◌≤◌, List, [], ◌∷◌, length, Some, None, Result, Ok, Err, refl, sym, ap, ◌∙◌, arith}
-use Rattle.acap_lexer.specs.declared.announced.Announced.{Announced}
+use Rattle.acap_lexer.specs.declared.found.Announced.{Announced}
 use Rattle.acap_lexer.specs.declared.fault.LexError.{LexError}
 use Rattle.acap_lexer.specs.declared.fault.LexFault.{LexFault}
 use Rattle.acap_lexer.specs.declared.fault.LexFault.TheVariants.{BadToken}
-use Rattle.acap_lexer.specs.declared.coming.Coming.TheVariants.{Mark, Rest}
+use Rattle.acap_lexer.specs.declared.found.Coming.TheVariants.{Mark, Rest}
 use Rattle.std.specs.Borrow.{Bor}
 use Rattle.acap_lexer.specs.Token.{Token}
 use Rattle.acap_lexer.specs.Part.{Part, next_at, part_within}

@@ -1,9 +1,9 @@
 -- What the loops over commands, parts and pieces keep.
 use Rattle.std.proofs.Common.{◌≡◌, ℕ, ◌+◌, ◌<◌, ◌≤◌, List, [], ◌∷◌, ◌++◌, length, get_or, drop, None, refl, sym, ap, ◌∙◌, arith, Bor}
 use Rattle.std.proofs.lemmas.List.{append-nil, at_drop_more, at_drop_all}
-use Rattle.acap_lexer.specs.declared.answered.Answered.TheVariants as asked
+use Rattle.acap_lexer.specs.declared.outcomes.Answered.TheVariants as asked
 use Rattle.acap_lexer.specs.declared.lexed.Lexed.{Lexed}
-use Rattle.acap_lexer.specs.declared.mode.Mode.{Mode}
+use Rattle.acap_lexer.specs.declared.lexed.Mode.{Mode}
 use Rattle.acap_lexer.specs.Holding.{Held}
 use Rattle.acap_lexer.specs.Held.{answers_from, answers_of}
 use Rattle.acap_lexer.specs.Owing.{Owes, IsReady, AsksFor, AsksAll, Feeds, octets_of, with_more}

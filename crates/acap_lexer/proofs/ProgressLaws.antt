@@ -1,7 +1,7 @@
 -- How far a text leads, and how far a longer one.
 use Rattle.std.proofs.Common.{◌≡◌, ℕ, zero, suc, ◌+◌, ◌<◌, ◌≤◌, List, [], ◌++◌, length, Some, None, refl, sym, ap, subst, ◌∙◌, arith, length-append}
 use Rattle.acap_lexer.specs.declared.lexed.Lexed.{Lexed}
-use Rattle.acap_lexer.specs.declared.mode.Mode.{Mode}
+use Rattle.acap_lexer.specs.declared.lexed.Mode.{Mode}
 use Rattle.acap_lexer.specs.Stream.{Stage, AtPart, InLiteral, Step, Waits, Ends, Goes, Progress, IsItem, step_of, octets_of, beginning, nothing, waiting, progress_by, progress_within, progress_from, progress}
 use Rattle.acap_lexer.proofs.StepOutcomes.{Tells, Onwards, FitsIn, rank, step_tells}
 

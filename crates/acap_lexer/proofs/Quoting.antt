@@ -20,12 +20,12 @@ behind_none (Ok x) = refl
 behind_none (Err f) = refl
 
 -- what stands for itself is neither a quote nor a backslash
-not_special : (a b : Bool) → not (a || b) ≡ true → (a ≡ false) × (b ≡ false)
+pub not_special : (a b : Bool) → not (a || b) ≡ true → (a ≡ false) × (b ≡ false)
 not_special true b e = absurd cc
 not_special false true e = absurd cc
 not_special false false e = (refl, refl)
 
-plain : (c : ℕ) → is_quotable c ≡ true → (eqb c 34 ≡ false) × (eqb c 92 ≡ false)
+pub plain : (c : ℕ) → is_quotable c ≡ true → (eqb c 34 ≡ false) × (eqb c 92 ≡ false)
 unfolding is_quotable
 plain c e =
     let outer = not_special (eqb c 0 || eqb c 10 || eqb c 13 || eqb c 34) (eqb c 92) e in
@@ -82,7 +82,7 @@ read_escaped : (c : ℕ) (rest : List ℕ) → is_escaped c ≡ true → quoted_
 unfolding quoted_at
 read_escaped c rest e = rw e refl
 
-is_plain : (c : ℕ) → is_printable c ≡ true → is_escaped c ≡ false → is_quotable c ≡ true
+pub is_plain : (c : ℕ) → is_printable c ≡ true → is_escaped c ≡ false → is_quotable c ≡ true
 unfolding is_printable is_escaped is_quotable
 is_plain c p e =
     let special = or_parts (eqb c 34) (eqb c 92) e in

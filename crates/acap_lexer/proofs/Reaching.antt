@@ -1,9 +1,9 @@
 -- A scan that goes from stage to stage.
 use Rattle.std.proofs.Common.{◌≡◌, ℕ, ◌+◌, ◌<◌, ◌≤◌, List, [], ◌++◌, length, drop, Option, Some, None, refl, sym, ap, subst, ◌∙◌, arith, zero-add, add_assoc, append_assoc, length-append, length-drop}
 use Rattle.std.proofs.lemmas.List.{append-nil, drop-append-le, get_or_append_left}
-use Rattle.acap_lexer.specs.declared.due.Due.TheVariants as dues
+use Rattle.acap_lexer.specs.declared.outcomes.Due.TheVariants as dues
 use Rattle.acap_lexer.specs.declared.lexed.Lexed.{Lexed}
-use Rattle.acap_lexer.specs.declared.mode.Mode.{Mode}
+use Rattle.acap_lexer.specs.declared.lexed.Mode.{Mode}
 use Rattle.acap_lexer.specs.declared.scan.Literal.{Literal}
 use Rattle.acap_lexer.specs.declared.scan.Scan.{Scan}
 use Rattle.acap_lexer.specs.Ends.{NoEnd}

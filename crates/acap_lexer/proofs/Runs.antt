@@ -1,16 +1,13 @@
 -- The escaped form, run by run.
-use Rattle.std.proofs.Common.{◌≡◌, ℕ, zero, suc, ◌<◌, Bool, true, false, List, [], ◌∷◌, ◌++◌, length, take, drop, Some, None, refl, sym, ap, ◌∙◌, arith, slice_index, length-drop, append_assoc}
+use Rattle.std.proofs.Common.{◌≡◌, ℕ, zero, suc, ◌<◌, true, false, List, [], ◌∷◌, ◌++◌, length, take, drop, Some, None, refl, sym, ap, ◌∙◌, arith, slice_index, length-drop, append_assoc}
 use Rattle.std.specs.Prelude.{not}
 use Rattle.std.specs.List.{list_all}
 use Rattle.std.proofs.lemmas.List.Folds.{list_all_at}
+use Rattle.std.proofs.lemmas.Bool.{false_from_ne_true}
 use Rattle.memchr.specs.Find.{IsFirstByte, is_byte2, is_byte3}
 use Rattle.acap_lexer.specs.Escapes.{IsSplitAtEscape}
 use Rattle.acap_lexer.specs.Octets.{is_escaped}
 use Rattle.acap_lexer.specs.Printing.{escape, escaped_form, is_printable}
-
-decided : (b : Bool) → (b ≡ true → ⊥) → b ≡ false
-decided true h = absurd (h refl)
-decided false h = refl
 
 none_before : List ℕ → ℕ → Type 0
 none_before text n = (k : ℕ) → k < n → is_escaped (slice_index text k) ≡ true → ⊥
@@ -22,7 +19,7 @@ run_of [] zero h = refl
 run_of [] (suc n) h = refl
 run_of (c ∷ text) zero h = refl
 run_of (c ∷ text) (suc n) h =
-    let plain : is_escaped c ≡ false = decided (is_escaped c) (h 0 (omega arith)) in
+    let plain : is_escaped c ≡ false = false_from_ne_true (is_escaped c) (h 0 (omega arith)) in
     let form : escape c ≡ c ∷ [] = rw plain refl in
     let later : escaped_form text ≡ take n text ++ escaped_form (drop n text) = run_of text n (λ k lt e. h (suc k) (omega arith) e) in
     ap (λ (front : List ℕ). front ++ escaped_form text) form ∙ ap (λ (rest : List ℕ). c ∷ rest) later
@@ -34,7 +31,7 @@ all_plain : (text : List ℕ) → none_before text (length text) → escaped_for
 unfolding none_before
 all_plain [] h = refl
 all_plain (c ∷ text) h =
-    let plain : is_escaped c ≡ false = decided (is_escaped c) (h 0 (omega arith)) in
+    let plain : is_escaped c ≡ false = false_from_ne_true (is_escaped c) (h 0 (omega arith)) in
     let form : escape c ≡ c ∷ [] = rw plain refl in
     ap (λ (front : List ℕ). front ++ escaped_form text) form ∙ ap (λ (rest : List ℕ). c ∷ rest) (all_plain text (λ k lt e. h (suc k) (omega arith) e))
 
@@ -70,7 +67,7 @@ goes_on old out left run behind text c s so_far =
 
 printable_if : (c : ℕ) → (is_byte3 0 10 13 c ≡ true → ⊥) → is_printable c ≡ true
 unfolding is_printable
-printable_if c h = rw (decided (is_byte3 0 10 13 c) h) refl
+printable_if c h = rw (false_from_ne_true (is_byte3 0 10 13 c) h) refl
 
 all_if : (text : List ℕ) → ((k : ℕ) → k < length text → is_byte3 0 10 13 (slice_index text k) ≡ true → ⊥) → list_all is_printable text ≡ true
 all_if [] h = refl

@@ -8,9 +8,9 @@ use Rattle.std.proofs.lemmas.List.Folds.{list_all-append, length-prefix_len}
 use Rattle.std.proofs.Math.Seq.{take-append_seam, drop-append_seam}
 use Rattle.acap_lexer.specs.declared.kind.Kind.{Kind}
 use Rattle.acap_lexer.specs.declared.kind.Kind.TheVariants as kinds
-use Rattle.acap_lexer.specs.declared.mode.Mode.{Mode}
-use Rattle.acap_lexer.specs.declared.mode.Mode.TheVariants as modes
-use Rattle.acap_lexer.specs.declared.part_end.PartEnd.TheVariants.{At}
+use Rattle.acap_lexer.specs.declared.lexed.Mode.{Mode}
+use Rattle.acap_lexer.specs.declared.lexed.Mode.TheVariants as modes
+use Rattle.acap_lexer.specs.declared.found.PartEnd.TheVariants.{At}
 use Rattle.acap_lexer.specs.Octets.{is_word, is_tag, is_digit}
 use Rattle.acap_lexer.specs.Part.{begun_at, tag_token, last_kind}
 use Rattle.acap_lexer.specs.Printing.{escape, escaped_form, is_printable, quoted_form}

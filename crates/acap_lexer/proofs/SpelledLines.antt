@@ -2,16 +2,16 @@
 use Rattle.std.proofs.Common.{◌≡◌, ℕ, zero, suc, ◌+◌, ◌-◌, ◌<◌, ◌≤◌, Bool, true, cond, List, [], ◌∷◌, ◌++◌, length, take, drop, Option, Some, None, Ok, refl, sym, ap, subst, ◌∙◌, arith, length-append, length-drop, append_assoc}
 use Rattle.std.specs.List.{AllByRecursion, list_all}
 use Rattle.std.proofs.lemmas.Bool.{le-ltb}
-use Rattle.std.proofs.lemmas.List.{append-nil, drop-drop, drop-take, length-take-le, take-append-drop}
+use Rattle.std.proofs.lemmas.List.{append-nil, drop-drop, drop-take, length-take-le, take-append-drop, nil_from_length}
 use Rattle.std.proofs.Math.Seq.{take-append_seam, drop-append_seam, take-append-add}
-use Rattle.acap_lexer.specs.declared.announced.Announced.{Announced}
+use Rattle.acap_lexer.specs.declared.found.Announced.{Announced}
 use Rattle.acap_lexer.specs.declared.kind.Kind.{Kind}
 use Rattle.acap_lexer.specs.declared.kind.Kind.TheVariants as kinds
 use Rattle.acap_lexer.specs.declared.lexed.Lexed.{Lexed}
 use Rattle.acap_lexer.specs.declared.lexed.Lexed.TheVariants.{Line}
-use Rattle.acap_lexer.specs.declared.mode.Mode.{Mode}
-use Rattle.acap_lexer.specs.declared.mode.Mode.TheVariants as modes
-use Rattle.acap_lexer.specs.declared.part_end.PartEnd.TheVariants.{At}
+use Rattle.acap_lexer.specs.declared.lexed.Mode.{Mode}
+use Rattle.acap_lexer.specs.declared.lexed.Mode.TheVariants as modes
+use Rattle.acap_lexer.specs.declared.found.PartEnd.TheVariants.{At}
 use Rattle.acap_lexer.specs.Part.{Part, last_kind, part_within, begun_at}
 use Rattle.acap_lexer.specs.Spelling.{Written, Literal, kind_of, own, mark, number, IsCount, Piece, gap, Stand, text_of, token, tokens_from, wait, waits_of, lengths_by, part_lengths, Begins, IsSpelling, kind_before, tokens_before}
 use Rattle.acap_lexer.specs.Stream.{Front, Stage, AtPart, InLiteral, Goes, Progress, step_of_part, step_by_mark, step_by_end, step_of, literal_token, part_end, part_limit, command_limit, waiting, progress_by, progress_from, progress}
@@ -289,10 +289,6 @@ found mode front text part more x led e qs octets rs within cut short stand text
       fits = fits;
     }
 
-nothing_left : (xs : List ℕ) → length xs ≡ 0 → xs ≡ []
-nothing_left [] e = refl
-nothing_left (c ∷ xs) e = absurd (omega (arith, e))
-
 -- a part in a text that ends behind it
 cut_short : (at size : ℕ) (text part more : List ℕ) → drop at text ≡ part ++ 13 ∷ 10 ∷ more → at + length part + 2 ≤ size → drop at (take size text) ≡ part ++ 13 ∷ 10 ∷ take (size - (at + length part + 2)) more
 cut_short at size text part more cut within =
@@ -311,7 +307,7 @@ found_by_mark n mode front text part more size x led p Done qs None tokens m le 
     let end = by_line p.tokens tokens (front.octets + length part + 2) size e in
     let whole = length-take-le size text le in
     let inner = cut_short front.octets size text part more cut (omega (arith, end.1)) in
-    let nothing = nothing_left (take (size - (front.octets + length part + 2)) more) (omega (arith, end.1, whole, ap length inner, length-append part (13 ∷ 10 ∷ take (size - (front.octets + length part + 2)) more), length-drop front.octets (take size text))) in
+    let nothing = nil_from_length (take (size - (front.octets + length part + 2)) more) (omega (arith, end.1, whole, ap length inner, length-append part (13 ∷ 10 ∷ take (size - (front.octets + length part + 2)) more), length-drop front.octets (take size text))) in
     found mode front (take size text) part (take (size - (front.octets + length part + 2)) more) x led Done qs [] [] (omega (arith, end.1, whole)) inner short stand text_is tt nothing tt (omega (arith, end.1, whole, fits))
 found_by_mark n mode front text part more size x led p (Marked spaced digits waits) qs (Some m) tokens is le far within cut short stand text_is fits e later =
     let go = λ (s : Stage). progress_from mode s text in

@@ -3,8 +3,8 @@ use Rattle.std.proofs.Common.{ℕ, ◌+◌, ◌≤◌, cond, List, length, Optio
 use Rattle.std.specs.Prelude.{IfOk, is_some}
 use Rattle.acap_lexer.specs.declared.scan.Scan.{Scan}
 use Rattle.acap_lexer.specs.declared.scan.Literal.{Literal}
-use Rattle.acap_lexer.specs.declared.stage_outcome.StageOutcome.{StageOutcome}
-use Rattle.acap_lexer.specs.declared.stage_outcome.StageOutcome.TheVariants as outcomes
+use Rattle.acap_lexer.specs.declared.outcomes.StageOutcome.{StageOutcome}
+use Rattle.acap_lexer.specs.declared.outcomes.StageOutcome.TheVariants as outcomes
 use Rattle.acap_lexer.specs.Scanning.{IsNearer, StaysSound, OpensOn}
 
 pub at_ok : {E : Type 0} (r : Result StageOutcome E) (P Q : StageOutcome → Type 0) → ((turn : StageOutcome) → P turn → Q turn) → IfOk r P → IfOk r Q

@@ -1,13 +1,13 @@
 -- Examples of what begins a text, of limits, and of what is printed. [RFC 2244, 2.2 and 2.6]
 use Rattle.std.specs.Prelude.{◌≡◌, ℕ, ◌+◌, List, [], ◌∷◌, ◌++◌, Some, None, Ok, Err, Bool, not, codes, filter, replicate}
 use Rattle.std.specs.List.{range_with_len}
-use Rattle.acap_lexer.specs.declared.part_end.PartEnd.TheVariants.{At, Never, NotYet}
+use Rattle.acap_lexer.specs.declared.found.PartEnd.TheVariants.{At, Never, NotYet}
 use Rattle.acap_lexer.specs.declared.fault.LexFault.TheVariants.{BadTag, BadToken, BadLiteral, CommandTooLong, LineTooLong}
 use Rattle.acap_lexer.specs.declared.kind.Kind.{Kind}
 use Rattle.acap_lexer.specs.declared.kind.Kind.TheVariants as kinds
 use Rattle.acap_lexer.specs.declared.lexed.Lexed.{Lexed}
 use Rattle.acap_lexer.specs.declared.lexed.Lexed.TheVariants.{More, Plus, Line, Bad, Fatal}
-use Rattle.acap_lexer.specs.declared.mode.Mode.TheVariants as modes
+use Rattle.acap_lexer.specs.declared.lexed.Mode.TheVariants as modes
 use Rattle.acap_lexer.specs.Held.{next_of, answers_of}
 use Rattle.acap_lexer.specs.Holding.{Held, held_limit}
 use Rattle.acap_lexer.specs.Octets.{is_word, is_tag, is_quotable, is_escaped, is_digit}

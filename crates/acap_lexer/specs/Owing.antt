@@ -1,11 +1,11 @@
 -- What is answered, and what is still owed, whatever octets come behind those that are held.
 use Rattle.std.specs.Prelude.{◌≡◌, ℕ, ◌<◌, List, [], ◌∷◌, ◌++◌, length, None, Result, IfOk, flat_map}
 use Rattle.std.specs.Borrow.{Bor}
-use Rattle.acap_lexer.specs.declared.answered.Answered.{Answered}
-use Rattle.acap_lexer.specs.declared.answered.Answered.TheVariants as asked
+use Rattle.acap_lexer.specs.declared.outcomes.Answered.{Answered}
+use Rattle.acap_lexer.specs.declared.outcomes.Answered.TheVariants as asked
 use Rattle.acap_lexer.specs.declared.lexed.Lexed.{Lexed}
 use Rattle.acap_lexer.specs.declared.lexed.Lexed.TheVariants.{Fatal}
-use Rattle.acap_lexer.specs.declared.mode.Mode.{Mode}
+use Rattle.acap_lexer.specs.declared.lexed.Mode.{Mode}
 use Rattle.acap_lexer.specs.Holding.{Held, held_limit}
 use Rattle.acap_lexer.specs.Held.{answers_from}
 

@@ -1,13 +1,13 @@
 -- The tokens of a part of a command, which goes up to the first CR LF behind its beginning. A part may end in
 -- a literal mark, whose octets follow the CR LF, and then the next part. [RFC 2244, 2.2 and 2.6.3]
 use Rattle.std.specs.Prelude.{ℕ, zero, suc, ◌-◌, List, [], ◌∷◌, ◌++◌, length, Option, Some, None, option_map, Result, Ok, Err, slice_get}
-use Rattle.acap_lexer.specs.declared.announced.Announced.{Announced}
+use Rattle.acap_lexer.specs.declared.found.Announced.{Announced}
 use Rattle.acap_lexer.specs.declared.fault.LexFault.{LexFault}
 use Rattle.acap_lexer.specs.declared.fault.LexFault.TheVariants.{BadToken}
 use Rattle.acap_lexer.specs.declared.kind.Kind.{Kind}
 use Rattle.acap_lexer.specs.declared.kind.Kind.TheVariants as kinds
-use Rattle.acap_lexer.specs.declared.mode.Mode.{Mode}
-use Rattle.acap_lexer.specs.declared.mode.Mode.TheVariants as modes
+use Rattle.acap_lexer.specs.declared.lexed.Mode.{Mode}
+use Rattle.acap_lexer.specs.declared.lexed.Mode.TheVariants as modes
 use Rattle.acap_lexer.specs.Token.{Token}
 use Rattle.acap_lexer.specs.Reading.{◌>>=◌, Read, Lexeme, gap_at, mark_of, token_at, tag_at}
 

@@ -1,7 +1,7 @@
 -- What the end of a part says of its text.
 use Rattle.std.specs.Prelude.{ℕ, ◌+◌, ◌≤◌, List, length}
-use Rattle.acap_lexer.specs.declared.part_end.PartEnd.{PartEnd}
-use Rattle.acap_lexer.specs.declared.part_end.PartEnd.TheVariants.{At, Never, NotYet}
+use Rattle.acap_lexer.specs.declared.found.PartEnd.{PartEnd}
+use Rattle.acap_lexer.specs.declared.found.PartEnd.TheVariants.{At, Never, NotYet}
 use Rattle.acap_lexer.specs.Ends.{NoEnd}
 use Rattle.acap_lexer.specs.Stream.{part_limit}
 

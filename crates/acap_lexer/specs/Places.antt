@@ -1,7 +1,7 @@
 -- Tokens as places in one text of values.
 use Rattle.std.specs.Prelude.{◌≡◌, ℕ, ◌+◌, ◌-◌, ◌≤◌, List, ◌++◌, length, take, drop, map}
 use Rattle.std.specs.List.{AllByRecursion}
-use Rattle.acap_lexer.specs.declared.place.TokenPlace.{TokenPlace}
+use Rattle.acap_lexer.specs.declared.kind.TokenPlace.{TokenPlace}
 use Rattle.acap_lexer.specs.Token.{Token}
 
 abbrev pub token_in : List ℕ → TokenPlace → Token

@@ -3,7 +3,7 @@
 use Rattle.std.specs.Prelude.{◌≡◌, ℕ, ◌+◌, ◌-◌, ◌*◌, List, [], ◌∷◌, ◌++◌, length, take, drop, fold, Bool, true, false, Option, Some, None, Result, Ok, Err, nat_le, ◌==◌, ◌||◌, ◌&&◌, if◌then◌else◌, slice_index, is_none}
 use Rattle.std.specs.Borrow.{Bor}
 use Rattle.std.specs.List.{prefix_len}
-use Rattle.acap_lexer.specs.declared.announced.Announced.{Announced}
+use Rattle.acap_lexer.specs.declared.found.Announced.{Announced}
 use Rattle.acap_lexer.specs.declared.fault.LexFault.{LexFault}
 use Rattle.acap_lexer.specs.declared.fault.LexFault.TheVariants.{BadTag, BadToken, BadLiteral}
 use Rattle.acap_lexer.specs.declared.fault.LexError.{LexError}

@@ -1,13 +1,13 @@
 -- How far a scan has read a command.
 use Rattle.std.specs.Prelude.{◌≡◌, ℕ, ◌+◌, ◌-◌, ◌<◌, ◌≤◌, List, ◌++◌, length, drop, Option, Some, None, is_some, Result, IfOk, if◌then◌else◌}
-use Rattle.acap_lexer.specs.declared.announced.Announced.{Announced}
-use Rattle.acap_lexer.specs.declared.due.Due.{Due}
-use Rattle.acap_lexer.specs.declared.due.Due.TheVariants as dues
-use Rattle.acap_lexer.specs.declared.mode.Mode.{Mode}
+use Rattle.acap_lexer.specs.declared.found.Announced.{Announced}
+use Rattle.acap_lexer.specs.declared.outcomes.Due.{Due}
+use Rattle.acap_lexer.specs.declared.outcomes.Due.TheVariants as dues
+use Rattle.acap_lexer.specs.declared.lexed.Mode.{Mode}
 use Rattle.acap_lexer.specs.declared.scan.Literal.{Literal}
 use Rattle.acap_lexer.specs.declared.scan.Scan.{Scan}
-use Rattle.acap_lexer.specs.declared.stage_outcome.StageOutcome.{StageOutcome}
-use Rattle.acap_lexer.specs.declared.stage_outcome.StageOutcome.TheVariants as outcomes
+use Rattle.acap_lexer.specs.declared.outcomes.StageOutcome.{StageOutcome}
+use Rattle.acap_lexer.specs.declared.outcomes.StageOutcome.TheVariants as outcomes
 use Rattle.acap_lexer.specs.Ends.{NoEnd}
 use Rattle.acap_lexer.specs.Stream.{Front, step_by_mark, step_of_part, step_of, Stage, AtPart, InLiteral, Step, Waits, Ends, Goes, progress, progress_from, waiting}
 

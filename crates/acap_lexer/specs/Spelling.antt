@@ -3,8 +3,8 @@ use Rattle.std.specs.Prelude.{◌≡◌, ℕ, ◌+◌, ◌-◌, ◌*◌, ◌^◌
 use Rattle.std.specs.List.{AllByRecursion, list_all}
 use Rattle.acap_lexer.specs.declared.kind.Kind.{Kind}
 use Rattle.acap_lexer.specs.declared.kind.Kind.TheVariants as kinds
-use Rattle.acap_lexer.specs.declared.mode.Mode.{Mode}
-use Rattle.acap_lexer.specs.declared.mode.Mode.TheVariants as modes
+use Rattle.acap_lexer.specs.declared.lexed.Mode.{Mode}
+use Rattle.acap_lexer.specs.declared.lexed.Mode.TheVariants as modes
 use Rattle.acap_lexer.specs.Octets.{is_word, is_tag, is_digit, carriage_return, line_feed}
 use Rattle.acap_lexer.specs.Printing.{escaped_form, is_printable, quoted_form}
 use Rattle.acap_lexer.specs.Token.{Token}

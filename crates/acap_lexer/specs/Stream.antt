@@ -2,15 +2,15 @@
 -- tokens, a line with a fault, or a fault after which nothing is read. [RFC 2244, 2.2 and 2.6.3]
 use Rattle.std.specs.Prelude.{ℕ, zero, suc, ◌+◌, List, [], ◌∷◌, ◌++◌, length, take, drop, Option, Some, None, option_map, Result, Ok, Err, nat_lt, ◌==◌, ◌&&◌, if◌then◌else◌, slice_index}
 use Rattle.acap_lexer.specs.Octets.{carriage_return, line_feed}
-use Rattle.acap_lexer.specs.declared.announced.Announced.{Announced}
-use Rattle.acap_lexer.specs.declared.part_end.PartEnd.{PartEnd}
-use Rattle.acap_lexer.specs.declared.part_end.PartEnd.TheVariants.{At, Never, NotYet}
+use Rattle.acap_lexer.specs.declared.found.Announced.{Announced}
+use Rattle.acap_lexer.specs.declared.found.PartEnd.{PartEnd}
+use Rattle.acap_lexer.specs.declared.found.PartEnd.TheVariants.{At, Never, NotYet}
 use Rattle.acap_lexer.specs.declared.fault.LexFault.{LexFault}
 use Rattle.acap_lexer.specs.declared.fault.LexFault.TheVariants.{LineTooLong, CommandTooLong}
 use Rattle.acap_lexer.specs.declared.kind.Kind.TheVariants as kinds
 use Rattle.acap_lexer.specs.declared.lexed.Lexed.{Lexed}
 use Rattle.acap_lexer.specs.declared.lexed.Lexed.TheVariants.{More, Plus, Line, Bad, Fatal}
-use Rattle.acap_lexer.specs.declared.mode.Mode.{Mode}
+use Rattle.acap_lexer.specs.declared.lexed.Mode.{Mode}
 use Rattle.acap_lexer.specs.Token.{Token}
 use Rattle.acap_lexer.specs.Reading.{Read}
 use Rattle.acap_lexer.specs.Part.{Part, part_within, begun_at, tag_of}

@@ -3,8 +3,8 @@ use Rattle.std.specs.Prelude.{◌≡◌, ℕ, ◌<◌, ◌≤◌, List, [], leng
 use Rattle.std.specs.Borrow.{Bor}
 use Rattle.acap_lexer.specs.declared.fault.LexError.{LexError}
 use Rattle.acap_lexer.specs.declared.fault.LexFault.{LexFault}
-use Rattle.acap_lexer.specs.declared.coming.Coming.{Coming}
-use Rattle.acap_lexer.specs.declared.coming.Coming.TheVariants.{Mark, Rest}
+use Rattle.acap_lexer.specs.declared.found.Coming.{Coming}
+use Rattle.acap_lexer.specs.declared.found.Coming.TheVariants.{Mark, Rest}
 use Rattle.acap_lexer.specs.Places.{LiesIn}
 use Rattle.acap_lexer.specs.Token.{Token}
 use Rattle.acap_lexer.specs.Part.{Part, next_at}

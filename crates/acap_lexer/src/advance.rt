@@ -4,11 +4,10 @@ ghost use Rattle.std.specs.Prelude.{◌≡◌, ◌<◌, ◌^◌, [], List, ℕ, 
 ghost use Rattle.acap_lexer.specs.Scanning.{IsSound, Reaches, IsDue, FitsIn, KeepsScan};
 
 use crate::draft::Draft;
-use crate::due::Due;
 use crate::fault::Memory;
-use crate::mode::Mode;
+use crate::lexed::Mode;
+use crate::outcomes::{Due, StageOutcome};
 use crate::scan::Scan;
-use crate::stage_outcome::StageOutcome;
 use crate::stages::step;
 use std::alloc::Global;
 

@@ -8,8 +8,7 @@ ghost use Rattle.acap_lexer.specs.Printing.{Grows};
 ghost use Rattle.acap_lexer.specs.Reading.{Gives, as_string, string_at};
 
 use crate::fault::{LexError, Memory};
-use crate::kind::Kind;
-use crate::place::TokenPlace;
+use crate::kind::{Kind, TokenPlace};
 use crate::strings::{plain_string_at, string_at};
 use crate::tokens::Tokens;
 use std::alloc::Global;

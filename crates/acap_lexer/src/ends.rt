@@ -5,7 +5,7 @@ ghost use Rattle.acap_lexer.specs.Ends.{NoEnd, follows_return};
 ghost use Rattle.acap_lexer.specs.Stream.{end_of, part_end};
 ghost use Rattle.acap_lexer.specs.PartEnds.{EndsWithin};
 
-use crate::part_end::PartEnd;
+use crate::found::PartEnd;
 use memchr::memchr;
 
 /// The CR LF of a part ends within so many of its octets.

@@ -1,4 +1,4 @@
-//! The kinds of token.
+//! The kinds of token, and where a token lies.
 
 /// What a token is (RFC 2244, section 2.2).
 #[derive(Clone, Copy, PartialEq, Eq)]
@@ -15,4 +15,14 @@ pub enum Kind {
     Open,
     /// `)`
     Close,
+}
+
+/// Where a token lies: its value in the text of values, and its own octets in the command.
+#[derive(Clone, Copy)]
+pub(crate) struct TokenPlace {
+    pub(crate) kind: Kind,
+    pub(crate) value_start: u32,
+    pub(crate) value_end: u32,
+    pub(crate) start: u32,
+    pub(crate) end: u32,
 }

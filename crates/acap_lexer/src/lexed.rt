@@ -1,8 +1,17 @@
-//! The answers of a lexer.
+//! What a line is read as, and what is read.
 
 use crate::fault::LexFault;
 use crate::tokens::Tokens;
 use std::marker::Model;
+
+/// What a lexer is asked for. It stays the same within one command, or that is read again from its beginning.
+#[derive(Clone, Copy, PartialEq, Eq)]
+pub enum Mode {
+    /// A command, which begins with its tag (RFC 2244, section 2.2).
+    Command,
+    /// A line of a login exchange, which has no tag (RFC 2244, section 6.3.1).
+    Answer,
+}
 
 /// The tag of a command, 1 to 32 octets, as it is written in front of the answers (RFC 2244, section 2.2).
 #[derive(Drop)]

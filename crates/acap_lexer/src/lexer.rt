@@ -6,10 +6,9 @@ ghost use Rattle.acap_lexer.specs.Holding.{held_limit, with_taken};
 
 use crate::advance::{advance, start, turn_to};
 use crate::draft::Draft;
-use crate::due::Due;
 use crate::fault::{LexFault, Memory};
-use crate::lexed::Lexed;
-use crate::mode::Mode;
+use crate::lexed::{Lexed, Mode};
+use crate::outcomes::Due;
 use crate::scan::Scan;
 use crate::tokens::Tokens;
 use std::alloc::Global;

@@ -3,28 +3,22 @@
 #![tactic(auto)]
 
 mod advance;
-mod announced;
-mod answered;
-mod coming;
 mod draft;
-mod due;
 mod ends;
 mod fault;
+mod found;
 mod kind;
 mod laws;
 mod lexed;
 mod lexer;
 mod marks;
-mod mode;
 mod octets;
+mod outcomes;
 mod part;
-mod part_end;
 mod pieces;
-mod place;
 mod print;
 mod reading;
 mod scan;
-mod stage_outcome;
 mod stages;
 mod strings;
 mod tokens;
@@ -35,10 +29,9 @@ pub use laws::{
     examples, goes_by_stages, held_examples, keeps_items, keeps_waits, leaves_room, limit_examples,
     octet_examples, printed_examples, reads_parts, reads_quoted, reads_spellings, takes_octets,
 };
-pub use lexed::{Lexed, Tag};
+pub use lexed::{Lexed, Mode, Tag};
 pub use lexer::{Lexer, compact};
 pub use marks::count_of;
-pub use mode::Mode;
 pub use pieces::answers;
 pub use print::print_string;
 pub use tokens::Tokens;

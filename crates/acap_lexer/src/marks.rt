@@ -5,7 +5,7 @@ ghost use Rattle.std.specs.List.{prefix_len};
 ghost use Rattle.acap_lexer.specs.Octets.{is_digit as is_digit_octet};
 ghost use Rattle.acap_lexer.specs.Reading.{count_of, closing_of, mark_of};
 
-use crate::announced::Announced;
+use crate::found::Announced;
 use crate::octets::is_digit;
 
 /// So many digits may a count have.

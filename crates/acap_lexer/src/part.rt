@@ -1,21 +1,19 @@
 //! The tokens of a whole part.
 
 ghost use Rattle.std.specs.Prelude.{◌≡◌, ◌≤◌, ◌<◌, length, IfOk, OnOk};
-ghost use Rattle.acap_lexer.specs.declared.mode.Mode.TheVariants as modes;
+ghost use Rattle.acap_lexer.specs.declared.lexed.Mode.TheVariants as modes;
 ghost use Rattle.acap_lexer.specs.Part.{part_within, begun_at, tag_of};
 ghost use Rattle.acap_lexer.specs.Places.{LiesIn};
 ghost use Rattle.acap_lexer.specs.Printing.{Grows};
 ghost use Rattle.acap_lexer.specs.Reading.{Gives, GivesLeft};
 ghost use Rattle.acap_lexer.specs.Taking.{TakesNext, LeavesCopy};
 
-use crate::announced::Announced;
-use crate::coming::Coming;
 use crate::draft::Draft;
 use crate::fault::{LexError, LexFault, Memory};
+use crate::found::{Announced, Coming};
 use crate::kind::Kind;
-use crate::lexed::Tag;
+use crate::lexed::{Mode, Tag};
 use crate::marks::mark_of;
-use crate::mode::Mode;
 use crate::reading::{gap_at, push_token, tag_at};
 use std::alloc::Global;
 

@@ -4,11 +4,10 @@ ghost use Rattle.std.specs.Prelude.{◌≡◌, ◌<◌, length, IfOk, None};
 ghost use Rattle.acap_lexer.specs.Held.{answers_of};
 ghost use Rattle.acap_lexer.specs.Owing.{AsksFor, LeavesAsked, LeavesFed, IsReady, how_whole, octets_of};
 
-use crate::answered::Answered;
 use crate::fault::Memory;
-use crate::lexed::Lexed;
+use crate::lexed::{Lexed, Mode};
 use crate::lexer::Lexer;
-use crate::mode::Mode;
+use crate::outcomes::Answered;
 use std::alloc::Global;
 
 /// Whether nothing is read behind the item.

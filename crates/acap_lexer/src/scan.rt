@@ -1,7 +1,7 @@
 //! How far a command has been read.
 
 use crate::draft::Draft;
-use crate::mode::Mode;
+use crate::lexed::Mode;
 
 /// A literal whose octets come next: where its mark begins in the command, and how many octets it has.
 #[derive(Clone, Copy)]

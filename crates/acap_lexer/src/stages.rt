@@ -1,22 +1,21 @@
 //! The stages of a command, one by one.
 
 ghost use Rattle.std.specs.Prelude.{◌≡◌, ◌≤◌, ◌<◌, ◌+◌, ◌^◌, length, IfOk};
-ghost use Rattle.acap_lexer.specs.declared.mode.Mode.TheVariants as modes;
+ghost use Rattle.acap_lexer.specs.declared.lexed.Mode.TheVariants as modes;
 ghost use Rattle.acap_lexer.specs.Part.{part_within, tag_of};
 ghost use Rattle.acap_lexer.specs.Places.{LiesIn};
 ghost use Rattle.acap_lexer.specs.Scanning.{IsSound, IsNearer, ReadsWhole, StaysSound, Steps, Turns, TurnsAtMark, OpensOn};
 ghost use Rattle.acap_lexer.specs.Stream.{step_by_part};
 
-use crate::announced::Announced;
 use crate::draft::Draft;
 use crate::ends::{PART_LIMIT, part_end};
 use crate::fault::{LexError, LexFault, Memory};
+use crate::found::{Announced, PartEnd};
 use crate::kind::Kind;
 use crate::lexed::Lexed;
+use crate::outcomes::StageOutcome;
 use crate::part::{begin, read_part, tag_of};
-use crate::part_end::PartEnd;
 use crate::scan::{Literal, Scan};
-use crate::stage_outcome::StageOutcome;
 use std::alloc::Global;
 use std::mem;
 

@@ -4,8 +4,7 @@ ghost use Rattle.std.specs.Prelude.{◌≡◌, ◌<◌, ◌==◌, [], length, sl
 ghost use Rattle.acap_lexer.specs.Places.{tokens_in, AreWithin};
 
 use crate::draft::Draft;
-use crate::kind::Kind;
-use crate::place::TokenPlace;
+use crate::kind::{Kind, TokenPlace};
 use std::alloc::Global;
 use std::marker::Model;
 use std::ops::Range;

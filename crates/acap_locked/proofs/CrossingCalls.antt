@@ -23,12 +23,12 @@ use Rattle.acap_locked.specs.contracts.item.Item as item
 use Rattle.acap_commands.proofs.key.Key.TheLaws.TheKnot as knot
 use Rattle.acap_commands.proofs.reply.Reply.TheSendSync as of_reply
 use Rattle.acap_entries.proofs.moment.Moment.TheSendSync as of_moment
-use Rattle.acap_commands.proofs.limit.Limit.TheSendSync as of_limit
-use Rattle.acap_commands.proofs.make_context.MakeContext.TheSendSync as of_make_context
+use Rattle.acap_commands.proofs.search_modifiers.Limit.TheSendSync as of_limit
+use Rattle.acap_commands.proofs.search_modifiers.MakeContext.TheSendSync as of_make_context
 use Rattle.acap_commands.proofs.object_name.ObjectName.TheSendSync as of_object_name
-use Rattle.acap_commands.proofs.return_item.ReturnItem.TheSendSync as of_return_item
-use Rattle.acap_commands.proofs.sort_item.SortItem.TheSendSync as of_sort_item
-use Rattle.acap_commands.proofs.store_entry.StoreEntry.TheSendSync as of_store_entry
+use Rattle.acap_commands.proofs.returns.ReturnItem.TheSendSync as of_return_item
+use Rattle.acap_commands.proofs.search_modifiers.SortItem.TheSendSync as of_sort_item
+use Rattle.acap_commands.proofs.store.StoreEntry.TheSendSync as of_store_entry
 use Rattle.acap_commands.proofs.test.Test.TheSendSync as of_test
 use Rattle.acap_entries.proofs.boxed.Boxed.TheSendSync as of_boxed
 use Rattle.acap_entries.proofs.dataset.Dataset.TheSendSync as of_dataset

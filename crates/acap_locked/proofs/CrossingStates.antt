@@ -3,8 +3,8 @@ use denote.Param.Send.{IsSend, sendable, view_send}
 use denote.Param.SendFields.{declared_send}
 use Rattle.std.proofs.Crossing.{crosses}
 use Rattle.acap_commands.proofs.key.Key.TheLaws.TheKnot as knot
-use Rattle.acap_commands.proofs.return_item.ReturnItem.TheSendSync as of_return_item
-use Rattle.acap_commands.proofs.sort_item.SortItem.TheSendSync as of_sort_item
+use Rattle.acap_commands.proofs.returns.ReturnItem.TheSendSync as of_return_item
+use Rattle.acap_commands.proofs.search_modifiers.SortItem.TheSendSync as of_sort_item
 use Rattle.acap_entries.proofs.dataset.Dataset.TheSendSync as of_dataset
 use Rattle.acap_entries.proofs.moment.Moment.TheSendSync as of_moment
 use Rattle.acap_entries.proofs.sequence.Sequence.TheSendSync as of_sequence

@@ -1,6 +1,6 @@
 -- The replay of a history is the run of its steps.
 use Rattle.std.proofs.Common.{◌≡◌, List, [], ◌∷◌, map, get_or, drop, Result, Ok, Err, refl, sym, ap, ◌∙◌}
-use Rattle.acap_commands.specs.declared.fault.Fault.{Fault}
+use Rattle.acap_commands.specs.declared.event.Fault.{Fault}
 use Rattle.acap_commands.specs.declared.reply.Reply.{Reply}
 use Rattle.acap_machine.specs.Machine.{Machine}
 use Rattle.acap_machine.specs.Runs.{run_of, outcome_of, machine_after, stepped_at}

@@ -1,8 +1,8 @@
 -- What one call does.
 use Rattle.std.specs.Prelude.{◌≡◌, ◌≤◌, ◌<◌, ℕ, ℤ, [], ◌∷◌, ◌++◌, Some, length, bit_or}
 use Rattle.acap_commands.specs.declared.event.Event.{Event}
-use Rattle.acap_commands.specs.declared.fault.Fault.{Fault}
-use Rattle.acap_commands.specs.declared.fault.Fault.TheVariants as fault
+use Rattle.acap_commands.specs.declared.event.Fault.{Fault}
+use Rattle.acap_commands.specs.declared.event.Fault.TheVariants as fault
 use Rattle.acap_machine.specs.Stepping.{Stepped, step_of, IsFault}
 use Rattle.acap_views.specs.Waiting.{waiting}
 use Rattle.acap_locked.specs.declared.answer.Answer.{Answer}

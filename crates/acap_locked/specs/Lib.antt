@@ -7,4 +7,5 @@ pub mod Laws
 pub mod Notes
 pub mod Passes
 pub mod Rings
+pub mod Room
 pub mod Shelf

@@ -1,7 +1,7 @@
 //! One event is performed, once it is written down.
 ghost use Rattle.std.specs.Prelude.{◌≡◌, IfOk, IfErr, OnErr};
 ghost use Rattle.acap_locked.specs.Notes.{call_of, entry_of, item_of};
-ghost use Rattle.acap_commands.specs.declared.fault.Fault.TheVariants as faults;
+ghost use Rattle.acap_commands.specs.declared.event.Fault.TheVariants as faults;
 ghost use Rattle.acap_machine.specs.Readied.{IsReadied, after_deed};
 ghost use Rattle.acap_machine.specs.Stepping.{step_of, IsFault, Stepped};
 ghost use Rattle.acap_views.specs.Waiting.{waiting as waiting_at};

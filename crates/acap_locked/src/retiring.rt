@@ -1,7 +1,8 @@
 //! Calls of epochs that are over are counted at once, and let go a few at a time.
 ghost use Rattle.std.specs.Prelude.{◌≡◌, ◌≤◌, ◌<◌, ◌+◌, ◌^◌, ◌==◌, ◌++◌, ◌∷◌, [], if◌then◌else◌, length, sum};
-ghost use Rattle.std.specs.Prelude.{OnOk, vec_len, vec_capacity};
+ghost use Rattle.std.specs.Prelude.{OnOk};
 ghost use Rattle.acap_locked.specs.Epochs.{retire};
+ghost use Rattle.acap_locked.specs.Room.{HasRoom};
 
 use crate::entry::Entry;
 use crate::item::Item;
@@ -28,8 +29,7 @@ pub(crate) fn let_go<T: Drop>(spent: &mut Vec<T>, count: usize) {
 /// only for want of memory.
 pub(crate) fn make_room<T: Drop>(items: &mut Vec<T>, spent: &mut Vec<T>) -> Result<(), AllocError>
     ensures items { items.new.items ≡ items.old.items }
-    ensures room { OnOk result
-        ((vec_len items.new < vec_capacity items.new) × (vec_len spent.new < vec_capacity spent.new)) }
+    ensures room { OnOk result (HasRoom items.new × HasRoom spent.new) }
 {
     let_go(spent, EACH);
     items.reserve(1)?;
@@ -40,8 +40,7 @@ pub(crate) fn make_room<T: Drop>(items: &mut Vec<T>, spent: &mut Vec<T>) -> Resu
 /// at once.
 pub(crate) fn set_aside<T: Drop>(items: &mut Vec<T>, spent: &mut Vec<T>)
     ensures items { items.new.items ≡ [] }
-    ensures room { vec_len items.old < vec_capacity items.old → vec_len spent.old < vec_capacity spent.old
-        → vec_len items.new < vec_capacity items.new }
+    ensures room { HasRoom items.old → HasRoom spent.old → HasRoom items.new }
 {
     if spent.is_empty() {
         mem::swap(items, spent);
@@ -64,8 +63,7 @@ pub(crate) fn renew(
         ≡ (if epoch.old == current then retired.old else retired.old + length items.old.items) }
     ensures epoch { epoch.new ≡ current }
     ensures same { retired.new + length items.new.items ≡ retired.old + length items.old.items }
-    ensures room { vec_len items.old < vec_capacity items.old → vec_len spent.old < vec_capacity spent.old
-        → vec_len items.new < vec_capacity items.new }
+    ensures room { HasRoom items.old → HasRoom spent.old → HasRoom items.new }
 {
     if *epoch != current {
         *retired += items.len() as u64;
@@ -83,7 +81,7 @@ pub(crate) fn gain(
     current: u64,
     item: Item,
 )
-    requires room { (vec_len items.old < vec_capacity items.old) × (vec_len spent.old < vec_capacity spent.old) }
+    requires room { HasRoom items.old × HasRoom spent.old }
     requires fits { retired.old + length items.old.items < 2 ^ 64 }
     ensures items { items.new.items ≡ (if epoch.old == current then items.old.items else []) ++ item ∷ [] }
     ensures retired { retired.new

@@ -1,9 +1,10 @@
 //! Items are put into room that is there.
-ghost use Rattle.std.specs.Prelude.{◌≡◌, ◌<◌, ◌++◌, ◌∷◌, [], vec_len, vec_capacity};
+ghost use Rattle.std.specs.Prelude.{◌≡◌, ◌++◌, ◌∷◌, []};
+ghost use Rattle.acap_locked.specs.Room.{HasRoom};
 
 /// Appends one, in room that is there. Takes no memory.
 pub(crate) fn push_in_room<T: Drop>(items: &mut Vec<T>, value: T)
-    requires { vec_len items.old < vec_capacity items.old }
+    requires { HasRoom items.old }
     ensures { items.new.items ≡ items.old.items ++ value ∷ [] }
 {
     items.push(value).unwrap();

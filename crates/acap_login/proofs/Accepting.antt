@@ -6,6 +6,7 @@ use Rattle.std.specs.Str.{bytes_eq}
 use Rattle.std.proofs.lemmas.Bool.Decides.{same_from_decides}
 use Rattle.std.proofs.lemmas.Slice.Eq.{bytes_eq-Decides}
 use Rattle.std.proofs.lemmas.List.Quantifiers.{position-Some}
+use Rattle.std.proofs.lemmas.Bool.{and_parts}
 use Rattle.acap_login.specs.Login.{User, Fits, IsAccepted, IsRefused, answering_user, answer_of, digest_of, space, user_at}
 use Rattle.acap_login.proofs.CutLemmas.{printed, count, parts_apart}
 use Rattle.acap_login.proofs.Places.{position_at, position_map, position_nowhere, nowhere}
@@ -54,12 +55,6 @@ unfolding answering_user
 uncut users challenge answer never =
     position_nowhere (test challenge answer) users ([], []) (λ k lt. misfits challenge answer (user_at users k) (λ f. never (user_at users k).0 (digest_of (user_at users k).1 challenge) (count (user_at users k).1 challenge) f.whole))
 
--- the test of a name and digits apart
-both : (a b : Bool) → (a && b) ≡ true → (a ≡ true) × (b ≡ true)
-both true true h = (refl, refl)
-both true false h = cc
-both false b h = cc
-
 pub apart : (challenge name digits known secret : List ℕ) (same_name same_digits : Bool) → length digits ≡ 32 → same_name ≡ bytes_eq known name → same_digits ≡ bytes_eq (digest_of secret challenge) digits → (same_name && same_digits) ≡ bytes_eq (name ++ space ∷ digits) (answer_of challenge (known, secret))
 apart challenge name digits known secret same_name same_digits long e f =
     let wanted = digest_of secret challenge in
@@ -68,7 +63,7 @@ apart challenge name digits known secret same_name same_digits long e f =
     let whole = bytes_eq-Decides (name ++ space ∷ digits) (known ++ space ∷ wanted) in
     let as_long : length digits ≡ length wanted = long ∙ sym (count secret challenge) in
     same_from_decides {P = name ++ space ∷ digits ≡ known ++ space ∷ wanted} (same_name && same_digits) (bytes_eq (name ++ space ∷ digits) (known ++ space ∷ wanted)) (
-      λ h. let parts = both same_name same_digits h in
+      λ h. let parts = and_parts same_name same_digits h in
           let n : known ≡ name = names.0 (sym e ∙ parts.0) in
           let d : wanted ≡ digits = texts.0 (sym f ∙ parts.1) in cc,
       λ h. let parts = parts_apart name digits known wanted as_long h in

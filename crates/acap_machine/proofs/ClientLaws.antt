@@ -1,30 +1,31 @@
 -- What each event tells the client of a context, by the commands.
-use Rattle.std.proofs.Common.{◌≡◌, ◌⊎◌, inl, inr, ◌==◌, eq-eqb, ℕ, ℤ, Bool, true, false, cond, ◌&&◌, Option, Some, None, Result, Ok, Err, List, [], ◌∷◌, refl, sym, ◌∙◌, ap, subst, option_map, map as each}
+use Rattle.std.proofs.Common.{◌≡◌, ◌⊎◌, inl, inr, ◌==◌, eq-eqb, ℕ, ℤ, Bool, true, false, cond, ◌&&◌, Option, Some, None, Result, Ok, Err, List, ◌∷◌, refl, sym, ◌∙◌, ap, subst, option_map, map as each}
 use Rattle.std.specs.Prelude.{◌++◌, is_some, is_none, length, take, min, nat_lt, flat_map}
 use Rattle.std.specs.Cmp.{nat_cmp_total, unsigned_tied}
 use Rattle.std.specs.Cmp.Lexicographic.{nat_list_cmp_total, texts_ties}
 use Rattle.std.specs.FinMap as table
 use Rattle.std.specs.FinMap.{get-insert, get-remove, get-empty}
 use Rattle.std.specs.Option.{option_map_or, option_and_then}
+use Rattle.std.proofs.Math.Seq.{take-length}
 use Rattle.acap_entries.specs.Orders.{octets_cmp, octets_eq}
 use Rattle.acap_entries.specs.declared.change.Change.{Change}
 use Rattle.acap_commands.specs.declared.command.Command.{Command}
 use Rattle.acap_commands.specs.declared.command.Command.TheVariants as command
 use Rattle.acap_commands.specs.declared.event.Event.{Event}
 use Rattle.acap_commands.specs.declared.event.Event.TheVariants as event
-use Rattle.acap_commands.specs.declared.limit.Limit.{Limit}
-use Rattle.acap_commands.specs.declared.make_context.MakeContext.{MakeContext}
+use Rattle.acap_commands.specs.declared.search_modifiers.Limit.{Limit}
+use Rattle.acap_commands.specs.declared.search_modifiers.MakeContext.{MakeContext}
 use Rattle.acap_commands.specs.declared.refusal.Refusal.{Refusal}
 use Rattle.acap_commands.specs.declared.reply.Reply.{Reply}
 use Rattle.acap_commands.specs.declared.said.Said.{Said}
 use Rattle.acap_commands.specs.declared.said.Said.TheVariants as said
-use Rattle.acap_commands.specs.declared.return_item.ReturnItem.{ReturnItem}
+use Rattle.acap_commands.specs.declared.returns.ReturnItem.{ReturnItem}
 use Rattle.acap_commands.specs.declared.search.Search.{Search}
-use Rattle.acap_commands.specs.declared.search_reply.SearchReply.{SearchReply}
+use Rattle.acap_commands.specs.declared.said.SearchReply.{SearchReply}
 use Rattle.acap_commands.specs.declared.target.Target.{Target}
 use Rattle.acap_commands.specs.declared.target.Target.TheVariants as target
-use Rattle.acap_commands.specs.declared.verb.Verb.{Verb}
-use Rattle.acap_commands.specs.declared.verb.Verb.TheVariants as verb
+use Rattle.acap_commands.specs.declared.command.Verb.{Verb}
+use Rattle.acap_commands.specs.declared.command.Verb.TheVariants as verb
 use Rattle.acap_machine.specs.Client.{View, is_told_whole, made_over, makes_named, makes, begun_with, client_after_tolds, client_after, whole_after, tells, live_kept, live_in, live_at, IsHeld, fresh_for, HeldLaw, SeenLaw}
 use Rattle.acap_machine.specs.Following.{IsCurrentMachine}
 use Rattle.acap_machine.specs.Laws.{IsChange, OthersStay}
@@ -33,7 +34,7 @@ use Rattle.acap_machine.specs.Searching.{number_told, rows_told, found_of, found
 use Rattle.acap_machine.specs.Serving.{answer_to, written_or, names_or, updated_or}
 use Rattle.acap_machine.specs.Stepping.{step_of, drained_at}
 use Rattle.acap_machine.proofs.ClientSteps.{Sits, sits, own_contexts, put_contexts, put_fresh, changed_live, updated_front, updated_held, updated_shown, drained_held, drained_shown}
-use Rattle.acap_machine.proofs.SeatLemmas.{opened_is, freed_is}
+use Rattle.acap_machine.proofs.SeatLemmas.{opened_is, freed_is, unless_ok}
 use Rattle.acap_machine.proofs.StepLaws.{by_keeps, change, seated_keeps}
 use Rattle.acap_notices.specs.Holding.{Holding, holding}
 use Rattle.acap_notices.specs.declared.told.Told.{Told}
@@ -53,7 +54,7 @@ use Rattle.acap_views.specs.Maps.{each_kept}
 use Rattle.acap_views.specs.Opening.{with_context, freed_by}
 use Rattle.acap_views.specs.Seats.{Occupant, Seated, contexts_at, with_contexts, with_user, without_user}
 use Rattle.acap_views.specs.Ranging.{Ranged, range_at}
-use Rattle.acap_views.specs.Telling.{told_of, unless_faulty, fault_of, told_in_turn, after_updates, after_drain, drain_told}
+use Rattle.acap_views.specs.Telling.{told_of, fault_of, told_in_turn, after_updates, after_drain, drain_told}
 use Rattle.acap_views.specs.declared.refusal.ViewRefusal.{ViewRefusal}
 
 -- what is kept at the seat, and that a client who is told all has the list of that moment
@@ -69,21 +70,17 @@ record AtModtimes (seat : ℕ) (name : List ℕ) (whole : Bool) (held : Option H
 
 -- ---- a list that is told whole
 
-take_all : {X : Type 0} (xs : List X) → take (length xs) xs ≡ xs
-take_all [] = refl
-take_all (x ∷ xs) = ap (λ ys. x ∷ ys) (take_all xs)
-
 abbrev either_cut : Bool → ℕ → ℕ → Cut
 either_cut b most count = cond b (record { told = min count most; total = Some count }) (record { told = count; total = None })
 
 cut_whole : (b : Bool) (most : ℕ) (matches : List Match) → is_none (option_map number_told (either_cut b most (length matches)).total) ≡ true
     → each (λ (found : Match). found.row) (take (either_cut b most (length matches)).told matches) ≡ rows matches
 cut_whole true most matches e = absurd cc
-cut_whole false most matches e = ap rows (take_all matches)
+cut_whole false most matches e = ap rows (take-length matches)
 
 limit_whole : (limit : Option Limit) (matches : List Match) → is_none (option_map number_told (cut_of limit (length matches)).total) ≡ true
     → each (λ (found : Match). found.row) (take (cut_of limit (length matches)).told matches) ≡ rows matches
-limit_whole None matches e = ap rows (take_all matches)
+limit_whole None matches e = ap rows (take-length matches)
 limit_whole (Some limit) matches e = cut_whole (nat_lt limit.over (length matches)) limit.most matches e
 
 whole_rows : (returns : Option (List ReturnItem)) (limit : Option Limit) (matches : List Match) → (is_some returns && is_none (option_map number_told (cut_of limit (length matches)).total)) ≡ true
@@ -111,10 +108,6 @@ out_held : (b : Bool) (live : Option View) (old : Option Context) (whole : Bool)
     → IsHeld (option_and_then live_in old) whole held → IsHeld live whole held
 out_held true live old whole held e before x l w = absurd (let none : None ≡ Some x = sym e ∙ l in cc)
 out_held false live old whole held e before x l w = before x (sym e ∙ l) w
-
-told_all : {X : Type 0} (why : Option ViewRefusal) (x y : X) → unless_faulty why x ≡ Ok y → x ≡ y
-told_all None x y e = cc
-told_all (Some refusal) x y e = cc
 
 -- ---- the commands
 
@@ -223,7 +216,7 @@ module _ (m : Machine) (seat : ℕ) (user : List ℕ) (at : user_at m seat ≡ S
       → Follows seat name whole held (event.Command (command.UpdateContext names)) (said.Updated told.0) (record m { seats = told.1 })
   tells_of names told e =
       let made : List Told × Seated = (told_in_turn (contexts_at m.seats seat) names m.store.last, with_contexts m.seats seat (after_updates (contexts_at m.seats seat) names m.store.last)) in
-      let is : made ≡ told = told_all (fault_of (contexts_at m.seats seat) names) made told e in
+      let is : made ≡ told = unless_ok (fault_of (contexts_at m.seats seat) names) made told e in
       let contexts = own_contexts m seat own in
       let live : live_at (record m { seats = with_contexts m.seats seat (after_updates (contexts_at m.seats seat) names m.store.last) }) seat name
       ≡ option_and_then live_in (table.get (after_updates own.occupant.contexts names m.store.last) name) =
@@ -243,7 +236,7 @@ module _ (m : Machine) (seat : ℕ) (user : List ℕ) (at : user_at m seat ≡ S
       → AtModtimes seat name whole held (said.Updated told.0) (record m { seats = told.1 })
   tells_at names told e =
       let made : List Told × Seated = (told_in_turn (contexts_at m.seats seat) names m.store.last, with_contexts m.seats seat (after_updates (contexts_at m.seats seat) names m.store.last)) in
-      let is : made ≡ told = told_all (fault_of (contexts_at m.seats seat) names) made told e in
+      let is : made ≡ told = unless_ok (fault_of (contexts_at m.seats seat) names) made told e in
       let contexts = own_contexts m seat own in
       let live : live_at (record m { seats = with_contexts m.seats seat (after_updates (contexts_at m.seats seat) names m.store.last) }) seat name
       ≡ option_and_then live_in (table.get (after_updates own.occupant.contexts names m.store.last) name) =

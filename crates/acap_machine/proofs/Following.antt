@@ -1,7 +1,7 @@
 -- Each step keeps the store sound and live contexts current.
-use Rattle.std.proofs.Common.{◌≡◌, ℕ, ℤ, List, [], ◌∷◌, Bool, true, false, not, cond, ◌==◌, Option, Some, None, Result, Ok, Err, refl, sym, subst, ap, ◌∙◌, option_map, if◌then◌else◌}
+use Rattle.std.proofs.Common.{◌≡◌, ℕ, ℤ, List, [], ◌∷◌, Bool, true, false, cond, ◌==◌, Option, Some, None, Result, Ok, Err, refl, sym, subst, ap, ◌∙◌, option_map, if◌then◌else◌}
 use Rattle.std.specs.Cmp.{nat_cmp_total, unsigned_tied}
-use Rattle.std.proofs.lemmas.Bool.{and_parts}
+use Rattle.std.proofs.lemmas.Bool.{and_parts, not-false}
 use Rattle.std.specs.List.{list_all}
 use Rattle.std.specs.Option.{option_map_or}
 use Rattle.std.specs.Ordering.{nat_cmp}
@@ -17,7 +17,7 @@ use Rattle.acap_entries.specs.declared.change.Change.{Change}
 use Rattle.acap_commands.specs.declared.command.Command.{Command}
 use Rattle.acap_commands.specs.declared.event.Event.{Event}
 use Rattle.acap_commands.specs.declared.event.Event.TheVariants as event
-use Rattle.acap_commands.specs.declared.fault.Fault.{Fault}
+use Rattle.acap_commands.specs.declared.event.Fault.{Fault}
 use Rattle.acap_commands.specs.declared.reply.Reply.{Reply}
 use Rattle.acap_machine.specs.Changing.{changed_by}
 use Rattle.acap_machine.specs.Following.{is_named, IsCurrentMachine, CurrentLaw, FollowedLaw}
@@ -65,12 +65,8 @@ exists_if a b c true missing over e = absurd cc
 exists_if a b c false true over e = absurd cc
 exists_if a b c false false over e = refl
 
-there_if : (b : Bool) → not b ≡ false → b ≡ true
-there_if true e = refl
-there_if false e = absurd cc
-
 pub there : (m : Machine) (user : List ℕ) (query : Query) → refusal_of m.store.records m.realm user query ≡ None → dataset_exists m.store.records query.sought.dataset ≡ true
-there m user query e = there_if _ (exists_if _ _ _ _ _ _ e)
+there m user query e = not-false _ (exists_if _ _ _ _ _ _ e)
 
 -- ---- each step keeps all that
 

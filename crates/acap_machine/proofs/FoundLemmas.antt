@@ -2,8 +2,8 @@
 use Rattle.std.proofs.Common.{◌≡◌, ℕ, ℤ, Option, Some, None, List, take, length, min, refl, ap, ◌∙◌, option_map, is_some, if◌then◌else◌, map as each}
 use Rattle.std.proofs.lemmas.List.{take_min}
 use Rattle.acap_entries.specs.declared.row.Row.{Row}
-use Rattle.acap_commands.specs.declared.limit.Limit.{Limit}
-use Rattle.acap_commands.specs.declared.return_item.ReturnItem.{ReturnItem}
+use Rattle.acap_commands.specs.declared.search_modifiers.Limit.{Limit}
+use Rattle.acap_commands.specs.declared.returns.ReturnItem.{ReturnItem}
 use Rattle.acap_machine.specs.Searching.{number_told, rows_told, rows_if, last_told, found_with, found_of}
 use Rattle.acap_search.specs.Cutting.{cut_of}
 use Rattle.acap_search.specs.Matches.{Match}

@@ -1,9 +1,9 @@
 -- What a search over a context says, by what is found among its paths.
 use Rattle.std.proofs.Common.{◌≡◌, ℕ, List, [], ◌∷◌, Bool, false, Option, Some, None, Result, Ok, Err, IfOk, OnOk, Bor, refl, sym, subst, ap, ◌∙◌, map as each}
-use Rattle.acap_commands.specs.declared.limit.Limit.{Limit}
+use Rattle.acap_commands.specs.declared.search_modifiers.Limit.{Limit}
 use Rattle.acap_commands.specs.declared.said.Said.{Said}
 use Rattle.acap_commands.specs.declared.said.Said.TheVariants as said
-use Rattle.acap_commands.specs.declared.search_reply.SearchReply.{SearchReply}
+use Rattle.acap_commands.specs.declared.said.SearchReply.{SearchReply}
 use Rattle.acap_entries.specs.Store.{Store, Stored}
 use Rattle.acap_entries.specs.declared.path.Path.{Path}
 use Rattle.acap_machine.specs.Searching.{found_of, found_with, found_unless, refused_as, is_search_memory, searched_from, shown_within}

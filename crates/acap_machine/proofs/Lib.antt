@@ -11,7 +11,6 @@ pub mod Plain
 pub mod PlainMaps
 pub mod PlainSteps
 pub mod ReadyLemmas
-pub mod RunLemmas
 pub mod SeatLemmas
 pub mod ServedLemmas
 pub mod StepLaws

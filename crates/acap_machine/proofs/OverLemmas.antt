@@ -1,6 +1,6 @@
 -- What a search over a dataset comes to, by what is found there.
 use Rattle.std.proofs.Common.{◌≡◌, ℕ, List, false, Option, Some, None, Err, refl, sym, subst, ap, ◌∙◌}
-use Rattle.acap_commands.specs.declared.make_context.MakeContext.{MakeContext}
+use Rattle.acap_commands.specs.declared.search_modifiers.MakeContext.{MakeContext}
 use Rattle.acap_commands.specs.declared.said.Said.{Said}
 use Rattle.acap_commands.specs.declared.said.Said.TheVariants as said
 use Rattle.acap_entries.specs.Ranks.{Ascending}

@@ -8,6 +8,7 @@ use Rattle.std.specs.Option.{option_map_or, option_or}
 use Rattle.acap_entries.specs.Changes.{store_after}
 use Rattle.acap_entries.specs.Store.{Store}
 use Rattle.acap_entries.specs.declared.change.Change.{Change}
+use Rattle.acap_entries.proofs.StoreLemmas.{octets_same}
 use Rattle.acap_machine.specs.Changing.{changed_by}
 use Rattle.acap_machine.specs.Machine.{Machine}
 use Rattle.acap_machine.specs.Plain as plain
@@ -21,7 +22,6 @@ use Rattle.acap_rights.specs.declared.realm.Realm.{Realm}
 use Rattle.acap_search.specs.Fresh.{matches_of}
 use Rattle.acap_search.specs.Matches.{Match}
 use Rattle.acap_views.proofs.CurrentLemmas.{AreCurrent, one_update}
-use Rattle.acap_views.proofs.KeepingLemmas.{names_same}
 use Rattle.acap_views.proofs.ShownLemmas.{get_value}
 use Rattle.acap_views.proofs.ValueLemmas.{insert_value, remove_value, empty_value, has_value, len_value, entries_value}
 use Rattle.acap_views.specs.Changing as live
@@ -44,19 +44,19 @@ pub forgotten_get : (contexts : Contexts) (name : List ℕ) → table.get (forgo
 forgotten_get contexts name = get_value nat_list_cmp_total forgotten_context contexts name
 
 pub forgotten_insert : (contexts : Contexts) (name : List ℕ) (c : Context) → forgotten_contexts (table.insert contexts name c) ≡ table.insert (forgotten_contexts contexts) name (forgotten_context c)
-forgotten_insert contexts name c = insert_value nat_list_cmp_total names_same forgotten_context contexts name c
+forgotten_insert contexts name c = insert_value nat_list_cmp_total octets_same forgotten_context contexts name c
 
 pub forgotten_remove : (contexts : Contexts) (name : List ℕ) → forgotten_contexts (table.remove contexts name) ≡ table.remove (forgotten_contexts contexts) name
-forgotten_remove contexts name = remove_value nat_list_cmp_total names_same forgotten_context contexts name
+forgotten_remove contexts name = remove_value nat_list_cmp_total octets_same forgotten_context contexts name
 
 pub forgotten_empty : forgotten_contexts table.empty ≡ table.empty
-forgotten_empty = empty_value nat_list_cmp_total names_same forgotten_context
+forgotten_empty = empty_value nat_list_cmp_total octets_same forgotten_context
 
 pub forgotten_has : (contexts : Contexts) (name : List ℕ) → table.contains_key (forgotten_contexts contexts) name ≡ table.contains_key contexts name
-forgotten_has contexts name = has_value nat_list_cmp_total names_same forgotten_context contexts name
+forgotten_has contexts name = has_value nat_list_cmp_total octets_same forgotten_context contexts name
 
 pub forgotten_len : (contexts : Contexts) → table.len (forgotten_contexts contexts) ≡ table.len contexts
-forgotten_len contexts = len_value nat_list_cmp_total names_same forgotten_context contexts
+forgotten_len contexts = len_value nat_list_cmp_total octets_same forgotten_context contexts
 
 pub forgotten_full : (contexts : Contexts) (name : List ℕ) → plain.is_full (forgotten_contexts contexts) name ≡ is_full contexts name
 forgotten_full contexts name = λ i. not (forgotten_has contexts name i) && nat_le 200 (forgotten_len contexts i)
@@ -121,7 +121,7 @@ follows_occupant : (realm : Realm) (old new : Store) (o : Occupant)
     → plain.follows_for realm old new (forgotten_occupant o) ≡ forgotten_occupant (live.changed_occupant realm old new o)
 follows_occupant realm old new o = λ i. record {
   user = o.user;
-  contexts = values_both nat_list_cmp_total names_same forgotten_context (plain.follows_in realm old new o.user) (live.changed_context realm old new o.user) forgotten_context o.contexts
+  contexts = values_both nat_list_cmp_total octets_same forgotten_context (plain.follows_in realm old new o.user) (live.changed_context realm old new o.user) forgotten_context o.contexts
       (follows_context realm old new o.user) i;
 }
 
@@ -226,7 +226,7 @@ module _ (m : Machine) (user : List ℕ) where
   pub all_drained : (contexts : Contexts) → AreCurrent m.store m.realm user contexts
       → each_kept (λ (c : plain.Context). plain.drained_kept (forgotten m) user c c.kept) (forgotten_contexts contexts) ≡ forgotten_contexts (each_kept after_drain contexts)
   all_drained contexts all =
-      kept_both nat_list_cmp_total names_same forgotten_context (λ (c : plain.Context). plain.drained_kept (forgotten m) user c c.kept) after_drain contexts
+      kept_both nat_list_cmp_total octets_same forgotten_context (λ (c : plain.Context). plain.drained_kept (forgotten m) user c c.kept) after_drain contexts
       (λ name c e. drained_context c c.kept (all name c e).kept refl)
 
 drain_kept : (name : List ℕ) (kept : Kept) → plain.drain_tolds name (forgotten_kept kept) ≡ drain_told name kept
@@ -237,7 +237,7 @@ drain_kept name Freed = refl
 pub drain_forgotten : (contexts : Contexts)
     → flat_map (λ (e : List ℕ × plain.Context). plain.drain_tolds e.0 e.1.kept) (table.entries (forgotten_contexts contexts)) ≡ flat_map (λ (e : List ℕ × Context). drain_told e.0 e.1.kept) (table.entries contexts)
 drain_forgotten contexts =
-    ap (flat_map (λ (e : List ℕ × plain.Context). plain.drain_tolds e.0 e.1.kept)) (entries_value nat_list_cmp_total names_same forgotten_context contexts)
+    ap (flat_map (λ (e : List ℕ × plain.Context). plain.drain_tolds e.0 e.1.kept)) (entries_value nat_list_cmp_total octets_same forgotten_context contexts)
     ∙ flat_both (λ (e : List ℕ × Context). (e.0, forgotten_context e.1)) (λ (e : List ℕ × plain.Context). plain.drain_tolds e.0 e.1.kept) (λ (e : List ℕ × Context). drain_told e.0 e.1.kept)
     (table.entries contexts) (λ e. drain_kept e.0 e.1.kept)
 

@@ -12,9 +12,9 @@ use Rattle.acap_commands.specs.declared.command.Command.{Command}
 use Rattle.acap_commands.specs.declared.command.Command.TheVariants as command
 use Rattle.acap_commands.specs.declared.event.Event.{Event}
 use Rattle.acap_commands.specs.declared.event.Event.TheVariants as event
-use Rattle.acap_commands.specs.declared.fault.Fault.{Fault}
-use Rattle.acap_commands.specs.declared.limit.Limit.{Limit}
-use Rattle.acap_commands.specs.declared.make_context.MakeContext.{MakeContext}
+use Rattle.acap_commands.specs.declared.event.Fault.{Fault}
+use Rattle.acap_commands.specs.declared.search_modifiers.Limit.{Limit}
+use Rattle.acap_commands.specs.declared.search_modifiers.MakeContext.{MakeContext}
 use Rattle.acap_commands.specs.declared.refusal.Refusal.{Refusal}
 use Rattle.acap_commands.specs.declared.refusal.Refusal.TheVariants as refusals
 use Rattle.acap_commands.specs.declared.reply.Reply.{Reply}
@@ -23,8 +23,8 @@ use Rattle.acap_commands.specs.declared.said.Said.TheVariants as said
 use Rattle.acap_commands.specs.declared.search_modifiers.SearchModifiers.{SearchModifiers}
 use Rattle.acap_commands.specs.declared.target.Target.{Target}
 use Rattle.acap_commands.specs.declared.target.Target.TheVariants as target
-use Rattle.acap_commands.specs.declared.verb.Verb.{Verb}
-use Rattle.acap_commands.specs.declared.verb.Verb.TheVariants as verb
+use Rattle.acap_commands.specs.declared.command.Verb.{Verb}
+use Rattle.acap_commands.specs.declared.command.Verb.TheVariants as verb
 use Rattle.acap_machine.specs.Following.{is_named, IsCurrentMachine}
 use Rattle.acap_machine.specs.Machine.{Machine, new_machine, user_at}
 use Rattle.acap_machine.specs.Plain as plain

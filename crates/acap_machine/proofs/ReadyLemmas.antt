@@ -5,13 +5,13 @@ use Rattle.acap_entries.proofs.StoreLaws.{value_after, is_value_after}
 use Rattle.acap_entries.specs.Changes.{store_after, IsStoreAfter}
 use Rattle.acap_entries.specs.Store.{Store, empty_store}
 use Rattle.acap_entries.specs.declared.change.Change.{Change}
-use Rattle.acap_commands.specs.declared.fault.Fault.{Fault}
-use Rattle.acap_commands.specs.declared.fault.Fault.TheVariants as fault
+use Rattle.acap_commands.specs.declared.event.Fault.{Fault}
+use Rattle.acap_commands.specs.declared.event.Fault.TheVariants as fault
 use Rattle.acap_commands.specs.declared.reply.Reply.{Reply}
 use Rattle.acap_commands.specs.declared.said.Said.{Said}
 use Rattle.acap_commands.specs.declared.said.Said.TheVariants as said
-use Rattle.acap_commands.specs.declared.verb.Verb.{Verb}
-use Rattle.acap_commands.specs.declared.verb.Verb.TheVariants as verb
+use Rattle.acap_commands.specs.declared.command.Verb.{Verb}
+use Rattle.acap_commands.specs.declared.command.Verb.TheVariants as verb
 use Rattle.acap_inherit.specs.Index.{IsIndexOf, index_with}
 use Rattle.acap_inherit.specs.Leaving.{IsPrepared}
 use Rattle.acap_inherit.specs.declared.link.Link.{Link}

@@ -7,7 +7,7 @@ use Rattle.std.specs.Ordering.{nat_cmp, is_eq}
 use Rattle.std.specs.declared.cmp.Ordering.{Ordering}
 use Rattle.std.specs.declared.cmp.Ordering.TheVariants as order
 use Rattle.std.specs.FinMap as table
-use Rattle.acap_commands.specs.declared.make_context.MakeContext.{MakeContext}
+use Rattle.acap_commands.specs.declared.search_modifiers.MakeContext.{MakeContext}
 use Rattle.acap_entries.specs.Changes.{store_after}
 use Rattle.acap_entries.specs.declared.change.Change.{Change}
 use Rattle.acap_machine.specs.Changing.{changed_by}
@@ -45,7 +45,7 @@ if_there : {X F : Type 0} (b : Bool) (x y : X) (f : F) → (if b then Ok x else 
 if_there true x y f e = cc
 if_there false x y f e = cc
 
-unless_ok : {X : Type 0} (why : Option ViewRefusal) (x y : X) → unless_faulty why x ≡ Ok y → x ≡ y
+pub unless_ok : {X : Type 0} (why : Option ViewRefusal) (x y : X) → unless_faulty why x ≡ Ok y → x ≡ y
 unless_ok None x y e = cc
 unless_ok (Some refusal) x y e = cc
 

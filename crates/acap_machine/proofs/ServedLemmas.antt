@@ -11,19 +11,19 @@ use Rattle.acap_commands.specs.Statuses.{status_of}
 use Rattle.acap_commands.specs.Wanted.{Wanted}
 use Rattle.acap_commands.specs.declared.command.Command.{Command}
 use Rattle.acap_commands.specs.declared.command.Command.TheVariants as command
-use Rattle.acap_commands.specs.declared.limit.Limit.{Limit}
-use Rattle.acap_commands.specs.declared.make_context.MakeContext.{MakeContext}
+use Rattle.acap_commands.specs.declared.search_modifiers.Limit.{Limit}
+use Rattle.acap_commands.specs.declared.search_modifiers.MakeContext.{MakeContext}
 use Rattle.acap_commands.specs.declared.refusal.Refusal.{Refusal}
 use Rattle.acap_commands.specs.declared.refusal.Refusal.TheVariants as refusals
 use Rattle.acap_commands.specs.declared.said.Said.{Said}
 use Rattle.acap_commands.specs.declared.said.Said.TheVariants as said
 use Rattle.acap_commands.specs.declared.search_modifiers.SearchModifiers.{SearchModifiers}
-use Rattle.acap_commands.specs.declared.search_reply.SearchReply.{SearchReply}
-use Rattle.acap_commands.specs.declared.store_entry.StoreEntry.{StoreEntry}
+use Rattle.acap_commands.specs.declared.said.SearchReply.{SearchReply}
+use Rattle.acap_commands.specs.declared.store.StoreEntry.{StoreEntry}
 use Rattle.acap_commands.specs.declared.target.Target.{Target}
 use Rattle.acap_commands.specs.declared.target.Target.TheVariants as target
-use Rattle.acap_commands.specs.declared.verb.Verb.{Verb}
-use Rattle.acap_commands.specs.declared.verb.Verb.TheVariants as verb
+use Rattle.acap_commands.specs.declared.command.Verb.{Verb}
+use Rattle.acap_commands.specs.declared.command.Verb.TheVariants as verb
 use Rattle.acap_machine.specs.Changing.{changed_by}
 use Rattle.acap_machine.specs.Completing.{is_answer, completes}
 use Rattle.acap_machine.specs.Machine.{Machine}
@@ -108,14 +108,14 @@ pub record Keeps (P : Said → Machine → Type 0) (m : Machine) (seat : ℕ) (u
   pub updates : (names : List (List ℕ)) (told : List Told) (seats : Seated) → told_of m.seats seat names m.store.last ≡ Ok (told, seats)
       → P (said.Updated told) (record m { seats = seats })
 
-search_good : (dataset : List ℕ) (r : SearchRefusal) → is_answer (status_of (refused_as dataset r)) ≡ true
+pub search_good : (dataset : List ℕ) (r : SearchRefusal) → is_answer (status_of (refused_as dataset r)) ≡ true
 search_good dataset refusal.RangeHere = refl
 search_good dataset refusal.NoExist = refl
 search_good dataset refusal.TooOld = refl
 search_good dataset refusal.WayTooMany = refl
 search_good dataset refusal.Memory = refl
 
-view_good : (why : ViewRefusal) → is_answer (status_of (view_refused_as why)) ≡ true
+pub view_good : (why : ViewRefusal) → is_answer (status_of (view_refused_as why)) ≡ true
 view_good view.TryFreeContext = refl
 view_good view.NoContext = refl
 view_good view.FreedContext = refl

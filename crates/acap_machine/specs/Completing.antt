@@ -5,8 +5,8 @@ use Rattle.acap_commands.specs.declared.command.Command.{Command}
 use Rattle.acap_commands.specs.declared.reply.Reply.{Reply}
 use Rattle.acap_commands.specs.declared.said.Said.{Said}
 use Rattle.acap_commands.specs.declared.said.Said.TheVariants as said
-use Rattle.acap_commands.specs.declared.status.Status.{Status}
-use Rattle.acap_commands.specs.declared.status.Status.TheVariants as status
+use Rattle.acap_commands.specs.declared.refusal.Status.{Status}
+use Rattle.acap_commands.specs.declared.refusal.Status.TheVariants as status
 use Rattle.acap_machine.specs.Machine.{Machine}
 use Rattle.acap_machine.specs.Stepping.{step_of}
 use Rattle.acap_commands.specs.declared.event.Event.TheVariants as event

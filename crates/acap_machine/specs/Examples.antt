@@ -9,26 +9,26 @@ use Rattle.acap_commands.specs.Wanted.{Wanted}
 use Rattle.acap_commands.specs.Wanted as key
 use Rattle.acap_commands.specs.declared.command.Command.{Command}
 use Rattle.acap_commands.specs.declared.command.Command.TheVariants as command
-use Rattle.acap_commands.specs.declared.search_reply.SearchReply.{SearchReply}
-use Rattle.acap_commands.specs.declared.limit.Limit.{Limit}
-use Rattle.acap_commands.specs.declared.make_context.MakeContext.{MakeContext}
+use Rattle.acap_commands.specs.declared.said.SearchReply.{SearchReply}
+use Rattle.acap_commands.specs.declared.search_modifiers.Limit.{Limit}
+use Rattle.acap_commands.specs.declared.search_modifiers.MakeContext.{MakeContext}
 use Rattle.acap_commands.specs.declared.object_name.ObjectName.{ObjectName}
 use Rattle.acap_commands.specs.declared.object_name.ObjectName.TheVariants as object_name
 use Rattle.acap_commands.specs.declared.refusal.Refusal.{Refusal}
 use Rattle.acap_commands.specs.declared.refusal.Refusal.TheVariants as refusals
 use Rattle.acap_commands.specs.declared.reply.Reply.{Reply}
-use Rattle.acap_commands.specs.declared.return_item.ReturnItem.{ReturnItem}
+use Rattle.acap_commands.specs.declared.returns.ReturnItem.{ReturnItem}
 use Rattle.acap_commands.specs.declared.said.Said.{Said}
 use Rattle.acap_commands.specs.declared.said.Said.TheVariants as said
 use Rattle.acap_commands.specs.declared.search.Search.{Search}
 use Rattle.acap_commands.specs.declared.search_modifiers.SearchModifiers.{SearchModifiers}
-use Rattle.acap_commands.specs.declared.store_entry.StoreEntry.{StoreEntry}
+use Rattle.acap_commands.specs.declared.store.StoreEntry.{StoreEntry}
 use Rattle.acap_commands.specs.declared.target.Target.TheVariants as target
 use Rattle.acap_commands.specs.declared.test.Test.TheVariants as test
-use Rattle.acap_commands.specs.declared.verb.Verb.TheVariants as verb
+use Rattle.acap_commands.specs.declared.command.Verb.TheVariants as verb
 use Rattle.acap_commands.specs.declared.event.Event.TheVariants as event
-use Rattle.acap_commands.specs.declared.fault.Fault.{Fault}
-use Rattle.acap_commands.specs.declared.fault.Fault.TheVariants as fault
+use Rattle.acap_commands.specs.declared.event.Fault.{Fault}
+use Rattle.acap_commands.specs.declared.event.Fault.TheVariants as fault
 use Rattle.acap_machine.specs.Changing.{changed_by}
 use Rattle.acap_machine.specs.Machine.{Machine, user_at}
 use Rattle.acap_machine.specs.Runs.{outcome_of, machine_after, stepped_at, run_of}

@@ -7,7 +7,7 @@ use Rattle.acap_entries.specs.Changes as tree
 use Rattle.acap_entries.specs.declared.change.Change.{Change}
 use Rattle.acap_commands.specs.contracts.reply.Reply as reply
 use Rattle.acap_commands.specs.declared.event.Event.{Event}
-use Rattle.acap_commands.specs.declared.fault.Fault.{Fault}
+use Rattle.acap_commands.specs.declared.event.Fault.{Fault}
 use Rattle.acap_commands.specs.declared.reply.Reply.{Reply}
 use Rattle.acap_inherit.specs.Index.{index_with}
 use Rattle.acap_inherit.specs.Leaving.{IsPrepared}

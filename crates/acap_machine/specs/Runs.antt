@@ -1,9 +1,9 @@
 -- Whole runs of the machine: one step after another.
-use Rattle.std.specs.Prelude.{◌≡◌, List, [], ◌∷◌, ◌++◌, Result, Ok, Err}
+use Rattle.std.specs.Prelude.{List, [], ◌∷◌, Result, Ok, Err}
 use Rattle.acap_commands.specs.declared.reply.Reply.{Reply}
 use Rattle.acap_machine.specs.Machine.{Machine}
 use Rattle.acap_machine.specs.Stepping.{step_of}
-use Rattle.acap_commands.specs.declared.fault.Fault.{Fault}
+use Rattle.acap_commands.specs.declared.event.Fault.{Fault}
 use Rattle.acap_machine.specs.declared.step.Step.{Step}
 
 -- what a step answers, and the machine after it: a fault leaves it as it was
@@ -27,11 +27,3 @@ run_of m [] = ([], m)
 run_of m (step ∷ steps) =
     let rest = run_of (after_step m step) steps in
     (outcome_of (stepped_at m step) ∷ rest.0, rest.1)
-
--- a run ended before one of its steps: those before it were performed, and it and those behind it were not
-pub record HasStopped (steps : List Step) (old new : Machine) : Type 0 where
-  pub done : List Step
-  pub next : Step
-  pub behind : List Step
-  pub steps_are : steps ≡ done ++ next ∷ behind
-  pub made : new ≡ (run_of old done).1

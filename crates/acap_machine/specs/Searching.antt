@@ -3,12 +3,12 @@ use Rattle.std.specs.Prelude.{ℕ, ℤ, Bool, true, false, List, [], length, min
 use Rattle.acap_entries.specs.Store.{Store}
 use Rattle.acap_entries.specs.declared.row.Row.{Row}
 use Rattle.acap_commands.specs.Wanted.{Wanted}
-use Rattle.acap_commands.specs.declared.search_reply.SearchReply.{SearchReply}
-use Rattle.acap_commands.specs.declared.limit.Limit.{Limit}
-use Rattle.acap_commands.specs.declared.make_context.MakeContext.{MakeContext}
+use Rattle.acap_commands.specs.declared.said.SearchReply.{SearchReply}
+use Rattle.acap_commands.specs.declared.search_modifiers.Limit.{Limit}
+use Rattle.acap_commands.specs.declared.search_modifiers.MakeContext.{MakeContext}
 use Rattle.acap_commands.specs.declared.refusal.Refusal.{Refusal}
 use Rattle.acap_commands.specs.declared.refusal.Refusal.TheVariants as refusals
-use Rattle.acap_commands.specs.declared.return_item.ReturnItem.{ReturnItem}
+use Rattle.acap_commands.specs.declared.returns.ReturnItem.{ReturnItem}
 use Rattle.acap_commands.specs.declared.said.Said.{Said}
 use Rattle.acap_commands.specs.declared.said.Said.TheVariants as said
 use Rattle.acap_commands.specs.declared.search.Search.{Search}

@@ -8,8 +8,8 @@ use Rattle.acap_commands.specs.declared.refusal.Refusal.{Refusal}
 use Rattle.acap_commands.specs.declared.refusal.Refusal.TheVariants as refusals
 use Rattle.acap_commands.specs.declared.said.Said.{Said}
 use Rattle.acap_commands.specs.declared.said.Said.TheVariants as said
-use Rattle.acap_commands.specs.declared.verb.Verb.{Verb}
-use Rattle.acap_commands.specs.declared.verb.Verb.TheVariants as verb
+use Rattle.acap_commands.specs.declared.command.Verb.{Verb}
+use Rattle.acap_commands.specs.declared.command.Verb.TheVariants as verb
 use Rattle.acap_machine.specs.Changing.{changed_by}
 use Rattle.acap_machine.specs.Machine.{Machine}
 use Rattle.acap_machine.specs.Searching.{search_answer, seated_or, view_refused_as}

@@ -7,8 +7,8 @@ use Rattle.acap_commands.specs.declared.said.Said.{Said}
 use Rattle.acap_commands.specs.declared.said.Said.TheVariants as said
 use Rattle.acap_commands.specs.declared.event.Event.{Event}
 use Rattle.acap_commands.specs.declared.event.Event.TheVariants as event
-use Rattle.acap_commands.specs.declared.fault.Fault.{Fault}
-use Rattle.acap_commands.specs.declared.fault.Fault.TheVariants as fault
+use Rattle.acap_commands.specs.declared.event.Fault.{Fault}
+use Rattle.acap_commands.specs.declared.event.Fault.TheVariants as fault
 use Rattle.acap_machine.specs.Machine.{Machine, user_at}
 use Rattle.acap_machine.specs.Serving.{answer_to}
 use Rattle.acap_views.specs.Seats.{with_user, without_user}

@@ -5,11 +5,9 @@
 mod applying;
 mod deed;
 pub mod laws;
-pub mod lists;
 mod ready;
 mod readying;
 mod refusing;
-pub mod runs;
 mod searching;
 mod serving;
 pub mod state;
@@ -17,8 +15,6 @@ pub mod step;
 mod writing;
 
 pub use acap_commands::{Event, Fault};
-pub use lists::{Outcomes, StepList};
 pub use ready::Ready;
-pub use runs::run;
 pub use state::State;
 pub use step::Step;

@@ -58,7 +58,7 @@ impl Model for State {
 }
 
 impl State {
-    ghost use Rattle.acap_commands.specs.declared.fault.Fault.TheVariants as faults;
+    ghost use Rattle.acap_commands.specs.declared.event.Fault.TheVariants as faults;
     ghost use Rattle.acap_commands.specs.declared.event.Event.TheVariants as events;
     ghost use Rattle.acap_machine.specs.Stepping.{step_of, Stepped, IsFault};
     ghost use Rattle.acap_machine.specs.Work.{is_search, work_of};

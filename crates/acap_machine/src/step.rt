@@ -1,10 +1,10 @@
 //! One event at a seat.
 
 use acap_commands::Event;
-use acap_entries::{Copying, Memory, Moment, Seat};
+use acap_entries::{Moment, Seat};
 
-/// One event at a seat, and the moment that the clock shows.
-#[derive(Clone, Drop)]
+/// One event at a seat, and the moment that the clock shows: what definitions of runs are lists of.
+#[derive(Drop)]
 pub struct Step {
     /// The seat.
     pub seat: Seat,
@@ -12,10 +12,4 @@ pub struct Step {
     pub event: Event,
     /// The moment.
     pub clock: Moment,
-}
-
-impl Copying for Step {
-    fn copy(&self) -> Result<Step, Memory> {
-        self.clone()
-    }
 }

@@ -1,13 +1,15 @@
 -- One notice, applied to a list with positions.
-use Rattle.std.proofs.Common.{◌≡◌, ℕ, suc, ◌+◌, ◌-◌, ◌≤◌, Bool, true, false, ◌&&◌, eqb, List, [], ◌∷◌, length, map, Some, None, Option, refl, sym, ap, subst, ◌∙◌, arith, tests, cond}
+use Rattle.std.proofs.Common.{◌≡◌, ℕ, suc, ◌+◌, ◌≤◌, true, false, ◌&&◌, eqb, List, [], ◌∷◌, length, map, Some, None, Option, refl, sym, ap, subst, ◌∙◌, arith, tests, cond}
 use Rattle.std.specs.declared.cmp.Ordering.TheVariants.{Less, Equal, Greater}
 use Rattle.std.specs.Prelude.{nat_le}
 use Rattle.std.specs.List.{insert}
 use Rattle.std.specs.Option.{option_map}
 use Rattle.std.specs.FinMap.Entries.{by_order}
+use Rattle.std.proofs.lemmas.Bool.{and_parts}
 use Rattle.acap_entries.specs.Orders.{octets_eq}
 use Rattle.acap_entries.specs.declared.row.Row.{Row}
 use Rattle.acap_entries.proofs.Equalities.{row_exact}
+use Rattle.acap_entries.proofs.Logic.{one_back}
 use Rattle.acap_notices.specs.declared.notice.Notice.{Notice}
 use Rattle.acap_notices.specs.declared.notice.Notice.TheVariants.{AddTo, RemoveFrom, Change}
 use Rattle.acap_notices.specs.Rows.{is_held, stands_at, has_position}
@@ -19,28 +21,25 @@ use Rattle.acap_moves.specs.Notices.{same_row, listed_notice}
 use Rattle.acap_moves.proofs.Splits.{itself}
 use borrow.Author.Tests.{eqb-true}
 
-back : (n : ℕ) → n + 1 - 1 ≡ n
-back n = omega arith
-
 fits : (i : ℕ) (rs : List Row) → i ≤ length rs → has_position (i + 1) rs ≡ true
 fits i rs h = grind (arith, tests)
 
 add_fits : (rs : List Row) (r : Row) (j : ℕ) → is_held r.name rs ≡ false → j ≤ length rs → listed_after rs (AddTo (j + 1) r) ≡ Some (insert rs j r)
 unfolding listed_after
-add_fits rs r j a h = rw (a, fits j rs h, back j) refl
+add_fits rs r j a h = rw (a, fits j rs h, one_back j) refl
 
 stands_inserted : (rs : List Row) (p : Name) (r : Row) (i : ℕ) → p ≡ r.name → i ≤ length rs → stands_at p (i + 1) (insert rs i r) ≡ true
 stands_inserted rs p r i e h =
     let above : nat_le 1 (i + 1) ≡ true = grind (arith, tests) in
-    rw (above, back i, get-insert rs i r h) (itself p r.name e)
+    rw (above, one_back i, get-insert rs i r h) (itself p r.name e)
 
 remove_fits : (rs : List Row) (p : Name) (r : Row) (i : ℕ) → p ≡ r.name → i ≤ length rs → listed_after (insert rs i r) (RemoveFrom p (i + 1)) ≡ Some rs
 unfolding listed_after
-remove_fits rs p r i e h = rw (stands_inserted rs p r i e h, back i, remove-insert rs i r h) refl
+remove_fits rs p r i e h = rw (stands_inserted rs p r i e h, one_back i, remove-insert rs i r h) refl
 
 change_fits : (rs : List Row) (r s : Row) (i j : ℕ) → s.name ≡ r.name → i ≤ length rs → j ≤ length rs → listed_after (insert rs i r) (Change (i + 1) (j + 1) s) ≡ Some (insert rs j s)
 unfolding listed_after
-change_fits rs r s i j e h k = rw (stands_inserted rs s.name r i e h, back i, remove-insert rs i r h, fits j rs k, back j) refl
+change_fits rs r s i j e h k = rw (stands_inserted rs s.name r i e h, one_back i, remove-insert rs i r h, fits j rs k, one_back j) refl
 
 module _ {H : Type 0} (v : Shape H) where
   -- no hit is of the name
@@ -116,10 +115,6 @@ one_applied held new n e = rw e refl
 listed_applied : (rs new : List Row) (n : Notice) → listed_after rs n ≡ Some new → holding_after_all (Listed rs) (n ∷ []) ≡ Some (Listed new)
 listed_applied rs new n e = one_applied (Listed rs) (Listed new) n (ap (option_map Listed) e)
 
-both_true : (a b : Bool) → (a && b) ≡ true → (a ≡ true) × (b ≡ true)
-both_true true b e = (refl, e)
-both_true false b e = cc
-
 module _ {H : Type 0} (v : Shape H) (l : IsLawful v) where
   pub row_of : (p : Name) (h : H) → v.name h ≡ p → p ≡ (v.row h).name
   row_of p h e = sym e ∙ sym (l.row_name h)
@@ -143,7 +138,7 @@ module _ {H : Type 0} (v : Shape H) (l : IsLawful v) where
       (elim (eqb (rank v g es + 1) (rank v h es + 1) && same_row (v.row g) (v.row h)) as (λ b. (eqb (rank v g es + 1) (rank v h es + 1) && same_row (v.row g) (v.row h)) ≡ b →
       holding_after_all (Listed (insert (rows v es) (rank v g es) (v.row g))) (cond b [] (Change (rank v g es + 1) (rank v h es + 1) (v.row h) ∷ [])) ≡ Some (Listed (insert (rows v es) (rank v h es) (v.row h)))) [
         | true ↦ λ t.
-            let two = both_true (eqb (rank v g es + 1) (rank v h es + 1)) (same_row (v.row g) (v.row h)) t in
+            let two = and_parts (eqb (rank v g es + 1) (rank v h es + 1)) (same_row (v.row g) (v.row h)) t in
             let places : rank v g es ≡ rank v h es = let m : rank v g es + 1 ≡ rank v h es + 1 = eqb-true _ _ two.0 in omega arith in
             let shown : v.row g ≡ v.row h = (row_exact (v.row g) (v.row h)).0 two.1 in
             rw (places, shown) refl

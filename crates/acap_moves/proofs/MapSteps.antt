@@ -4,10 +4,11 @@ use Rattle.std.specs.Prelude.{is_some}
 use Rattle.std.specs.Ordering.{eq_by_cmp}
 use Rattle.std.specs.Cmp.Lexicographic.{nat_list_cmp_total, texts_ties}
 use Rattle.std.specs.FinMap as finite
-use Rattle.std.specs.FinMap.{IsAntisymmetric, get, get-insert, get-remove, same_map, slice_cmp-IsAntisymmetric, nat_cmp-IsAntisymmetric}
+use Rattle.std.specs.FinMap.{get, get-insert, get-remove, same_map}
 use Rattle.acap_entries.specs.Orders.{octets_cmp}
 use Rattle.acap_entries.specs.declared.row.Row.{Row}
 use Rattle.acap_entries.proofs.Equalities.{row_exact}
+use Rattle.acap_entries.proofs.StoreLemmas.{octets_same}
 use Rattle.acap_notices.specs.declared.notice.Notice.{Notice}
 use Rattle.acap_notices.specs.declared.notice.Notice.TheVariants.{AddTo, RemoveFrom, Change}
 use Rattle.acap_notices.specs.Rows.{is_held, RowMap, by_name}
@@ -18,9 +19,6 @@ use Rattle.acap_moves.specs.Hits.{Name, Shape, IsLawful, put, put_some, rank, ro
 use Rattle.acap_moves.specs.Notices.{same_row, plain_notice}
 use Rattle.acap_moves.proofs.Splits.{itself, same_name}
 use Rattle.acap_moves.proofs.ListSteps.{Absent, spot_absent, spot_put, rows_put, held_absent, row_of}
-
-octets_same : IsAntisymmetric octets_cmp
-octets_same = slice_cmp-IsAntisymmetric nat_cmp-IsAntisymmetric
 
 not_some : (o : Option Row) → is_some o ≡ false → o ≡ None
 not_some None e = refl

@@ -3,22 +3,18 @@ use Rattle.std.proofs.Common.{◌≡◌, ℕ, zero, suc, Bool, true, false, ◌|
 use Rattle.std.specs.Prelude.{take}
 use Rattle.std.specs.Cmp.Lexicographic.{nat_list_eq_equiv}
 use Rattle.acap_entries.specs.Orders.{octets_eq}
+use Rattle.acap_entries.proofs.Logic.{or_turned}
 use Rattle.acap_notices.specs.Holding.{holding, holding_after_all}
 use Rattle.acap_moves.specs.Hits.{Name, Shape, is_among, fresh, rows}
 use Rattle.acap_moves.specs.Notices.{notice_at, hits_between, with_new_hit, notices_from, stepwise, MixedLaw, NoticeListLaw}
 use Rattle.acap_moves.proofs.Law.{stepwise_law}
-
-turned : (a b c : Bool) → (a || (b || c)) ≡ (b || (a || c))
-turned true true c = refl
-turned true false c = refl
-turned false b c = refl
 
 one_more : (q : Name) (changed : List Name) (k : ℕ) (c : Name) (rest : List Name) → drop k changed ≡ c ∷ rest → is_among q (take (suc k) changed) ≡ (octets_eq q c || is_among q (take k changed))
 unfolding is_among
 one_more q [] zero c rest = λ e. cc
 one_more q [] (suc k) c rest = λ e. cc
 one_more q (x ∷ xs) zero c rest = λ e. let same : x ≡ c = cc e in ap (λ n. octets_eq q n || false) same
-one_more q (x ∷ xs) (suc k) c rest = λ e. ap (λ b. octets_eq q x || b) (one_more q xs k c rest e) ∙ turned (octets_eq q x) (octets_eq q c) (is_among q (take k xs))
+one_more q (x ∷ xs) (suc k) c rest = λ e. ap (λ b. octets_eq q x || b) (one_more q xs k c rest e) ∙ or_turned (octets_eq q x) (octets_eq q c) (is_among q (take k xs))
 
 one_less : (changed : List Name) (k : ℕ) (c : Name) (rest : List Name) → drop k changed ≡ c ∷ rest → drop (suc k) changed ≡ rest
 one_less [] zero c rest = λ e. cc

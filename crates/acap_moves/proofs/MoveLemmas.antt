@@ -5,6 +5,7 @@ use Rattle.std.specs.List.{remove}
 use Rattle.std.specs.Option.{option_map}
 use Rattle.std.specs.FinMap.Entries.{by_order}
 use Rattle.acap_entries.specs.Orders.{octets_eq}
+use Rattle.acap_entries.proofs.Logic.{false_back}
 use Rattle.acap_moves.specs.Hits.{Name, Shape, IsLawful, is_among, IsDistinct, put, put_some, fresh, rank, found, IsOfNames, Supports}
 use Rattle.acap_moves.specs.Notices.{notice_at, with_new_hit, stepwise, Covers}
 use Rattle.acap_moves.specs.Moves.{Move, without, put_back, all_undone, moves_to, taken, after_move, after_moves, moves_notices, undo_of, undone, undos, MovesLaw, UndoLaw}
@@ -14,10 +15,6 @@ use Rattle.acap_moves.proofs.Law.{absent_fresh, of_name_among, covers_none, cove
 use Rattle.acap_moves.proofs.Domain.{among_or_none}
 use Rattle.acap_moves.proofs.Touched.{touched_told}
 use Rattle.acap_moves.proofs.Mixed.{mixed_steps}
-
-out_of_both : (a b : Bool) → (a ≡ true → b ≡ true) → b ≡ false → a ≡ false
-out_of_both true b h e = sym (h refl) ∙ e
-out_of_both false b h e = refl
 
 module _ {H : Type 0} (v : Shape H) where
   taken_absent : (p : Name) (es : List H) → Absent v p es → taken v p es ≡ es
@@ -106,7 +103,7 @@ undo v moves hits = moves_undone v moves hits
 
 pub moves : {H : Type 0} → MovesLaw H
 moves v l enumerated old new names changed touched d f g s k a b w = (
-  moves_fresh v l old new names touched d f g s (record { same_elsewhere = λ q m n. k q (out_of_both (is_among q changed) (is_among q touched) (w q) n) }),
+  moves_fresh v l old new names touched d f g s (record { same_elsewhere = λ q m n. k q (false_back (is_among q changed) (is_among q touched) (w q) n) }),
   moves_told v l enumerated old new names touched d f g s
       ∙ touched_told v enumerated old new names changed touched k a b w
       ∙ sym (mixed_steps v enumerated old new names changed),

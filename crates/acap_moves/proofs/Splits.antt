@@ -16,7 +16,7 @@ pub among_first : (p : Name) (ps : List Name) → is_among p (p ∷ ps) ≡ true
 unfolding is_among
 among_first p ps = rw (itself p p refl) refl
 
-among_later : (q p : Name) (ps : List Name) → is_among q ps ≡ true → is_among q (p ∷ ps) ≡ true
+pub among_later : (q p : Name) (ps : List Name) → is_among q ps ≡ true → is_among q (p ∷ ps) ≡ true
 unfolding is_among
 among_later q p ps m = rw m (elim (octets_eq q p) as (λ b. (b || true) ≡ true) [ true ↦ refl | false ↦ refl ])
 

@@ -8,7 +8,7 @@ use Rattle.acap_entries.specs.Orders.{octets_cmp, octets_eq}
 use Rattle.acap_entries.proofs.Equalities.{row_exact}
 use Rattle.acap_moves.specs.Hits.{Name, Shape, is_among, IsBelow, IsAscending, fresh, spot}
 use Rattle.acap_moves.specs.Notices.{notice_at, listed_notice, plain_notice, with_new_hit, stepwise}
-use Rattle.acap_moves.proofs.Splits.{same_name, itself}
+use Rattle.acap_moves.proofs.Splits.{same_name, itself, among_first}
 use borrow.Author.Tests.{eq-eqb}
 
 apart : (p q : Name) → octets_cmp p q ≡ Less → octets_eq p q ≡ false
@@ -22,10 +22,6 @@ above_out p (q ∷ qs) a = rw (apart p q a.0, above_out p qs a.1) refl
 above_more : (p q : Name) (qs : List Name) → octets_cmp p q ≡ Less → IsBelow q qs → IsBelow p qs
 above_more p q [] h a = tt
 above_more p q (r ∷ qs) h a = (nat_list_cmp_total.trans p q r h a.0, above_more p q qs h a.1)
-
-first_in : (p : Name) (ps : List Name) → is_among p (p ∷ ps) ≡ true
-unfolding is_among
-first_in p ps = rw (itself p p refl) refl
 
 less_out : (p q : Name) (qs : List Name) → octets_cmp p q ≡ Less → IsBelow q qs → is_among p (q ∷ qs) ≡ false
 unfolding is_among
@@ -44,16 +40,16 @@ none_in q = refl
 
 pub same_ascending : (xs ys : List Name) → IsAscending xs → IsAscending ys → ((q : Name) → is_among q xs ≡ is_among q ys) → xs ≡ ys
 same_ascending [] [] a b m = refl
-same_ascending [] (y ∷ ys) a b m = let e = m y in let f = first_in y ys in let g : is_among y [] ≡ false = none_in y in absurd (cc (e, f, g))
-same_ascending (x ∷ xs) [] a b m = let e = m x in let f = first_in x xs in let g : is_among x [] ≡ false = none_in x in absurd (cc (e, f, g))
+same_ascending [] (y ∷ ys) a b m = let e = m y in let f = among_first y ys in let g : is_among y [] ≡ false = none_in y in absurd (cc (e, f, g))
+same_ascending (x ∷ xs) [] a b m = let e = m x in let f = among_first x xs in let g : is_among x [] ≡ false = none_in x in absurd (cc (e, f, g))
 same_ascending (x ∷ xs) (y ∷ ys) a b m = elim (octets_cmp x y) as (λ r. octets_cmp x y ≡ r → x ∷ xs ≡ y ∷ ys) [
-  | Less ↦ λ r. let e = m x in let f = first_in x xs in let g = less_out x y ys r b.0 in absurd (cc (e, f, g))
+  | Less ↦ λ r. let e = m x in let f = among_first x xs in let g = less_out x y ys r b.0 in absurd (cc (e, f, g))
   | Equal ↦ λ r.
       let same : x ≡ y = same_name x y (texts_ties x y ∙ ap is_eq r) in
       let above : IsBelow x ys = subst (λ z. IsBelow z ys) (sym same) b.0 in
       let members : (q : Name) → is_among q (x ∷ xs) ≡ is_among q (x ∷ ys) = λ q. m q ∙ ap (λ z. is_among q (z ∷ ys)) (sym same) in
       ap (λ zs. x ∷ zs) (same_ascending xs ys a.1 b.1 (rest_same x xs ys a.0 above members)) ∙ ap (λ z. z ∷ ys) same
-  | Greater ↦ λ r. let e = m y in let f = first_in y ys in let g = less_out y x xs (nat_list_cmp_total.antisymm y x ∙ ap ordering_reverse r) a.0 in absurd (cc (e, f, g))
+  | Greater ↦ λ r. let e = m y in let f = among_first y ys in let g = less_out y x xs (nat_list_cmp_total.antisymm y x ∙ ap ordering_reverse r) a.0 in absurd (cc (e, f, g))
 ] refl
 
 above_filter : (d : Name → Bool) (p : Name) (qs : List Name) → IsBelow p qs → IsBelow p (filter d qs)

@@ -5,15 +5,13 @@ use Rattle.std.specs.List.{insert, remove}
 use Rattle.std.specs.Cmp.Lexicographic.{bytes_decides, nat_list_cmp_total, texts_ties}
 use Rattle.std.specs.Ordering.{eq_by_cmp}
 use Rattle.std.specs.FinMap as finite
-use Rattle.std.specs.FinMap.{IsAntisymmetric, get, get-from_entries, get-insert, get-remove, same_map, slice_cmp-IsAntisymmetric, nat_cmp-IsAntisymmetric}
+use Rattle.std.specs.FinMap.{get, get-from_entries, get-insert, get-remove, same_map}
 use Rattle.std.specs.FinMap.Entries.{find}
 use Rattle.acap_entries.specs.Orders.{octets_cmp, octets_eq}
 use Rattle.acap_entries.specs.declared.row.Row.{Row}
+use Rattle.acap_entries.proofs.StoreLemmas.{octets_same}
 use Rattle.acap_notices.specs.Rows.{is_held, is_of, is_each_once, RowMap, by_name}
 use Rattle.acap_notices.proofs.RowLemmas.{of_held, held_same, once_first, once_rest, apart_first, apart_rest}
-
-octets_same : IsAntisymmetric octets_cmp
-octets_same = slice_cmp-IsAntisymmetric nat_cmp-IsAntisymmetric
 
 -- the first row of an entry
 row_of : List ℕ → List Row → Option Row

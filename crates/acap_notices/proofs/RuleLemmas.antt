@@ -1,12 +1,14 @@
 -- What the client's rule makes of rows.
-use Rattle.std.proofs.Common.{◌≡◌, ℕ, suc, ◌+◌, ◌-◌, ◌≤◌, Bool, true, false, not, ◌&&◌, ◌||◌, nat_le, nat_lt, List, [], ◌∷◌, ◌++◌, length, cond, refl, sym, ap, ◌∙◌, arith, tests, true≢false}
+use Rattle.std.proofs.Common.{◌≡◌, ℕ, ◌+◌, ◌-◌, ◌≤◌, Bool, true, false, not, ◌&&◌, ◌||◌, nat_le, nat_lt, List, [], ◌∷◌, ◌++◌, length, cond, refl, sym, ap, ◌∙◌, arith, tests, true≢false}
 use Rattle.std.specs.Prelude.{◌↔◌, Result, Ok, Err, OnOk, OnErr, Option, Some, None, is_some, slice_get}
 use Rattle.std.specs.Option.{option_and_then, option_map, unwrap_or}
 use Rattle.std.specs.List.{insert, remove, position}
 use Rattle.std.specs.Cmp.Lexicographic.{bytes_decides}
 use Rattle.std.specs.FinMap as finite
+use Rattle.std.proofs.Math.Numerals.{one-add}
 use Rattle.acap_entries.specs.Orders.{octets_eq}
 use Rattle.acap_entries.specs.declared.row.Row.{Row}
+use Rattle.acap_entries.proofs.Logic.{one_back}
 use Rattle.acap_notices.specs.Rows.{is_held, is_of, stands_at, has_position, is_each_once, IsEachOnce, RowMap, by_name}
 use Rattle.acap_notices.specs.Places.{place_of}
 use Rattle.acap_notices.specs.Client.{listed_after, mapped_after, put_at, in_turn}
@@ -139,16 +141,13 @@ turns after held (n ∷ first) second = elim (after held n) as (λ o. option_and
 pub joined : JoinedLaw
 joined = turns holding_after
 
-one_more : (n : ℕ) → 1 + n ≡ suc n
-one_more n = omega arith
-
 -- a list that is told where the entry stands has the rows that a map has
 place_holds : (entry : List ℕ) (rows : List Row) → is_of entry (slice_get rows (place_of entry rows)) ≡ is_held entry rows
 place_holds entry [] = refl
 place_holds entry (r ∷ rows) = elim (octets_eq entry r.name) as (λ b. octets_eq entry r.name ≡ b
     → is_of entry (slice_get (r ∷ rows) (cond (not b) (1 + place_of entry rows) 0)) ≡ (b || is_held entry rows)) [
       | true ↦ λ e. e
-      | false ↦ λ e. ap (λ i. is_of entry (slice_get (r ∷ rows) i)) (one_more (place_of entry rows)) ∙ place_holds entry rows
+      | false ↦ λ e. ap (λ i. is_of entry (slice_get (r ∷ rows) i)) (one-add (place_of entry rows)) ∙ place_holds entry rows
     ] refl
 
 place_le : (entry : List ℕ) (rows : List Row) → place_of entry rows ≤ length rows
@@ -164,20 +163,17 @@ place_or_end entry rows = elim (nat_lt (place_of entry rows) (length rows)) as (
   | false ↦ λ e. let above : length rows ≤ place_of entry rows = grind (arith, tests) in omega (arith, above, place_le entry rows)
 ] refl
 
-back : (n : ℕ) → n + 1 - 1 ≡ n
-back n = omega arith
-
 stands_there : (entry : List ℕ) (rows : List Row) → stands_at entry (place_of entry rows + 1) rows ≡ is_held entry rows
 stands_there entry rows =
     let above : nat_le 1 (place_of entry rows + 1) ≡ true = grind (arith, tests) in
     ap (λ b. b && is_of entry (slice_get rows (place_of entry rows + 1 - 1))) above
-    ∙ ap (λ i. is_of entry (slice_get rows i)) (back (place_of entry rows))
+    ∙ ap (λ i. is_of entry (slice_get rows i)) (one_back (place_of entry rows))
     ∙ place_holds entry rows
 
 put_in : (i : ℕ) (row : Row) (rows : List Row) → i ≤ length rows → put_at (i + 1) row rows ≡ Some (insert rows i row)
 put_in i row rows h =
     let fits : has_position (i + 1) rows ≡ true = grind (arith, tests) in
-    ap (λ b. cond b (Some (insert rows (i + 1 - 1) row)) None) fits ∙ ap (λ k. Some (insert rows k row)) (back i)
+    ap (λ b. cond b (Some (insert rows (i + 1 - 1) row)) None) fits ∙ ap (λ k. Some (insert rows k row)) (one_back i)
 
 pub mapped_add : (rows : List Row) (row : Row) → mapped_after (by_name rows) (AddTo 0 row) ≡ option_map by_name (listed_after rows (AddTo (length rows + 1) row))
 unfolding mapped_after listed_after
@@ -198,7 +194,7 @@ mapped_remove rows entry o =
       | false ↦ λ e. refl
     ] refl
     ∙ ap (λ b. option_map by_name (cond b (Some (remove rows place)) None)) (sym (stands_there entry rows))
-    ∙ ap (λ i. option_map by_name (cond (stands_at entry (place + 1) rows) (Some (remove rows i)) None)) (sym (back place))
+    ∙ ap (λ i. option_map by_name (cond (stands_at entry (place + 1) rows) (Some (remove rows i)) None)) (sym (one_back place))
 
 pub mapped_change : (rows : List Row) (row : Row) → IsEachOnce rows
     → mapped_after (by_name rows) (Change 0 0 row) ≡ option_map by_name (listed_after rows (Change (place_of row.name rows + 1) (place_of row.name rows + 1) row))
@@ -215,7 +211,7 @@ mapped_change rows row o =
       | false ↦ λ e. refl
     ] refl
     ∙ ap (λ b. option_map by_name (option_and_then (put_at (place + 1) row) (cond b (Some rest) None))) (sym (stands_there row.name rows))
-    ∙ ap (λ i. option_map by_name (option_and_then (put_at (place + 1) row) (cond (stands_at row.name (place + 1) rows) (Some (remove rows i)) None))) (sym (back place))
+    ∙ ap (λ i. option_map by_name (option_and_then (put_at (place + 1) row) (cond (stands_at row.name (place + 1) rows) (Some (remove rows i)) None))) (sym (one_back place))
 
 -- a call that applies a notice to a list leaves each name once
 pub no_twice : (result : Result (Unit {0}) HeldFault) (rows new : List Row) (notice : Notice) → OnOk result (listed_after rows notice ≡ Some new) → OnErr result (new ≡ rows) → IsEachOnce rows → IsEachOnce new

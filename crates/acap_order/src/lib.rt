@@ -10,3 +10,4 @@ mod octets;
 
 pub use comparator::{Collation, Comparator, Direction};
 pub use laws::{equality_law, example_law, order_law, reverse_law};
+pub use numbers::{leading_digits, significant};

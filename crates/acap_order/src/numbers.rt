@@ -7,8 +7,8 @@ ghost use Rattle.acap_order.specs.Ranks.{leading_number, number_cmp};
 
 use std::cmp::Ordering;
 
-/// The digits that a text begins with.
-fn leading_digits(text: &[u8]) -> &[u8]
+/// The digits that a text begins with (RFC 2244 section 3.4: `i;ascii-numeric`).
+pub fn leading_digits(text: &[u8]) -> &[u8]
     ensures { result.now ≡ take_while is_ascii_digit text.now }
 {
     for (count, octet) in text.iter().enumerate() {
@@ -19,8 +19,8 @@ fn leading_digits(text: &[u8]) -> &[u8]
     text
 }
 
-/// Digits without the zeros that they begin with.
-fn significant(digits: &[u8]) -> &[u8]
+/// Digits without the zeros that they begin with: of two numbers so written the longer is the greater.
+pub fn significant(digits: &[u8]) -> &[u8]
     ensures { result.now ≡ significant_digits digits.now }
 {
     let mut rest = digits;

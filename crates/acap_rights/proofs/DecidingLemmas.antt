@@ -1,7 +1,7 @@
 -- The laws of which list decides, and of whose lists attributes are.
-use Rattle.std.proofs.Common.{◌≡◌, ◌≢◌, ℕ, ◌<◌, Bool, true, false, ◌&&◌, nat_eq, List, [], ◌++◌, length, take, drop, length-drop, take-append-drop, Option, Some, None, refl, sym, ap, ◌∙◌, arith}
+use Rattle.std.proofs.Common.{◌≡◌, ◌≢◌, ℕ, ◌<◌, true, false, ◌&&◌, nat_eq, List, [], ◌++◌, length, take, drop, length-drop, take-append-drop, Option, Some, None, refl, sym, ap, ◌∙◌, arith}
 use Rattle.std.specs.Prelude.{nat_lt, codes, if◌then◌else◌}
-use Rattle.std.proofs.lemmas.Bool.{ltb-true}
+use Rattle.std.proofs.lemmas.Bool.{ltb-true, and_parts}
 use Rattle.std.specs.Cmp.Lexicographic.{bytes_decides}
 use Rattle.std.specs.List.{starts_with}
 use Rattle.acap_entries.specs.FullPaths.{path_of}
@@ -97,10 +97,6 @@ nameless : (dataset : List ℕ) → target_of_list dataset (attribute_list_name 
 unfolding target_of_list
 nameless dataset = refl
 
-both_held : (b c : Bool) → (b && c) ≡ true → (b ≡ true) × (c ≡ true)
-both_held true c e = (refl, e)
-both_held false c e = absurd (cc (e))
-
 no_other : (dataset attribute : List ℕ) → attribute ≢ dataset_list_name → ((name : List ℕ) → 0 < length name → attribute ≢ attribute_list_name name) → target_of_list dataset attribute ≡ None
 unfolding target_of_list
 no_other dataset attribute whole named =
@@ -108,7 +104,7 @@ no_other dataset attribute whole named =
       | true ↦ λ e. absurd (whole ((bytes_decides attribute dataset_list_name).0 e))
       | false ↦ λ e. elim (starts_with nat_eq attribute (codes "dataset.acl.") && nat_lt 12 (length attribute)) as (λ b. (starts_with nat_eq attribute (codes "dataset.acl.") && nat_lt 12 (length attribute)) ≡ b → (if b then Some (OfAttribute dataset (drop 12 attribute)) else None) ≡ None) [
         | true ↦ λ f.
-            let parts = both_held _ _ f in
+            let parts = and_parts _ _ f in
             let front : codes "dataset.acl." ≡ take 12 attribute = (bytes_decides (codes "dataset.acl.") (take 12 attribute)).0 parts.0 in
             let long : 12 < length attribute = ltb-true 12 (length attribute) parts.1 in
             absurd (named (drop 12 attribute) (omega (arith, length-drop 12 attribute, long)) (sym (ap (λ xs. xs ++ drop 12 attribute) front ∙ take-append-drop 12 attribute)))

@@ -1,6 +1,6 @@
 -- The laws of SETACL and DELETEACL.
 use Rattle.std.proofs.Common.{◌≡◌, ℕ, suc, ◌+◌, Bool, true, false, not, cond, List, [], ◌∷◌, ◌++◌, take, drop, Some, None, refl, sym, ap, ◌∙◌, arith}
-use Rattle.std.specs.Prelude.{◌&&◌, ◌||◌, if◌then◌else◌}
+use Rattle.std.specs.Prelude.{◌&&◌, if◌then◌else◌}
 use Rattle.std.specs.Cmp.{first_so, second_so}
 use Rattle.std.specs.Cmp.Lexicographic.{bytes_decides}
 use Rattle.std.specs.List.{filter, list_any, list_all, position_or_len}
@@ -8,14 +8,11 @@ use Rattle.std.specs.Option.{is_some}
 use Rattle.std.proofs.lemmas.List.{take-append-drop}
 use Rattle.std.proofs.lemmas.List.Elements.{filter-append}
 use Rattle.std.proofs.lemmas.List.Folds.{list_all-append}
+use Rattle.std.proofs.lemmas.Bool.{or_parts}
 use Rattle.acap_rights.specs.Edits.{is_about, without, with_pair}
 use Rattle.acap_rights.specs.Laws.{EditLaw}
 use Rattle.acap_rights.specs.Pairs.{string_of, pair_of, is_identifier, is_letter}
 use Rattle.acap_rights.proofs.PairLemmas.{pair_of_form, makes_pair}
-
-or_parts : (a b : Bool) → (a || b) ≡ false → (a ≡ false) × (b ≡ false)
-or_parts true b h = cc
-or_parts false b h = (refl, h)
 
 module _ {X : Type 0} (test : X → Bool) where
   abbrev others : List X → List X

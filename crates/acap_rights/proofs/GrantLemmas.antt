@@ -4,6 +4,7 @@ use Rattle.std.proofs.Math.Seq.{drop-cons}
 use Rattle.std.proofs.lemmas.List.{drop_all}
 use Rattle.std.specs.Prelude.{◌||◌, codes, if◌then◌else◌}
 use Rattle.std.specs.List.{list_any}
+use Rattle.std.proofs.Math.Bool.{or-false, or-true}
 use Rattle.acap_entries.specs.Names.{is_user_name}
 use Rattle.acap_entries.specs.Orders.{octets_eq}
 use Rattle.acap_rights.specs.Pairs.{form_of, rights_in, pair_of, is_identifier}
@@ -17,14 +18,6 @@ use Rattle.acap_rights.proofs.PairLemmas.{pair_of_form, user_unsigned, user_iden
 or_both : (a b c : Bool) → ((a || b) || c) ≡ (a || (b || c))
 or_both true b c = refl
 or_both false b c = refl
-
-pub or_none : (a : Bool) → (a || false) ≡ a
-or_none true = refl
-or_none false = refl
-
-pub or_all : (a : Bool) → (a || true) ≡ true
-or_all true = refl
-or_all false = refl
 
 -- what one string more adds to what is gathered
 one_more : (gathered : Rights) (test : ℕ → List ℕ → Bool) (text : List ℕ) (rest : List (List ℕ)) → union (union gathered (rights_by (λ letter. test letter text))) (rights_by (λ letter. list_any (test letter) rest)) ≡ union gathered (rights_by (λ letter. list_any (test letter) (text ∷ rest)))
@@ -46,7 +39,7 @@ more_gathered test texts i text shown new gathered more all within item same joi
     ∙ (ap (λ ts. union gathered (rights_by (λ letter. list_any (test letter) ts))) (sym parts) ∙ so_far))
 
 none_more : (gathered : Rights) → union gathered no_rights ≡ gathered
-none_more g = λ i. record { x = or_none g.x i; r = or_none g.r i; w = or_none g.w i; i = or_none g.i i; a = or_none g.a i }
+none_more g = λ i. record { x = or-false g.x i; r = or-false g.r i; w = or-false g.w i; i = or-false g.i i; a = or-false g.a i }
 
 -- behind the last string nothing more is gathered
 pub none_left : (test : ℕ → List ℕ → Bool) (texts : List (List ℕ)) (i : ℕ) (gathered all : Rights) → length texts ≤ i → union gathered (rights_by (λ letter. list_any (test letter) (drop i texts))) ≡ all → gathered ≡ all
@@ -68,7 +61,7 @@ owner_list realm user name h =
 
 pub named_all : (realm : Realm) (user : List ℕ) → names realm user (codes "anyone") ≡ true
 unfolding names
-named_all realm user = ap (λ b. b || names_in_group realm user (codes "anyone")) (or_all (octets_eq (codes "anyone") user))
+named_all realm user = ap (λ b. b || names_in_group realm user (codes "anyone")) (or-true (octets_eq (codes "anyone") user))
 
 -- the list for all gives x and r
 pub open_list : (realm : Realm) (user : List ℕ) → rights_in realm user (form_of (record { identifier = codes "anyone"; letters = codes "xr" }) ∷ []) ≡ record { x = true; r = true; w = false; i = false; a = false }

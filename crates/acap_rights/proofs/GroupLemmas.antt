@@ -8,6 +8,7 @@ use Rattle.std.proofs.lemmas.Bool.{and_parts}
 use Rattle.std.proofs.lemmas.Bool.Decides.{Decides-eqb}
 use Rattle.std.proofs.lemmas.List.Folds.{list_any-append, list_all-append}
 use Rattle.std.proofs.lemmas.Slice.Eq.{starts_is}
+use Rattle.std.proofs.Math.Bool.{or-false}
 use Rattle.acap_entries.specs.Names.{minus, has, begins_with, group_prefix, is_user_name}
 use Rattle.acap_entries.specs.Orders.{octets_eq}
 use Rattle.acap_rights.specs.Groups.{GroupLaw, without_groups, members_of, pair_written_out, written_out, are_users}
@@ -17,7 +18,6 @@ use Rattle.acap_rights.specs.Realms.{has_member, names, names_in_group}
 use Rattle.acap_rights.specs.Rights.{less}
 use Rattle.acap_rights.specs.declared.group.Group.{Group}
 use Rattle.acap_rights.specs.declared.realm.Realm.{Realm}
-use Rattle.acap_rights.proofs.GrantLemmas.{or_none}
 use Rattle.acap_rights.proofs.PairLemmas.{is_form, pair_of_form, user_unsigned, user_identifier, user_someone, user_ungrouped}
 use Rattle.acap_rights.proofs.RealmLemmas.{in_no_group}
 use Rattle.acap_rights.proofs.RightsLemmas.{by_letter, none_says, signed_identifier, group_signed, named_group, taken_here, taken_one, given_none, taken_none}
@@ -71,7 +71,7 @@ named realm user identifier u h =
 -- a member's own string, in a realm without groups
 member_named : (realm : Realm) (user member : List ℕ) → is_user_name member ≡ true → names (without_groups realm) user member ≡ octets_eq member user
 unfolding names
-member_named realm user member h = rw (user_someone member h) (or_none (octets_eq member user || false) ∙ or_none (octets_eq member user))
+member_named realm user member h = rw (user_someone member h) (or-false (octets_eq member user || false) ∙ or-false (octets_eq member user))
 
 -- the members of groups of users are users
 all_users : (name : List ℕ) (groups : List Group) → list_all (λ (g : Group). list_all is_user_name g.members) groups ≡ true → list_all is_user_name (flat_map (λ g. if octets_eq name g.name then g.members else []) groups) ≡ true
@@ -108,7 +108,7 @@ module _ (test : Pair → Bool) (letters : List ℕ) (sign : List ℕ → List �
   no_member (member ∷ members) each = λ i. each member i || no_member members each i
 
 no_test : (test : Pair → Bool) (identifier letters : List ℕ) → test (record { identifier = identifier; letters = letters }) ≡ false → says test (string_of identifier letters) ≡ false
-no_test test identifier letters h = sym (or_none (says test (string_of identifier letters))) ∙ none_says test identifier letters h
+no_test test identifier letters h = sym (or-false (says test (string_of identifier letters))) ∙ none_says test identifier letters h
 
 said : (identifier letters : List ℕ) → (is_identifier identifier && list_all is_letter letters) ≡ true → pair_of (string_of identifier letters) ≡ Some (record { identifier = identifier; letters = letters })
 said identifier letters h = pair_of_form identifier letters ∙ rw h refl
@@ -126,7 +126,7 @@ module _ (realm : Realm) (user : List ℕ) (letter : ℕ) (u : is_user_name user
       else text ∷ [])) [
         | true ↦ λ s. elim (starts_with nat_eq (drop 1 pair.identifier) group_prefix) as (λ g. false ≡ list_any (says bare_gives) (if g then map (λ member. string_of (minus ∷ member) pair.letters) (members_of realm (drop 6 (drop 1 pair.identifier))) else text ∷ [])) [
           | true ↦ sym (no_member bare_gives pair.letters (λ member. minus ∷ member) (members_of realm (drop 6 (drop 1 pair.identifier))) (λ member. no_test bare_gives (minus ∷ member) pair.letters refl))
-          | false ↦ sym (or_none (says bare_gives text) ∙ (one_test bare_gives pair text h ∙ rw s refl))
+          | false ↦ sym (or-false (says bare_gives text) ∙ (one_test bare_gives pair text h ∙ rw s refl))
         ]
         | false ↦ λ s. elim (starts_with nat_eq pair.identifier group_prefix) as (λ g. starts_with nat_eq pair.identifier group_prefix ≡ g → (names realm user pair.identifier && has letter pair.letters) ≡ list_any (says bare_gives) (if g then map (λ member. string_of member pair.letters) (members_of realm (drop 6 pair.identifier)) else text ∷ [])) [
           | true ↦ λ g.
@@ -137,7 +137,7 @@ module _ (realm : Realm) (user : List ℕ) (letter : ℕ) (u : is_user_name user
               ∙ rw (user_unsigned member m, member_named realm user member m) refl in
               ap (λ b. b && has letter pair.letters) names_it
               ∙ sym (any_member bare_gives pair.letters (λ member. member) user letter (members_of realm (drop 6 pair.identifier)) (all_users (drop 6 pair.identifier) realm.groups users) each)
-          | false ↦ λ g. ap (λ b. b && has letter pair.letters) (names_alike realm user pair.identifier g) ∙ sym (or_none (says bare_gives text) ∙ (one_test bare_gives pair text h ∙ ap (λ b. (not b && names (without_groups realm) user pair.identifier) && has letter pair.letters) s))
+          | false ↦ λ g. ap (λ b. b && has letter pair.letters) (names_alike realm user pair.identifier g) ∙ sym (or-false (says bare_gives text) ∙ (one_test bare_gives pair text h ∙ ap (λ b. (not b && names (without_groups realm) user pair.identifier) && has letter pair.letters) s))
         ] refl
       ] refl
 
@@ -159,11 +159,11 @@ module _ (realm : Realm) (user : List ℕ) (letter : ℕ) (u : is_user_name user
               ∙ rw (member_named realm user member m) refl in
               ap (λ b. b && has letter pair.letters) names_it
               ∙ sym (any_member bare_takes pair.letters (λ member. minus ∷ member) user letter (members_of realm (drop 6 (drop 1 pair.identifier))) (all_users (drop 6 (drop 1 pair.identifier)) realm.groups users) each)
-          | false ↦ λ g. ap (λ b. b && has letter pair.letters) (names_alike realm user (drop 1 pair.identifier) g) ∙ sym (or_none (says bare_takes text) ∙ (one_test bare_takes pair text h ∙ rw s refl))
+          | false ↦ λ g. ap (λ b. b && has letter pair.letters) (names_alike realm user (drop 1 pair.identifier) g) ∙ sym (or-false (says bare_takes text) ∙ (one_test bare_takes pair text h ∙ rw s refl))
         ] refl
         | false ↦ λ s. elim (starts_with nat_eq pair.identifier group_prefix) as (λ g. false ≡ list_any (says bare_takes) (if g then map (λ member. string_of member pair.letters) (members_of realm (drop 6 pair.identifier)) else text ∷ [])) [
           | true ↦ sym (unsigned_takes (members_of realm (drop 6 pair.identifier)) (all_users (drop 6 pair.identifier) realm.groups users) pair.letters)
-          | false ↦ sym (or_none (says bare_takes text) ∙ (one_test bare_takes pair text h ∙ rw s refl))
+          | false ↦ sym (or-false (says bare_takes text) ∙ (one_test bare_takes pair text h ∙ rw s refl))
         ]
       ] refl where
         unsigned_takes : (members : List (List ℕ)) → list_all is_user_name members ≡ true → (letters : List ℕ) → list_any (says bare_takes) (map (λ member. string_of member letters) members) ≡ false
@@ -175,13 +175,13 @@ module _ (realm : Realm) (user : List ℕ) (letter : ℕ) (u : is_user_name user
 
   gives_text : (text : List ℕ) → says (gives realm user letter) text ≡ list_any (says bare_gives) (pair_written_out realm text (pair_of text))
   gives_text text = elim (pair_of text) as (λ o. pair_of text ≡ o → option_map_or (gives realm user letter) o false ≡ list_any (says bare_gives) (pair_written_out realm text o)) [
-    | None ↦ λ h. sym (or_none (says bare_gives text) ∙ ap (λ o. option_map_or bare_gives o false) h)
+    | None ↦ λ h. sym (or-false (says bare_gives text) ∙ ap (λ o. option_map_or bare_gives o false) h)
     | Some pair ↦ λ h. gives_written text pair h
   ] refl
 
   takes_text : (text : List ℕ) → says (takes realm user letter) text ≡ list_any (says bare_takes) (pair_written_out realm text (pair_of text))
   takes_text text = elim (pair_of text) as (λ o. pair_of text ≡ o → option_map_or (takes realm user letter) o false ≡ list_any (says bare_takes) (pair_written_out realm text o)) [
-    | None ↦ λ h. sym (or_none (says bare_takes text) ∙ ap (λ o. option_map_or bare_takes o false) h)
+    | None ↦ λ h. sym (or-false (says bare_takes text) ∙ ap (λ o. option_map_or bare_takes o false) h)
     | Some pair ↦ λ h. takes_written text pair h
   ] refl
 

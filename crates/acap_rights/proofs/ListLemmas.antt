@@ -1,17 +1,10 @@
 -- Lists: a filter and what is put in its place, copies, and equality.
-use Rattle.std.proofs.Common.{◌≡◌, ℕ, suc, ◌+◌, ◌≤◌, Bool, true, false, not, cond, List, [], ◌∷◌, ◌++◌, length, take, drop, Some, None, refl, ap, arith}
+use Rattle.std.proofs.Common.{◌≡◌, suc, ◌+◌, ◌≤◌, Bool, true, false, not, cond, List, [], ◌∷◌, ◌++◌, length, take, drop, Some, None, refl, ap, arith}
 use Rattle.std.proofs.lemmas.Bool.{ltb-false}
 use Rattle.std.proofs.lemmas.List.Sums.{prefix_len-le-length}
 use Rattle.std.specs.Prelude.{nat_lt}
-use Rattle.std.specs.Bool.{Decides}
-use Rattle.std.specs.Cmp.Lexicographic.{pointwise, pointwise_decides, bytes_decides}
 use Rattle.std.specs.List.{filter, position, position_or_len, insert}
 use Rattle.std.specs.Option.{unwrap_or}
-use Rattle.acap_entries.specs.Orders.{octets_eq}
-
--- lists of strings are equal exactly where the test says so
-pub strings_exact : (a b : List (List ℕ)) → Decides (pointwise octets_eq a b) (a ≡ b)
-strings_exact = pointwise_decides bytes_decides
 
 module _ {X : Type 0} (test : X → Bool) where
   -- the first place that passes, or the length where none does

@@ -5,10 +5,10 @@ use Rattle.std.specs.Cmp.{first_so, second_so}
 use Rattle.std.specs.List.{slice_split, onto_first, list_any, list_all, starts_with}
 use Rattle.std.specs.Option.{is_some}
 use Rattle.std.proofs.Math.Bool.{and-false}
+use Rattle.std.proofs.lemmas.Bool.{or_parts, not-true}
 use borrow.Author.Tests.{eqb-true}
 use Rattle.acap_entries.specs.Names.{tab, minus, has, begins_with, group_prefix, is_identity, is_user_name, is_component}
 use Rattle.acap_entries.specs.Orders.{octets_eq}
-use Rattle.acap_rights.proofs.HomeLemmas.{not_true}
 use Rattle.acap_rights.specs.Pairs.{Pair, form_of, is_tab, is_letter, is_identifier, pair_in, pair_of, IsPair}
 
 tab_no_letter : (xs : List ℕ) → list_any is_tab xs ≡ true → list_all is_letter xs ≡ false
@@ -147,20 +147,16 @@ unsigned (x ∷ xs) h = rw h refl
 
 pub user_unsigned : (name : List ℕ) → is_user_name name ≡ true → begins_with minus name ≡ false
 unfolding is_identity is_user_name
-user_unsigned name h = not_true _ (second_so _ _ (first_so _ _ h))
-
-neither : (a b : Bool) → (a || b) ≡ false → (a ≡ false) × (b ≡ false)
-neither true b h = cc
-neither false b h = (refl, h)
+user_unsigned name h = not-true _ (second_so _ _ (first_so _ _ h))
 
 -- neither is it `anyone`, nor a group's identifier
 pub user_someone : (name : List ℕ) → is_user_name name ≡ true → octets_eq name (codes "anyone") ≡ false
 unfolding is_identity is_user_name
-user_someone name h = (neither _ _ (neither _ _ (not_true _ (second_so _ _ h))).0).0
+user_someone name h = (or_parts _ _ (or_parts _ _ (not-true _ (second_so _ _ h))).0).0
 
 pub user_ungrouped : (name : List ℕ) → is_user_name name ≡ true → starts_with nat_eq name group_prefix ≡ false
 unfolding is_identity is_user_name
-user_ungrouped name h = (neither _ _ (not_true _ (second_so _ _ h))).1
+user_ungrouped name h = (or_parts _ _ (not-true _ (second_so _ _ h))).1
 
 pub user_identifier : (name : List ℕ) → is_user_name name ≡ true → is_identifier name ≡ true
 unfolding is_identity is_user_name is_identifier is_component
@@ -169,7 +165,7 @@ user_identifier name h =
     let tabbed = first_so _ _ signed in
     let component = first_so _ _ (first_so _ _ (first_so _ _ tabbed)) in
     let some : nat_lt 0 (length name) ≡ true = first_so _ _ (first_so _ _ (first_so _ _ (first_so _ _ component))) in
-    let alone : octets_eq name (codes "-") ≡ false = unsigned name (not_true _ (second_so _ _ signed)) in
+    let alone : octets_eq name (codes "-") ≡ false = unsigned name (not-true _ (second_so _ _ signed)) in
     let free : not (has tab name) ≡ true = second_so _ _ tabbed in
     rw (some, alone, free) refl
 

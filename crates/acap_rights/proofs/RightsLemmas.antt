@@ -7,6 +7,7 @@ use Rattle.std.proofs.lemmas.Bool.Decides.{nat_tests}
 use Rattle.std.specs.Cmp.Lexicographic.{bytes_decides}
 use Rattle.std.specs.List.{list_any, list_all}
 use Rattle.std.proofs.lemmas.List.Sorted.{list_any-IsPermutation}
+use Rattle.std.proofs.Math.Bool.{or-false, or-true}
 use Rattle.acap_entries.specs.Names.{tab, minus, slash, has, begins_with, components, group_prefix, is_user_name}
 use Rattle.acap_entries.specs.Orders.{octets_eq}
 use Rattle.acap_entries.specs.Store.{Stored}
@@ -18,7 +19,7 @@ use Rattle.acap_rights.specs.Realms.{names, names_in_group, is_administrator}
 use Rattle.acap_rights.specs.Rights.{rights_by, no_rights, all_rights, less, union}
 use Rattle.acap_rights.specs.declared.realm.Realm.{Realm}
 use Rattle.acap_rights.specs.declared.rights.Rights.{Rights}
-use Rattle.acap_rights.proofs.GrantLemmas.{or_none, or_all, named_all}
+use Rattle.acap_rights.proofs.GrantLemmas.{named_all}
 use Rattle.acap_rights.proofs.PairLemmas.{pair_of_form, user_unsigned, user_identifier}
 
 pub by_letter : (f g : ℕ → Bool) → ((letter : ℕ) → f letter ≡ g letter) → rights_by f ≡ rights_by g
@@ -37,7 +38,7 @@ order_law realm user acl other h =
 
 any_there : (test : List ℕ → Bool) (front back : List (List ℕ)) (text : List ℕ) → test text ≡ true → list_any test (front ++ text ∷ back) ≡ true
 any_there test [] back text h = rw h refl
-any_there test (x ∷ front) back text h = rw (any_there test front back text h) (or_all (test x))
+any_there test (x ∷ front) back text h = rw (any_there test front back text h) (or-true (test x))
 
 blocked : (g : Bool) (test : List ℕ → Bool) (front back : List (List ℕ)) (text : List ℕ) → ((g && not (list_any test (front ++ text ∷ back))) && (test text || false)) ≡ false
 blocked g test front back text = elim (test text) as (λ b. test text ≡ b → ((g && not (list_any test (front ++ text ∷ back))) && (b || false)) ≡ false) [
@@ -82,20 +83,20 @@ pub administrator_law : AdministratorLaw
 unfolding rights_of implicit_rights
 administrator_law records realm user target h =
     let rights = rights_in realm user (deciding_list records target) in
-    rw h (λ i. record { x = or_all rights.x i; r = or_all rights.r i; w = or_all rights.w i; i = or_all rights.i i; a = or_all rights.a i })
+    rw h (λ i. record { x = or-true rights.x i; r = or-true rights.r i; w = or-true rights.w i; i = or-true rights.i i; a = or-true rights.a i })
 
 reads : (records : Stored) (realm : Realm) (user : List ℕ) (target : Target) → is_owner user (dataset_in target) ≡ true → (rights_of records realm user target).r ≡ true
 unfolding rights_of implicit_rights
 reads records realm user target h = rw h (elim (is_administrator realm user) as (λ b. ((rights_in realm user (deciding_list records target)).r || (if b then all_rights else record { x = false; r = true; w = false; i = false; a = true }).r) ≡ true) [
-  | true ↦ or_all (rights_in realm user (deciding_list records target)).r
-  | false ↦ or_all (rights_in realm user (deciding_list records target)).r
+  | true ↦ or-true (rights_in realm user (deciding_list records target)).r
+  | false ↦ or-true (rights_in realm user (deciding_list records target)).r
 ])
 
 administers : (records : Stored) (realm : Realm) (user : List ℕ) (target : Target) → is_owner user (dataset_in target) ≡ true → (rights_of records realm user target).a ≡ true
 unfolding rights_of implicit_rights
 administers records realm user target h = rw h (elim (is_administrator realm user) as (λ b. ((rights_in realm user (deciding_list records target)).a || (if b then all_rights else record { x = false; r = true; w = false; i = false; a = true }).a) ≡ true) [
-  | true ↦ or_all (rights_in realm user (deciding_list records target)).a
-  | false ↦ or_all (rights_in realm user (deciding_list records target)).a
+  | true ↦ or-true (rights_in realm user (deciding_list records target)).a
+  | false ↦ or-true (rights_in realm user (deciding_list records target)).a
 ])
 
 held : (b c : Bool) → (if b then c else false) ≡ true → (b ≡ true) × (c ≡ true)
@@ -160,7 +161,7 @@ named_other realm user identifier h k g = rw (other_text identifier user h, othe
 
 pub named_group : (realm : Realm) (user identifier : List ℕ) → names_in_group realm user identifier ≡ true → names realm user identifier ≡ true
 unfolding names
-named_group realm user identifier g = rw g (or_all _)
+named_group realm user identifier g = rw g (or-true _)
 
 -- the identifier of a group, without `-` and with it
 pub group_identifier : (name : List ℕ) → is_user_name name ≡ true → is_identifier (group_prefix ++ name) ≡ true
@@ -181,7 +182,7 @@ group_signed name h =
 one_says : (test : Pair → Bool) (identifier letters : List ℕ) → is_identifier identifier ≡ true → list_all is_letter letters ≡ true → (says test (string_of identifier letters) || false) ≡ test (record { identifier = identifier; letters = letters })
 one_says test identifier letters h k =
     let said : pair_of (string_of identifier letters) ≡ Some (record { identifier = identifier; letters = letters }) = pair_of_form identifier letters ∙ rw (h, k) refl in
-    rw said (or_none (test (record { identifier = identifier; letters = letters })))
+    rw said (or-false (test (record { identifier = identifier; letters = letters })))
 
 no_said : (test : Pair → Bool) (pair : Pair) (b : Bool) → test pair ≡ false → (option_map_or test (if b then Some pair else None) false || false) ≡ false
 no_said test pair true h = rw h refl

@@ -38,7 +38,7 @@ or_none : {X : Type 0} (o : Option X) → option_or o None ≡ o
 or_none None = refl
 or_none (Some x) = refl
 
-tied : (p q : List ℕ) → eq_by_cmp octets_cmp p q ≡ true → p ≡ q
+pub tied : (p q : List ℕ) → eq_by_cmp octets_cmp p q ≡ true → p ≡ q
 tied p q t = same_text p q (sym (texts_ties p q ∙ t))
 
 module _ (rights : List (List ℕ) → Rights) (attribute : List ℕ) where

@@ -1,5 +1,5 @@
 -- Lines of scripts, and what they say.
-use Rattle.std.specs.Prelude.{◌≡◌, pos, List, [], ◌∷◌, codes, Some, None}
+use Rattle.std.specs.Prelude.{◌≡◌, pos, [], ◌∷◌, codes, Some, None}
 use Rattle.acap_script.specs.Lines.{line_of}
 use Rattle.acap_script.specs.declared.script_line.ScriptLine.TheVariants as line
 use Rattle.acap_script.specs.declared.seat_line.SeatLine.TheVariants as act

@@ -5,7 +5,8 @@ use Rattle.std.proofs.lemmas.List.{length-map, map-append, take-map, take-take}
 use Rattle.std.specs.List.{cons_option, filter_map, Contains}
 use Rattle.acap_entries.specs.declared.path.Path.{Path}
 use Rattle.acap_entries.specs.declared.record.Record.{Record}
-use Rattle.acap_commands.specs.declared.limit.Limit.{Limit}
+use Rattle.acap_entries.proofs.Logic.{Contains-here, Contains-there}
+use Rattle.acap_commands.specs.declared.search_modifiers.Limit.{Limit}
 use Rattle.acap_search.specs.Cutting.{IsExcerpt, IsWished, cut_of, most_told}
 use Rattle.acap_search.specs.Gathering.{rows_of, told_of, none_told, told_with, none_in_order, none_in_turn, with_more, with_one, put_in_order, count_of, rows_at, first_in, excerpt_in, IsFirst, IsGathered}
 use Rattle.acap_search.specs.Lying.{untold}
@@ -17,7 +18,6 @@ use Rattle.acap_search.specs.declared.telling.Excerpt.{Excerpt}
 use Rattle.acap_search.specs.declared.told.Told.{Told}
 use Rattle.acap_search.specs.declared.wish.Wish.{Wish}
 use Rattle.acap_search.specs.declared.wish.Wish.TheVariants as wish
-use Rattle.acap_search.proofs.SeenLemmas.{here, there}
 
 -- ---- the first rows
 
@@ -172,8 +172,8 @@ module _ (quest : Quest) where
   rows_made zero matches made = refl
   rows_made (suc n) [] made = refl
   rows_made (suc n) (m ∷ matches) made =
-      let first : (match_in quest m.path).row ≡ m.row = ap (λ made. made.row) (made m (here m matches)) in
-      let rest : rows_at quest (take n (each untold matches)) ≡ rows_of (take n matches) = rows_made n matches (λ n k. made n (there m n matches k)) in
+      let first : (match_in quest m.path).row ≡ m.row = ap (λ made. made.row) (made m (Contains-here m matches)) in
+      let rest : rows_at quest (take n (each untold matches)) ≡ rows_of (take n matches) = rows_made n matches (λ n k. made n (Contains-there m n matches k)) in
       λ i. first i ∷ rest i
 
   first_so : (limit : Option Limit) (n : ℕ) (found : Gathered) (matches : List Match) → n ≤ most_told limit → AreMade matches → IsFirst limit found matches

@@ -14,6 +14,7 @@ use Rattle.acap_entries.specs.Ranks.{Ascending}
 use Rattle.acap_entries.specs.Sound.{IsSoundStore}
 use Rattle.acap_entries.specs.Store.{Stored}
 use Rattle.acap_entries.specs.declared.path.Path.{Path}
+use Rattle.acap_entries.proofs.Logic.{second_Equal, Contains-here, Contains-there}
 use Rattle.acap_inherit.specs.Laws.{NothingLaw, NamesLaw}
 use Rattle.acap_rights.specs.declared.realm.Realm.{Realm}
 use Rattle.acap_search.specs.ContextLaws.{HitLaw, name_by}
@@ -23,14 +24,14 @@ use Rattle.acap_search.specs.Once.{EachOnce}
 use Rattle.acap_search.specs.Tuples.{name_told}
 use Rattle.acap_search.specs.declared.query.Sought.{Sought}
 use Rattle.acap_search.proofs.FreshLemmas.{fresh_law}
-use Rattle.acap_search.proofs.OnceLemmas.{then_equal, from_made, sight, found_at, in_one, from_ordered, fresh_once}
+use Rattle.acap_search.proofs.OnceLemmas.{from_made, sight, found_at, in_one, from_ordered, fresh_once}
 use Rattle.acap_search.proofs.OrderLemmas.{match_total, match_weak}
-use Rattle.acap_search.proofs.SeenLemmas.{here, there, in_map, from_map}
+use Rattle.acap_search.proofs.SeenLemmas.{in_map, from_map}
 
 at_contains : {X : Type 0} (xs : List X) (k : ℕ) (d : X) → k < length xs → Contains xs (get_or xs k d)
 at_contains [] k d less = absurd (omega (arith, less))
-at_contains (x ∷ xs) zero d less = here x xs
-at_contains (x ∷ xs) (suc k) d less = there x (get_or xs k d) xs (at_contains xs k d (omega (arith, less)))
+at_contains (x ∷ xs) zero d less = Contains-here x xs
+at_contains (x ∷ xs) (suc k) d less = Contains-there x (get_or xs k d) xs (at_contains xs k d (omega (arith, less)))
 
 -- what comes once doesn't come again
 not_again : {X Y : Type 0} (f : X → Y) (xs : List X) (i j : ℕ) (d : X) → i < j → j < length xs → EachOnce (each f xs) → f (get_or xs i d) ≡ f (get_or xs j d) → ⊥
@@ -46,9 +47,9 @@ once_before f g h [] is o = tt
 once_before f g h (x ∷ xs) is o = (
   λ k.
       let m = from_map g xs (g x) k in
-      let same : f m.0 ≡ f x = is m.0 (there x m.0 xs m.1.0) ∙ (ap h m.1.1 ∙ sym (is x (here x xs))) in
+      let same : f m.0 ≡ f x = is m.0 (Contains-there x m.0 xs m.1.0) ∙ (ap h m.1.1 ∙ sym (is x (Contains-here x xs))) in
       o.0 (subst (λ y. Contains (each f xs) y) same (in_map f xs m.0 m.1.0)),
-  once_before f g h xs (λ y k. is y (there x y xs k)) o.1,
+  once_before f g h xs (λ y k. is y (Contains-there x y xs k)) o.1,
 )
 
 less_of : (o r : Ordering) → r ≡ ordering_reverse o → is_lt r ≡ false → (o ≡ Equal → ⊥) → o ≡ Less
@@ -86,7 +87,7 @@ module _ (nothing : NothingLaw) (names : NamesLaw) (records : Stored) (realm : R
         less_of (match_cmp (get_or found i d) (get_or found j d)) (match_cmp (get_or found j d) (get_or found i d))
         (match_total.antisymm (get_or found j d) (get_or found i d))
         (sorted_far match_lt match_weak found (fresh_law.order records realm user sought) i j d (omega (arith, less)) within)
-        (λ e. not_again (λ (m : Match). full_path m.path) found i j d less within paths_once (same_octets _ _ (then_equal _ _ e)));
+        (λ e. not_again (λ (m : Match). full_path m.path) found i j d less within paths_once (same_octets _ _ (second_Equal _ _ e)));
   }
 
 pub hit_law : NothingLaw → NamesLaw → HitLaw

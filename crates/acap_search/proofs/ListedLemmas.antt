@@ -3,11 +3,12 @@ use Rattle.std.proofs.Common.{◌≡◌, ℕ, suc, true, false, not, cond, ◌&&
 use Rattle.std.proofs.lemmas.Bool.{or_parts}
 use Rattle.std.specs.List.{Contains, filter_map, cons_option}
 use Rattle.acap_commands.specs.Wanted.{Wanted, One, And, Or, Not}
-use Rattle.acap_commands.specs.declared.sort_item.SortItem.{SortItem}
+use Rattle.acap_commands.specs.declared.search_modifiers.SortItem.{SortItem}
 use Rattle.acap_commands.specs.declared.test.Test.{Test}
 use Rattle.acap_commands.specs.declared.test.Test.TheVariants as test
 use Rattle.acap_entries.specs.Store.{Stored}
 use Rattle.acap_entries.specs.declared.path.Path.{Path}
+use Rattle.acap_entries.proofs.Logic.{Contains-here, Contains-there}
 use Rattle.acap_rights.specs.declared.realm.Realm.{Realm}
 use Rattle.acap_search.specs.ContextLaws.{WithinLaw, without_places, with_no_sort}
 use Rattle.acap_search.specs.Fresh.{Sight, sight_of, is_among, tuple_of, is_range, has_range, matches_of}
@@ -22,7 +23,7 @@ use Rattle.acap_search.specs.declared.query.Sought.{Sought}
 use Rattle.acap_search.proofs.FreshLemmas.{fresh_law}
 use Rattle.acap_search.proofs.OnceLemmas.{from_made}
 use Rattle.acap_search.proofs.OrderLemmas.{match_weak}
-use Rattle.acap_search.proofs.SeenLemmas.{here, there, from_order}
+use Rattle.acap_search.proofs.SeenLemmas.{from_order}
 use Rattle.acap_search.proofs.SortLemmas.{sorted_is}
 use Rattle.acap_search.proofs.TupleLemmas.{made_is}
 
@@ -50,15 +51,15 @@ each_of : (f : ℕ × Path → Option Match) (g : Match → Match) (ms : List Ma
     → filter_map f (numbered_from n (each (λ (m : Match). m.path) ms)) ≡ each g ms
 each_of f g [] h n = refl
 each_of f g (m ∷ ms) h n =
-    let first = h m (here m ms) n in
-    let rest = each_of f g ms (λ l k. h l (there m l ms k)) (suc n) in
+    let first = h m (Contains-here m ms) n in
+    let rest = each_of f g ms (λ l k. h l (Contains-there m l ms k)) (suc n) in
     λ i. cons_option (first i) (rest i)
 
 each_itself : (ms : List Match) → each (λ m. m) ms ≡ ms
 each_itself [] = refl
 each_itself (m ∷ ms) = ap (λ rest. m ∷ rest) (each_itself ms)
 
-from_ordered : (sort : Option (List SortItem)) (ms : List Match) (m : Match) → Contains (ordered_by sort ms) m → Contains ms m
+pub from_ordered : (sort : Option (List SortItem)) (ms : List Match) (m : Match) → Contains (ordered_by sort ms) m → Contains ms m
 from_ordered None ms m k = k
 from_ordered (Some sort) ms m k = from_order match_lt ms m k
 

@@ -4,17 +4,16 @@ use Rattle.std.specs.FinMap as map
 use Rattle.std.specs.List.{filter, filter_map, cons_option, list_any}
 use Rattle.std.specs.Cmp.{first_so, second_so, tied_itself}
 use Rattle.std.specs.Cmp.Lexicographic.{nat_list_cmp_total, same_text, texts_ties}
-use Rattle.std.specs.Ordering.{is_lt, is_eq, ordering_reverse}
-use Rattle.std.specs.declared.cmp.Ordering.{Ordering}
-use Rattle.std.specs.declared.cmp.Ordering.TheVariants.{Less, Equal, Greater}
+use Rattle.std.specs.Ordering.{is_lt, is_eq}
+use Rattle.std.specs.declared.cmp.Ordering.TheVariants.{Equal, Greater}
 use Rattle.acap_entries.specs.Orders.{octets_cmp, octets_eq}
 use Rattle.acap_entries.specs.Store.{Stored}
 use Rattle.acap_entries.specs.declared.cell.Cell.{Cell}
 use Rattle.acap_entries.specs.declared.cell.Cell.TheVariants.{Nil, Single}
 use Rattle.acap_entries.specs.declared.record.Record.{Record}
 use Rattle.acap_commands.specs.Wanted.{Wanted, One, And, Or, Not}
-use Rattle.acap_commands.specs.declared.relation.Relation.{Relation}
-use Rattle.acap_commands.specs.declared.relation.Relation.TheVariants as relation
+use Rattle.acap_commands.specs.declared.test.Relation.{Relation}
+use Rattle.acap_commands.specs.declared.test.Relation.TheVariants as relation
 use Rattle.acap_commands.specs.declared.test.Test.TheVariants as test
 use Rattle.acap_order.specs.declared.comparator.Collation.{Collation}
 use Rattle.acap_order.specs.declared.comparator.Collation.TheVariants.{Octet, AsciiCasemap, AsciiNumeric}
@@ -33,7 +32,8 @@ use Rattle.acap_search.specs.Matches.{Match}
 use Rattle.acap_search.specs.Near.{lies_in}
 use Rattle.acap_search.proofs.NearLemmas.{names_alone}
 use Rattle.acap_entries.specs.declared.path.Path.{Path}
-use Rattle.std.specs.Prelude.{Result, Ok, Err, OnOk}
+use Rattle.acap_entries.proofs.Logic.{is_eq-reverse, unequal_from_is_lt, OnOk_then}
+use Rattle.std.specs.Prelude.{Result, OnOk}
 use Rattle.acap_search.specs.Gathering.{with_more, with_one}
 use Rattle.acap_search.specs.declared.gathered.Gathered.{Gathered}
 use Rattle.acap_search.proofs.GatheredLemmas.{gathered_none}
@@ -92,11 +92,6 @@ named name (Not a) place answers e h = absurd (cc (e))
 
 -- ---- the value of `entry` is the name
 
-unequal : (r : Ordering) → is_lt r ≡ true → is_eq r ≡ false
-unequal Less e = refl
-unequal Equal e = absurd (cc (e))
-unequal Greater e = absurd (cc (e))
-
 some_of : {X : Type 0} (p : X → Bool) (xs : List X) → list_any p xs ≡ true → 0 < length xs
 some_of p [] e = absurd (cc (e))
 some_of p (x ∷ xs) e = omega arith
@@ -104,20 +99,10 @@ some_of p (x ∷ xs) e = omega arith
 same_itself : (a : List ℕ) → octets_eq a a ≡ true
 same_itself a = texts_ties a a ∙ ap is_eq (tied_itself nat_list_cmp_total a)
 
-equal : (r : Ordering) → is_eq r ≡ true → r ≡ Equal
-equal Less e = absurd (cc (e))
-equal Equal e = refl
-equal Greater e = absurd (cc (e))
-
-turned : (r : Ordering) → is_eq (ordering_reverse r) ≡ is_eq r
-turned Less = refl
-turned Equal = refl
-turned Greater = refl
-
 by_octets : (collation : Collation) (direction : Direction) (a b : List ℕ) → is_octet collation ≡ true
     → is_eq (in_direction direction (rank_cmp (rank_of collation a) (rank_of collation b))) ≡ true → a ≡ b
 by_octets Octet Ascending a b o e = same_text a b (sym (texts_ties a b ∙ e))
-by_octets Octet Descending a b o e = same_text a b (sym (texts_ties a b ∙ (sym (turned (octets_cmp a b)) ∙ e)))
+by_octets Octet Descending a b o e = same_text a b (sym (texts_ties a b ∙ (sym (is_eq-reverse (octets_cmp a b)) ∙ e)))
 by_octets AsciiCasemap direction a b o e = absurd (cc (o))
 by_octets AsciiNumeric direction a b o e = absurd (cc (o))
 
@@ -189,7 +174,7 @@ module _ (view : View) (sought : Sought) (name : List ℕ) (only : only_name sou
       ap (λ o. cons_option o (filter_map at_name names)) (other_none view sought other name only parts.0) ∙ none_found names parts.1
 
   lesser : (a b : List ℕ) → is_lt (octets_cmp a b) ≡ true → octets_eq a b ≡ false
-  lesser a b e = texts_ties a b ∙ unequal (octets_cmp a b) e
+  lesser a b e = texts_ties a b ∙ unequal_from_is_lt (octets_cmp a b) e
 
   below : (first : List ℕ) (names : List (List ℕ)) → is_below first names ≡ true → list_any (octets_eq first) names ≡ false
   below first [] e = refl
@@ -228,11 +213,6 @@ alone_count view by dataset es count v e h c =
     ∙ (sym (length-map (filter (lies_in dataset) (map.entries view.records)) (λ e. e.0.name))
     ∙ (sym (ap length (names_alone view.records dataset view.chain e)) ∙ ap names_count v)))
 
--- what the walk gathers then
-on_ok : {X F P Q : Type 0} (r : Result X F) → (P → Q) → OnOk r P → OnOk r Q
-on_ok (Ok x) f h = f h
-on_ok (Err e) f h = h
-
 module _ (law : NamesLaw) (view by : View) (same : view ≡ by) (sought : Sought) (name : List ℕ) (only : only_name sought.key ≡ Some name) where
   pub named_some : true ≡ has_one view sought name only law → 0 < names_count by
   named_some h = subst (λ view. 0 < names_count view) same (some_name view sought name only law (sym h))
@@ -243,7 +223,7 @@ module _ (law : NamesLaw) (view by : View) (same : view ≡ by) (sought : Sought
   pub named_found : {X F : Type 0} (r : Result X F) (told : List ℕ) (before after : Gathered) → true ≡ has_one view sought name only law → told ≡ name
       → OnOk r (after ≡ with_one before (found_at sought None (spot_in by told))) → OnOk r (after ≡ with_more before (hits_along by sought))
   named_found r told before after h t =
-      on_ok r (λ f. f ∙ (ap (λ name. with_one before (found_at sought None (spot_in by name))) t ∙ ap (with_more before) (sym (one_by h))))
+      OnOk_then r (λ f. f ∙ (ap (λ name. with_one before (found_at sought None (spot_in by name))) t ∙ ap (with_more before) (sym (one_by h))))
 
   pub named_none : (before : Gathered) → false ≡ has_one view sought name only law → before ≡ with_more before (hits_along by sought)
   named_none before h =

@@ -1,16 +1,15 @@
 -- What is at hand of an entry gives the answers about it.
 use Rattle.std.proofs.Common.{◌≡◌, ℕ, Bool, true, false, not, cond, is_some, T, ◌&&◌, ◌||◌, codes, Option, Some, None, List, [], ◌∷◌, ◌==◌, take, length, refl, sym, ◌∙◌, ap, subst, append-nil, arith, map as each}
 use Rattle.std.specs.FinMap as map
-use Rattle.std.specs.FinMap.{is_sorted, IsAntisymmetric, slice_cmp-IsAntisymmetric, nat_cmp-IsAntisymmetric}
+use Rattle.std.specs.FinMap.{is_sorted}
 use Rattle.std.specs.FinMap.Entries.{below_all, find, same_entries}
 use Rattle.std.specs.List.{filter, cons_option}
 use Rattle.std.specs.Option.{option_and_then, unwrap_or}
-use Rattle.std.specs.Ordering.{is_lt, is_eq, eq_by_cmp, ordering_then, ordering_reverse}
-use Rattle.std.specs.Cmp.{tied_itself, IsTotalOrder}
+use Rattle.std.specs.Ordering.{is_lt, is_eq, eq_by_cmp, ordering_reverse}
+use Rattle.std.specs.Cmp.{tied_itself}
 use Rattle.std.specs.declared.cmp.Ordering.{Ordering}
 use Rattle.std.specs.declared.cmp.Ordering.TheVariants.{Less, Equal, Greater}
 use Rattle.std.specs.Cmp.Lexicographic.{nat_list_cmp_total, same_text}
-use Rattle.std.proofs.lemmas.Cmp.{on_total, then_total}
 use Rattle.acap_entries.specs.Orders.{octets_cmp, octets_eq}
 use Rattle.acap_entries.specs.Stamp.{stamp_of}
 use Rattle.acap_entries.specs.Store.{Stored, path_cmp}
@@ -18,9 +17,12 @@ use Rattle.acap_entries.specs.declared.cell.Cell.{Cell}
 use Rattle.acap_entries.specs.declared.cell.Cell.TheVariants.{Nil, Single, Multi}
 use Rattle.acap_entries.specs.declared.path.Path.{Path}
 use Rattle.acap_entries.specs.declared.record.Record.{Record}
+use Rattle.acap_entries.proofs.Logic.{first_T, second_T, both_T}
+use Rattle.acap_entries.proofs.StoreLemmas.{octets_same, path_cmp_total}
 use Rattle.acap_inherit.specs.EntryNames.{set_of, union_of, names_in, names_on}
 use Rattle.acap_inherit.specs.Records.{record_at, cell_in, ends_inheritance}
 use Rattle.acap_inherit.specs.Resolving.{lying, by_cell, by_record, by_presence, greatest, until_end, entry_on, value_on, modtime_on, stamp_value, members_for, members_of, lookup}
+use Rattle.acap_inherit.proofs.NameLemmas.{by_name}
 use Rattle.acap_rights.specs.Deciding.{OfEntry, own_list}
 use Rattle.acap_rights.proofs.SharingLemmas.{shared_law}
 use Rattle.acap_rights.specs.Sharing.{shared_on}
@@ -158,24 +160,6 @@ unmet a b result h e = e ∙ ap (λ a. a && b) (sym h)
 
 -- ---- the records of a dataset
 
-first : (a b : Bool) → T (a && b) → T a
-first true b p = tt
-first false b p = p
-
-second : (a b : Bool) → T (a && b) → T b
-second true b p = p
-second false b p = absurd p
-
-both : (a b : Bool) → T a → T b → T (a && b)
-both true b p q = q
-both false b p q = p
-
--- in one dataset paths are in the order of their names
-by_name : (dataset : List ℕ) (p q : Path) → dataset ≡ p.dataset → dataset ≡ q.dataset → path_cmp p q ≡ octets_cmp p.name q.name
-by_name dataset p q e f =
-    (λ i. ordering_then (octets_cmp (sym e i) (sym f i)) (octets_cmp p.name q.name))
-    ∙ ap (λ r. ordering_then r (octets_cmp p.name q.name)) (tied_itself nat_list_cmp_total dataset)
-
 -- names, each as an entry of a set, and those of some records
 abbrev marks : List (List ℕ) → List (List ℕ × Unit {0})
 marks names = each (λ name. (name, tt)) names
@@ -187,24 +171,21 @@ below_marked : (dataset : List ℕ) (p : Path) → dataset ≡ p.dataset → (es
 below_marked dataset p h [] b = tt
 below_marked dataset p h (e ∷ es) b =
     elim (lies_in dataset e) as (λ t. lies_in dataset e ≡ t → T (below_all octets_cmp p.name (marked (cond t (e ∷ filter (lies_in dataset) es) (filter (lies_in dataset) es))))) [
-      | true ↦ λ t. both _ _ (subst T (ap is_lt (by_name dataset p e.0 h (same_text dataset e.0.dataset (sym t)))) (first _ _ b)) (below_marked dataset p h es (second _ _ b))
-      | false ↦ λ t. below_marked dataset p h es (second _ _ b)
+      | true ↦ λ t. both_T _ _ (subst T (ap is_lt (by_name dataset p e.0 h (same_text dataset e.0.dataset (sym t)))) (first_T _ _ b)) (below_marked dataset p h es (second_T _ _ b))
+      | false ↦ λ t. below_marked dataset p h es (second_T _ _ b)
     ] refl
 
 marked_rise : (dataset : List ℕ) (es : List (Path × Record)) → T (is_sorted path_cmp es) → T (is_sorted octets_cmp (marked (filter (lies_in dataset) es)))
 marked_rise dataset [] s = tt
 marked_rise dataset (e ∷ es) s =
     elim (lies_in dataset e) as (λ t. lies_in dataset e ≡ t → T (is_sorted octets_cmp (marked (cond t (e ∷ filter (lies_in dataset) es) (filter (lies_in dataset) es))))) [
-      | true ↦ λ t. both _ _ (below_marked dataset e.0 (same_text dataset e.0.dataset (sym t)) es (first _ _ s)) (marked_rise dataset es (second _ _ s))
-      | false ↦ λ t. marked_rise dataset es (second _ _ s)
+      | true ↦ λ t. both_T _ _ (below_marked dataset e.0 (same_text dataset e.0.dataset (sym t)) es (first_T _ _ s)) (marked_rise dataset es (second_T _ _ s))
+      | false ↦ λ t. marked_rise dataset es (second_T _ _ s)
     ] refl
 
 listed : (names : List (List ℕ)) → each (λ (e : List ℕ × Unit {0}). e.0) (marks names) ≡ names
 listed [] = refl
 listed (name ∷ names) = ap (λ rest. name ∷ rest) (listed names)
-
-octets_same : IsAntisymmetric octets_cmp
-octets_same = slice_cmp-IsAntisymmetric nat_cmp-IsAntisymmetric
 
 -- names that rise are the keys of their set
 keys_of : (names : List (List ℕ)) → T (is_sorted octets_cmp (marks names)) → map.keys (set_of names) ≡ names
@@ -226,9 +207,6 @@ abbrev AreFound : List (Path × Record) → List (Path × Record) → Type 0
 AreFound [] all = Unit {0}
 AreFound (e ∷ es) all = (find path_cmp e.0 all ≡ Some e.1) × AreFound es all
 
-path_total : IsTotalOrder path_cmp
-path_total = then_total (on_total (λ (p : Path). p.dataset) nat_list_cmp_total) (on_total (λ (p : Path). p.name) nat_list_cmp_total)
-
 above : (o : Ordering) → T (is_lt o) → is_eq (ordering_reverse o) ≡ false
 above Less p = refl
 above Equal p = absurd p
@@ -237,13 +215,13 @@ above Greater p = absurd p
 found_behind : (e : Path × Record) (es all : List (Path × Record)) → T (below_all path_cmp e.0 es) → AreFound es all → AreFound es (e ∷ all)
 found_behind e [] all b h = tt
 found_behind e (x ∷ es) all b h =
-    let apart : eq_by_cmp path_cmp x.0 e.0 ≡ false = ap is_eq (path_total.antisymm x.0 e.0) ∙ above _ (first _ _ b) in
-    (ap (λ b. cond b (Some e.1) (find path_cmp x.0 all)) apart ∙ h.0, found_behind e es all (second _ _ b) h.1)
+    let apart : eq_by_cmp path_cmp x.0 e.0 ≡ false = ap is_eq (path_cmp_total.antisymm x.0 e.0) ∙ above _ (first_T _ _ b) in
+    (ap (λ b. cond b (Some e.1) (find path_cmp x.0 all)) apart ∙ h.0, found_behind e es all (second_T _ _ b) h.1)
 
 all_found : (es : List (Path × Record)) → T (is_sorted path_cmp es) → AreFound es es
 all_found [] s = tt
 all_found (e ∷ es) s =
-    (ap (λ o. cond (is_eq o) (Some e.1) (find path_cmp e.0 es)) (tied_itself path_total e.0), found_behind e es es (first _ _ s) (all_found es (second _ _ s)))
+    (ap (λ o. cond (is_eq o) (Some e.1) (find path_cmp e.0 es)) (tied_itself path_cmp_total e.0), found_behind e es es (first_T _ _ s) (all_found es (second_T _ _ s)))
 
 kept_of_found : (records : Stored) (dataset : List ℕ) (es : List (Path × Record)) → AreFound es (map.entries records) → AreKept records dataset (filter (lies_in dataset) es)
 kept_of_found records dataset [] h = tt

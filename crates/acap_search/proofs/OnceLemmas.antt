@@ -1,17 +1,16 @@
 -- What comes once in a sound store, and which datasets a search looks through there.
 use Rattle.std.proofs.Common.{◌≡◌, ◌≢◌, ℕ, suc, ◌+◌, ◌<◌, ◌≤◌, ◌⊎◌, inl, inr, Bool, true, false, not, cond, T, ◌&&◌, ◌||◌, ◌==◌, nat_eq, nat_lt, Option, Some, None, is_some, List, [], ◌∷◌, ◌++◌, length, drop, flat_map, refl, sym, ◌∙◌, ap, subst, arith, length-append, append_assoc, append-nil, map as each}
 use Rattle.std.proofs.lemmas.Bool.{and_from, eqb-true, lt-ltb, ltb-true, or_parts, or_right}
-use Rattle.std.proofs.lemmas.List.Elements.{filter-append}
+use Rattle.std.proofs.lemmas.List.Elements.{filter-append, Contains-append_cases}
 use Rattle.std.specs.Cmp.{first_so, second_so, tied_itself, unsigned_Decides}
 use Rattle.std.specs.Cmp.Lexicographic.{bytes_decides, nat_list_cmp_total}
 use Rattle.std.specs.FinMap as map
 use Rattle.std.specs.FinMap.{is_sorted, find}
 use Rattle.std.specs.FinMap.Entries.{below_all}
-use Rattle.std.specs.List.{filter, filter_map, cons_option, list_any, starts_with, Contains}
+use Rattle.std.specs.List.{filter, filter_map, cons_option, starts_with, Contains}
 use Rattle.std.specs.Option.{option_and_then, option_map_or}
-use Rattle.std.specs.Ordering.{eq_by_cmp, is_eq, is_lt, ordering_then}
-use Rattle.std.specs.declared.cmp.Ordering.{Ordering}
-use Rattle.std.specs.declared.cmp.Ordering.TheVariants.{Less, Equal, Greater}
+use Rattle.std.specs.Ordering.{eq_by_cmp, is_eq, is_lt}
+use Rattle.std.specs.declared.cmp.Ordering.TheVariants.{Equal}
 use Rattle.acap_entries.proofs.FullPathLaws.{full_paths}
 use Rattle.acap_entries.proofs.NameLemmas.{closed_by_slash, closed_dropped}
 use Rattle.acap_entries.proofs.FormLemmas.{form_law}
@@ -25,6 +24,7 @@ use Rattle.acap_entries.specs.Sound.{IsSoundStore}
 use Rattle.acap_entries.specs.Store.{Stored, path_cmp}
 use Rattle.acap_entries.specs.declared.path.Path.{Path}
 use Rattle.acap_entries.specs.declared.record.Record.{Record}
+use Rattle.acap_entries.proofs.Logic.{first_T, second_T, true_without, second_Equal, one_of_any, Equal_from_is_eq, Contains-here, Contains-there}
 use Rattle.acap_inherit.specs.Chains.{chain_of}
 use Rattle.acap_inherit.specs.EntryNames.{names_on}
 use Rattle.acap_inherit.specs.Laws.{NothingLaw, NamesLaw}
@@ -39,10 +39,9 @@ use Rattle.acap_search.specs.Rows.{stars_of}
 use Rattle.acap_search.specs.Scopes.{Scope, scope_of, datasets_of, beneath, is_reached, levels, is_component_name, reached_by}
 use Rattle.acap_search.specs.Tuples.{name_told, match_of}
 use Rattle.acap_search.specs.declared.query.Sought.{Sought}
-use Rattle.acap_commands.specs.declared.sort_item.SortItem.{SortItem}
-use Rattle.acap_search.proofs.Stars.{tied_same}
+use Rattle.acap_commands.specs.declared.search_modifiers.SortItem.{SortItem}
 use Rattle.acap_search.proofs.TupleLemmas.{made_is}
-use Rattle.acap_search.proofs.SeenLemmas.{here, there, first_or, nowhere, either, at_first, in_map, from_map, from_both, from_all, in_filter, from_filter, from_put, from_sorted, from_order, named, only_seen}
+use Rattle.acap_search.proofs.SeenLemmas.{first_or, nowhere, either, at_first, in_map, from_map, from_all, in_filter, from_filter, from_put, from_sorted, from_order, named, only_seen}
 
 -- ---- lists
 
@@ -54,16 +53,16 @@ pub from_made : {X Y : Type 0} (f : X → Option Y) (xs : List X) (y : Y) → Co
 from_made f [] y h = nowhere y h
 from_made f (x ∷ xs) y h =
     elim (f x) as (λ o. f x ≡ o → Contains (cons_option o (filter_map f xs)) y → (z : _) × (Contains (x ∷ xs) z × (f z ≡ Some y))) [
-      | None ↦ λ e k. let r = from_made f xs y k in (r.0, (there x r.0 xs r.1.0, r.1.1))
-      | Some z ↦ λ e k. either (first_or z y (filter_map f xs) k) (λ s. (x, (here x xs, e ∙ ap Some s))) (λ l. let r = from_made f xs y l in (r.0, (there x r.0 xs r.1.0, r.1.1)))
+      | None ↦ λ e k. let r = from_made f xs y k in (r.0, (Contains-there x r.0 xs r.1.0, r.1.1))
+      | Some z ↦ λ e k. either (first_or z y (filter_map f xs) k) (λ s. (x, (Contains-here x xs, e ∙ ap Some s))) (λ l. let r = from_made f xs y l in (r.0, (Contains-there x r.0 xs r.1.0, r.1.1)))
     ] refl h
 
-in_made : {X Y : Type 0} (f : X → Option Y) (xs : List X) (x : X) (y : Y) → Contains xs x → f x ≡ Some y → Contains (filter_map f xs) y
+pub in_made : {X Y : Type 0} (f : X → Option Y) (xs : List X) (x : X) (y : Y) → Contains xs x → f x ≡ Some y → Contains (filter_map f xs) y
 in_made f [] x y h e = nowhere x h
 in_made f (z ∷ zs) x y h e =
     elim (f z) as (λ o. f z ≡ o → Contains (cons_option o (filter_map f zs)) y) [
       | None ↦ λ n. either (first_or z x zs h) (λ s. absurd (cc (n, ap f s, e))) (λ l. in_made f zs x y l e)
-      | Some w ↦ λ n. either (first_or z x zs h) (λ s. at_first w y (filter_map f zs) (let same : Some w ≡ Some y = sym n ∙ (ap f s ∙ e) in cc (same))) (λ l. there w y (filter_map f zs) (in_made f zs x y l e))
+      | Some w ↦ λ n. either (first_or z x zs h) (λ s. at_first w y (filter_map f zs) (let same : Some w ≡ Some y = sym n ∙ (ap f s ∙ e) in cc (same))) (λ l. Contains-there w y (filter_map f zs) (in_made f zs x y l e))
     ] refl
 
 module _ {X Y : Type 0} (g : X → Y) where
@@ -85,7 +84,7 @@ module _ {X Y : Type 0} (g : X → Y) where
               either (first_or x m.0 ys (from_put lt x ys m.0 m.1.0))
               (λ e. h.0 (at_first (g y) (g x) (each g ys) (sym m.1.1 ∙ ap g (sym e))))
               (λ l. h.1.0 (subst (λ z. Contains (each g ys) z) m.1.1 (in_map g ys m.0 l))),
-          once_put lt x ys (λ k. h.0 (there (g y) (g x) (each g ys) k), h.1.1),
+          once_put lt x ys (λ k. h.0 (Contains-there (g y) (g x) (each g ys) k), h.1.1),
         )
         | false ↦ h
       ]
@@ -107,7 +106,7 @@ module _ {X Y : Type 0} (g : X → Y) where
 once_append : {X : Type 0} (xs ys : List X) → EachOnce xs → EachOnce ys → ((z : X) → Contains xs z → Contains ys z → ⊥) → EachOnce (xs ++ ys)
 once_append [] ys h k apart = k
 once_append (x ∷ xs) ys h k apart =
-    (λ c. either (from_both xs ys x c) h.0 (λ r. apart x (here x xs) r), once_append xs ys h.1 k (λ z a b. apart z (there x z xs a) b))
+    (λ c. either (Contains-append_cases xs ys x c) h.0 (λ r. apart x (Contains-here x xs) r), once_append xs ys h.1 k (λ z a b. apart z (Contains-there x z xs a) b))
 
 once_flat : {X Y : Type 0} (f : X → List Y) (key : Y → X) → ((x : X) → EachOnce (f x)) → ((x : X) (y : Y) → Contains (f x) y → key y ≡ x) → (xs : List X) → EachOnce xs → EachOnce (flat_map f xs)
 once_flat f key all keyed [] h = tt
@@ -121,40 +120,32 @@ once_made : {X Y Z W : Type 0} (f : X → Option Y) (h : Y → Z) (k : X → W) 
     → EachOnce (each k xs) → EachOnce (each h (filter_map f xs))
 once_made f h k [] apart o = tt
 once_made f h k (x ∷ xs) apart o =
-    let rest : EachOnce (each h (filter_map f xs)) = once_made f h k xs (λ y z a b c d. apart y z a b (there x y xs c) (there x z xs d)) o.1 in
+    let rest : EachOnce (each h (filter_map f xs)) = once_made f h k xs (λ y z a b c d. apart y z a b (Contains-there x y xs c) (Contains-there x z xs d)) o.1 in
     elim (f x) as (λ q. f x ≡ q → EachOnce (each h (cons_option q (filter_map f xs)))) [
       | None ↦ λ e. rest
       | Some a ↦ λ e. (
         λ c.
             let m = from_map h (filter_map f xs) (h a) c in
             let w = from_made f xs m.0 m.1.0 in
-            o.0 (subst (λ z. Contains (each k xs) z) (apart w.0 x m.0 a (there x w.0 xs w.1.0) (here x xs) w.1.1 e m.1.1) (in_map k xs w.0 w.1.0)),
+            o.0 (subst (λ z. Contains (each k xs) z) (apart w.0 x m.0 a (Contains-there x w.0 xs w.1.0) (Contains-here x xs) w.1.1 e m.1.1) (in_map k xs w.0 w.1.0)),
         rest,
       )
     ] refl
 
 -- ---- records and names
 
-front_of : (a b : Bool) → T (a && b) → T a
-front_of true b p = tt
-front_of false b p = p
-
-back_of : (a b : Bool) → T (a && b) → T b
-back_of true b p = p
-back_of false b p = absurd p
-
 below_in : (p : Path) (es : List (Path × Record)) (x : Path × Record) → T (below_all path_cmp p es) → Contains es x → T (is_lt (path_cmp p x.0))
 below_in p [] x b k = nowhere x k
-below_in p (e ∷ es) x b k = either (first_or e x es k) (λ s. subst (λ (y : Path × Record). T (is_lt (path_cmp p y.0))) s (front_of _ _ b)) (λ l. below_in p es x (back_of _ _ b) l)
+below_in p (e ∷ es) x b k = either (first_or e x es k) (λ s. subst (λ (y : Path × Record). T (is_lt (path_cmp p y.0))) s (first_T _ _ b)) (λ l. below_in p es x (second_T _ _ b) l)
 
 keys_once : (es : List (Path × Record)) → T (is_sorted path_cmp es) → EachOnce (each (λ e. e.0) es)
 keys_once [] s = tt
 keys_once (e ∷ es) s = (
   λ k.
       let m = from_map (λ (e : Path × Record). e.0) es e.0 k in
-      let lesser : T (is_lt (path_cmp e.0 m.0.0)) = below_in e.0 es m.0 (front_of _ _ s) m.1.0 in
+      let lesser : T (is_lt (path_cmp e.0 m.0.0)) = below_in e.0 es m.0 (first_T _ _ s) m.1.0 in
       subst T (ap is_lt (ap (path_cmp e.0) m.1.1 ∙ tied_itself path_cmp_total e.0)) lesser,
-  keys_once es (back_of _ _ s),
+  keys_once es (second_T _ _ s),
 )
 
 found_in : (es : List (Path × Record)) (x : Path × Record) → T (is_sorted path_cmp es) → Contains es x → find path_cmp x.0 es ≡ Some x.1
@@ -164,10 +155,10 @@ found_in (e ∷ es) x s k =
     (λ same. ap (λ b. cond b (Some e.1) (find path_cmp x.0 es)) (ap (λ (y : Path × Record). is_eq (path_cmp y.0 e.0)) (sym same) ∙ ap is_eq (tied_itself path_cmp_total e.0)) ∙ ap (λ (y : Path × Record). Some y.1) same)
     (λ l. elim (eq_by_cmp path_cmp x.0 e.0) as (λ b. eq_by_cmp path_cmp x.0 e.0 ≡ b → cond b (Some e.1) (find path_cmp x.0 es) ≡ Some x.1) [
       | true ↦ λ t.
-          let same : x.0 ≡ e.0 = path_same x.0 e.0 (tied_same _ t) in
-          let lesser : T (is_lt (path_cmp e.0 x.0)) = below_in e.0 es x (front_of _ _ s) l in
+          let same : x.0 ≡ e.0 = path_same x.0 e.0 (Equal_from_is_eq _ t) in
+          let lesser : T (is_lt (path_cmp e.0 x.0)) = below_in e.0 es x (first_T _ _ s) l in
           absurd (subst T (ap is_lt (ap (path_cmp e.0) same ∙ tied_itself path_cmp_total e.0)) lesser)
-      | false ↦ λ t. found_in es x (back_of _ _ s) l
+      | false ↦ λ t. found_in es x (second_T _ _ s) l
     ] refl)
 
 in_found : (es : List (Path × Record)) (p : Path) (r : Record) → find path_cmp p es ≡ Some r → Contains es (p, r)
@@ -175,10 +166,10 @@ in_found [] p r e = absurd (cc (e))
 in_found (x ∷ es) p r h =
     elim (eq_by_cmp path_cmp p x.0) as (λ b. eq_by_cmp path_cmp p x.0 ≡ b → cond b (Some x.1) (find path_cmp p es) ≡ Some r → Contains (x ∷ es) (p, r)) [
       | true ↦ λ t e.
-          let same : x.0 ≡ p = sym (path_same p x.0 (tied_same _ t)) in
+          let same : x.0 ≡ p = sym (path_same p x.0 (Equal_from_is_eq _ t)) in
           let value : x.1 ≡ r = cc (e) in
           at_first x (p, r) es (λ i. (same i, value i))
-      | false ↦ λ t e. there x (p, r) es (in_found es p r e)
+      | false ↦ λ t e. Contains-there x (p, r) es (in_found es p r e)
     ] refl h
 
 kept_at : (records : Stored) (x : Path × Record) → Contains (map.entries records) x → map.get records x.0 ≡ Some x.1
@@ -199,10 +190,6 @@ names_once [] r = tt
 names_once (name ∷ names) r = (below_name name names (first_so _ _ r), names_once names (second_so _ _ r))
 
 -- ---- datasets
-
-pub left_of : (b : Bool) → (b || false) ≡ true → b ≡ true
-left_of true e = refl
-left_of false e = e
 
 starts_length : (xs ys : List ℕ) → starts_with nat_eq xs ys ≡ true → length ys ≤ length xs
 starts_length xs [] e = omega arith
@@ -268,7 +255,7 @@ module _ (records : Stored) (formed : AreWellFormed records) where
   closed d =
       elim (own_entry d) as (λ o. own_entry d ≡ o → (octets_eq d (slash ∷ []) || option_map_or makes_dataset (option_and_then (λ own. record_at records own.0 own.1) o) false) ≡ true → ends_with slash d ≡ true) [
         | Some own ↦ λ e h. sym (ap (ends_with slash) ((own_entry_law d (record { dataset = own.0; name = own.1 })).0 e).1) ∙ closed_by_slash (own.0 ++ own.1)
-        | None ↦ λ e h. ap (ends_with slash) ((bytes_decides d (slash ∷ [])).0 (left_of _ h))
+        | None ↦ λ e h. ap (ends_with slash) ((bytes_decides d (slash ∷ [])).0 (true_without _ h))
       ] refl
 
   closed_in : (scope : Scope) → dataset_exists records scope.dataset ≡ true → (d : List ℕ) → Contains (datasets_of records scope) d → ends_with slash d ≡ true
@@ -318,7 +305,7 @@ looked_through_too a b of_a of_b scope d exists =
       | None ↦ λ k. k
       | Some depth ↦ λ k. either (first_or scope.dataset d (beneath a scope.dataset depth) k)
           (λ s. at_first scope.dataset d (beneath b scope.dataset depth) s)
-          (λ l. there scope.dataset d (beneath b scope.dataset depth) (beneath_too a b of_a of_b scope.dataset depth d exists l))
+          (λ l. Contains-there scope.dataset d (beneath b scope.dataset depth) (beneath_too a b of_a of_b scope.dataset depth d exists l))
     ]
 
 -- ---- octets that begin another dataset
@@ -430,7 +417,7 @@ module _ (records : Stored) (formed : AreWellFormed records) (scope : Scope) (en
   all_beneath (inr b) =
       subst (λ depth. Contains (scope.dataset ∷ option_map_or (beneath records scope.dataset) depth []) d) (sym b.deep)
       (some_rest b.rest (λ e. at_first scope.dataset d (beneath records scope.dataset b.depth) (sym (append-nil scope.dataset) ∙ (ap (λ rest. scope.dataset ++ rest) (sym e) ∙ b.whole)))
-      (λ more. there scope.dataset d (beneath records scope.dataset b.depth) (in_beneath b more)))
+      (λ more. Contains-there scope.dataset d (beneath records scope.dataset b.depth) (in_beneath b more)))
 
 pub scope_law : ScopeLaw
 scope_law = record {
@@ -440,18 +427,9 @@ scope_law = record {
 
 -- ---- what is found
 
-some_any : {X : Type 0} (p : X → Bool) (xs : List X) → list_any p xs ≡ true → (x : X) × (p x ≡ true)
-some_any p [] h = absurd (cc (h))
-some_any p (x ∷ xs) h = elim (p x) as (λ b. p x ≡ b → (b || list_any p xs) ≡ true → (x : _) × (p x ≡ true)) [ true ↦ λ e k. (x, e) | false ↦ λ e k. some_any p xs k ] refl h
-
 some_record : (o : Option Record) → is_some o ≡ true → (r : Record) × (o ≡ Some r)
 some_record None h = absurd (cc (h))
 some_record (Some r) h = (r, refl)
-
-pub then_equal : (a b : Ordering) → ordering_then a b ≡ Equal → b ≡ Equal
-then_equal Less b e = absurd (cc (e))
-then_equal Equal b e = e
-then_equal Greater b e = absurd (cc (e))
 
 module _ (nothing : NothingLaw) (names : NamesLaw) (records : Stored) (realm : Realm) (user : List ℕ) (sound : IsSoundStore records) where
   paths_once : (scope : Scope) → EachOnce (sight_of records realm user scope).paths
@@ -471,7 +449,7 @@ module _ (nothing : NothingLaw) (names : NamesLaw) (records : Stored) (realm : R
     well_formed p k =
         let s = only_seen nothing names records realm user (scope_of sought) p k in
         let chain : List (List ℕ) = chain_of records p.dataset sought.no_inherit in
-        let at = some_any (λ d. is_some (record_at records d p.name)) chain (sym (names.names records chain p.name) ∙ named nothing names records realm user (scope_of sought) p s.1) in
+        let at = one_of_any (λ d. is_some (record_at records d p.name)) chain (sym (names.names records chain p.name) ∙ named nothing names records realm user (scope_of sought) p s.1) in
         let r = some_record (record_at records at.0 p.name) at.1 in
         record { dataset = closed_in records sound.formed (scope_of sought) exists p.dataset s.0; name = (form_law.split _ (sound.formed _ r.0 r.1)).name }
 
@@ -516,7 +494,7 @@ module _ (nothing : NothingLaw) (names : NamesLaw) (records : Stored) (realm : R
     fresh_once = in_order sought.sort _ matched_once
 
     one_path : (a b : Match) → Contains (fresh_of sight sought) a → Contains (fresh_of sight sought) b → match_cmp a b ≡ Equal → a.path ≡ b.path
-    one_path a b k l e = same_full a.path b.path (path_of a k) (path_of b l) (then_equal _ _ e)
+    one_path a b k l e = same_full a.path b.path (path_of a k) (path_of b l) (second_Equal _ _ e)
 
 pub once_law : NothingLaw → NamesLaw → OnceLaw
 once_law nothing names = record {

@@ -11,11 +11,12 @@ use Rattle.acap_entries.specs.Datasets.{makes_dataset, dataset_exists}
 use Rattle.acap_entries.specs.Names.{slash, ends_with, is_closed_dataset, is_component, own_entry}
 use Rattle.acap_entries.specs.Orders.{octets_eq}
 use Rattle.acap_entries.specs.Store.{Stored}
+use Rattle.acap_entries.proofs.Logic.{true_without}
 use Rattle.acap_inherit.specs.Records.{record_at}
 use Rattle.acap_search.specs.Once.{IsBeneath}
 use Rattle.acap_search.specs.Scoped.{SaysWhether, lies_within, is_looked_in}
 use Rattle.acap_search.specs.Scopes.{Scope, levels}
-use Rattle.acap_search.proofs.OnceLemmas.{left_of, same_number, starts_split, only_beneath, all_beneath}
+use Rattle.acap_search.proofs.OnceLemmas.{same_number, starts_split, only_beneath, all_beneath}
 
 no_component : (name : List ℕ) → is_component name ≡ true → name ≢ []
 unfolding is_component
@@ -60,7 +61,7 @@ module _ (records : Stored) (scope : Scope) (d : List ℕ) (searched : is_closed
           exists = second_so _ _ h;
         }
         | None ↦ λ e k.
-            let root : d ≡ slash ∷ [] = (bytes_decides d (slash ∷ [])).0 (left_of _ k) in
+            let root : d ≡ slash ∷ [] = (bytes_decides d (slash ∷ [])).0 (true_without _ k) in
             let same : scope.dataset ≡ slash ∷ [] = root_within scope.dataset _ (closed_ends scope.dataset searched) (starts_split d scope.dataset begins ∙ root) in
             let tied : octets_eq d scope.dataset ≡ true = (bytes_decides d scope.dataset).1 (root ∙ sym same) in
             absurd (cc (tied, differs))

@@ -1,14 +1,16 @@
 -- Of the datasets of a scope exactly the entries that are seen are in sight.
-use Rattle.std.proofs.Common.{◌≡◌, ℕ, zero, suc, ◌<◌, ◌⊎◌, inl, inr, Bool, true, false, not, cond, Option, Some, None, List, [], ◌∷◌, ◌++◌, length, refl, sym, ◌∙◌, ap, subst, arith, flat_map, codes, map as each}
+use Rattle.std.proofs.Common.{◌≡◌, ℕ, zero, suc, ◌<◌, ◌⊎◌, inl, inr, Bool, true, false, not, cond, Option, Some, None, List, [], ◌∷◌, length, refl, sym, ◌∙◌, ap, subst, arith, flat_map, codes, map as each}
 use Rattle.std.proofs.lemmas.Bool.{or_parts}
 use Rattle.std.specs.List.{filter, list_any, Contains}
 use Rattle.std.specs.Option.{is_some}
 use Rattle.std.specs.Cmp.Lexicographic.{bytes_decides}
 use Rattle.std.proofs.lemmas.Map.Views.{Contains-from_any}
+use Rattle.std.proofs.lemmas.List.Elements.{Contains-append_left, Contains-append_right, Contains-append_cases}
 use Rattle.acap_entries.specs.Orders.{octets_eq}
 use Rattle.acap_entries.specs.Store.{Stored}
 use Rattle.acap_entries.specs.declared.path.Path.{Path}
 use Rattle.acap_entries.specs.declared.record.Record.{Record}
+use Rattle.acap_entries.proofs.Logic.{Contains-here, Contains-there}
 use Rattle.acap_inherit.specs.Chains.{chain_of}
 use Rattle.acap_inherit.specs.EntryNames.{names_on}
 use Rattle.acap_inherit.specs.Laws.{NothingLaw, NamesLaw}
@@ -25,12 +27,6 @@ use Rattle.acap_search.proofs.TupleLemmas.{from_among, tuple_at, tuple_inside}
 
 -- ---- what lists contain
 
-pub here : {A : Type 0} (x : A) (xs : List A) → Contains (x ∷ xs) x
-here x xs = (zero, omega arith, refl)
-
-pub there : {A : Type 0} (x y : A) (xs : List A) → Contains xs y → Contains (x ∷ xs) y
-there x y xs h = (suc h.0, omega (arith, h.1), h.2)
-
 pub first_or : {A : Type 0} (x y : A) (xs : List A) → Contains (x ∷ xs) y → (x ≡ y) ⊎ Contains xs y
 first_or x y xs (zero, lt, e) = inl e
 first_or x y xs (suc k, lt, e) = let less : k < length xs = omega (arith, lt) in inr (k, less, e)
@@ -43,41 +39,29 @@ either (inl p) f g = f p
 either (inr q) f g = g q
 
 pub at_first : {A : Type 0} (x y : A) (xs : List A) → x ≡ y → Contains (x ∷ xs) y
-at_first x y xs e = subst (λ z. Contains (x ∷ xs) z) e (here x xs)
+at_first x y xs e = subst (λ z. Contains (x ∷ xs) z) e (Contains-here x xs)
 
 pub in_map : {A B : Type 0} (f : A → B) (xs : List A) (x : A) → Contains xs x → Contains (each f xs) (f x)
 in_map f [] x h = nowhere x h
-in_map f (y ∷ ys) x h = either (first_or y x ys h) (λ e. at_first (f y) (f x) (each f ys) (ap f e)) (λ k. there (f y) (f x) (each f ys) (in_map f ys x k))
+in_map f (y ∷ ys) x h = either (first_or y x ys h) (λ e. at_first (f y) (f x) (each f ys) (ap f e)) (λ k. Contains-there (f y) (f x) (each f ys) (in_map f ys x k))
 
 pub from_map : {A B : Type 0} (f : A → B) (xs : List A) (z : B) → Contains (each f xs) z → (x : A) × (Contains xs x × (f x ≡ z))
 from_map f [] z h = nowhere z h
-from_map f (y ∷ ys) z h = either (first_or (f y) z (each f ys) h) (λ e. (y, (here y ys, e))) (λ k. let r = from_map f ys z k in (r.0, (there y r.0 ys r.1.0, r.1.1)))
-
-in_front : {A : Type 0} (xs ys : List A) (x : A) → Contains xs x → Contains (xs ++ ys) x
-in_front [] ys x h = nowhere x h
-in_front (z ∷ zs) ys x h = either (first_or z x zs h) (λ e. at_first z x (zs ++ ys) e) (λ k. there z x (zs ++ ys) (in_front zs ys x k))
-
-in_back : {A : Type 0} (xs ys : List A) (x : A) → Contains ys x → Contains (xs ++ ys) x
-in_back [] ys x h = h
-in_back (z ∷ zs) ys x h = there z x (zs ++ ys) (in_back zs ys x h)
-
-pub from_both : {A : Type 0} (xs ys : List A) (x : A) → Contains (xs ++ ys) x → Contains xs x ⊎ Contains ys x
-from_both [] ys x h = inr h
-from_both (z ∷ zs) ys x h = either (first_or z x (zs ++ ys) h) (λ e. inl (at_first z x zs e)) (λ k. either (from_both zs ys x k) (λ l. inl (there z x zs l)) (λ r. inr r))
+from_map f (y ∷ ys) z h = either (first_or (f y) z (each f ys) h) (λ e. (y, (Contains-here y ys, e))) (λ k. let r = from_map f ys z k in (r.0, (Contains-there y r.0 ys r.1.0, r.1.1)))
 
 in_all : {A B : Type 0} (f : A → List B) (xs : List A) (x : A) (z : B) → Contains xs x → Contains (f x) z → Contains (flat_map f xs) z
 in_all f [] x z h k = nowhere x h
-in_all f (y ∷ ys) x z h k = either (first_or y x ys h) (λ e. in_front (f y) (flat_map f ys) z (subst (λ w. Contains (f w) z) (sym e) k)) (λ l. in_back (f y) (flat_map f ys) z (in_all f ys x z l k))
+in_all f (y ∷ ys) x z h k = either (first_or y x ys h) (λ e. Contains-append_left (f y) (flat_map f ys) z (subst (λ w. Contains (f w) z) (sym e) k)) (λ l. Contains-append_right (f y) (flat_map f ys) z (in_all f ys x z l k))
 
 pub from_all : {A B : Type 0} (f : A → List B) (xs : List A) (z : B) → Contains (flat_map f xs) z → (x : A) × (Contains xs x × Contains (f x) z)
 from_all f [] z h = nowhere z h
-from_all f (y ∷ ys) z h = either (from_both (f y) (flat_map f ys) z h) (λ k. (y, (here y ys, k))) (λ k. let r = from_all f ys z k in (r.0, (there y r.0 ys r.1.0, r.1.1)))
+from_all f (y ∷ ys) z h = either (Contains-append_cases (f y) (flat_map f ys) z h) (λ k. (y, (Contains-here y ys, k))) (λ k. let r = from_all f ys z k in (r.0, (Contains-there y r.0 ys r.1.0, r.1.1)))
 
 pub in_filter : {A : Type 0} (p : A → Bool) (xs : List A) (x : A) → Contains xs x → p x ≡ true → Contains (filter p xs) x
 in_filter p [] x h e = nowhere x h
 in_filter p (y ∷ ys) x h e =
     elim (p y) as (λ b. p y ≡ b → Contains (cond b (y ∷ filter p ys) (filter p ys)) x) [
-      | true ↦ λ t. either (first_or y x ys h) (λ same. at_first y x (filter p ys) same) (λ k. there y x (filter p ys) (in_filter p ys x k e))
+      | true ↦ λ t. either (first_or y x ys h) (λ same. at_first y x (filter p ys) same) (λ k. Contains-there y x (filter p ys) (in_filter p ys x k e))
       | false ↦ λ t. either (first_or y x ys h) (λ same. absurd (cc (t, e, ap p same))) (λ k. in_filter p ys x k e)
     ] refl
 
@@ -85,8 +69,8 @@ pub from_filter : {A : Type 0} (p : A → Bool) (xs : List A) (x : A) → Contai
 from_filter p [] x h = nowhere x h
 from_filter p (y ∷ ys) x h =
     elim (p y) as (λ b. p y ≡ b → Contains (cond b (y ∷ filter p ys) (filter p ys)) x → Contains (y ∷ ys) x × (p x ≡ true)) [
-      | true ↦ λ t h. either (first_or y x (filter p ys) h) (λ same. (at_first y x ys same, sym (ap p same) ∙ t)) (λ k. let r = from_filter p ys x k in (there y x ys r.0, r.1))
-      | false ↦ λ t h. let r = from_filter p ys x h in (there y x ys r.0, r.1)
+      | true ↦ λ t h. either (first_or y x (filter p ys) h) (λ same. (at_first y x ys same, sym (ap p same) ∙ t)) (λ k. let r = from_filter p ys x k in (Contains-there y x ys r.0, r.1))
+      | false ↦ λ t h. let r = from_filter p ys x h in (Contains-there y x ys r.0, r.1)
     ] refl h
 
 module _ {A : Type 0} (lt : A → A → Bool) where
@@ -95,8 +79,8 @@ module _ {A : Type 0} (lt : A → A → Bool) where
   in_put x (y ∷ ys) z h =
       elim (lt y x) as (λ b. Contains (cond b (y ∷ put_by lt x ys) (x ∷ y ∷ ys)) z) [
         | true ↦ either (first_or x z (y ∷ ys) h)
-            (λ e. there y z (put_by lt x ys) (in_put x ys z (at_first x z ys e)))
-            (λ k. either (first_or y z ys k) (λ e. at_first y z (put_by lt x ys) e) (λ l. there y z (put_by lt x ys) (in_put x ys z (there x z ys l))))
+            (λ e. Contains-there y z (put_by lt x ys) (in_put x ys z (at_first x z ys e)))
+            (λ k. either (first_or y z ys k) (λ e. at_first y z (put_by lt x ys) e) (λ l. Contains-there y z (put_by lt x ys) (in_put x ys z (Contains-there x z ys l))))
         | false ↦ h
       ]
 
@@ -105,18 +89,18 @@ module _ {A : Type 0} (lt : A → A → Bool) where
   from_put x (y ∷ ys) z h =
       elim (lt y x) as (λ b. Contains (cond b (y ∷ put_by lt x ys) (x ∷ y ∷ ys)) z → Contains (x ∷ y ∷ ys) z) [
         | true ↦ λ h. either (first_or y z (put_by lt x ys) h)
-            (λ e. there x z (y ∷ ys) (at_first y z ys e))
-            (λ k. either (first_or x z ys (from_put x ys z k)) (λ e. at_first x z (y ∷ ys) e) (λ l. there x z (y ∷ ys) (there y z ys l)))
+            (λ e. Contains-there x z (y ∷ ys) (at_first y z ys e))
+            (λ k. either (first_or x z ys (from_put x ys z k)) (λ e. at_first x z (y ∷ ys) e) (λ l. Contains-there x z (y ∷ ys) (Contains-there y z ys l)))
         | false ↦ λ h. h
       ] h
 
   in_sorted : (xs : List A) (z : A) → Contains xs z → Contains (sorted_from lt xs) z
   in_sorted [] z h = h
-  in_sorted (x ∷ xs) z h = in_put x (sorted_from lt xs) z (either (first_or x z xs h) (λ e. at_first x z (sorted_from lt xs) e) (λ k. there x z (sorted_from lt xs) (in_sorted xs z k)))
+  in_sorted (x ∷ xs) z h = in_put x (sorted_from lt xs) z (either (first_or x z xs h) (λ e. at_first x z (sorted_from lt xs) e) (λ k. Contains-there x z (sorted_from lt xs) (in_sorted xs z k)))
 
   pub from_sorted : (xs : List A) (z : A) → Contains (sorted_from lt xs) z → Contains xs z
   from_sorted [] z h = h
-  from_sorted (x ∷ xs) z h = either (first_or x z (sorted_from lt xs) (from_put x (sorted_from lt xs) z h)) (λ e. at_first x z xs e) (λ k. there x z xs (from_sorted xs z k))
+  from_sorted (x ∷ xs) z h = either (first_or x z (sorted_from lt xs) (from_put x (sorted_from lt xs) z h)) (λ e. at_first x z xs e) (λ k. Contains-there x z xs (from_sorted xs z k))
 
   in_order : (xs : List A) (z : A) → Contains xs z → Contains (sorted_by lt xs) z
   unfolding sorted_by

@@ -1,12 +1,11 @@
 -- What a search finds is what is made of the entries at the paths of its matches.
-use Rattle.std.proofs.Common.{◌≡◌, ℕ, Bool, true, false, cond, Option, Some, None, List, sym, ◌∙◌, ap, subst}
+use Rattle.std.proofs.Common.{◌≡◌, ℕ, Bool, true, false, cond, Some, None, List, sym, ◌∙◌, ap, subst}
 use Rattle.std.specs.Borrow.{Bor}
 use Rattle.std.specs.List.{Contains}
 use Rattle.acap_entries.specs.Store.{Stored}
-use Rattle.acap_commands.specs.declared.sort_item.SortItem.{SortItem}
 use Rattle.acap_inherit.specs.EntryNames.{names_on}
 use Rattle.acap_rights.specs.declared.realm.Realm.{Realm}
-use Rattle.acap_search.specs.Matches.{Match, match_lt, ordered_by, sorted_by}
+use Rattle.acap_search.specs.Matches.{Match, match_lt, sorted_by}
 use Rattle.acap_search.specs.Scopes.{scope_of, datasets_of}
 use Rattle.acap_search.specs.Views.{found_at, match_at, spot_in}
 use Rattle.acap_search.specs.Walks.{Quest, quest_of, sight_by, view_in, hits_in, hits_over, matches_among, matches_by, match_in}
@@ -16,6 +15,7 @@ use Rattle.acap_search.proofs.GatheredLemmas.{AreMade}
 use Rattle.acap_search.proofs.OnceLemmas.{from_made}
 use Rattle.acap_search.proofs.SeenLemmas.{from_all, from_order}
 use Rattle.acap_search.proofs.WalkLemmas.{fresh_is}
+use Rattle.acap_search.proofs.ListedLemmas.{from_ordered}
 
 of_made : (seen wanted : Bool) (made m : Match) → cond seen (cond wanted (Some made) None) None ≡ Some m → made ≡ m
 of_made true true made m e = cc (e)
@@ -39,10 +39,6 @@ module _ (records : Stored) (realm : Realm) (user : List ℕ) (sought : Sought) 
       let sorted : Contains (sorted_by match_lt (hits_over quest)) m = subst (λ ms. Contains ms m) (sym (fresh_is records realm user sought)) k in
       let from = from_all (hits_in quest) (datasets_of records (scope_of sought)) m (from_order match_lt (hits_over quest) m sorted) in
       made_in from.0 m from.1.1
-
-from_ordered : (sort : Option (List SortItem)) (ms : List Match) (m : Match) → Contains (ordered_by sort ms) m → Contains ms m
-from_ordered None ms m k = k
-from_ordered (Some items) ms m k = from_order match_lt ms m k
 
 module _ (records : Stored) (realm : Realm) (user : List ℕ) (sought : Sought) (shown : List (Bor Match)) where
   abbrev asked : Quest

@@ -4,10 +4,8 @@ use Rattle.std.proofs.lemmas.Bool.{or_parts}
 use Rattle.std.specs.List.{list_any, starts_with, Contains}
 use Rattle.std.specs.Option.{is_some, option_and_then}
 use Rattle.std.specs.FinMap as map
-use Rattle.std.specs.FinMap.{IsAntisymmetric, get-insert, get-empty, same_map, contains_key-keys, slice_cmp-IsAntisymmetric, nat_cmp-IsAntisymmetric}
-use Rattle.std.specs.Ordering.{eq_by_cmp, is_eq}
-use Rattle.std.specs.declared.cmp.Ordering.{Ordering}
-use Rattle.std.specs.declared.cmp.Ordering.TheVariants.{Less, Equal, Greater}
+use Rattle.std.specs.FinMap.{get-insert, get-empty, same_map, contains_key-keys}
+use Rattle.std.specs.Ordering.{eq_by_cmp}
 use Rattle.std.specs.Cmp.Lexicographic.{nat_list_cmp_total, texts_ties}
 use Rattle.std.proofs.lemmas.List.Folds.{list_any-append}
 use Rattle.acap_entries.specs.Orders.{octets_cmp}
@@ -15,10 +13,12 @@ use Rattle.acap_entries.specs.Store.{Stored}
 use Rattle.acap_entries.specs.declared.cell.Cell.{Cell}
 use Rattle.acap_entries.specs.declared.cell.Cell.TheVariants.{Nil}
 use Rattle.acap_entries.specs.declared.record.Record.{Record}
+use Rattle.acap_entries.proofs.StoreLemmas.{octets_same}
 use Rattle.acap_inherit.specs.Records.{record_at, cell_in}
 use Rattle.acap_inherit.specs.Resolving.{lookup}
 use Rattle.acap_inherit.specs.Laws.{NothingLaw}
 use Rattle.acap_rights.specs.declared.realm.Realm.{Realm}
+use Rattle.acap_rights.proofs.SharingLemmas.{tied}
 use Rattle.acap_search.specs.Rows.{Names, put_star, stars_from, stars_of, attributes_in, attributes_on, attributes_at}
 use Rattle.acap_search.specs.Sight.{answers_at, cell_at, may_read, rights_on, is_nil}
 
@@ -30,17 +30,6 @@ stars_more read front (a ∷ rest) more m = stars_more read front rest more (put
 -- all attributes that have a value which is read are among some
 pub record Covers (read : List ℕ → Cell) (names : List (List ℕ)) : Type 0 where
   pub others : (attribute : List ℕ) → list_any (eq_by_cmp octets_cmp attribute) names ≡ false → read attribute ≡ Nil
-
-octets_same : IsAntisymmetric octets_cmp
-octets_same = slice_cmp-IsAntisymmetric nat_cmp-IsAntisymmetric
-
-pub tied_same : (o : Ordering) → is_eq o ≡ true → o ≡ Equal
-tied_same Less h = absurd (cc)
-tied_same Equal h = refl
-tied_same Greater h = absurd (cc)
-
-same_octets : (a b : List ℕ) → eq_by_cmp octets_cmp a b ≡ true → a ≡ b
-same_octets a b h = octets_same a b (tied_same (octets_cmp a b) h)
 
 -- whether an attribute is listed, by what is read of it
 abbrev pub is_listed : (List ℕ → Cell) → List ℕ → List ℕ → Bool
@@ -61,7 +50,7 @@ get_star : (read : List ℕ → Cell) (front a q : List ℕ) (m : Names) → map
 get_star read front a q m =
     get_put (is_listed read front a) a q m
     ∙ elim (eq_by_cmp octets_cmp q a) as (λ e. eq_by_cmp octets_cmp q a ≡ e → cond e (star_at read front a (map.get m q)) (map.get m q) ≡ cond e (star_at read front q (map.get m q)) (map.get m q))
-    [ true ↦ λ h. ap (λ k. star_at read front k (map.get m q)) (sym (same_octets q a h)) | false ↦ λ h. refl ] refl
+    [ true ↦ λ h. ap (λ k. star_at read front k (map.get m q)) (sym (tied q a h)) | false ↦ λ h. refl ] refl
 
 get_stars : (read : List ℕ → Cell) (front : List ℕ) (names : List (List ℕ)) (m : Names) (q : List ℕ) → map.get (stars_from read front names m) q ≡ cond (list_any (eq_by_cmp octets_cmp q) names) (star_at read front q (map.get m q)) (map.get m q)
 get_stars read front [] m q = refl

@@ -29,7 +29,7 @@ use Rattle.acap_search.proofs.WalkLemmas.{fresh_is}
 
 -- ---- order
 
-same_front : (front a b : List ℕ) → octets_cmp (front ++ a) (front ++ b) ≡ octets_cmp a b
+pub same_front : (front a b : List ℕ) → octets_cmp (front ++ a) (front ++ b) ≡ octets_cmp a b
 same_front [] a b = refl
 same_front (x ∷ front) a b = ap (λ r. ordering_then r (octets_cmp (front ++ a) (front ++ b))) (tied_itself nat_cmp_total x) ∙ same_front front a b
 

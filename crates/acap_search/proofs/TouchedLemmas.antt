@@ -10,6 +10,7 @@ use Rattle.acap_entries.specs.Orders.{octets_eq}
 use Rattle.acap_entries.specs.Store.{Stored, Written}
 use Rattle.acap_entries.specs.declared.cell.Cell.TheVariants.{Nil}
 use Rattle.acap_entries.specs.declared.path.Path.{Path}
+use Rattle.acap_entries.proofs.Logic.{Contains-here}
 use Rattle.acap_inherit.specs.Chains.{chain_of, chain_within}
 use Rattle.acap_inherit.specs.Laws.{NothingLaw, NamesLaw}
 use Rattle.acap_inherit.specs.Records.{record_at}
@@ -32,7 +33,7 @@ use Rattle.acap_search.specs.Touched.{AreSoundWrites, TouchedLaw}
 use Rattle.acap_search.specs.Tuples.{tuple_for}
 use Rattle.acap_search.specs.declared.query.Sought.{Sought}
 use Rattle.acap_search.proofs.OnceLemmas.{looked_through_too, scope_law}
-use Rattle.acap_search.proofs.SeenLemmas.{here, either, same_name, not_any, unseen, all_seen, only_seen, tuple_law}
+use Rattle.acap_search.proofs.SeenLemmas.{either, same_name, not_any, unseen, all_seen, only_seen, tuple_law}
 use Rattle.acap_search.proofs.SightLemmas.{tuple_same}
 use Rattle.acap_search.proofs.Stars.{covers}
 
@@ -59,8 +60,8 @@ rights_same old new realm user a n d own management i =
 
 first_in : (records : Stored) (d : List ℕ) (b : Bool) → Contains (chain_of records d b) d
 unfolding chain_within
-first_in records d true = here d []
-first_in records d false = here d _
+first_in records d true = Contains-here d []
+first_in records d false = Contains-here d _
 
 -- ---- which datasets are looked through
 

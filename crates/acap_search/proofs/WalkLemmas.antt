@@ -6,7 +6,7 @@ use Rattle.std.specs.List.Sorted.{ties}
 use Rattle.std.specs.Option.{option_map_or, unwrap_or}
 use Rattle.std.specs.Ordering.{is_lt, ordering_then}
 use Rattle.acap_entries.specs.FullPaths.{full_path_cmp}
-use Rattle.acap_commands.specs.declared.sort_item.SortItem.{SortItem}
+use Rattle.acap_commands.specs.declared.search_modifiers.SortItem.{SortItem}
 use Rattle.std.specs.FinMap as map
 use Rattle.std.proofs.lemmas.List.Elements.{filter_map-append}
 use Rattle.acap_entries.specs.Store.{Stored}

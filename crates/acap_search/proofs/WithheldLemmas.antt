@@ -19,6 +19,7 @@ use Rattle.acap_entries.specs.declared.cell.Cell.{Cell}
 use Rattle.acap_entries.specs.declared.cell.Cell.TheVariants.{Nil, Single, Multi}
 use Rattle.acap_entries.specs.declared.path.Path.{Path}
 use Rattle.acap_entries.specs.declared.record.Record.{Record}
+use Rattle.acap_entries.proofs.Logic.{Equal_from_is_eq}
 use Rattle.acap_inherit.specs.Chains.{chain_of}
 use Rattle.acap_inherit.specs.EntryNames.{names_on}
 use Rattle.acap_inherit.specs.Laws.{ReadingLaw}
@@ -37,7 +38,6 @@ use Rattle.acap_search.specs.Scopes.{Scope, scope_of, datasets_of, beneath, is_r
 use Rattle.acap_search.specs.Sight.{answers_at, cell_at, is_held, is_nil, is_readable, is_seen, may_read, may_test, own_acl, rights_on}
 use Rattle.acap_search.specs.Withheld.{IsOneCellApart, WithheldLaw}
 use Rattle.acap_search.specs.declared.refusal.SearchRefusal.TheVariants as refusal
-use Rattle.acap_search.proofs.Stars.{tied_same}
 use Rattle.acap_search.proofs.TupleLemmas.{same_paths, itself}
 
 -- ---- tests and cells
@@ -189,7 +189,7 @@ module _ (old new : Stored) (path : Path) (attribute : List ℕ) (apart : IsOneC
   -- ---- datasets
 
   tie : (q p : Path) (b : Bool) → eq_by_cmp path_cmp q p ≡ b → b ≡ true → q ≡ p
-  tie q p b e t = path_same q p (tied_same _ (e ∙ t))
+  tie q p b e t = path_same q p (Equal_from_is_eq _ (e ∙ t))
 
   old_put : old ≡ map.insert old path before
   old_put = map.same_map path_cmp_total path_same _ _ (λ q. sym (map.get-insert path_cmp_total old path before q

@@ -1,7 +1,7 @@
 -- What is found among the paths of a context is what is made of those in sight.
 use Rattle.std.proofs.Common.{◌≡◌, ℕ, true, false, not, cond, Option, Some, None, List, length, refl, sym, ap, is_some}
 use Rattle.std.specs.List.{Contains}
-use Rattle.acap_commands.specs.declared.sort_item.SortItem.{SortItem}
+use Rattle.acap_commands.specs.declared.search_modifiers.SortItem.{SortItem}
 use Rattle.acap_entries.specs.Store.{Stored}
 use Rattle.acap_entries.specs.declared.path.Path.{Path}
 use Rattle.acap_inherit.specs.Laws.{NothingLaw, NamesLaw}

@@ -5,7 +5,7 @@ use Rattle.acap_entries.specs.Store.{Stored}
 use Rattle.acap_entries.specs.declared.cell.Cell.TheVariants.{Nil, Single}
 use Rattle.acap_entries.specs.declared.path.Path.{Path}
 use Rattle.acap_commands.specs.Wanted.{Wanted, One, And, Or, Not}
-use Rattle.acap_commands.specs.declared.relation.Relation.TheVariants as relation
+use Rattle.acap_commands.specs.declared.test.Relation.TheVariants as relation
 use Rattle.acap_commands.specs.declared.test.Test.TheVariants as test
 use Rattle.acap_order.specs.declared.comparator.Collation.TheVariants.{Octet, AsciiCasemap}
 use Rattle.acap_rights.specs.declared.realm.Realm.{Realm}

@@ -1,7 +1,7 @@
 -- How many of the matches a SEARCH tells [RFC 2244 section 6.4.1].
 use Rattle.std.specs.Prelude.{◌≡◌, ◌⊎◌, ℕ, max, min, nat_lt, List, length, take, Option, Some, None}
 use Rattle.std.specs.Prelude.{if◌then◌else◌, map as each}
-use Rattle.acap_commands.specs.declared.limit.Limit.{Limit}
+use Rattle.acap_commands.specs.declared.search_modifiers.Limit.{Limit}
 use Rattle.acap_search.specs.Matches.{Match}
 use Rattle.acap_search.specs.declared.cutting.Cut.{Cut}
 use Rattle.acap_search.specs.declared.telling.Excerpt.{Excerpt}

@@ -1,11 +1,11 @@
 -- Keys, orders, scopes and limits, computed from the definitions alone [RFC 2244 sections 3.4 and 6.4.1].
 use Rattle.acap_entries.specs.declared.record.Record.{Record}
 use Rattle.std.specs.FinMap as map
-use Rattle.acap_commands.specs.declared.return_name.ReturnName.TheVariants as name
+use Rattle.acap_commands.specs.declared.returns.ReturnName.TheVariants as name
 use Rattle.acap_entries.specs.declared.item.Item.TheVariants as item
 use Rattle.acap_entries.specs.declared.item.Item.{Item}
-use Rattle.acap_commands.specs.declared.metadata.Metadata.TheVariants as metadata
-use Rattle.acap_commands.specs.declared.metadata.Metadata.{Metadata}
+use Rattle.acap_commands.specs.declared.returns.Metadata.TheVariants as metadata
+use Rattle.acap_commands.specs.declared.returns.Metadata.{Metadata}
 use Rattle.acap_search.specs.Rows.{Names, digits, item_of}
 use Rattle.std.specs.Prelude.{◌≡◌, ℕ, Bool, true, false, List, [], ◌∷◌, Option, Some, None, codes, if◌then◌else◌, pos, map as each}
 use Rattle.std.specs.Ordering.{is_lt}
@@ -18,11 +18,11 @@ use Rattle.acap_entries.specs.declared.cell.Cell.{Cell}
 use Rattle.acap_entries.specs.declared.cell.Cell.TheVariants.{Nil, Single, Multi}
 use Rattle.acap_entries.specs.declared.path.Path.{Path}
 use Rattle.acap_commands.specs.Wanted.{Wanted, One, And, Or, Not}
-use Rattle.acap_commands.specs.declared.limit.Limit.{Limit}
-use Rattle.acap_commands.specs.declared.return_item.ReturnItem.{ReturnItem}
+use Rattle.acap_commands.specs.declared.search_modifiers.Limit.{Limit}
+use Rattle.acap_commands.specs.declared.returns.ReturnItem.{ReturnItem}
 use Rattle.acap_commands.specs.declared.search_modifiers.SearchModifiers.{SearchModifiers}
-use Rattle.acap_commands.specs.declared.relation.Relation.{Relation}
-use Rattle.acap_commands.specs.declared.relation.Relation.TheVariants as relation
+use Rattle.acap_commands.specs.declared.test.Relation.{Relation}
+use Rattle.acap_commands.specs.declared.test.Relation.TheVariants as relation
 use Rattle.acap_commands.specs.declared.test.Test.TheVariants as test
 use Rattle.acap_order.specs.Spellings.{ascending, descending}
 use Rattle.acap_order.specs.declared.comparator.Collation.{Collation}

@@ -2,7 +2,7 @@
 use Rattle.std.specs.Prelude.{◌≡◌, ℕ, ◌+◌, ◌-◌, List, [], ◌++◌, length, take, Option, None, Some, map as each}
 use Rattle.std.specs.List.{cons_option}
 use Rattle.acap_entries.specs.declared.row.Row.{Row}
-use Rattle.acap_commands.specs.declared.limit.Limit.{Limit}
+use Rattle.acap_commands.specs.declared.search_modifiers.Limit.{Limit}
 use Rattle.acap_search.specs.Cutting.{cut_of, most_told}
 use Rattle.acap_search.specs.Lying.{untold}
 use Rattle.acap_search.specs.Matches.{Match, match_lt, sorted_by}

@@ -8,7 +8,7 @@ use Rattle.acap_entries.specs.declared.path.Path.{Path}
 use Rattle.acap_entries.specs.declared.row.Row.{Row}
 use Rattle.acap_entries.specs.contracts.path.Path as path
 use Rattle.acap_entries.specs.contracts.row.Row as row
-use Rattle.acap_commands.specs.declared.sort_item.SortItem.{SortItem}
+use Rattle.acap_commands.specs.declared.search_modifiers.SortItem.{SortItem}
 use Rattle.acap_search.specs.Places.{places_cmp}
 use Rattle.acap_search.specs.declared.rank.SortPlace.{SortPlace}
 use Rattle.acap_search.specs.contracts.rank.SortPlace as place

@@ -13,8 +13,8 @@ use Rattle.acap_inherit.specs.Records.{record_at, cell_in}
 use Rattle.acap_rights.specs.Sharing.{AreShared}
 use Rattle.acap_rights.specs.declared.sharing.SharedRights.{SharedRights}
 use Rattle.acap_search.specs.Views.{View, Spotted}
-use Rattle.acap_search.specs.declared.along.Along.{Along}
-use Rattle.acap_search.specs.declared.kept.Kept.{Kept}
+use Rattle.acap_search.specs.declared.at_hand.Along.{Along}
+use Rattle.acap_search.specs.declared.at_hand.Kept.{Kept}
 
 -- what a record has for an attribute, where nothing is inherited
 abbrev pub own_value : Record → List ℕ → List ℕ → Cell

@@ -9,7 +9,7 @@ use Rattle.std.specs.declared.cmp.Ordering.TheVariants.{Less, Equal, Greater}
 use Rattle.acap_entries.specs.Orders.{octets_cmp}
 use Rattle.acap_entries.specs.declared.cell.Cell.{Cell}
 use Rattle.acap_entries.specs.declared.cell.Cell.TheVariants.{Nil, Single, Multi}
-use Rattle.acap_commands.specs.declared.sort_item.SortItem.{SortItem}
+use Rattle.acap_commands.specs.declared.search_modifiers.SortItem.{SortItem}
 use Rattle.acap_order.specs.Digits.{significant_digits}
 use Rattle.acap_order.specs.Ranks.{upper_case}
 use Rattle.acap_order.specs.declared.comparator.Collation.{Collation}

@@ -9,9 +9,9 @@ use Rattle.acap_entries.specs.contracts.record.Record as row
 use Rattle.acap_entries.specs.declared.cell.Cell.{Cell}
 use Rattle.acap_entries.specs.declared.item.Item.{Item}
 use Rattle.acap_entries.specs.declared.path.Path.{Path}
-use Rattle.acap_commands.specs.declared.metadata.Metadata.{Metadata}
-use Rattle.acap_commands.specs.declared.return_item.ReturnItem.{ReturnItem}
-use Rattle.acap_commands.specs.declared.sort_item.SortItem.{SortItem}
+use Rattle.acap_commands.specs.declared.returns.Metadata.{Metadata}
+use Rattle.acap_commands.specs.declared.returns.ReturnItem.{ReturnItem}
+use Rattle.acap_commands.specs.declared.search_modifiers.SortItem.{SortItem}
 use Rattle.acap_inherit.specs.Chains.{chain_of}
 use Rattle.acap_inherit.specs.Records.{record_at}
 use Rattle.acap_rights.specs.contracts.realm.Realm as realm

@@ -12,10 +12,9 @@ ghost use Rattle.acap_search.specs.Near.{AreAlong};
 ghost use Rattle.acap_search.specs.Views.{found_at, spot_in};
 ghost use Rattle.acap_search.specs.Walks as walks;
 
-use crate::along::Along;
+use crate::at_hand::{Along, Kept};
 use crate::front::Front;
 use crate::gathered::Gathered;
-use crate::kept::Kept;
 use crate::named::{find_name, only_name};
 use crate::names_count::{count_all, count_others};
 use crate::near::{Near, near_by};
@@ -47,12 +46,7 @@ fn add_own<'a: 'b, 'b, L: Ledger>(
     ensures found { OnOk result (found.new ≡ with_more found.old (walks.hits_along by.now sought.now)) }
 {
     for (path, entry) in entries {
-        let spot = Spot {
-            by,
-            name: &path.name,
-            kept: Some(Kept { entry, shared }),
-            along: None,
-        };
+        let spot = Spot::near(by, &path.name, Kept { entry, shared });
         found.add_at(alloc, &spot, Some(path), sought, None, steps)?;
     }
     Ok(())

@@ -8,10 +8,10 @@ ghost use Rattle.acap_search.specs.Grounds.{IsGroundOf};
 ghost use Rattle.acap_search.specs.Views.{found_at, match_at, spot_in};
 ghost use Rattle.acap_search.specs.Walks as walks;
 
+use crate::at_hand::Kept;
 use crate::dataset_walk::base_of;
 use crate::front::Front;
 use crate::gathered::Gathered;
-use crate::kept::Kept;
 use crate::near::Near;
 use crate::plain::share_rights;
 use crate::query::Sought;
@@ -140,12 +140,7 @@ impl<'a> Ground<'a> {
         if let Some(shared) = &self.shared
             && let Some(entry) = entry
         {
-            let spot = Spot {
-                by: &self.by,
-                name: &path.name,
-                kept: Some(Kept { entry, shared }),
-                along: None,
-            };
+            let spot = Spot::near(&self.by, &path.name, Kept { entry, shared });
             return found.add_at(alloc, &spot, Some(path), sought, place, steps);
         }
         let near = Near::new(self.by.records, self.own, self.base, path.name.as_slice());
@@ -175,12 +170,7 @@ impl<'a> Ground<'a> {
     }
 
     /// What is told of an entry of it. Fails only for want of memory.
-    pub(crate) fn tell<'x>(
-        &'x self,
-        alloc: Global,
-        path: &'x Path,
-        sought: &Sought,
-    ) -> Result<Row, Memory>
+    pub(crate) fn tell(&self, alloc: Global, path: &Path, sought: &Sought) -> Result<Row, Memory>
         requires { self.now.view.dataset ≡ path.now.dataset }
         ensures { IfOk result
             (λ row. row ≡ (match_at sought.now (spot_in self.now.view path.now.name)).row) }
@@ -189,12 +179,7 @@ impl<'a> Ground<'a> {
         if let Some(shared) = &self.shared
             && let Some(entry) = self.by.records.find(dataset, path.name.as_slice())
         {
-            let spot = Spot {
-                by: &self.by,
-                name: &path.name,
-                kept: Some(Kept { entry, shared }),
-                along: None,
-            };
+            let spot = Spot::near(&self.by, &path.name, Kept { entry, shared });
             return tell_row(alloc, &spot, sought);
         }
         let near = Near::new(self.by.records, self.own, self.base, path.name.as_slice());

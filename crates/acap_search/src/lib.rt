@@ -2,7 +2,7 @@
 //! search over a dataset finds, in which order.
 #![tactic(auto)]
 
-mod along;
+mod at_hand;
 mod context;
 mod context_laws;
 mod cutting;
@@ -13,7 +13,6 @@ mod front;
 mod gathered;
 mod ground;
 mod hit;
-mod kept;
 mod laws;
 mod looking;
 mod lying;

@@ -1,8 +1,5 @@
 //! What strings are compared by, made once for an entry.
 ghost use Rattle.std.specs.Prelude.{◌≡◌, ◌∷◌, [], IfOk};
-ghost use Rattle.std.specs.Char.{is_ascii_digit};
-ghost use Rattle.std.specs.List.{take_while};
-ghost use Rattle.acap_order.specs.Digits.{significant_digits};
 ghost use Rattle.acap_order.specs.Ranks.{upper_case};
 ghost use Rattle.acap_search.specs.Lying.{places_on};
 ghost use Rattle.acap_search.specs.Places as rule;
@@ -16,41 +13,15 @@ use crate::spot::Spot;
 use acap_commands::SortItem;
 use acap_entries::{Label, Memory, Octets, Records};
 use acap_inherit::Lent;
-use acap_order::{Collation, Comparator, Direction};
+use acap_order::{Collation, Comparator, Direction, leading_digits, significant};
 use std::alloc::Global;
 
 // A string in upper case.
 fn upper_case_of(alloc: Global, text: &[u8]) -> Result<Label, Memory>
     ensures { IfOk result (λ made. made ≡ upper_case text.now) }
 {
-    let mut octets = Vec::with_capacity(alloc, text.len())?;
-    for octet in text {
-        octets.push(octet.to_ascii_uppercase())?;
-    }
+    let octets = text.to_ascii_uppercase(alloc)?;
     Ok(Label::new(Octets::from_vec(octets)))
-}
-
-// The digits that a string begins with.
-fn leading_digits(text: &[u8]) -> &[u8]
-    ensures { result.now ≡ take_while is_ascii_digit text.now }
-{
-    for (count, octet) in text.iter().enumerate() {
-        if !octet.is_ascii_digit() {
-            return &text[..count];
-        }
-    }
-    text
-}
-
-// Digits without the zeros that they begin with.
-fn significant(digits: &[u8]) -> &[u8]
-    ensures { result.now ≡ significant_digits digits.now }
-{
-    let mut rest = digits;
-    while let Some((b'0', after)) = rest.split_first() {
-        rest = after;
-    }
-    rest
 }
 
 // What digits are compared by.

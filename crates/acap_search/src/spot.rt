@@ -1,7 +1,6 @@
 //! An entry that is looked at.
 
-use crate::along::Along;
-use crate::kept::Kept;
+use crate::at_hand::{Along, Kept};
 use crate::viewer::Viewer;
 use acap_entries::{EntryName, Records};
 use std::marker::Model;
@@ -34,8 +33,8 @@ impl<'a, R: Records> Model for Spot<'a, R> {
 }
 
 impl<'a, R: Records> Spot<'a, R> {
-    ghost use Rattle.std.specs.Prelude.{◌≡◌};
-    ghost use Rattle.acap_search.specs.Near.{AreAlong};
+    ghost use Rattle.std.specs.Prelude.{◌≡◌, Some};
+    ghost use Rattle.acap_search.specs.Near.{AreAlong, IsNear};
     ghost use Rattle.acap_search.specs.Views.{spot_in};
 
     /// An entry of which nothing is at hand.
@@ -43,6 +42,19 @@ impl<'a, R: Records> Spot<'a, R> {
         ensures { result ≡ spot_in by.now name.now }
     {
         Spot::along(by, name, None)
+    }
+
+    /// An entry whose record is at hand, with the rights that it shares.
+    pub(crate) fn near(by: &'a Viewer<'a, R>, name: &'a EntryName, kept: Kept<'a>) -> Spot<'a, R>
+        requires { IsNear (spot_in by.now name.now) (Some kept) }
+        ensures { result ≡ spot_in by.now name.now }
+    {
+        Spot {
+            by,
+            name,
+            kept: Some(kept),
+            along: None,
+        }
     }
 
     /// An entry of which no record is at hand. The rights along its dataset's chain may be.

@@ -3,8 +3,8 @@ ghost use Rattle.std.specs.Prelude.{◌≡◌, ◌+◌, None, Some, IfOk, IfSome
 ghost use Rattle.acap_inherit.specs.Records.{record_at};
 ghost use Rattle.acap_search.specs.Views.{found_at, spot_in, standing_at};
 
+use crate::at_hand::Kept;
 use crate::hit::Hit;
-use crate::kept::Kept;
 use crate::placing::places_at;
 use crate::query::Sought;
 use crate::rank::SortPlaces;
@@ -51,11 +51,11 @@ impl<'a, R: Records> Surveyor<'a, R> {
 
     /// What a search makes of an entry, whose record may be at hand: one step, as `row_of`. Fails only for want of
     /// memory.
-    pub fn row<'x, L: Ledger>(
-        &'x self,
+    pub fn row<L: Ledger>(
+        &self,
         alloc: Global,
-        path: &'x Path,
-        entry: Option<&'x Record>,
+        path: &Path,
+        entry: Option<&Record>,
         sought: &Sought,
         steps: &mut Steps<L>,
     ) -> Result<Option<Hit>, Memory>
@@ -71,24 +71,18 @@ impl<'a, R: Records> Surveyor<'a, R> {
         if let Some(shared) = self.shared
             && let Some(entry) = entry
         {
-            let kept = Some(Kept { entry, shared });
-            let spot = Spot {
-                by,
-                name,
-                kept,
-                along: None,
-            };
+            let spot = Spot::near(by, name, Kept { entry, shared });
             return hit_at(alloc, &spot, Some(path), sought, None, steps);
         }
         row_of(alloc, by, name, sought, None, steps)
     }
 
     /// Where an entry stands for SORT, whose record may be at hand, as `places_at`. Fails only for want of memory.
-    pub fn places<'x>(
-        &'x self,
+    pub fn places(
+        &self,
         alloc: Global,
-        path: &'x Path,
-        entry: Option<&'x Record>,
+        path: &Path,
+        entry: Option<&Record>,
         sought: &Sought,
     ) -> Result<SortPlaces, Memory>
         requires here { self.now.dataset ≡ path.now.dataset }
@@ -101,13 +95,7 @@ impl<'a, R: Records> Surveyor<'a, R> {
         if let Some(shared) = self.shared
             && let Some(entry) = entry
         {
-            let kept = Some(Kept { entry, shared });
-            let spot = Spot {
-                by,
-                name,
-                kept,
-                along: None,
-            };
+            let spot = Spot::near(by, name, Kept { entry, shared });
             return places_by(alloc, &spot, sought);
         }
         places_at(alloc, by, name, sought)

@@ -3,9 +3,10 @@ use Rattle.std.proofs.Common.{◌≡◌, inl, inr, ℕ, zero, suc, Bool, true, f
 use Rattle.std.specs.Prelude.{◌≢◌, ◌⊎◌, is_ok, option_map}
 use Rattle.std.specs.Option.{option_and_then, option_or}
 use Rattle.std.proofs.lemmas.Bool.{eqb-true, eqb-false}
+use Rattle.std.proofs.Math.Bool.{or-false}
 use Rattle.acap_commands.specs.declared.event.Event.{Event}
 use Rattle.acap_commands.specs.declared.event.Event.TheVariants as event
-use Rattle.acap_commands.specs.declared.fault.Fault.{Fault}
+use Rattle.acap_commands.specs.declared.event.Fault.{Fault}
 use Rattle.acap_commands.specs.declared.reply.Reply.{Reply}
 use Rattle.acap_machine.specs.Machine.{Machine}
 use Rattle.acap_machine.specs.Runs.{machine_after, outcome_of, run_of}
@@ -137,15 +138,11 @@ fault_leaves (event.Command command) f b = refl
 fault_leaves event.Drain f b = refl
 fault_leaves event.Leave f b = refl
 
-or_false : (b : Bool) → (b || false) ≡ b
-or_false true = refl
-or_false false = refl
-
 -- who is closed by an answer was answered with a fault
 same_seat : (t : Talking) (e : Event) (b : Bool) (r : Result (Reply × Machine) Fault) → has_seat t ≡ b → closes (after_answer t (outcome_of r)).0 ≡ true
     → seated_by e (outcome_of r) b ≡ (has_seat t || is_ok r)
 same_seat t e b (Ok stepped) h c = absurd (let k : false ≡ true = sym (reply_goes_on t stepped.0) ∙ c in cc)
-same_seat t e b (Err f) h c = fault_leaves e f b ∙ sym h ∙ sym (or_false (has_seat t))
+same_seat t e b (Err f) h c = fault_leaves e f b ∙ sym h ∙ sym (or-false (has_seat t))
 
 abbrev answer_to : Bool → Machine → Occasion → Option Event → Outcome
 answer_to refused m o asks = option_map (λ e. outcome_of (event_outcome refused m o e)) asks

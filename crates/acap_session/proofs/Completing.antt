@@ -23,11 +23,11 @@ use Rattle.acap_commands.specs.declared.refusal.Refusal.{Refusal}
 use Rattle.acap_commands.specs.declared.reply.Reply.{Reply}
 use Rattle.acap_commands.specs.declared.said.Said.{Said}
 use Rattle.acap_commands.specs.declared.said.Said.TheVariants as said
-use Rattle.acap_commands.specs.declared.search_reply.SearchReply.{SearchReply}
-use Rattle.acap_commands.specs.declared.status.Status.{Status}
-use Rattle.acap_commands.specs.declared.status.Status.TheVariants as status
-use Rattle.acap_commands.specs.declared.verb.Verb.{Verb}
-use Rattle.acap_commands.specs.declared.verb.Verb.TheVariants as verb
+use Rattle.acap_commands.specs.declared.said.SearchReply.{SearchReply}
+use Rattle.acap_commands.specs.declared.refusal.Status.{Status}
+use Rattle.acap_commands.specs.declared.refusal.Status.TheVariants as status
+use Rattle.acap_commands.specs.declared.command.Verb.{Verb}
+use Rattle.acap_commands.specs.declared.command.Verb.TheVariants as verb
 use Rattle.acap_machine.specs.Completing.{completes, is_answer}
 use Rattle.acap_session.specs.Completing.{CompletionExamples, CompletionForm, EndsIn, status_word, word_of}
 use Rattle.acap_dialogue.specs.Hearing.{response_to, heard_command, heard_answer, opening}

@@ -10,7 +10,7 @@ use Rattle.acap_lexer.specs.declared.fault.LexFault.{LexFault}
 use Rattle.acap_lexer.specs.declared.fault.LexFault.TheVariants as faults
 use Rattle.acap_lexer.specs.declared.lexed.Lexed.{Lexed}
 use Rattle.acap_lexer.specs.declared.lexed.Lexed.TheVariants as lexed
-use Rattle.acap_lexer.specs.declared.mode.Mode.{Mode}
+use Rattle.acap_lexer.specs.declared.lexed.Mode.{Mode}
 use Rattle.acap_lexer.proofs.Asking.{plus_cases, item_cases}
 use Rattle.acap_lexer.proofs.ProgressLaws.{takes_octets}
 use Rattle.acap_session.specs.ScriptWriting.{turns_for}

@@ -9,8 +9,8 @@ use Rattle.acap_lexer.specs.Stream.{progress}
 use Rattle.acap_lexer.specs.declared.fault.LexFault.{LexFault}
 use Rattle.acap_lexer.specs.declared.lexed.Lexed.{Lexed}
 use Rattle.acap_lexer.specs.declared.lexed.Lexed.TheVariants as lexed
-use Rattle.acap_lexer.specs.declared.mode.Mode.{Mode}
-use Rattle.acap_lexer.specs.declared.mode.Mode.TheVariants as mode
+use Rattle.acap_lexer.specs.declared.lexed.Mode.{Mode}
+use Rattle.acap_lexer.specs.declared.lexed.Mode.TheVariants as mode
 use Rattle.acap_lexer.proofs.Asking.{next_cases, Continues, Lacks, Finds}
 use Rattle.acap_lexer.proofs.ProgressLaws.{keeps_items, keeps_waits, takes_octets}
 use Rattle.acap_login.specs.Login.{User}
@@ -32,7 +32,7 @@ use Rattle.acap_dialogue.specs.declared.stage.Stage.TheVariants as stage
 use Rattle.acap_session.specs.declared.turn.Turn.{Turn}
 use Rattle.acap_session.specs.declared.turn.Turn.TheVariants as turn
 use Rattle.acap_session.proofs.Alone.{place_of}
-use Rattle.acap_session.proofs.Placing.{placed_there}
+use Rattle.acap_session.proofs.Placing.{placed_there, same_placed}
 use Rattle.acap_session.proofs.Turning.{still, closed_is_quiet}
 
 -- ---- the lexer
@@ -181,11 +181,6 @@ placed_twice [] (suc k) p q = ap (λ ys. None ∷ ys) (placed_twice [] k p q)
 placed_twice (x ∷ xs) zero p q = refl
 placed_twice (x ∷ xs) (suc k) p q = ap (λ ys. x ∷ ys) (placed_twice xs k p q)
 
-placed_same : (xs : Places) (k : ℕ) (p : Place) → place_at xs k ≡ Some p → with_place xs k p ≡ xs
-placed_same [] k p e = absurd cc
-placed_same (x ∷ xs) zero p e = ap (λ y. y ∷ xs) (sym e)
-placed_same (x ∷ xs) (suc k) p e = ap (λ ys. x ∷ ys) (placed_same xs k p e)
-
 set_twice : (w : World) (k : ℕ) (s z : Scene) → with_scene (with_scene w k s) k z ≡ with_scene w k z
 set_twice w k s z = ap (λ xs. record w { machine = z.machine; places = xs }) (placed_twice w.places k (place_of s) (place_of z))
 
@@ -201,7 +196,7 @@ Starts w k = (open_at w k ≡ None) ⊎ ((s : Scene) × (w ≡ with_scene w k s)
 
 starts_by : (w : World) (k : ℕ) (p : Place) (b : Bool) → place_at w.places k ≡ Some p → is_closed p.talk.stage ≡ b → Starts w k
 starts_by w k p true e f = inl (ap if_open e ∙ ap (λ x. if x then None else Some p) f)
-starts_by w k p false e f = inr (scene_of w p, sym (ap (λ xs. record w { places = xs }) (placed_same w.places k p e)), f)
+starts_by w k p false e f = inr (scene_of w p, sym (ap (λ xs. record w { places = xs }) (same_placed w.places k p e)), f)
 
 starts_at : (w : World) (k : ℕ) (x : Option Place) → place_at w.places k ≡ x → Starts w k
 starts_at w k None e = inl (ap if_open e)

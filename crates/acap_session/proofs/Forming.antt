@@ -2,13 +2,13 @@
 use Rattle.std.proofs.Common.{◌≡◌, ℕ, zero, suc, Bool, true, false, ◌&&◌, ◌||◌, List, [], ◌∷◌, ◌++◌, Ok, Err, refl, ap, subst, ◌∙◌, map as each, if◌then◌else◌}
 use Rattle.std.specs.Prelude.{take}
 use Rattle.std.specs.List.{list_all}
-use Rattle.std.proofs.lemmas.Bool.{and_parts}
+use Rattle.std.proofs.lemmas.Bool.{and_parts, and_from}
 use Rattle.acap_commands.specs.declared.command.Command.{Command}
 use Rattle.acap_commands.specs.declared.command.Command.TheVariants as command
 use Rattle.acap_commands.specs.declared.event.Event.TheVariants as event
 use Rattle.acap_commands.specs.declared.object_name.ObjectName.{ObjectName}
 use Rattle.acap_commands.specs.declared.object_name.ObjectName.TheVariants as object_name
-use Rattle.acap_commands.specs.declared.store_entry.StoreEntry.{StoreEntry}
+use Rattle.acap_commands.specs.declared.store.StoreEntry.{StoreEntry}
 use Rattle.acap_entries.proofs.FormLemmas.{argument_dataset, path_dataset, path_name, read_closed}
 use Rattle.acap_entries.proofs.OwnLaws.{cut_closed, dataset_cut}
 use Rattle.acap_entries.specs.FullPaths.{is_well_formed}
@@ -44,15 +44,12 @@ path_ends : (text : List ℕ) → is_path text ≡ true → ends_with slash (dat
 unfolding dataset_of
 path_ends text e = ap (ends_with slash) (dataset_cut text) ∙ cut_closed text (begun (dataset_len text) text (path_begins text e))
 
-both_true : (a b : Bool) → a ≡ true → b ≡ true → (a && b) ≡ true
-both_true a b e f = (λ i. e i && f i)
-
 path_formed : (text : List ℕ) (p : Path) → Names path_named text p → is_well_formed p ≡ true
 unfolding path_named
 path_formed text p e =
     let good = good_if (is_path text) _ p _ e in
     subst (λ (q : Path). is_well_formed q ≡ true) good.1
-    (both_true (is_closed_dataset (dataset_of text)) (is_entry_name (name_of text)) (path_dataset text good.0 (path_ends text good.0)) (path_name text good.0))
+    (and_from (is_closed_dataset (dataset_of text)) (is_entry_name (name_of text)) (path_dataset text good.0 (path_ends text good.0)) (path_name text good.0))
 
 dataset_formed : (text name : List ℕ) → Names dataset_named text name → is_closed_dataset name ≡ true
 unfolding dataset_named
@@ -70,7 +67,7 @@ entry_formed dataset text name e =
 
 entries_formed : (before entries : List StoreEntry) → Each IsEntry before entries → list_all is_well_formed (each (λ e. e.path) entries) ≡ true
 entries_formed before [] all = refl
-entries_formed before (e ∷ entries) all = both_true _ _ (path_formed _ e.path all.0.path) (entries_formed (before ++ e ∷ []) entries all.1)
+entries_formed before (e ∷ entries) all = and_from _ _ (path_formed _ e.path all.0.path) (entries_formed (before ++ e ∷ []) entries all.1)
 
 object_named : (o : ObjectName) → IsObject o → IsWellNamed o
 object_named (object_name.Dataset dataset) is = dataset_formed (dataset_text dataset) dataset is

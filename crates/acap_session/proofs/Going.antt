@@ -15,8 +15,8 @@ use Rattle.acap_lexer.specs.declared.kind.Kind.{Kind}
 use Rattle.acap_lexer.specs.declared.kind.Kind.TheVariants as kind
 use Rattle.acap_lexer.specs.declared.lexed.Lexed.{Lexed}
 use Rattle.acap_lexer.specs.declared.lexed.Lexed.TheVariants as lexed
-use Rattle.acap_lexer.specs.declared.mode.Mode.{Mode}
-use Rattle.acap_lexer.specs.declared.mode.Mode.TheVariants as mode
+use Rattle.acap_lexer.specs.declared.lexed.Mode.{Mode}
+use Rattle.acap_lexer.specs.declared.lexed.Mode.TheVariants as mode
 use Rattle.acap_lexer.proofs.Asking.{next_cases}
 use Rattle.acap_login.specs.Login.{User}
 use Rattle.acap_grammar.specs.Grammar.{command_of}

@@ -8,15 +8,15 @@ use Rattle.acap_commands.specs.declared.command.Command.{Command}
 use Rattle.acap_commands.specs.declared.command.Command.TheVariants as command
 use Rattle.acap_commands.specs.declared.event.Event.{Event}
 use Rattle.acap_commands.specs.declared.event.Event.TheVariants as event
-use Rattle.acap_commands.specs.declared.fault.Fault.{Fault}
+use Rattle.acap_commands.specs.declared.event.Fault.{Fault}
 use Rattle.acap_commands.specs.declared.reply.Reply.{Reply}
 use Rattle.acap_commands.specs.declared.said.Said.{Said}
 use Rattle.acap_commands.specs.declared.said.Said.TheVariants as said
 use Rattle.acap_dialogue.specs.Saying.{heard_of}
 use Rattle.acap_dialogue.specs.Session.{after_answer, has_seat, session_next, session_drain}
 use Rattle.acap_dialogue.specs.Talking.{Talking, beginning}
-use Rattle.acap_dialogue.specs.declared.heard.Heard.{Heard}
-use Rattle.acap_dialogue.specs.declared.heard.Heard.TheVariants as heard
+use Rattle.acap_dialogue.specs.declared.next.Heard.{Heard}
+use Rattle.acap_dialogue.specs.declared.next.Heard.TheVariants as heard
 use Rattle.acap_dialogue.specs.declared.next.Next.{Next}
 use Rattle.acap_dialogue.specs.declared.next.Next.TheVariants as next
 use Rattle.acap_grammar.specs.Grammar.{command_of}
@@ -45,24 +45,25 @@ use Rattle.acap_session.specs.declared.occasion.Occasion.{Occasion}
 use Rattle.acap_rights.specs.declared.realm.Realm.{Realm}
 use Rattle.acap_session.proofs.Alone.{alone, did_by}
 use Rattle.acap_session.proofs.Naming.{NamedWorld, new_named, step_named, asked_named}
+use Rattle.acap_session.proofs.PipeSteps.{run_append}
 
 -- ---- what a step makes of the machine: the event that the session asks is performed, and the session may leave its seat
 
-abbrev machine_by : Option Event → Occasion → Bool → Machine → Machine
+abbrev pub machine_by : Option Event → Occasion → Bool → Machine → Machine
 machine_by None o refused m = m
 machine_by (Some e) o refused m = machine_after m (event_outcome refused m o e)
 
-record MovedTo (o : Occasion) (m n : Machine) : Type 0 where
-  left : Bool
-  is : n ≡ left_by left o m
+pub record MovedTo (o : Occasion) (m n : Machine) : Type 0 where
+  pub left : Bool
+  pub is : n ≡ left_by left o m
 
-closing : (h : Heard) (seated : Bool) (o : Occasion) (m : Machine) → MovedTo o m (left_at h seated o m)
+pub closing : (h : Heard) (seated : Bool) (o : Occasion) (m : Machine) → MovedTo o m (left_at h seated o m)
 closing heard.More seated o m = record { left = false; is = refl }
 closing heard.Said seated o m = record { left = false; is = refl }
 closing (heard.Asks event) seated o m = record { left = false; is = refl }
 closing heard.Closes seated o m = record { left = seated; is = refl }
 
-turned_to : (o : Occasion) (refused : Bool) (s : Scene) (x : Next × Talking) → MovedTo o (machine_by (event_in x) o refused s.machine) (turn_by o refused s x).1.machine
+pub turned_to : (o : Occasion) (refused : Bool) (s : Scene) (x : Next × Talking) → MovedTo o (machine_by (event_in x) o refused s.machine) (turn_by o refused s x).1.machine
 turned_to o refused s (next.More, t) = record { left = false; is = refl }
 turned_to o refused s (next.Say octets, t) = record { left = false; is = refl }
 turned_to o refused s (next.Ask event, t) =
@@ -70,10 +71,10 @@ turned_to o refused s (next.Ask event, t) =
     closing (heard_of (after_answer t (outcome_of r)).0) (has_seat t || is_ok r) o (machine_after s.machine r)
 turned_to o refused s (next.Close octets, t) = record { left = has_seat s.talk; is = refl }
 
-abbrev asked_on : World → Occasion → Deed → Option Place → Option Event
+abbrev pub asked_on : World → Occasion → Deed → Option Place → Option Event
 asked_on w o deed now = asked_by w (record { occasion = o; refused = false; deed = deed }) now
 
-moved_by : (o : Occasion) (refused : Bool) (deed : Deed) (w : World) (now : Option Place) → MovedTo o (machine_by (asked_on w o deed now) o refused w.machine) (did_by o refused deed w now).machine
+pub moved_by : (o : Occasion) (refused : Bool) (deed : Deed) (w : World) (now : Option Place) → MovedTo o (machine_by (asked_on w o deed now) o refused w.machine) (did_by o refused deed w now).machine
 unfolding turn_of drain_of
 moved_by o refused (world.Open user) w None = turned_to o refused (scene w.machine (beginning w.host user) (said_before (place_at w.places o.seat))) (session_next w.users o.nonce o.clock (beginning w.host user))
 moved_by o refused (world.Open user) w (Some p) = record { left = false; is = refl }
@@ -86,7 +87,7 @@ moved_by o refused world.Drain w (Some p) = turned_to o refused (scene_of w p) (
 moved_by o refused world.Leave w None = record { left = false; is = refl }
 moved_by o refused world.Leave w (Some p) = record { left = has_seat p.talk; is = refl }
 
-moved_in : (o : Occasion) (refused : Bool) (deed : Deed) (w : World) → MovedTo o (machine_by (asked_on w o deed (open_at w o.seat)) o refused w.machine) (did o refused deed w).machine
+pub moved_in : (o : Occasion) (refused : Bool) (deed : Deed) (w : World) → MovedTo o (machine_by (asked_on w o deed (open_at w o.seat)) o refused w.machine) (did o refused deed w).machine
 unfolding did
 moved_in o refused (world.Open user) w = moved_by o refused (world.Open user) w (open_at w o.seat)
 moved_in o refused (world.Piece octets) w = moved_by o refused (world.Piece octets) w (open_at w o.seat)
@@ -268,11 +269,7 @@ module _ (current : CurrentLaw) (law : HeldLaw) where
           let both = and_parts (is_named_deed x.deed) _ named in
           all_current xs (did x.occasion x.refused x.deed w) (step_named formed w x names both.0) both.1 (step_current w x names both.0 is)
 
-run_behind : (xs ys : List Step) (w : World) → world_after (xs ++ ys) w ≡ world_after ys (world_after xs w)
-run_behind [] ys w = refl
-run_behind (x ∷ xs) ys w = run_behind xs ys (did x.occasion x.refused x.deed w)
-
-named_front : (xs ys : List Step) → list_all (λ x. is_named_deed x.deed) (xs ++ ys) ≡ true → list_all (λ x. is_named_deed x.deed) xs ≡ true
+pub named_front : (xs ys : List Step) → list_all (λ x. is_named_deed x.deed) (xs ++ ys) ≡ true → list_all (λ x. is_named_deed x.deed) xs ≡ true
 named_front [] ys named = refl
 named_front (x ∷ xs) ys named =
     let both = and_parts (is_named_deed x.deed) _ named in
@@ -288,7 +285,7 @@ module _ (current : CurrentLaw) (law : HeldLaw) (seen : SeenLaw) (formed : (toke
   told : (t : Telling) (x : View) → IsTelling AreNamed t x → (client t ≡ with_rows x) × IsFresh (after t).machine t.seat x
   told t x is =
       let before = all_current current law t.seat t.name formed t.steps (start t) (new_named t.realm t.users t.host is.named.0) (named_front t.steps (t.last ∷ []) is.named.1) (current.begins t.realm) in
-      let end = run_behind t.steps (t.last ∷ []) (start t) in (
+      let end = run_append t.steps (t.last ∷ []) (start t) in (
         holds t.realm t.users t.host (all_steps t) t.seat t.name x is.named is.live is.whole,
         subst (λ (w : World). IsFresh w.machine t.seat x) (sym end)
             (step_told current law t.seat t.name (world_after t.steps (start t)) t.last x before is.tells (ap (λ (w : World). live_at w.machine t.seat t.name) (sym end) ∙ is.live)),
@@ -301,7 +298,7 @@ module _ (current : CurrentLaw) (law : HeldLaw) (seen : SeenLaw) (formed : (toke
       let begins = new_named t.realm t.users t.host is.named.0 in
       let before = all_current current law t.seat t.name formed t.steps (start t) begins named (current.begins t.realm) in
       let held = all_held current law t.seat t.name formed t.steps (start t) false None begins named (current.begins t.realm) (λ y l e. absurd cc) in
-      let end = run_behind t.steps (t.last ∷ []) (start t) in
+      let end = run_append t.steps (t.last ∷ []) (start t) in
       subst (λ (w : World). (client_amid t read ≡ with_rows x) × IsFresh w.machine t.seat x) (sym end)
       (step_modtime current law t.seat t.name (world_after t.steps (start t)) t.last names (whole_in t.seat t.name t.steps (start t) false) (client_in t.seat t.name t.steps (start t) None)
       read unread moment x is.own before held is.whole is.told (ap (λ (w : World). live_at w.machine t.seat t.name) (sym end) ∙ is.live))
@@ -329,7 +326,7 @@ module _ (current : CurrentLaw) (law : HeldLaw) (seen : SeenLaw) (formed : (toke
 
 -- ---- runs that are named in another way, by which they're named in the first
 
-told_so : (A B : List User → List Step → Type 0) → ((users : List User) (steps : List Step) → B users steps → A users steps)
+pub told_so : (A B : List User → List Step → Type 0) → ((users : List User) (steps : List Step) → B users steps → A users steps)
     → (t : Telling) (x : View) → IsTelling B t x → IsTelling A t x
 told_so A B so t x is = record { named = so t.users (all_steps t) is.named; tells = is.tells; live = is.live; whole = is.whole }
 

@@ -9,8 +9,8 @@ use Rattle.acap_commands.specs.declared.command.Command.{Command}
 use Rattle.acap_commands.specs.declared.command.Command.TheVariants as command
 use Rattle.acap_commands.specs.declared.event.Event.{Event}
 use Rattle.acap_commands.specs.declared.event.Event.TheVariants as event
-use Rattle.acap_commands.specs.declared.fault.Fault.{Fault}
-use Rattle.acap_commands.specs.declared.fault.Fault.TheVariants as fault
+use Rattle.acap_commands.specs.declared.event.Fault.{Fault}
+use Rattle.acap_commands.specs.declared.event.Fault.TheVariants as fault
 use Rattle.acap_commands.specs.declared.refusal.Refusal.TheVariants as refusals
 use Rattle.acap_commands.specs.declared.reply.Reply.{Reply}
 use Rattle.acap_dialogue.specs.Hearing.{response_to, heard_line, heard_command, heard_answer, answer_line, answer_token, asks, opening, logs_in, login_or_refusal, challenge_or_refusal, challenges, mechanism_name, refuses, seconds_of}
@@ -30,7 +30,7 @@ use Rattle.acap_lexer.specs.declared.kind.Kind.{Kind}
 use Rattle.acap_lexer.specs.declared.kind.Kind.TheVariants as kind
 use Rattle.acap_lexer.specs.declared.lexed.Lexed.{Lexed}
 use Rattle.acap_lexer.specs.declared.lexed.Lexed.TheVariants as lexed
-use Rattle.acap_lexer.specs.declared.mode.Mode.TheVariants as mode
+use Rattle.acap_lexer.specs.declared.lexed.Mode.TheVariants as mode
 use Rattle.acap_login.specs.Login.{User, name_at, answering_user, challenge_of}
 use Rattle.acap_machine.specs.Following.{is_named}
 use Rattle.acap_rights.specs.declared.realm.Realm.{Realm}

@@ -7,7 +7,7 @@ use Rattle.acap_machine.specs.Runs.{outcome_of, machine_after}
 use Rattle.acap_machine.proofs.SeatLemmas.{entered_user, left_again}
 use Rattle.acap_machine.specs.Stepping.{enter_answer as seating, by_user, left_at}
 use Rattle.acap_commands.specs.declared.event.Event.TheVariants as events
-use Rattle.acap_commands.specs.declared.fault.Fault.{Fault}
+use Rattle.acap_commands.specs.declared.event.Fault.{Fault}
 use Rattle.acap_dialogue.specs.Hearing.{opening}
 use Rattle.acap_dialogue.specs.Session.{session_next, next_at, after_answer, has_seat, has_seat_at, is_closed, comes_to}
 use Rattle.acap_dialogue.specs.Talking.{Talking}

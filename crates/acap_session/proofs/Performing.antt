@@ -7,14 +7,14 @@ use Rattle.acap_machine.specs.Runs.{outcome_of, machine_after}
 use Rattle.acap_machine.specs.Stepping.{step_of, Stepped, IsFault}
 use Rattle.acap_commands.specs.declared.event.Event.{Event}
 use Rattle.acap_commands.specs.declared.event.Event.TheVariants as events
-use Rattle.acap_commands.specs.declared.fault.Fault.{Fault}
-use Rattle.acap_commands.specs.declared.fault.Fault.TheVariants as fault
+use Rattle.acap_commands.specs.declared.event.Fault.{Fault}
+use Rattle.acap_commands.specs.declared.event.Fault.TheVariants as fault
 use Rattle.acap_dialogue.specs.Saying.{with_said, heard_of}
 use Rattle.acap_dialogue.specs.Session.{session_next, session_drain, after_answer, has_seat, has_seat_at, drain_in, drain_at, drain_for, is_asked}
 use Rattle.acap_dialogue.specs.Talking.{Talking}
 use Rattle.acap_session.specs.Turning.{Scene, scene, event_outcome, turn_and_scene, asked_of, turn_by, turn_of, drain_of, left_at, left_by, turn_from, is_refused, IsAsked, IsTurn, IsCutFrom, StandsBefore, WasCut, CutInAnswering, CutInAsking, CutInDraining}
-use Rattle.acap_dialogue.specs.declared.heard.Heard.{Heard}
-use Rattle.acap_dialogue.specs.declared.heard.Heard.TheVariants as heard
+use Rattle.acap_dialogue.specs.declared.next.Heard.{Heard}
+use Rattle.acap_dialogue.specs.declared.next.Heard.TheVariants as heard
 use Rattle.acap_dialogue.specs.declared.next.Next.{Next}
 use Rattle.acap_dialogue.specs.declared.next.Next.TheVariants as next
 use Rattle.acap_session.specs.declared.occasion.Occasion.{Occasion}

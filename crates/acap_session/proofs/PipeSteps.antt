@@ -8,18 +8,8 @@ use Rattle.acap_dialogue.specs.Session.{is_closed, session_next}
 use Rattle.acap_dialogue.specs.Talking.{Talking}
 use Rattle.acap_session.specs.Turning.{Scene, turn_of}
 use Rattle.acap_session.specs.World.{World, Step, Open, Piece, Turn, did, new_world, room_of, world_after}
-use Rattle.acap_dialogue.specs.declared.stage.Stage.{Stage}
+use Rattle.acap_session.proofs.WorldSeats.{closed_is}
 use Rattle.acap_dialogue.specs.declared.stage.Stage.TheVariants as stage
-
-is_stage_closed : (s : Stage) → is_closed s ≡ true → s ≡ stage.Closed
-is_stage_closed stage.Opening e = absurd cc
-is_stage_closed stage.Entering e = absurd cc
-is_stage_closed stage.Ready e = absurd cc
-is_stage_closed (stage.Asked tag) e = absurd cc
-is_stage_closed (stage.Challenged tag challenge) e = absurd cc
-is_stage_closed (stage.LoggingIn tag user) e = absurd cc
-is_stage_closed stage.Draining e = absurd cc
-is_stage_closed stage.Closed e = refl
 
 -- a closed session makes no turn
 turn_closed : (refused : Bool) (s : Scene) → s.talk.stage ≡ stage.Closed → (turn_of [] always refused s).1 ≡ s
@@ -28,7 +18,7 @@ turn_closed refused s e = rw e refl
 
 turn_by : (refused : Bool) (s : Scene) (b : Bool) → is_closed s.talk.stage ≡ b → did always refused Turn (world_of_one s) ≡ world_of_one (turn_of [] always refused s).1
 unfolding did
-turn_by refused s true e = rw e (ap world_of_one (sym (turn_closed refused s (is_stage_closed s.talk.stage e))))
+turn_by refused s true e = rw e (ap world_of_one (sym (turn_closed refused s (closed_is s.talk.stage e))))
 turn_by refused s false e = rw e refl
 
 turn_step : (refused : Bool) (s : Scene) → did always refused Turn (world_of_one s) ≡ world_of_one (turn_of [] always refused s).1
@@ -46,7 +36,7 @@ piece_step : (octets : List ℕ) (s : Scene) → MayTake octets s.talk → did a
 unfolding did
 piece_step octets s f = rw f.0 (ap (λ (more : List ℕ). world_of_one (hears more s)) (taken_whole octets s.talk f))
 
-run_append : (a b : List Step) (w : World) → world_after (a ++ b) w ≡ world_after b (world_after a w)
+pub run_append : (a b : List Step) (w : World) → world_after (a ++ b) w ≡ world_after b (world_after a w)
 run_append [] b w = refl
 run_append (x ∷ a) b w = run_append a b (did x.occasion x.refused x.deed w)
 

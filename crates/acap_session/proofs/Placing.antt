@@ -14,7 +14,7 @@ use Rattle.acap_session.specs.declared.turn.Turn as turned
 use Rattle.acap_session.specs.declared.world_fault.WorldFault.{WorldFault}
 use Rattle.acap_session.specs.declared.world_fault.WorldFault.TheVariants as faults
 
-place_or : (xs : Places) (k : ℕ) (d : Option Place) → k < length xs → place_at xs k ≡ get_or xs k d
+pub place_or : (xs : Places) (k : ℕ) (d : Option Place) → k < length xs → place_at xs k ≡ get_or xs k d
 place_or [] k d e = absurd (omega (arith, e))
 place_or (x ∷ xs) zero d e = refl
 place_or (x ∷ xs) (suc k) d e = place_or xs k d (omega (arith, e))
@@ -125,11 +125,11 @@ turn_cut old w v o place s out same e f g t = subst (λ (y : World). Turns o y v
 pub drain_made : (old w v : World) (o : Occasion) (place : Place) (x : turned.Turn) (s : Scene) (out : Result (Unit {0}) WorldFault) (u : Unit {0}) → w ≡ old → open_at w o.seat ≡ Some place → v ≡ with_scene w o.seat s → out ≡ Ok u → (x, s) ≡ drain_of o false (scene_of w place) → Drains o old v out
 drain_made old w v o place x s out u same e f g t = subst (λ (y : World). Drains o y v out) same (subst (λ r. Drains o w v r) (sym g) (is_there w o.seat place e, f ∙ drain_step w o place x s e t))
 
-open_is : (x : Option Place) (place : Place) → if_open x ≡ Some place → x ≡ Some place
+pub open_is : (x : Option Place) (place : Place) → if_open x ≡ Some place → x ≡ Some place
 open_is None place e = cc
 open_is (Some p) place e = sym (open_of (Some p) (sym (ap is_some e))) ∙ e
 
-same_placed : (xs : Places) (k : ℕ) (place : Place) → place_at xs k ≡ Some place → with_place xs k place ≡ xs
+pub same_placed : (xs : Places) (k : ℕ) (place : Place) → place_at xs k ≡ Some place → with_place xs k place ≡ xs
 same_placed [] k place e = absurd cc
 same_placed (x ∷ xs) zero place e = ap (λ y. y ∷ xs) (sym e)
 same_placed (x ∷ xs) (suc k) place e = ap (λ ys. x ∷ ys) (same_placed xs k place e)

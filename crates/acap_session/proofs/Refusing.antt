@@ -10,12 +10,12 @@ use Rattle.acap_commands.specs.declared.said.Said.TheVariants as said
 use Rattle.acap_lexer.specs.Held.{next_of}
 use Rattle.acap_lexer.specs.Stream.{end_of, part_end, progress, progress_from, progress_within, step_of}
 use Rattle.acap_lexer.specs.declared.lexed.Lexed.TheVariants as lexed
-use Rattle.acap_lexer.specs.declared.mode.Mode.TheVariants as mode
+use Rattle.acap_lexer.specs.declared.lexed.Mode.TheVariants as mode
 use Rattle.acap_machine.specs.Machine.{Machine, new_machine}
 use Rattle.acap_machine.proofs.SeatLemmas.{nobody_at}
 use Rattle.acap_machine.specs.Runs.{machine_after, outcome_of}
 use Rattle.acap_machine.specs.Stepping.{enter_answer as seating}
-use Rattle.acap_commands.specs.declared.fault.Fault.TheVariants as fault
+use Rattle.acap_commands.specs.declared.event.Fault.TheVariants as fault
 use Rattle.acap_dialogue.specs.Hearing.{response_to, opening}
 use Rattle.acap_session.specs.Laws.{IsUnder, RefusedTurns, WrittenLaw, told_first, refused_in, refused_of}
 use Rattle.acap_session.specs.Piping.{Fed, AreAnswered, IsQuiet, IsWritten, always, after_enter, after_piece, fed_all, hears, octets_of_pieces, turns, without_administrators}

@@ -2,6 +2,7 @@
 use Rattle.std.proofs.Common.{◌≡◌, ◌≢◌, ℕ, suc, ◌+◌, ◌==◌, Bool, true, false, ◌&&◌, List, [], ◌∷◌, ◌++◌, take, drop, Option, Some, None, refl, sym, ap, ◌∙◌, append_assoc, arith, slice_index}
 use Rattle.std.specs.Prelude.{flat_map, option_map}
 use Rattle.std.proofs.lemmas.List.{append-nil}
+use Rattle.acap_entries.proofs.Logic.{false_and}
 use Rattle.acap_lexer.specs.Stream.{end_of}
 use Rattle.acap_session.specs.ScriptOutput.{AreParts, IsCutBy, Shows, part_line}
 use Rattle.acap_session.specs.ScriptRun.{AreLines, IsLine, is_feed, lines_of, with_last}
@@ -56,12 +57,8 @@ cut_on c said (Some place) e f h =
 cut_on c [] None e f h = λ some. rw f refl
 cut_on c (d ∷ said) None e f h = λ some. rw f (ap (with_octet c) (h (λ none. cc)))
 
-no_feed : (b : Bool) → false ≡ (b && false)
-no_feed true = refl
-no_feed false = refl
-
 feeds : (c : ℕ) (said : List ℕ) → (c == 13 && slice_index said 0 == 10) ≡ true → CutAt (c ∷ said) (Some 0)
-feeds c [] e = absurd (let k = no_feed (c == 13) ∙ e in cc)
+feeds c [] e = absurd (let k = false_and (c == 13) ∙ e in cc)
 feeds c (d ∷ said) e = rw e refl
 
 by_test : (c : ℕ) (said : List ℕ) (b : Bool) → (c == 13 && slice_index said 0 == 10) ≡ b → CutAt said (end_of said) → CutAt (c ∷ said) (end_of (c ∷ said))

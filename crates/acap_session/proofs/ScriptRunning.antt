@@ -6,6 +6,7 @@ use Rattle.std.specs.Option.{is_some}
 use Rattle.std.specs.Prelude.{Vec}
 use Rattle.std.specs.declared.alloc.Global.{Global}
 use Rattle.std.proofs.lemmas.List.{append-nil, take-append-drop, drop_more}
+use Rattle.std.proofs.lemmas.Bool.{or_parts}
 use Rattle.acap_session.specs.Places.{place_at}
 use Rattle.acap_session.specs.Script.{Acts, AreDone, IsDone, MaySay, MaySpeak, Says, begins, is_wrong, may, world_of}
 use Rattle.acap_session.specs.ScriptOutput.{Shows}
@@ -87,13 +88,9 @@ lines_append (x ∷ a) b h k = (h.0, lines_append a b h.1 k)
 either : (a b : Bool) → a ≡ false → (a || b) ≡ b
 either a b e = rw e refl
 
-first_no : (a b : Bool) → (a || b) ≡ false → (a ≡ false) × (b ≡ false)
-first_no true b e = absurd cc
-first_no false b e = (refl, e)
-
 line_append : (a b : List ℕ) → IsLine a → IsLine b → IsLine (a ++ b)
 line_append [] b h k = k
-line_append (x ∷ a) b h k = let q = first_no (is_feed x) (list_any is_feed a) h in either (is_feed x) (list_any is_feed (a ++ b)) q.0 ∙ line_append a b q.1 k
+line_append (x ∷ a) b h k = let q = or_parts (is_feed x) (list_any is_feed a) h in either (is_feed x) (list_any is_feed (a ++ b)) q.0 ∙ line_append a b q.1 k
 
 -- ---- the lines of a piece
 

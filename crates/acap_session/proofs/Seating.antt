@@ -5,7 +5,7 @@ use Rattle.acap_commands.specs.declared.command.Command.{Command}
 use Rattle.acap_commands.specs.declared.refusal.Refusal.TheVariants as refusals
 use Rattle.acap_commands.specs.declared.reply.Reply.{Reply}
 use Rattle.acap_commands.specs.declared.said.Said.TheVariants as said
-use Rattle.acap_commands.specs.declared.verb.Verb.TheVariants as verb
+use Rattle.acap_commands.specs.declared.command.Verb.TheVariants as verb
 use Rattle.acap_machine.specs.Completing.{completes}
 use Rattle.acap_machine.specs.Machine.{Machine, user_at}
 use Rattle.acap_machine.specs.Runs.{machine_after, outcome_of}
@@ -13,8 +13,8 @@ use Rattle.acap_machine.specs.Serving.{answer_to}
 use Rattle.acap_machine.specs.Stepping.{by_user, drained_at, left_at, plain, reply_of, enter_answer as seating, step_of}
 use Rattle.acap_commands.specs.declared.event.Event.{Event}
 use Rattle.acap_commands.specs.declared.event.Event.TheVariants as event
-use Rattle.acap_commands.specs.declared.fault.Fault.{Fault}
-use Rattle.acap_commands.specs.declared.fault.Fault.TheVariants as fault
+use Rattle.acap_commands.specs.declared.event.Fault.{Fault}
+use Rattle.acap_commands.specs.declared.event.Fault.TheVariants as fault
 use Rattle.acap_machine.proofs.Completing.{completing}
 use Rattle.acap_machine.proofs.SeatLemmas.{entered_user, left_user}
 use Rattle.acap_machine.proofs.StepLaws.{others, stay_served, stay_drained}

@@ -5,14 +5,14 @@ use Rattle.acap_lexer.specs.Holding.{Held, held_limit}
 use Rattle.acap_lexer.specs.declared.fault.LexFault.{LexFault}
 use Rattle.acap_lexer.specs.declared.lexed.Lexed.{Lexed}
 use Rattle.acap_lexer.specs.declared.lexed.Lexed.TheVariants as lexed
-use Rattle.acap_lexer.specs.declared.mode.Mode.{Mode}
-use Rattle.acap_lexer.specs.declared.mode.Mode.TheVariants as mode
+use Rattle.acap_lexer.specs.declared.lexed.Mode.{Mode}
+use Rattle.acap_lexer.specs.declared.lexed.Mode.TheVariants as mode
 use Rattle.acap_lexer.proofs.Asking.{more_cases}
 use Rattle.acap_lexer.proofs.ProgressLaws.{leaves_room}
 use Rattle.acap_login.specs.Login.{User}
 use Rattle.acap_commands.specs.declared.reply.Reply.{Reply}
 use Rattle.acap_machine.specs.Runs.{outcome_of}
-use Rattle.acap_commands.specs.declared.fault.Fault.{Fault}
+use Rattle.acap_commands.specs.declared.event.Fault.{Fault}
 use Rattle.acap_dialogue.specs.Hearing.{response_to, heard_answer}
 use Rattle.acap_dialogue.specs.Session.{listening, session_next, next_at, after_answer, is_asked, is_closed, is_hearing}
 use Rattle.acap_dialogue.specs.Talking.{Talking}

@@ -362,7 +362,7 @@ closed_run seat (x ∷ steps) w p s c g =
     let rest = closed_run seat steps (did x.occasion x.refused x.deed w) p one.1 c parts.1 in
     ((λ i. one.0 i ++ rest.0 i), rest.1)
 
-closed_is : (x : Stage) → is_closed x ≡ true → x ≡ stage.Closed
+pub closed_is : (x : Stage) → is_closed x ≡ true → x ≡ stage.Closed
 closed_is stage.Closed e = refl
 closed_is stage.Opening e = cc
 closed_is stage.Entering e = cc

@@ -14,7 +14,7 @@ use Rattle.acap_machine.specs.Stepping.{step_of}
 use Rattle.acap_machine.specs.declared.step.Step.{Step as MachineStep}
 use Rattle.acap_commands.specs.declared.event.Event.{Event}
 use Rattle.acap_commands.specs.declared.event.Event.TheVariants as events
-use Rattle.acap_commands.specs.declared.fault.Fault.{Fault}
+use Rattle.acap_commands.specs.declared.event.Fault.{Fault}
 use Rattle.acap_session.specs.Piping.{Fed, IsWritten, always, after_enter, after_piece, hears}
 use Rattle.acap_session.specs.Places.{Place, place_at, if_open}
 use Rattle.acap_session.specs.Script.{IsQuiet}

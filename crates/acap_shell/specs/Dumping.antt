@@ -6,14 +6,14 @@ use Rattle.acap_entries.specs.declared.cell.Cell.TheVariants as cell
 use Rattle.acap_entries.specs.declared.path.Path.{Path}
 use Rattle.acap_commands.specs.Wanted.{One}
 use Rattle.acap_commands.specs.declared.command.Command.{Command}
-use Rattle.acap_commands.specs.declared.given.Given.TheVariants as given
-use Rattle.acap_commands.specs.declared.metadata.Metadata.{Metadata}
-use Rattle.acap_commands.specs.declared.metadata.Metadata.TheVariants as metadata
-use Rattle.acap_commands.specs.declared.return_name.ReturnName.TheVariants as name
+use Rattle.acap_commands.specs.declared.store.Given.TheVariants as given
+use Rattle.acap_commands.specs.declared.returns.Metadata.{Metadata}
+use Rattle.acap_commands.specs.declared.returns.Metadata.TheVariants as metadata
+use Rattle.acap_commands.specs.declared.returns.ReturnName.TheVariants as name
 use Rattle.acap_commands.specs.declared.search_modifiers.SearchModifiers.{SearchModifiers}
-use Rattle.acap_commands.specs.declared.store_item.StoreItem.{StoreItem}
-use Rattle.acap_commands.specs.declared.store_metadata.StoreMetadata.{StoreMetadata}
-use Rattle.acap_commands.specs.declared.store_metadata.StoreMetadata.TheVariants as stored
+use Rattle.acap_commands.specs.declared.store.StoreItem.{StoreItem}
+use Rattle.acap_commands.specs.declared.store.StoreMetadata.{StoreMetadata}
+use Rattle.acap_commands.specs.declared.store.StoreMetadata.TheVariants as stored
 use Rattle.acap_commands.specs.declared.test.Test.TheVariants as test
 use Rattle.acap_grammar.specs.Lines.{Datum, Word, Text, Empty, Pair}
 use Rattle.acap_shell.specs.Rows.{first_texts, inside}

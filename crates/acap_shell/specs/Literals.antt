@@ -1,8 +1,8 @@
 -- Long lists, as a STORE whose strings are literals [RFC 2244 sections 2.6.3 and 6.6.1].
 use Rattle.std.specs.Prelude.{ℕ, ◌+◌, ◌*◌, List, [], ◌∷◌, ◌++◌, codes, decimal, length, flat_map, sum_by}
 use Rattle.acap_entries.specs.declared.path.Path.{Path}
-use Rattle.acap_commands.specs.declared.store_metadata.StoreMetadata.{StoreMetadata}
-use Rattle.acap_commands.specs.declared.store_metadata.StoreMetadata.TheVariants as stored
+use Rattle.acap_commands.specs.declared.store.StoreMetadata.{StoreMetadata}
+use Rattle.acap_commands.specs.declared.store.StoreMetadata.TheVariants as stored
 
 -- at the most so many octets as quoted strings, with the space after each
 abbrev pub octets_in : List (List ℕ) → ℕ

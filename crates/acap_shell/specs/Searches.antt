@@ -7,11 +7,11 @@ use Rattle.acap_commands.specs.Modifiers.{no_modifiers}
 use Rattle.acap_commands.specs.Wanted.{Wanted, One, Not}
 use Rattle.acap_commands.specs.declared.command.Command.{Command}
 use Rattle.acap_commands.specs.declared.command.Command.TheVariants as command
-use Rattle.acap_commands.specs.declared.metadata.Metadata.{Metadata}
-use Rattle.acap_commands.specs.declared.metadata.Metadata.TheVariants as metadata
-use Rattle.acap_commands.specs.declared.relation.Relation.TheVariants as relation
-use Rattle.acap_commands.specs.declared.return_name.ReturnName.{ReturnName}
-use Rattle.acap_commands.specs.declared.return_name.ReturnName.TheVariants as name
+use Rattle.acap_commands.specs.declared.returns.Metadata.{Metadata}
+use Rattle.acap_commands.specs.declared.returns.Metadata.TheVariants as metadata
+use Rattle.acap_commands.specs.declared.test.Relation.TheVariants as relation
+use Rattle.acap_commands.specs.declared.returns.ReturnName.{ReturnName}
+use Rattle.acap_commands.specs.declared.returns.ReturnName.TheVariants as name
 use Rattle.acap_commands.specs.declared.search_modifiers.SearchModifiers.{SearchModifiers}
 use Rattle.acap_commands.specs.declared.target.Target.TheVariants as target
 use Rattle.acap_commands.specs.declared.test.Test.TheVariants as test

@@ -4,9 +4,9 @@ use Rattle.std.specs.Prelude.{ℕ, nat_le, Bool, true, List, [], ◌∷◌, ◌+
 use Rattle.std.specs.Prelude.{Option, Some, None, option_map, if◌then◌else◌}
 use Rattle.acap_commands.specs.Wanted.{Not}
 use Rattle.acap_commands.specs.declared.command.Command.{Command}
-use Rattle.acap_commands.specs.declared.make_context.MakeContext.{MakeContext}
+use Rattle.acap_commands.specs.declared.search_modifiers.MakeContext.{MakeContext}
 use Rattle.acap_commands.specs.declared.search_modifiers.SearchModifiers.{SearchModifiers}
-use Rattle.acap_commands.specs.declared.sort_item.SortItem.{SortItem}
+use Rattle.acap_commands.specs.declared.search_modifiers.SortItem.{SortItem}
 use Rattle.acap_grammar.specs.Lines.{Datum, Line, AddTo, RemoveFrom, Change}
 use Rattle.acap_shell.specs.Escapes.{printed_by}
 use Rattle.acap_shell.specs.Rows.{cell, values}

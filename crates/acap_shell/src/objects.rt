@@ -2,8 +2,8 @@
 
 ghost use Rattle.std.specs.Prelude.{◌≡◌, [], ◌∷◌, ◌++◌, IfOk, codes};
 ghost use Rattle.acap_commands.specs.declared.command.Command.TheVariants as command;
-ghost use Rattle.acap_commands.specs.declared.metadata.Metadata.TheVariants as metadata;
-ghost use Rattle.acap_commands.specs.declared.return_name.ReturnName.TheVariants as name;
+ghost use Rattle.acap_commands.specs.declared.returns.Metadata.TheVariants as metadata;
+ghost use Rattle.acap_commands.specs.declared.returns.ReturnName.TheVariants as name;
 ghost use Rattle.acap_shell.specs.Objects as objects;
 ghost use Rattle.acap_shell.specs.Searches as search;
 

@@ -6,19 +6,19 @@ use Rattle.std.specs.Char.{encode_utf8}
 use Rattle.std.specs.Str.{is_utf8, chars}
 use Rattle.std.specs.List.{list_any, AllByRecursion}
 use Rattle.std.specs.List.Sorted.{IsStrictlySortedBy}
-use Rattle.std.specs.Ordering.{eq_by_cmp, is_lt}
-use Rattle.std.specs.declared.cmp.Ordering.{Ordering}
-use Rattle.std.specs.declared.cmp.Ordering.TheVariants.{Less, Equal, Greater}
+use Rattle.std.specs.Ordering.{eq_by_cmp}
+use Rattle.std.specs.declared.cmp.Ordering.TheVariants.{Less}
 use Rattle.std.specs.FinMap as table
 use Rattle.std.specs.FinMap.{get-empty, get-insert, contains_key-keys, entries_sorted, is_sorted}
 use Rattle.std.specs.FinMap.Entries.{below_all}
-use Rattle.std.proofs.lemmas.Map.Text.{is_eq-slice_cmp}
+use Rattle.std.proofs.Math.Bool.{and-false, and-true, or-false}
 use Rattle.acap_entries.specs.Homes.{is_home, for_user}
 use Rattle.acap_entries.specs.Names.{components, is_component, dataset_of, name_of, is_dataset_argument}
 use Rattle.acap_entries.specs.Orders.{octets_cmp, octets_eq}
 use Rattle.acap_entries.specs.Store.{Stored, path_cmp}
 use Rattle.acap_entries.specs.declared.deletion.Deletion.{Deletion}
 use Rattle.acap_entries.specs.declared.record.Record.{Record}
+use Rattle.acap_entries.proofs.Logic.{first_T, second_T, Less_from_T, or_swapped}
 use Rattle.acap_rights.specs.Keeping.{target_of_list}
 use Rattle.acap_rights.specs.Pairs.{pair_of, is_identifier}
 use Rattle.acap_rights.specs.declared.rights.Rights.{Rights}
@@ -29,7 +29,7 @@ use Rattle.acap_store.specs.Limits.{is_full_after}
 use Rattle.acap_store.specs.Meaning.{meaning}
 use Rattle.acap_store.specs.Permission.{denied_in}
 use Rattle.acap_store.specs.Refusing.{no_exist, modified}
-use Rattle.acap_store.proofs.DatasetLemmas.{and_false, and_true, or_false}
+use Rattle.acap_store.proofs.DatasetLaws.{tie}
 
 pub item_examples : (records : Stored) → ItemExamples records
 unfolding invalid is_invalid target_of_list pair_of is_identifier is_dataset_argument components is_component is_utf8 chars encode_utf8
@@ -44,7 +44,7 @@ item_examples records = record {
   no_lists = refl;
   base = refl;
   beside = λ item. refl;
-  above = λ items e same. rw same (ap not (and_false _));
+  above = λ items e same. rw same (ap not (and-false _));
   alike = λ e same none. rw (same, none) refl;
   makes_none = λ none. rw none refl;
   makes_one = λ found some. rw some refl;
@@ -136,31 +136,9 @@ writing_examples = record {
 
 -- ---- what DELETEDSINCE tells
 
-is_less : (o : Ordering) → T (is_lt o) → o ≡ Less
-is_less Less p = refl
-is_less Equal p = absurd p
-is_less Greater p = absurd p
-
-first : (a b : Bool) → T (a && b) → T a
-first true b p = tt
-first false b p = p
-
-second : (a b : Bool) → T (a && b) → T b
-second true b p = p
-second false b p = absurd p
-
-tie : (a b : List ℕ) → eq_by_cmp octets_cmp a b ≡ octets_eq a b
-tie a b = is_eq-slice_cmp a b
-
 any_key : (n : List ℕ) (es : List (List ℕ × Unit {0})) → list_any (eq_by_cmp octets_cmp n) (map (λ e. e.0) es) ≡ list_any (octets_eq n) (map (λ e. e.0) es)
 any_key n [] = refl
 any_key n (e ∷ es) = ap (λ b. b || list_any (eq_by_cmp octets_cmp n) (map (λ e. e.0) es)) (tie n e.0) ∙ ap (λ b. octets_eq n e.0 || b) (any_key n es)
-
-or_swap : (a b c : Bool) → (a || (b || c)) ≡ ((b || a) || c)
-or_swap true true c = refl
-or_swap true false c = refl
-or_swap false true c = refl
-or_swap false false c = refl
 
 one_name : (b : Bool) (old : Option (Unit {0})) → is_some (cond b (Some tt) old) ≡ (b || is_some old)
 one_name true old = refl
@@ -172,29 +150,29 @@ has_name n set (name ∷ names) =
     has_name n (table.insert set name tt) names
     ∙ ap (λ o. list_any (octets_eq n) names || is_some o) (get-insert nat_list_cmp_total set name tt n)
     ∙ ap (λ b. list_any (octets_eq n) names || b) (one_name (eq_by_cmp octets_cmp n name) (table.get set n) ∙ ap (λ b. b || is_some (table.get set n)) (tie n name))
-    ∙ or_swap (list_any (octets_eq n) names) (octets_eq n name) (is_some (table.get set n))
+    ∙ or_swapped (list_any (octets_eq n) names) (octets_eq n name) (is_some (table.get set n))
 
 ascending_has : (n : List ℕ) (names : List (List ℕ)) → list_any (octets_eq n) (ascending names) ≡ list_any (octets_eq n) names
 unfolding ascending
 ascending_has n names =
     sym (any_key n (table.entries (set_of names))) ∙ sym (contains_key-keys (set_of names) n)
-    ∙ has_name n table.empty names ∙ ap (λ o. list_any (octets_eq n) names || is_some o) (get-empty octets_cmp n) ∙ or_false _
+    ∙ has_name n table.empty names ∙ ap (λ o. list_any (octets_eq n) names || is_some o) (get-empty octets_cmp n) ∙ or-false _
 
 told_names : (n : List ℕ) (test : Deletion → Bool) (ds : List Deletion) → list_any (octets_eq n) (map (λ d. d.path.name) (filter test ds)) ≡ list_any (λ d. octets_eq n d.path.name && test d) ds
 told_names n test [] = refl
 told_names n test (d ∷ ds) = elim (test d) as (λ b. list_any (octets_eq n) (map (λ d. d.path.name) (cond b (d ∷ filter test ds) (filter test ds))) ≡ ((octets_eq n d.path.name && b) || list_any (λ d. octets_eq n d.path.name && test d) ds)) [
-  | true ↦ ap (λ b. octets_eq n d.path.name || b) (told_names n test ds) ∙ ap (λ b. b || list_any (λ d. octets_eq n d.path.name && test d) ds) (sym (and_true (octets_eq n d.path.name)))
-  | false ↦ told_names n test ds ∙ ap (λ b. b || list_any (λ d. octets_eq n d.path.name && test d) ds) (sym (and_false (octets_eq n d.path.name)))
+  | true ↦ ap (λ b. octets_eq n d.path.name || b) (told_names n test ds) ∙ ap (λ b. b || list_any (λ d. octets_eq n d.path.name && test d) ds) (sym (and-true (octets_eq n d.path.name)))
+  | false ↦ told_names n test ds ∙ ap (λ b. b || list_any (λ d. octets_eq n d.path.name && test d) ds) (sym (and-false (octets_eq n d.path.name)))
 ]
 
 all_above : (x : List ℕ) (es : List (List ℕ × Unit {0})) → T (below_all octets_cmp x es) → AllByRecursion (λ y. octets_cmp x y ≡ Less) (map (λ e. e.0) es)
 all_above x [] h = tt
-all_above x (e ∷ es) h = (is_less _ (first _ _ h), all_above x es (second _ _ h))
+all_above x (e ∷ es) h = (Less_from_T _ (first_T _ _ h), all_above x es (second_T _ _ h))
 
 rising : (es : List (List ℕ × Unit {0})) → T (is_sorted octets_cmp es) → IsStrictlySortedBy octets_cmp (map (λ e. e.0) es)
 unfolding IsStrictlySortedBy
 rising [] h = tt
-rising (e ∷ es) h = (all_above e.0 es (first _ _ h), rising es (second _ _ h))
+rising (e ∷ es) h = (all_above e.0 es (first_T _ _ h), rising es (second_T _ _ h))
 
 names_rise : (names : List (List ℕ)) → IsStrictlySortedBy octets_cmp (ascending names)
 unfolding ascending

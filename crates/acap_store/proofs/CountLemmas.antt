@@ -1,9 +1,7 @@
 -- How many records there are after writes.
-use Rattle.std.proofs.Common.{◌≡◌, ℕ, zero, suc, ◌+◌, ◌<◌, Bool, true, false, ◌&&◌, cond, T, List, [], ◌∷◌, length, Option, Some, None, refl, sym, ap, ◌∙◌, ◌≤◌, arith}
+use Rattle.std.proofs.Common.{◌≡◌, ℕ, zero, suc, ◌+◌, ◌<◌, Bool, true, false, cond, T, List, [], ◌∷◌, length, Option, Some, None, refl, sym, ap, ◌∙◌, ◌≤◌, arith}
 use Rattle.std.specs.Prelude.{filter, is_none, is_some, nat_lt, ◌-◌}
-use Rattle.std.specs.declared.cmp.Ordering.{Ordering}
-use Rattle.std.specs.declared.cmp.Ordering.TheVariants.{Less, Equal, Greater}
-use Rattle.std.specs.Ordering.{is_eq, is_lt}
+use Rattle.std.specs.Ordering.{is_eq}
 use Rattle.std.specs.FinMap as table
 use Rattle.std.specs.FinMap.{find, is_sorted, entries_sorted, len-entries, len-insert, len-remove}
 use Rattle.std.specs.FinMap.Entries.{below_all}
@@ -13,33 +11,21 @@ use Rattle.acap_entries.specs.declared.fate.Fate.TheVariants.{Put, Remove}
 use Rattle.acap_entries.specs.declared.path.Path.{Path}
 use Rattle.acap_entries.specs.declared.record.Record.{Record}
 use Rattle.acap_entries.proofs.StoreLemmas.{path_cmp_total, get_written}
+use Rattle.acap_entries.proofs.Logic.{first_T, second_T, Less_from_T}
 use Rattle.acap_store.specs.Counting.{is_new, is_gone}
 use Rattle.acap_store.specs.Limits.{is_full_after}
 use Rattle.std.proofs.lemmas.List.Sums.{length-filter, count_by-le-length}
 use Rattle.std.proofs.lemmas.Bool.{lt-ltb, le-ltb, ltb-false, ltb-true}
 
-first : (a b : Bool) → T (a && b) → T a
-first true b p = tt
-first false b p = p
-
-second : (a b : Bool) → T (a && b) → T b
-second true b p = p
-second false b p = absurd p
-
-is_less : (o : Ordering) → T (is_lt o) → o ≡ Less
-is_less Less p = refl
-is_less Equal p = absurd p
-is_less Greater p = absurd p
-
 -- a key below all others is not among them
 not_below : (p : Path) (ws : List (Path × Fate)) → T (below_all path_cmp p ws) → find path_cmp p ws ≡ None
 not_below p [] h = refl
 not_below p (w ∷ ws) h =
-    ap (λ o. cond (is_eq o) (Some w.1) (find path_cmp p ws)) (is_less _ (first _ _ h)) ∙ not_below p ws (second _ _ h)
+    ap (λ o. cond (is_eq o) (Some w.1) (find path_cmp p ws)) (Less_from_T _ (first_T _ _ h)) ∙ not_below p ws (second_T _ _ h)
 
 -- so what is there before the others are written is there after it
 get_before : (w : Path × Fate) (ws : List (Path × Fate)) (records : Stored) → T (is_sorted path_cmp (w ∷ ws)) → table.get (after_writes ws records) w.0 ≡ table.get records w.0
-get_before w ws records h = get_written ws records w.0 ∙ ap (λ o. after_fate o (table.get records w.0)) (not_below w.0 ws (first _ _ h))
+get_before w ws records h = get_written ws records w.0 ∙ ap (λ o. after_fate o (table.get records w.0)) (not_below w.0 ws (first_T _ _ h))
 
 -- a map that has a key is not empty
 some_there : (m : Stored) (p : Path) (entry : Record) → table.get m p ≡ Some entry → 0 < table.len m
@@ -83,7 +69,7 @@ counted_in : (ws : List (Path × Fate)) (records : Stored) → T (is_sorted path
 counted_in [] records h = omega arith
 counted_in (w ∷ ws) records h =
     let one : table.len (after_writes (w ∷ ws) records) + cond (is_gone records w) 1 0 ≡ table.len (after_writes ws records) + cond (is_new records w) 1 0 = one_write w.1 w.0 (after_writes ws records) records (get_before w ws records h) in
-    let others : table.len (after_writes ws records) + length (filter (is_gone records) ws) ≡ table.len records + length (filter (is_new records) ws) = counted_in ws records (second (below_all path_cmp w.0 ws) (is_sorted path_cmp ws) h) in
+    let others : table.len (after_writes ws records) + length (filter (is_gone records) ws) ≡ table.len records + length (filter (is_new records) ws) = counted_in ws records (second_T (below_all path_cmp w.0 ws) (is_sorted path_cmp ws) h) in
     let gone : length (filter (is_gone records) (w ∷ ws)) ≡ cond (is_gone records w) 1 0 + length (filter (is_gone records) ws) = count_one (is_gone records) w ws in
     let made : length (filter (is_new records) (w ∷ ws)) ≡ cond (is_new records w) 1 0 + length (filter (is_new records) ws) = count_one (is_new records) w ws in
     omega (arith, one, others, gone, made)

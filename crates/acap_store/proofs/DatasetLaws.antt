@@ -2,14 +2,15 @@
 use Rattle.std.proofs.Common.{◌≡◌, ℕ, zero, suc, Bool, true, false, not, cond, ◌&&◌, ◌||◌, List, [], ◌∷◌, ◌++◌, length, map, Option, Some, None, refl, sym, ap, subst, ◌∙◌, arith, ℤ}
 use Rattle.std.specs.Prelude.{find, codes, option_map, is_none, is_some, ◌==◌, nat_eq}
 use Rattle.std.proofs.lemmas.Map.Text.{is_eq-slice_cmp}
-use Rattle.std.proofs.lemmas.Bool.{eqb-true}
-use Rattle.std.specs.Cmp.{unsigned_Decides}
+use Rattle.std.proofs.lemmas.Bool.{eqb-true, not-true, not-false, and_from}
+use Rattle.std.specs.Cmp.{unsigned_Decides, first_so, second_so}
 use Rattle.std.specs.Cmp.Lexicographic.{nat_list_cmp_total}
 use Rattle.std.specs.List.{list_any, list_all, starts_with}
 use Rattle.std.specs.Option.{option_map_or, option_or}
 use Rattle.std.specs.Ordering.{eq_by_cmp}
 use Rattle.std.specs.FinMap as table
 use Rattle.std.specs.FinMap.{get-insert, get-remove, get-empty}
+use Rattle.std.proofs.Math.Bool.{or-false, and-false}
 use Rattle.acap_entries.specs.Changes.{store_after}
 use Rattle.acap_entries.specs.Datasets.{dataset_exists, is_dot_list}
 use Rattle.acap_entries.specs.Names.{slash, own_entry}
@@ -21,11 +22,12 @@ use Rattle.acap_entries.specs.declared.cell.Cell.TheVariants.{Nil, Single, Multi
 use Rattle.acap_entries.specs.declared.fate.Fate.TheVariants as fate
 use Rattle.acap_entries.specs.declared.path.Path.{Path}
 use Rattle.acap_entries.specs.declared.record.Record.{Record}
-use Rattle.acap_commands.specs.declared.given.Given.{Given}
-use Rattle.acap_commands.specs.declared.given.Given.TheVariants.{Put, Default}
+use Rattle.acap_entries.proofs.Logic.{first_not, second_not, or_swapped}
+use Rattle.acap_commands.specs.declared.store.Given.{Given}
+use Rattle.acap_commands.specs.declared.store.Given.TheVariants.{Put, Default}
 use Rattle.acap_commands.specs.declared.refusal.Refusal.{Refusal}
-use Rattle.acap_commands.specs.declared.store_entry.StoreEntry.{StoreEntry}
-use Rattle.acap_commands.specs.declared.store_item.StoreItem.{StoreItem}
+use Rattle.acap_commands.specs.declared.store.StoreEntry.{StoreEntry}
+use Rattle.acap_commands.specs.declared.store.StoreItem.{StoreItem}
 use Rattle.acap_inherit.specs.Chains.{chain_within}
 use Rattle.acap_inherit.specs.Resolving.{lookup, by_cell, by_record}
 use Rattle.acap_rights.specs.declared.realm.Realm.{Realm}
@@ -39,8 +41,8 @@ use Rattle.acap_store.specs.Permission.{permission}
 use Rattle.acap_store.specs.Limits.{gives_large}
 use Rattle.acap_commands.specs.declared.refusal.Refusal.TheVariants as refusal
 use Rattle.acap_store.specs.Writing.{Celled, with_value, with_values, with_named, with_given, kept_as, cells_of, given_record, fate_of, entry_at, steps_for, step_at, record_with_steps, missing_for, missing_to, missing_within, own_if_missing, deletes, ends, written_for}
-use Rattle.acap_store.specs.declared.meant.Meant.{Meant}
-use Rattle.acap_store.proofs.DatasetLemmas.{first_true, second_true, both_true, not_true, or_false, and_false, octets_same, octets_refl, paths_same, own_whole, append_behind, makes_at, exists_by, exists_without, missing_is, found_as, found_has, not_found_none, some_found}
+use Rattle.acap_store.specs.declared.write.Meant.{Meant}
+use Rattle.acap_store.proofs.DatasetLemmas.{not_true, octets_same, octets_refl, paths_same, own_whole, append_behind, makes_at, exists_by, exists_without, missing_is, found_as, found_has, not_found_none, some_found}
 use Rattle.acap_store.proofs.StoreLaws.{path_law, steps_at, order}
 
 abbrev sub : List ℕ
@@ -48,30 +50,14 @@ sub = codes "subdataset"
 
 -- ---- what is valid
 
-first_false : (a b : Bool) → a || b ≡ false → a ≡ false
-first_false true b e = cc
-first_false false b e = refl
-
-second_false : (a b : Bool) → a || b ≡ false → b ≡ false
-second_false true b e = cc
-second_false false b e = e
-
-is_held : (b : Bool) → not b ≡ false → b ≡ true
-is_held true e = refl
-is_held false e = cc
-
-is_unheld : (b : Bool) → not b ≡ true → b ≡ false
-is_unheld true e = cc
-is_unheld false e = refl
-
 -- an item that is valid has a value that its attribute may have
 value_held : (records : Stored) (all : List StoreEntry) (e : StoreEntry) (item : StoreItem) → is_invalid records all e item ≡ false → is_value item.metadata ≡ true → may_be_value records all e item ≡ true
 unfolding is_invalid
-value_held records all e item h v = is_held _ (ap (λ b. b && not (may_be_value records all e item)) (sym v) ∙ second_false _ _ h)
+value_held records all e item h v = not-false _ (ap (λ b. b && not (may_be_value records all e item)) (sym v) ∙ second_not _ _ h)
 
 -- ---- items that say nothing of `subdataset`, and those that do
 
-tie : (a b : List ℕ) → eq_by_cmp octets_cmp a b ≡ octets_eq a b
+pub tie : (a b : List ℕ) → eq_by_cmp octets_cmp a b ≡ octets_eq a b
 tie a b = is_eq-slice_cmp a b
 
 turned : (a b : List ℕ) → octets_eq a b ≡ false → octets_eq b a ≡ false
@@ -90,7 +76,7 @@ other_cell user p cells attribute Default e = elim (octets_eq attribute (codes "
 
 dot_cell : (user : List ℕ) (p : Path) (cells : Celled) (given : Given) → is_dot given ≡ true → is_dot_list (table.get (with_named user p cells sub given) sub) ≡ true
 dot_cell user p cells (Put value) e =
-    let plain : kept_as user p sub value ≡ value = ap (λ b. cond b (Rattle.acap_store.specs.Writing.as_base user value) value) (and_false (is_management p)) in
+    let plain : kept_as user p sub value ≡ value = ap (λ b. cond b (Rattle.acap_store.specs.Writing.as_base user value) value) (and-false (is_management p)) in
     ap is_dot_list (get-insert nat_list_cmp_total cells sub (kept_as user p sub value) sub) ∙ ap (λ v. is_dot_list (Some v)) plain ∙ e
 dot_cell user p cells Default e = cc
 
@@ -109,45 +95,39 @@ one_value records all e user cells item h =
           ] refl
     ] refl
 
-swap : (a b c : Bool) → (a || (b || c)) ≡ ((b || a) || c)
-swap true true c = refl
-swap true false c = refl
-swap false true c = refl
-swap false false c = refl
-
 -- once valid items are given, the cells say `subdataset` (".") where an item gives it, or they said so
 all_values : (records : Stored) (all : List StoreEntry) (e : StoreEntry) (user : List ℕ) (cells : Celled) (items : List StoreItem) → list_any (is_invalid records all e) items ≡ false →
     is_dot_list (table.get (with_values user e.path cells items) sub) ≡ (list_any (is_of sub) items || is_dot_list (table.get cells sub))
 all_values records all e user cells [] h = refl
 all_values records all e user cells (item ∷ items) h =
-    all_values records all e user (with_value user e.path cells item) items (second_false _ _ h)
-    ∙ ap (λ b. list_any (is_of sub) items || b) (one_value records all e user cells item (first_false _ _ h))
-    ∙ swap (list_any (is_of sub) items) (is_of sub item) (is_dot_list (table.get cells sub))
+    all_values records all e user (with_value user e.path cells item) items (second_not _ _ h)
+    ∙ ap (λ b. list_any (is_of sub) items || b) (one_value records all e user cells item (first_not _ _ h))
+    ∙ or_swapped (list_any (is_of sub) items) (is_of sub item) (is_dot_list (table.get cells sub))
 
 -- ---- entries that end
 
 ending_entry : (item : StoreItem) → is_ending item ≡ true → item.attribute ≡ codes "entry"
-ending_entry item h = octets_same item.attribute (codes "entry") (second_true _ _ (first_true _ _ h))
+ending_entry item h = octets_same item.attribute (codes "entry") (second_so _ _ (first_so _ _ h))
 
 ending_may : (records : Stored) (all : List StoreEntry) (e : StoreEntry) (items : List StoreItem) → list_any (is_invalid records all e) items ≡ false → list_any is_ending items ≡ true → may_end records all e ≡ true
 ending_may records all e [] h = λ g. cc
 ending_may records all e (item ∷ items) h =
     elim (is_ending item) as (λ b. is_ending item ≡ b → b || list_any is_ending items ≡ true → may_end records all e ≡ true) [
       | true ↦ λ b g.
-          let may = value_held records all e item (first_false _ _ h) (first_true _ _ (first_true _ _ b)) in
-          let nothing : is_nothing item.given ≡ true = second_true _ _ b in
+          let may = value_held records all e item (first_not _ _ h) (first_so _ _ (first_so _ _ b)) in
+          let nothing : is_nothing item.given ≡ true = second_so _ _ b in
           sym (ap (λ t. cond t (may_end records all e) (Rattle.acap_store.specs.Invalid.is_string e.path.name item.given)) nothing)
           ∙ sym (ap (λ a. cond (octets_eq a sub) (is_dot item.given) (cond (octets_eq a (codes "entry")) (may_be_entry records all e item.given) (cond (is_management e.path && octets_eq a (codes "dataset.inherit")) (Rattle.acap_store.specs.Invalid.may_be_base item.given) true))) (ending_entry item b))
           ∙ may
-      | false ↦ λ b g. ending_may records all e items (second_false _ _ h) g
+      | false ↦ λ b g. ending_may records all e items (second_not _ _ h) g
     ] refl
 
 -- what ends says nothing of `subdataset`
 sole : (items : List StoreItem) → (length items == 1) ≡ true → list_any is_ending items ≡ true → list_any (is_of sub) items ≡ false
 sole [] h g = cc
 sole (item ∷ []) h g =
-    let same = ending_entry item (sym (or_false (is_ending item)) ∙ g) in
-    or_false (is_of sub item) ∙ ap (λ a. is_value item.metadata && octets_eq a sub) same ∙ and_false (is_value item.metadata)
+    let same = ending_entry item (sym (or-false (is_ending item)) ∙ g) in
+    or-false (is_of sub item) ∙ ap (λ a. is_value item.metadata && octets_eq a sub) same ∙ and-false (is_value item.metadata)
 sole (item ∷ other ∷ items) h g = let one : length (item ∷ other ∷ items) ≡ 1 = eqb-true _ _ h in absurd (omega (arith, one))
 
 -- an entry without `subdataset` makes no dataset
@@ -168,12 +148,12 @@ makes_none records p (Some entry) e h =
 
 starts_self : (xs : List ℕ) → starts_with nat_eq xs xs ≡ true
 starts_self [] = refl
-starts_self (x ∷ xs) = both_true _ _ ((unsigned_Decides x x).1 refl) (starts_self xs)
+starts_self (x ∷ xs) = and_from _ _ ((unsigned_Decides x x).1 refl) (starts_self xs)
 
 starts_longer : (xs ys zs : List ℕ) → starts_with nat_eq xs zs ≡ true → starts_with nat_eq (xs ++ ys) zs ≡ true
 starts_longer xs ys [] e = refl
 starts_longer [] ys (z ∷ zs) e = cc
-starts_longer (x ∷ xs) ys (z ∷ zs) e = both_true _ _ (first_true _ _ e) (starts_longer xs ys zs (second_true _ _ e))
+starts_longer (x ∷ xs) ys (z ∷ zs) e = and_from _ _ (first_so _ _ e) (starts_longer xs ys zs (second_so _ _ e))
 
 way_begins : (n : ℕ) (x d : List ℕ) → list_any (λ step. octets_eq d step) (way_within n x) ≡ true → starts_with nat_eq x d ≡ true
 way_begins zero x d = λ e. cc
@@ -207,8 +187,8 @@ no_way (e ∷ entries) d own p q same h =
     let here : list_any (λ step. octets_eq d step) (way_to e.path.dataset) ≡ false = not_true _ (λ w.
     let begins = way_begins (length e.path.dataset) e.path.dataset d w in
     let whole : p.dataset ++ p.name ++ slash ∷ [] ≡ d = ap (λ (r : Path). r.dataset ++ r.name ++ slash ∷ []) (sym same) ∙ append_behind own.0 own.1 (slash ∷ []) ∙ own_whole d own q in
-    sym (first_false _ _ h) ∙ ap (λ t. starts_with nat_eq e.path.dataset t) whole ∙ begins) in
-    ap (λ b. b || is_on_way entries d) here ∙ no_way entries d own p q same (second_false _ _ h)
+    sym (first_not _ _ h) ∙ ap (λ t. starts_with nat_eq e.path.dataset t) whole ∙ begins) in
+    ap (λ b. b || is_on_way entries d) here ∙ no_way entries d own p q same (second_not _ _ h)
 
 -- ---- what a path has
 
@@ -260,8 +240,8 @@ deletes_ends : (items : List StoreItem) → list_any is_ending items ≡ false �
 deletes_ends [] h = refl
 deletes_ends (item ∷ items) h =
     let here : Rattle.acap_store.specs.Writing.is_deleting item ≡ false = not_true _ (λ d.
-    sym (first_false (is_ending item) (list_any is_ending items) h) ∙ both_true (is_of (codes "entry") item) (is_nothing item.given) (first_true (is_of (codes "entry") item) (Rattle.acap_store.specs.Writing.is_nil item.given) d) (nil_is_nothing item.given (second_true (is_of (codes "entry") item) (Rattle.acap_store.specs.Writing.is_nil item.given) d))) in
-    ap (λ b. b || list_any Rattle.acap_store.specs.Writing.is_deleting items) here ∙ deletes_ends items (second_false _ _ h)
+    sym (first_not (is_ending item) (list_any is_ending items) h) ∙ and_from (is_of (codes "entry") item) (is_nothing item.given) (first_so (is_of (codes "entry") item) (Rattle.acap_store.specs.Writing.is_nil item.given) d) (nil_is_nothing item.given (second_so (is_of (codes "entry") item) (Rattle.acap_store.specs.Writing.is_nil item.given) d))) in
+    ap (λ b. b || list_any Rattle.acap_store.specs.Writing.is_deleting items) here ∙ deletes_ends items (second_not _ _ h)
 
 -- ---- what an entry writes
 
@@ -282,7 +262,7 @@ last_swap : (g x w : Bool) → (g || (x || w)) ≡ ((x || w) || g)
 last_swap true true w = refl
 last_swap true false true = refl
 last_swap true false false = refl
-last_swap false x w = sym (or_false (x || w))
+last_swap false x w = sym (or-false (x || w))
 
 -- an entry that is valid, by all that is known of its path
 one_entry : (records : Stored) (user : List ℕ) (all : List StoreEntry) (moment : ℤ) (d : List ℕ) (own : List ℕ × List ℕ) (e : StoreEntry) (way existed : Bool) →
@@ -292,9 +272,9 @@ one_entry records user all moment d own e way existed q same valid housed on the
     elim (ends e) as (λ b. ends e ≡ b → makes_at (after_fate (Some (fate_of user (after_step records moment e.path way existed) moment e)) (table.get records e.path)) ≡ ((existed || way) || gets_subdataset e)) [
       | true ↦ λ h.
           let may = ending_may records all e e.items valid h in
-          let one = first_true _ _ (first_true _ _ (first_true _ _ may)) in
-          let unvalued : is_some (resolved_at records e.path sub) ≡ false = is_unheld _ (second_true _ _ (first_true _ _ may)) in
-          let alone : list_any (λ other. lies_beneath e.path other.path) all ≡ false = is_unheld _ (second_true _ _ may) in
+          let one = first_so _ _ (first_so _ _ (first_so _ _ may)) in
+          let unvalued : is_some (resolved_at records e.path sub) ≡ false = not-true _ (second_so _ _ (first_so _ _ may)) in
+          let alone : list_any (λ other. lies_beneath e.path other.path) all ≡ false = not-true _ (second_so _ _ may) in
           let nowhere : existed ≡ false = sym there ∙ makes_none records e.path (table.get records e.path) refl unvalued in
           let off : way ≡ false = sym on ∙ no_way all d own e.path q same alone in
           let silent : gets_subdataset e ≡ false = sole e.items one h in
@@ -345,7 +325,7 @@ at_path records user meant moment d own None q valid housed f =
     let missing = missing_is records meant.entries d own q ∙ ap (λ b. is_on_way meant.entries d && not b) (exists_by records d own q) in
     ap (λ o. makes_at (after_fate o (table.get records (own_path own)))) (step_is records moment (own_path own) (missing_for records meant.entries) _ missing)
     ∙ made_by_step records moment (own_path own) (is_on_way meant.entries d) existed refl
-    ∙ sym (or_false (existed || is_on_way meant.entries d))
+    ∙ sym (or-false (existed || is_on_way meant.entries d))
 at_path records user meant moment d own (Some e) q valid housed f =
     let same : own_path own ≡ e.path = paths_same (own_path own) e.path (found_has (λ e. same_path (own_path own) e.path) meant.entries e f) in
     let existed = makes_at (table.get records (own_path own)) in
@@ -365,7 +345,7 @@ pub after_is : (records : Stored) (user : List ℕ) (meant : Meant) (moment : �
 after_is records user meant moment after valid housed law d =
     elim (own_entry d) as (λ o. own_entry d ≡ o → dataset_exists after d ≡ (dataset_exists records d || is_on_way meant.entries d || option_map_or (λ own. is_made_at meant.entries (own_path own)) o false)) [
       | None ↦ λ q.
-          exists_without after d q ∙ sym (or_false _ ∙ ap (λ b. b || is_on_way meant.entries d) (exists_without records d q) ∙ ap (λ b. octets_eq d (slash ∷ []) || b) (on_none meant.entries d q) ∙ or_false _)
+          exists_without after d q ∙ sym (or-false _ ∙ ap (λ b. b || is_on_way meant.entries d) (exists_without records d q) ∙ ap (λ b. octets_eq d (slash ∷ []) || b) (on_none meant.entries d q) ∙ or-false _)
       | (Some own) ↦ λ q.
           let p = own_path own in
           exists_by after d own q

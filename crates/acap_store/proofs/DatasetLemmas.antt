@@ -6,6 +6,9 @@ use Rattle.std.proofs.lemmas.Slice.Eq.{bytes_eq-Decides}
 use Rattle.std.specs.List.{list_any}
 use Rattle.std.specs.Option.{option_map_or, option_and_then}
 use Rattle.std.specs.FinMap as table
+use Rattle.std.proofs.Math.Bool.{or-false, and-false, and-true}
+use Rattle.std.proofs.lemmas.Bool.{and_from}
+use Rattle.std.specs.Cmp.{second_so, first_so}
 use Rattle.acap_entries.proofs.OwnLaws.{own_entry_law}
 use Rattle.acap_entries.specs.Datasets.{dataset_exists, makes_dataset}
 use Rattle.acap_entries.specs.Names.{slash, own_entry, dataset_of}
@@ -14,7 +17,8 @@ use Rattle.acap_entries.specs.Store.{Stored, path_cmp}
 use Rattle.acap_entries.specs.declared.fate.Fate.{Fate}
 use Rattle.acap_entries.specs.declared.path.Path.{Path}
 use Rattle.acap_entries.specs.declared.record.Record.{Record}
-use Rattle.acap_commands.specs.declared.store_entry.StoreEntry.{StoreEntry}
+use Rattle.acap_entries.proofs.Logic.{same_from_both, either_and}
+use Rattle.acap_commands.specs.declared.store.StoreEntry.{StoreEntry}
 use Rattle.acap_store.specs.DatasetLaws.{own_path, way_within, way_to, is_on_way}
 use Rattle.acap_store.specs.Refusing.{same_path}
 use Rattle.acap_store.specs.Writing.{missing_within, missing_to, missing_for, own_if_missing}
@@ -22,37 +26,9 @@ use Rattle.acap_store.proofs.StoreLaws.{path_tie}
 
 -- ---- tests
 
-pub iff_bool : (a b : Bool) → (a ≡ true → b ≡ true) → (b ≡ true → a ≡ true) → a ≡ b
-iff_bool true b f g = sym (f refl)
-iff_bool false true f g = g refl
-iff_bool false false f g = refl
-
-pub first_true : (a b : Bool) → a && b ≡ true → a ≡ true
-first_true true b e = refl
-first_true false b e = cc
-
-pub second_true : (a b : Bool) → a && b ≡ true → b ≡ true
-second_true true b e = e
-second_true false b e = cc
-
-pub both_true : (a b : Bool) → a ≡ true → b ≡ true → a && b ≡ true
-both_true a b p q = ap (λ t. t && b) p ∙ q
-
 pub not_true : (a : Bool) → (a ≡ true → false ≡ true) → a ≡ false
 not_true true f = sym (f refl)
 not_true false f = refl
-
-pub or_false : (b : Bool) → b || false ≡ b
-or_false true = refl
-or_false false = refl
-
-pub and_false : (b : Bool) → b && false ≡ false
-and_false true = refl
-and_false false = refl
-
-pub and_true : (b : Bool) → b && true ≡ b
-and_true true = refl
-and_true false = refl
 
 pub octets_same : (a b : List ℕ) → octets_eq a b ≡ true → a ≡ b
 octets_same a b e = (bytes_eq-Decides a b).0 e
@@ -62,12 +38,12 @@ octets_refl a b e = (bytes_eq-Decides a b).1 e
 
 pub paths_same : (p q : Path) → same_path p q ≡ true → p ≡ q
 paths_same p q e =
-    let dataset = octets_same p.dataset q.dataset (first_true _ _ e) in
-    let name = octets_same p.name q.name (second_true _ _ e) in
+    let dataset = octets_same p.dataset q.dataset (first_so _ _ e) in
+    let name = octets_same p.name q.name (second_so _ _ e) in
     λ i. record { dataset = dataset i; name = name i }
 
 pub paths_refl : (p q : Path) → p ≡ q → same_path p q ≡ true
-paths_refl p q e = both_true _ _ (octets_refl p.dataset q.dataset (ap (λ (r : Path). r.dataset) e)) (octets_refl p.name q.name (ap (λ (r : Path). r.name) e))
+paths_refl p q e = and_from _ _ (octets_refl p.dataset q.dataset (ap (λ (r : Path). r.dataset) e)) (octets_refl p.name q.name (ap (λ (r : Path). r.name) e))
 
 -- ---- own entries
 
@@ -81,7 +57,7 @@ own_whole d own e = sym (append_behind own.0 own.1 (slash ∷ [])) ∙ ((own_ent
 
 -- so datasets with the same own entry are the same
 pub own_tie : (d x : List ℕ) (a b : List ℕ × List ℕ) → own_entry d ≡ Some a → own_entry x ≡ Some b → same_path (own_path a) (own_path b) ≡ octets_eq d x
-own_tie d x a b p q = iff_bool _ _
+own_tie d x a b p q = same_from_both _ _
     (λ e. let same = paths_same (own_path a) (own_path b) e in
     octets_refl d x (sym (own_whole d a p) ∙ ap (λ (r : Path). r.dataset ++ (r.name ++ slash ∷ [])) same ∙ own_whole x b q))
     (λ e. let one : Some a ≡ Some b = sym p ∙ ap own_entry (octets_same d x e) ∙ q in
@@ -103,13 +79,13 @@ exists_by records d own e =
 
 pub exists_without : (records : Stored) (d : List ℕ) → own_entry d ≡ None → dataset_exists records d ≡ octets_eq d (slash ∷ [])
 exists_without records d e =
-    ap (λ o. octets_eq d (slash ∷ []) || option_map_or makes_dataset (option_and_then (λ o. table.get records (own_path o)) o) false) e ∙ or_false _
+    ap (λ o. octets_eq d (slash ∷ []) || option_map_or makes_dataset (option_and_then (λ o. table.get records (own_path o)) o) false) e ∙ or-false _
 
 -- ---- what is missing on the ways to datasets
 
 pub any_own : (p q : Path) (b : Bool) → list_any (same_path p) (cond b [] (q ∷ [])) ≡ (same_path p q && not b)
-any_own p q true = sym (and_false (same_path p q))
-any_own p q false = or_false (same_path p q) ∙ sym (and_true (same_path p q))
+any_own p q true = sym (and-false (same_path p q))
+any_own p q false = or-false (same_path p q) ∙ sym (and-true (same_path p q))
 
 and_same : (a b c : Bool) → (a ≡ true → b ≡ c) → (a && not b) ≡ (a && not c)
 and_same true b c f = ap not (f refl)
@@ -124,16 +100,6 @@ shared false true true = refl
 shared false true false = refl
 shared false false true = refl
 shared false false false = refl
-
-shared_too : (a b n : Bool) → ((a && n) || (b && n)) ≡ ((a || b) && n)
-shared_too true true true = refl
-shared_too true true false = refl
-shared_too true false true = refl
-shared_too true false false = refl
-shared_too false true true = refl
-shared_too false true false = refl
-shared_too false false true = refl
-shared_too false false false = refl
 
 missing_step : (records : Stored) (d x : List ℕ) (own o : List ℕ × List ℕ) → own_entry d ≡ Some own → own_entry x ≡ Some o →
     list_any (same_path (own_path own)) (own_if_missing records x o) ≡ (octets_eq d x && not (dataset_exists records d))
@@ -165,7 +131,7 @@ missing_is records (e ∷ entries) d own p =
     list_any-append (same_path (own_path own)) (missing_to records e.path.dataset) (missing_for records entries)
     ∙ ap (λ b. b || list_any (same_path (own_path own)) (missing_for records entries)) (missing_one records (length e.path.dataset) e.path.dataset d own p)
     ∙ ap (λ b. (list_any (λ step. octets_eq d step) (way_to e.path.dataset) && not (dataset_exists records d)) || b) (missing_is records entries d own p)
-    ∙ shared_too (list_any (λ step. octets_eq d step) (way_to e.path.dataset)) (is_on_way entries d) (not (dataset_exists records d))
+    ∙ either_and (list_any (λ step. octets_eq d step) (way_to e.path.dataset)) (is_on_way entries d) (not (dataset_exists records d))
 
 -- ---- what is found of a list that is written
 

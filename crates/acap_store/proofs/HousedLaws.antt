@@ -6,6 +6,8 @@ use Rattle.std.specs.List.{list_any, list_all}
 use Rattle.std.specs.Option.{option_map_or, option_or}
 use Rattle.std.specs.FinMap as table
 use Rattle.std.specs.FinMap.{get-empty}
+use Rattle.std.proofs.lemmas.Bool.{or_right, or_left}
+use Rattle.std.specs.Cmp.{first_so, second_so}
 use Rattle.acap_entries.specs.Changes.{store_after}
 use Rattle.acap_entries.specs.Datasets.{dataset_exists}
 use Rattle.acap_entries.specs.Names.{slash, own_entry}
@@ -16,7 +18,7 @@ use Rattle.acap_entries.specs.declared.change.Change.{Change}
 use Rattle.acap_entries.specs.declared.fate.Fate.TheVariants as fate
 use Rattle.acap_entries.specs.declared.path.Path.{Path}
 use Rattle.acap_entries.specs.declared.record.Record.{Record}
-use Rattle.acap_commands.specs.declared.store_entry.StoreEntry.{StoreEntry}
+use Rattle.acap_commands.specs.declared.store.StoreEntry.{StoreEntry}
 use Rattle.acap_rights.specs.declared.realm.Realm.{Realm}
 use Rattle.acap_store.specs.DatasetLaws.{HousedLaw, own_path, way_within, way_to, is_on_way, is_made, reaches_within, is_absolute}
 use Rattle.acap_store.specs.Laws.{entries_of}
@@ -24,19 +26,12 @@ use Rattle.acap_store.specs.Planning.{plan}
 use Rattle.acap_store.specs.Refusing.{same_path}
 use Rattle.acap_store.specs.Writing.{missing_for, missing_to, missing_within, own_if_missing, entry_at, step_at, steps_for, record_with_steps, fate_of, deletes, ends, deleted_record, given_record}
 use Rattle.acap_store.specs.declared.write.Write.{Write}
-use Rattle.acap_store.proofs.DatasetLemmas.{first_true, second_true, any_own, octets_refl, paths_same, not_root, found_as, found_has}
+use Rattle.acap_store.proofs.DatasetLemmas.{any_own, octets_refl, paths_same, not_root, found_as, found_has}
 use Rattle.acap_store.proofs.DatasetLaws.{dataset_law, step_is}
 use Rattle.acap_store.proofs.StoreLaws.{path_law}
 
 abbrev root : List ℕ
 root = slash ∷ []
-
-left_or : (a b : Bool) → a ≡ true → a || b ≡ true
-left_or a b e = ap (λ t. t || b) e
-
-right_or : (a b : Bool) → b ≡ true → a || b ≡ true
-right_or true b e = refl
-right_or false b e = e
 
 -- `/`, or on the way
 abbrev at_home : List (List ℕ) → List ℕ → Bool
@@ -47,14 +42,14 @@ own_way : (n : ℕ) (x : List ℕ) → reaches_within n x ≡ true → at_home (
 own_way zero x = λ e. cc
 own_way (suc n) x = elim (own_entry x) as (λ o. octets_eq x root || option_map_or (λ own. reaches_within n own.0) o false ≡ true → octets_eq x root || list_any (λ step. octets_eq x step) (option_map_or (λ o. x ∷ way_within n o.0) o []) ≡ true) [
   | None ↦ λ e. e
-  | (Some o) ↦ λ e. right_or (octets_eq x root) _ (left_or (octets_eq x x) _ (octets_refl x x refl))
+  | (Some o) ↦ λ e. or_right (octets_eq x root) _ (or_left (octets_eq x x) _ (octets_refl x x refl))
 ]
 
 -- so is the dataset of the own entry of each dataset on the way
 longer : (x d : List ℕ) (way : List (List ℕ)) → at_home way d ≡ true → at_home (x ∷ way) d ≡ true
 longer x d way = elim (octets_eq d root) as (λ b. b || list_any (λ step. octets_eq d step) way ≡ true → b || (octets_eq d x || list_any (λ step. octets_eq d step) way) ≡ true) [
   | true ↦ λ e. refl
-  | false ↦ λ e. right_or (octets_eq d x) _ e
+  | false ↦ λ e. or_right (octets_eq d x) _ e
 ]
 
 missing_home : (records : Stored) (n : ℕ) (x : List ℕ) (p : Path) → reaches_within n x ≡ true → list_any (same_path p) (missing_within n records x) ≡ true → at_home (way_within n x) p.dataset ≡ true
@@ -69,7 +64,7 @@ missing_home records (suc n) x p = elim (own_entry x) as (λ o. own_entry x ≡ 
           longer x p.dataset (way_within n o.0) (elim (list_any (same_path p) (missing_within n records o.0)) as (λ b. list_any (same_path p) (missing_within n records o.0) ≡ b → b || list_any (same_path p) (own_if_missing records x o) ≡ true → at_home (way_within n o.0) p.dataset ≡ true) [
             | true ↦ λ b g. missing_home records n o.0 p up b
             | false ↦ λ b g.
-                let same = paths_same p (own_path o) (first_true _ _ (sym (any_own p (own_path o) (dataset_exists records x)) ∙ g)) in
+                let same = paths_same p (own_path o) (first_so _ _ (sym (any_own p (own_path o) (dataset_exists records x)) ∙ g)) in
                 ap (λ (q : Path). at_home (way_within n o.0) q.dataset) same ∙ own_way n o.0 up
           ] refl parts)
     ] refl
@@ -81,13 +76,13 @@ on_some entries d = octets_eq d root || is_on_way entries d
 among_here : (way : List (List ℕ)) (d : List ℕ) (others : Bool) → at_home way d ≡ true → octets_eq d root || (list_any (λ step. octets_eq d step) way || others) ≡ true
 among_here way d others = elim (octets_eq d root) as (λ b. b || list_any (λ step. octets_eq d step) way ≡ true → b || (list_any (λ step. octets_eq d step) way || others) ≡ true) [
   | true ↦ λ e. refl
-  | false ↦ λ e. left_or _ others e
+  | false ↦ λ e. or_left _ others e
 ]
 
 among_others : (here : Bool) (d : List ℕ) (entries : List StoreEntry) → on_some entries d ≡ true → octets_eq d root || (here || is_on_way entries d) ≡ true
 among_others here d entries = elim (octets_eq d root) as (λ b. b || is_on_way entries d ≡ true → b || (here || is_on_way entries d) ≡ true) [
   | true ↦ λ e. refl
-  | false ↦ λ e. right_or here _ e
+  | false ↦ λ e. or_right here _ e
 ]
 
 entry_home : (test : StoreEntry → Bool) (entries : List StoreEntry) (e : StoreEntry) → list_all (λ e. is_absolute e.path.dataset) entries ≡ true → find test entries ≡ Some e → on_some entries e.path.dataset ≡ true
@@ -96,8 +91,8 @@ entry_home test (x ∷ entries) e h = elim (test x) as (λ b. cond b (Some x) (f
   | true ↦ λ g.
       let same : x ≡ e = cc in
       subst (λ (y : StoreEntry). on_some (x ∷ entries) y.path.dataset ≡ true) same
-      (among_here (way_to x.path.dataset) x.path.dataset (is_on_way entries x.path.dataset) (own_way (length x.path.dataset) x.path.dataset (first_true _ _ h)))
-  | false ↦ λ g. among_others (list_any (λ step. octets_eq e.path.dataset step) (way_to x.path.dataset)) e.path.dataset entries (entry_home test entries e (second_true _ _ h) g)
+      (among_here (way_to x.path.dataset) x.path.dataset (is_on_way entries x.path.dataset) (own_way (length x.path.dataset) x.path.dataset (first_so _ _ h)))
+  | false ↦ λ g. among_others (list_any (λ step. octets_eq e.path.dataset step) (way_to x.path.dataset)) e.path.dataset entries (entry_home test entries e (second_so _ _ h) g)
 ]
 
 step_home : (records : Stored) (entries : List StoreEntry) (p : Path) → list_all (λ e. is_absolute e.path.dataset) entries ≡ true → list_any (same_path p) (missing_for records entries) ≡ true → on_some entries p.dataset ≡ true
@@ -105,8 +100,8 @@ step_home records [] p h g = cc
 step_home records (x ∷ entries) p h g =
     let parts = sym (list_any-append (same_path p) (missing_to records x.path.dataset) (missing_for records entries)) ∙ g in
     elim (list_any (same_path p) (missing_to records x.path.dataset)) as (λ b. list_any (same_path p) (missing_to records x.path.dataset) ≡ b → b || list_any (same_path p) (missing_for records entries) ≡ true → on_some (x ∷ entries) p.dataset ≡ true) [
-      | true ↦ λ b t. among_here (way_to x.path.dataset) p.dataset (is_on_way entries p.dataset) (missing_home records (length x.path.dataset) x.path.dataset p (first_true _ _ h) b)
-      | false ↦ λ b t. among_others (list_any (λ step. octets_eq p.dataset step) (way_to x.path.dataset)) p.dataset entries (step_home records entries p (second_true _ _ h) t)
+      | true ↦ λ b t. among_here (way_to x.path.dataset) p.dataset (is_on_way entries p.dataset) (missing_home records (length x.path.dataset) x.path.dataset p (first_so _ _ h) b)
+      | false ↦ λ b t. among_others (list_any (λ step. octets_eq p.dataset step) (way_to x.path.dataset)) p.dataset entries (step_home records entries p (second_so _ _ h) t)
     ] refl parts
 
 -- ---- what a record is
@@ -116,7 +111,7 @@ some_same a b e = cc
 
 by_root : (is_root known way : Bool) → (is_root ≡ true → known ≡ true) → is_root || way ≡ true → known || way ≡ true
 by_root true known way f e = ap (λ b. b || way) (f refl)
-by_root false known way f e = right_or known way e
+by_root false known way f e = or_right known way e
 
 -- what an entry writes that isn't present has no `subdataset`
 written_absent : (user : List ℕ) (old before : Option Record) (moment : ℤ) (e : StoreEntry) (entry : Record) → after_fate (Some (fate_of user old moment e)) before ≡ Some entry → entry.present ≡ false → table.get entry.cells (codes "subdataset") ≡ None
@@ -129,7 +124,7 @@ written_absent user old before moment e entry = elim (deletes e) as (λ b. after
 ]
 
 root_exists : (records : Stored) (d : List ℕ) → octets_eq d root ≡ true → dataset_exists records d ≡ true
-root_exists records d e = left_or (octets_eq d root) _ e
+root_exists records d e = or_left (octets_eq d root) _ e
 
 module _ (s : Store) (realm : Realm) (user : List ℕ) (write : Write) (now : ℤ) (change : Change) (made : plan s realm user write now ≡ Ok change) (housed : IsHoused s.records) where
   abbrev entries : List StoreEntry
@@ -144,7 +139,7 @@ module _ (s : Store) (realm : Realm) (user : List ℕ) (write : Write) (now : �
   there : (d : List ℕ) → on_some entries d ≡ true → dataset_exists after d ≡ true
   there d e =
       dataset_law s realm user write now change made housed d
-      ∙ left_or (dataset_exists s.records d || is_on_way entries d) (is_made entries d) (by_root (octets_eq d root) (dataset_exists s.records d) (is_on_way entries d) (root_exists s.records d) e)
+      ∙ or_left (dataset_exists s.records d || is_on_way entries d) (is_made entries d) (by_root (octets_eq d root) (dataset_exists s.records d) (is_on_way entries d) (root_exists s.records d) e)
 
   -- what a record of afterwards is: what an entry or a step wrote, or what was there before
   abbrev pub here : Path → Option StoreEntry → Bool → Option Record

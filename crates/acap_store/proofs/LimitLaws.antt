@@ -12,7 +12,7 @@ use Rattle.acap_entries.specs.declared.fate.Fate.TheVariants.{Put, Remove}
 use Rattle.acap_entries.specs.declared.path.Path.{Path}
 use Rattle.acap_entries.specs.declared.record.Record.{Record}
 use Rattle.acap_entries.proofs.StoreLemmas.{path_cmp_total}
-use Rattle.acap_commands.specs.declared.store_entry.StoreEntry.{StoreEntry}
+use Rattle.acap_commands.specs.declared.store.StoreEntry.{StoreEntry}
 use Rattle.acap_store.specs.Counting.{is_new, is_gone}
 use Rattle.acap_store.specs.Laws.{RoomLaw, StepsLaw}
 use Rattle.acap_store.specs.Limits.{is_crowded, writes_crowded, is_full_after}

@@ -7,7 +7,7 @@ use Rattle.acap_store.specs.Refusing.{first_of}
 use Rattle.acap_store.specs.Limits.{gives_large}
 use Rattle.acap_store.specs.Planning.{unless_refused, written_at, refusals_by_terms, refusals_by_room, refusals_of, room_refusal, change_of, planned_for}
 use Rattle.acap_store.specs.Writing.{written_for}
-use Rattle.acap_store.specs.declared.meant.Meant.{Meant}
+use Rattle.acap_store.specs.declared.write.Meant.{Meant}
 use Rattle.acap_entries.specs.Store.{Store}
 use Rattle.acap_rights.specs.declared.realm.Realm.{Realm}
 use Rattle.std.specs.Prelude.{Result, Ok, Err}

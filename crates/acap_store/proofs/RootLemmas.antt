@@ -1,7 +1,7 @@
 -- Which ways up end at `/`.
-use Rattle.std.proofs.Common.{◌≡◌, ℕ, zero, suc, ◌+◌, ◌<◌, ◌≤◌, Bool, true, false, cond, ◌&&◌, ◌||◌, List, [], ◌∷◌, ◌++◌, length, Some, None, refl, ap, ◌∙◌, arith}
+use Rattle.std.proofs.Common.{◌≡◌, ℕ, zero, suc, ◌+◌, ◌<◌, ◌≤◌, true, false, cond, ◌&&◌, ◌||◌, List, [], ◌∷◌, ◌++◌, length, Some, None, ap, ◌∙◌, arith}
 use Rattle.std.specs.Prelude.{take, drop, codes, ◌-◌, ◌==◌}
-use Rattle.std.proofs.lemmas.Bool.{eqb-true}
+use Rattle.std.proofs.lemmas.Bool.{eqb-true, or_right, and_from}
 use Rattle.std.specs.Option.{option_map_or}
 use Rattle.acap_entries.specs.Homes.{for_user, is_home, second_at}
 use Rattle.acap_entries.specs.Names.{slash, has, begins_with, ends_with, own_entry, dataset_of, name_of}
@@ -9,7 +9,7 @@ use Rattle.acap_entries.specs.Orders.{octets_eq}
 use Rattle.acap_entries.proofs.NameLemmas.{for_user_closed}
 use Rattle.acap_entries.proofs.OwnLaws.{cut_closed, cut_begins, dataset_cut}
 use Rattle.acap_store.specs.DatasetLaws.{RootLaw, reaches_within, is_absolute}
-use Rattle.acap_store.proofs.DatasetLemmas.{both_true, octets_refl}
+use Rattle.acap_store.proofs.DatasetLemmas.{octets_refl}
 use Rattle.acap_store.proofs.WriteLemmas.{parent_shorter}
 
 -- ---- a dataset that begins and ends with a slash has a parent that does, or is `/`
@@ -22,11 +22,7 @@ parent x y rest e closed =
     let some : has slash path ≡ true = ap (λ b. b || has slash (take (length rest) (y ∷ rest))) e in
     let ends : ends_with slash (dataset_of path) ≡ true = ap (ends_with slash) (dataset_cut path) ∙ cut_closed path some in
     ap (λ t. cond (ends_with slash (x ∷ y ∷ rest) && ends_with slash (dataset_of t)) (Some (dataset_of t, name_of t)) None) whole
-    ∙ ap (λ b. cond b (Some (dataset_of path, name_of path)) None) (both_true _ _ closed ends)
-
-right_or : (a b : Bool) → b ≡ true → a || b ≡ true
-right_or true b e = refl
-right_or false b e = e
+    ∙ ap (λ b. cond b (Some (dataset_of path, name_of path)) None) (and_from _ _ closed ends)
 
 root_within : (n : ℕ) (d : List ℕ) → length d ≤ n → begins_with slash d ≡ true → ends_with slash d ≡ true → reaches_within n d ≡ true
 root_within zero [] p b e = cc
@@ -40,7 +36,7 @@ root_within (suc n) (x ∷ y ∷ rest) p b e =
     let some : has slash path ≡ true = ap (λ t. t || has slash (take (length rest) (y ∷ rest))) b in
     let ends : ends_with slash (dataset_of path) ≡ true = ap (ends_with slash) (dataset_cut path) ∙ cut_closed path some in
     let begins : begins_with slash (dataset_of path) ≡ true = ap (begins_with slash) (dataset_cut path) ∙ cut_begins x (take (length rest) (y ∷ rest)) b in
-    right_or (octets_eq (x ∷ y ∷ rest) (slash ∷ [])) _ (ap (λ o. option_map_or (λ own. reaches_within n own.0) o false) own ∙ root_within n (dataset_of path) (omega (arith, p, shorter)) begins ends)
+    or_right (octets_eq (x ∷ y ∷ rest) (slash ∷ [])) _ (ap (λ o. option_map_or (λ own. reaches_within n own.0) o false) own ∙ root_within n (dataset_of path) (omega (arith, p, shorter)) begins ends)
 
 rooted : (d : List ℕ) → begins_with slash d ≡ true → ends_with slash d ≡ true → is_absolute d ≡ true
 rooted d b e = root_within (length d) d (omega arith) b e

@@ -1,20 +1,15 @@
 -- What is put twice is put once: so datasets that entries share are made for the first of them alone.
 use Rattle.std.proofs.Common.{◌≡◌, true, false, cond, List, [], ◌∷◌, ◌++◌, map, Option, Some, refl, sym, ap, ◌∙◌}
-use Rattle.std.specs.Ordering.{eq_by_cmp, is_eq}
+use Rattle.std.specs.Ordering.{eq_by_cmp}
 use Rattle.std.specs.FinMap as table
-use Rattle.std.specs.FinMap.{IsAntisymmetric, get-insert, same_map}
-use Rattle.acap_entries.proofs.StoreLemmas.{path_cmp_total}
+use Rattle.std.specs.FinMap.{get-insert, same_map}
+use Rattle.acap_entries.proofs.StoreLemmas.{path_cmp_total, path_same}
 use Rattle.acap_entries.specs.Store.{Stored, Written, path_cmp}
 use Rattle.acap_entries.specs.declared.fate.Fate.{Fate}
 use Rattle.acap_entries.specs.declared.path.Path.{Path}
-use Rattle.acap_commands.specs.declared.store_entry.StoreEntry.{StoreEntry}
+use Rattle.acap_commands.specs.declared.store.StoreEntry.{StoreEntry}
 use Rattle.acap_store.specs.Writing.{put_all, missing_to, missing_for}
-use Rattle.acap_store.proofs.DatasetLemmas.{paths_same}
-use Rattle.acap_store.proofs.StoreLaws.{path_tie}
 use Rattle.acap_store.proofs.WriteLemmas.{last_entry}
-
-one_path : IsAntisymmetric path_cmp
-one_path p q e = paths_same p q (sym (path_tie p q) ∙ ap is_eq e)
 
 -- what is put at a path, the first of some that stands there, or what was
 put_at : List (Path × Fate) → Path → Option Fate → Option Fate
@@ -36,7 +31,7 @@ put_at_again (x ∷ xs) p o = elim (eq_by_cmp path_cmp p x.0) as (λ b. cond b (
 
 -- to put the same again changes nothing
 pub put_again : (xs : List (Path × Fate)) (w : Written) → put_all xs (put_all xs w) ≡ put_all xs w
-put_again xs w = same_map path_cmp_total one_path _ _ (λ p. get_put xs (put_all xs w) p ∙ ap (put_at xs p) (get_put xs w p) ∙ put_at_again xs p (table.get w p) ∙ sym (get_put xs w p))
+put_again xs w = same_map path_cmp_total path_same _ _ (λ p. get_put xs (put_all xs w) p ∙ ap (put_at xs p) (get_put xs w p) ∙ put_at_again xs p (table.get w p) ∙ sym (get_put xs w p))
 
 -- the last of some entries whose dataset was made asks for nothing
 pub made_before : (records : Stored) (f : Path → Path × Fate) (entries : List StoreEntry) (e : StoreEntry) (w : Written) → put_all (map f (missing_to records e.path.dataset)) w ≡ w

@@ -1,14 +1,12 @@
 -- Refusals in their order, and what is written and when.
-use Rattle.std.proofs.Common.{◌≡◌, ℕ, zero, suc, subst, arith, ℤ, pos, negsuc, ◌+ℤ◌, Bool, true, false, cond, ◌&&◌, ◌||◌, List, [], ◌∷◌, ◌++◌, map, Option, Some, None, Ok, Err, refl, sym, ap, ◌∙◌}
+use Rattle.std.proofs.Common.{◌≡◌, ℕ, zero, suc, subst, arith, ℤ, pos, negsuc, ◌+ℤ◌, true, false, cond, ◌&&◌, List, [], ◌∷◌, ◌++◌, map, Option, Some, None, Ok, Err, refl, sym, ap, ◌∙◌}
 use Rattle.std.specs.Prelude.{int_lt, is_none, unwrap_or}
 use Rattle.std.proofs.lemmas.Bool.{lt-ltb}
 use Rattle.std.proofs.lemmas.Map.Text.{is_eq-slice_cmp}
 use Rattle.std.proofs.Math.IntN.{suc_ℤ, +ℤ_one}
 use Rattle.std.specs.List.{list_any, list_all}
 use Rattle.std.specs.Option.{option_or}
-use Rattle.std.specs.Ordering.{eq_by_cmp, int_eq, is_eq, ordering_then}
-use Rattle.std.specs.declared.cmp.Ordering.{Ordering}
-use Rattle.std.specs.declared.cmp.Ordering.TheVariants.{Less, Equal, Greater}
+use Rattle.std.specs.Ordering.{eq_by_cmp, int_eq, is_eq}
 use Rattle.std.specs.FinMap.{find, get, empty, get-insert, get-empty}
 use Rattle.acap_entries.specs.Moments.{moment_after, last_moment}
 use Rattle.acap_entries.specs.Orders.{octets_cmp, octets_eq}
@@ -19,7 +17,7 @@ use Rattle.acap_entries.specs.declared.fate.Fate.{Fate}
 use Rattle.acap_entries.proofs.StoreLemmas.{path_cmp_total}
 use Rattle.acap_commands.specs.declared.refusal.Refusal.{Refusal}
 use Rattle.acap_commands.specs.declared.refusal.Refusal.TheVariants as refusal
-use Rattle.acap_commands.specs.declared.store_entry.StoreEntry.{StoreEntry}
+use Rattle.acap_commands.specs.declared.store.StoreEntry.{StoreEntry}
 use Rattle.acap_rights.specs.declared.realm.Realm.{Realm}
 use Rattle.acap_store.specs.Laws.{OrderLaw, IsFirst, PathLaw, KeptLaw, LaterLaw, refusals, entries_of}
 use Rattle.acap_store.specs.Limits.{gives_large, is_too_much}
@@ -27,8 +25,9 @@ use Rattle.acap_store.specs.Meaning.{meaning}
 use Rattle.acap_store.specs.Planning.{planned_for, refusals_of, refusals_by_terms, unless_refused, change_of, written_at}
 use Rattle.acap_store.specs.Refusing.{first_of, same_path, refused_if}
 use Rattle.acap_store.specs.Writing.{put_all, written_for, steps_for, entry_at, step_at, missing_for}
-use Rattle.acap_store.specs.declared.meant.Meant.{Meant}
+use Rattle.acap_store.specs.declared.write.Meant.{Meant}
 use Rattle.acap_entries.proofs.AfterLemmas.{get_after}
+use Rattle.acap_entries.proofs.Logic.{first_not, second_not, is_eq-then}
 
 -- ---- the first refusal
 
@@ -117,34 +116,21 @@ path_law s realm user write now change e p =
 
 -- ---- what is kept
 
-both_equal : (a b : Ordering) → is_eq (ordering_then a b) ≡ (is_eq a && is_eq b)
-both_equal Less b = refl
-both_equal Equal b = refl
-both_equal Greater b = refl
-
 octets_same : (a b : List ℕ) → is_eq (octets_cmp a b) ≡ octets_eq a b
 octets_same a b = is_eq-slice_cmp a b
 
 pub path_tie : (p q : Path) → eq_by_cmp path_cmp p q ≡ same_path p q
 path_tie p q =
-    both_equal (octets_cmp p.dataset q.dataset) (octets_cmp p.name q.name)
+    is_eq-then (octets_cmp p.dataset q.dataset) (octets_cmp p.name q.name)
     ∙ ap (λ b. b && is_eq (octets_cmp p.name q.name)) (octets_same p.dataset q.dataset)
     ∙ ap (λ b. octets_eq p.dataset q.dataset && b) (octets_same p.name q.name)
-
-either_false : (a b : Bool) → (a || b) ≡ false → a ≡ false
-either_false true b e = cc
-either_false false b e = refl
-
-other_false : (a b : Bool) → (a || b) ≡ false → b ≡ false
-other_false true b e = cc
-other_false false b e = e
 
 -- what is written of a list at paths of its own is nowhere else
 not_found : {A : Type 0} (at : A → Path) (fate : A → Fate) (p : Path) (xs : List A) → list_any (λ x. same_path p (at x)) xs ≡ false → find path_cmp p (map (λ x. (at x, fate x)) xs) ≡ None
 not_found at fate p [] e = refl
 not_found at fate p (x ∷ xs) e =
-    ap (λ b. cond b (Some (fate x)) (find path_cmp p (map (λ x. (at x, fate x)) xs))) (path_tie p (at x) ∙ either_false _ _ e)
-    ∙ not_found at fate p xs (other_false _ _ e)
+    ap (λ b. cond b (Some (fate x)) (find path_cmp p (map (λ x. (at x, fate x)) xs))) (path_tie p (at x) ∙ first_not _ _ e)
+    ∙ not_found at fate p xs (second_not _ _ e)
 
 pub kept_law : KeptLaw
 kept_law s realm user write now change e p no_entry no_step =

@@ -5,37 +5,25 @@ use Rattle.std.specs.List.{list_any, slice_get}
 use Rattle.std.specs.Ordering.{is_eq}
 use Rattle.std.specs.declared.cmp.Ordering.TheVariants.{Less}
 use Rattle.std.specs.FinMap.Entries.{below_all}
+use Rattle.std.proofs.Math.Bool.{or-true, or-false}
 use Rattle.acap_entries.specs.Store.{path_cmp}
 use Rattle.acap_entries.specs.declared.path.Path.{Path}
 use Rattle.acap_entries.proofs.StoreLemmas.{path_cmp_total}
-use Rattle.acap_entries.proofs.SortedLemmas.{first, second, is_less, rises_behind}
+use Rattle.acap_entries.proofs.SortedLemmas.{rises_behind}
+use Rattle.acap_entries.proofs.Logic.{or_regrouped, or_crossed, first_T, second_T, Less_from_T, same_from_both}
 use Rattle.acap_commands.specs.EntryOrder.{has_path}
-use Rattle.acap_commands.specs.declared.store_entry.StoreEntry.{StoreEntry}
+use Rattle.acap_commands.specs.declared.store.StoreEntry.{StoreEntry}
 use Rattle.acap_store.specs.Refusing.{same_path, has_twice}
 use Rattle.acap_store.specs.Rising.{with_path, rising}
-use Rattle.acap_store.proofs.DatasetLemmas.{iff_bool, paths_same, paths_refl, or_false}
+use Rattle.acap_store.proofs.DatasetLemmas.{paths_same, paths_refl}
 use Rattle.acap_store.proofs.StoreLaws.{path_tie}
 
 turned : (p q : Path) → same_path p q ≡ same_path q p
-turned p q = iff_bool _ _ (λ e. paths_refl q p (sym (paths_same p q e))) (λ e. paths_refl p q (sym (paths_same q p e)))
-
-or_true : (b : Bool) → b || true ≡ true
-or_true true = refl
-or_true false = refl
-
-grouped : (a b c : Bool) → (a || (b || c)) ≡ ((a || b) || c)
-grouped true b c = refl
-grouped false b c = refl
+turned p q = same_from_both _ _ (λ e. paths_refl q p (sym (paths_same p q e))) (λ e. paths_refl p q (sym (paths_same q p e)))
 
 any_last : (test : StoreEntry → Bool) (xs : List StoreEntry) (e : StoreEntry) → list_any test (xs ++ e ∷ []) ≡ (list_any test xs || test e)
-any_last test [] e = or_false (test e)
-any_last test (x ∷ xs) e = ap (λ b. test x || b) (any_last test xs e) ∙ grouped (test x) (list_any test xs) (test e)
-
-turned_behind : (a m h s : Bool) → ((a || m) || (h || s)) ≡ ((a || h) || (m || s))
-turned_behind true m h s = refl
-turned_behind false true true s = refl
-turned_behind false true false s = refl
-turned_behind false false h s = refl
+any_last test [] e = or-false (test e)
+any_last test (x ∷ xs) e = ap (λ b. test x || b) (any_last test xs e) ∙ or_regrouped (test x) (list_any test xs) (test e)
 
 -- of entries and one more, two have one path where two of them have, or one of them has the path of that
 twice_more : (entries : List StoreEntry) (e : StoreEntry) → has_twice (entries ++ e ∷ []) ≡ (has_twice entries || has_path e.path entries)
@@ -45,7 +33,7 @@ twice_more (x ∷ entries) e =
     let a = list_any (λ other. same_path other.path x.path) entries in
     ap (λ b. b || has_twice (entries ++ e ∷ [])) (any_last (λ other. same_path other.path x.path) entries e)
     ∙ ap (λ b. (a || same_path e.path x.path) || b) (twice_more entries e)
-    ∙ turned_behind a (same_path e.path x.path) (has_twice entries) (has_path e.path entries)
+    ∙ or_crossed a (same_path e.path x.path) (has_twice entries) (has_path e.path entries)
     ∙ ap (λ b. (a || has_twice entries) || (b || has_path e.path entries)) (turned e.path x.path)
 
 pub once_more : (entries : List StoreEntry) (e : StoreEntry) → has_twice entries ≡ false → has_path e.path entries ≡ false → has_twice (entries ++ e ∷ []) ≡ false
@@ -56,7 +44,7 @@ any_front test xs ys h = list_any-append test xs ys ∙ ap (λ b. b || list_any 
 
 either : (a h b k : Bool) → (a ≡ true → b ≡ true) → (h ≡ true → k ≡ true) → (a || h) ≡ true → (b || k) ≡ true
 either true h b k f g e = ap (λ x. x || k) (f refl)
-either false h b k f g e = ap (λ x. b || x) (g e) ∙ or_true b
+either false h b k f g e = ap (λ x. b || x) (g e) ∙ or-true b
 
 twice_front : (xs ys : List StoreEntry) → has_twice xs ≡ true → has_twice (xs ++ ys) ≡ true
 twice_front [] ys h = cc
@@ -64,7 +52,7 @@ twice_front (x ∷ xs) ys h = either _ _ _ _ (any_front (λ other. same_path oth
 
 -- an entry whose path is that of one before it
 pub twice_at : (front back : List StoreEntry) (e : StoreEntry) → has_path e.path front ≡ true → has_twice ((front ++ e ∷ []) ++ back) ≡ true
-twice_at front back e there = twice_front (front ++ e ∷ []) back (twice_more front e ∙ ap (λ b. has_twice front || b) there ∙ or_true (has_twice front))
+twice_at front back e there = twice_front (front ++ e ∷ []) back (twice_more front e ∙ ap (λ b. has_twice front || b) there ∙ or-true (has_twice front))
 
 one_longer : (entries : List StoreEntry) (at : ℕ) (e : StoreEntry) → at < length entries → e ≡ get_or (drop at entries) 0 e → take (suc at) entries ≡ take at entries ++ e ∷ []
 one_longer [] at e h is = absurd (omega (arith, h))
@@ -89,12 +77,12 @@ less_apart p q h = turned q p ∙ sym (path_tie p q) ∙ ap is_eq h
 
 none_same : (p : Path) (entries : List StoreEntry) → T (below_all path_cmp p (map with_path entries)) → list_any (λ other. same_path other.path p) entries ≡ false
 none_same p [] h = refl
-none_same p (e ∷ entries) h = ap (λ b. b || list_any (λ other. same_path other.path p) entries) (less_apart p e.path (is_less _ (first _ _ h))) ∙ none_same p entries (second _ _ h)
+none_same p (e ∷ entries) h = ap (λ b. b || list_any (λ other. same_path other.path p) entries) (less_apart p e.path (Less_from_T _ (first_T _ _ h))) ∙ none_same p entries (second_T _ _ h)
 
 -- no path stands twice among those that ascend
 once_each : (entries : List StoreEntry) → T (rising entries) → has_twice entries ≡ false
 once_each [] h = refl
-once_each (e ∷ entries) h = ap (λ b. b || has_twice entries) (none_same e.path entries (first _ _ h)) ∙ once_each entries (second _ _ h)
+once_each (e ∷ entries) h = ap (λ b. b || has_twice entries) (none_same e.path entries (first_T _ _ h)) ∙ once_each entries (second_T _ _ h)
 
 pub of_rising : (entries : List StoreEntry) → rising entries ≡ true → has_twice entries ≡ false
 of_rising entries h = once_each entries (subst T (sym h) tt)

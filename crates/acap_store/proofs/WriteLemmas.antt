@@ -9,35 +9,31 @@ use Rattle.acap_entries.specs.Sorted.{put_in, InOrder}
 use Rattle.acap_entries.specs.Store.{path_cmp}
 use Rattle.acap_entries.proofs.MapLemmas.{from_sorted_none, insert_kept}
 use Rattle.acap_entries.proofs.StoreLemmas.{path_cmp_total}
-use Rattle.acap_entries.proofs.SortedLemmas.{first, second, is_less}
 use Rattle.acap_entries.specs.Names.{own_entry, dataset_of, name_of, dataset_len}
 use Rattle.acap_entries.specs.Store.{Stored, Written}
 use Rattle.acap_entries.specs.declared.path.Path.{Path}
 use Rattle.acap_entries.specs.declared.fate.Fate.{Fate}
-use Rattle.acap_commands.specs.declared.store_entry.StoreEntry.{StoreEntry}
-use Rattle.acap_commands.specs.declared.store_item.StoreItem.{StoreItem}
+use Rattle.acap_entries.proofs.Logic.{true_from_T, first_T, second_T, Less_from_T}
+use Rattle.acap_commands.specs.declared.store.StoreEntry.{StoreEntry}
+use Rattle.acap_commands.specs.declared.store.StoreItem.{StoreItem}
 use Rattle.acap_store.specs.Writing.{Celled, Listed, put_all, with_value, with_values, with_list, with_lists, missing_within, missing_to, missing_for, own_if_missing}
 
 pub put_all_append : (front back : List (Path × Fate)) (w : Written) → put_all (front ++ back) w ≡ put_all front (put_all back w)
 put_all_append [] back w = refl
 put_all_append (x ∷ front) back w = ap (λ m. table.insert m x.0 x.1) (put_all_append front back w)
 
-is_true : (b : Bool) → T b → b ≡ true
-is_true true h = refl
-is_true false h = absurd h
-
 -- what comes before all the others stands first
 put_first : (k : Path) (v : Fate) (es : List (Path × Fate)) → T (below_all path_cmp k es) → put_in path_cmp k v es ≡ (k, v) ∷ es
 unfolding put_in
 put_first k v [] h = refl
-put_first k v (e ∷ es) h = ap (λ r. by_order r ((k, v) ∷ e ∷ es) ((e.0, v) ∷ es) (e ∷ put path_cmp k v es)) (is_less _ (first _ _ h))
+put_first k v (e ∷ es) h = ap (λ r. by_order r ((k, v) ∷ e ∷ es) ((e.0, v) ∷ es) (e ∷ put path_cmp k v es)) (Less_from_T _ (first_T _ _ h))
 
 ascending : (es : List (Path × Fate)) → T (is_sorted path_cmp es) → put_all es table.empty ≡ table.from_sorted es
 ascending [] h = sym (from_sorted_none path_cmp)
 ascending (e ∷ es) h =
-    ap (λ w. table.insert w e.0 e.1) (ascending es (second _ _ h))
-    ∙ sym (insert_kept path_cmp path_cmp_total es e.0 e.1 (record { rises = is_true _ (second _ _ h) }))
-    ∙ ap table.from_sorted (put_first e.0 e.1 es (first _ _ h))
+    ap (λ w. table.insert w e.0 e.1) (ascending es (second_T _ _ h))
+    ∙ sym (insert_kept path_cmp path_cmp_total es e.0 e.1 (record { rises = true_from_T _ (second_T _ _ h) }))
+    ∙ ap table.from_sorted (put_first e.0 e.1 es (first_T _ _ h))
 
 -- writes over none, by ascending paths, are what they are as a list
 pub put_all_ascending : (es : List (Path × Fate)) (w : Written) → table.len w ≡ 0 → InOrder path_cmp es → put_all es w ≡ table.from_sorted es

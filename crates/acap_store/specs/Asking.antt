@@ -5,8 +5,8 @@ use Rattle.acap_entries.specs.Store.{Store, store_code}
 use Rattle.acap_entries.specs.contracts.path.Path as path
 use Rattle.acap_entries.specs.declared.path.Path.{Path}
 use Rattle.acap_commands.specs.declared.refusal.Refusal.{Refusal}
-use Rattle.acap_commands.specs.declared.store_entry.StoreEntry.{StoreEntry}
-use Rattle.acap_commands.specs.declared.store_item.StoreItem.{StoreItem}
+use Rattle.acap_commands.specs.declared.store.StoreEntry.{StoreEntry}
+use Rattle.acap_commands.specs.declared.store.StoreItem.{StoreItem}
 use Rattle.acap_rights.specs.Deciding.{Target, OfEntry, dataset_in, rights_of}
 use Rattle.acap_rights.specs.Sharing as rights
 use Rattle.acap_rights.specs.contracts.realm.Realm as realm
@@ -17,7 +17,7 @@ use Rattle.acap_store.specs.Permission.{may_touch, may_store, denied_in, name_in
 use Rattle.acap_store.specs.Planning.{refusals_by_terms}
 use Rattle.acap_store.specs.Refusing.{first_of}
 use Rattle.acap_store.specs.Sharing.{AreShared}
-use Rattle.acap_store.specs.declared.meant.Meant.{Meant}
+use Rattle.acap_store.specs.declared.write.Meant.{Meant}
 
 -- who asks, and of what store
 pub record Asking : Type 0 where

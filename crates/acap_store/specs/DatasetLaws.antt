@@ -13,7 +13,7 @@ use Rattle.acap_entries.specs.Sound.{IsHoused, IsSoundStore}
 use Rattle.acap_entries.specs.Store.{Store}
 use Rattle.acap_entries.specs.declared.change.Change.{Change}
 use Rattle.acap_entries.specs.declared.path.Path.{Path}
-use Rattle.acap_commands.specs.declared.store_entry.StoreEntry.{StoreEntry}
+use Rattle.acap_commands.specs.declared.store.StoreEntry.{StoreEntry}
 use Rattle.acap_rights.specs.declared.realm.Realm.{Realm}
 use Rattle.acap_store.specs.Forms.{is_of}
 use Rattle.acap_store.specs.Laws.{entries_of}

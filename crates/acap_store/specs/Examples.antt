@@ -13,15 +13,15 @@ use Rattle.acap_entries.specs.declared.fate.Fate.{Fate}
 use Rattle.acap_entries.specs.declared.fate.Fate.TheVariants as fate
 use Rattle.acap_entries.specs.declared.path.Path.{Path}
 use Rattle.acap_entries.specs.declared.record.Record.{Record}
-use Rattle.acap_commands.specs.declared.given.Given.{Given}
-use Rattle.acap_commands.specs.declared.given.Given.TheVariants.{Put, Default}
+use Rattle.acap_commands.specs.declared.store.Given.{Given}
+use Rattle.acap_commands.specs.declared.store.Given.TheVariants.{Put, Default}
 use Rattle.acap_commands.specs.declared.object_name.ObjectName.TheVariants as object_name
 use Rattle.acap_commands.specs.declared.refusal.Refusal.{Refusal}
 use Rattle.acap_commands.specs.declared.refusal.Refusal.TheVariants as refusals
-use Rattle.acap_commands.specs.declared.store_entry.StoreEntry.{StoreEntry}
-use Rattle.acap_commands.specs.declared.store_item.StoreItem.{StoreItem}
-use Rattle.acap_commands.specs.declared.store_metadata.StoreMetadata.TheVariants as metadata
-use Rattle.acap_commands.specs.declared.store_modifiers.StoreModifiers.{StoreModifiers}
+use Rattle.acap_commands.specs.declared.store.StoreEntry.{StoreEntry}
+use Rattle.acap_commands.specs.declared.store.StoreItem.{StoreItem}
+use Rattle.acap_commands.specs.declared.store.StoreMetadata.TheVariants as metadata
+use Rattle.acap_commands.specs.declared.store.StoreModifiers.{StoreModifiers}
 use Rattle.acap_commands.specs.Modifiers.{unconditional}
 use Rattle.acap_rights.specs.Deciding.{Target, OfDataset, OfAttribute, OfEntry, deciding_list, rights_of}
 use Rattle.acap_rights.specs.Edits.{with_pair, without}
@@ -39,7 +39,7 @@ use Rattle.acap_store.specs.Permission.{permission, permission_in, suffices_for_
 use Rattle.acap_store.specs.Planning.{planned_for, refusals_by_room, change_with}
 use Rattle.acap_store.specs.Refusing.{has_twice, no_exist, modified, modtime_at, is_later, first_of}
 use Rattle.acap_store.specs.Writing.{Celled, Listed, record_after, deleted_record, with_values, with_lists, fate_of, own_if_missing, missing_to, step_at, written_for}
-use Rattle.acap_store.specs.declared.meant.Meant.{Meant}
+use Rattle.acap_store.specs.declared.write.Meant.{Meant}
 use Rattle.acap_store.specs.declared.write.Write.TheVariants as write
 
 abbrev pub joe : List ℕ

@@ -4,11 +4,11 @@ use Rattle.acap_entries.specs.Orders.{octets_eq}
 use Rattle.acap_entries.specs.Store.{Stored}
 use Rattle.acap_entries.specs.declared.cell.Cell.TheVariants.{Nil, Single, Multi}
 use Rattle.acap_entries.specs.declared.path.Path.{Path}
-use Rattle.acap_commands.specs.declared.given.Given.{Given}
-use Rattle.acap_commands.specs.declared.given.Given.TheVariants.{Put, Default}
-use Rattle.acap_commands.specs.declared.store_item.StoreItem.{StoreItem}
-use Rattle.acap_commands.specs.declared.store_metadata.StoreMetadata.{StoreMetadata}
-use Rattle.acap_commands.specs.declared.store_metadata.StoreMetadata.TheVariants as metadata
+use Rattle.acap_commands.specs.declared.store.Given.{Given}
+use Rattle.acap_commands.specs.declared.store.Given.TheVariants.{Put, Default}
+use Rattle.acap_commands.specs.declared.store.StoreItem.{StoreItem}
+use Rattle.acap_commands.specs.declared.store.StoreMetadata.{StoreMetadata}
+use Rattle.acap_commands.specs.declared.store.StoreMetadata.TheVariants as metadata
 use Rattle.acap_inherit.specs.Chains.{chain_of}
 use Rattle.acap_inherit.specs.Resolving.{Resolution, lookup, entry_exists}
 

@@ -8,16 +8,16 @@ use Rattle.acap_entries.specs.Orders.{octets_eq}
 use Rattle.acap_entries.specs.Store.{Stored}
 use Rattle.acap_entries.specs.declared.cell.Cell.TheVariants.{Nil, Single, Multi}
 use Rattle.acap_entries.specs.declared.path.Path.{Path}
-use Rattle.acap_commands.specs.declared.given.Given.{Given}
-use Rattle.acap_commands.specs.declared.given.Given.TheVariants.{Put, Default}
+use Rattle.acap_commands.specs.declared.store.Given.{Given}
+use Rattle.acap_commands.specs.declared.store.Given.TheVariants.{Put, Default}
 use Rattle.acap_commands.specs.declared.refusal.Refusal.{Refusal}
 use Rattle.acap_commands.specs.declared.refusal.Refusal.TheVariants as refusals
-use Rattle.acap_commands.specs.declared.store_entry.StoreEntry.{StoreEntry}
-use Rattle.acap_commands.specs.declared.store_item.StoreItem.{StoreItem}
+use Rattle.acap_commands.specs.declared.store.StoreEntry.{StoreEntry}
+use Rattle.acap_commands.specs.declared.store.StoreItem.{StoreItem}
 use Rattle.acap_rights.specs.Pairs.{is_acl}
 use Rattle.acap_store.specs.Forms.{is_management, is_value, is_nothing, resolved_at}
 use Rattle.acap_store.specs.Permission.{list_target}
-use Rattle.acap_store.specs.declared.meant.Meant.{Meant}
+use Rattle.acap_store.specs.declared.write.Meant.{Meant}
 
 -- ---- what may be given
 

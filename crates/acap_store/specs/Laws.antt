@@ -9,7 +9,7 @@ use Rattle.acap_entries.specs.Store.{Stored, Store, path_cmp, after_fate}
 use Rattle.acap_entries.specs.declared.change.Change.{Change}
 use Rattle.acap_entries.specs.declared.path.Path.{Path}
 use Rattle.acap_commands.specs.declared.refusal.Refusal.{Refusal}
-use Rattle.acap_commands.specs.declared.store_entry.StoreEntry.{StoreEntry}
+use Rattle.acap_commands.specs.declared.store.StoreEntry.{StoreEntry}
 use Rattle.acap_rights.specs.declared.realm.Realm.{Realm}
 use Rattle.acap_store.specs.Limits.{is_too_much}
 use Rattle.acap_store.specs.Meaning.{meaning}

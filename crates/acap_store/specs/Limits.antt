@@ -6,9 +6,9 @@ use Rattle.acap_entries.specs.Store.{Stored, Written, after_writes}
 use Rattle.acap_entries.specs.declared.cell.Cell.TheVariants.{Nil, Single, Multi}
 use Rattle.acap_entries.specs.declared.fate.Fate.{Fate}
 use Rattle.acap_entries.specs.declared.fate.Fate.TheVariants as fate
-use Rattle.acap_commands.specs.declared.given.Given.{Given}
-use Rattle.acap_commands.specs.declared.given.Given.TheVariants.{Put, Default}
-use Rattle.acap_commands.specs.declared.store_entry.StoreEntry.{StoreEntry}
+use Rattle.acap_commands.specs.declared.store.Given.{Given}
+use Rattle.acap_commands.specs.declared.store.Given.TheVariants.{Put, Default}
+use Rattle.acap_commands.specs.declared.store.StoreEntry.{StoreEntry}
 
 -- a string of more than 65,536 octets
 abbrev pub is_long : List ℕ → Bool

@@ -5,17 +5,17 @@ use Rattle.acap_entries.specs.Homes.{for_user}
 use Rattle.acap_entries.specs.Store.{Stored}
 use Rattle.acap_entries.specs.declared.cell.Cell.TheVariants.{Multi}
 use Rattle.acap_entries.specs.declared.path.Path.{Path}
-use Rattle.acap_commands.specs.declared.given.Given.{Given}
-use Rattle.acap_commands.specs.declared.given.Given.TheVariants.{Put, Default}
+use Rattle.acap_commands.specs.declared.store.Given.{Given}
+use Rattle.acap_commands.specs.declared.store.Given.TheVariants.{Put, Default}
 use Rattle.acap_commands.specs.declared.object_name.ObjectName.{ObjectName}
 use Rattle.acap_commands.specs.declared.object_name.ObjectName.TheVariants as object_name
-use Rattle.acap_commands.specs.declared.store_entry.StoreEntry.{StoreEntry}
-use Rattle.acap_commands.specs.declared.store_item.StoreItem.{StoreItem}
-use Rattle.acap_commands.specs.declared.store_metadata.StoreMetadata.TheVariants as metadata
-use Rattle.acap_commands.specs.declared.store_modifiers.StoreModifiers.{StoreModifiers}
+use Rattle.acap_commands.specs.declared.store.StoreEntry.{StoreEntry}
+use Rattle.acap_commands.specs.declared.store.StoreItem.{StoreItem}
+use Rattle.acap_commands.specs.declared.store.StoreMetadata.TheVariants as metadata
+use Rattle.acap_commands.specs.declared.store.StoreModifiers.{StoreModifiers}
 use Rattle.acap_rights.specs.Deciding.{Target, OfDataset, OfAttribute, OfEntry, attribute_list_name, dataset_list_name, deciding_list}
 use Rattle.acap_rights.specs.Edits.{with_pair, without}
-use Rattle.acap_store.specs.declared.meant.Meant.{Meant}
+use Rattle.acap_store.specs.declared.write.Meant.{Meant}
 use Rattle.acap_store.specs.declared.write.Write.{Write}
 use Rattle.acap_store.specs.declared.write.Write.TheVariants as write
 

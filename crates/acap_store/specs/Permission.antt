@@ -7,8 +7,8 @@ use Rattle.acap_commands.specs.declared.object_name.ObjectName.{ObjectName}
 use Rattle.acap_commands.specs.declared.object_name.ObjectName.TheVariants as object_name
 use Rattle.acap_commands.specs.declared.refusal.Refusal.{Refusal}
 use Rattle.acap_commands.specs.declared.refusal.Refusal.TheVariants as refusals
-use Rattle.acap_commands.specs.declared.store_entry.StoreEntry.{StoreEntry}
-use Rattle.acap_commands.specs.declared.store_item.StoreItem.{StoreItem}
+use Rattle.acap_commands.specs.declared.store.StoreEntry.{StoreEntry}
+use Rattle.acap_commands.specs.declared.store.StoreItem.{StoreItem}
 use Rattle.acap_rights.specs.Deciding.{Target, OfDataset, OfAttribute, OfEntry, rights_of}
 use Rattle.acap_rights.specs.Keeping.{target_of_list}
 use Rattle.acap_rights.specs.declared.realm.Realm.{Realm}

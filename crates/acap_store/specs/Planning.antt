@@ -6,7 +6,7 @@ use Rattle.acap_entries.specs.Store.{Store, Stored, Written}
 use Rattle.acap_entries.specs.declared.change.Change.{Change}
 use Rattle.acap_commands.specs.declared.refusal.Refusal.{Refusal}
 use Rattle.acap_commands.specs.declared.refusal.Refusal.TheVariants as refusals
-use Rattle.acap_commands.specs.declared.store_entry.StoreEntry.{StoreEntry}
+use Rattle.acap_commands.specs.declared.store.StoreEntry.{StoreEntry}
 use Rattle.acap_rights.specs.declared.realm.Realm.{Realm}
 use Rattle.acap_store.specs.Deleting.{deleted_by}
 use Rattle.acap_store.specs.Invalid.{invalid}
@@ -15,7 +15,7 @@ use Rattle.acap_store.specs.Meaning.{meaning}
 use Rattle.acap_store.specs.Permission.{permission}
 use Rattle.acap_store.specs.Refusing.{refused_if, first_of, has_twice, no_exist, modified}
 use Rattle.acap_store.specs.Writing.{written_for}
-use Rattle.acap_store.specs.declared.meant.Meant.{Meant}
+use Rattle.acap_store.specs.declared.write.Meant.{Meant}
 use Rattle.acap_store.specs.declared.write.Write.{Write}
 
 -- the moment of what is written: the change's, and where none is left that of the last change, by which alone it is then judged

@@ -8,7 +8,7 @@ use Rattle.acap_entries.specs.Store.{Stored}
 use Rattle.acap_entries.specs.declared.path.Path.{Path}
 use Rattle.acap_commands.specs.declared.refusal.Refusal.{Refusal}
 use Rattle.acap_commands.specs.declared.refusal.Refusal.TheVariants as refusals
-use Rattle.acap_commands.specs.declared.store_entry.StoreEntry.{StoreEntry}
+use Rattle.acap_commands.specs.declared.store.StoreEntry.{StoreEntry}
 use Rattle.acap_inherit.specs.Chains.{chain_of}
 use Rattle.acap_inherit.specs.Resolving.{modtime_of}
 use Rattle.acap_store.specs.Forms.{exists_at}

@@ -3,7 +3,7 @@ use Rattle.std.specs.Prelude.{Bool, List, map}
 use Rattle.std.specs.FinMap.{is_sorted}
 use Rattle.acap_entries.specs.Store.{path_cmp}
 use Rattle.acap_entries.specs.declared.path.Path.{Path}
-use Rattle.acap_commands.specs.declared.store_entry.StoreEntry.{StoreEntry}
+use Rattle.acap_commands.specs.declared.store.StoreEntry.{StoreEntry}
 
 abbrev pub with_path : StoreEntry → Path × StoreEntry
 with_path e = (e.path, e)

@@ -6,8 +6,8 @@ ghost use Rattle.acap_store.specs.Invalid as rule;
 
 use crate::ending::may_end;
 use crate::forms::{is_management, is_nothing, is_value};
-use crate::meant::Meant;
 use crate::permission::is_list;
+use crate::write::Meant;
 use acap_commands::{Given, Refusal, StoreEntry, StoreItem};
 use acap_entries::{Boxed, Cell, Copying, Tree, is_dataset_argument};
 use acap_rights::is_acl;

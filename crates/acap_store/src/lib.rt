@@ -12,7 +12,6 @@ mod known;
 mod laws;
 mod limits;
 mod meaning;
-mod meant;
 mod missing;
 mod objects;
 mod permission;

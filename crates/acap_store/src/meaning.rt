@@ -3,9 +3,8 @@ ghost use Rattle.std.specs.Prelude.{◌≡◌, ◌∷◌, [], IfOk};
 ghost use Rattle.acap_entries.specs.Made.{IsMade};
 ghost use Rattle.acap_store.specs.Meaning as rule;
 
-use crate::meant::Meant;
 use crate::objects::{lent_object, object_for};
-use crate::write::Write;
+use crate::write::{Meant, Write};
 use acap_commands::{
     Entries, Given, ObjectName, StoreEntry, StoreItem, StoreItems, StoreMetadata, StoreModifiers,
 };

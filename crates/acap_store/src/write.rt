@@ -1,4 +1,4 @@
-//! The commands that write.
+//! The commands that write, and what they store.
 
 use acap_commands::{Entries, ObjectName};
 use acap_entries::{Boxed, Label};
@@ -12,4 +12,13 @@ pub enum Write {
     SetAcl(Boxed<ObjectName>, Boxed<Label>, Boxed<Label>),
     /// DELETEACL: the identifier is taken off the object's list, or the whole list is removed.
     DeleteAcl(Boxed<ObjectName>, Option<Boxed<Label>>),
+}
+
+/// What a command stores, `~` being replaced.
+#[derive(Drop)]
+pub(crate) struct Meant {
+    /// The entries.
+    pub(crate) entries: Entries,
+    /// Whether the list of a dataset is to go as a whole, which DELETEACL may not do (RFC 2244 section 6.7).
+    pub(crate) drops_dataset_list: bool,
 }

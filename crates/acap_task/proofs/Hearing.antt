@@ -5,7 +5,7 @@ use Rattle.std.specs.declared.alloc.AllocError.{AllocError as Memory}
 use Rattle.acap_dialogue.specs.Saying.{Makes, heard_of}
 use Rattle.acap_dialogue.specs.Session.{Awaits}
 use Rattle.acap_dialogue.specs.Talking.{Talking}
-use Rattle.acap_dialogue.specs.declared.heard.Heard.{Heard}
+use Rattle.acap_dialogue.specs.declared.next.Heard.{Heard}
 use Rattle.acap_dialogue.specs.declared.next.Next.{Next}
 use Rattle.acap_dialogue.specs.declared.next.Next.TheVariants as next
 use Rattle.acap_task.specs.Hearing.{AwaitsBy}

@@ -9,7 +9,7 @@ use Rattle.acap_login.specs.Login.{User}
 use Rattle.std.specs.declared.alloc.AllocError.{AllocError as Memory}
 use Rattle.acap_commands.specs.declared.event.Event.{Event}
 use Rattle.acap_commands.specs.declared.event.Event.TheVariants as event
-use Rattle.acap_commands.specs.declared.fault.Fault.{Fault}
+use Rattle.acap_commands.specs.declared.event.Fault.{Fault}
 use Rattle.acap_commands.specs.declared.reply.Reply.{Reply}
 use Rattle.acap_locked.specs.declared.answer.Answer.{Answer}
 use Rattle.acap_dialogue.specs.Running as running

@@ -6,7 +6,7 @@ use Rattle.futures.specs.declared.task.Poll.{Poll}
 use Rattle.futures.specs.declared.task.Poll.TheVariants.{Ready, Pending}
 use Rattle.acap_login.specs.Login.{User}
 use Rattle.acap_commands.specs.declared.event.Event.TheVariants as event
-use Rattle.acap_commands.specs.declared.fault.Fault.{Fault}
+use Rattle.acap_commands.specs.declared.event.Fault.{Fault}
 use Rattle.acap_locked.specs.declared.answer.Answer.{Answer}
 use Rattle.acap_dialogue.specs.Running.{At, Piece, Leave, Outcome, clocks, did, drains, leaving, nonces, over, pieces, taking}
 use Rattle.acap_task.specs.Kept.{Agrees, IsPicked, Kept, Roles, count_told}

@@ -6,8 +6,8 @@ use Rattle.acap_login.specs.Login.{User}
 use Rattle.std.specs.declared.alloc.AllocError.{AllocError as Memory}
 use Rattle.acap_dialogue.specs.Session.{session_drain, session_next}
 use Rattle.acap_dialogue.specs.Saying.{with_said, heard_of}
-use Rattle.acap_dialogue.specs.declared.heard.Heard.{Heard}
-use Rattle.acap_dialogue.specs.declared.heard.Heard.TheVariants as heard
+use Rattle.acap_dialogue.specs.declared.next.Heard.{Heard}
+use Rattle.acap_dialogue.specs.declared.next.Heard.TheVariants as heard
 use Rattle.acap_dialogue.specs.declared.next.Next.{Next}
 use Rattle.acap_dialogue.specs.declared.next.Next.TheVariants as next
 use Rattle.acap_dialogue.proofs.Speaking.{quiet_law, same_talk}

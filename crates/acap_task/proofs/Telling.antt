@@ -2,7 +2,7 @@
 use Rattle.std.proofs.Common.{◌≡◌, ℕ, ℤ, ◌+◌, List, [], ◌∷◌, ◌++◌, map, Option, Some, None, Result, Ok, Err, refl, sym, ◌∙◌, ap, subst, append_assoc, append-nil, arith, inl, inr}
 use Rattle.std.proofs.lemmas.List.{map-append}
 use Rattle.acap_commands.specs.declared.event.Event.{Event}
-use Rattle.acap_commands.specs.declared.fault.Fault.{Fault}
+use Rattle.acap_commands.specs.declared.event.Fault.{Fault}
 use Rattle.acap_dialogue.specs.Running as running
 use Rattle.acap_dialogue.specs.Running.{fault_count}
 use Rattle.acap_locked.specs.declared.answer.Answer.{Answer}

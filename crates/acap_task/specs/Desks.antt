@@ -1,9 +1,9 @@
 -- A desk in memory.
 use Rattle.std.specs.Prelude.{◌≡◌, ◌⊎◌, ℕ, ℤ, List, [], ◌∷◌, ◌++◌, Bool, true, false, map, Option, Some, Result, Ok, Err, refl}
 use Rattle.std.specs.Coded.{Coded, code_by, coded×, coded_list, coded_option, coded_result, coded_ℕ}
-use Rattle.acap_commands.specs.contracts.fault.Fault as refusal
-use Rattle.acap_commands.specs.declared.fault.Fault.{Fault}
-use Rattle.acap_commands.specs.declared.fault.Fault.TheVariants as fault
+use Rattle.acap_commands.specs.contracts.event.Fault as refusal
+use Rattle.acap_commands.specs.declared.event.Fault.{Fault}
+use Rattle.acap_commands.specs.declared.event.Fault.TheVariants as fault
 use Rattle.acap_locked.specs.contracts.answer.Answer as answer
 use Rattle.acap_locked.specs.contracts.call.Call as call
 use Rattle.acap_locked.specs.declared.answer.Answer.{Answer}

@@ -5,8 +5,8 @@ use Rattle.acap_dialogue.specs.Running.{closes}
 use Rattle.acap_dialogue.specs.Saying.{with_said, heard_of}
 use Rattle.acap_dialogue.specs.Session.{is_asked}
 use Rattle.acap_dialogue.specs.Talking.{Talking}
-use Rattle.acap_dialogue.specs.declared.heard.Heard.{Heard}
-use Rattle.acap_dialogue.specs.declared.heard.Heard.TheVariants as heard
+use Rattle.acap_dialogue.specs.declared.next.Heard.{Heard}
+use Rattle.acap_dialogue.specs.declared.next.Heard.TheVariants as heard
 use Rattle.acap_dialogue.specs.declared.next.Next.{Next}
 
 -- what is next is told, and its octets are owed; where memory was refused nothing is

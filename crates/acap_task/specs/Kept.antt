@@ -1,7 +1,7 @@
 -- What a session that runs keeps, for what its wire, desk, source and bell tell [RFC 2244 section 2].
 use Rattle.std.specs.Prelude.{◌≡◌, ◌⊎◌, ℕ, ℤ, min, List, [], ◌∷◌, ◌++◌, map, length, Option, Some, None, Ok, Err, false}
 use Rattle.acap_login.specs.Login.{User}
-use Rattle.acap_commands.specs.declared.fault.Fault.{Fault}
+use Rattle.acap_commands.specs.declared.event.Fault.{Fault}
 use Rattle.acap_dialogue.specs.Running as running
 use Rattle.acap_dialogue.specs.Session.{session_next}
 use Rattle.acap_dialogue.specs.declared.next.Next.TheVariants as next

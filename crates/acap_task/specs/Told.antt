@@ -4,7 +4,7 @@ use Rattle.std.specs.Option.{option_map}
 use Rattle.futures.specs.declared.task.Poll.{Poll}
 use Rattle.futures.specs.declared.task.Poll.TheVariants.{Ready, Pending}
 use Rattle.acap_commands.specs.declared.event.Event.{Event}
-use Rattle.acap_commands.specs.declared.fault.Fault.{Fault}
+use Rattle.acap_commands.specs.declared.event.Fault.{Fault}
 use Rattle.acap_locked.specs.Notes.{call_of}
 use Rattle.acap_locked.specs.declared.answer.Answer.{Answer}
 use Rattle.acap_locked.specs.declared.call.Call.{Call}

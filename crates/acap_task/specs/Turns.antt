@@ -5,14 +5,14 @@ use Rattle.futures.specs.declared.task.Poll.TheVariants.{Ready, Pending}
 use Rattle.acap_login.specs.Login.{User}
 use Rattle.acap_commands.specs.declared.event.Event.{Event}
 use Rattle.acap_commands.specs.declared.event.Event.TheVariants as event
-use Rattle.acap_commands.specs.declared.fault.Fault.{Fault}
+use Rattle.acap_commands.specs.declared.event.Fault.{Fault}
 use Rattle.acap_commands.specs.declared.reply.Reply.{Reply}
 use Rattle.acap_dialogue.specs.Running.{closes, over, taking}
 use Rattle.acap_dialogue.specs.Saying.{with_said, heard_of}
 use Rattle.acap_dialogue.specs.Session.{after_answer, session_drain, session_next}
 use Rattle.acap_dialogue.specs.Talking.{Talking}
-use Rattle.acap_dialogue.specs.declared.heard.Heard.{Heard}
-use Rattle.acap_dialogue.specs.declared.heard.Heard.TheVariants as heard
+use Rattle.acap_dialogue.specs.declared.next.Heard.{Heard}
+use Rattle.acap_dialogue.specs.declared.next.Heard.TheVariants as heard
 use Rattle.acap_dialogue.specs.declared.next.Next.{Next}
 use Rattle.acap_dialogue.specs.declared.next.Next.TheVariants as next
 use Rattle.acap_locked.specs.declared.answer.Answer.{Answer}

@@ -1,6 +1,6 @@
 //! A desk in memory.
 ghost use Rattle.std.specs.Prelude.{◌≡◌, ◌++◌, ◌∷◌, [], Ok, Some, IfOk, IfErr, drop};
-ghost use Rattle.acap_commands.specs.declared.fault.Fault.TheVariants as fault;
+ghost use Rattle.acap_commands.specs.declared.event.Fault.TheVariants as fault;
 ghost use Rattle.acap_locked.specs.Notes.{call_of};
 ghost use Rattle.acap_task.specs.Desks.{IsFault};
 ghost use Rattle.acap_task.specs.Told.{after_call, new_desk};

@@ -2,7 +2,7 @@
 use Rattle.std.proofs.Common.{◌≡◌, ℕ, ℤ, Bool, true, false, cond, Option, Some, None, Result, Ok, Err, List, [], ◌∷◌, refl, sym, ◌∙◌, ap}
 use Rattle.std.specs.FinMap as table
 use Rattle.std.specs.Option.{option_map_or, option_or}
-use Rattle.std.specs.Result.{IfOk, OnOk}
+use Rattle.std.specs.Result.{IfOk}
 use Rattle.acap_notices.specs.declared.told.Told.{Told}
 use Rattle.acap_views.specs.Answering.{IsAnswer, update_tells}
 use Rattle.acap_views.specs.Contexts.{Kept, Snapshot, Live, Freed, Context, Contexts}
@@ -11,10 +11,6 @@ use Rattle.acap_views.specs.Seats.{Seated, contexts_at, with_contexts}
 use Rattle.acap_views.specs.Telling.{fault_in, fault_at, fault_of, told_in_turn, unless_faulty}
 use Rattle.acap_views.specs.declared.refusal.ViewRefusal.{ViewRefusal}
 use Rattle.acap_views.specs.declared.refusal.ViewRefusal.TheVariants as refusal
-
-pub on_ok : {T E A B : Type 0} (r : Result T E) → OnOk r A → (A → B) → OnOk r B
-on_ok (Ok x) h f = f h
-on_ok (Err e) h f = h
 
 pub if_ok : {T E : Type 0} (P Q : T → Type 0) (r : Result T E) → IfOk r P → ((x : T) → P x → Q x) → IfOk r Q
 if_ok P Q (Ok x) h f = f x h

@@ -5,10 +5,10 @@ use Rattle.std.specs.Cmp.Lexicographic.{nat_list_cmp_total, texts_ties}
 use Rattle.std.specs.FinMap as table
 use Rattle.std.specs.FinMap.{find, is_sorted}
 use Rattle.std.specs.Option.{option_map_or}
-use Rattle.std.specs.Ordering.{eq_by_cmp, is_eq}
-use Rattle.std.specs.declared.cmp.Ordering.{Ordering}
-use Rattle.std.specs.declared.cmp.Ordering.TheVariants.{Less, Equal, Greater}
+use Rattle.std.specs.Ordering.{eq_by_cmp}
+use Rattle.std.proofs.Math.Bool.{or-true}
 use Rattle.acap_entries.specs.Orders.{octets_cmp, octets_eq}
+use Rattle.acap_entries.proofs.Logic.{Equal_from_is_eq, true_from_T}
 use Rattle.acap_moves.specs.Hits.{is_among}
 use Rattle.acap_moves.proofs.Splits.{itself, same_name}
 use Rattle.acap_notices.specs.Holding.{holding, holding_after_all}
@@ -20,7 +20,6 @@ use Rattle.acap_views.specs.Clients.{notice_for, notices_for, pending_in, pendin
 use Rattle.acap_views.specs.Contexts.{Kept, Snapshot, Live, Freed, Context, Contexts}
 use Rattle.acap_views.specs.Current.{IsCurrentKept, rows}
 use Rattle.acap_views.specs.Telling.{notes_of, shown_now, told_by_name, updated_to, after_update, told_in_turn, drain_told}
-use Rattle.acap_views.proofs.ListLemmas.{so}
 use Rattle.acap_views.proofs.WaitingLemmas.{tied_none}
 
 -- ---- notices by name
@@ -185,10 +184,6 @@ named_first contexts other name last moment front back e =
       | inr k ↦ (the_modtime other name last moment k.more back k.is).1
     ]
 
-or_true : (b : Bool) → (b || true) ≡ true
-or_true true = refl
-or_true false = refl
-
 -- each is of a name that was said
 named : (names : List (List ℕ)) (contexts : Contexts) (name : List ℕ) (last : ℤ) (front back : List Told) (moment : ℤ)
     → told_in_turn contexts names last ≡ front ++ told.Upto name moment ∷ back → is_among name names ≡ true
@@ -198,15 +193,10 @@ named [] contexts name last (f ∷ front) back moment e = absurd cc
 named (other ∷ names) contexts name last front back moment e =
     elim (split_told (told_by_name contexts other last) (told_in_turn (after_update contexts other last) names last) front back (told.Upto name moment) e) as (λ _. (octets_eq name other || is_among name names) ≡ true) [
       | inl k ↦ ap (λ b. b || is_among name names) (itself name other (sym (named_first contexts other name last moment front k.rest k.is)))
-      | inr k ↦ ap (λ b. octets_eq name other || b) (named names (after_update contexts other last) name last k.more back moment k.is) ∙ or_true (octets_eq name other)
+      | inr k ↦ ap (λ b. octets_eq name other || b) (named names (after_update contexts other last) name last k.more back moment k.is) ∙ or-true (octets_eq name other)
     ]
 
 -- ---- drains
-
-tie : (r : Ordering) → is_eq r ≡ true → r ≡ Equal
-tie Less e = absurd (cc (e))
-tie Equal e = refl
-tie Greater e = absurd (cc (e))
 
 all_entries : (es : List (List ℕ × Context)) → is_sorted octets_cmp es ≡ true → (name : List ℕ) → notices_for name (flat_map (λ e. drain_told e.0 e.1.kept) es) ≡ pending_of (find octets_cmp name es)
 all_entries [] s name = refl
@@ -214,12 +204,12 @@ all_entries (e ∷ es) s name =
     both_for name (drain_told e.0 e.1.kept) (flat_map (λ e. drain_told e.0 e.1.kept) es)
     ∙ ((λ i. (drain_notes name e.0 e.1.kept ∙ ap (λ b. cond b (pending_in e.1.kept) []) (texts_ties name e.0)) i ++ all_entries es (second_so _ _ s) name i)
     ∙ elim (eq_by_cmp octets_cmp name e.0) as (λ b. eq_by_cmp octets_cmp name e.0 ≡ b → cond b (pending_in e.1.kept) [] ++ pending_of (find octets_cmp name es) ≡ pending_of (cond b (Some e.1) (find octets_cmp name es))) [
-      | true ↦ λ t. ap (λ o. pending_in e.1.kept ++ pending_of o) (tied_none nat_list_cmp_total (λ (c : Context). true) name e.0 es (tie _ t) (first_so _ _ s)) ∙ append-nil _
+      | true ↦ λ t. ap (λ o. pending_in e.1.kept ++ pending_of o) (tied_none nat_list_cmp_total (λ (c : Context). true) name e.0 es (Equal_from_is_eq _ t) (first_so _ _ s)) ∙ append-nil _
       | false ↦ λ t. refl
     ] refl)
 
 drained : (contexts : Contexts) (name : List ℕ) → notices_for name (flat_map (λ e. drain_told e.0 e.1.kept) (table.entries contexts)) ≡ pending_of (table.get contexts name)
-drained contexts name = all_entries (table.entries contexts) (so _ (table.entries_sorted contexts)) name ∙ ap pending_of (sym (table.get-entries contexts name))
+drained contexts name = all_entries (table.entries contexts) (true_from_T _ (table.entries_sorted contexts)) name ∙ ap pending_of (sym (table.get-entries contexts name))
 
 -- ---- the client
 

@@ -17,6 +17,7 @@ use Rattle.acap_entries.specs.Datasets.{dataset_exists}
 use Rattle.acap_entries.specs.Orders.{octets_cmp, octets_eq}
 use Rattle.acap_entries.specs.Sound.{IsSoundStore}
 use Rattle.acap_entries.specs.Store.{Store}
+use Rattle.acap_entries.proofs.Logic.{Contains-here, Contains-there, true_from_T, Less_from_is_lt}
 use Rattle.acap_moves.specs.Hits.{Name, is_among, IsDistinct}
 use Rattle.acap_moves.proofs.Law.{applied_then}
 use Rattle.acap_notices.specs.Holding.{holding, holding_after_all}
@@ -29,7 +30,8 @@ use Rattle.acap_search.specs.Fresh.{matches_of}
 use Rattle.acap_search.specs.Matches.{Match}
 use Rattle.acap_search.specs.Once.{OnceLaw}
 use Rattle.acap_search.specs.declared.query.Sought.{Sought}
-use Rattle.acap_search.proofs.SeenLemmas.{here, there, first_or, nowhere, either}
+use Rattle.acap_search.proofs.SeenLemmas.{first_or, nowhere, either}
+use Rattle.acap_search.proofs.OnceLemmas.{from_made}
 use Rattle.acap_views.specs.Changing.{IsSoundStep, sight_for, follows, changed_context, changed_occupant, changed_seats}
 use Rattle.acap_views.specs.Contexts.{Kept, Snapshot, Live, Freed, Context, Contexts, kept_of, context_of}
 use Rattle.acap_views.specs.Current.{rows, IsFollowing, IsCurrentKept, IsCurrentContext, IsCurrentOccupant, IsCurrent}
@@ -40,14 +42,14 @@ use Rattle.acap_views.specs.Opening.{is_full}
 use Rattle.acap_views.specs.Seats.{Occupant, Seated, IsAt, contexts_at, with_contexts}
 use Rattle.acap_views.specs.Telling.{shown_now, fault_of, updated_to, after_update, after_updates, unless_faulty, kept_drained, after_drain}
 use Rattle.acap_views.specs.declared.refusal.ViewRefusal.{ViewRefusal}
-use Rattle.acap_views.proofs.ListLemmas.{so, less, from_made, distinct}
+use Rattle.acap_views.proofs.ListLemmas.{distinct}
 
 -- ---- maps
 
 module _ {K X : Type 0} {R : K → K → Ordering} (o : IsTotalOrder R) where
   below : (k : K) (es : List (K × X)) (e : K × X) → below_all R k es ≡ true → Contains es e → R k e.0 ≡ Less
   below k [] e b h = nowhere e h
-  below k (x ∷ xs) e b h = either (first_or x e xs h) (λ same. ap (λ (y : K × X). R k y.0) (sym same) ∙ less _ (first_so _ _ b)) (λ l. below k xs e (second_so _ _ b) l)
+  below k (x ∷ xs) e b h = either (first_or x e xs h) (λ same. ap (λ (y : K × X). R k y.0) (sym same) ∙ Less_from_is_lt _ (first_so _ _ b)) (λ l. below k xs e (second_so _ _ b) l)
 
   pub find_own : (es : List (K × X)) (e : K × X) → is_sorted R es ≡ true → Contains es e → find R e.0 es ≡ Some e.1
   find_own [] e s h = nowhere e h
@@ -60,8 +62,8 @@ find_some : {K X : Type 0} (R : K → K → Ordering) (k : K) (es : List (K × X
 find_some R k [] x h = absurd (cc (h))
 find_some R k (y ∷ ys) x h =
     elim (eq_by_cmp R k y.0) as (λ b. cond b (Some y.1) (find R k ys) ≡ Some x → (e : _ × _) × (Contains (y ∷ ys) e × (e.1 ≡ x))) [
-      | true ↦ λ e. (y, (here y ys, cc (e)))
-      | false ↦ λ e. let r = find_some R k ys x e in (r.0, (there y r.0 ys r.1.0, r.1.1))
+      | true ↦ λ e. (y, (Contains-here y ys, cc (e)))
+      | false ↦ λ e. let r = find_some R k ys x e in (r.0, (Contains-there y r.0 ys r.1.0, r.1.1))
     ] h
 
 became : {K Y : Type 0} (k : K) (o : Option Y) (e : K × Y) → option_map (λ y. (k, y)) o ≡ Some e → o ≡ Some e.1
@@ -78,7 +80,7 @@ from_kept {R = R} o f m k y h =
       (
         w.0.1,
         (
-          table.get-entries m w.0.0 ∙ find_own o (table.entries m) w.0 (so _ (table.entries_sorted m)) w.1.0,
+          table.get-entries m w.0.0 ∙ find_own o (table.entries m) w.0 (true_from_T _ (table.entries_sorted m)) w.1.0,
           became w.0.0 (f w.0.1) found.0 w.1.1 ∙ ap Some found.1.1,
         ),
       ),
@@ -142,7 +144,7 @@ module _ (store : Store) (realm : Realm) where
         ] (sym (table.get-remove nat_cmp_total seats seat q) ∙ e);
   }
 
-  -- new contexts at a seat, made of those that are there
+  -- new contexts at a seat, made of those that are Contains-there
   with_current : (seats : Seated) (seat : ℕ) (f : Contexts → Contexts) → IsCurrent store realm seats
       → ((occupant : Occupant) → table.get seats seat ≡ Some occupant → AreCurrent store realm occupant.user occupant.contexts → AreCurrent store realm occupant.user (f occupant.contexts))
       → IsCurrent store realm (with_contexts seats seat (f (contexts_at seats seat)))

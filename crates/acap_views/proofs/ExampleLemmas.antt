@@ -1,9 +1,10 @@
 -- The examples, computed.
-use Rattle.std.proofs.Common.{◌≡◌, ℕ, ℤ, Bool, true, false, not, ◌&&◌, ◌+◌, cond, nat_lt, nat_le, List, [], ◌∷◌, ◌++◌, length, Option, Some, None, refl, ap, ◌∙◌, codes}
+use Rattle.std.proofs.Common.{◌≡◌, ℕ, ℤ, not, ◌&&◌, ◌+◌, cond, nat_lt, nat_le, List, [], ◌∷◌, ◌++◌, length, Option, Some, None, refl, ap, ◌∙◌, codes}
 use Rattle.std.specs.FinMap as table
 use Rattle.std.specs.Cmp.Lexicographic.{nat_list_cmp_total}
 use Rattle.std.specs.Option.{option_map_or, option_or}
 use Rattle.std.specs.Ordering.{eq_by_cmp}
+use Rattle.std.proofs.Math.Bool.{and-false}
 use Rattle.acap_entries.specs.Orders.{octets_cmp}
 use Rattle.acap_notices.specs.declared.told.Told.{Told}
 use Rattle.acap_notices.specs.declared.told.Told.TheVariants as told
@@ -42,10 +43,6 @@ kept_examples = record {
   freed = refl;
   kept = λ shown. refl;
 }
-
-never : (b : Bool) → (b && false) ≡ false
-never true = refl
-never false = refl
 
 -- what stands at a name
 at : (sought : Sought) (list : List Match) (one two : Notice) (name : List ℕ) → table.get (by_name sought list one two) name ≡ table.find octets_cmp name (four sought list one two)
@@ -89,7 +86,7 @@ named_examples = record {
   drained = λ sought list one two. refl;
   full = λ contexts name e f. (λ i. not (f i) && nat_le 200 (e i));
   replaced = λ contexts name e. (λ i. not (e i) && nat_le 200 (table.len contexts));
-  place = λ contexts name e. ap (λ n. not (table.contains_key contexts name) && nat_le 200 n) e ∙ never (not (table.contains_key contexts name));
+  place = λ contexts name e. ap (λ n. not (table.contains_key contexts name) && nat_le 200 n) e ∙ and-false (not (table.contains_key contexts name));
 }
 
 pub notice_examples : NoticeExamples

@@ -2,7 +2,7 @@
 use Rattle.std.proofs.Common.{◌≡◌, ℕ, ◌+◌, ◌<◌, ◌≤◌, ◌==◌, ◌&&◌, Bool, true, false, not, cond, nat_lt, Option, Some, None, List, [], ◌∷◌, ◌++◌, length, length-append, arith, refl, sym, ◌∙◌, ap, subst, ◌⊎◌, inl, inr, map as each}
 use Rattle.std.specs.Cmp.{both_ways, tied_itself}
 use Rattle.std.specs.FinMap.Entries.{by_order}
-use Rattle.std.proofs.lemmas.Bool.{ltb-true}
+use Rattle.std.proofs.lemmas.Bool.{ltb-true, false_from_ne_true}
 use Rattle.std.specs.List.{Contains, filter, find}
 use Rattle.std.specs.Option.{option_map}
 use Rattle.std.specs.Ordering.{eq_by_cmp, is_eq, ordering_then}
@@ -13,6 +13,7 @@ use Rattle.acap_entries.specs.FullPaths.{full_path_cmp, IsSplit}
 use Rattle.acap_entries.specs.Orders.{octets_eq}
 use Rattle.acap_entries.specs.Ranks.{Ascending, rank_of, item_at, with_item, without_item}
 use Rattle.acap_entries.specs.declared.path.Path.{Path}
+use Rattle.acap_entries.proofs.Logic.{second_Equal, Contains-here, Contains-there, Equal_from_is_eq}
 use Rattle.acap_notices.specs.Waiting.{most_waiting}
 use Rattle.acap_notices.specs.declared.notice.Notice.{Notice}
 use Rattle.acap_moves.specs.Hits.{Name}
@@ -24,12 +25,11 @@ use Rattle.acap_search.specs.Places.{places_cmp}
 use Rattle.acap_search.specs.Totals.{match_total}
 use Rattle.acap_search.specs.Tuples.{name_told}
 use Rattle.acap_search.specs.declared.rank.SortPlace.{SortPlace}
-use Rattle.acap_search.proofs.OnceLemmas.{then_equal}
-use Rattle.acap_search.proofs.SeenLemmas.{here, there, first_or, nowhere, either}
+use Rattle.acap_search.proofs.SeenLemmas.{first_or, nowhere, either}
 use Rattle.acap_views.specs.Notices.{told_shape}
 use Rattle.acap_views.specs.Shifting.{Shift, standing, with_match, without_old, old_place, stands, from_one, after_shift, after_shifts, shift_notices, shifts_notices, tells_between, surely_tells, count_with, until_full}
 use Rattle.acap_views.proofs.PathLemmas.{IsIn, told_apart}
-use Rattle.acap_views.proofs.ShiftLemmas.{Unlike, IsApt, rises, left_of, finds_place, shift_is, told_is, tied}
+use Rattle.acap_views.proofs.ShiftLemmas.{Unlike, IsApt, rises, left_of, finds_place, shift_is, told_is}
 use Rattle.acap_views.proofs.StayLemmas.{stays, untold}
 
 from_with : (come : Match) (es : List Match) (x : Match) → Contains (with_item match_cmp come es) x → (come ≡ x) ⊎ Contains es x
@@ -39,22 +39,17 @@ from_with come (e ∷ es) x k = elim (match_cmp come e) as (λ o. Contains (by_o
   | Less ↦ λ l. first_or come x (e ∷ es) l
   | Equal ↦ λ l. inr l
   | Greater ↦ λ l. either (first_or e x (with_item match_cmp come es) l)
-      (λ same. inr (subst (λ y. Contains (e ∷ es) y) same (here e es)))
-      (λ m. either (from_with come es x m) (λ same. inl same) (λ n. inr (there e x es n)))
+      (λ same. inr (subst (λ y. Contains (e ∷ es) y) same (Contains-here e es)))
+      (λ m. either (from_with come es x m) (λ same. inl same) (λ n. inr (Contains-there e x es n)))
 ] k
-
--- what is looked for is found as before where none of that kind goes or comes
-false_if : (b : Bool) → (b ≡ true → ⊥) → b ≡ false
-false_if true n = absurd (n refl)
-false_if false n = refl
 
 found_left : (p q : Match → Bool) (xs : List Match) → ((x : Match) → Contains xs x → p x ≡ true → q x ≡ true) → find p (filter q xs) ≡ find p xs
 found_left p q [] h = refl
 found_left p q (x ∷ xs) h =
-    let rest = found_left p q xs (λ y k. h y (there x y xs k)) in
+    let rest = found_left p q xs (λ y k. h y (Contains-there x y xs k)) in
     elim (q x) as (λ b. q x ≡ b → find p (cond b (x ∷ filter q xs) (filter q xs)) ≡ cond (p x) (Some x) (find p xs)) [
       | true ↦ λ e. ap (λ o. cond (p x) (Some x) o) rest
-      | false ↦ λ e. rest ∙ sym (ap (λ b. cond b (Some x) (find p xs)) (false_if (p x) (λ t. cc (sym e ∙ h x (here x xs) t))))
+      | false ↦ λ e. rest ∙ sym (ap (λ b. cond b (Some x) (find p xs)) (false_from_ne_true (p x) (λ t. cc (sym e ∙ h x (Contains-here x xs) t))))
     ] refl
 
 found_with : (p : Match → Bool) (come : Match) (xs : List Match) → p come ≡ false → find p (with_item match_cmp come xs) ≡ find p xs
@@ -138,7 +133,7 @@ module _ (dataset : List ℕ) (depth : Option ℕ) (was : Path → List SortPlac
     same_path_of h s e = full_paths.same p h.path asked.split s e
 
     by_place : (h : Match) → Contains hits h → eq_by_cmp match_cmp (standing p (was p)) h ≡ true → p ≡ h.path
-    by_place h k e = same_path_of h (named.named h k).split (then_equal _ _ (tied _ e))
+    by_place h k e = same_path_of h (named.named h k).split (second_Equal _ _ (Equal_from_is_eq _ e))
 
     ties_there : (h : Match) → Contains hits h → p ≡ h.path → eq_by_cmp match_cmp (standing p (was p)) h ≡ true
     ties_there h k e =
@@ -153,7 +148,7 @@ module _ (dataset : List ℕ) (depth : Option ℕ) (was : Path → List SortPlac
     unlike : (m : Match) → come p ≡ Some m → Unlike m (without_old (standing p (was p)) hits)
     unlike m c x k e =
         let l = left_of (standing p (was p)) hits x k in
-        let full : full_path_cmp p x.path ≡ Equal = ap (λ q. full_path_cmp q x.path) (sym (asked.path m c)) ∙ then_equal _ _ e in
+        let full : full_path_cmp p x.path ≡ Equal = ap (λ q. full_path_cmp q x.path) (sym (asked.path m c)) ∙ second_Equal _ _ e in
         cc (ties_there x l.0 (same_path_of x (named.named x l.0).split full), l.1)
 
     apt : IsApt (shift_by p) hits
@@ -185,12 +180,12 @@ module _ (dataset : List ℕ) (depth : Option ℕ) (was : Path → List SortPlac
   still_found : (p q : Path) (hits : List Match) → AreNamed hits → IsAsked p → IsAsked q → StoodThere hits p → StoodThere hits q → (p ≡ q → ⊥)
       → item_at match_cmp (standing q (was q)) (after_shift (shift_by p) hits) ≡ item_at match_cmp (standing q (was q)) hits
   unfolding item_at without_item
-  still_found p q hits named asked other here there n =
+  still_found p q hits named asked other Contains-here Contains-there n =
       let ties = eq_by_cmp match_cmp (standing q (was q)) in
-      found_then ties (come p) _ (λ m c. false_if (ties m) (λ e.
-      n (sym (full_paths.same q m.path other.split (subst IsSplit (sym (asked.path m c)) asked.split) (then_equal _ _ (tied _ e)) ∙ asked.path m c))))
+      found_then ties (come p) _ (λ m c. false_from_ne_true (ties m) (λ e.
+      n (sym (full_paths.same q m.path other.split (subst IsSplit (sym (asked.path m c)) asked.split) (second_Equal _ _ (Equal_from_is_eq _ e)) ∙ asked.path m c))))
       ∙ found_left ties (λ x. not (eq_by_cmp match_cmp (standing p (was p)) x)) hits (λ x k e.
-      ap not (false_if (eq_by_cmp match_cmp (standing p (was p)) x) (λ t. n (by_place p hits named asked here x k t ∙ sym (by_place q hits named other there x k e)))))
+      ap not (false_from_ne_true (eq_by_cmp match_cmp (standing p (was p)) x) (λ t. n (by_place p hits named asked Contains-here x k t ∙ sym (by_place q hits named other Contains-there x k e)))))
 
   surely_told : (p : Path) (hits : List Match) → AreNamed hits → IsAsked p → StoodThere hits p → (enumerated : Bool) → surely_tells hits (shift_by p) ≡ true
       → 1 ≤ length (shift_notices enumerated (shift_by p) hits)
@@ -239,16 +234,16 @@ module _ (dataset : List ℕ) (depth : Option ℕ) (was : Path → List SortPlac
       → Suffices enumerated count (until_full first count (filter due (each shift_by ps))) (each shift_by ps) hits
   suffices due enumerated first [] hits count n a s d f l = inl (refl, refl)
   suffices due enumerated first (p ∷ ps) hits count n a s d f l =
-      let asked = a p (here p ps) in
-      let stood = s p (here p ps) in
+      let asked = a p (Contains-here p ps) in
+      let stood = s p (Contains-here p ps) in
       let next = count_with first (shift_by p) count in
       let more = filter due (each shift_by ps) in
       let within = counted_within (surely_tells first (shift_by p)) count (length (shift_notices enumerated (shift_by p) hits)) (λ e.
-      surely_told p hits n asked stood enumerated (ap (λ (o : Option Match). tells_between o (come p)) (f p (here p ps)) ∙ e)) in
+      surely_told p hits n asked stood enumerated (ap (λ (o : Option Match). tells_between o (come p)) (f p (Contains-here p ps)) ∙ e)) in
       let rest : (m : ℕ) → Suffices enumerated m (until_full first m more) (each shift_by ps) (after_shift (shift_by p) hits) = λ m.
-      suffices due enumerated first ps (after_shift (shift_by p) hits) m (next_named p hits n asked stood) (λ q k. a q (there p q ps k))
-      (λ q k. still_there p hits n asked stood q (d.0 q k) (s q (there p q ps k))) d.1
-      (λ q k. still_found p q hits n asked (a q (there p q ps k)) stood (s q (there p q ps k)) (d.0 q k) ∙ f q (there p q ps k)) l in
+      suffices due enumerated first ps (after_shift (shift_by p) hits) m (next_named p hits n asked stood) (λ q k. a q (Contains-there p q ps k))
+      (λ q k. still_there p hits n asked stood q (d.0 q k) (s q (Contains-there p q ps k))) d.1
+      (λ q k. still_found p q hits n asked (a q (Contains-there p q ps k)) stood (s q (Contains-there p q ps k)) (d.0 q k) ∙ f q (Contains-there p q ps k)) l in
       elim (due (shift_by p)) as (λ (b : Bool). due (shift_by p) ≡ b
       → Suffices enumerated count (until_full first count (cond b (shift_by p ∷ more) more)) (shift_by p ∷ each shift_by ps) hits) [
         | true ↦ λ _. elim (nat_lt most_waiting count) as (λ b. nat_lt most_waiting count ≡ b
@@ -257,7 +252,7 @@ module _ (dataset : List ℕ) (depth : Option ℕ) (was : Path → List SortPlac
               | false ↦ λ e. one_suffices enumerated count next (shift_by p) (until_full first next more) (each shift_by ps) hits within (rest next)
             ] refl
         | false ↦ λ e.
-            let again = f p (here p ps) ∙ l p e in
+            let again = f p (Contains-here p ps) ∙ l p e in
             let now = apt p hits n asked stood in
             none_suffices enumerated count (shift_by p) (until_full first count more) (each shift_by ps) hits (stays (shift_by p) hits now again) (untold (shift_by p) hits now again enumerated) (rest count)
       ] refl
@@ -267,11 +262,11 @@ module _ (dataset : List ℕ) (depth : Option ℕ) (was : Path → List SortPlac
       × ((enumerated : Bool) → shifts_notices enumerated (each shift_by ps) hits ≡ moves_notices told_shape enumerated (each move_of ps) hits)
   follow [] hits n a s d = (refl, λ enumerated. refl)
   follow (p ∷ ps) hits n a s d =
-      let asked = a p (here p ps) in
-      let stood = s p (here p ps) in
+      let asked = a p (Contains-here p ps) in
+      let stood = s p (Contains-here p ps) in
       let now = apt p hits n asked stood in
       let same : after_shift (shift_by p) hits ≡ after_move told_shape (move_of p) hits = shift_is (shift_by p) hits now in
-      let rest = follow ps (after_shift (shift_by p) hits) (next_named p hits n asked stood) (λ q k. a q (there p q ps k)) (λ q k. still_there p hits n asked stood q (d.0 q k) (s q (there p q ps k))) d.1 in (
+      let rest = follow ps (after_shift (shift_by p) hits) (next_named p hits n asked stood) (λ q k. a q (Contains-there p q ps k)) (λ q k. still_there p hits n asked stood q (d.0 q k) (s q (Contains-there p q ps k))) d.1 in (
         rest.0 ∙ ap (after_moves told_shape (each move_of ps)) same,
         λ enumerated.
             ap (λ ns. ns ++ shifts_notices enumerated (each shift_by ps) (after_shift (shift_by p) hits)) (told_is (shift_by p) hits now enumerated)

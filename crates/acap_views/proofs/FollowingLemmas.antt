@@ -1,15 +1,15 @@
 -- Lists of which each item is brought up to date by what is prepared for it, and the room that there is for it.
-use Rattle.std.proofs.Common.{◌≡◌, ℕ, zero, suc, ◌+◌, ◌<◌, ◌≤◌, min, ◌&&◌, List, [], ◌∷◌, ◌++◌, length, take, drop, get_or, set, refl, Result, Ok, Err, sym, ◌∙◌, ap, subst, arith, map as each}
+use Rattle.std.proofs.Common.{◌≡◌, ℕ, zero, suc, ◌+◌, ◌<◌, ◌≤◌, min, ◌&&◌, List, [], ◌∷◌, ◌++◌, length, take, drop, get_or, set, refl, sym, ◌∙◌, ap, subst, arith, map as each}
 use Rattle.std.proofs.lemmas.List.{map-set}
 use Rattle.std.specs.Cmp.{nat_cmp_total}
 use Rattle.std.specs.FinMap as table
 use Rattle.std.specs.FinMap.{is_sorted, nat_cmp-IsAntisymmetric}
 use Rattle.std.specs.FinMap.Entries.{below_all}
 use Rattle.std.specs.Ordering.{nat_cmp, is_lt}
-use Rattle.std.specs.Result.{OnOk}
 use Rattle.std.specs.declared.cmp.Ordering.{Ordering}
 use Rattle.acap_entries.specs.Orders.{octets_cmp}
 use Rattle.acap_entries.specs.Sorted.{InOrder}
+use Rattle.acap_entries.proofs.Logic.{suc_is}
 use Rattle.acap_views.specs.Contexts.{Context}
 use Rattle.acap_views.specs.Keeping.{RoomyContext, RoomyContexts, RoomyOccupant, contexts_in, occupant_in}
 use Rattle.acap_views.specs.Listing.{as_contexts, as_seated, bare, bare_seat}
@@ -22,9 +22,6 @@ use Rattle.acap_views.proofs.KeepingLemmas.{listed_entries, seats_from}
 use Rattle.acap_views.proofs.ValueLemmas.{sorted, in_order, sorted_made, entries_kept}
 
 -- ---- lists
-
-suc_is : (i : ℕ) → suc i ≡ i + 1
-suc_is i = omega arith
 
 module _ {S B : Type 0} (g : S → B → B) where
   -- each item with what stands at its place
@@ -239,7 +236,3 @@ pub seats_fit_made : (turns : List (List (List Shift))) (es : List (ℕ × Roomy
     → EachFits FitsSeat turns es → EachFits FitsSeat turns (table.entries (table.from_sorted {R = nat_cmp} es))
 seats_fit_made turns es h r =
     subst (λ (xs : List (ℕ × RoomyOccupant)). EachFits FitsSeat turns xs) (sym (table.entries-from_sorted nat_cmp es (sorted nat_cmp es h))) r
-
-pub on_ok : {X F : Type 0} {P Q : Type 0} (r : Result X F) → (P → Q) → OnOk r P → OnOk r Q
-on_ok (Ok x) f h = f h
-on_ok (Err e) f h = h

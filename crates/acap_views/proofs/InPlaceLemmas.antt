@@ -1,5 +1,5 @@
 -- Contexts of one session that are told of, drained and copied in place.
-use Rattle.std.proofs.Common.{◌≡◌, ℕ, ℤ, Bool, true, false, not, cond, ◌&&◌, T, Option, Some, None, List, [], ◌∷◌, refl, sym, ◌∙◌, ap, subst, map as each}
+use Rattle.std.proofs.Common.{◌≡◌, ℕ, ℤ, Bool, true, false, not, cond, T, Option, Some, None, List, [], ◌∷◌, refl, sym, ◌∙◌, ap, subst, map as each}
 use Rattle.std.specs.Cmp.Lexicographic.{nat_list_cmp_total}
 use Rattle.std.specs.FinMap as table
 use Rattle.std.specs.FinMap.{is_sorted}
@@ -9,20 +9,16 @@ use Rattle.std.specs.Option.{option_map, option_map_or}
 use Rattle.std.specs.declared.cmp.Ordering.{Ordering}
 use Rattle.acap_entries.specs.Orders.{octets_cmp}
 use Rattle.acap_entries.specs.Sorted.{InOrder}
-use Rattle.acap_entries.proofs.SortedLemmas.{first, second}
+use Rattle.acap_entries.proofs.Logic.{both_T, first_T, second_T, true_from_T}
+use Rattle.acap_entries.proofs.StoreLemmas.{octets_same}
 use Rattle.acap_views.specs.Contexts.{Kept, Snapshot, Live, Freed, Context, Contexts}
 use Rattle.acap_views.specs.Holds.{is_freed}
 use Rattle.acap_views.specs.Keeping.{RoomyContext}
 use Rattle.acap_views.specs.Listing.{as_contexts, bare, told_entry}
 use Rattle.acap_views.specs.Maps.{each_kept}
 use Rattle.acap_views.specs.Telling.{shown_now, updated_to, after_update, kept_drained, after_drain}
-use Rattle.acap_views.proofs.KeepingLemmas.{names_same, context_in, listed_entries}
-use Rattle.acap_views.proofs.ListLemmas.{so}
+use Rattle.acap_views.proofs.KeepingLemmas.{context_in, listed_entries}
 use Rattle.acap_views.proofs.ValueLemmas.{sorted, in_order, sorted_made, value_made}
-
-both : (a b : Bool) → T a → T b → T (a && b)
-both true b p q = q
-both false b p q = p
 
 -- ---- one name
 
@@ -41,14 +37,14 @@ updated_some contexts name last old new g e =
 pub keys_kept : (xs ys : List (List ℕ × RoomyContext)) → is_sorted octets_cmp (each bare xs) ≡ is_sorted octets_cmp (each bare ys) → InOrder octets_cmp ys → InOrder octets_cmp xs
 keys_kept xs ys e h =
     in_order octets_cmp xs
-    (sym (sorted_made nat_list_cmp_total names_same context_in xs) ∙ (e ∙ (sorted_made nat_list_cmp_total names_same context_in ys ∙ h.rises)))
+    (sym (sorted_made nat_list_cmp_total octets_same context_in xs) ∙ (e ∙ (sorted_made nat_list_cmp_total octets_same context_in ys ∙ h.rises)))
 
 pub same_order : (xs ys : List (List ℕ × RoomyContext)) → each bare xs ≡ each bare ys → InOrder octets_cmp ys → InOrder octets_cmp xs
 same_order xs ys e h = keys_kept xs ys (ap (is_sorted octets_cmp) e) h
 
 pub listed_from : (es : List (List ℕ × RoomyContext)) → InOrder octets_cmp es → as_contexts es ≡ table.from_entries (each bare es)
 listed_from es h =
-    value_made nat_list_cmp_total names_same context_in (table.from_sorted es)
+    value_made nat_list_cmp_total octets_same context_in (table.from_sorted es)
     ∙ ap (λ (xs : List (List ℕ × RoomyContext)). table.from_entries (each bare xs)) (table.entries-from_sorted octets_cmp es (sorted octets_cmp es h))
 
 pub same_contexts : (xs ys : List (List ℕ × RoomyContext)) → each bare xs ≡ each bare ys → InOrder octets_cmp ys → as_contexts xs ≡ as_contexts ys
@@ -61,20 +57,20 @@ module _ {K X : Type 0} (R : K → K → Ordering) (p : K × X → Bool) where
   below_part k [] b = tt
   below_part k (e ∷ es) b =
       elim (p e) as (λ (q : Bool). T (below_all R k (cond q (e ∷ filter p es) (filter p es)))) [
-        | true ↦ both _ _ (first _ _ b) (below_part k es (second _ _ b))
-        | false ↦ below_part k es (second _ _ b)
+        | true ↦ both_T _ _ (first_T _ _ b) (below_part k es (second_T _ _ b))
+        | false ↦ below_part k es (second_T _ _ b)
       ]
 
   sorted_part : (es : List (K × X)) → T (is_sorted R es) → T (is_sorted R (filter p es))
   sorted_part [] s = tt
   sorted_part (e ∷ es) s =
       elim (p e) as (λ (q : Bool). T (is_sorted R (cond q (e ∷ filter p es) (filter p es)))) [
-        | true ↦ both _ _ (below_part e.0 es (first _ _ s)) (sorted_part es (second _ _ s))
-        | false ↦ sorted_part es (second _ _ s)
+        | true ↦ both_T _ _ (below_part e.0 es (first_T _ _ s)) (sorted_part es (second_T _ _ s))
+        | false ↦ sorted_part es (second_T _ _ s)
       ]
 
   filtered_order : (es : List (K × X)) → InOrder R es → InOrder R (filter p es)
-  filtered_order es h = in_order R (filter p es) (so _ (sorted_part es (sorted R es h)))
+  filtered_order es h = in_order R (filter p es) (true_from_T _ (sorted_part es (sorted R es h)))
 
 -- ---- drains
 
@@ -103,7 +99,7 @@ filtered (x ∷ xs) =
     ]
 
 keys_told : (xs : List (List ℕ × Context)) → is_sorted octets_cmp (each told_entry xs) ≡ is_sorted octets_cmp xs
-keys_told xs = sorted_made nat_list_cmp_total names_same (λ (context : Context). record context { kept = shown_now context.kept }) xs
+keys_told xs = sorted_made nat_list_cmp_total octets_same (λ (context : Context). record context { kept = shown_now context.kept }) xs
 
 module _ (es told left : List (List ℕ × RoomyContext)) (h : InOrder octets_cmp es) (t : each bare told ≡ each told_entry (each bare es)) (l : left ≡ filter (λ (e : List ℕ × RoomyContext). not (is_freed e.1.context.kept)) told) where
   told_order : InOrder octets_cmp told

@@ -3,7 +3,7 @@ use Rattle.std.proofs.Common.{◌≡◌, ℕ, true, false, cond, Option, Some, N
 use Rattle.std.specs.Cmp.{IsTotalOrder, nat_cmp_total, tied_itself}
 use Rattle.std.specs.Cmp.Lexicographic.{nat_list_cmp_total}
 use Rattle.std.specs.FinMap as table
-use Rattle.std.specs.FinMap.{FinMap, is_sorted, nat_cmp-IsAntisymmetric, slice_cmp-IsAntisymmetric, IsAntisymmetric, same_map}
+use Rattle.std.specs.FinMap.{FinMap, is_sorted, nat_cmp-IsAntisymmetric, same_map}
 use Rattle.std.specs.Option.{option_map, option_map_or, IsSome, IsSomeAnd}
 use Rattle.std.specs.Ordering.{nat_cmp, is_eq}
 use Rattle.std.specs.declared.cmp.Ordering.{Ordering}
@@ -12,6 +12,7 @@ use Rattle.acap_entries.specs.Orders.{octets_cmp}
 use Rattle.acap_entries.specs.Sorted.{place, is_tied, found, put_in, InOrder}
 use Rattle.acap_entries.proofs.MapLemmas.{from_sorted_none, get_kept, insert_kept, put_in_order, len_kept}
 use Rattle.acap_entries.proofs.SortedLemmas.{put_in_tied, found_tied, found_absent}
+use Rattle.acap_entries.proofs.StoreLemmas.{octets_same}
 use Rattle.acap_views.specs.Contexts.{Context, Contexts}
 use Rattle.acap_views.specs.Keeping.{RoomyContext, RoomyContexts, RoomyOccupant, contexts_in, occupant_in}
 use Rattle.acap_views.specs.Maps.{each_value}
@@ -19,9 +20,6 @@ use Rattle.acap_views.specs.Seats.{Occupant, Seated, contexts_at, with_contexts}
 use Rattle.acap_views.specs.Listing.{as_contexts, as_seated, bare, bare_seat}
 use Rattle.acap_views.proofs.ShownLemmas.{get_value}
 use Rattle.acap_views.proofs.ValueLemmas.{insert_value, remove_value, empty_value, has_value, len_value, entries_kept, value_made, sorted, in_order, sorted_made}
-
-pub names_same : IsAntisymmetric octets_cmp
-names_same = slice_cmp-IsAntisymmetric nat_cmp-IsAntisymmetric
 
 abbrev pub context_in : RoomyContext → Context
 context_in kept = kept.context
@@ -32,19 +30,19 @@ pub contexts_get : (cs : RoomyContexts) (name : List ℕ) → table.get (context
 contexts_get cs name = get_value nat_list_cmp_total context_in cs name
 
 pub contexts_insert : (cs : RoomyContexts) (name : List ℕ) (c : RoomyContext) → contexts_in (table.insert cs name c) ≡ table.insert (contexts_in cs) name c.context
-contexts_insert cs name c = insert_value nat_list_cmp_total names_same context_in cs name c
+contexts_insert cs name c = insert_value nat_list_cmp_total octets_same context_in cs name c
 
 pub contexts_remove : (cs : RoomyContexts) (name : List ℕ) → contexts_in (table.remove cs name) ≡ table.remove (contexts_in cs) name
-contexts_remove cs name = remove_value nat_list_cmp_total names_same context_in cs name
+contexts_remove cs name = remove_value nat_list_cmp_total octets_same context_in cs name
 
 pub contexts_empty : contexts_in table.empty ≡ table.empty
-contexts_empty = empty_value nat_list_cmp_total names_same context_in
+contexts_empty = empty_value nat_list_cmp_total octets_same context_in
 
 pub contexts_has : (cs : RoomyContexts) (name : List ℕ) → table.contains_key (contexts_in cs) name ≡ table.contains_key cs name
-contexts_has cs name = has_value nat_list_cmp_total names_same context_in cs name
+contexts_has cs name = has_value nat_list_cmp_total octets_same context_in cs name
 
 pub contexts_len : (cs : RoomyContexts) → table.len (contexts_in cs) ≡ table.len cs
-contexts_len cs = len_value nat_list_cmp_total names_same context_in cs
+contexts_len cs = len_value nat_list_cmp_total octets_same context_in cs
 
 pub listed_get : (es : List (List ℕ × RoomyContext)) (name : List ℕ) → InOrder octets_cmp es
     → table.get (as_contexts es) name ≡ option_map (λ (kept : RoomyContext). kept.context) (found octets_cmp name es)
@@ -64,7 +62,7 @@ has_tied R o k (x ∷ es) h =
     ] refl
 
 pub listed_entries : (es : List (List ℕ × RoomyContext)) → InOrder octets_cmp es → table.entries (as_contexts es) ≡ each bare es
-listed_entries es h = entries_kept nat_list_cmp_total names_same context_in es h
+listed_entries es h = entries_kept nat_list_cmp_total octets_same context_in es h
 
 pub listed_len : (es : List (List ℕ × RoomyContext)) → InOrder octets_cmp es → table.len (as_contexts es) ≡ length es
 listed_len es h = contexts_len (table.from_sorted es) ∙ len_kept octets_cmp es h

@@ -1,54 +1,20 @@
 -- What lists contain, and names of which each comes once.
-use Rattle.std.proofs.Common.{◌≡◌, Bool, true, false, not, cond, ◌||◌, ◌&&◌, Option, Some, None, List, [], ◌∷◌, ◌++◌, refl, sym, ◌∙◌, ap, T, is_some, map as each}
+use Rattle.std.proofs.Common.{◌≡◌, Bool, true, false, not, cond, ◌||◌, ◌&&◌, Some, List, [], ◌∷◌, ◌++◌, refl, sym, ◌∙◌, ap, is_some, map as each}
 use Rattle.std.specs.Cmp.Lexicographic.{nat_list_cmp_total, texts_ties}
 use Rattle.std.specs.Cmp.{first_so, second_so}
 use Rattle.std.specs.FinMap as table
 use Rattle.std.specs.FinMap.{is_sorted, find}
 use Rattle.std.specs.FinMap.Entries.{below_all}
-use Rattle.std.specs.Ordering.{eq_by_cmp, is_lt}
-use Rattle.std.specs.declared.cmp.Ordering.{Ordering}
-use Rattle.std.specs.declared.cmp.Ordering.TheVariants.{Less, Equal, Greater}
+use Rattle.std.specs.Ordering.{eq_by_cmp}
 use Rattle.acap_views.specs.Notices.{ascending}
-use Rattle.std.specs.List.{list_any, filter, filter_map, cons_option, Contains}
+use Rattle.std.specs.List.{list_any, filter, Contains}
 use Rattle.acap_entries.specs.Orders.{octets_cmp, octets_eq}
+use Rattle.acap_entries.proofs.Logic.{true_from_T, Less_from_is_lt, Contains-there}
 use Rattle.acap_moves.specs.Hits.{Name, is_among, IsDistinct, IsBelow, IsAscending}
-use Rattle.acap_moves.proofs.Splits.{same_name, itself, among_first}
+use Rattle.acap_moves.proofs.Splits.{same_name, itself, among_first, among_later}
 use Rattle.acap_moves.proofs.Touched.{among_filter}
 use Rattle.acap_search.specs.Once.{EachOnce}
-use Rattle.acap_search.proofs.SeenLemmas.{here, there, first_or, nowhere, either, at_first}
-
-pub so : (b : Bool) → T b → b ≡ true
-so true h = refl
-so false h = absurd h
-
-pub less : (r : Ordering) → is_lt r ≡ true → r ≡ Less
-less Less e = refl
-less Equal e = absurd (cc (e))
-less Greater e = absurd (cc (e))
-
-pub from_made : {X Y : Type 0} (f : X → Option Y) (xs : List X) (y : Y) → Contains (filter_map f xs) y → (x : X) × (Contains xs x × (f x ≡ Some y))
-from_made f [] y h = nowhere y h
-from_made f (x ∷ xs) y h =
-    elim (f x) as (λ o. f x ≡ o → Contains (cons_option o (filter_map f xs)) y → (z : _) × (Contains (x ∷ xs) z × (f z ≡ Some y))) [
-      | None ↦ λ e k. let r = from_made f xs y k in (r.0, (there x r.0 xs r.1.0, r.1.1))
-      | Some z ↦ λ e k. either (first_or z y (filter_map f xs) k) (λ s. (x, (here x xs, e ∙ ap Some s))) (λ l. let r = from_made f xs y l in (r.0, (there x r.0 xs r.1.0, r.1.1)))
-    ] refl h
-
-pub in_made : {X Y : Type 0} (f : X → Option Y) (xs : List X) (x : X) (y : Y) → Contains xs x → f x ≡ Some y → Contains (filter_map f xs) y
-in_made f [] x y h e = nowhere x h
-in_made f (z ∷ zs) x y h e =
-    elim (f z) as (λ o. f z ≡ o → Contains (cons_option o (filter_map f zs)) y) [
-      | None ↦ λ t. either (first_or z x zs h) (λ same. absurd (cc (t, e, ap f same))) (λ k. in_made f zs x y k e)
-      | Some w ↦ λ t. either (first_or z x zs h) (λ same. at_first w y (filter_map f zs) (cc (t, e, ap f same))) (λ k. there w y (filter_map f zs) (in_made f zs x y k e))
-    ] refl
-
-pub in_front : {A : Type 0} (xs ys : List A) (x : A) → Contains xs x → Contains (xs ++ ys) x
-in_front [] ys x h = nowhere x h
-in_front (z ∷ zs) ys x h = either (first_or z x zs h) (λ e. at_first z x (zs ++ ys) e) (λ k. there z x (zs ++ ys) (in_front zs ys x k))
-
-pub in_back : {A : Type 0} (xs ys : List A) (x : A) → Contains ys x → Contains (xs ++ ys) x
-in_back [] ys x h = h
-in_back (z ∷ zs) ys x h = there z x (zs ++ ys) (in_back zs ys x h)
+use Rattle.acap_search.proofs.SeenLemmas.{first_or, nowhere, either, at_first}
 
 -- ---- names
 
@@ -66,7 +32,7 @@ from_among [] p e = absurd (cc (e))
 from_among (q ∷ qs) p e =
     elim (octets_eq p q) as (λ b. octets_eq p q ≡ b → (b || is_among p qs) ≡ true → Contains (q ∷ qs) p) [
       | true ↦ λ t k. at_first q p qs (sym (same_name p q t))
-      | false ↦ λ t k. there q p qs (from_among qs p k)
+      | false ↦ λ t k. Contains-there q p qs (from_among qs p k)
     ] refl e
 
 pub among_append : (q : Name) (xs ys : List Name) → is_among q (xs ++ ys) ≡ (is_among q xs || is_among q ys)
@@ -90,16 +56,12 @@ distinct_filter d (p ∷ ps) h = elim (d p) as (λ b. IsDistinct (cond b (p ∷ 
   | false ↦ distinct_filter d ps h.1
 ]
 
-among_behind : (q x : Name) (xs : List Name) → is_among q xs ≡ true → is_among q (x ∷ xs) ≡ true
-unfolding is_among
-among_behind q x xs m = rw m (elim (octets_eq q x) as (λ b. (b || true) ≡ true) [ true ↦ refl | false ↦ refl ])
-
 distinct_append : (xs ys : List Name) → IsDistinct xs → IsDistinct ys → ((q : Name) → is_among q xs ≡ true → is_among q ys ≡ false) → IsDistinct (xs ++ ys)
 unfolding IsDistinct
 distinct_append [] ys h k a = k
 distinct_append (x ∷ xs) ys h k a = (
   among_append x xs ys ∙ rw (h.0, a x (among_first x xs)) refl,
-  distinct_append xs ys h.1 k (λ q m. a q (among_behind q x xs m)),
+  distinct_append xs ys h.1 k (λ q m. a q (among_later q x xs m)),
 )
 
 pub distinct_both : (xs ys : List Name) → IsDistinct xs → IsDistinct ys → IsDistinct (xs ++ filter (λ name. not (is_among name xs)) ys)
@@ -131,11 +93,11 @@ among_ascending q ps =
 
 below_keys : (p : Name) (es : List (Name × Name)) → below_all octets_cmp p es ≡ true → IsBelow p (each (λ e. e.0) es)
 below_keys p [] b = tt
-below_keys p (e ∷ es) b = (less _ (first_so _ _ b), below_keys p es (second_so _ _ b))
+below_keys p (e ∷ es) b = (Less_from_is_lt _ (first_so _ _ b), below_keys p es (second_so _ _ b))
 
 keys_rise : (es : List (Name × Name)) → is_sorted octets_cmp es ≡ true → IsAscending (each (λ e. e.0) es)
 keys_rise [] s = tt
 keys_rise (e ∷ es) s = (below_keys e.0 es (first_so _ _ s), keys_rise es (second_so _ _ s))
 
 pub ascends : (ps : List Name) → IsAscending (ascending ps)
-ascends ps = keys_rise (table.entries (pairs ps)) (so _ (table.entries_sorted (pairs ps)))
+ascends ps = keys_rise (table.entries (pairs ps)) (true_from_T _ (table.entries_sorted (pairs ps)))

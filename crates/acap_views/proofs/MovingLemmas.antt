@@ -3,32 +3,30 @@ use Rattle.std.proofs.Common.{◌≡◌, ◌≢◌, ℕ, Bool, true, false, ◌|
 use Rattle.std.specs.Cmp.{first_so, second_so, eq_by_cmp_equiv}
 use Rattle.std.specs.Cmp.Lexicographic.{bytes_decides, nat_list_eq_equiv}
 use Rattle.std.specs.FinMap as map
-use Rattle.std.specs.FinMap.{IsAntisymmetric}
 use Rattle.std.specs.List.{filter, list_any, Contains}
 use Rattle.std.specs.Option.{option_and_then, option_map_or}
-use Rattle.std.specs.Ordering.{ordering_then}
-use Rattle.std.specs.declared.cmp.Ordering.{Ordering}
-use Rattle.std.specs.declared.cmp.Ordering.TheVariants.{Less, Equal, Greater}
-use Rattle.std.proofs.lemmas.List.{append_cancel_left}
+use Rattle.std.specs.declared.cmp.Ordering.TheVariants.{Less}
 use Rattle.std.proofs.lemmas.List.Kept.{AllPairs-filter}
 use Rattle.std.proofs.lemmas.Map.Views.{Contains-from_any, list_any-from_Contains, tells_apart}
+use Rattle.std.proofs.lemmas.List.Elements.{Contains-append_cases}
 use Rattle.acap_entries.proofs.FormLemmas.{form_law}
 use Rattle.acap_entries.proofs.NameLemmas.{closed_by_slash}
 use Rattle.acap_entries.proofs.OwnLaws.{own_entry_law}
-use Rattle.acap_entries.proofs.StoreLemmas.{octets_same}
 use Rattle.acap_entries.specs.Datasets.{makes_dataset, dataset_exists}
-use Rattle.acap_entries.specs.FullPaths.{full_path_cmp, IsSplit, AreWellFormed}
+use Rattle.acap_entries.specs.FullPaths.{IsSplit, AreWellFormed}
 use Rattle.acap_entries.specs.Names.{slash, has, ends_with, own_entry}
 use Rattle.acap_entries.specs.Orders.{octets_eq}
 use Rattle.acap_entries.specs.Sound.{IsSoundStore}
 use Rattle.acap_entries.specs.Store.{Store, Stored, Written}
 use Rattle.acap_entries.specs.declared.path.Path.{Path}
+use Rattle.acap_entries.proofs.Logic.{true_without, true_cases, one_of_any, Contains-here, Contains-there}
 use Rattle.acap_inherit.specs.Chains.{chain_of}
 use Rattle.acap_inherit.specs.Laws.{NothingLaw, NamesLaw}
 use Rattle.acap_inherit.specs.Records.{record_at}
 use Rattle.acap_inherit.specs.Touched.{by_octets, octets_total, is_written, is_written_on, has_record_on, is_reached, is_touched, touched_paths}
 use Rattle.acap_inherit.specs.TouchedLaws.{TouchedPathsLaw}
 use Rattle.acap_inherit.proofs.WrittenLemmas.{written_fate}
+use Rattle.acap_inherit.proofs.TouchedLemmas.{same_paths}
 use Rattle.acap_moves.specs.Hits.{Name, is_among, IsAscending}
 use Rattle.acap_moves.specs.Moves.{moves_to, after_moves, moves_notices}
 use Rattle.acap_rights.specs.declared.realm.Realm.{Realm}
@@ -45,7 +43,7 @@ use Rattle.acap_search.specs.Touched as search
 use Rattle.acap_search.specs.Tuples.{name_told, match_of}
 use Rattle.acap_search.specs.declared.query.Sought.{Sought}
 use Rattle.acap_search.proofs.OnceLemmas.{scope_law}
-use Rattle.acap_search.proofs.SeenLemmas.{named as name_seen, here, there, first_or, nowhere, either, in_map, from_both, in_filter, from_filter, same_name}
+use Rattle.acap_search.proofs.SeenLemmas.{named as name_seen, first_or, nowhere, either, in_map, in_filter, from_filter, same_name}
 use Rattle.acap_search.proofs.TupleLemmas.{from_among as from_paths, made_is}
 use Rattle.acap_views.specs.Changing.{sight_for}
 use Rattle.acap_views.specs.Laws.{ChangedLaw, FoundLaw, MovedLaw}
@@ -57,59 +55,35 @@ use Rattle.acap_views.proofs.PathLemmas.{IsIn, paths_rise, names_rise, told_apar
 
 -- ---- names of records have no slash
 
-left_of : (b : Bool) → (b || false) ≡ true → b ≡ true
-left_of true e = refl
-left_of false e = e
-
-any_of : {X : Type 0} (p : X → Bool) (xs : List X) → list_any p xs ≡ true → (x : X) × (p x ≡ true)
-any_of p [] h = absurd (cc (h))
-any_of p (x ∷ xs) h = elim (p x) as (λ b. p x ≡ b → (b || list_any p xs) ≡ true → (x : _) × (p x ≡ true)) [ true ↦ λ e k. (x, e) | false ↦ λ e k. any_of p xs k ] refl h
-
 there_is : {X : Type 0} (o : Option X) → is_some o ≡ true → (x : X) × (o ≡ Some x)
 there_is None h = absurd (cc (h))
 there_is (Some x) h = (x, refl)
-
-one_of : {P : Type 0} (a b : Bool) → (a || b) ≡ true → (a ≡ true → P) → (b ≡ true → P) → P
-one_of true b e f g = f refl
-one_of false b e f g = g e
 
 -- an existing dataset ends in a slash
 pub closed : (records : Stored) (d : List ℕ) → dataset_exists records d ≡ true → ends_with slash d ≡ true
 closed records d =
     elim (own_entry d) as (λ o. own_entry d ≡ o → (octets_eq d (slash ∷ []) || option_map_or makes_dataset (option_and_then (λ own. record_at records own.0 own.1) o) false) ≡ true → ends_with slash d ≡ true) [
       | Some own ↦ λ e h. sym (ap (ends_with slash) ((own_entry_law d (record { dataset = own.0; name = own.1 })).0 e).1) ∙ closed_by_slash (own.0 ++ own.1)
-      | None ↦ λ e h. ap (ends_with slash) ((bytes_decides d (slash ∷ [])).0 (left_of _ h))
+      | None ↦ λ e h. ap (ends_with slash) ((bytes_decides d (slash ∷ [])).0 (true_without _ h))
     ] refl
 
 pub record_name : (records : Stored) → IsSoundStore records → (chain : List (List ℕ)) (n : List ℕ) → has_record_on records chain n ≡ true → has slash n ≡ false
 record_name records sound chain n h =
-    let d = any_of (λ member. is_some (record_at records member n)) chain h in
+    let d = one_of_any (λ member. is_some (record_at records member n)) chain h in
     let r = there_is (record_at records d.0 n) d.1 in
     (form_law.split _ (sound.formed _ r.0 r.1)).name
 
 written_name : (written : Written) (old : Stored) → AreWellFormed written → (chain : List (List ℕ)) (n : List ℕ) → is_written_on written old chain n ≡ true → has slash n ≡ false
 written_name written old formed chain n h =
-    let d = any_of (λ member. is_written written old member n) chain h in
+    let d = one_of_any (λ member. is_written written old member n) chain h in
     let r = there_is (map.get written (record { dataset = d.0; name = n })) (written_fate written old d.0 n d.1) in
     (form_law.split _ (formed _ r.0 r.1)).name
 
 reached_name : (written : Written) (old : Stored) → AreWellFormed written → (records : Stored) → IsSoundStore records → (chain : List (List ℕ)) (n : List ℕ) → is_reached written old records chain n ≡ true → has slash n ≡ false
 reached_name written old formed records sound chain n h =
-    one_of (is_written_on written old chain n) _ h (written_name written old formed chain n) (λ k. record_name records sound chain n (second_so _ _ k))
+    true_cases (is_written_on written old chain n) _ h (written_name written old formed chain n) (λ k. record_name records sound chain n (second_so _ _ k))
 
-both_equal : (a b : Ordering) → ordering_then a b ≡ Equal → (a ≡ Equal) × (b ≡ Equal)
-both_equal Less b e = absurd (cc (e))
-both_equal Equal b e = (refl, e)
-both_equal Greater b e = absurd (cc (e))
-
-same_paths : IsAntisymmetric by_octets
-same_paths p q e =
-    let parts = both_equal (full_path_cmp p q) _ e in
-    let dataset : p.dataset ≡ q.dataset = octets_same _ _ parts.1 in
-    let name : p.name ≡ q.name = append_cancel_left p.dataset p.name q.name (octets_same _ _ parts.0 ∙ ap (λ d. d ++ q.name) (sym dataset)) in
-    λ i. record { dataset = dataset i; name = name i }
-
-same_answers : (a b : Option Match) → ((m : Match) → a ≡ Some m → b ≡ Some m) → ((m : Match) → b ≡ Some m → a ≡ Some m) → a ≡ b
+pub same_answers : (a b : Option Match) → ((m : Match) → a ≡ Some m → b ≡ Some m) → ((m : Match) → b ≡ Some m → a ≡ Some m) → a ≡ b
 same_answers None None f g = refl
 same_answers None (Some m) f g = g m refl
 same_answers (Some m) b f g = sym (f m refl)
@@ -161,7 +135,7 @@ module _ (nothing : NothingLaw) (names : NamesLaw) (listed : TouchedPathsLaw) (s
   unfolding is_touched
   touched_split p e = record {
     dataset = closed new.records p.dataset (first_so _ _ e);
-    name = one_of (is_reached written old.records old.records (chain_of old.records p.dataset false) p.name) _ (second_so _ _ e)
+    name = true_cases (is_reached written old.records old.records (chain_of old.records p.dataset false) p.name) _ (second_so _ _ e)
         (reached_name written old.records taken.formed old.records taken.sound.old_sound _ p.name)
         (reached_name written old.records taken.formed new.records taken.sound.new_sound _ p.name);
   }
@@ -201,7 +175,7 @@ module _ (nothing : NothingLaw) (names : NamesLaw) (listed : TouchedPathsLaw) (s
 
   looked_into : (p : Path) → Contains (changed_paths sought before after) p → Contains datasets p.dataset
   looked_into p k =
-      either (from_both before.paths _ p (from_filter _ _ p k).0)
+      either (Contains-append_cases before.paths _ p (from_filter _ _ p k).0)
       (λ l.
       let d = (seen.only old.records realm user (scope_of sought) p l).0 in
       (unread.datasets written old.records new.records step (scope_of sought) p.dataset (unread.only written old.records new.records step (scope_of sought) exists p.dataset d)).0 d)
@@ -243,7 +217,7 @@ module _ (nothing : NothingLaw) (names : NamesLaw) (listed : TouchedPathsLaw) (s
 
   moves_are : (ps : List Path) → ((p : Path) → Contains ps p → tuple_of after sought p ≡ match_told last (told p)) → moves_of sought after ps ≡ moves_to (match_told last) (each told ps)
   moves_are [] h = refl
-  moves_are (p ∷ ps) h = λ i. (told p, h p (here p ps) i) ∷ moves_are ps (λ q k. h q (there p q ps k)) i
+  moves_are (p ∷ ps) h = λ i. (told p, h p (Contains-here p ps) i) ∷ moves_are ps (λ q k. h q (Contains-there p q ps k)) i
 
 pub touched_moves_law : NothingLaw → NamesLaw → TouchedPathsLaw → SeenLaw → TouchedLaw → ChangedLaw → FoundLaw → MovedLaw → TouchedMovesLaw
 touched_moves_law nothing names listed seen unread changed found moved = record {

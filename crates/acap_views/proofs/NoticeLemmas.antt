@@ -1,7 +1,8 @@
 -- Notices by mixed lists lead from the old list of a search to the new one.
-use Rattle.std.proofs.Common.{◌≡◌, ℕ, Bool, true, false, not, Option, Some, None, List, ◌++◌, refl, sym, ◌∙◌, ap, subst, map as each}
+use Rattle.std.proofs.Common.{◌≡◌, ℕ, Bool, true, false, not, Some, None, List, ◌++◌, refl, sym, ◌∙◌, ap, subst, map as each}
 use Rattle.std.specs.List.{filter, Contains}
 use Rattle.std.proofs.lemmas.List.Sorted.{Contains-permutation, IsPermutation-sym}
+use Rattle.std.proofs.lemmas.List.Elements.{Contains-append_left, Contains-append_right}
 use Rattle.acap_entries.specs.Datasets.{dataset_exists}
 use Rattle.acap_entries.specs.Sound.{IsSoundStore}
 use Rattle.acap_entries.specs.Store.{Store}
@@ -29,13 +30,15 @@ use Rattle.acap_search.proofs.SeenLemmas.{in_map, in_filter}
 use Rattle.acap_search.proofs.SortLemmas.{Rises, sorted_by_rises}
 use Rattle.acap_search.proofs.TupleLemmas.{from_among, made_is}
 use Rattle.acap_search.proofs.WalkLemmas.{fresh_is}
+use Rattle.acap_search.proofs.OnceLemmas.{from_made, in_made}
 use Rattle.acap_views.specs.Changing.{IsSoundStep, sight_for}
 use Rattle.acap_views.specs.Current.{rows}
 use Rattle.acap_views.specs.Laws.{FoundLaw, MovedLaw, NoticeLaw}
 use Rattle.acap_views.specs.Notices.{ascending, told_shape, names_told, match_told, names_of_both, same_tuple, paths_of_both, changed_paths, changed_names, list_notices, event_notices}
 use Rattle.acap_views.proofs.SameLemmas.{same_exact}
-use Rattle.acap_views.proofs.ListLemmas.{among_ascending, ascends, from_made, in_made, in_front, in_back, among, distinct}
+use Rattle.acap_views.proofs.ListLemmas.{among_ascending, ascends, among, distinct}
 use Rattle.acap_views.proofs.ToldLemmas.{told_lawful, told_is, told_at, told_of_names, InTurn, in_turn, both_distinct, old_supports, new_supports, list_over}
+use Rattle.acap_views.proofs.MovingLemmas.{same_answers}
 
 -- ---- tuples
 
@@ -84,9 +87,9 @@ nothing old new sought p k l = rw (k, l) refl
 pub in_both : (old new : Sight) (sought : Sought) (p : Path) → same_tuple (tuple_of old sought p) (tuple_of new sought p) ≡ false → Contains (paths_of_both old new) p
 in_both old new sought p e =
     elim (paths.is_among old.paths p) as (λ b. paths.is_among old.paths p ≡ b → Contains (paths_of_both old new) p) [
-      | true ↦ λ k. in_front old.paths _ p (from_among old.paths p k)
+      | true ↦ λ k. Contains-append_left old.paths _ p (from_among old.paths p k)
       | false ↦ λ k. elim (paths.is_among new.paths p) as (λ b. paths.is_among new.paths p ≡ b → Contains (paths_of_both old new) p) [
-        | true ↦ λ l. in_back old.paths _ p (in_filter (λ path. not (paths.is_among old.paths path)) new.paths p (from_among new.paths p l) (ap not k))
+        | true ↦ λ l. Contains-append_right old.paths _ p (in_filter (λ path. not (paths.is_among old.paths path)) new.paths p (from_among new.paths p l) (ap not k))
         | false ↦ λ l. absurd (cc (e, nothing old new sought p k l))
       ] refl
     ] refl
@@ -102,11 +105,6 @@ unchanged old new sought p e =
           let kept = in_filter differs (paths_of_both old new) p (in_both old new sought p t) (ap not t) in
           absurd (cc (e, among_ascending (name_told sought.depth p) told ∙ among told _ (in_map (name_told sought.depth) (changed_paths sought old new) p kept)))
     ] refl)
-
-same_answers : (a b : Option Match) → ((m : Match) → a ≡ Some m → b ≡ Some m) → ((m : Match) → b ≡ Some m → a ≡ Some m) → a ≡ b
-same_answers None None f g = refl
-same_answers None (Some m) f g = g m refl
-same_answers (Some m) b f g = sym (f m refl)
 
 module _ (once : OnceLaw) (realm : Realm) (user : List ℕ) (sought : Sought) (old new : Store) (sound : IsSoundStep old new) (exists : dataset_exists old.records sought.dataset ≡ true) where
   abbrev before : Sight

@@ -1,12 +1,12 @@
 -- What is prepared of each touched entry comes to the change.
-use Rattle.std.proofs.Common.{◌≡◌, ℕ, ◌<◌, suc, Bool, true, false, not, cond, nat_lt, Option, Some, None, List, [], ◌∷◌, length, refl, sym, ◌∙◌, ap, subst, arith, map as each}
+use Rattle.std.proofs.Common.{◌≡◌, ℕ, ◌<◌, suc, Bool, true, false, cond, nat_lt, Option, Some, None, List, [], ◌∷◌, length, refl, sym, ◌∙◌, ap, subst, arith, map as each}
 use Rattle.std.specs.Cmp.{nat_cmp_total, tied_itself}
 use Rattle.std.specs.Cmp.Lexicographic.{nat_list_cmp_total}
 use Rattle.std.specs.FinMap as table
 use Rattle.std.specs.List.{filter, filter_map, sum_by, Contains}
 use Rattle.std.specs.Option.{option_map}
 use Rattle.acap_entries.specs.Datasets.{dataset_exists}
-use Rattle.std.proofs.lemmas.Bool.{lt-ltb}
+use Rattle.std.proofs.lemmas.Bool.{lt-ltb, not-false}
 use Rattle.std.proofs.lemmas.List.Sums.{sum_by-cons}
 use Rattle.acap_notices.specs.Waiting.{most_waiting}
 use Rattle.acap_notices.specs.declared.notice.Notice.{Notice}
@@ -15,6 +15,7 @@ use Rattle.acap_entries.specs.Orders.{octets_cmp}
 use Rattle.acap_entries.specs.Ranks.{item_at}
 use Rattle.acap_entries.specs.Store.{Store, Written}
 use Rattle.acap_entries.specs.declared.path.Path.{Path}
+use Rattle.acap_entries.proofs.Logic.{Contains-here, Contains-there, true_from_T}
 use Rattle.acap_inherit.specs.Laws.{NothingLaw, NamesLaw}
 use Rattle.acap_inherit.specs.TouchedLaws.{TouchedPathsLaw}
 use Rattle.acap_moves.specs.Hits.{Name, IsBelow, IsAscending}
@@ -33,7 +34,7 @@ use Rattle.acap_search.specs.Views.{answers_of, stars_at}
 use Rattle.acap_search.specs.declared.query.Sought.{Sought}
 use Rattle.acap_search.specs.declared.rank.SortPlace.{SortPlace}
 use Rattle.acap_search.proofs.OnceLemmas.{from_made, found_at, in_one, from_ordered}
-use Rattle.acap_search.proofs.SeenLemmas.{here, there, first_or, nowhere, either}
+use Rattle.acap_search.proofs.SeenLemmas.{first_or, nowhere, either, in_map}
 use Rattle.acap_search.proofs.TupleLemmas.{made_is}
 use Rattle.acap_views.specs.Aheads.{Planned, store_ahead}
 use Rattle.acap_views.specs.Changing.{sight_for, follows, changed_context, changed_occupant, changed_seats}
@@ -50,7 +51,6 @@ use Rattle.acap_views.specs.Shifting.{Shift, after_shifts, shifts_notices, until
 use Rattle.acap_views.specs.Work.{is_live, touched_for}
 use Rattle.acap_views.proofs.CurrentLemmas.{find_own}
 use Rattle.acap_views.proofs.FollowLemmas.{Apart, move_of, IsNamed, AreNamed, IsAsked, StoodThere, suffices, follow}
-use Rattle.acap_views.proofs.ListLemmas.{so}
 use Rattle.acap_views.proofs.MovingLemmas.{split_seen, looked_split, looked_in, alone, looked_rise}
 use Rattle.acap_views.proofs.PathLemmas.{IsIn}
 use Rattle.acap_views.proofs.SameLemmas.{same_exact}
@@ -65,23 +65,15 @@ below_itself n (x ∷ ns) m b k e =
     (λ s. cc (sym b.0 ∙ (ap (octets_cmp n) (s ∙ sym e) ∙ tied_itself nat_list_cmp_total n)))
     (λ l. below_itself n ns m b.1 l e)
 
-in_each : {A B : Type 0} (f : A → B) (xs : List A) (x : A) → Contains xs x → Contains (each f xs) (f x)
-in_each f [] x k = nowhere x k
-in_each f (y ∷ ys) x k = either (first_or y x ys k) (λ e. subst (λ z. Contains (f y ∷ each f ys) z) (ap f e) (here (f y) (each f ys))) (λ l. there (f y) (f x) (each f ys) (in_each f ys x l))
-
 apart : (depth : Option ℕ) (ps : List Path) → IsAscending (each (name_told depth) ps) → Apart ps
 apart depth [] a = tt
 apart depth (p ∷ ps) a = (
-  λ q k e. below_itself (name_told depth p) (each (name_told depth) ps) (name_told depth q) a.0 (in_each (name_told depth) ps q k) (ap (name_told depth) e),
+  λ q k e. below_itself (name_told depth p) (each (name_told depth) ps) (name_told depth q) a.0 (in_map (name_told depth) ps q k) (ap (name_told depth) e),
   apart depth ps a.1,
 )
 
 freed : (count : ℕ) (kept : Kept) → most_waiting < count → cond (nat_lt most_waiting count) Freed kept ≡ Freed
 freed count kept h = ap (λ b. cond b Freed kept) (lt-ltb _ _ h)
-
-not_changed : (b : Bool) → not b ≡ false → b ≡ true
-not_changed true e = refl
-not_changed false e = absurd (cc (e))
 
 all_of : (xs : List Shift) → filter (λ _. true) xs ≡ xs
 all_of [] = refl
@@ -158,7 +150,7 @@ module _ (nothing : NothingLaw) (names : NamesLaw) (listed : TouchedPathsLaw) (s
 
     same_moves : (ps : List Path) → ((p : Path) → Contains ps p → come p ≡ tuple_of after sought p) → each (move_of sought.dataset sought.depth was come) ps ≡ moves_of sought after ps
     same_moves [] h = refl
-    same_moves (p ∷ ps) h = λ i. (name_told sought.depth p, h p (here p ps) i) ∷ same_moves ps (λ q k. h q (there p q ps k)) i
+    same_moves (p ∷ ps) h = λ i. (name_told sought.depth p, h p (Contains-here p ps) i) ∷ same_moves ps (λ q k. h q (Contains-there p q ps k)) i
 
     apart_looked : Apart looked
     apart_looked = apart sought.depth looked (looked_rise nothing names listed seen unread changes found written old new realm user sought taken exists)
@@ -201,7 +193,7 @@ module _ (nothing : NothingLaw) (names : NamesLaw) (listed : TouchedPathsLaw) (s
     -- of a few all are taken, and of many those whose match has changed
     needed_at : (shown : List Match) (pending : List Notice) → kept_by shown last pending (due_among last (length pending) all) ≡ kept_by shown last pending all
     needed_at shown pending = elim (nat_lt few (length all)) as (λ b. kept_by shown last pending (until_full last (length pending) (cond b (filter (has_changed last) all) all)) ≡ kept_by shown last pending all) [
-      | true ↦ due_at shown pending (has_changed last) (λ p e. same_exact _ _ (not_changed _ e))
+      | true ↦ due_at shown pending (has_changed last) (λ p e. same_exact _ _ (not-false _ e))
       | false ↦ subst (λ ss. kept_by shown last pending (until_full last (length pending) ss) ≡ kept_by shown last pending all) (all_of all) (due_at shown pending (λ _. true) (λ p e. absurd (cc (e))))
     ]
 
@@ -226,15 +218,15 @@ module _ (nothing : NothingLaw) (names : NamesLaw) (listed : TouchedPathsLaw) (s
   are_current : (plan : Planned) (occupant : Occupant) → IsCurrentOccupant plan.old plan.realm occupant → (e : List ℕ × Context) → Contains (table.entries occupant.contexts) e
       → IsCurrentContext plan.old plan.realm occupant.user e.1
   are_current plan occupant current e k =
-      current.each e.0 e.1 (table.get-entries occupant.contexts e.0 ∙ find_own nat_list_cmp_total (table.entries occupant.contexts) e (so _ (table.entries_sorted occupant.contexts)) k)
+      current.each e.0 e.1 (table.get-entries occupant.contexts e.0 ∙ find_own nat_list_cmp_total (table.entries occupant.contexts) e (true_from_T _ (table.entries_sorted occupant.contexts)) k)
 
-  -- whatever is made for each context, so that it comes to the change of that one
+  -- whatever is made for each context, true_from_T that it comes to the change of that one
   module _ (plan : Planned) (made : List ℕ → Context → List Shift) (right : (user : List ℕ) (context : Context) → IsCurrentContext plan.old plan.realm user context
       → context_after (made user context) context ≡ changed_context plan.realm plan.old (store_ahead plan) user context) where
     all_contexts : (user : List ℕ) (es : List (List ℕ × Context)) → ((e : List ℕ × Context) → Contains es e → IsCurrentContext plan.old plan.realm user e.1)
         → contexts_after (each (made user) (each (λ e. e.1) es)) es ≡ filter_map (λ e. option_map (λ y. (e.0, y)) (Some (changed_context plan.realm plan.old (store_ahead plan) user e.1))) es
     all_contexts user [] current = refl
-    all_contexts user (e ∷ es) current = λ i. (e.0, right user e.1 (current e (here e es)) i) ∷ all_contexts user es (λ x k. current x (there e x es k)) i
+    all_contexts user (e ∷ es) current = λ i. (e.0, right user e.1 (current e (Contains-here e es)) i) ∷ all_contexts user es (λ x k. current x (Contains-there e x es k)) i
 
     one_occupant : (occupant : Occupant) → IsCurrentOccupant plan.old plan.realm occupant → occupant_after (turns_by made occupant) occupant ≡ changed_occupant plan.realm plan.old (store_ahead plan) occupant
     one_occupant occupant current = λ i. record occupant {
@@ -245,12 +237,12 @@ module _ (nothing : NothingLaw) (names : NamesLaw) (listed : TouchedPathsLaw) (s
     all_occupants : (es : List (ℕ × Occupant)) → ((e : ℕ × Occupant) → Contains es e → IsCurrentOccupant plan.old plan.realm e.1)
         → seats_after (each (turns_by made) (each (λ e. e.1) es)) es ≡ filter_map (λ e. option_map (λ y. (e.0, y)) (Some (changed_occupant plan.realm plan.old (store_ahead plan) e.1))) es
     all_occupants [] current = refl
-    all_occupants (e ∷ es) current = λ i. (e.0, one_occupant e.1 (current e (here e es)) i) ∷ all_occupants es (λ x k. current x (there e x es k)) i
+    all_occupants (e ∷ es) current = λ i. (e.0, one_occupant e.1 (current e (Contains-here e es)) i) ∷ all_occupants es (λ x k. current x (Contains-there e x es k)) i
 
     all_seats : (seats : Seated) (work : ℕ) → IsCurrent plan.old plan.realm seats
         → with_delta (record { seats = each (turns_by made) (table.values seats); work = work }) seats ≡ changed_seats plan.realm plan.old (store_ahead plan) seats
     all_seats seats work current = ap table.from_entries (all_occupants (table.entries seats)
-        (λ e k. current.all e.0 e.1 (table.get-entries seats e.0 ∙ find_own nat_cmp_total (table.entries seats) e (so _ (table.entries_sorted seats)) k)))
+        (λ e k. current.all e.0 e.1 (table.get-entries seats e.0 ∙ find_own nat_cmp_total (table.entries seats) e (true_from_T _ (table.entries_sorted seats)) k)))
 
   -- ---- how many are looked at
 

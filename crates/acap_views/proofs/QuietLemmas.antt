@@ -12,6 +12,8 @@ use Rattle.std.proofs.lemmas.List.Sums.{sum_by-cons}
 use Rattle.acap_entries.specs.Orders.{octets_cmp}
 use Rattle.acap_entries.specs.Sorted.{InOrder}
 use Rattle.acap_entries.specs.Store.{Store, Written}
+use Rattle.acap_entries.proofs.Logic.{first_not, second_not}
+use Rattle.acap_entries.proofs.StoreLemmas.{octets_same}
 use Rattle.acap_notices.specs.declared.notice.Notice.{Notice}
 use Rattle.acap_rights.specs.declared.realm.Realm.{Realm}
 use Rattle.acap_search.specs.Matches.{Match}
@@ -22,27 +24,19 @@ use Rattle.acap_views.specs.Listing.{as_contexts, as_seated, bare, bare_seat, li
 use Rattle.acap_views.specs.Maps.{each_value}
 use Rattle.acap_views.specs.Seats.{Occupant, Seated}
 use Rattle.acap_views.specs.Work.{is_live, any_live, has_live, touched_for, work_for, touched_within}
-use Rattle.acap_views.proofs.KeepingLemmas.{listed_entries, names_same}
+use Rattle.acap_views.proofs.KeepingLemmas.{listed_entries}
 use Rattle.acap_views.proofs.ShownLemmas.{get_value}
 use Rattle.acap_views.proofs.ValueLemmas.{entries_kept}
 
 -- ---- none of a list
-
-first_none : (a b : Bool) → (a || b) ≡ false → a ≡ false
-first_none true b e = absurd cc
-first_none false b e = refl
-
-others_none : (a b : Bool) → (a || b) ≡ false → b ≡ false
-others_none true b e = absurd cc
-others_none false b e = e
 
 module _ {X : Type 0} (p : X → Bool) where
   found_none : {K : Type 0} (R : K → K → Ordering) (q : K) (es : List (K × X)) (x : X) → list_any p (each (λ e. e.1) es) ≡ false → find R q es ≡ Some x → p x ≡ false
   found_none R q [] x none e = absurd cc
   found_none R q (e ∷ es) x none f =
       elim (eq_by_cmp R q e.0) as (λ b. cond b (Some e.1) (find R q es) ≡ Some x → p x ≡ false) [
-        | true ↦ λ g. (let same : e.1 ≡ x = cc in subst (λ y. p y ≡ false) same (first_none _ _ none))
-        | false ↦ λ g. found_none R q es x (others_none _ _ none) g
+        | true ↦ λ g. (let same : e.1 ≡ x = cc in subst (λ y. p y ≡ false) same (first_not _ _ none))
+        | false ↦ λ g. found_none R q es x (second_not _ _ none) g
       ] f
 
   got_none : {K : Type 0} {R : K → K → Ordering} (m : FinMap R X) (q : K) (x : X) → list_any p (table.values m) ≡ false → table.get m q ≡ Some x → p x ≡ false
@@ -59,7 +53,7 @@ module _ {X : Type 0} (p : X → Bool) where
 
   sum_none : (w : X → ℕ) → ((x : X) → p x ≡ false → w x ≡ 0) → (xs : List X) → list_any p xs ≡ false → sum_by w xs ≡ 0
   sum_none w zero [] none = refl
-  sum_none w zero (x ∷ xs) none = sum_by-cons w x xs ∙ (λ i. zero x (first_none _ _ none) i + sum_none w zero xs (others_none _ _ none) i)
+  sum_none w zero (x ∷ xs) none = sum_by-cons w x xs ∙ (λ i. zero x (first_not _ _ none) i + sum_none w zero xs (second_not _ _ none) i)
 
 -- ---- no context changes
 
@@ -74,7 +68,7 @@ context_same realm old new user context e = ap (λ kept. record context { kept =
 occupant_same : (realm : Realm) (old new : Store) (occupant : Occupant) → any_live occupant.contexts ≡ false → changed_occupant realm old new occupant ≡ occupant
 occupant_same realm old new occupant e =
     ap (λ contexts. record occupant { contexts = contexts })
-    (each_same (λ (c : Context). is_live c.kept) nat_list_cmp_total names_same (changed_context realm old new occupant.user) (λ c f. context_same realm old new occupant.user c f) occupant.contexts e)
+    (each_same (λ (c : Context). is_live c.kept) nat_list_cmp_total octets_same (changed_context realm old new occupant.user) (λ c f. context_same realm old new occupant.user c f) occupant.contexts e)
 
 pub quiet_same : (realm : Realm) (old new : Store) (seats : Seated) → has_live seats ≡ false → changed_seats realm old new seats ≡ seats
 quiet_same realm old new seats e =

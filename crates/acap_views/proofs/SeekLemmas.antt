@@ -4,11 +4,12 @@ use Rattle.std.specs.Borrow.{Bor}
 use Rattle.std.specs.List.{find, Contains}
 use Rattle.std.specs.Ordering.{eq_by_cmp, is_eq}
 use Rattle.acap_entries.specs.Ranks.{Ascending, item_at}
+use Rattle.acap_entries.proofs.Logic.{Contains-here, Contains-there, Equal_from_is_eq}
 use Rattle.acap_search.specs.Matches.{Match, match_cmp}
 use Rattle.acap_search.specs.Totals.{match_total}
-use Rattle.acap_search.proofs.SeenLemmas.{here, there, first_or, nowhere, either}
+use Rattle.acap_search.proofs.SeenLemmas.{first_or, nowhere, either}
 use Rattle.acap_views.specs.Seeking.{AreAmong, matches_left}
-use Rattle.acap_views.proofs.ShiftLemmas.{Rises, rises, tied}
+use Rattle.acap_views.proofs.ShiftLemmas.{Rises, rises}
 
 -- those behind the first
 pub others_among : (matches : List Match) (next : Option (Bor Match)) (others : List Match) → AreAmong matches (matches_left next others) → AreAmong matches others
@@ -22,11 +23,11 @@ first_among matches (Some m) others first e h = let same : m ≡ first = cc (e) 
 
 among_more : (m : Match) (matches others : List Match) → AreAmong matches others → AreAmong (m ∷ matches) others
 among_more m matches [] h = tt
-among_more m matches (x ∷ xs) h = (there m x matches h.0, among_more m matches xs h.1)
+among_more m matches (x ∷ xs) h = (Contains-there m x matches h.0, among_more m matches xs h.1)
 
 pub all_among : (matches : List Match) → AreAmong matches matches
 all_among [] = tt
-all_among (m ∷ ms) = (here m ms, among_more m ms ms (all_among ms))
+all_among (m ∷ ms) = (Contains-here m ms, among_more m ms ms (all_among ms))
 
 -- a match of the list that ties is the one that is found
 tied_there : (old x : Match) (hits : List Match) → Rises hits → Contains hits x → eq_by_cmp match_cmp old x ≡ true → find (eq_by_cmp match_cmp old) hits ≡ Some x
@@ -35,7 +36,7 @@ tied_there old x (h ∷ hs) r k e =
     either (first_or h x hs k)
     (λ same. ap (λ y. cond (eq_by_cmp match_cmp old y) (Some y) (find (eq_by_cmp match_cmp old) hs)) same ∙ ap (λ b. cond b (Some x) (find (eq_by_cmp match_cmp old) hs)) e)
     (λ l. elim (eq_by_cmp match_cmp old h) as (λ b. eq_by_cmp match_cmp old h ≡ b → cond b (Some h) (find (eq_by_cmp match_cmp old) hs) ≡ Some x) [
-      | true ↦ λ t. cc (sym e ∙ ap is_eq (match_total.congr old h x (tied _ t) ∙ r.0 x l))
+      | true ↦ λ t. cc (sym e ∙ ap is_eq (match_total.congr old h x (Equal_from_is_eq _ t) ∙ r.0 x l))
       | false ↦ λ t. tied_there old x hs r.1 l e
     ] refl)
 

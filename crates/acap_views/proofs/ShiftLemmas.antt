@@ -7,17 +7,19 @@ use Rattle.std.specs.Option.{option_map, option_copied}
 use Rattle.std.specs.Ordering.{eq_by_cmp, is_eq, is_lt, ordering_then, ordering_reverse}
 use Rattle.std.specs.declared.cmp.Ordering.{Ordering}
 use Rattle.std.specs.declared.cmp.Ordering.TheVariants.{Less, Equal, Greater}
+use Rattle.std.proofs.lemmas.Bool.{not-true}
 use Rattle.acap_entries.proofs.RankLaws.{rank_holds}
 use Rattle.acap_entries.proofs.RankLemmas.{rank_cons}
 use Rattle.acap_entries.specs.Orders.{octets_eq, octets_cmp}
 use Rattle.acap_entries.specs.Ranks.{Ascending, rank_of, item_at, with_item, without_item}
+use Rattle.acap_entries.proofs.Logic.{Equal_from_is_eq, Contains-here, Contains-there}
 use Rattle.acap_moves.specs.Hits.{Name, put, put_some, rank, found, spot}
 use Rattle.acap_moves.specs.Moves.{Undo, taken, after_move, undo_of, undone, all_undone, without, put_back}
 use Rattle.acap_moves.specs.Notices.{notice_at, notice_between}
 use Rattle.acap_moves.proofs.ListSteps.{Absent, spot_absent, spot_put}
 use Rattle.acap_search.specs.Matches.{Match, match_cmp}
 use Rattle.acap_search.specs.Totals.{match_total}
-use Rattle.acap_search.proofs.SeenLemmas.{here, there, first_or, nowhere, either, from_filter}
+use Rattle.acap_search.proofs.SeenLemmas.{first_or, nowhere, either, from_filter}
 use Rattle.acap_views.specs.Notices.{told_cmp, told_shape}
 use Rattle.acap_views.specs.Shifting.{Shift, placed_among, with_match, without_old, with_exchange, old_place, stands, undo_by, from_one, shift_notices, after_shift, move_by}
 
@@ -41,28 +43,23 @@ Agree name old hits = (h : Match) → Contains hits h → octets_eq name h.row.n
 abbrev pub Untied : Match → List Match → Type 0
 Untied old hits = (h : Match) → Contains hits h → eq_by_cmp match_cmp old h ≡ false
 
-pub tied : (o : Ordering) → is_eq o ≡ true → o ≡ Equal
-tied Less e = absurd (cc (e))
-tied Equal e = refl
-tied Greater e = absurd (cc (e))
-
 -- what comes behind a match that stood there didn't
 pub untied_behind : (old h : Match) (hs : List Match) → eq_by_cmp match_cmp old h ≡ true → ((x : Match) → Contains hs x → match_cmp h x ≡ Less) → Untied old hs
-untied_behind old h hs e b x k = ap is_eq (match_total.congr old h x (tied _ e) ∙ b x k)
+untied_behind old h hs e b x k = ap is_eq (match_total.congr old h x (Equal_from_is_eq _ e) ∙ b x k)
 
 pub all_kept : (p : Match → Bool) (xs : List Match) → ((x : Match) → Contains xs x → p x ≡ true) → filter p xs ≡ xs
 all_kept p [] h = refl
-all_kept p (x ∷ xs) h = rw (h x (here x xs)) (ap (λ t. x ∷ t) (all_kept p xs (λ y k. h y (there x y xs k))))
+all_kept p (x ∷ xs) h = rw (h x (Contains-here x xs)) (ap (λ t. x ∷ t) (all_kept p xs (λ y k. h y (Contains-there x y xs k))))
 
 none_found : (p : Match → Bool) (xs : List Match) → ((x : Match) → Contains xs x → p x ≡ false) → find p xs ≡ None
 none_found p [] h = refl
-none_found p (x ∷ xs) h = rw (h x (here x xs)) (none_found p xs (λ y k. h y (there x y xs k)))
+none_found p (x ∷ xs) h = rw (h x (Contains-here x xs)) (none_found p xs (λ y k. h y (Contains-there x y xs k)))
 
 pub where_found : (p : Match → Bool) (xs : List Match) (y : Match) → find p xs ≡ Some y → Contains xs y × (p y ≡ true)
 where_found p [] y e = absurd (cc (e))
 where_found p (x ∷ xs) y e = elim (p x) as (λ b. p x ≡ b → cond b (Some x) (find p xs) ≡ Some y → Contains (x ∷ xs) y × (p y ≡ true)) [
-  | true ↦ λ t s. let same : x ≡ y = cc (s) in (subst (λ z. Contains (x ∷ xs) z) same (here x xs), ap p (sym same) ∙ t)
-  | false ↦ λ t s. let r = where_found p xs y s in (there x y xs r.0, r.1)
+  | true ↦ λ t s. let same : x ≡ y = cc (s) in (subst (λ z. Contains (x ∷ xs) z) same (Contains-here x xs), ap p (sym same) ∙ t)
+  | false ↦ λ t s. let r = where_found p xs y s in (Contains-there x y xs r.0, r.1)
 ] refl e
 
 -- ---- what is taken out
@@ -91,15 +88,15 @@ stood_within old x hits a e = within hits (rank_of match_cmp old hits) x ((rank_
 taken_is : (name : Name) (old : Match) (hits : List Match) → Rises hits → Agree name old hits → taken told_shape name hits ≡ without_old old hits
 unfolding taken without_item
 taken_is name old [] r a = refl
-taken_is name old (h ∷ hs) r a = rw (a h (here h hs)) (
+taken_is name old (h ∷ hs) r a = rw (a h (Contains-here h hs)) (
     elim (eq_by_cmp match_cmp old h) as (λ b. eq_by_cmp match_cmp old h ≡ b → cond b hs (h ∷ taken told_shape name hs) ≡ cond (not b) (h ∷ filter (λ x. not (eq_by_cmp match_cmp old x)) hs) (filter (λ x. not (eq_by_cmp match_cmp old x)) hs)) [
       | true ↦ λ e. sym (all_kept _ hs (λ x k. ap not (untied_behind old h hs e r.0 x k)))
-      | false ↦ λ e. ap (λ t. h ∷ t) (taken_is name old hs r.1 (λ x k. a x (there h x hs k)))
+      | false ↦ λ e. ap (λ t. h ∷ t) (taken_is name old hs r.1 (λ x k. a x (Contains-there h x hs k)))
     ] refl)
 
 ranks_later : (old h x : Match) (hs : List Match) → eq_by_cmp match_cmp old x ≡ true → match_cmp h x ≡ Less → rank_of match_cmp old (h ∷ hs) ≡ suc (rank_of match_cmp old hs)
 ranks_later old h x hs e b =
-    let after : match_cmp old h ≡ Greater = match_total.congr old x h (tied _ e) ∙ (match_total.antisymm x h ∙ ap ordering_reverse b) in
+    let after : match_cmp old h ≡ Greater = match_total.congr old x h (Equal_from_is_eq _ e) ∙ (match_total.antisymm x h ∙ ap ordering_reverse b) in
     let before : match_cmp h old ≡ Less = match_total.antisymm h old ∙ ap ordering_reverse after in
     let first : cond {A = ℕ} (is_lt (match_cmp h old)) 1 0 ≡ 1 = ap (λ o. cond {A = ℕ} (is_lt o) 1 0) before in
     rank_cons match_cmp old h hs ∙ omega (arith, first)
@@ -108,15 +105,15 @@ none_before : (old : Match) (hs : List Match) → ((x : Match) → Contains hs x
 unfolding rank_of
 none_before old [] l = refl
 none_before old (x ∷ xs) l =
-    let behind : match_cmp x old ≡ Greater = match_total.antisymm x old ∙ ap ordering_reverse (l x (here x xs)) in
+    let behind : match_cmp x old ≡ Greater = match_total.antisymm x old ∙ ap ordering_reverse (l x (Contains-here x xs)) in
     let first : cond {A = ℕ} (is_lt (match_cmp x old)) 1 0 ≡ 0 = ap (λ o. cond {A = ℕ} (is_lt o) 1 0) behind in
-    rank_cons match_cmp old x xs ∙ omega (arith, first, none_before old xs (λ y k. l y (there x y xs k)))
+    rank_cons match_cmp old x xs ∙ omega (arith, first, none_before old xs (λ y k. l y (Contains-there x y xs k)))
 
 none_less : (old h : Match) (hs : List Match) → eq_by_cmp match_cmp old h ≡ true → ((x : Match) → Contains hs x → match_cmp h x ≡ Less) → rank_of match_cmp old (h ∷ hs) ≡ 0
 none_less old h hs e b =
-    let own : match_cmp h old ≡ Equal = match_total.antisymm h old ∙ ap ordering_reverse (tied _ e) in
+    let own : match_cmp h old ≡ Equal = match_total.antisymm h old ∙ ap ordering_reverse (Equal_from_is_eq _ e) in
     let first : cond {A = ℕ} (is_lt (match_cmp h old)) 1 0 ≡ 0 = ap (λ o. cond {A = ℕ} (is_lt o) 1 0) own in
-    rank_cons match_cmp old h hs ∙ omega (arith, first, none_before old hs (λ x k. match_total.congr old h x (tied _ e) ∙ b x k))
+    rank_cons match_cmp old h hs ∙ omega (arith, first, none_before old hs (λ x k. match_total.congr old h x (Equal_from_is_eq _ e) ∙ b x k))
 
 -- how many stand before what is found behind the first match
 later : (old h : Match) (hs : List Match) → ((x : Match) → Contains hs x → match_cmp h x ≡ Less) → (o : Option Match) → find (eq_by_cmp match_cmp old) hs ≡ o
@@ -130,13 +127,13 @@ later old h hs b (Some x) e =
 found_is : (name : Name) (old : Match) (hits : List Match) → Rises hits → Agree name old hits → found told_shape name hits ≡ old_place old hits
 unfolding found item_at
 found_is name old [] r a = refl
-found_is name old (h ∷ hs) r a = rw (a h (here h hs)) (
+found_is name old (h ∷ hs) r a = rw (a h (Contains-here h hs)) (
     elim (eq_by_cmp match_cmp old h) as (λ b. eq_by_cmp match_cmp old h ≡ b
     → cond {A = Option (ℕ × Match)} b (Some (zero, h)) (option_map next (found told_shape name hs))
     ≡ option_map (counted old (h ∷ hs)) (cond b (Some h) (find (eq_by_cmp match_cmp old) hs))) [
       | true ↦ λ e. ap (λ n. Some (n, h)) (sym (none_less old h hs e r.0))
       | false ↦ λ e.
-          ap (λ o. option_map next o) (found_is name old hs r.1 (λ x k. a x (there h x hs k)))
+          ap (λ o. option_map next o) (found_is name old hs r.1 (λ x k. a x (Contains-there h x hs k)))
           ∙ later old h hs r.0 (find (eq_by_cmp match_cmp old) hs) refl
     ] refl)
 
@@ -152,8 +149,8 @@ put_is come (h ∷ hs) u = elim (match_cmp come h) as (λ o. match_cmp come h �
     → by_order (ordering_then o (octets_cmp come.row.name h.row.name)) (come ∷ h ∷ hs) (come ∷ h ∷ hs) (h ∷ put told_shape come hs)
     ≡ by_order o (come ∷ h ∷ hs) (h ∷ hs) (h ∷ with_item match_cmp come hs)) [
       | Less ↦ λ e. refl
-      | Equal ↦ λ e. absurd (u h (here h hs) e)
-      | Greater ↦ λ e. ap (λ t. h ∷ t) (put_is come hs (λ x k. u x (there h x hs k)))
+      | Equal ↦ λ e. absurd (u h (Contains-here h hs) e)
+      | Greater ↦ λ e. ap (λ t. h ∷ t) (put_is come hs (λ x k. u x (Contains-there h x hs k)))
     ] refl
 
 all_behind : (come h : Match) (hs : List Match) → match_cmp come h ≡ Less → ((x : Match) → Contains hs x → match_cmp h x ≡ Less) → (x : Match) → Contains (h ∷ hs) x → match_cmp come x ≡ Less
@@ -165,10 +162,10 @@ rank_is come [] r u = refl
 rank_is come (h ∷ hs) r u = elim (match_cmp come h) as (λ o. match_cmp come h ≡ o
     → by_order (ordering_then o (octets_cmp come.row.name h.row.name)) 0 0 (suc (rank told_shape come hs)) ≡ rank_of match_cmp come (h ∷ hs)) [
       | Less ↦ λ e. sym (none_before come (h ∷ hs) (all_behind come h hs e r.0))
-      | Equal ↦ λ e. absurd (u h (here h hs) e)
+      | Equal ↦ λ e. absurd (u h (Contains-here h hs) e)
       | Greater ↦ λ e.
           let before : match_cmp h come ≡ Less = match_total.antisymm h come ∙ ap ordering_reverse e in
-          ap suc (rank_is come hs r.1 (λ x k. u x (there h x hs k)))
+          ap suc (rank_is come hs r.1 (λ x k. u x (Contains-there h x hs k)))
           ∙ sym (rank_cons match_cmp come h hs ∙ ap (λ q. cond (is_lt q) 1 0 + rank_of match_cmp come hs) before ∙ omega arith)
     ] refl
 
@@ -182,18 +179,14 @@ rises_without old (h ∷ hs) r = elim (eq_by_cmp match_cmp old h) as (λ b. Rise
   | false ↦ (λ x k. r.0 x (from_filter (λ y. not (eq_by_cmp match_cmp old y)) hs x k).0, rises_without old hs r.1)
 ]
 
-not_so : (b : Bool) → not b ≡ true → b ≡ false
-not_so true e = sym e
-not_so false e = refl
-
 pub left_of : (old : Match) (hits : List Match) (x : Match) → Contains (without_old old hits) x → Contains hits x × (eq_by_cmp match_cmp old x ≡ false)
 unfolding without_item
-left_of old hits x k = let r = from_filter (λ y. not (eq_by_cmp match_cmp old y)) hits x k in (r.0, not_so _ r.1)
+left_of old hits x k = let r = from_filter (λ y. not (eq_by_cmp match_cmp old y)) hits x k in (r.0, not-true _ r.1)
 
 absent_by : (name : Name) (hits : List Match) → ((x : Match) → Contains hits x → octets_eq name x.row.name ≡ false) → Absent told_shape name hits
 unfolding Absent
 absent_by name [] n = tt
-absent_by name (h ∷ hs) n = (n h (here h hs), absent_by name hs (λ x k. n x (there h x hs k)))
+absent_by name (h ∷ hs) n = (n h (Contains-here h hs), absent_by name hs (λ x k. n x (Contains-there h x hs k)))
 
 unequal : (o : Ordering) → (o ≡ Equal → ⊥) → is_eq o ≡ false
 unequal Less n = refl
@@ -333,8 +326,8 @@ unfolding with_item
 one_more come [] u = refl
 one_more come (h ∷ hs) u = elim (match_cmp come h) as (λ o. match_cmp come h ≡ o → length (by_order o (come ∷ h ∷ hs) (h ∷ hs) (h ∷ with_item match_cmp come hs)) ≡ suc (suc (length hs))) [
   | Less ↦ λ e. refl
-  | Equal ↦ λ e. absurd (u h (here h hs) e)
-  | Greater ↦ λ e. ap suc (one_more come hs (λ x k. u x (there h x hs k)))
+  | Equal ↦ λ e. absurd (u h (Contains-here h hs) e)
+  | Greater ↦ λ e. ap suc (one_more come hs (λ x k. u x (Contains-there h x hs k)))
 ] refl
 
 pub counted_more : (come : Match) (hits : List Match) → is_some (item_at match_cmp come hits) ≡ false → length (with_item match_cmp come hits) ≡ suc (length hits)
@@ -381,7 +374,7 @@ rank_left old [] = refl
 rank_left old (h ∷ hs) = elim (eq_by_cmp match_cmp old h) as (λ b. eq_by_cmp match_cmp old h ≡ b
     → rank_of match_cmp old (cond (not b) (h ∷ filter (λ x. not (eq_by_cmp match_cmp old x)) hs) (filter (λ x. not (eq_by_cmp match_cmp old x)) hs)) ≡ rank_of match_cmp old (h ∷ hs)) [
       | true ↦ λ e.
-          let own : match_cmp h old ≡ Equal = match_total.antisymm h old ∙ ap ordering_reverse (tied _ e) in
+          let own : match_cmp h old ≡ Equal = match_total.antisymm h old ∙ ap ordering_reverse (Equal_from_is_eq _ e) in
           let first : cond {A = ℕ} (is_lt (match_cmp h old)) 1 0 ≡ 0 = ap (λ o. cond {A = ℕ} (is_lt o) 1 0) own in
           rank_left old hs ∙ sym (rank_cons match_cmp old h hs ∙ omega (arith, first))
       | false ↦ λ e.
@@ -397,7 +390,7 @@ free_there : (old found : Match) (hits : List Match) → eq_by_cmp match_cmp old
 unfolding item_at
 free_there old found hits e =
     ap is_some (none_found (eq_by_cmp match_cmp found) (without_old old hits) (λ x k.
-    sym (ap is_eq (match_total.congr old found x (tied _ e))) ∙ (left_of old hits x k).1))
+    sym (ap is_eq (match_total.congr old found x (Equal_from_is_eq _ e))) ∙ (left_of old hits x k).1))
 
 stands_there : (old found : Match) (hits : List Match) (place : ℕ) → eq_by_cmp match_cmp old found ≡ true → place ≡ rank_of match_cmp found (without_old old hits)
     → Some place ≡ option_map place_in (stands old (Some found) hits)
@@ -406,7 +399,7 @@ stands_there old found hits place e p =
 
 -- to look for one of them is to look for the other
 same_tie : (old found x : Match) → eq_by_cmp match_cmp old found ≡ true → eq_by_cmp match_cmp found x ≡ eq_by_cmp match_cmp old x
-same_tie old found x e = sym (ap is_eq (match_total.congr old found x (tied _ e)))
+same_tie old found x e = sym (ap is_eq (match_total.congr old found x (Equal_from_is_eq _ e)))
 
 same_item : (old found : Match) (hits : List Match) → eq_by_cmp match_cmp old found ≡ true → item_at match_cmp found hits ≡ item_at match_cmp old hits
 unfolding item_at
@@ -424,9 +417,9 @@ replaced_is old found hits e = ap (with_item match_cmp found) (same_left old fou
 pub stood_at : (old come : Match) (hits : List Match) (place : ℕ) (found : Option Match) → eq_by_cmp match_cmp old come ≡ true
     → place ≡ rank_of match_cmp come hits → found ≡ item_at match_cmp come hits → option_map (counted_as place) found ≡ old_place old hits
 stood_at old come hits place found e p f =
-    ap (λ n. option_map (counted_as n) found) (p ∙ rank_tied old come hits (tied _ e)) ∙ ap (option_map (counted_as (rank_of match_cmp old hits))) (f ∙ same_item old come hits e)
+    ap (λ n. option_map (counted_as n) found) (p ∙ rank_tied old come hits (Equal_from_is_eq _ e)) ∙ ap (option_map (counted_as (rank_of match_cmp old hits))) (f ∙ same_item old come hits e)
 
 pub stands_at : (old found : Match) (hits : List Match) (place : ℕ) → eq_by_cmp match_cmp old found ≡ true → place ≡ rank_of match_cmp found hits
     → Some place ≡ option_map place_in (stands old (Some found) hits)
 stands_at old found hits place e p =
-    stands_there old found hits place e (p ∙ rank_tied old found hits (tied _ e) ∙ sym (rank_left old hits) ∙ sym (rank_tied old found (without_old old hits) (tied _ e)))
+    stands_there old found hits place e (p ∙ rank_tied old found hits (Equal_from_is_eq _ e) ∙ sym (rank_left old hits) ∙ sym (rank_tied old found (without_old old hits) (Equal_from_is_eq _ e)))

@@ -13,12 +13,13 @@ use Rattle.std.specs.declared.cmp.Ordering.TheVariants.{Less, Equal, Greater}
 use Rattle.acap_entries.specs.Orders.{octets_cmp}
 use Rattle.acap_entries.specs.Store.{Store}
 use Rattle.acap_entries.specs.declared.path.Path.{Path}
+use Rattle.acap_entries.proofs.Logic.{Contains-here, Contains-there, true_from_T, Less_from_is_lt}
 use Rattle.acap_notices.specs.declared.notice.Notice.{Notice}
 use Rattle.acap_rights.specs.declared.realm.Realm.{Realm}
 use Rattle.acap_search.specs.Fresh.{Sight, tuple_of, matches_of}
 use Rattle.acap_search.specs.Matches.{Match}
 use Rattle.acap_search.specs.declared.query.Sought.{Sought}
-use Rattle.acap_search.proofs.SeenLemmas.{here, there, first_or, nowhere, either, in_filter, from_filter}
+use Rattle.acap_search.proofs.SeenLemmas.{first_or, nowhere, either, in_filter, from_filter}
 use Rattle.acap_views.specs.Changing.{sight_for, follows, changed_context, changed_occupant}
 use Rattle.acap_views.specs.Contexts.{Kept, Snapshot, Live, Freed, Context, Contexts}
 use Rattle.acap_views.specs.Current.{IsToldAll, IsCurrentKept, IsCurrentContext, IsCurrentOccupant}
@@ -31,7 +32,7 @@ use Rattle.acap_views.specs.Notices.{changed_names, event_notices, same_tuple, p
 use Rattle.acap_views.specs.Seats.{Occupant}
 use Rattle.acap_views.specs.Telling.{shown_now, updated_to, after_update, after_updates, kept_drained, after_drain}
 use Rattle.acap_views.proofs.CurrentLemmas.{from_kept, AreCurrent, one_update}
-use Rattle.acap_views.proofs.ListLemmas.{so, less, among, from_among, among_ascending, ascends}
+use Rattle.acap_views.proofs.ListLemmas.{among, from_among, among_ascending, ascends}
 use Rattle.acap_views.proofs.NoticeLemmas.{in_both}
 use Rattle.acap_views.proofs.SameLemmas.{same_exact, same_itself}
 
@@ -43,7 +44,7 @@ module _ {K X Y : Type 0} {R : K → K → Ordering} (o : IsTotalOrder R) (f : X
 
   tied_none : (q k : K) (es : List (K × X)) → R q k ≡ Equal → below_all R k es ≡ true → find R q es ≡ None
   tied_none q k [] t b = refl
-  tied_none q k (e ∷ es) t b = ap (λ r. cond (is_eq r) (Some e.1) (find R q es)) (o.congr q k e.0 t ∙ less _ (first_so _ _ b)) ∙ tied_none q k es t (second_so _ _ b)
+  tied_none q k (e ∷ es) t b = ap (λ r. cond (is_eq r) (Some e.1) (find R q es)) (o.congr q k e.0 t ∙ Less_from_is_lt _ (first_so _ _ b)) ∙ tied_none q k es t (second_so _ _ b)
 
   tie : (r : Ordering) → is_eq r ≡ true → r ≡ Equal
   tie Less e = absurd (cc (e))
@@ -65,7 +66,7 @@ module _ {K X Y : Type 0} {R : K → K → Ordering} (o : IsTotalOrder R) (f : X
       ] refl
 
   pub get_kept : (m : FinMap R X) (q : K) → table.get (each_kept f m) q ≡ option_and_then f (table.get m q)
-  get_kept m q = table.get-from_entries o _ q ∙ find_made q (table.entries m) (so _ (table.entries_sorted m)) ∙ ap (option_and_then f) (sym (table.get-entries m q))
+  get_kept m q = table.get-from_entries o _ q ∙ find_made q (table.entries m) (true_from_T _ (table.entries_sorted m)) ∙ ap (option_and_then f) (sym (table.get-entries m q))
 
 always : {X Y : Type 0} (f : X → Y) (o : Option X) → option_and_then (λ x. Some (f x)) o ≡ option_map f o
 always f None = refl
@@ -143,8 +144,8 @@ not_named contexts q name last n =
 none_named : (contexts : Contexts) (names : List (List ℕ)) (q : List ℕ) (last : ℤ) → (Contains names q → ⊥) → table.get (after_updates contexts names last) q ≡ table.get contexts q
 none_named contexts [] q last n = refl
 none_named contexts (name ∷ names) q last n =
-    none_named (after_update contexts name last) names q last (λ k. n (there name q names k))
-    ∙ not_named contexts q name last (λ e. n (subst (λ z. Contains (name ∷ names) z) e (here name names)))
+    none_named (after_update contexts name last) names q last (λ k. n (Contains-there name q names k))
+    ∙ not_named contexts q name last (λ e. n (subst (λ z. Contains (name ∷ names) z) e (Contains-here name names)))
 
 drained_told : (store : Store) (realm : Realm) (user : List ℕ) (old new : Context) (kept : Kept) → IsCurrentKept (matches_of store.records realm user old.sought) old.enumerated kept → old.kept ≡ kept
     → kept_drained old kept ≡ Some new → IsToldAll (matches_of store.records realm user new.sought) new.kept

@@ -1,9 +1,11 @@
 -- Where no context may look at a touched entry, nothing is looked at, and nothing becomes of any.
-use Rattle.std.proofs.Common.{◌≡◌, ℕ, ◌+◌, ◌==◌, Bool, true, false, cond, ◌&&◌, ◌||◌, Option, Some, None, List, [], ◌∷◌, length, refl, sym, ◌∙◌, ap, map as each, if◌then◌else◌}
+use Rattle.std.proofs.Common.{◌≡◌, ℕ, ◌+◌, ◌==◌, Bool, true, false, cond, ◌&&◌, List, [], ◌∷◌, length, refl, sym, ◌∙◌, ap, map as each, if◌then◌else◌}
 use Rattle.std.specs.Prelude.{is_some}
 use Rattle.std.specs.List.{sum_by}
 use Rattle.std.proofs.lemmas.List.Sums.{sum_by-cons}
+use Rattle.std.proofs.lemmas.Bool.{and_left, or_from}
 use Rattle.acap_entries.specs.declared.path.Path.{Path}
+use Rattle.acap_entries.proofs.Logic.{first_not, second_not, None_from_is_some}
 use Rattle.acap_inherit.specs.Reaching.{TouchesNoOther}
 use Rattle.acap_search.specs.declared.query.Sought.{Sought}
 use Rattle.acap_views.specs.Aheads.{Planned, store_ahead, reaching}
@@ -17,26 +19,14 @@ use Rattle.acap_views.specs.Work.{is_live}
 use Rattle.acap_views.proofs.TouchingLemmas.{in_no_dataset, says_touched}
 use Rattle.acap_views.proofs.TurnLemmas.{work_there, shifts_there}
 
-first_no : (a b : Bool) → (a || b) ≡ false → a ≡ false
-first_no true b e = cc
-first_no false b e = refl
-
-second_no : (a b : Bool) → (a || b) ≡ false → b ≡ false
-second_no true b e = cc
-second_no false b e = e
-
 alone_no : (a : Bool) → (a && true) ≡ false → a ≡ false
 alone_no true e = cc
 alone_no false e = refl
 
-no_depth : {A : Type 0} (depth : Option A) → is_some depth ≡ false → depth ≡ None
-no_depth None e = refl
-no_depth (Some d) e = cc
-
 -- a live context that may not look looks at nothing
 module _ (plan : Planned) (sought : Sought) where
   none_looked : is_asked plan sought ≡ false → looked_at_by plan sought ≡ []
-  none_looked e = sym (in_no_dataset plan sought (second_no (is_some sought.depth) _ e) (no_depth sought.depth (first_no _ _ e)))
+  none_looked e = sym (in_no_dataset plan sought (second_not (is_some sought.depth) _ e) (None_from_is_some sought.depth (first_not _ _ e)))
 
   pub kept_silent : (user : List ℕ) (kept : Kept) → (is_asked plan sought && is_live kept) ≡ false
       → ((if is_live kept then length (looked_at_by plan sought) else 0) ≡ 0)
@@ -58,36 +48,28 @@ module _ (plan : Planned) (user : List ℕ) where
   no_work [] e = refl
   no_work (x ∷ es) e =
       sum_by-cons (work_there plan) x es
-      ∙ (λ i. work_silent x.1.context (first_no _ _ e) i + no_work es (second_no (may_look plan x.1.context) _ e) i)
+      ∙ (λ i. work_silent x.1.context (first_not _ _ e) i + no_work es (second_not (may_look plan x.1.context) _ e) i)
 
   all_still : (es : List (List ℕ × RoomyContext)) → any_may_look plan es ≡ false → is_still (each (shifts_there plan user) es) ≡ true
   all_still [] e = refl
   all_still (x ∷ es) e =
-      ap (λ (shifts : List Shift). (length shifts == 0) && is_still (each (shifts_there plan user) es)) (shifts_silent x.1.context (first_no _ _ e))
-      ∙ all_still es (second_no (may_look plan x.1.context) _ e)
+      ap (λ (shifts : List Shift). (length shifts == 0) && is_still (each (shifts_there plan user) es)) (shifts_silent x.1.context (first_not _ _ e))
+      ∙ all_still es (second_not (may_look plan x.1.context) _ e)
 
   pub no_turns : (es : List (List ℕ × RoomyContext)) → any_may_look plan es ≡ false → [] ≡ unless_still (each (shifts_there plan user) es)
   no_turns es e = sym (ap (λ b. cond b [] (each (shifts_there plan user) es)) (all_still es e))
 
 -- ---- where nothing is touched outside of a dataset
 
-pair_no : (a b : Bool) → a ≡ false → (a && b) ≡ false
-pair_no true b e = cc
-pair_no false b e = refl
-
-both_no : (a b : Bool) → a ≡ false → b ≡ false → (a || b) ≡ false
-both_no true b e f = cc
-both_no false b e f = f
-
 module _ (plan : Planned) (only : List ℕ) (no_other : TouchesNoOther (reaching plan) only) where
   not_asked : (sought : Sought) → may_be_in only sought ≡ false → is_asked plan sought ≡ false
   not_asked sought e =
-      both_no _ _ (first_no _ _ e)
-      (sym (says_touched plan (reaching plan) sought.dataset false refl (no_other sought.dataset (second_no (is_some sought.depth) _ e))))
+      or_from _ _ (first_not _ _ e)
+      (sym (says_touched plan (reaching plan) sought.dataset false refl (no_other sought.dataset (second_not (is_some sought.depth) _ e))))
 
   pub none_elsewhere : (es : List (List ℕ × RoomyContext)) → any_may_be_in only es ≡ false → any_may_look plan es ≡ false
   none_elsewhere [] e = refl
   none_elsewhere (x ∷ es) e =
-      both_no (may_look plan x.1.context) _
-      (pair_no _ _ (not_asked x.1.context.sought (first_no _ _ e)))
-      (none_elsewhere es (second_no (may_be_in only x.1.context.sought) _ e))
+      or_from (may_look plan x.1.context) _
+      (and_left _ _ (not_asked x.1.context.sought (first_not _ _ e)))
+      (none_elsewhere es (second_not (may_be_in only x.1.context.sought) _ e))

@@ -6,11 +6,11 @@ use Rattle.std.specs.Ordering.{eq_by_cmp, ordering_reverse}
 use Rattle.std.specs.declared.cmp.Ordering.TheVariants.{Less, Greater}
 use Rattle.acap_entries.proofs.Equalities.{row_exact}
 use Rattle.acap_entries.specs.Ranks.{item_at, with_item, without_item}
+use Rattle.acap_entries.proofs.Logic.{Contains-here}
 use Rattle.acap_moves.specs.Hits.{spot}
 use Rattle.acap_moves.specs.Notices.{notice_at, notice_between}
 use Rattle.acap_search.specs.Matches.{Match, match_cmp}
 use Rattle.acap_search.specs.Totals.{match_total}
-use Rattle.acap_search.proofs.SeenLemmas.{here}
 use Rattle.acap_views.specs.Notices.{told_shape}
 use Rattle.acap_views.specs.Shifting.{Shift, with_match, without_old, shift_notices, after_shift}
 use Rattle.acap_views.proofs.ShiftLemmas.{Rises, IsApt, all_kept, untied_behind, where_found, shift_is, told_is}
@@ -20,7 +20,7 @@ use Rattle.acap_views.proofs.ShiftLemmas.{Rises, IsApt, all_kept, untied_behind,
 put_first : (come : Match) (hits : List Match) → ((x : Match) → Contains hits x → match_cmp come x ≡ Less) → with_item match_cmp come hits ≡ come ∷ hits
 unfolding with_item
 put_first come [] b = refl
-put_first come (h ∷ hs) b = ap (λ o. by_order o (come ∷ h ∷ hs) (h ∷ hs) (h ∷ with_item match_cmp come hs)) (b h (here h hs))
+put_first come (h ∷ hs) b = ap (λ o. by_order o (come ∷ h ∷ hs) (h ∷ hs) (h ∷ with_item match_cmp come hs)) (b h (Contains-here h hs))
 
 put_behind : (old h : Match) (hs es : List Match) → ((x : Match) → Contains hs x → match_cmp h x ≡ Less) → (o : Option Match) → find (eq_by_cmp match_cmp old) hs ≡ o
     → with_match o es ≡ hs → with_match o (h ∷ es) ≡ h ∷ hs

@@ -8,8 +8,8 @@ use Rattle.acap_notices.specs.Waiting.{most_waiting}
 use Rattle.acap_notices.specs.declared.notice.Notice.{Notice}
 use Rattle.acap_rights.specs.declared.realm.Realm.{Realm}
 use Rattle.acap_search.specs.Matches.{Match}
-use Rattle.acap_search.proofs.SeenLemmas.{here, there}
 use Rattle.acap_entries.specs.Store.{Store}
+use Rattle.acap_entries.proofs.Logic.{Contains-here, Contains-there}
 use Rattle.acap_views.specs.Contexts.{Kept, Snapshot, Live, Freed, Context}
 use Rattle.acap_views.specs.Current.{IsCurrentKept, IsCurrentContext}
 use Rattle.acap_views.specs.Plans.{is_still, unless_still, shifts_count}
@@ -44,7 +44,7 @@ module _ (store : Store) (realm : Realm) (user : List ℕ) where
   contexts_still [] es s i = refl
   contexts_still (shifts ∷ turns) [] s i = refl
   contexts_still (shifts ∷ turns) (e ∷ es) s i = λ j.
-      (e.0, context_still shifts e.1 (first_so _ _ s) (i e (here e es)) j) ∷ contexts_still turns es (second_so _ _ s) (λ x k. i x (there e x es k)) j
+      (e.0, context_still shifts e.1 (first_so _ _ s) (i e (Contains-here e es)) j) ∷ contexts_still turns es (second_so _ _ s) (λ x k. i x (Contains-there e x es k)) j
 
   pub contexts_trimmed : (turns : List (List Shift)) (es : List (List ℕ × Context)) → ((e : List ℕ × Context) → Contains es e → IsCurrentContext store realm user e.1)
       → contexts_after (unless_still turns) es ≡ contexts_after turns es

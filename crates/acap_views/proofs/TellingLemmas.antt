@@ -10,6 +10,7 @@ use Rattle.std.specs.declared.cmp.Ordering.TheVariants.{Less, Equal, Greater}
 use Rattle.std.proofs.lemmas.List.{take_more, append-nil}
 use Rattle.acap_entries.specs.Orders.{octets_cmp, octets_eq}
 use Rattle.acap_entries.specs.Sorted.{InOrder, found}
+use Rattle.acap_entries.proofs.StoreLemmas.{octets_same}
 use Rattle.acap_notices.specs.Batches as batches
 use Rattle.acap_notices.specs.Batches.{all_told, told_in}
 use Rattle.acap_notices.specs.declared.batch.Batch.{Batch}
@@ -23,7 +24,7 @@ use Rattle.acap_views.specs.Listing.{as_contexts, bare, waiting_after}
 use Rattle.acap_views.specs.Telling.{notes_of, shown_now, fault_in, fault_at, told_by_name, updated_to, after_update, after_updates, told_in_turn, drain_told}
 use Rattle.acap_views.specs.Waiting.{waits}
 use Rattle.acap_views.specs.declared.refusal.ViewRefusal.TheVariants as refusal
-use Rattle.acap_views.proofs.KeepingLemmas.{names_same, listed_entries, get_listed}
+use Rattle.acap_views.proofs.KeepingLemmas.{listed_entries, get_listed}
 use Rattle.acap_views.proofs.LoopLemmas.{one_dropped}
 
 -- ---- one context
@@ -111,7 +112,7 @@ module _ (q : List ℕ) (last : ℤ) where
   apart name e =
       elim (octets_cmp q name) as (λ r. octets_cmp q name ≡ r → is_eq r ≡ false) [
         | Less ↦ λ t. refl
-        | Equal ↦ λ t. let same : octets_eq name q ≡ true = (bytes_decides name q).1 (sym (names_same q name t)) in absurd (cc (e, same))
+        | Equal ↦ λ t. let same : octets_eq name q ≡ true = (bytes_decides name q).1 (sym (octets_same q name t)) in absurd (cc (e, same))
         | Greater ↦ λ t. refl
       ] refl
 

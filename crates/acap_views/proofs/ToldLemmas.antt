@@ -6,29 +6,25 @@ use Rattle.std.specs.FinMap.{slice_cmp-IsAntisymmetric, nat_cmp-IsAntisymmetric}
 use Rattle.std.specs.FinMap.Entries.{by_order}
 use Rattle.std.specs.List.{filter, Contains}
 use Rattle.std.specs.Ordering.{is_lt, is_gt, ordering_then, ordering_reverse}
-use Rattle.std.specs.declared.cmp.Ordering.{Ordering}
 use Rattle.std.specs.declared.cmp.Ordering.TheVariants.{Less, Equal, Greater}
+use Rattle.std.proofs.lemmas.Bool.{or_parts}
 use Rattle.acap_entries.specs.Orders.{octets_cmp, octets_eq}
+use Rattle.acap_entries.proofs.Logic.{second_Equal, Contains-here, Contains-there}
 use Rattle.acap_moves.specs.Hits.{Name, IsLawful, is_among, IsDistinct, put, put_some, fresh, IsOfNames, Supports}
 use Rattle.acap_moves.proofs.Splits.{same_name, itself, distinct_first, distinct_rest, fresh_same}
 use Rattle.acap_moves.proofs.Domain.{same_domain}
 use Rattle.acap_moves.proofs.Touched.{among_filter}
 use Rattle.acap_search.specs.Matches.{Match, match_cmp, match_lt}
 use Rattle.acap_search.proofs.OrderLemmas.{match_total, match_weak}
-use Rattle.acap_search.proofs.SeenLemmas.{here, there, first_or, nowhere, either}
+use Rattle.acap_search.proofs.SeenLemmas.{first_or, nowhere, either}
 use Rattle.acap_search.proofs.SortLemmas.{Above, Rises}
 use Rattle.acap_views.specs.Notices.{told_cmp, told_shape, names_told, match_told, names_of_both}
 use Rattle.acap_views.proofs.ListLemmas.{among_append, distinct_both}
 
-then_equal : (a b : Ordering) → ordering_then a b ≡ Equal → b ≡ Equal
-then_equal Less b e = absurd (cc (e))
-then_equal Equal b e = e
-then_equal Greater b e = absurd (cc (e))
-
 pub told_lawful : IsLawful told_shape
 told_lawful = record {
   order_total = then_total match_total (on_total (λ (m : Match). m.row.name) nat_list_cmp_total);
-  order_name = λ a b e. slice_cmp-IsAntisymmetric nat_cmp-IsAntisymmetric a.row.name b.row.name (then_equal (match_cmp a b) _ e);
+  order_name = λ a b e. slice_cmp-IsAntisymmetric nat_cmp-IsAntisymmetric a.row.name b.row.name (second_Equal (match_cmp a b) _ e);
   row_name = λ h. refl;
 }
 
@@ -38,8 +34,8 @@ pub told_is : (ms : List Match) (name : Name) (m : Match) → match_told ms name
 told_is [] name m e = absurd (cc (e))
 told_is (x ∷ xs) name m e =
     elim (octets_eq name x.row.name) as (λ b. octets_eq name x.row.name ≡ b → cond b (Some x) (match_told xs name) ≡ Some m → Contains (x ∷ xs) m × (m.row.name ≡ name)) [
-      | true ↦ λ t k. let same : x ≡ m = cc (k) in (subst (λ z. Contains (x ∷ xs) z) same (here x xs), ap (λ (m : Match). m.row.name) (sym same) ∙ sym (same_name name x.row.name t))
-      | false ↦ λ t k. let r = told_is xs name m k in (there x m xs r.0, r.1)
+      | true ↦ λ t k. let same : x ≡ m = cc (k) in (subst (λ z. Contains (x ∷ xs) z) same (Contains-here x xs), ap (λ (m : Match). m.row.name) (sym same) ∙ sym (same_name name x.row.name t))
+      | false ↦ λ t k. let r = told_is xs name m k in (Contains-there x m xs r.0, r.1)
     ] refl e
 
 pub told_none : (ms : List Match) (name : Name) → is_among name (names_told ms) ≡ false → match_told ms name ≡ None
@@ -96,13 +92,13 @@ not_behind m y below ties =
 
 leads : (m : Match) (ms : List Match) → Above match_lt match_weak m ms → ((y : Match) → Contains ms y → match_cmp m y ≡ Equal → m.row.name ≡ y.row.name) → Leads m ms
 leads m [] a t = tt
-leads m (y ∷ ys) a t = (not_behind m y a.0 (t y (here y ys)), leads m ys a.1 (λ z k. t z (there y z ys k)))
+leads m (y ∷ ys) a t = (not_behind m y a.0 (t y (Contains-here y ys)), leads m ys a.1 (λ z k. t z (Contains-there y z ys k)))
 
 pub in_turn : (ms : List Match) → Rises match_lt match_weak ms → ((a b : Match) → Contains ms a → Contains ms b → match_cmp a b ≡ Equal → a.row.name ≡ b.row.name) → InTurn ms
 in_turn [] r t = tt
 in_turn (m ∷ ms) r t = (
-  leads m ms r.0 (λ y k. t m y (here m ms) (there m y ms k)),
-  in_turn ms r.1 (λ a b k l. t a b (there m a ms k) (there m b ms l)),
+  leads m ms r.0 (λ y k. t m y (Contains-here m ms) (Contains-there m y ms k)),
+  in_turn ms r.1 (λ a b k l. t a b (Contains-there m a ms k) (Contains-there m b ms l)),
 )
 
 put_first : (m : Match) (ms : List Match) → Leads m ms → put told_shape m ms ≡ m ∷ ms
@@ -129,21 +125,17 @@ fresh_itself (m ∷ ms) t d =
 pub both_distinct : (old new : List Match) → IsDistinct (names_told old) → IsDistinct (names_told new) → IsDistinct (names_of_both old new)
 both_distinct old new d e = distinct_both (names_told old) (names_told new) d e
 
-out_of_or : (a b : Bool) → (a || b) ≡ false → (a ≡ false) × (b ≡ false)
-out_of_or true b e = absurd (cc (e))
-out_of_or false b e = (refl, e)
-
 out_of_new : (a b : Bool) → a ≡ false → (not a && b) ≡ false → b ≡ false
 out_of_new true b e f = absurd (cc (e))
 out_of_new false b e f = f
 
 pub old_supports : (old new : List Match) → Supports (match_told old) (names_of_both old new)
-old_supports old new = record { none_elsewhere = λ name e. told_none old name (out_of_or _ _ (sym (among_append name (names_told old) _) ∙ e)).0 }
+old_supports old new = record { none_elsewhere = λ name e. told_none old name (or_parts _ _ (sym (among_append name (names_told old) _) ∙ e)).0 }
 
 pub new_supports : (old new : List Match) → Supports (match_told new) (names_of_both old new)
 new_supports old new = record {
   none_elsewhere = λ name e.
-      let parts = out_of_or _ _ (sym (among_append name (names_told old) (filter (λ name. not (is_among name (names_told old))) (names_told new))) ∙ e) in
+      let parts = or_parts _ _ (sym (among_append name (names_told old) (filter (λ name. not (is_among name (names_told old))) (names_told new))) ∙ e) in
       told_none new name (out_of_new (is_among name (names_told old)) _ parts.0 (sym (among_filter (λ name. not (is_among name (names_told old))) name (names_told new)) ∙ parts.1));
 }
 

@@ -1,7 +1,7 @@
 -- Which touched entries a search looks at.
 use Rattle.std.proofs.Common.{◌≡◌, ℕ, Bool, true, false, cond, ◌&&◌, ◌||◌, Option, Some, None, List, [], ◌∷◌, ◌⊎◌, inl, inr, refl, sym, ◌∙◌, ap, subst, map as each}
 use Rattle.std.specs.Cmp.{both_ways}
-use Rattle.std.specs.Cmp.Lexicographic.{bytes_decides, nat_list_eq_equiv}
+use Rattle.std.specs.Cmp.Lexicographic.{nat_list_eq_equiv}
 use Rattle.std.specs.List.{filter, list_any, Contains}
 use Rattle.std.specs.Option.{option_map_or}
 use Rattle.std.proofs.lemmas.Map.Views.{Contains-from_any, list_any-from_Contains}
@@ -13,16 +13,19 @@ use Rattle.acap_entries.proofs.StoreLemmas.{octets_same}
 use Rattle.acap_entries.specs.Ranks.{with_item}
 use Rattle.std.specs.FinMap.Entries.{by_order}
 use Rattle.std.specs.declared.cmp.Ordering.TheVariants.{Less, Equal, Greater}
+use Rattle.std.proofs.Math.Bool.{or-false, and-false}
+use Rattle.acap_notices.proofs.RowLemmas.{other_way}
 use Rattle.acap_entries.specs.Store.{Store, Stored}
 use Rattle.acap_entries.specs.declared.change.Change.{Change}
 use Rattle.acap_entries.specs.declared.path.Path.{Path}
+use Rattle.acap_entries.proofs.Logic.{Contains-here, Contains-there}
 use Rattle.acap_inherit.specs.Leaving.{AreTouchedAt}
 use Rattle.acap_inherit.specs.Reaching.{Reaching, SaysWhether, AreTouchedAmong, lies_in}
 use Rattle.acap_inherit.specs.Touched.{ordered_among, touched_paths, datasets_touched}
 use Rattle.acap_search.specs.Scoped.{SaysWhether as SaysLooked}
 use Rattle.acap_search.specs.Scopes.{Scope, datasets_of, beneath}
 use Rattle.acap_search.specs.declared.query.Sought.{Sought}
-use Rattle.acap_search.proofs.SeenLemmas.{here, there, first_or, nowhere, either, at_first, in_map, same_name}
+use Rattle.acap_search.proofs.SeenLemmas.{first_or, nowhere, either, at_first, in_map, same_name}
 use Rattle.acap_views.specs.Aheads.{Planned, store_ahead, reaching}
 use Rattle.acap_views.specs.Touching.{touched_by, looks_at, looks_into, is_touched_in, looked_at_by, AreReached, ArePathsNoted}
 use Rattle.acap_views.specs.declared.noted.NotedPaths.{NotedPaths}
@@ -35,22 +38,11 @@ whether records scope dataset answer formed says =
     (λ e. list_any-from_Contains nat_list_eq_equiv dataset (datasets_of records scope) ((says formed).0 e))
     (λ e. (says formed).1 (Contains-from_any same_name dataset (datasets_of records scope) e))
 
-and_false : (b : Bool) → (b && false) ≡ false
-and_false true = refl
-and_false false = refl
-
-or_false : (b : Bool) → (b || false) ≡ b
-or_false true = refl
-or_false false = refl
-
-turned : (a b : List ℕ) → octets_eq a b ≡ octets_eq b a
-turned a b = both_ways (octets_eq a b) (octets_eq b a) (λ e. (bytes_decides b a).1 (sym (same_name a b e))) (λ e. (bytes_decides a b).1 (sym (same_name b a e)))
-
 -- without DEPTH the one dataset is looked through
 alone : (records : Stored) (sought : Sought) → sought.depth ≡ None → (path : Path) → octets_eq sought.dataset path.dataset ≡ is_looked_at records sought path
 alone records sought none path =
-    turned sought.dataset path.dataset
-    ∙ (sym (or_false (octets_eq path.dataset sought.dataset))
+    other_way sought.dataset path.dataset
+    ∙ (sym (or-false (octets_eq path.dataset sought.dataset))
     ∙ sym (ap (λ depth. list_any (octets_eq path.dataset) (sought.dataset ∷ option_map_or (beneath records sought.dataset) depth [])) none))
 
 pub in_one_dataset : (change : Change) (old : Store) (sought : Sought) (paths : List Path) → AreTouchedAt change old sought.dataset paths → sought.depth ≡ None
@@ -65,11 +57,11 @@ in_put : (x q : List ℕ) (ys : List (List ℕ)) → (x ≡ q) ⊎ Contains ys q
 unfolding with_item
 in_put x q [] k = either k (λ e. at_first x q [] e) (λ l. nowhere q l)
 in_put x q (y ∷ ys) k = elim (octets_cmp x y) as (λ o. octets_cmp x y ≡ o → Contains (by_order o (x ∷ y ∷ ys) (y ∷ ys) (y ∷ with_item octets_cmp x ys)) q) [
-  | Less ↦ λ e. either k (λ s. at_first x q (y ∷ ys) s) (λ l. there x q (y ∷ ys) l)
+  | Less ↦ λ e. either k (λ s. at_first x q (y ∷ ys) s) (λ l. Contains-there x q (y ∷ ys) l)
   | Equal ↦ λ e. either k (λ s. at_first y q ys (sym (octets_same x y e) ∙ s)) (λ l. l)
   | Greater ↦ λ e. either k
-      (λ s. there y q (with_item octets_cmp x ys) (in_put x q ys (inl s)))
-      (λ l. either (first_or y q ys l) (λ s. at_first y q (with_item octets_cmp x ys) s) (λ m. there y q (with_item octets_cmp x ys) (in_put x q ys (inr m))))
+      (λ s. Contains-there y q (with_item octets_cmp x ys) (in_put x q ys (inl s)))
+      (λ l. either (first_or y q ys l) (λ s. at_first y q (with_item octets_cmp x ys) s) (λ m. Contains-there y q (with_item octets_cmp x ys) (in_put x q ys (inr m))))
 ] refl
 
 in_ordered : (q : List ℕ) (xs : List (List ℕ)) → Contains xs q → Contains (ordered_among octets_cmp xs []) q
@@ -86,7 +78,7 @@ touched_within change old path k =
 
 none_kept : (p : Path → Bool) (xs : List Path) → ((x : Path) → Contains xs x → p x ≡ false) → filter p xs ≡ []
 none_kept p [] h = refl
-none_kept p (x ∷ xs) h = rw (h x (here x xs)) (none_kept p xs (λ y k. h y (there x y xs k)))
+none_kept p (x ∷ xs) h = rw (h x (Contains-here x xs)) (none_kept p xs (λ y k. h y (Contains-there x y xs k)))
 
 pub in_no_dataset : (plan : Planned) (sought : Sought) → is_touched_in plan sought.dataset ≡ false → sought.depth ≡ None → [] ≡ looked_at_by plan sought
 in_no_dataset plan sought lacks none =
@@ -114,7 +106,7 @@ picked f q (x ∷ xs) =
           ap (λ y. any (cond (f y) (x ∷ rest) rest)) (sym (same_name q x e))
           ∙ elim (f q) as (λ b. f q ≡ b → any (cond b (x ∷ rest) rest) ≡ b) [
             | true ↦ λ _. ap (λ b. b || any rest) e
-            | false ↦ λ n. picked f q xs ∙ (ap (λ b. any xs && b) n ∙ and_false (any xs))
+            | false ↦ λ n. picked f q xs ∙ (ap (λ b. any xs && b) n ∙ and-false (any xs))
           ] refl
       | false ↦ λ e. elim (f x) as (λ b. any (cond b (x ∷ rest) rest) ≡ (any xs && f q)) [
         | true ↦ ap (λ b. b || any rest) e ∙ picked f q xs

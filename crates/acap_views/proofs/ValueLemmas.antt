@@ -1,5 +1,5 @@
 -- Finite maps with other values: what stands where, and what an edit makes of them.
-use Rattle.std.proofs.Common.{◌≡◌, ℕ, suc, Bool, true, false, cond, ◌&&◌, T, Option, Some, None, List, [], ◌∷◌, length, is_some, refl, sym, ◌∙◌, ap, subst, map as each}
+use Rattle.std.proofs.Common.{◌≡◌, ℕ, Bool, true, false, cond, ◌&&◌, T, Option, Some, None, List, [], ◌∷◌, length, is_some, refl, sym, ◌∙◌, ap, subst, map as each}
 use Rattle.std.specs.Cmp.{IsTotalOrder}
 use Rattle.std.specs.FinMap as table
 use Rattle.std.specs.FinMap.{FinMap, IsAntisymmetric, is_sorted, same_map}
@@ -10,6 +10,8 @@ use Rattle.std.specs.Ordering.{eq_by_cmp, is_eq, is_lt}
 use Rattle.std.specs.declared.cmp.Ordering.{Ordering}
 use Rattle.std.specs.declared.cmp.Ordering.TheVariants.{Less, Equal, Greater}
 use Rattle.acap_entries.specs.Sorted.{InOrder, place, is_tied}
+use Rattle.std.proofs.lemmas.List.{length-map}
+use Rattle.acap_entries.proofs.Logic.{None_from_is_some}
 use Rattle.acap_views.specs.Maps.{each_value}
 use Rattle.acap_views.proofs.ShownLemmas.{get_value}
 
@@ -48,14 +50,6 @@ out_of f false o = refl
 some_either : {X Y : Type 0} (f : X → Y) (o : Option X) → is_some (option_map f o) ≡ is_some o
 some_either f None = refl
 some_either f (Some x) = refl
-
-nothing : {X : Type 0} (o : Option X) → is_some o ≡ false → o ≡ None
-nothing None e = refl
-nothing (Some x) e = absurd (cc (e))
-
-same_length : {X Y : Type 0} (f : X → Y) (xs : List X) → length (each f xs) ≡ length xs
-same_length f [] = refl
-same_length f (x ∷ xs) = ap suc (same_length f xs)
 
 module _ {K X Y : Type 0} {R : K → K → Ordering} (o : IsTotalOrder R) (same : IsAntisymmetric R) (f : X → Y) where
   abbrev entry : K × X → K × Y
@@ -110,13 +104,13 @@ module _ {K X Y : Type 0} {R : K → K → Ordering} (o : IsTotalOrder R) (same 
 
   pub len_value : (m : FinMap R X) → table.len (each_value f m) ≡ table.len m
   len_value m =
-      table.len-entries (each_value f m) ∙ ap length (entries_value m) ∙ same_length entry (table.entries m) ∙ sym (table.len-entries m)
+      table.len-entries (each_value f m) ∙ ap length (entries_value m) ∙ length-map (table.entries m) entry ∙ sym (table.len-entries m)
 
 pub remove_missing : {K X : Type 0} {R : K → K → Ordering} (o : IsTotalOrder R) (same : IsAntisymmetric R) (m : FinMap R X) (k : K) → table.contains_key m k ≡ false → table.remove m k ≡ m
 remove_missing {R = R} o same m k h = same_map o same _ _ (λ q.
     table.get-remove o m k q
     ∙ elim (R q k) as (λ r. R q k ≡ r → cond (is_eq r) None (table.get m q) ≡ table.get m q) [
       | Less ↦ λ t. refl
-      | Equal ↦ λ t. sym (ap (table.get m) (same q k t) ∙ nothing (table.get m k) h)
+      | Equal ↦ λ t. sym (ap (table.get m) (same q k t) ∙ None_from_is_some (table.get m k) h)
       | Greater ↦ λ t. refl
     ] refl)

@@ -11,6 +11,7 @@ use Rattle.std.specs.List.{list_any}
 use Rattle.std.specs.Option.{option_map_or, option_and_then}
 use Rattle.std.specs.Ordering.{eq_by_cmp, is_eq, nat_cmp}
 use Rattle.acap_entries.specs.Orders.{octets_cmp}
+use Rattle.acap_entries.proofs.Logic.{true_from_T, Less_from_is_lt}
 use Rattle.acap_notices.specs.declared.notice.Notice.{Notice}
 use Rattle.acap_notices.specs.declared.told.Told.{Told}
 use Rattle.acap_notices.specs.declared.told.Told.TheVariants as told
@@ -21,7 +22,6 @@ use Rattle.acap_views.specs.Telling.{drain_told, kept_drained, after_drain, drai
 use Rattle.acap_views.specs.Waiting.{any_wait, waits, is_waiting}
 use Rattle.acap_views.proofs.BitLemmas.{waiting_bits}
 use Rattle.acap_views.specs.WaitingLaws.{WaitingLaw}
-use Rattle.acap_views.proofs.ListLemmas.{so, less}
 use Rattle.acap_views.proofs.ShownLemmas.{get_kept}
 
 -- ---- what is told
@@ -58,7 +58,7 @@ nothing_told (t ∷ ts) = (λ e. absurd (cc (e)), λ e. absurd (cc (e)))
 module _ {K X : Type 0} {R : K → K → Ordering} (o : IsTotalOrder R) (test : X → Bool) where
   pub tied_none : (q k : K) (es : List (K × X)) → R q k ≡ Equal → below_all R k es ≡ true → find R q es ≡ None
   tied_none q k [] t b = refl
-  tied_none q k (e ∷ es) t b = ap (λ r. cond (is_eq r) (Some e.1) (find R q es)) (o.congr q k e.0 t ∙ less _ (first_so _ _ b)) ∙ tied_none q k es t (second_so _ _ b)
+  tied_none q k (e ∷ es) t b = ap (λ r. cond (is_eq r) (Some e.1) (find R q es)) (o.congr q k e.0 t ∙ Less_from_is_lt _ (first_so _ _ b)) ∙ tied_none q k es t (second_so _ _ b)
 
   -- what stands behind an entry isn't at its key
   behind : (e : K × X) (es : List (K × X)) (q : K) (x : X) → below_all R e.0 es ≡ true → find R q es ≡ Some x → find R q (e ∷ es) ≡ Some x
@@ -77,7 +77,7 @@ module _ {K X : Type 0} {R : K → K → Ordering} (o : IsTotalOrder R) (test : 
       ap (λ b. b || list_any test (each (λ e. e.1) es)) first ∙ rest
 
   pub none_of : (m : FinMap R X) → ((q : K) (x : X) → table.get m q ≡ Some x → test x ≡ false) → list_any test (table.values m) ≡ false
-  none_of m h = none_pass (table.entries m) (so _ (table.entries_sorted m)) (λ q x k. h q x (table.get-entries m q ∙ k))
+  none_of m h = none_pass (table.entries m) (true_from_T _ (table.entries_sorted m)) (λ q x k. h q x (table.get-entries m q ∙ k))
 
 -- ---- drains
 

@@ -3,7 +3,7 @@ use Rattle.std.specs.Prelude.{ℤ, Bool, true, false, List, [], ◌≡◌, Optio
 use Rattle.std.specs.Coded.{Coded, code_by, coded×, coded_list, coded_option, coded_bool, coded_ℕ, coded_ℤ}
 use Rattle.std.specs.FinMap as table
 use Rattle.acap_entries.specs.Orders.{octets_cmp}
-use Rattle.acap_commands.specs.declared.make_context.MakeContext.{MakeContext}
+use Rattle.acap_commands.specs.declared.search_modifiers.MakeContext.{MakeContext}
 use Rattle.acap_notices.specs.contracts.notice.Notice as notice
 use Rattle.acap_notices.specs.declared.notice.Notice.{Notice}
 use Rattle.acap_search.specs.Matches.{Match, match_code}

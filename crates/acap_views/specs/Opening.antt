@@ -1,7 +1,7 @@
 -- Contexts that are made and freed by name [RFC 2244 sections 6.4.1 and 6.5].
 use Rattle.std.specs.Prelude.{ℕ, ℤ, Bool, not, ◌&&◌, nat_le, if◌then◌else◌, List, Result, Ok, Err}
 use Rattle.std.specs.FinMap as table
-use Rattle.acap_commands.specs.declared.make_context.MakeContext.{MakeContext}
+use Rattle.acap_commands.specs.declared.search_modifiers.MakeContext.{MakeContext}
 use Rattle.acap_search.specs.Matches.{Match}
 use Rattle.acap_search.specs.declared.query.Sought.{Sought}
 use Rattle.acap_views.specs.Contexts.{Contexts, context_of}

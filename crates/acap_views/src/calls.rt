@@ -6,11 +6,10 @@ ghost use Rattle.acap_views.specs.Opening.{freed_by};
 ghost use Rattle.acap_views.specs.Seats.{contexts_at, with_contexts};
 ghost use Rattle.acap_views.specs.Telling.{told_of, after_updates, drain_of};
 
-use crate::keyed::place_of;
 use crate::refusal::ViewRefusal;
 use crate::telling;
 use crate::views::Views;
-use acap_entries::{ContextName, Memory, Moment, Seat};
+use acap_entries::{ContextName, Memory, Moment, Seat, Whole, place_of};
 use acap_notices::Tolds;
 
 impl Views {
@@ -21,7 +20,7 @@ impl Views {
         ensures refused { IfErr result (λ why. freed_by (seats_in self.old) seat name.now ≡ Err why) }
         ensures err { OnErr result (seats_in self.new ≡ seats_in self.old) }
     {
-        let (at, tied) = place_of(self.seats.as_slice(), &seat);
+        let (at, tied) = place_of(self.seats.as_slice(), &Whole { key: &seat });
         if !tied {
             return Err(ViewRefusal::NoContext);
         }
@@ -35,7 +34,7 @@ impl Views {
     fn gather(&mut self, seat: Seat) -> Result<(), Memory>
         ensures { seats_in self.new ≡ seats_in self.old }
     {
-        let (at, tied) = place_of(self.seats.as_slice(), &seat);
+        let (at, tied) = place_of(self.seats.as_slice(), &Whole { key: &seat });
         if !tied {
             return Ok(());
         }
@@ -68,7 +67,7 @@ impl Views {
         ensures { seats_in self.new ≡ with_contexts (seats_in self.old) seat
             (after_updates (contexts_at (seats_in self.old) seat) names.now last) }
     {
-        let (at, tied) = place_of(self.seats.as_slice(), &seat);
+        let (at, tied) = place_of(self.seats.as_slice(), &Whole { key: &seat });
         if !tied {
             return;
         }
@@ -109,7 +108,7 @@ impl Views {
     pub fn drop_told(&mut self, seat: Seat)
         ensures { seats_in self.new ≡ (drain_of (seats_in self.old) seat).1 }
     {
-        let (at, tied) = place_of(self.seats.as_slice(), &seat);
+        let (at, tied) = place_of(self.seats.as_slice(), &Whole { key: &seat });
         if !tied {
             return;
         }

@@ -8,9 +8,8 @@ ghost use Rattle.acap_views.specs.Listing.{as_contexts, bare, told_entry};
 ghost use Rattle.acap_views.specs.Maps.{each_kept};
 ghost use Rattle.acap_views.specs.Telling.{after_update, after_updates, after_drain};
 
-use crate::keyed::place_of;
 use crate::open_context::OpenContext;
-use acap_entries::{ContextName, Copying, Memory, Moment};
+use acap_entries::{ContextName, Copying, Memory, Moment, Whole, place_of};
 use std::alloc::Global;
 
 // The context of a name is told all that waits, and then the moment of the store's last change. Takes no memory.
@@ -25,7 +24,7 @@ fn tell_one(
     ensures told { as_contexts contexts.new.items
         ≡ after_update (as_contexts contexts.old.items) name.now last }
 {
-    let (at, tied) = place_of(contexts.as_slice(), name);
+    let (at, tied) = place_of(contexts.as_slice(), &Whole { key: name });
     if !tied {
         return;
     }

@@ -1,4 +1,4 @@
-//! The lists of one context.
+//! The lists of one context, held and lent.
 
 use crate::watch::Watch;
 use acap_search::Hits;
@@ -12,4 +12,13 @@ pub(crate) enum Held {
     Live(Watch),
     /// Nothing: too many notices came.
     Freed,
+}
+
+/// Where the list of a context lies that was told last.
+#[derive(Drop)]
+pub(crate) enum Listed<'a> {
+    /// In a snapshot.
+    Snapshot(&'a Hits),
+    /// In the lists of a live context.
+    Live(&'a Watch),
 }

@@ -1,8 +1,9 @@
-//! What follows from the definitions alone: the contract of each function is the law, and its body names
-//! at most a law of the crates below.
+//! What follows from the definitions alone: each function does nothing, and its contract is the law.
 ghost use Rattle.acap_views.specs.Examples.{KeptExamples, NamedExamples, NoticeExamples};
-ghost use Rattle.acap_views.specs.Laws.{NoticeLaw, CurrentLaw, ShownLaw, SeatsLaw};
-ghost use Rattle.acap_views.specs.Laws.{ChangedLaw, FoundLaw, MovedLaw};
+ghost use Rattle.acap_views.specs.Laws.{NoticeLaw, CurrentLaw, ShownLaw, SeatsLaw, ChangedLaw, FoundLaw, MovedLaw};
+ghost use Rattle.acap_views.specs.Clients.{ClientLaw};
+ghost use Rattle.acap_views.specs.WaitingLaws.{WaitingLaw};
+ghost use Rattle.acap_views.specs.RangingLaws.{RangedLaw};
 
 use acap_search::{once_law, sight_law};
 
@@ -67,3 +68,22 @@ pub fn named_examples()
 pub fn notice_examples()
     ensures { NoticeExamples }
 {}
+
+/// The notices that a client is told of a context are those that wait, and lead it from the rows last told to those that a search
+/// finds then (RFC 2244 sections 3.3 and 6.5).
+pub fn client_law()
+    ensures { ClientLaw }
+{}
+
+/// A drain tells something exactly where something waits, and then nothing waits there; the bits of all seats are set exactly
+/// where something waits (RFC 2244 sections 3.3 and 6.5).
+pub fn waiting_law()
+    ensures { WaitingLaw }
+{}
+
+/// A change of the store moves no position of a context, until its client is told of it (RFC 2244 sections 3.3 and 6.4.1).
+pub fn ranged_law()
+    ensures { RangedLaw }
+{
+    changed_law();
+}

@@ -3,8 +3,7 @@ ghost use Rattle.std.specs.Prelude.{◌≡◌, IfOk, IfErr, Ok, Err};
 ghost use Rattle.acap_views.specs.Ranging.{ranged_if};
 ghost use Rattle.acap_views.specs.Started.{as_ranged};
 
-use crate::held::Held;
-use crate::listed::Listed;
+use crate::held::{Held, Listed};
 use crate::open_context::OpenContext;
 use crate::ranged_context::RangedContext;
 use crate::refusal::ViewRefusal;

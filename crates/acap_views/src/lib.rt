@@ -5,7 +5,6 @@
 mod ahead;
 mod beside;
 mod calls;
-mod client;
 mod contexts;
 mod delta;
 mod due;
@@ -14,10 +13,8 @@ mod first_written;
 mod following;
 mod held;
 mod idle;
-mod keyed;
 mod laws;
 mod lending;
-mod listed;
 mod lookout;
 mod moving;
 mod new_context;
@@ -28,7 +25,6 @@ mod places;
 mod preparing;
 mod quiet;
 mod ranged_context;
-mod ranging;
 mod refusal;
 mod scene;
 mod seeking;
@@ -46,22 +42,18 @@ mod turns;
 mod undoing;
 mod undone;
 mod views;
-mod waiting;
 mod watch;
 
-pub use client::client_law;
 pub use delta::Delta;
 pub use laws::{
-    changed_law, current_law, found_law, kept_examples, moved_law, named_examples, notice_examples,
-    notice_law, seats_law, shown_law,
+    changed_law, client_law, current_law, found_law, kept_examples, moved_law, named_examples,
+    notice_examples, notice_law, ranged_law, seats_law, shown_law, waiting_law,
 };
 pub use moving::{prepared_law, touched_moves_law};
 pub use new_context::NewContext;
 pub use opening::MOST_CONTEXTS;
 pub use places::{has_context, is_full};
 pub use ranged_context::RangedContext;
-pub use ranging::ranged_law;
 pub use refusal::ViewRefusal;
 pub use shown_list::ShownList;
 pub use views::Views;
-pub use waiting::waiting_law;

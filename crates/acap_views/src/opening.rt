@@ -12,25 +12,24 @@ ghost use Rattle.acap_views.specs.Opening as rule;
 ghost use Rattle.acap_views.specs.Ranging.{range_at};
 ghost use Rattle.acap_views.specs.Started.{as_ranged};
 
-use crate::keyed::{lookup, place_of};
 use crate::new_context::NewContext;
 use crate::open_context::OpenContext;
 use crate::ranged_context::RangedContext;
 use crate::refusal::ViewRefusal;
 use crate::views::Views;
 use acap_commands::MakeContext;
-use acap_entries::{ContextName, Memory, Moment, Seat};
+use acap_entries::{ContextName, Memory, Moment, Seat, Whole, lookup, place_of};
 use acap_search::{Hits, Sought};
 
 /// How many contexts a session may have, freed ones among them (RFC 2244 section 3.3).
 pub const MOST_CONTEXTS: usize = 200;
 
-// Whether there is no place for one more; a context of the same name makes way.
-fn is_full(contexts: &[(ContextName, OpenContext)], name: &ContextName) -> bool
+/// Whether there is no place for one more; a context of the same name makes way.
+pub(crate) fn is_full(contexts: &[(ContextName, OpenContext)], name: &ContextName) -> bool
     requires { InOrder octets_cmp contexts.now }
     ensures { result ≡ rule.is_full (as_contexts contexts.now) name.now }
 {
-    match lookup(contexts, name) {
+    match lookup(contexts, &Whole { key: name }) {
         Some(_) => false,
         None => MOST_CONTEXTS <= contexts.len(),
     }
@@ -43,7 +42,7 @@ impl Views {
         ensures same { seats_in self.new ≡ seats_in self.old }
         ensures room { OnOk result (HasPlace self.new seat) }
     {
-        let (at, _) = place_of(self.seats.as_slice(), &seat);
+        let (at, _) = place_of(self.seats.as_slice(), &Whole { key: &seat });
         self.seats[at].1.make_room()
     }
 
@@ -81,7 +80,7 @@ impl Views {
         requires { HasPlace self.old seat }
         ensures { seats_in self.new ≡ with_context (seats_in self.old) seat new }
     {
-        let (at, _) = place_of(self.seats.as_slice(), &seat);
+        let (at, _) = place_of(self.seats.as_slice(), &Whole { key: &seat });
         self.seats[at].1.put(new.name, new.context);
     }
 
@@ -114,7 +113,7 @@ impl Views {
         ensures ok { IfOk result (λ lent. range_at (seats_in self.now) seat name.now ≡ Ok (as_ranged lent)) }
         ensures refused { IfErr result (λ why. range_at (seats_in self.now) seat name.now ≡ Err why) }
     {
-        match lookup(self.contexts(seat), name) {
+        match lookup(self.contexts(seat), &Whole { key: name }) {
             Some(context) => context.lend(),
             None => Err(ViewRefusal::NoContext),
         }

@@ -5,16 +5,15 @@ ghost use Rattle.acap_views.specs.Keeping.{seats_in};
 ghost use Rattle.acap_views.specs.Opening as rule;
 ghost use Rattle.acap_views.specs.Seats.{contexts_at};
 
-use crate::keyed::lookup;
-use crate::opening::MOST_CONTEXTS;
+use crate::opening;
 use crate::views::Views;
-use acap_entries::{ContextName, Seat};
+use acap_entries::{ContextName, Seat, Whole, lookup};
 
 /// Whether there is a context of this name at a seat, be it freed or not (RFC 2244 section 3.3). Takes no memory.
 pub fn has_context(views: &Views, seat: Seat, name: &ContextName) -> bool
     ensures { result ≡ table.contains_key (contexts_at (seats_in views.now) seat) name.now }
 {
-    match lookup(views.contexts(seat), name) {
+    match lookup(views.contexts(seat), &Whole { key: name }) {
         Some(_) => true,
         None => false,
     }
@@ -24,5 +23,5 @@ pub fn has_context(views: &Views, seat: Seat, name: &ContextName) -> bool
 pub fn is_full(views: &Views, seat: Seat, name: &ContextName) -> bool
     ensures { result ≡ rule.is_full (contexts_at (seats_in views.now) seat) name.now }
 {
-    !has_context(views, seat, name) && MOST_CONTEXTS <= views.contexts(seat).len()
+    opening::is_full(views.contexts(seat), name)
 }

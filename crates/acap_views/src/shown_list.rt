@@ -1,7 +1,7 @@
 //! The list of a context that was told last, as it is lent to a search.
 ghost use Rattle.std.specs.Prelude.{◌≡◌, IfOk, map as each};
 
-use crate::listed::Listed;
+use crate::held::Listed;
 use acap_entries::Memory;
 use acap_search::{Hit, Hits};
 use std::alloc::Global;

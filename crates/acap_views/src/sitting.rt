@@ -8,9 +8,10 @@ ghost use Rattle.acap_views.specs.Maps.{each_kept};
 ghost use Rattle.acap_views.specs.Telling.{after_updates, after_drain};
 
 use crate::contexts::{copy_contexts, drain, gather, tell_named};
-use crate::keyed::{make_room, put_in_room, take_out};
 use crate::open_context::OpenContext;
-use acap_entries::{ContextName, Copying, Memory, Moment, UserName};
+use acap_entries::{
+    ContextName, Copying, Memory, Moment, UserName, Whole, put_in_room, room_for_one, take_out,
+};
 use std::alloc::Global;
 use std::marker::Model;
 
@@ -73,7 +74,7 @@ impl Sitting {
         ensures contexts { self.new.contexts ≡ self.old.contexts }
         ensures ok { OnOk result (0 < self.new.spare) }
     {
-        make_room(&mut self.contexts)
+        room_for_one(&mut self.contexts)
     }
 
     /// Puts a context under its name, in the room that there is; one of this name makes way. Takes no memory.
@@ -91,7 +92,7 @@ impl Sitting {
         ensures user { self.new.user ≡ self.old.user }
         ensures contexts { self.new.contexts ≡ table.remove self.old.contexts name.now }
     {
-        take_out(&mut self.contexts, name)
+        take_out(&mut self.contexts, &Whole { key: name }).is_some()
     }
 
     /// Puts what waits of each context where a reply can hold it too. The contexts stay, also where memory is refused.

@@ -11,10 +11,9 @@ ghost use Rattle.acap_views.specs.Listing.{as_contexts, waiting_after, told_by};
 ghost use Rattle.acap_views.specs.Telling as rule;
 ghost use Rattle.acap_views.specs.Waiting as waiting;
 
-use crate::keyed::lookup;
 use crate::open_context::OpenContext;
 use crate::refusal::ViewRefusal;
-use acap_entries::{ContextName, Copying, Memory, Moment, Sequence, Shared};
+use acap_entries::{ContextName, Copying, Memory, Moment, Sequence, Shared, Whole, lookup};
 use acap_notices::{Batch, Ending, Notice};
 use std::alloc::Global;
 
@@ -23,7 +22,7 @@ fn fault_at(contexts: &[(ContextName, OpenContext)], name: &ContextName) -> Opti
     requires { InOrder octets_cmp contexts.now }
     ensures { result ≡ rule.fault_at (as_contexts contexts.now) name.now }
 {
-    match lookup(contexts, name) {
+    match lookup(contexts, &Whole { key: name }) {
         Some(context) => context.fault(),
         None => Some(ViewRefusal::NoContext),
     }
@@ -58,7 +57,7 @@ fn notices_after(
     if seen.contains(name) {
         return Ok(Shared::none());
     }
-    match lookup(contexts, name) {
+    match lookup(contexts, &Whole { key: name }) {
         Some(context) => context.share(),
         None => Ok(Shared::none()),
     }

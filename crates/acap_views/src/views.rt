@@ -10,11 +10,12 @@ ghost use Rattle.acap_views.specs.Listing.{as_contexts, bare_seat};
 ghost use Rattle.acap_views.specs.Seats as rule;
 ghost use Rattle.acap_views.specs.Waiting.{waiting};
 
-use crate::keyed::{lookup, make_room, put_in_room, take_out};
 use crate::open_context::OpenContext;
 use crate::sitting::Sitting;
 use crate::telling::any_waits;
-use acap_entries::{ContextName, Memory, Seat, UserName};
+use acap_entries::{
+    ContextName, Memory, Seat, UserName, Whole, lookup, put_in_room, room_for_one, take_out,
+};
 use std::alloc::Global;
 use std::marker::Model;
 
@@ -81,7 +82,7 @@ impl Views {
         ensures same { seats_in self.new ≡ seats_in self.old }
         ensures room { OnOk result (0 < self.new.spare) }
     {
-        make_room(&mut self.seats)
+        room_for_one(&mut self.seats)
     }
 
     /// A user takes a seat, in the room that there is, and has no context there (RFC 2244 section 2). Takes no memory.
@@ -97,7 +98,7 @@ impl Views {
     pub fn leave(&mut self, seat: Seat)
         ensures { seats_in self.new ≡ rule.without_user (seats_in self.old) seat }
     {
-        let _ = take_out(&mut self.seats, &seat);
+        let _ = take_out(&mut self.seats, &Whole { key: &seat });
     }
 
     /// Who sits at a seat, if anybody does (RFC 2244 section 2). Takes no memory.
@@ -114,7 +115,7 @@ impl Views {
     pub(crate) fn sitting(&self, seat: Seat) -> Option<&Sitting>
         ensures { option_copied result ≡ table.get self.now.seats seat }
     {
-        lookup(self.seats.as_slice(), &seat)
+        lookup(self.seats.as_slice(), &Whole { key: &seat })
     }
 
     /// The contexts at a seat, in the order of their names: none where nobody sits.

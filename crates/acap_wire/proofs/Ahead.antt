@@ -7,7 +7,7 @@ use Rattle.acap_client.specs.Following.{Asked, Follower, Followed, Freeing, Goes
 use Rattle.acap_commands.specs.declared.command.Command.{Command}
 use Rattle.acap_commands.specs.declared.command.Command.TheVariants as command
 use Rattle.acap_commands.specs.declared.search.Search.{Search}
-use Rattle.acap_commands.specs.declared.make_context.MakeContext.{MakeContext}
+use Rattle.acap_commands.specs.declared.search_modifiers.MakeContext.{MakeContext}
 use Rattle.acap_grammar.specs.Lines as lines
 use Rattle.acap_grammar.specs.Lines.{Line}
 use Rattle.acap_grammar.specs.Printed.{PrintedNotice, PrintedRow}

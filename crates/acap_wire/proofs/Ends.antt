@@ -13,7 +13,7 @@ use Rattle.acap_commands.specs.declared.reply.Reply.{Reply}
 use Rattle.acap_commands.specs.declared.said.Said.{Said}
 use Rattle.acap_commands.specs.declared.said.Said.TheVariants as said
 use Rattle.acap_commands.specs.declared.search.Search.{Search}
-use Rattle.acap_commands.specs.declared.verb.Verb.{Verb}
+use Rattle.acap_commands.specs.declared.command.Verb.{Verb}
 use Rattle.acap_entries.specs.Orders.{octets_eq}
 use Rattle.acap_entries.specs.declared.change.Change.{Change}
 use Rattle.acap_machine.specs.Completing.{completes}

@@ -13,7 +13,7 @@ use Rattle.acap_commands.specs.declared.event.Event.{Event}
 use Rattle.acap_commands.specs.declared.event.Event.TheVariants as event
 use Rattle.acap_commands.specs.declared.said.Said.{Said}
 use Rattle.acap_commands.specs.declared.said.Said.TheVariants as said
-use Rattle.acap_commands.specs.declared.verb.Verb.TheVariants as verb
+use Rattle.acap_commands.specs.declared.command.Verb.TheVariants as verb
 use Rattle.acap_dialogue.specs.Hearing.{ready_line}
 use Rattle.acap_grammar.specs.Lines.{Line, GoOn, UpTo}
 use Rattle.acap_grammar.specs.Listening.{hears}
@@ -32,20 +32,22 @@ use Rattle.acap_notices.specs.declared.told.Told.TheVariants as told_as
 use Rattle.acap_views.specs.Clients.{notices_for}
 use Rattle.acap_views.specs.Current.{rows}
 use Rattle.acap_session.specs.Live as live
-use Rattle.acap_session.specs.Live.{AreNamed, MayLogIn, IsReading, IsTelling, LiveLaw, Telling, all_steps, asked_in, client_in, start, told_in, whole_in, whole_told}
+use Rattle.acap_session.specs.Live.{AreNamed, MayLogIn, IsReading, LiveLaw, Telling, all_steps, asked_in, client_in, start, told_in, whole_in, whole_told}
 use Rattle.acap_session.specs.Places.{Place}
 use Rattle.acap_session.specs.Seating.{SeatingLaw}
 use Rattle.acap_session.specs.World as world
 use Rattle.acap_session.specs.World.{Deed, Step, World, open_at}
+use Rattle.acap_session.proofs.Living.{told_so, moved_in, named_front, machine_by}
+use Rattle.acap_session.proofs.PipeSteps.{run_append}
 use Rattle.acap_wire.specs.Following.{FollowerLaw, FollowerLawFor, FollowerLawOf, Holds, HoldsAll, IsFollowing, IsReadable, follower, follower_before, standing, world_before}
 use Rattle.acap_wire.specs.Seat.{IsPrintable, numbers_told, after_lines, asking, before_lines, begun, lines_in, said_in, sent_by, sent_in}
 use Rattle.acap_wire.proofs.Kept.{IsKeptAs, exactly}
 use Rattle.acap_wire.proofs.Ends.{Ends, EndsSaid, step_ends}
 use Rattle.acap_wire.proofs.Machine.{lives_on, step_frees}
-use Rattle.acap_wire.proofs.Moving.{Answered, HasSaid, answered, left_live, machine_by, moved_in}
+use Rattle.acap_wire.proofs.Moving.{Answered, HasSaid, answered, left_live}
 use Rattle.acap_wire.proofs.Named.{look_own}
 use Rattle.acap_wire.proofs.Replies.{asks_nothing, done_quiet, frees, tolds_asked}
-use Rattle.acap_wire.proofs.Running.{Reaches, follower_snoc, named_front, own_done, printable_front, printable_last, reached, reaches, whole_snoc, world_snoc}
+use Rattle.acap_wire.proofs.Running.{Reaches, follower_snoc, own_done, printable_front, printable_last, reached, reaches, whole_snoc}
 use Rattle.acap_wire.proofs.Sending.{fitting_sent}
 use Rattle.acap_wire.proofs.Speaking.{Ready, Says, Silent, Speech, tag_by}
 use Rattle.acap_wire.proofs.Tagged.{TaggedPlace, all_tagged, by_tag}
@@ -157,7 +159,7 @@ module _ (printed : PrintedLaw) (readable : ReadableLaw) (hearing : HearingLaw) 
         let own = eq-eqb t.last.occasion.seat t.seat at in
         let here = printable_last t.seat t.steps t.last (start t) can at in
         let done = own_done printed readable hearing current law live_law seating t.realm t.users t.host t.seat t.name t.steps t.last (at_front is.named can) is.named at own here in
-        done.fits x (ap (λ (w : World). live_at w.machine t.seat t.name) (sym (world_snoc t.steps (t.last ∷ []) (start t))) ∙ is.live)
+        done.fits x (ap (λ (w : World). live_at w.machine t.seat t.name) (sym (run_append t.steps (t.last ∷ []) (start t))) ∙ is.live)
         (ap (λ b. cond b (whole_told t.name (told_in (world_before t) t.last) (whole_in t.seat t.name t.steps (start t) false)) (whole_in t.seat t.name t.steps (start t) false)) (sym own)
         ∙ sym (whole_snoc t.seat t.name t.steps t.last (start t) false) ∙ is.whole)
 
@@ -200,7 +202,7 @@ module _ (printed : PrintedLaw) (readable : ReadableLaw) (hearing : HearingLaw) 
           let moved = moved_in t.last.occasion t.last.refused t.last.deed w in
           left_live current law then t.last.occasion moved.left t.name x
           (ap (λ m. live_at m t.last.occasion.seat t.name) (sym moved.is)
-          ∙ (λ i. live_at (sym (world_snoc t.steps (t.last ∷ []) (start t)) i).machine (is.own i) t.name)
+          ∙ (λ i. live_at (sym (run_append t.steps (t.last ∷ []) (start t)) i).machine (is.own i) t.name)
           ∙ is.live)
 
       live_before : (y : View) × (live_at w.machine t.seat t.name ≡ Some y)
@@ -358,10 +360,6 @@ module _ (printed : PrintedLaw) (readable : ReadableLaw) (hearing : HearingLaw) 
 following_so : (A B : List User → List Step → Type 0) → ((users : List User) (steps : List Step) → B users steps → A users steps)
     → (t : Telling) (x : View) → IsFollowing B t x → IsFollowing A t x
 following_so A B so t x is = record { named = so t.users (all_steps t) is.named; live = is.live; whole = is.whole }
-
-told_so : (A B : List User → List Step → Type 0) → ((users : List User) (steps : List Step) → B users steps → A users steps)
-    → (t : Telling) (x : View) → IsTelling B t x → IsTelling A t x
-told_so A B so t x is = record { named = so t.users (all_steps t) is.named; tells = is.tells; live = is.live; whole = is.whole }
 
 law_so : (A B : List User → List Step → Type 0) → ((users : List User) (steps : List Step) → B users steps → A users steps) → FollowerLawOf A → FollowerLawOf B
 law_so A B so law = record {

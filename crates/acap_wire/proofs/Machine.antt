@@ -15,32 +15,34 @@ use Rattle.acap_commands.specs.declared.command.Command.{Command}
 use Rattle.acap_commands.specs.declared.command.Command.TheVariants as command
 use Rattle.acap_commands.specs.declared.event.Event.{Event}
 use Rattle.acap_commands.specs.declared.event.Event.TheVariants as event
-use Rattle.acap_commands.specs.declared.limit.Limit.{Limit}
-use Rattle.acap_commands.specs.declared.make_context.MakeContext.{MakeContext}
+use Rattle.acap_commands.specs.declared.search_modifiers.Limit.{Limit}
+use Rattle.acap_commands.specs.declared.search_modifiers.MakeContext.{MakeContext}
 use Rattle.acap_commands.specs.declared.refusal.Refusal.{Refusal}
 use Rattle.acap_commands.specs.declared.reply.Reply.{Reply}
 use Rattle.acap_commands.specs.declared.said.Said.{Said}
 use Rattle.acap_commands.specs.declared.said.Said.TheVariants as said
 use Rattle.acap_commands.specs.declared.search.Search.{Search}
 use Rattle.acap_commands.specs.declared.search_modifiers.SearchModifiers.{SearchModifiers}
-use Rattle.acap_commands.specs.declared.search_reply.SearchReply.{SearchReply}
+use Rattle.acap_commands.specs.declared.said.SearchReply.{SearchReply}
 use Rattle.acap_commands.specs.declared.target.Target.{Target}
 use Rattle.acap_commands.specs.declared.target.Target.TheVariants as target
-use Rattle.acap_commands.specs.declared.verb.Verb.{Verb}
+use Rattle.acap_commands.specs.declared.command.Verb.{Verb}
 use Rattle.acap_commands.specs.Wanted.{Wanted}
 use Rattle.acap_entries.specs.Orders.{octets_cmp, octets_eq}
 use Rattle.acap_entries.specs.declared.change.Change.{Change}
+use Rattle.acap_entries.proofs.Logic.{true_from_T}
 use Rattle.acap_grammar.specs.Sendable.{Fits, IsSendable}
 use Rattle.acap_machine.specs.Client.{View, HeldLaw, client_after, made_over, live_kept, live_in, live_at, whole_after}
 use Rattle.acap_machine.specs.Completing.{is_answer}
 use Rattle.acap_machine.specs.Following.{IsCurrentMachine}
 use Rattle.acap_machine.specs.Machine.{Machine, user_at}
-use Rattle.acap_machine.specs.Searching.{found_unless, found_or, kept_if, refused_as, searched_from, searched_in, searched_over, searched_within, seated_or, view_refused_as}
+use Rattle.acap_machine.specs.Searching.{found_unless, found_or, kept_if, searched_from, searched_in, searched_over, searched_within, seated_or}
 use Rattle.acap_machine.specs.Serving.{answer_to, names_or, updated_or, written_or}
 use Rattle.acap_machine.specs.Stepping.{drained_at, reply_of, step_of}
 use Rattle.acap_machine.proofs.ClientSteps.{Sits, sits, put_contexts}
 use Rattle.acap_machine.proofs.SeatLemmas.{freed_is}
 use Rattle.acap_machine.proofs.StepLaws.{by_keeps, seated_keeps}
+use Rattle.acap_machine.proofs.ServedLemmas.{search_good, view_good}
 use Rattle.acap_notices.specs.declared.notice.Notice.{Notice}
 use Rattle.acap_notices.specs.declared.told.Told.{Told}
 use Rattle.acap_notices.specs.declared.told.Told.TheVariants as told
@@ -50,7 +52,6 @@ use Rattle.acap_search.specs.declared.query.Asked.{Asked}
 use Rattle.acap_search.specs.declared.query.Sought.{Sought}
 use Rattle.acap_search.specs.declared.refusal.SearchRefusal.{SearchRefusal}
 use Rattle.acap_search.specs.declared.refusal.SearchRefusal.TheVariants as refusal
-use Rattle.acap_views.proofs.ListLemmas.{so}
 use Rattle.acap_views.proofs.WaitingLemmas.{tied_none}
 use Rattle.acap_views.specs.Contexts.{Kept, Snapshot, Live, Freed, Context, Contexts}
 use Rattle.acap_views.specs.Opening.{freed_by}
@@ -74,40 +75,26 @@ Finds (said.Searched found) = Unit {0}
 Finds (said.Refused why) = is_answer (status_of why) ≡ true
 Finds other = ⊥
 
-search_answers : (dataset : List ℕ) (why : SearchRefusal) → is_answer (status_of (refused_as dataset why)) ≡ true
-search_answers dataset refusal.RangeHere = refl
-search_answers dataset refusal.NoExist = refl
-search_answers dataset refusal.TooOld = refl
-search_answers dataset refusal.WayTooMany = refl
-search_answers dataset refusal.Memory = refl
-
-view_answers : (why : ViewRefusal) → is_answer (status_of (view_refused_as why)) ≡ true
-view_answers view.TryFreeContext = refl
-view_answers view.NoContext = refl
-view_answers view.FreedContext = refl
-view_answers view.NotNotify = refl
-view_answers view.Memory = refl
-
 unless_finds : (dataset : List ℕ) (because : Option SearchRefusal) (found : SearchReply) → Finds (found_unless dataset because found)
 unless_finds dataset None found = tt
-unless_finds dataset (Some why) found = search_answers dataset why
+unless_finds dataset (Some why) found = search_good dataset why
 
 seated_finds : (m : Machine) (found : SearchReply) (r : Result Seated ViewRefusal) → Finds (seated_or m (said.Searched found) r).0
 seated_finds m found (Ok seats) = tt
-seated_finds m found (Err why) = view_answers why
+seated_finds m found (Err why) = view_good why
 
 kept_finds : (m : Machine) (seat : ℕ) (make : Option MakeContext) (sought : Sought) (limit : Option Limit) (matches : List Match) → Finds (kept_if m seat make sought limit matches).0
 kept_finds m seat None sought limit matches = tt
 kept_finds m seat (Some make) sought limit matches = seated_finds m _ _
 
 over_finds : (m : Machine) (seat : ℕ) (asked : Asked) (because : Option SearchRefusal) (matches : List Match) → Finds (found_or m seat asked because matches).0
-over_finds m seat asked (Some why) matches = search_answers asked.query.sought.dataset why
+over_finds m seat asked (Some why) matches = search_good asked.query.sought.dataset why
 over_finds m seat asked None matches = kept_finds m seat asked.make_context asked.query.sought asked.limit matches
 
 within_finds : (m : Machine) (user : List ℕ) (from : Result Ranged ViewRefusal) (modifiers : SearchModifiers) (key : Wanted) → Finds (searched_within m.store m.realm user from modifiers key)
 unfolding searched_from
 within_finds m user (Ok from) modifiers key = unless_finds _ _ _
-within_finds m user (Err why) modifiers key = view_answers why
+within_finds m user (Err why) modifiers key = view_good why
 
 pub searched_finds : (m : Machine) (seat : ℕ) (user : List ℕ) (t : Target) (modifiers : SearchModifiers) (key : Wanted) → Finds (searched_in m seat user t modifiers key).0
 unfolding searched_over
@@ -132,7 +119,7 @@ search_answered s said.GoodBye makes f = absurd f
 
 free_answers : (m : Machine) (verb : Verb) (r : Result Seated ViewRefusal) → AnswersFree (seated_or m (said.Done verb) r).0
 free_answers m verb (Ok seats) = tt
-free_answers m verb (Err why) = view_answers why
+free_answers m verb (Err why) = view_good why
 
 command_answers : (m : Machine) (seat : ℕ) (user : List ℕ) (c : Command) (clock : ℤ) → IsMakeable c → Answers c (answer_to m seat user c clock).0
 unfolding answer_to
@@ -298,7 +285,7 @@ module _ (q : List ℕ) where
       ] refl)
 
   drained_free : (contexts : Contexts) → frees_among q (flat_map (λ e. drain_told e.0 e.1.kept) (table.entries contexts)) ≡ is_freed_at (table.get contexts q)
-  drained_free contexts = all_free (table.entries contexts) (so _ (table.entries_sorted contexts)) ∙ ap is_freed_at (sym (table.get-entries contexts q))
+  drained_free contexts = all_free (table.entries contexts) (true_from_T _ (table.entries_sorted contexts)) ∙ ap is_freed_at (sym (table.get-entries contexts q))
 
   live_free : (context : Context) (kept : Kept) (x : View) → live_kept context kept ≡ Some x → is_freed kept ≡ false
   live_free context (Snapshot shown) x l = refl

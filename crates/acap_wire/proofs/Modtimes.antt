@@ -6,9 +6,9 @@ use Rattle.std.proofs.lemmas.List.Folds.{list_any-append}
 use Rattle.acap_commands.specs.Statuses.{status_of}
 use Rattle.acap_commands.specs.declared.said.Said.{Said}
 use Rattle.acap_commands.specs.declared.said.Said.TheVariants as said
-use Rattle.acap_commands.specs.declared.status.Status.{Status}
-use Rattle.acap_commands.specs.declared.status.Status.TheVariants as status
-use Rattle.acap_commands.specs.declared.verb.Verb.TheVariants as verb
+use Rattle.acap_commands.specs.declared.refusal.Status.{Status}
+use Rattle.acap_commands.specs.declared.refusal.Status.TheVariants as status
+use Rattle.acap_commands.specs.declared.command.Verb.TheVariants as verb
 use Rattle.acap_entries.specs.Stamp.{stamp_of}
 use Rattle.acap_grammar.specs.Lines.{Datum, Line, Deleted, Greeting, AddTo, RemoveFrom, Change, UpTo, Rights, RightsList, Bye}
 use Rattle.acap_grammar.specs.Refusals.{text_of}

@@ -1,19 +1,12 @@
 -- What a step of a world makes of its machine, which stays current, and whose live contexts were live before or are made.
-use Rattle.std.proofs.Common.{◌≡◌, ℕ, ◌==◌, ℤ, Bool, true, false, ◌||◌, List, Option, Some, None, Result, Ok, Err, refl, sym, ap, subst, ◌∙◌}
-use Rattle.std.specs.Prelude.{is_ok}
+use Rattle.std.proofs.Common.{◌≡◌, ℕ, ◌==◌, ℤ, Bool, true, false, List, Option, Some, None, Result, Ok, Err, refl, sym, ap, subst, ◌∙◌}
 use Rattle.std.specs.Option.{option_map, option_and_then}
 use Rattle.acap_commands.specs.declared.event.Event.{Event}
 use Rattle.acap_commands.specs.declared.event.Event.TheVariants as event
-use Rattle.acap_commands.specs.declared.fault.Fault.{Fault}
+use Rattle.acap_commands.specs.declared.event.Fault.{Fault}
 use Rattle.acap_commands.specs.declared.reply.Reply.{Reply}
 use Rattle.acap_commands.specs.declared.said.Said.{Said}
-use Rattle.acap_dialogue.specs.Running.{event_in}
-use Rattle.acap_dialogue.specs.Saying.{heard_of}
-use Rattle.acap_dialogue.specs.Session.{after_answer, has_seat, session_next, session_drain}
-use Rattle.acap_dialogue.specs.Talking.{Talking, beginning}
-use Rattle.acap_dialogue.specs.declared.heard.Heard.{Heard}
-use Rattle.acap_dialogue.specs.declared.heard.Heard.TheVariants as heard
-use Rattle.acap_dialogue.specs.declared.next.Next.{Next}
+use Rattle.acap_dialogue.specs.declared.next.Heard.TheVariants as heard
 use Rattle.acap_dialogue.specs.declared.next.Next.TheVariants as next
 use Rattle.acap_machine.specs.Client.{HeldLaw, View, live_at}
 use Rattle.acap_machine.specs.Following.{is_named, IsCurrentMachine, CurrentLaw}
@@ -22,63 +15,15 @@ use Rattle.acap_machine.specs.Runs.{outcome_of, machine_after}
 use Rattle.acap_machine.specs.Stepping.{step_of}
 use Rattle.acap_session.specs.Laws.{asked_by}
 use Rattle.acap_session.specs.Live.{asked_in, told_with, told_in, is_named_deed}
-use Rattle.acap_session.specs.Places.{Place, place_at}
-use Rattle.acap_session.specs.Turning.{Scene, scene, event_outcome, left_at, left_by, turn_by, turn_of, drain_of}
+use Rattle.acap_session.specs.Places.{Place}
+use Rattle.acap_session.specs.Turning.{event_outcome, left_by}
 use Rattle.acap_session.specs.World as world
-use Rattle.acap_session.specs.World.{World, Deed, Step, did, open_at, said_before, scene_of}
-use Rattle.acap_session.proofs.Alone.{did_by}
+use Rattle.acap_session.specs.World.{World, Deed, Step, did}
 use Rattle.acap_session.proofs.Forming.{command_formed}
 use Rattle.acap_session.proofs.Naming.{NamedWorld, asked_named}
+use Rattle.acap_session.proofs.Living.{machine_by, MovedTo, asked_on, moved_in}
 use Rattle.acap_wire.proofs.Occasions.{Occasion}
 use Rattle.acap_wire.proofs.Machine.{live_elsewhere}
-
--- ---- what a step makes of the machine: the event that the session asks is performed, and the session may leave its seat
-
-abbrev pub machine_by : Option Event → Occasion → Bool → Machine → Machine
-machine_by None o refused m = m
-machine_by (Some e) o refused m = machine_after m (event_outcome refused m o e)
-
-pub record MovedTo (o : Occasion) (m n : Machine) : Type 0 where
-  pub left : Bool
-  pub is : n ≡ left_by left o m
-
-closing : (h : Heard) (seated : Bool) (o : Occasion) (m : Machine) → MovedTo o m (left_at h seated o m)
-closing heard.More seated o m = record { left = false; is = refl }
-closing heard.Said seated o m = record { left = false; is = refl }
-closing (heard.Asks event) seated o m = record { left = false; is = refl }
-closing heard.Closes seated o m = record { left = seated; is = refl }
-
-turned_to : (o : Occasion) (refused : Bool) (s : Scene) (x : Next × Talking) → MovedTo o (machine_by (event_in x) o refused s.machine) (turn_by o refused s x).1.machine
-turned_to o refused s (next.More, t) = record { left = false; is = refl }
-turned_to o refused s (next.Say octets, t) = record { left = false; is = refl }
-turned_to o refused s (next.Ask event, t) =
-    let r = event_outcome refused s.machine o event in
-    closing (heard_of (after_answer t (outcome_of r)).0) (has_seat t || is_ok r) o (machine_after s.machine r)
-turned_to o refused s (next.Close octets, t) = record { left = has_seat s.talk; is = refl }
-
-abbrev asked_on : World → Occasion → Deed → Option Place → Option Event
-asked_on w o deed now = asked_by w (record { occasion = o; refused = false; deed = deed }) now
-
-moved_by : (o : Occasion) (refused : Bool) (deed : Deed) (w : World) (now : Option Place) → MovedTo o (machine_by (asked_on w o deed now) o refused w.machine) (did_by o refused deed w now).machine
-unfolding turn_of drain_of
-moved_by o refused (world.Open user) w None = turned_to o refused (scene w.machine (beginning w.host user) (said_before (place_at w.places o.seat))) (session_next w.users o.nonce o.clock (beginning w.host user))
-moved_by o refused (world.Open user) w (Some p) = record { left = false; is = refl }
-moved_by o refused (world.Piece octets) w None = record { left = false; is = refl }
-moved_by o refused (world.Piece octets) w (Some p) = record { left = false; is = refl }
-moved_by o refused world.Turn w None = record { left = false; is = refl }
-moved_by o refused world.Turn w (Some p) = turned_to o refused (scene_of w p) (session_next w.users o.nonce o.clock p.talk)
-moved_by o refused world.Drain w None = record { left = false; is = refl }
-moved_by o refused world.Drain w (Some p) = turned_to o refused (scene_of w p) (session_drain p.talk)
-moved_by o refused world.Leave w None = record { left = false; is = refl }
-moved_by o refused world.Leave w (Some p) = record { left = has_seat p.talk; is = refl }
-
-pub moved_in : (o : Occasion) (refused : Bool) (deed : Deed) (w : World) → MovedTo o (machine_by (asked_on w o deed (open_at w o.seat)) o refused w.machine) (did o refused deed w).machine
-unfolding did
-moved_in o refused (world.Open user) w = moved_by o refused (world.Open user) w (open_at w o.seat)
-moved_in o refused (world.Piece octets) w = moved_by o refused (world.Piece octets) w (open_at w o.seat)
-moved_in o refused world.Turn w = moved_by o refused world.Turn w (open_at w o.seat)
-moved_in o refused world.Drain w = moved_by o refused world.Drain w (open_at w o.seat)
-moved_in o refused world.Leave w = moved_by o refused world.Leave w (open_at w o.seat)
 
 -- ---- the machine stays current
 

@@ -1,10 +1,10 @@
 -- What a follower holds over a run of a new world.
-use Rattle.std.proofs.Common.{◌≡◌, ℕ, ◌==◌, Bool, true, false, cond, ◌&&◌, List, [], ◌∷◌, ◌++◌, append_assoc, append-nil, Option, Some, None, refl, sym, ap, subst, ◌∙◌}
+use Rattle.std.proofs.Common.{◌≡◌, ℕ, ◌==◌, Bool, true, false, cond, List, [], ◌∷◌, ◌++◌, append_assoc, append-nil, Option, Some, None, refl, sym, ap, subst, ◌∙◌}
 use Rattle.std.specs.List.{list_all}
 use Rattle.std.specs.Option.{option_map, option_map_or, option_and_then}
 use Rattle.std.specs.FinMap as table
 use Rattle.std.specs.FinMap.{get-empty}
-use Rattle.std.proofs.lemmas.Bool.{and_parts, eqb-true, eqb-false, false_from_ne_true}
+use Rattle.std.proofs.lemmas.Bool.{and_parts, eqb-true, eqb-false}
 use Rattle.acap_client.specs.Following.{Follower, new}
 use Rattle.acap_dialogue.specs.Session.{has_seat_at, is_closed}
 use Rattle.acap_dialogue.specs.declared.stage.Stage.{Stage}
@@ -28,18 +28,16 @@ use Rattle.acap_session.specs.World.{World, Step, did, new_world, open_at, world
 use Rattle.acap_session.proofs.Alone.{others_stay}
 use Rattle.acap_session.proofs.Forming.{command_formed}
 use Rattle.acap_session.proofs.Naming.{NamedWorld, new_named, step_named}
+use Rattle.acap_session.proofs.Living.{named_front}
+use Rattle.acap_session.proofs.PipeSteps.{run_append}
 use Rattle.acap_wire.specs.Seat.{ArePrintable, IsPrintable, after_lines, follower_in}
 use Rattle.acap_wire.proofs.Moving.{step_current, step_else}
 use Rattle.acap_wire.proofs.Sending.{told_makes}
 use Rattle.acap_wire.proofs.Speaking.{tag_by}
-use Rattle.acap_wire.proofs.Tagged.{TaggedPlace, all_tagged, by_tag}
+use Rattle.acap_wire.proofs.Tagged.{TaggedPlace, all_tagged, by_tag, apart}
 use Rattle.acap_wire.proofs.Steps.{Follows, IsReached, own_step}
 
 -- ---- a step more
-
-pub world_snoc : (xs ys : List Step) (w : World) → world_after (xs ++ ys) w ≡ world_after ys (world_after xs w)
-world_snoc [] ys w = refl
-world_snoc (x ∷ xs) ys w = world_snoc xs ys (did x.occasion x.refused x.deed w)
 
 client_snoc : (seat : ℕ) (q : List ℕ) (xs : List Step) (x : Step) (w : World) (held : Client)
     → client_in seat q (xs ++ x ∷ []) w held ≡ cond (x.occasion.seat == seat) (client_told q (told_in (world_after xs w) x) (client_in seat q xs w held)) (client_in seat q xs w held)
@@ -55,12 +53,6 @@ pub follower_snoc : (seat : ℕ) (xs : List Step) (x : Step) (w : World) (f : Fo
     → follower_in seat (xs ++ x ∷ []) w f ≡ cond (x.occasion.seat == seat) (after_lines (world_after xs w) x (follower_in seat xs w f)).0 (follower_in seat xs w f)
 follower_snoc seat [] x w f = refl
 follower_snoc seat (y ∷ ys) x w f = follower_snoc seat ys x (did y.occasion y.refused y.deed w) _
-
-pub named_front : (xs ys : List Step) → list_all (λ x. is_named_deed x.deed) (xs ++ ys) ≡ true → list_all (λ x. is_named_deed x.deed) xs ≡ true
-named_front [] ys named = refl
-named_front (x ∷ xs) ys named =
-    let both = and_parts (is_named_deed x.deed) _ named in
-    (λ i. both.0 i && named_front xs ys both.1 i)
 
 named_last : (xs ys : List Step) (x : Step) → list_all (λ x. is_named_deed x.deed) (xs ++ x ∷ ys) ≡ true → is_named_deed x.deed ≡ true
 named_last [] ys x named = (and_parts (is_named_deed x.deed) _ named).0
@@ -104,9 +96,6 @@ no_occupant (Some p) e = elim (is_closed p.talk.stage) as (λ b. is_closed p.tal
 ] refl e
 
 -- ---- the run
-
-apart : (a b : ℕ) → (a == b) ≡ false → (b == a) ≡ false
-apart a b e = false_from_ne_true (b == a) (λ t. eqb-false a b e (sym (eqb-true b a t)))
 
 module _ (printed : PrintedLaw) (readable : ReadableLaw) (hearing : HearingLaw) (current : CurrentLaw) (law : HeldLaw) (live : LiveLaw) (seating : SeatingLaw)
     (realm : Realm) (users : List User) (host : List ℕ) (seat : ℕ) (q : List ℕ) where
@@ -176,7 +165,7 @@ module _ (printed : PrintedLaw) (readable : ReadableLaw) (hearing : HearingLaw) 
 
     state_is : (b : Bool) → (x.occasion.seat == seat) ≡ b → state (steps ++ x ∷ []) ≡ own_state b
     state_is b e = (λ i. (
-      world_snoc steps (x ∷ []) start i,
+      run_append steps (x ∷ []) start i,
       (
         (whole_snoc seat q steps x start false ∙ ap (λ c. cond c (whole_told q (told_in w x) whole) whole) e) i,
         (
@@ -216,8 +205,8 @@ module _ (printed : PrintedLaw) (readable : ReadableLaw) (hearing : HearingLaw) 
     reaches_then can =
         let named_here = named_last steps [] x named.1 in
         record {
-          named = subst NamedWorld (sym (world_snoc steps (x ∷ []) start)) (step_named command_formed w x at.named named_here);
-          current_then = subst (λ (v : World). IsCurrentMachine v.machine) (sym (world_snoc steps (x ∷ []) start)) (step_current current law w x at.named named_here at.current_then);
+          named = subst NamedWorld (sym (run_append steps (x ∷ []) start)) (step_named command_formed w x at.named named_here);
+          current_then = subst (λ (v : World). IsCurrentMachine v.machine) (sym (run_append steps (x ∷ []) start)) (step_current current law w x at.named named_here at.current_then);
           follows = follows_then can;
         }
 
@@ -236,7 +225,7 @@ module _ (printed : PrintedLaw) (readable : ReadableLaw) (hearing : HearingLaw) 
       let all = append_assoc done (x ∷ []) rest in
       let more : AreNamed users ((done ++ x ∷ []) ++ rest) = subst (AreNamed users) (sym all) named in
       let here = reaches_then done x at (more.0, named_front (done ++ x ∷ []) rest more.1) can.0 in
-      subst Reaches all (reach (done ++ x ∷ []) rest here more (subst (ArePrintable seat rest) (sym (world_snoc done (x ∷ []) start)) can.1))
+      subst Reaches all (reach (done ++ x ∷ []) rest here more (subst (ArePrintable seat rest) (sym (run_append done (x ∷ []) start)) can.1))
 
   pub reaches : (steps : List Step) → AreNamed users steps → ArePrintable seat steps start → Reaches steps
   reaches steps named can = reach [] steps (at_start named.0) named can

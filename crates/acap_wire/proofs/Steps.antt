@@ -9,7 +9,7 @@ use Rattle.acap_commands.specs.declared.command.Command.{Command}
 use Rattle.acap_commands.specs.declared.command.Command.TheVariants as command
 use Rattle.acap_commands.specs.declared.event.Event.{Event}
 use Rattle.acap_commands.specs.declared.event.Event.TheVariants as event
-use Rattle.acap_commands.specs.declared.make_context.MakeContext.{MakeContext}
+use Rattle.acap_commands.specs.declared.search_modifiers.MakeContext.{MakeContext}
 use Rattle.acap_commands.specs.declared.said.Said.{Said}
 use Rattle.acap_commands.specs.declared.said.Said.TheVariants as said
 use Rattle.acap_dialogue.specs.Hearing.{ready_line}
@@ -33,11 +33,12 @@ use Rattle.acap_session.specs.Turning.{event_outcome}
 use Rattle.acap_session.specs.World as world
 use Rattle.acap_session.specs.World.{World, Deed, Step, did, open_at}
 use Rattle.acap_session.proofs.Alone.{did_by, did_is}
+use Rattle.acap_session.proofs.Living.{moved_in, machine_by}
 use Rattle.acap_wire.proofs.Occasions.{Occasion}
 use Rattle.acap_wire.specs.Seat.{IsPrintable, after_lines, asking, before_lines, begun, lines_in, numbers_told, out_at, said_in, says, sent_by, sent_in}
 use Rattle.acap_wire.proofs.Kept.{IsHeldAs, IsKeptAs}
 use Rattle.acap_wire.proofs.Machine.{IsMakeable, drain_frees, greeted, lives_on, step_answers, step_frees}
-use Rattle.acap_wire.proofs.Moving.{Answered, HasSaid, answered, left_live, machine_by, moved_in}
+use Rattle.acap_wire.proofs.Moving.{Answered, HasSaid, answered, left_live}
 use Rattle.acap_wire.proofs.Replies.{Answers, Contexts, IsReplied, Unless, asks_nothing, between, fails_replied, frees, frees_said, idle_replied, is_plain, plain_tells, replied, unasked_replied}
 use Rattle.acap_wire.proofs.Speaking.{Fails, Fitting, IsEvent, IsUnanswered, Ready, Says, Silent, Speech, tag_by}
 use Rattle.acap_wire.proofs.Turns.{spoken}

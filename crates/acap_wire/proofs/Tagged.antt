@@ -10,12 +10,12 @@ use Rattle.acap_lexer.specs.declared.kind.Kind.{Kind}
 use Rattle.acap_lexer.specs.declared.kind.Kind.TheVariants as kind
 use Rattle.acap_lexer.specs.declared.lexed.Lexed.{Lexed}
 use Rattle.acap_lexer.specs.declared.lexed.Lexed.TheVariants as lexed
-use Rattle.acap_lexer.specs.declared.mode.Mode.TheVariants as mode
+use Rattle.acap_lexer.specs.declared.lexed.Mode.TheVariants as mode
 use Rattle.acap_login.specs.Login.{User}
 use Rattle.acap_commands.specs.declared.command.Command.{Command}
 use Rattle.acap_commands.specs.declared.command.Command.TheVariants as command
-use Rattle.acap_commands.specs.declared.fault.Fault.{Fault}
-use Rattle.acap_commands.specs.declared.fault.Fault.TheVariants as fault
+use Rattle.acap_commands.specs.declared.event.Fault.{Fault}
+use Rattle.acap_commands.specs.declared.event.Fault.TheVariants as fault
 use Rattle.acap_commands.specs.declared.reply.Reply.{Reply}
 use Rattle.acap_dialogue.specs.Hearing.{response_to, heard_line, heard_command, heard_answer, answer_line, answer_token, mechanism_name, logs_in, who, asks, opening, tag_of}
 use Rattle.acap_dialogue.specs.Listening.{Listening}
@@ -265,7 +265,7 @@ step_tagged w x k =
 
 -- ---- all steps
 
-apart : (a b : ℕ) → (a == b) ≡ false → (b == a) ≡ false
+pub apart : (a b : ℕ) → (a == b) ≡ false → (b == a) ≡ false
 apart a b e = false_from_ne_true (b == a) (λ t. eqb-false a b e (sym (eqb-true b a t)))
 
 pub seat_tagged : (seat : ℕ) (w : World) (x : Step) → TaggedPlace (open_at w seat) → TaggedPlace (open_at (did x.occasion x.refused x.deed w) seat)

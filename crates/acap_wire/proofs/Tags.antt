@@ -5,6 +5,7 @@ use Rattle.std.specs.List.{list_all, prefix_len}
 use Rattle.std.specs.Option.{option_map}
 use Rattle.std.proofs.lemmas.Bool.{and_parts}
 use Rattle.std.proofs.lemmas.List.Folds.{length-prefix_len}
+use Rattle.std.proofs.Math.Numerals.{one-add}
 use Rattle.acap_lexer.specs.Held.{next_of, next_by, next_by_item}
 use Rattle.acap_lexer.specs.Holding.{Held}
 use Rattle.acap_lexer.specs.Octets.{is_tag}
@@ -17,7 +18,7 @@ use Rattle.acap_lexer.specs.declared.fault.LexFault.{LexFault}
 use Rattle.acap_lexer.specs.declared.fault.LexFault.TheVariants as faults
 use Rattle.acap_lexer.specs.declared.lexed.Lexed.{Lexed}
 use Rattle.acap_lexer.specs.declared.lexed.Lexed.TheVariants as lexed
-use Rattle.acap_lexer.specs.declared.mode.Mode.TheVariants as modes
+use Rattle.acap_lexer.specs.declared.lexed.Mode.TheVariants as modes
 use Rattle.acap_grammar.specs.Sayable.{IsTagged}
 
 -- the first of some tokens is a tag
@@ -55,13 +56,10 @@ headed_tag (t ∷ ts) h = h
 
 -- ---- a tag that is read
 
-one_more : (n : ℕ) → 1 + n ≡ suc n
-one_more n = omega arith
-
 all_front : (text : List ℕ) → list_all is_tag (take (prefix_len is_tag text) text) ≡ true
 all_front [] = refl
 all_front (c ∷ rest) = elim (is_tag c) as (λ b. is_tag c ≡ b → list_all is_tag (take (cond b (1 + prefix_len is_tag rest) 0) (c ∷ rest)) ≡ true) [
-  | true ↦ λ t. ap (λ n. list_all is_tag (take n (c ∷ rest))) (one_more (prefix_len is_tag rest)) ∙ (λ i. t i && all_front rest i)
+  | true ↦ λ t. ap (λ n. list_all is_tag (take n (c ∷ rest))) (one-add (prefix_len is_tag rest)) ∙ (λ i. t i && all_front rest i)
   | false ↦ λ t. refl
 ] refl
 

@@ -6,7 +6,7 @@ use Rattle.std.proofs.Math.Seq.{drop-append_seam}
 use Rattle.acap_login.specs.Login.{User}
 use Rattle.acap_commands.specs.declared.event.Event.{Event}
 use Rattle.acap_commands.specs.declared.event.Event.TheVariants as event
-use Rattle.acap_commands.specs.declared.fault.Fault.{Fault}
+use Rattle.acap_commands.specs.declared.event.Fault.{Fault}
 use Rattle.acap_commands.specs.declared.reply.Reply.{Reply}
 use Rattle.acap_commands.specs.declared.said.Said.{Said}
 use Rattle.acap_dialogue.specs.Running.{event_in}
@@ -26,7 +26,7 @@ use Rattle.acap_session.specs.Turning.{Scene, scene, event_outcome, turn_by, tur
 use Rattle.acap_session.specs.World as world
 use Rattle.acap_session.specs.World.{World, Deed, Step, did, ends, open_at, said_before, scene_of, takes, with_scene}
 use Rattle.acap_session.proofs.Alone.{did_by, did_is, place_of}
-use Rattle.acap_session.proofs.Placing.{placed_there}
+use Rattle.acap_session.proofs.Placing.{placed_there, open_is}
 use Rattle.acap_wire.proofs.Occasions.{Occasion}
 use Rattle.acap_wire.specs.Seat.{out_at, said_in, sent_at, sent_by, sent_in}
 use Rattle.acap_wire.proofs.Speaking.{Speech, Silent, Ready, Spoken, closed_by, drained_said, octets_by, opening_spoken, said_by, tag_at, tag_by, told_by, turn_at, turn_spoken}
@@ -125,16 +125,8 @@ record SpokenOn (o : Occasion) (refused : Bool) (deed : Deed) (w : World) (now :
   speech : Speech (sent_by deed now) (told_on o refused deed w now) (tag_by deed now) octets closed
   open_then : (p : Place) → open_at (did_by o refused deed w now) o.seat ≡ Some p → closed ≡ false
 
--- what stands at the seat, where a session is open there
-there : (found : Option Place) (p : Place) → if_open found ≡ Some p → found ≡ Some p
-there None p e = cc
-there (Some q) p e = elim (is_closed q.talk.stage) as (λ b. cond b None (Some q) ≡ Some p → Some q ≡ Some p) [
-  | true ↦ λ k. absurd cc
-  | false ↦ λ k. k
-] e
-
 out_there : (w : World) (seat : ℕ) (p : Place) → open_at w seat ≡ Some p → out_at w seat ≡ p.out
-out_there w seat p e = ap said_before (there (place_at w.places seat) p e)
+out_there w seat p e = ap said_before (open_is (place_at w.places seat) p e)
 
 if_closed : (q p : Place) → if_open (Some q) ≡ Some p → is_closed q.talk.stage ≡ false
 if_closed q p e = elim (is_closed q.talk.stage) as (λ b. cond b None (Some q) ≡ Some p → b ≡ false) [

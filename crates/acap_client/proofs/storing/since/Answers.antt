@@ -1,7 +1,7 @@
 use Rattle.std.proofs.Common.{◌∙◌}
+use Rattle.acap_entries.proofs.Logic.{OnOk_also}
 use Rattle.acap_grammar.specs.Spelling.{time}
-use Rattle.acap_client.proofs.Each.{also}
 use Rattle.acap_client.proofs.storing.since.Goals as goal
 
 pub returns : goal.returns
-returns c = also c.time.result c.time.ensures (λ w after. c.in_ok-word.ensures (time c.args.moment after) ∙ w after)
+returns c = OnOk_also c.time.result c.time.ensures (λ w after. c.in_ok-word.ensures (time c.args.moment after) ∙ w after)

@@ -1,10 +1,7 @@
-use Rattle.std.proofs.Common.{◌≡◌, Bool, true, false, ◌&&◌, refl}
+use Rattle.std.proofs.Common.{refl}
+use Rattle.std.proofs.Math.Bool.{and-true}
 use Rattle.acap_entries.specs.Names.{dataset_of, name_of}
 use Rattle.acap_entries.proofs.laws.existence_law.Goals as goal
-
-and_true : (b : Bool) → b && true ≡ b
-and_true true = refl
-and_true false = refl
 
 pub returns : goal.returns
 unfolding dataset_of name_of
@@ -16,7 +13,7 @@ returns c = record {
   no_string = refl;
   two_dots = refl;
   twice = refl;
-  present = λ e h. rw h (and_true e.present);
+  present = λ e h. rw h (and-true e.present);
   without = λ e h p. rw (h, p) refl;
   root = λ records. refl;
   made = λ records e h. rw h refl;

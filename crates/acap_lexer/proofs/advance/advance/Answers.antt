@@ -1,6 +1,6 @@
 use Rattle.std.proofs.Common.{subst, ◌∙◌}
-use Rattle.acap_lexer.specs.declared.due.Due.TheVariants as dues
-use Rattle.acap_lexer.specs.declared.mode.Mode.{Mode}
+use Rattle.acap_lexer.specs.declared.outcomes.Due.TheVariants as dues
+use Rattle.acap_lexer.specs.declared.lexed.Mode.{Mode}
 use Rattle.acap_lexer.specs.Scanning.{IsDue, Stays, GoesOn, stage_of}
 use Rattle.acap_lexer.specs.Stream.{step_of}
 use Rattle.acap_lexer.proofs.Reaching.{plus_due, more_due, item_due, reaches_goes}

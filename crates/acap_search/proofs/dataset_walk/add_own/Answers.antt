@@ -1,6 +1,6 @@
 use Rattle.std.proofs.Common.{None, ◌+◌, ap, arith, length, refl, subst, sym, ◌∙◌, map}
 use Rattle.std.proofs.lemmas.List.{length-map}
-use Rattle.acap_search.specs.Gathering.{with_more}
+use Rattle.acap_search.specs.Gathering.{with_more, with_one}
 use Rattle.acap_search.specs.Near.{AreKept}
 use Rattle.acap_search.specs.Views.{found_at, spot_in}
 use Rattle.acap_search.specs.Walks.{hits_at}
@@ -24,7 +24,8 @@ loop-path-preserved g c =
     let sought = c.args.sought.now in
     record {
       found = ap (λ g. with_more g (hits_at by sought (map (λ e. e.0.name) c.next.new.self))) c.in_ok-add_at.ensures.found
-          ∙ (gathered_next (λ name. found_at sought None (spot_in by name)) c.loop-path.found c.in-Some.path.now.name (map (λ e. e.0.name) c.next.new.self)
+          ∙ (ap (λ spot. with_more (with_one c.loop-path.found (found_at sought None spot)) (hits_at by sought (map (λ e. e.0.name) c.next.new.self))) c.near-spot.ensures
+          ∙ gathered_next (λ name. found_at sought None (spot_in by name)) c.loop-path.found c.in-Some.path.now.name (map (λ e. e.0.name) c.next.new.self)
           ∙ (ap (λ es. with_more c.loop-path.found (hits_at by sought (map (λ e. e.0.name) es))) (sym c.in-Some.ensures.steps)
           ∙ c.loop-path.invariant.found));
       kept = (subst (AreKept by.records by.dataset) c.in-Some.ensures.steps c.loop-path.invariant.kept).1;

@@ -3,7 +3,7 @@ use Rattle.acap_entries.proofs.StoreLemmas.{path_cmp_total}
 use Rattle.acap_entries.specs.Store.{path_cmp}
 use Rattle.acap_commands.specs.EntryOrder.{Orders}
 use Rattle.acap_grammar.specs.Gathering.{Gathered}
-use Rattle.acap_commands.specs.declared.store_entry.StoreEntry.{StoreEntry}
+use Rattle.acap_commands.specs.declared.store.StoreEntry.{StoreEntry}
 use Rattle.acap_grammar.proofs.Ascending.{ascends_more}
 use Rattle.acap_grammar.proofs.gathered.GatheredEntries.with.Goals as goal
 use Rattle.acap_grammar.proofs.gathered.GatheredEntries.with.Goals.{in-Some+in_ok-add-in-Some, in-None+then-is_le, in-None+else-is_le+in_ok-order_with-in-None}

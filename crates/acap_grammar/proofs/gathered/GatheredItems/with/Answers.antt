@@ -1,7 +1,7 @@
 use Rattle.std.proofs.Common.{refl}
 use Rattle.std.proofs.lemmas.Cmp.{nat_list_cmp_total}
 use Rattle.acap_entries.specs.Orders.{octets_cmp}
-use Rattle.acap_commands.specs.declared.store_item.StoreItem.{StoreItem}
+use Rattle.acap_commands.specs.declared.store.StoreItem.{StoreItem}
 use Rattle.acap_grammar.proofs.Ascending.{ascends_more, ascends_not}
 use Rattle.acap_grammar.proofs.gathered.GatheredItems.with.Goals as goal
 use Rattle.acap_grammar.proofs.gathered.GatheredItems.with.Goals.{then-self, else-self}

@@ -1,6 +1,6 @@
 use Rattle.std.proofs.Common.{◌+◌, ◌≤◌, length, arith}
 use Rattle.std.proofs.lemmas.List.{drop-drop}
-use Rattle.acap_lexer.specs.declared.due.Due.TheVariants as dues
+use Rattle.acap_lexer.specs.declared.outcomes.Due.TheVariants as dues
 use Rattle.acap_lexer.proofs.LexerLaws.{answers_fault, answers_due, keeps_scan}
 use Rattle.acap_lexer.proofs.lexer.Lexer.next.Goals as goal
 

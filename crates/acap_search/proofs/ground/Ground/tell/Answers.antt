@@ -4,8 +4,8 @@ use Rattle.acap_search.proofs.ground.Ground.tell.Goals as goal
 
 pub returns : goal.returns
 returns c =
-    subst (λ by. IfOk c.tell_row.result (λ row. row ≡ (match_at c.args.sought.now (spot_in by c.args.path.now.name)).row))
-    (ap (λ ground. ground.view) c.self.view_is) c.tell_row.ensures
+    subst (λ spot. IfOk c.tell_row.result (λ row. row ≡ (match_at c.args.sought.now spot).row))
+    (c.near-spot.ensures ∙ ap (λ by. spot_in by c.args.path.now.name) (ap (λ ground. ground.view) c.self.view_is)) c.tell_row.ensures
 
 pub returns-2 : goal.returns-2
 returns-2 c =

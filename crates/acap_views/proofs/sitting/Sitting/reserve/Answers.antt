@@ -1,6 +1,7 @@
 use Rattle.std.proofs.Common.{ap}
+use Rattle.acap_entries.proofs.Logic.{OnOk_then}
 use Rattle.acap_views.specs.Keeping.{RoomyOccupant}
-use Rattle.acap_views.proofs.FollowingLemmas.{fits_made, on_ok, same_occupant}
+use Rattle.acap_views.proofs.FollowingLemmas.{fits_made, same_occupant}
 use Rattle.acap_views.proofs.InPlaceLemmas.{same_order}
 use Rattle.acap_views.proofs.sitting.Sitting.reserve.Goals as goal
 
@@ -15,4 +16,4 @@ returns-clause-same c =
 pub returns-clause-room : goal.returns-clause-room
 returns-clause-room c =
     let order = same_order c.reserve_all.new.contexts.items c.self.inside.contexts.items c.reserve_all.ensures.same c.self.invariant in
-    on_ok c.reserve_all.result (fits_made c.args.turns.now c.reserve_all.new.contexts.items order) c.reserve_all.ensures.room
+    OnOk_then c.reserve_all.result (fits_made c.args.turns.now c.reserve_all.new.contexts.items order) c.reserve_all.ensures.room

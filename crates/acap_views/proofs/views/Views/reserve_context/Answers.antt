@@ -1,8 +1,8 @@
 use Rattle.std.proofs.Common.{◌<◌, refl, sym, subst, ap, ◌∙◌, arith, Option}
 use Rattle.std.specs.Ordering.{nat_cmp}
 use Rattle.std.specs.Option.{IsSomeAnd}
+use Rattle.acap_entries.proofs.Logic.{OnOk_also}
 use Rattle.acap_views.specs.Keeping.{RoomyOccupant, contexts_in, seats_in}
-use Rattle.acap_views.proofs.AnswerLemmas.{on_ok}
 use Rattle.acap_views.proofs.KeepingLemmas.{seats_in_order, same_seats, somebody_tied, new_there}
 use Rattle.acap_views.proofs.ValueLemmas.{place_in, tied_slice}
 use Rattle.acap_views.proofs.views.Views.reserve_context.Goals as goal
@@ -37,5 +37,5 @@ returns-clause-room c =
     let seat = c.args.seat in
     let tied = somebody_tied es seat c.self.invariant (seats_in c.args.self.now) (ap seats_in c.self.view_is) c.requires in
     let place = place_in nat_cmp seat c.as_slice.result.now es _ c.place_of-at.ensures.place c.as_slice.ensures.value in
-    on_ok c.make_room.result c.make_room.ensures.ok (λ room.
+    OnOk_also c.make_room.result c.make_room.ensures.ok (λ room.
     subst (λ (o : Option RoomyOccupant). IsSomeAnd o (λ (occupant : RoomyOccupant). 0 < occupant.spare)) (sym (new_there es seat c.self.invariant _ c.place_of-at.result.0 c.index_mut.result.now c.make_room.new.self tied place refl c.index_mut.ensures.value)) room)

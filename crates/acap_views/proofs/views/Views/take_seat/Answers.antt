@@ -11,13 +11,13 @@ use Rattle.acap_views.proofs.KeepingLemmas.{seat_insert}
 use Rattle.acap_views.proofs.views.Views.take_seat.Goals as goal
 
 pub invariant_of-self : goal.invariant_of-self
-invariant_of-self c = rw c.put_in_room.ensures (put_in_order nat_cmp nat_cmp_total _ _ _ c.self.invariant)
+invariant_of-self c = rw c.put_in_room.ensures.items (put_in_order nat_cmp nat_cmp_total _ _ _ c.self.invariant)
 
 pub returns : goal.returns
 returns c =
     let seats = c.self.inside.seats.items in
     let sitting = c.new-sitting.result in
-    ap as_seated c.put_in_room.ensures
+    ap as_seated c.put_in_room.ensures.items
     ∙ (ap (each_value occupant_in) (insert_kept nat_cmp nat_cmp_total seats c.args.seat sitting c.self.invariant)
     ∙ (seat_insert (table.from_sorted seats) c.args.seat sitting
     ∙ (ap (table.insert (as_seated seats) c.args.seat) c.new-sitting.ensures

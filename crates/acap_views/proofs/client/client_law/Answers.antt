@@ -1,5 +1,0 @@
-use Rattle.acap_views.proofs.ClientLemmas.{client_law}
-use Rattle.acap_views.proofs.client.client_law.Goals as goal
-
-pub returns : goal.returns
-returns c = client_law
