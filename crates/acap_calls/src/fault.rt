@@ -2,23 +2,31 @@
 
 use acap_serving::ServeFault;
 use acap_session::{PipeFault, ScriptFault};
+use thiserror::Error;
 
 /// Why the program could not go on.
-#[derive(Clone, Copy, PartialEq, Eq)]
+#[derive(Clone, Copy, Debug, PartialEq, Eq, Error)]
 pub enum Fault {
     /// Standard input failed, or a file can't be read.
+    #[error("cannot read")]
     Read,
     /// Standard output failed.
+    #[error("cannot write")]
     Write,
     /// Memory was refused.
+    #[error("out of memory")]
     Memory,
     /// This line of a script, counted from 1, is none, or can't stand where it does.
+    #[error("line {0} cannot be done")]
     Line(u64),
     /// A settings file is none.
+    #[error("bad settings")]
     Settings,
     /// The server can't listen where its settings say.
+    #[error("cannot listen")]
     Listen,
     /// The calls of the server's sessions don't agree with its history.
+    #[error("the calls of the sessions do not agree with the history")]
     Unequal,
 }
 

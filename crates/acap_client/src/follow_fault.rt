@@ -3,13 +3,16 @@ ghost use Rattle.acap_client.specs.declared.follow_fault.FollowFault.TheVariants
 ghost use Rattle.std.specs.Prelude.{◌≡◌};
 
 use acap_entries::Memory;
+use thiserror::Error;
 
 /// Why a follower doesn't go on with a line. What it holds stays.
-#[derive(Clone, Copy)]
+#[derive(Clone, Copy, Debug, Error)]
 pub enum FollowFault<'a> {
     /// The line doesn't fit what is held of the context of this name, or that isn't held or was freed.
+    #[error("the line does not fit the list")]
     Misfit(&'a [u8]),
     /// Memory was refused.
+    #[error("out of memory")]
     Memory,
 }
 

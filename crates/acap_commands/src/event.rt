@@ -3,17 +3,22 @@ ghost use Rattle.std.specs.Prelude.{◌≡◌, ◌↔◌, IsTrue};
 
 use crate::command::Command;
 use acap_entries::{Copying, Memory, UserName};
+use thiserror::Error;
 
 /// Why an event isn't performed; the machine is as before.
-#[derive(Clone, Copy, PartialEq, Eq)]
+#[derive(Clone, Copy, Debug, PartialEq, Eq, Error)]
 pub enum Fault {
     /// Memory was refused.
+    #[error("out of memory")]
     Memory,
     /// Nobody has the seat.
+    #[error("nobody has the seat")]
     NotEntered,
     /// The seat has a user already.
+    #[error("the seat is taken")]
     AlreadyEntered,
     /// The history holds as many events as it may; the machine itself never says so.
+    #[error("the history is full")]
     HistoryFull,
 }
 

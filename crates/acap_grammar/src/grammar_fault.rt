@@ -3,13 +3,16 @@
 use crate::command_fault::CommandFault;
 use acap_entries::Memory;
 use std::alloc::AllocFailed;
+use thiserror::Error;
 
 /// Why a command wasn't read: a fault of its own, or want of memory.
-#[derive(Clone, Copy, PartialEq, Eq)]
+#[derive(Clone, Copy, Debug, PartialEq, Eq, Error)]
 pub enum GrammarFault {
     /// The first fault from the left (RFC 2244 sections 2.2 and 8).
+    #[error("{0}")]
     Fault(CommandFault),
     /// Memory was refused.
+    #[error("out of memory")]
     Memory,
 }
 

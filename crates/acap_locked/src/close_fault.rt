@@ -1,14 +1,19 @@
 //! Why a book is not closed.
 use acap_entries::{Memory, Seat};
+use std::fmt;
+use thiserror::Error;
 
 /// Why a book is not closed; it and the passes are gone.
-#[derive(Clone, Copy, PartialEq, Eq)]
+#[derive(Clone, Copy, PartialEq, Eq, Error)]
 pub enum CloseFault {
     /// No pass of that seat was handed in, the least such seat.
+    #[error("the pass of a seat is missing")]
     PassMissing(Seat),
     /// A pass of that seat doesn't hold what the history has of it, the least such seat.
+    #[error("a pass does not hold what the history has of its seat")]
     Unequal(Seat),
     /// Memory was refused.
+    #[error("out of memory")]
     Memory,
 }
 
@@ -20,5 +25,11 @@ impl From<Memory> for CloseFault {
 
     fn from(_memory: Memory) -> CloseFault {
         CloseFault::Memory
+    }
+}
+
+impl fmt::Debug for CloseFault {
+    fn fmt<W: fmt::Write>(&self, f: &mut fmt::Formatter<W>) -> fmt::Result {
+        fmt::Display::fmt(self, f)
     }
 }

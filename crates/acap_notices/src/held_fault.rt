@@ -4,13 +4,16 @@ ghost use Rattle.std.specs.Prelude.{◌≡◌};
 
 use acap_entries::Memory;
 use std::alloc::AllocFailed;
+use thiserror::Error;
 
 /// Why a notice wasn't applied.
-#[derive(Clone, Copy, PartialEq, Eq)]
+#[derive(Clone, Copy, Debug, PartialEq, Eq, Error)]
 pub enum HeldFault {
     /// It doesn't fit what is held.
+    #[error("the notice does not fit the list")]
     Misfit,
     /// Memory was refused.
+    #[error("out of memory")]
     Memory,
 }
 

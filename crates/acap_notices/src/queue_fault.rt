@@ -3,13 +3,16 @@ ghost use Rattle.acap_notices.specs.declared.queue_fault.QueueFault.TheVariants 
 ghost use Rattle.std.specs.Prelude.{◌≡◌};
 
 use acap_entries::Memory;
+use thiserror::Error;
 
 /// Why a notice wasn't added to a queue.
-#[derive(Clone, Copy, PartialEq, Eq)]
+#[derive(Clone, Copy, Debug, PartialEq, Eq, Error)]
 pub enum QueueFault {
     /// As many are waiting as may wait.
+    #[error("too many notices are waiting")]
     Full,
     /// Memory was refused.
+    #[error("out of memory")]
     Memory,
 }
 

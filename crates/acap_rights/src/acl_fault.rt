@@ -1,12 +1,15 @@
 //! Why a list is not read.
 use acap_entries::Memory;
+use thiserror::Error;
 
 /// Why a list was not read.
-#[derive(Clone, Copy, PartialEq, Eq)]
+#[derive(Clone, Copy, Debug, PartialEq, Eq, Error)]
 pub enum AclFault {
     /// The strings are no access control list.
+    #[error("no access control list")]
     BadAcl,
     /// Memory was refused.
+    #[error("out of memory")]
     Memory,
 }
 

@@ -1,13 +1,16 @@
 //! Why a line of a script can't be done.
 
 use acap_entries::Memory;
+use thiserror::Error;
 
 /// Why a line of a script can't be done.
-#[derive(Clone, Copy, PartialEq, Eq)]
+#[derive(Clone, Copy, Debug, PartialEq, Eq, Error)]
 pub enum LineFault {
     /// It is none, or can't stand where it does.
+    #[error("no line of a script, or not one that may stand there")]
     Wrong,
     /// Memory was refused.
+    #[error("out of memory")]
     Memory,
 }
 

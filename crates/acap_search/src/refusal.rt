@@ -3,19 +3,25 @@ ghost use Rattle.std.specs.Prelude.{◌≡◌};
 ghost use Rattle.acap_search.specs.declared.refusal.SearchRefusal.TheVariants as refusal;
 
 use acap_entries::Memory;
+use thiserror::Error;
 
 /// Why a search over a dataset or a context is refused, the first that holds being told (RFC 2244 section 6.4.1).
-#[derive(Clone, Copy, PartialEq, Eq)]
+#[derive(Clone, Copy, Debug, PartialEq, Eq, Error)]
 pub enum SearchRefusal {
     /// The key asks for positions, which only the entries of an enumerated context have.
+    #[error("positions without an enumerated context")]
     RangeHere,
     /// The dataset doesn't exist.
+    #[error("no such dataset")]
     NoExist,
     /// The key asks for positions in a context as they were at a moment before the last one that was told.
+    #[error("positions of too long ago")]
     TooOld,
     /// More entries match than HARDLIMIT allows.
+    #[error("too many matches")]
     WayTooMany,
     /// Memory was refused.
+    #[error("out of memory")]
     Memory,
 }
 
