@@ -9,7 +9,7 @@ use acap_commands::{Command, Key};
 use acap_entries::{Dataset, EntryName, Steps, UserName, Value};
 use acap_inherit::{Found, Lent, Resolved, chain, resolve};
 use acap_machine::State;
-use acap_search::{Viewer, matches};
+use acap_search::{DatasetView, matches};
 use std::alloc::Global;
 use std::marker::Brand;
 use std::sync::ledger::{Blank, Ledger};
@@ -203,7 +203,7 @@ fn wants<'a, L: Ledger>(
     steps: &mut Steps<L>,
 ) -> bool {
     let tree = state.tree();
-    let by = Viewer {
+    let by = DatasetView {
         records: tree,
         realm: state.realm(),
         user: &look.user,

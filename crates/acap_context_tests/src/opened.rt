@@ -6,7 +6,7 @@ use acap_entries::{
     ContextName, Copying, Dataset, Memory, Moment, NameFault, Sequence, Shared, UserName,
 };
 use acap_notices::{Batch, Ending};
-use acap_search::{Hits, Sought};
+use acap_search::{Hits, SearchSpec};
 use acap_views::{ViewRefusal, Views};
 use std::alloc::Global;
 
@@ -64,8 +64,8 @@ fn read<T>(name: Result<T, NameFault>) -> Result<T, Memory> {
 }
 
 // A search for all entries of a dataset.
-fn sought(alloc: Global) -> Result<Sought, Memory> {
-    Ok(Sought {
+fn sought(alloc: Global) -> Result<SearchSpec, Memory> {
+    Ok(SearchSpec {
         dataset: read(Dataset::from_slice(alloc, b"/option/user/joe/"))?,
         depth: None,
         no_inherit: false,

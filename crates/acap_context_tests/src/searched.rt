@@ -9,7 +9,7 @@ use acap_commands::{Command, Limit, Search, Target};
 use acap_entries::{Memory, Moment, Row, Steps, UserName};
 use acap_machine::State;
 use acap_search::{
-    Asked, Excerpt, Hit, Hits, Query, SearchRefusal, Showing, fresh, tell_within, within,
+    SearchRequest, SearchAnswer, Hit, Hits, Query, SearchRefusal, ContextList, fresh, tell_within, within,
 };
 use std::alloc::Global;
 use std::marker::Brand;
@@ -93,7 +93,7 @@ fn query_of(alloc: Global, user: &UserName, asked: &[u8]) -> Result<Query, Wrong
     let Target::Dataset(dataset) = target else {
         return Err(Wrong::Answer);
     };
-    Ok(Asked::new(user, &dataset, modifiers, key)?.query)
+    Ok(SearchRequest::new(user, &dataset, modifiers, key)?.query)
 }
 
 // What a refusal comes to, of which none is wanted.
@@ -118,7 +118,7 @@ fn are_first(rows: &[Row], hits: &Hits) -> bool {
 }
 
 // Whether what is told of some hits is what LIMIT lets through.
-fn is_told(row: &SearchRow, told: &Excerpt, hits: &Hits) -> bool {
+fn is_told(row: &SearchRow, told: &SearchAnswer, hits: &Hits) -> bool {
     let most = match row.limit {
         Some(limit) if told.total.is_some() => limit.most as usize,
         _ => hits.len(),
@@ -127,8 +127,8 @@ fn is_told(row: &SearchRow, told: &Excerpt, hits: &Hits) -> bool {
 }
 
 // What a context shows that has these hits, of which nothing was told since the first of all moments.
-fn showing<'a>(hits: &'a [&'a Hit]) -> Showing<'a> {
-    Showing {
+fn showing<'a>(hits: &'a [&'a Hit]) -> ContextList<'a> {
+    ContextList {
         hits,
         told: Moment::first(),
         enumerated: true,

@@ -10,18 +10,18 @@ use Rattle.acap_entries.proofs.moment.Moment.TheSendSync as of_moment
 use Rattle.acap_entries.proofs.sequence.Sequence.TheSendSync as of_sequence
 use Rattle.acap_entries.proofs.text.Text.TheSendSync as of_text
 use Rattle.acap_entries.proofs.seat.Seat.TheSendSync as of_seat
-use Rattle.acap_views.proofs.held.Held.TheSendSync as of_held
+use Rattle.acap_views.proofs.context_lists.ContextLists.TheSendSync as of_held
 use Rattle.std.proofs.option.Option.TheSendSync as of_option
 use Rattle.acap_entries.proofs.tree.Tree.TheSendSync as of_tree
 use Rattle.acap_inherit.proofs.resolved.Resolved.TheSendSync as of_resolved
 use Rattle.acap_rights.proofs.realm.Realm.TheSendSync as of_realm
 use Rattle.acap_machine.specs.contracts.state.State as state
 use Rattle.acap_machine.specs.contracts.state.State.TheInside as state_inside
-use Rattle.acap_search.specs.contracts.query.Sought as sought
+use Rattle.acap_search.specs.contracts.query.SearchSpec as sought
 use Rattle.acap_views.specs.contracts.open_context.OpenContext as context
 use Rattle.acap_views.specs.contracts.open_context.OpenContext.TheInside as context_inside
-use Rattle.acap_views.specs.contracts.sitting.Sitting as sitting
-use Rattle.acap_views.specs.contracts.sitting.Sitting.TheInside as sitting_inside
+use Rattle.acap_views.specs.contracts.seat_contexts.SeatContexts as sitting
+use Rattle.acap_views.specs.contracts.seat_contexts.SeatContexts.TheInside as sitting_inside
 use Rattle.acap_views.specs.contracts.views.Views as views
 use Rattle.acap_views.specs.contracts.views.Views.TheInside as views_inside
 

@@ -45,7 +45,7 @@ use Rattle.acap_search.specs.declared.cutting.Cut.{Cut}
 use Rattle.acap_search.specs.Fresh.{matches_of}
 use Rattle.acap_search.specs.Laws.{SightLaw}
 use Rattle.acap_search.specs.Matches.{Match}
-use Rattle.acap_search.specs.declared.query.Sought.{Sought}
+use Rattle.acap_search.specs.declared.query.SearchSpec.{SearchSpec}
 use Rattle.acap_search.specs.declared.refusal.SearchRefusal.{SearchRefusal}
 use Rattle.acap_views.proofs.ClientLemmas.{client_law}
 use Rattle.acap_views.specs.Contexts.{Context, Contexts, context_of, kept_of}
@@ -92,7 +92,7 @@ begins_with : (search : Search) (found : SearchReply) (make : MakeContext) (b : 
 begins_with search found make true e t = ap (λ b. cond b (Some (holding make.enumerate found.rows)) None) e
 begins_with search found make false e t = absurd cc
 
-made_live : (make : MakeContext) (sought : Sought) (matches : List Match) (last : ℤ) (notify : Bool) (x : View) → live_kept (context_of make sought matches last) (kept_of notify matches) ≡ Some x
+made_live : (make : MakeContext) (sought : SearchSpec) (matches : List Match) (last : ℤ) (notify : Bool) (x : View) → live_kept (context_of make sought matches last) (kept_of notify matches) ≡ Some x
     → (sought, (make.enumerate, matches)) ≡ x
 made_live make sought matches last true x e = cc
 made_live make sought matches last false x e = absurd cc
@@ -144,7 +144,7 @@ module _ (m : Machine) (seat : ℕ) (user : List ℕ) (at : user_at m seat ≡ S
   within search (Err why) none = quiet _ (view_refused_as why)
 
   -- one that makes a context
-  made : (search : Search) (make : MakeContext) (sought : Sought) (matches : List Match) (seats : Seated) → makes name search ≡ octets_eq name make.name → search.modifiers.make_context ≡ Some make
+  made : (search : Search) (make : MakeContext) (sought : SearchSpec) (matches : List Match) (seats : Seated) → makes name search ≡ octets_eq name make.name → search.modifiers.make_context ≡ Some make
       → sought.returns ≡ search.modifiers.returns
       → with_context m.seats seat make sought matches m.store.last ≡ Ok seats
       → Follows seat name whole held (event.Command (command.Search search)) (said.Searched (found_of m.store.last sought search.modifiers.limit matches)) (record m { seats = seats })
@@ -170,14 +170,14 @@ module _ (m : Machine) (seat : ℕ) (user : List ℕ) (at : user_at m seat ≡ S
         told = λ t. absurd cc;
       }
 
-  opens : (search : Search) (make : MakeContext) (sought : Sought) (matches : List Match) (r : Result Seated ViewRefusal) → makes name search ≡ octets_eq name make.name → search.modifiers.make_context ≡ Some make
+  opens : (search : Search) (make : MakeContext) (sought : SearchSpec) (matches : List Match) (r : Result Seated ViewRefusal) → makes name search ≡ octets_eq name make.name → search.modifiers.make_context ≡ Some make
       → sought.returns ≡ search.modifiers.returns
       → with_context m.seats seat make sought matches m.store.last ≡ r
       → Does (event.Command (command.Search search)) (seated_or m (said.Searched (found_of m.store.last sought search.modifiers.limit matches)) r)
   opens search make sought matches (Ok seats) named is returns e = made search make sought matches seats named is returns e
   opens search make sought matches (Err why) named is returns e = quiet _ (view_refused_as why)
 
-  keeps : (search : Search) (dataset : List ℕ) (sought : Sought) (matches : List Match) (make : Option MakeContext) → search.target ≡ target.Dataset dataset → search.modifiers.make_context ≡ make
+  keeps : (search : Search) (dataset : List ℕ) (sought : SearchSpec) (matches : List Match) (make : Option MakeContext) → search.target ≡ target.Dataset dataset → search.modifiers.make_context ≡ make
       → sought.returns ≡ search.modifiers.returns
       → Does (event.Command (command.Search search)) (kept_if m seat make sought search.modifiers.limit matches)
   keeps search dataset sought matches None aims is returns = unmade search _ (λ i. makes_named name (made_over (aims i) (is i)))

@@ -20,7 +20,7 @@ use Rattle.acap_notices.specs.declared.told.Told.TheVariants as told_as
 use Rattle.acap_rights.specs.declared.realm.Realm.{Realm}
 use Rattle.acap_search.specs.Fresh.{matches_of}
 use Rattle.acap_search.specs.Matches.{Match}
-use Rattle.acap_search.specs.declared.query.Sought.{Sought}
+use Rattle.acap_search.specs.declared.query.SearchSpec.{SearchSpec}
 use Rattle.acap_views.proofs.ClientLemmas.{client_law}
 use Rattle.acap_views.proofs.ListLemmas.{among, from_among}
 use Rattle.acap_views.proofs.ShownLemmas.{changed_law, get_kept, seats_law, shown_law}
@@ -67,7 +67,7 @@ live_is (Some context) x e = live_as context context.kept x refl e
 
 -- ---- what an update and a drain leave of it: what it looks for, and whether it has positions
 
-abbrev marks : Option View → Option (Sought × Bool)
+abbrev marks : Option View → Option (SearchSpec × Bool)
 marks live = option_map (λ x. (x.0, x.1.0)) live
 
 kept_marks : (context : Context) (last : ℤ) (kept : Kept) → marks (live_kept (updated_to last context) (shown_now kept)) ≡ marks (live_kept context kept)
@@ -115,7 +115,7 @@ was_live : (old : Option View) (x : View) → marks old ≡ Some (x.0, x.1.0) �
 was_live None x e = absurd cc
 was_live (Some y) x e =
     let same : (y.0, y.1.0) ≡ (x.0, x.1.0) = cc in
-    record { before = y; live = refl; sought = ap (λ (p : Sought × Bool). p.0) same; positions = ap (λ (p : Sought × Bool). p.1) same }
+    record { before = y; live = refl; sought = ap (λ (p : SearchSpec × Bool). p.0) same; positions = ap (λ (p : SearchSpec × Bool). p.1) same }
 
 from_marks : (old new : Option View) (x : View) → marks new ≡ marks old → new ≡ Some x → WasLive old x
 from_marks old new x same e = was_live old x (sym same ∙ ap marks e)
@@ -130,7 +130,7 @@ shown_is : (fresh : List Match) (kept : Kept) (shown now : List Match) (pending 
 shown_is fresh kept shown now pending k told = (subst (IsToldAll fresh) k told).0
 
 module _ (store : Store) (realm : Realm) (occupant : Occupant) (current : IsCurrentOccupant store realm occupant) (name : List ℕ) where
-  abbrev found_now : Sought → List Match
+  abbrev found_now : SearchSpec → List Match
   found_now sought = matches_of store.records realm occupant.user sought
 
   -- what is shown to it is what a search finds now
@@ -248,5 +248,5 @@ module _ (m : Machine) (seat : ℕ) (s : Sits m seat) where
   put_contexts contexts = ap (λ o. option_map_or (λ (p : Occupant). p.contexts) o table.empty) (seats_law.own m.seats seat s.occupant contexts s.at)
 
   -- what a search finds there, whatever the contexts
-  pub put_fresh : (contexts : Contexts) (sought : Sought) → fresh_for (record m { seats = with_contexts m.seats seat contexts }) seat sought ≡ Some (matches_of m.store.records m.realm s.occupant.user sought)
+  pub put_fresh : (contexts : Contexts) (sought : SearchSpec) → fresh_for (record m { seats = with_contexts m.seats seat contexts }) seat sought ≡ Some (matches_of m.store.records m.realm s.occupant.user sought)
   put_fresh contexts sought = ap (option_map (λ (o : Occupant). matches_of m.store.records m.realm o.user sought)) (seats_law.own m.seats seat s.occupant contexts s.at)

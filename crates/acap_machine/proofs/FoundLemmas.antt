@@ -7,13 +7,13 @@ use Rattle.acap_commands.specs.declared.returns.ReturnItem.{ReturnItem}
 use Rattle.acap_machine.specs.Searching.{number_told, rows_told, rows_if, last_told, found_with, found_of}
 use Rattle.acap_search.specs.Cutting.{cut_of}
 use Rattle.acap_search.specs.Matches.{Match}
-use Rattle.acap_search.specs.declared.query.Sought.{Sought}
+use Rattle.acap_search.specs.declared.query.SearchSpec.{SearchSpec}
 
 rows_are : (returns : Option (List ReturnItem)) (matches : List Match) (most : ℕ) → rows_if returns (each (λ found. found.row) (take most matches)) ≡ rows_told returns matches most
 rows_are None matches most = refl
 rows_are (Some returns) matches most = refl
 
-pub found_is : (last : ℤ) (sought : Sought) (limit : Option Limit) (matches : List Match) (rows : List Row) (total : Option ℕ) → rows ≡ each (λ found. found.row) (take (cut_of limit (length matches)).told matches)
+pub found_is : (last : ℤ) (sought : SearchSpec) (limit : Option Limit) (matches : List Match) (rows : List Row) (total : Option ℕ) → rows ≡ each (λ found. found.row) (take (cut_of limit (length matches)).told matches)
     → total ≡ (cut_of limit (length matches)).total → found_with last sought rows total ≡ found_of last sought limit matches
 found_is last sought limit matches rows total e t =
     (λ i. found_with last sought (e i) (t i))
@@ -30,7 +30,7 @@ told_are : (returns : Option (List ReturnItem)) (matches : List Match) (most : �
 told_are None matches most = refl
 told_are (Some returns) matches most = refl
 
-pub copied_is : (last : ℤ) (sought : Sought) (limit : Option Limit) (matches : List Match) (rows : List Row) (total : Option ℕ) (told : ℕ)
+pub copied_is : (last : ℤ) (sought : SearchSpec) (limit : Option Limit) (matches : List Match) (rows : List Row) (total : Option ℕ) (told : ℕ)
     → told ≡ (if is_some sought.returns then (cut_of limit (length matches)).told else 0)
     → rows ≡ each (λ found. found.row) (take (min told (length matches)) matches)
     → total ≡ (cut_of limit (length matches)).total → found_with last sought rows total ≡ found_of last sought limit matches

@@ -15,7 +15,7 @@ use Rattle.acap_search.specs.Within.{Context, IsWithin, context_of, matches_with
 use Rattle.acap_search.specs.declared.query.Query.{Query}
 use Rattle.acap_search.specs.declared.refusal.SearchRefusal.{SearchRefusal}
 use Rattle.acap_search.specs.declared.refusal.SearchRefusal.TheVariants as refusal
-use Rattle.acap_search.specs.declared.telling.Excerpt.{Excerpt}
+use Rattle.acap_search.specs.declared.answer.SearchAnswer.{SearchAnswer}
 use Rattle.acap_views.specs.Ranging.{Ranged}
 
 -- the paths of hits that are lent are those of the list
@@ -27,7 +27,7 @@ paths_of (hit ∷ hits) = ap (λ ps. hit.now.path ∷ ps) (paths_of hits)
 pub paths_are : (hits : List (Bor Match)) (shown : List Match) → each (λ hit. hit.now) hits ≡ shown → each (λ hit. hit.now.path) hits ≡ each (λ found. found.path) shown
 paths_are hits shown e = paths_of hits ∙ ap (each (λ found. found.path)) e
 
-pub found_from : (s : Store) (realm : Realm) (user : List ℕ) (from : Ranged) (query wanted : Query) (limit : Option Limit) (paths : List Path) (excerpt : Excerpt) (found : SearchReply)
+pub found_from : (s : Store) (realm : Realm) (user : List ℕ) (from : Ranged) (query wanted : Query) (limit : Option Limit) (paths : List Path) (excerpt : SearchAnswer) (found : SearchReply)
     → query ≡ wanted → paths ≡ each (λ f. f.path) from.shown → IsWithin s.records realm user query (context_of paths from.told from.enumerated) (IsExcerpt limit) (Ok excerpt)
     → found ≡ found_with s.last query.sought excerpt.rows excerpt.total → said.Searched found ≡ searched_from s realm user from wanted limit
 unfolding searched_from

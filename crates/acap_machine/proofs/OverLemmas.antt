@@ -17,7 +17,7 @@ use Rattle.acap_rights.specs.declared.realm.Realm.{Realm}
 use Rattle.acap_search.specs.ContextLaws.{HitLaw}
 use Rattle.acap_search.specs.Fresh.{IsAnswer, matches_of, refusal_of}
 use Rattle.acap_search.specs.Matches.{Match, match_cmp}
-use Rattle.acap_search.specs.declared.query.Asked.{Asked}
+use Rattle.acap_search.specs.declared.query.SearchRequest.{SearchRequest}
 use Rattle.acap_search.specs.declared.query.Query.{Query}
 use Rattle.acap_search.specs.declared.refusal.SearchRefusal.{SearchRefusal}
 use Rattle.acap_search.specs.declared.refusal.SearchRefusal.TheVariants as refusal
@@ -26,16 +26,16 @@ use Rattle.acap_views.specs.Opening.{with_context}
 
 -- ---- where no context is made
 
-alone_or : (m : Machine) (seat : ℕ) (a : Asked) (r : Option SearchRefusal) (matches : List Match) → a.make_context ≡ None
+alone_or : (m : Machine) (seat : ℕ) (a : SearchRequest) (r : Option SearchRefusal) (matches : List Match) → a.make_context ≡ None
     → found_or m seat a r matches ≡ (found_unless a.query.sought.dataset r (found_of m.store.last a.query.sought a.limit matches), m)
 alone_or m seat a (Some refusal) matches e = refl
 alone_or m seat a None matches e = ap (λ make. kept_if m seat make a.query.sought a.limit matches) e
 
-over_alone : (m : Machine) (seat : ℕ) (user : List ℕ) (a : Asked) → a.make_context ≡ None → searched_over m seat user a ≡ (searched_alone m user a.query a.limit, m)
+over_alone : (m : Machine) (seat : ℕ) (user : List ℕ) (a : SearchRequest) → a.make_context ≡ None → searched_over m seat user a ≡ (searched_alone m user a.query a.limit, m)
 unfolding searched_over
 over_alone m seat user a e = alone_or m seat a _ _ e
 
-pub alone_ready : (s : Roomed) (seat : ℕ) (user : List ℕ) (a : Asked) (words : Said) (pending : Pending) → user_at s.machine seat ≡ Some user → a.make_context ≡ None
+pub alone_ready : (s : Roomed) (seat : ℕ) (user : List ℕ) (a : SearchRequest) (words : Said) (pending : Pending) → user_at s.machine seat ≡ Some user → a.make_context ≡ None
     → words ≡ searched_alone s.machine user a.query a.limit → pending ≡ pending_of seat deed.Nothing (plain words) 0 → IsKept s.machine s.kept.index.0
     → IsReady s (answer_at s.machine seat (λ m u. searched_over m seat u a)) pending s
 alone_ready s seat user a words pending at none words_are pending_is kept =
@@ -52,12 +52,12 @@ refused_is records realm user query holds refusal.TooOld e f = f
 refused_is records realm user query holds refusal.WayTooMany e f = f
 refused_is records realm user query holds refusal.Memory e f = absurd cc
 
-over_refused : (m : Machine) (seat : ℕ) (user : List ℕ) (a : Asked) (r : SearchRefusal) → refusal_of m.store.records m.realm user a.query ≡ Some r
+over_refused : (m : Machine) (seat : ℕ) (user : List ℕ) (a : SearchRequest) (r : SearchRefusal) → refusal_of m.store.records m.realm user a.query ≡ Some r
     → searched_over m seat user a ≡ (said.Refused (refused_as a.query.sought.dataset r), m)
 unfolding searched_over
 over_refused m seat user a r e = ap (λ x. found_or m seat a x (matches_of m.store.records m.realm user a.query.sought)) e
 
-pub refused_ready : {X : Type 0} (s : Roomed) (seat : ℕ) (user : List ℕ) (a : Asked) (holds : X → List Match → Type 0) (r : SearchRefusal) (words : Said) (pending : Pending)
+pub refused_ready : {X : Type 0} (s : Roomed) (seat : ℕ) (user : List ℕ) (a : SearchRequest) (holds : X → List Match → Type 0) (r : SearchRefusal) (words : Said) (pending : Pending)
     → user_at s.machine seat ≡ Some user → IsAnswer s.machine.store.records s.machine.realm user a.query holds (Err r) → is_search_memory r ≡ false
     → words ≡ said.Refused (refused_as a.query.sought.dataset r) → pending ≡ pending_of seat deed.Nothing (plain words) 0 → IsKept s.machine s.kept.index.0
     → IsReady s (answer_at s.machine seat (λ m u. searched_over m seat u a)) pending s

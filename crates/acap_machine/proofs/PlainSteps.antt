@@ -40,8 +40,8 @@ use Rattle.acap_rights.specs.declared.realm.Realm.{Realm}
 use Rattle.acap_search.specs.Asking.{asked_of}
 use Rattle.acap_search.specs.Fresh.{matches_of, refusal_of}
 use Rattle.acap_search.specs.Matches.{Match}
-use Rattle.acap_search.specs.declared.query.Asked.{Asked}
-use Rattle.acap_search.specs.declared.query.Sought.{Sought}
+use Rattle.acap_search.specs.declared.query.SearchRequest.{SearchRequest}
+use Rattle.acap_search.specs.declared.query.SearchSpec.{SearchSpec}
 use Rattle.acap_search.specs.declared.refusal.SearchRefusal.{SearchRefusal}
 use Rattle.acap_store.specs.DatasetLaws.{SoundLaw}
 use Rattle.acap_store.specs.Planning.{plan}
@@ -77,13 +77,13 @@ module _ (m : Machine) (seat : ℕ) where
   seat_with : (contexts : plain.Contexts) (new : Contexts) → contexts ≡ forgotten_contexts new → plain.with_contexts (forgotten m) seat contexts ≡ forgotten (with_live m seat new)
   seat_with contexts new e = ap (λ (cs : plain.Contexts). plain.with_contexts (forgotten m) seat cs) e ∙ forgotten_with m seat new
 
-  abbrev plain_made : MakeContext → Sought → List Match → plain.Context
+  abbrev plain_made : MakeContext → SearchSpec → List Match → plain.Context
   plain_made make sought found = record { sought = sought; enumerated = make.enumerate; told = m.store.last; kept = plain.kept_of make.notify found }
 
-  made_forgotten : (make : MakeContext) (sought : Sought) (found : List Match) → plain_made make sought found ≡ forgotten_context (context_of make sought found m.store.last)
+  made_forgotten : (make : MakeContext) (sought : SearchSpec) (found : List Match) → plain_made make sought found ≡ forgotten_context (context_of make sought found m.store.last)
   made_forgotten make sought found = λ i. record { sought = sought; enumerated = make.enumerate; told = m.store.last; kept = made_kept make.notify found i }
 
-  inserted : (make : MakeContext) (sought : Sought) (found : List Match)
+  inserted : (make : MakeContext) (sought : SearchSpec) (found : List Match)
       → table.insert (plain.contexts_at (forgotten m).seats seat) make.name (plain_made make sought found) ≡ forgotten_contexts (table.insert own make.name (context_of make sought found m.store.last))
   inserted make sought found =
       (λ i. table.insert (forgotten_at m seat i) make.name (made_forgotten make sought found i)) ∙ sym (forgotten_insert own make.name (context_of make sought found m.store.last))
@@ -97,7 +97,7 @@ module _ (m : Machine) (seat : ℕ) where
   made_if true words new refusal = refl
   made_if false words new refusal = refl
 
-  kept_forgotten : (make : Option MakeContext) (sought : Sought) (limit : Option Limit) (found : List Match)
+  kept_forgotten : (make : Option MakeContext) (sought : SearchSpec) (limit : Option Limit) (found : List Match)
       → plain.kept_if (forgotten m) seat make sought found (said.Searched (found_of m.store.last sought limit found)) ≡ forgotten_answer (kept_if m seat make sought limit found)
   kept_forgotten None sought limit found = refl
   kept_forgotten (Some make) sought limit found =
@@ -106,7 +106,7 @@ module _ (m : Machine) (seat : ℕ) where
       (λ i. cond (full_at make.name i) (said.Refused refusals.TryFreeContext, forgotten m) (words, seat_with _ new (inserted make sought found) i))
       ∙ made_if (is_full own make.name) words new refusals.TryFreeContext
 
-  found_forgotten : (asked : Asked) (r : Option SearchRefusal) (found : List Match) → plain.found_or (forgotten m) seat asked r found ≡ forgotten_answer (found_or m seat asked r found)
+  found_forgotten : (asked : SearchRequest) (r : Option SearchRefusal) (found : List Match) → plain.found_or (forgotten m) seat asked r found ≡ forgotten_answer (found_or m seat asked r found)
   found_forgotten asked (Some refusal) found = refl
   found_forgotten asked None found = kept_forgotten asked.make_context asked.query.sought asked.limit found
 

@@ -15,7 +15,7 @@ use Rattle.acap_machine.specs.Machine.{Machine, new_machine, user_at}
 use Rattle.acap_notices.specs.declared.told.Told.{Told}
 use Rattle.acap_rights.specs.declared.realm.Realm.{Realm}
 use Rattle.acap_search.specs.Matches.{Match}
-use Rattle.acap_search.specs.declared.query.Sought.{Sought}
+use Rattle.acap_search.specs.declared.query.SearchSpec.{SearchSpec}
 use Rattle.acap_views.proofs.ShownLemmas.{seats_law, changed_law}
 use Rattle.acap_views.specs.Changing.{changed_occupant}
 use Rattle.acap_views.specs.Contexts.{Contexts, context_of}
@@ -52,7 +52,7 @@ unless_ok (Some refusal) x y e = cc
 else_with : (seats new : Seated) (seat : ℕ) (contexts : Contexts) → with_contexts seats seat contexts ≡ new → (other : ℕ) → (other == seat) ≡ false → get new other ≡ get seats other
 else_with seats new seat contexts e other apart = ap (λ s. get s other) (sym e) ∙ seats_law.others seats seat other contexts apart
 
-pub opened_is : (seats new : Seated) (seat : ℕ) (make : MakeContext) (sought : Sought) (found : List Match) (last : ℤ) → with_context seats seat make sought found last ≡ Ok new
+pub opened_is : (seats new : Seated) (seat : ℕ) (make : MakeContext) (sought : SearchSpec) (found : List Match) (last : ℤ) → with_context seats seat make sought found last ≡ Ok new
     → with_contexts seats seat (table.insert (contexts_at seats seat) make.name (context_of make sought found last)) ≡ new
 opened_is seats new seat make sought found last e = if_ok (is_full (contexts_at seats seat) make.name) _ new _ e
 
@@ -66,7 +66,7 @@ told_is seats seat names last told new e =
     let is : List Told × Seated = (told, new) in
     ap (λ (p : List Told × Seated). p.1) (unless_ok (fault_of (contexts_at seats seat) names) made is e)
 
-pub opened_else : (seats new : Seated) (seat : ℕ) (make : MakeContext) (sought : Sought) (found : List Match) (last : ℤ)
+pub opened_else : (seats new : Seated) (seat : ℕ) (make : MakeContext) (sought : SearchSpec) (found : List Match) (last : ℤ)
     → with_context seats seat make sought found last ≡ Ok new → (other : ℕ) → (other == seat) ≡ false → get new other ≡ get seats other
 opened_else seats new seat make sought found last e = else_with seats new seat _ (opened_is seats new seat make sought found last e)
 
@@ -100,7 +100,7 @@ with_users seats seat contexts other = user_in seats seat contexts other (other 
 from_with : (seats new : Seated) (seat : ℕ) (contexts : Contexts) → with_contexts seats seat contexts ≡ new → (other : ℕ) → users new other ≡ users seats other
 from_with seats new seat contexts e other = ap (λ s. users s other) (sym e) ∙ with_users seats seat contexts other
 
-pub opened_users : (seats new : Seated) (seat : ℕ) (make : MakeContext) (sought : Sought) (found : List Match) (last : ℤ)
+pub opened_users : (seats new : Seated) (seat : ℕ) (make : MakeContext) (sought : SearchSpec) (found : List Match) (last : ℤ)
     → with_context seats seat make sought found last ≡ Ok new → (other : ℕ) → users new other ≡ users seats other
 opened_users seats new seat make sought found last e = from_with seats new seat _ (opened_is seats new seat make sought found last e)
 

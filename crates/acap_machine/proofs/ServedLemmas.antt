@@ -33,7 +33,7 @@ use Rattle.acap_notices.specs.declared.told.Told.{Told}
 use Rattle.acap_rights.specs.declared.realm.Realm.{Realm}
 use Rattle.acap_search.specs.Asking.{asked_of}
 use Rattle.acap_search.specs.Fresh.{matches_of, refusal_of}
-use Rattle.acap_search.specs.declared.query.Asked.{Asked}
+use Rattle.acap_search.specs.declared.query.SearchRequest.{SearchRequest}
 use Rattle.acap_search.specs.declared.query.Query.{Query}
 use Rattle.acap_search.specs.declared.refusal.SearchRefusal.{SearchRefusal}
 use Rattle.acap_search.specs.declared.refusal.SearchRefusal.TheVariants as refusal
@@ -181,13 +181,13 @@ module _ (P : Said → Machine → Type 0) (m : Machine) (seat : ℕ) (user : Li
   if_kept None query limit none = k.words _ refl
   if_kept (Some make) query limit none = kept_keeps make query limit none (with_context m.seats seat make query.sought (matches_of m.store.records m.realm user query.sought) m.store.last) refl
 
-  found_keeps : (asked : Asked) (r : Option SearchRefusal) → refusal_of m.store.records m.realm user asked.query ≡ r
+  found_keeps : (asked : SearchRequest) (r : Option SearchRefusal) → refusal_of m.store.records m.realm user asked.query ≡ r
       → P (found_or m seat asked r (matches_of m.store.records m.realm user asked.query.sought)).0
       (found_or m seat asked r (matches_of m.store.records m.realm user asked.query.sought)).1
   found_keeps asked (Some refusal) e = k.words (said.Refused (refused_as asked.query.sought.dataset refusal)) (search_good asked.query.sought.dataset refusal)
   found_keeps asked None e = if_kept asked.make_context asked.query asked.limit e
 
-  over_keeps : (asked : Asked) → P (searched_over m seat user asked).0 (searched_over m seat user asked).1
+  over_keeps : (asked : SearchRequest) → P (searched_over m seat user asked).0 (searched_over m seat user asked).1
   unfolding searched_over
   over_keeps asked = found_keeps asked (refusal_of m.store.records m.realm user asked.query) refl
 

@@ -8,7 +8,7 @@ use Rattle.acap_inherit.specs.Index.{IsIndexOf}
 use Rattle.acap_inherit.specs.declared.link.Link.{Link}
 use Rattle.acap_machine.specs.Machine.{Machine}
 use Rattle.acap_search.specs.Matches.{Match}
-use Rattle.acap_search.specs.declared.query.Sought.{Sought}
+use Rattle.acap_search.specs.declared.query.SearchSpec.{SearchSpec}
 use Rattle.acap_views.specs.Changing.{changed_seats}
 use Rattle.acap_views.specs.Current.{IsCurrent}
 use Rattle.acap_views.specs.Opening.{with_context}
@@ -32,6 +32,6 @@ pub record IsKept (m : Machine) (links : List Link) : Type 0 where
   pub index : IsIndexOf m.store.records links
 
 -- the context that a search makes which found these matches: where there is a place for it, all live contexts are current with it
-abbrev pub IsOpenable : Machine → ℕ → MakeContext → Sought → List Match → Type 0
+abbrev pub IsOpenable : Machine → ℕ → MakeContext → SearchSpec → List Match → Type 0
 IsOpenable m seat make sought found =
     (new : Seated) → with_context m.seats seat make sought found m.store.last ≡ Ok new → IsCurrent m.store m.realm new

@@ -23,7 +23,7 @@ use Rattle.acap_notices.specs.declared.told.Told.{Told}
 use Rattle.acap_notices.specs.declared.told.Told.TheVariants as told_as
 use Rattle.acap_search.specs.Fresh.{IsSameSight, matches_of}
 use Rattle.acap_search.specs.Matches.{Match}
-use Rattle.acap_search.specs.declared.query.Sought.{Sought}
+use Rattle.acap_search.specs.declared.query.SearchSpec.{SearchSpec}
 use Rattle.acap_views.specs.Changing.{sight_for}
 use Rattle.acap_views.specs.Clients.{notices_for}
 use Rattle.acap_views.specs.Contexts.{Kept, Snapshot, Live, Freed, Context}
@@ -100,7 +100,7 @@ tells name e other = false
 
 -- of a live context what it looks for, whether it has positions, and the list that its client was told last
 abbrev pub View : Type 0
-View = Sought × (Bool × List Match)
+View = SearchSpec × (Bool × List Match)
 
 abbrev pub live_kept : Context → Kept → Option View
 live_kept context (Snapshot shown) = None
@@ -122,7 +122,7 @@ abbrev pub IsHeld : Option View → Bool → Client → Type 0
 IsHeld live whole held = (x : View) → live ≡ Some x → whole ≡ true → held ≡ with_rows x
 
 -- the list that the user of a seat finds now
-abbrev pub fresh_for : Machine → ℕ → Sought → Option (List Match)
+abbrev pub fresh_for : Machine → ℕ → SearchSpec → Option (List Match)
 fresh_for m seat sought =
     option_map (λ (o : Occupant). matches_of m.store.records m.realm o.user sought) (table.get m.seats seat)
 
@@ -159,7 +159,7 @@ pub record HeldLaw : Type 0 where
 -- ---- what is told comes of what the user sees
 
 -- at two seats, of one machine or of two, the users see the same for a search
-pub record IsSeenAlike (m : Machine) (seat : ℕ) (n : Machine) (other : ℕ) (sought : Sought) : Type 0 where
+pub record IsSeenAlike (m : Machine) (seat : ℕ) (n : Machine) (other : ℕ) (sought : SearchSpec) : Type 0 where
   pub one : Occupant
   pub two : Occupant
   pub sits : table.get m.seats seat ≡ Some one

@@ -41,7 +41,7 @@ use Rattle.acap_search.specs.Asking.{asked_of}
 use Rattle.acap_search.specs.Fresh.{refusal_of, matches_of}
 use Rattle.acap_search.specs.Matches.{Match}
 use Rattle.acap_search.specs.declared.query.Query.{Query}
-use Rattle.acap_search.specs.declared.query.Sought.{Sought}
+use Rattle.acap_search.specs.declared.query.SearchSpec.{SearchSpec}
 use Rattle.acap_search.specs.declared.refusal.SearchRefusal.TheVariants as refusal
 use Rattle.acap_store.specs.Planning.{plan}
 use Rattle.acap_store.specs.declared.write.Write.TheVariants as write
@@ -66,16 +66,16 @@ two = Some (record { over = 2; most = 1 })
 
 pub record FoundExamples : Type 0 where
   -- without RETURN neither rows nor the last moment; with it both
-  pub untold : (last : ℤ) (q : Sought) (matches : List Match) → q.returns ≡ None → found_of last q None matches ≡ record { rows = []; last = None; total = None }
-  pub told : (last : ℤ) (q : Sought) (items : List ReturnItem) (a b c : Match) → q.returns ≡ Some items →
+  pub untold : (last : ℤ) (q : SearchSpec) (matches : List Match) → q.returns ≡ None → found_of last q None matches ≡ record { rows = []; last = None; total = None }
+  pub told : (last : ℤ) (q : SearchSpec) (items : List ReturnItem) (a b c : Match) → q.returns ≡ Some items →
       found_of last q None (a ∷ b ∷ c ∷ []) ≡ record { rows = a.row ∷ b.row ∷ c.row ∷ []; last = Some last; total = None }
   -- LIMIT 2 1: two matches are both told, of three the first, and that they are three
-  pub within : (last : ℤ) (q : Sought) (items : List ReturnItem) (a b : Match) → q.returns ≡ Some items →
+  pub within : (last : ℤ) (q : SearchSpec) (items : List ReturnItem) (a b : Match) → q.returns ≡ Some items →
       found_of last q two (a ∷ b ∷ []) ≡ record { rows = a.row ∷ b.row ∷ []; last = Some last; total = None }
-  pub beyond : (last : ℤ) (q : Sought) (items : List ReturnItem) (a b c : Match) → q.returns ≡ Some items →
+  pub beyond : (last : ℤ) (q : SearchSpec) (items : List ReturnItem) (a b c : Match) → q.returns ≡ Some items →
       found_of last q two (a ∷ b ∷ c ∷ []) ≡ record { rows = a.row ∷ []; last = Some last; total = Some 3 }
   -- their number is told without RETURN too
-  pub counted : (last : ℤ) (q : Sought) (a b c : Match) → q.returns ≡ None → found_of last q two (a ∷ b ∷ c ∷ []) ≡ record { rows = []; last = None; total = Some 3 }
+  pub counted : (last : ℤ) (q : SearchSpec) (a b c : Match) → q.returns ≡ None → found_of last q two (a ∷ b ∷ c ∷ []) ≡ record { rows = []; last = None; total = Some 3 }
   -- a number of more than 32 bits is told as the greatest of them
   pub numbers : map number_told (0 ∷ 4_294_967_294 ∷ 4_294_967_295 ∷ 4_294_967_296 ∷ []) ≡ 0 ∷ 4_294_967_294 ∷ 4_294_967_295 ∷ 4_294_967_295 ∷ []
 
@@ -131,7 +131,7 @@ pub record ServingExamples : Type 0 where
   pub no_dataset : (m : Machine) (seat : ℕ) (clock : ℤ) → refusal_of m.store.records m.realm joe kept_query ≡ Some refusal.NoExist
       → answer_to m seat joe (command.Search (all_in home keeping)) clock ≡ (said.Refused (refusals.NoExist home), m)
   -- a context that is searched keeps its dataset, DEPTH and NOINHERIT
-  pub query_within : (own : Sought) (modifiers : SearchModifiers) (wanted : Wanted) → query_within own modifiers wanted
+  pub query_within : (own : SearchSpec) (modifiers : SearchModifiers) (wanted : Wanted) → query_within own modifiers wanted
       ≡ record { sought = record own { key = wanted; sort = modifiers.sort; returns = modifiers.returns }; hard_limit = modifiers.hard_limit }
   pub searches_context : (m : Machine) (seat : ℕ) (clock : ℤ) (modifiers : SearchModifiers) (why : ViewRefusal) → range_at m.seats seat (codes "c") ≡ Err why
       → answer_to m seat joe (command.Search (record { target = target.Context (codes "c"); modifiers = modifiers; key = key.One test.All })) clock ≡ (said.Refused (view_refused_as why), m)

@@ -44,8 +44,8 @@ use Rattle.acap_rights.specs.declared.realm.Realm.{Realm}
 use Rattle.acap_search.specs.Asking.{asked_of}
 use Rattle.acap_search.specs.Fresh.{matches_of, refusal_of}
 use Rattle.acap_search.specs.Matches.{Match}
-use Rattle.acap_search.specs.declared.query.Asked.{Asked}
-use Rattle.acap_search.specs.declared.query.Sought.{Sought}
+use Rattle.acap_search.specs.declared.query.SearchRequest.{SearchRequest}
+use Rattle.acap_search.specs.declared.query.SearchSpec.{SearchSpec}
 use Rattle.acap_search.specs.declared.refusal.SearchRefusal.{SearchRefusal}
 use Rattle.acap_store.specs.Deleting.{deleted_since}
 use Rattle.acap_store.specs.Meaning.{target_for}
@@ -70,7 +70,7 @@ pub data Kept : Type 0 where
   Freed : Kept
 
 pub record Context : Type 0 where
-  pub sought : Sought
+  pub sought : SearchSpec
   pub enumerated : Bool
   pub told : ℤ
   pub kept : Kept
@@ -196,7 +196,7 @@ kept_of false found = Snapshot found
 abbrev pub is_full : Contexts → List ℕ → Bool
 is_full contexts name = not (table.contains_key contexts name) && nat_le most_contexts (table.len contexts)
 
-abbrev pub kept_if : PlainMachine → ℕ → Option MakeContext → Sought → List Match → Said → Said × PlainMachine
+abbrev pub kept_if : PlainMachine → ℕ → Option MakeContext → SearchSpec → List Match → Said → Said × PlainMachine
 kept_if m seat None sought matches words = (words, m)
 kept_if m seat (Some make) sought matches words =
     if is_full (contexts_at m.seats seat) make.name then (said.Refused refusals.TryFreeContext, m)
@@ -206,7 +206,7 @@ kept_if m seat (Some make) sought matches words =
           (record { sought = sought; enumerated = make.enumerate; told = m.store.last; kept = kept_of make.notify matches })),
     )
 
-abbrev pub found_or : PlainMachine → ℕ → Asked → Option SearchRefusal → List Match → Said × PlainMachine
+abbrev pub found_or : PlainMachine → ℕ → SearchRequest → Option SearchRefusal → List Match → Said × PlainMachine
 found_or m seat asked (Some refusal) matches = (said.Refused (refused_as asked.query.sought.dataset refusal), m)
 found_or m seat asked None matches =
     kept_if m seat asked.make_context asked.query.sought matches (said.Searched (found_of m.store.last asked.query.sought asked.limit matches))

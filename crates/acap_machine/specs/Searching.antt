@@ -22,9 +22,9 @@ use Rattle.acap_search.specs.Cutting.{cut_of}
 use Rattle.acap_search.specs.Fresh.{matches_of, refusal_of}
 use Rattle.acap_search.specs.Matches.{Match}
 use Rattle.acap_search.specs.Within.{Context, context_of, matches_within, refusal_within}
-use Rattle.acap_search.specs.declared.query.Asked.{Asked}
+use Rattle.acap_search.specs.declared.query.SearchRequest.{SearchRequest}
 use Rattle.acap_search.specs.declared.query.Query.{Query}
-use Rattle.acap_search.specs.declared.query.Sought.{Sought}
+use Rattle.acap_search.specs.declared.query.SearchSpec.{SearchSpec}
 use Rattle.acap_search.specs.declared.refusal.SearchRefusal.{SearchRefusal}
 use Rattle.acap_search.specs.declared.refusal.SearchRefusal.TheVariants as refusal
 use Rattle.acap_views.specs.Opening.{with_context}
@@ -49,7 +49,7 @@ last_told None last = None
 last_told (Some returns) last = Some last
 
 -- LIMIT says how many of them, and whether their number is told
-abbrev pub found_of : ℤ → Sought → Option Limit → List Match → SearchReply
+abbrev pub found_of : ℤ → SearchSpec → Option Limit → List Match → SearchReply
 found_of last sought limit matches =
     let cut = cut_of limit (length matches) in
     record {
@@ -63,7 +63,7 @@ abbrev pub rows_if : Option (List ReturnItem) → List Row → List Row
 rows_if None rows = []
 rows_if (Some returns) rows = rows
 
-abbrev pub found_with : ℤ → Sought → List Row → Option ℕ → SearchReply
+abbrev pub found_with : ℤ → SearchSpec → List Row → Option ℕ → SearchReply
 found_with last sought rows total = record {
   rows = rows_if sought.returns rows;
   last = last_told sought.returns last;
@@ -109,19 +109,19 @@ seated_or m words (Ok seats) = (words, record m { seats = seats })
 seated_or m words (Err why) = (said.Refused (view_refused_as why), m)
 
 -- MAKECONTEXT keeps all matches, whatever LIMIT tells of them; where there is no place for it nothing is told
-abbrev pub context_answer : Machine → ℕ → MakeContext → Sought → Option Limit → List Match → Said × Machine
+abbrev pub context_answer : Machine → ℕ → MakeContext → SearchSpec → Option Limit → List Match → Said × Machine
 context_answer m seat make sought limit matches =
     seated_or m (said.Searched (found_of m.store.last sought limit matches)) (with_context m.seats seat make sought matches m.store.last)
 
-abbrev pub kept_if : Machine → ℕ → Option MakeContext → Sought → Option Limit → List Match → Said × Machine
+abbrev pub kept_if : Machine → ℕ → Option MakeContext → SearchSpec → Option Limit → List Match → Said × Machine
 kept_if m seat None sought limit matches = (said.Searched (found_of m.store.last sought limit matches), m)
 kept_if m seat (Some make) sought limit matches = context_answer m seat make sought limit matches
 
-abbrev pub found_or : Machine → ℕ → Asked → Option SearchRefusal → List Match → Said × Machine
+abbrev pub found_or : Machine → ℕ → SearchRequest → Option SearchRefusal → List Match → Said × Machine
 found_or m seat asked (Some refusal) matches = (said.Refused (refused_as asked.query.sought.dataset refusal), m)
 found_or m seat asked None matches = kept_if m seat asked.make_context asked.query.sought asked.limit matches
 
-unfoldable pub searched_over : Machine → ℕ → List ℕ → Asked → Said × Machine
+unfoldable pub searched_over : Machine → ℕ → List ℕ → SearchRequest → Said × Machine
 searched_over m seat user asked =
     found_or m seat asked (refusal_of m.store.records m.realm user asked.query) (matches_of m.store.records m.realm user asked.query.sought)
 
@@ -134,7 +134,7 @@ searched_alone m user query limit =
 -- ---- over a context: what is said
 
 -- dataset, DEPTH and NOINHERIT are those of the context's own search; key, SORT, RETURN and HARDLIMIT those of the new one
-abbrev pub query_within : Sought → SearchModifiers → Wanted → Query
+abbrev pub query_within : SearchSpec → SearchModifiers → Wanted → Query
 query_within own modifiers key = record {
   sought = record {
     dataset = own.dataset;

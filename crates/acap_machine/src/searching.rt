@@ -22,9 +22,9 @@ use acap_entries::{
     Boxed, ContextName, Copying, Memory, Moment, Row, Seat, Sequence, Steps, UserName,
 };
 use acap_search::{
-    Asked, Excerpt, Hit, Hits, Query, Showing, Sought, cut_by, fresh, hit_law, tell, tell_within,
+    SearchRequest, SearchAnswer, Hit, Hits, Query, ContextList, SearchSpec, cut_by, fresh, hit_law, tell, tell_within,
 };
-use acap_views::{RangedContext, is_full};
+use acap_views::{LentContext, is_full};
 use std::alloc::Global;
 use std::sync::ledger::Ledger;
 
@@ -46,7 +46,7 @@ fn total_told(total: Option<usize>) -> Option<u32>
 }
 
 // What a reply has of what is told of the matches.
-fn reply_with(last: Moment, sought: &Sought, excerpt: Excerpt) -> Result<SearchReply, Memory>
+fn reply_with(last: Moment, sought: &SearchSpec, excerpt: SearchAnswer) -> Result<SearchReply, Memory>
     ensures { IfOk result (λ found. found ≡ rule.found_with last sought.now excerpt.rows excerpt.total) }
 {
     let total = total_told(excerpt.total);
@@ -81,7 +81,7 @@ fn copy_rows(alloc: Global, hits: &[Hit]) -> Result<Sequence<Row>, Memory>
 fn reply_of(
     alloc: Global,
     last: Moment,
-    sought: &Sought,
+    sought: &SearchSpec,
     limit: Option<Limit>,
     hits: &Hits,
 ) -> Result<SearchReply, Memory>
@@ -94,7 +94,7 @@ fn reply_of(
         0
     };
     let rows = copy_rows(alloc, &hits.as_slice()[..told.min(hits.len())])?;
-    let excerpt = Excerpt {
+    let excerpt = SearchAnswer {
         rows,
         total: cut.total,
     };
@@ -102,7 +102,7 @@ fn reply_of(
 }
 
 // The query of a search over a context that another one made.
-fn query_within(own: &Sought, modifiers: SearchModifiers, key: Key) -> Result<Query, Memory>
+fn query_within(own: &SearchSpec, modifiers: SearchModifiers, key: Key) -> Result<Query, Memory>
     ensures { IfOk result (λ query. query ≡ rule.query_within own.now modifiers key) }
 {
     let dataset = own.dataset.copy()?;
@@ -112,7 +112,7 @@ fn query_within(own: &Sought, modifiers: SearchModifiers, key: Key) -> Result<Qu
         sort,
         ..
     } = modifiers;
-    let sought = Sought {
+    let sought = SearchSpec {
         dataset,
         depth: own.depth,
         no_inherit: own.no_inherit,
@@ -148,7 +148,7 @@ impl State {
         } = search.into_value();
         match target {
             Target::Dataset(dataset) => {
-                let asked = Asked::new(user, &dataset, modifiers, key)?;
+                let asked = SearchRequest::new(user, &dataset, modifiers, key)?;
                 self.ready_over(seat, asked, steps)
             }
             Target::Context(name) => {
@@ -184,7 +184,7 @@ impl State {
     fn words_from<L: Ledger>(
         &self,
         user: &UserName,
-        from: RangedContext<'_>,
+        from: LentContext<'_>,
         modifiers: SearchModifiers,
         key: Key,
         steps: &mut Steps<L>,
@@ -194,7 +194,7 @@ impl State {
             (rule.query_within from.entry.sought.now modifiers key) modifiers.limit) }
         ensures count { steps.old ≤ steps.new }
     {
-        let RangedContext {
+        let LentContext {
             sought,
             enumerated,
             told,
@@ -209,7 +209,7 @@ impl State {
             &self.realm,
             user,
             &query,
-            Showing {
+            ContextList {
                 hits: shown.as_slice(),
                 told,
                 enumerated,
@@ -262,7 +262,7 @@ impl State {
     fn ready_over<L: Ledger>(
         &mut self,
         seat: Seat,
-        asked: Asked,
+        asked: SearchRequest,
         steps: &mut Steps<L>,
     ) -> Result<Ready, Fault>
         ensures answer { IsReadyOf result self.old
@@ -276,7 +276,7 @@ impl State {
         let state = &*self;
         state.kept_law();
         let user = state.user(seat)?;
-        let Asked {
+        let SearchRequest {
             query,
             limit,
             make_context,
@@ -299,7 +299,7 @@ impl State {
         &mut self,
         seat: Seat,
         make: MakeContext,
-        sought: Sought,
+        sought: SearchSpec,
         limit: Option<Limit>,
         hits: Hits,
     ) -> Result<Ready, Fault>

@@ -11,7 +11,7 @@ use Rattle.acap_inherit.specs.Chains.{chain_of}
 use Rattle.acap_inherit.specs.EntryNames.{names_on}
 use Rattle.acap_search.specs.Fresh.{paths_in}
 use Rattle.acap_search.specs.Scopes.{scope_of, beneath, datasets_of, reached_by}
-use Rattle.acap_search.specs.Walks.{Quest, count_in, count_by, count_beneath, count_over, paths_by}
+use Rattle.acap_search.specs.Walks.{Walk, count_in, count_by, count_beneath, count_over, paths_by}
 
 -- those of which nothing is made count for nothing
 sum_of_made : {X Y : Type 0} (f : Y → ℕ) (g : X → Option Y) (xs : List X) → sum_by (λ x. option_map_or f (g x) 0) xs ≡ sum_by f (filter_map g xs)
@@ -23,7 +23,7 @@ sum_of_made f g (x ∷ xs) =
       | None ↦ omega (arith, sum_of_made f g xs)
     ]
 
-module _ (quest : Quest) where
+module _ (quest : Walk) where
   -- the datasets beneath, entry by entry
   pub count_beneath_is : (depth : ℕ) (es : List (Path × Record)) → es ≡ filter (λ e. starts_with nat_eq e.0.dataset quest.sought.dataset) (map.entries quest.records)
       → sum_by (count_by quest depth) es ≡ count_beneath quest depth

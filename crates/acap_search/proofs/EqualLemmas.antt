@@ -5,12 +5,12 @@ use Rattle.std.specs.Cmp.Lexicographic.{pointwise, pointwise_decides, bytes_deci
 use Rattle.acap_entries.proofs.Equalities.{along, pair_exact}
 use Rattle.acap_entries.specs.declared.path.Path.{Path}
 use Rattle.acap_entries.specs.contracts.path.PathPartialEq.TheImpl as path
-use Rattle.acap_search.specs.declared.rank.SortPlace.{SortPlace}
-use Rattle.acap_search.specs.declared.rank.SortPlace.TheVariants.{Rising, Falling, Behind}
-use Rattle.acap_search.specs.declared.rank.Rank.{Rank}
-use Rattle.acap_search.specs.declared.rank.Rank.TheVariants.{Octets, Number, NoNumber}
-use Rattle.acap_search.specs.contracts.rank.SortPlacePartialEq.TheImpl as place
-use Rattle.acap_search.specs.contracts.rank.RankPartialEq.TheImpl as rank
+use Rattle.acap_search.specs.declared.sort_term.SortTerm.{SortTerm}
+use Rattle.acap_search.specs.declared.sort_term.SortTerm.TheVariants.{Rising, Falling, Behind}
+use Rattle.acap_search.specs.declared.sort_term.Rank.{Rank}
+use Rattle.acap_search.specs.declared.sort_term.Rank.TheVariants.{Octets, Number, NoNumber}
+use Rattle.acap_search.specs.contracts.sort_term.SortTermPartialEq.TheImpl as place
+use Rattle.acap_search.specs.contracts.sort_term.RankPartialEq.TheImpl as rank
 
 pub path_exact : (a b : Path) → Decides (path.ghosts.eq a b) (a ≡ b)
 path_exact a b =
@@ -30,7 +30,7 @@ rank_exact NoNumber (Octets y) = (λ e. cc, λ e. cc)
 rank_exact NoNumber (Number y) = (λ e. cc, λ e. cc)
 rank_exact NoNumber NoNumber = (λ e. refl, λ e. refl)
 
-pub place_exact : (a b : SortPlace) → Decides (place.ghosts.eq a b) (a ≡ b)
+pub place_exact : (a b : SortTerm) → Decides (place.ghosts.eq a b) (a ≡ b)
 place_exact (Rising x) (Rising y) = along _ x y Rising (rank_exact x y) (λ e. cc)
 place_exact (Rising x) (Falling y) = (λ e. cc, λ e. cc)
 place_exact (Rising x) Behind = (λ e. cc, λ e. cc)
@@ -41,5 +41,5 @@ place_exact Behind (Rising y) = (λ e. cc, λ e. cc)
 place_exact Behind (Falling y) = (λ e. cc, λ e. cc)
 place_exact Behind Behind = (λ e. refl, λ e. refl)
 
-pub places_exact : (a b : List SortPlace) → Decides (pointwise place.ghosts.eq a b) (a ≡ b)
+pub places_exact : (a b : List SortTerm) → Decides (pointwise place.ghosts.eq a b) (a ≡ b)
 places_exact = pointwise_decides place_exact

@@ -13,7 +13,7 @@ use Rattle.acap_search.specs.Matches.{Match, match_lt, put_by, sorted_from, sort
 use Rattle.acap_search.specs.Rows.{Names, items_of, stars_of}
 use Rattle.acap_search.specs.Tuples.{match_of}
 use Rattle.acap_search.specs.Walks.{quest_of, hits_over}
-use Rattle.acap_search.specs.declared.query.Sought.{Sought}
+use Rattle.acap_search.specs.declared.query.SearchSpec.{SearchSpec}
 use Rattle.acap_search.proofs.OrderLemmas.{match_weak}
 use Rattle.acap_search.proofs.SortLemmas.{Rises, sorted_by_rises}
 use Rattle.acap_search.proofs.TupleLemmas.{made_is}
@@ -58,7 +58,7 @@ module _ {X : Type 0} (lt : X → X → Bool) (o : IsStrictWeakOrder lt) where
 
 -- ---- rows
 
-untold : (sight : Sight) (sought : Sought) (path : Path) (found : Match) → sought.returns ≡ None → tuple_of sight sought path ≡ Some found → found.row.items ≡ []
+untold : (sight : Sight) (sought : SearchSpec) (path : Path) (found : Match) → sought.returns ≡ None → tuple_of sight sought path ≡ Some found → found.row.items ≡ []
 untold sight sought path found e h =
     let stars : List ℕ → Names = stars_of (sight.answers path).read (sight.attributes path) in
     let same = (made_is (is_among sight.paths path) (holds sought.key None (sight.answers path)) (match_of sought path (sight.answers path) stars) found h).1.1 in

@@ -22,7 +22,7 @@ use Rattle.acap_search.specs.Fresh.{tuple_of, matches_of}
 use Rattle.acap_search.specs.Matches.{Match, match_cmp, match_lt}
 use Rattle.acap_search.specs.Once.{EachOnce}
 use Rattle.acap_search.specs.Tuples.{name_told}
-use Rattle.acap_search.specs.declared.query.Sought.{Sought}
+use Rattle.acap_search.specs.declared.query.SearchSpec.{SearchSpec}
 use Rattle.acap_search.proofs.FreshLemmas.{fresh_law}
 use Rattle.acap_search.proofs.OnceLemmas.{from_made, sight, found_at, in_one, from_ordered, fresh_once}
 use Rattle.acap_search.proofs.OrderLemmas.{match_total, match_weak}
@@ -60,7 +60,7 @@ less_of Greater r e h differ = absurd (cc (h, ap is_lt e))
 same_octets : (a b : List ℕ) → octets_cmp a b ≡ Equal → a ≡ b
 same_octets a b e = (bytes_decides a b).0 (texts_ties a b ∙ ap is_eq e)
 
-module _ (nothing : NothingLaw) (names : NamesLaw) (records : Stored) (realm : Realm) (user : List ℕ) (sound : IsSoundStore records) (sought : Sought) (exists : dataset_exists records sought.dataset ≡ true) where
+module _ (nothing : NothingLaw) (names : NamesLaw) (records : Stored) (realm : Realm) (user : List ℕ) (sound : IsSoundStore records) (sought : SearchSpec) (exists : dataset_exists records sought.dataset ≡ true) where
   abbrev found : List Match
   found = matches_of records realm user sought
 

@@ -3,12 +3,12 @@ pub mod CountingLemmas
 pub mod EqualLemmas
 pub mod ExampleLemmas
 pub mod FreshLemmas
-pub mod GatheredLemmas
-pub mod GroundLemmas
+pub mod FoundLemmas
+pub mod CursorLemmas
 pub mod HitLemmas
 pub mod ListedLemmas
 pub mod NamedLemmas
-pub mod NearLemmas
+pub mod CacheLemmas
 pub mod OnceLemmas
 pub mod OrderLemmas
 pub mod PlaceLaws
@@ -17,7 +17,7 @@ pub mod ScopedLemmas
 pub mod SeenLemmas
 pub mod SightLemmas
 pub mod SortLemmas
-pub mod StandLemmas
+pub mod KeyLemmas
 pub mod Stars
 pub mod TellingLemmas
 pub mod TouchedLemmas

@@ -19,7 +19,7 @@ use Rattle.acap_search.specs.Scopes.{scope_of}
 use Rattle.acap_search.specs.Sight.{Answers}
 use Rattle.acap_search.specs.Tuples.{match_of}
 use Rattle.acap_search.specs.Within.{numbered_from, position_of, tuple_at, tuple_within}
-use Rattle.acap_search.specs.declared.query.Sought.{Sought}
+use Rattle.acap_search.specs.declared.query.SearchSpec.{SearchSpec}
 use Rattle.acap_search.proofs.FreshLemmas.{fresh_law}
 use Rattle.acap_search.proofs.OnceLemmas.{from_made}
 use Rattle.acap_search.proofs.OrderLemmas.{match_weak}
@@ -65,7 +65,7 @@ from_ordered (Some sort) ms m k = from_order match_lt ms m k
 
 -- ---- what is found again
 
-module _ (records : Stored) (realm : Realm) (user : List ℕ) (sought : Sought) (plain : has_range sought.key ≡ false) where
+module _ (records : Stored) (realm : Realm) (user : List ℕ) (sought : SearchSpec) (plain : has_range sought.key ≡ false) where
   abbrev sight : Sight
   sight = sight_of records realm user (scope_of sought)
 
@@ -73,7 +73,7 @@ module _ (records : Stored) (realm : Realm) (user : List ℕ) (sought : Sought) 
   found = matches_of records realm user sought
 
   -- what is made of a match by a search for as much, whatever its SORT
-  again : (other : Sought) → other.key ≡ sought.key → (m : Match) → Contains found m → (place : Option ℕ)
+  again : (other : SearchSpec) → other.key ≡ sought.key → (m : Match) → Contains found m → (place : Option ℕ)
       → (p : Path) × ((m ≡ match_of sought p (sight.answers p) (stars_of (sight.answers p).read (sight.attributes p)))
       × (tuple_at sight other place m.path ≡ Some (match_of other p (sight.answers p) (stars_of (sight.answers p).read (sight.attributes p)))))
   again other same m k place =

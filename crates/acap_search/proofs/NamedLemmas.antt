@@ -29,20 +29,20 @@ use Rattle.acap_inherit.specs.Resolving.{Resolution, by_presence, entry_on, memb
 use Rattle.acap_rights.specs.declared.rights.Rights.{Rights}
 use Rattle.acap_search.specs.Keys.{stands_so, some_text, is_octet, is_equal, tested_cell, passes, holds}
 use Rattle.acap_search.specs.Matches.{Match}
-use Rattle.acap_search.specs.Near.{lies_in}
-use Rattle.acap_search.proofs.NearLemmas.{names_alone}
+use Rattle.acap_search.specs.RecordCaches.{lies_in}
+use Rattle.acap_search.proofs.CacheLemmas.{names_alone}
 use Rattle.acap_entries.specs.declared.path.Path.{Path}
 use Rattle.acap_entries.proofs.Logic.{is_eq-reverse, unequal_from_is_lt, OnOk_then}
 use Rattle.std.specs.Prelude.{Result, OnOk}
 use Rattle.acap_search.specs.Gathering.{with_more, with_one}
-use Rattle.acap_search.specs.declared.gathered.Gathered.{Gathered}
-use Rattle.acap_search.proofs.GatheredLemmas.{gathered_none}
+use Rattle.acap_search.specs.declared.found_matches.FoundMatches.{FoundMatches}
+use Rattle.acap_search.proofs.FoundLemmas.{gathered_none}
 use Rattle.acap_search.specs.Walks.{names_count, hits_along}
 use Rattle.std.proofs.lemmas.List.{length-map}
 use Rattle.acap_search.specs.Named.{NameLaw, first_of, only_name}
 use Rattle.acap_search.specs.Sight.{Answers, cell_at, is_held, is_seen, may_test}
 use Rattle.acap_search.specs.Views.{View, spot_in, answers_of, found_at, rights_in}
-use Rattle.acap_search.specs.declared.query.Sought.{Sought}
+use Rattle.acap_search.specs.declared.query.SearchSpec.{SearchSpec}
 
 -- ---- what the key wants is tested by its name
 
@@ -144,7 +144,7 @@ module _ (view : View) where
       name_shown may_test (rights_in view view.dataset (codes "entry") name) (λ dataset. rights_in view dataset (codes "entry") name) name other by.comparator (lookup view.records view.chain name (codes "entry")) (resolved name) by.octets by.has
 
   -- and of another name there is none
-  other_none : (sought : Sought) (name other : List ℕ) → only_name sought.key ≡ Some other → octets_eq other name ≡ false → found_at sought None (spot_in view name) ≡ None
+  other_none : (sought : SearchSpec) (name other : List ℕ) → only_name sought.key ≡ Some other → octets_eq other name ≡ false → found_at sought None (spot_in view name) ≡ None
   other_none sought name other e n =
       elim (is_seen (answers_to name)) as (λ (s : Bool). (m : Match) → cond s (cond (holds sought.key None (answers_to name)) (Some m) None) None ≡ None) [
         | false ↦ λ m. refl
@@ -159,7 +159,7 @@ name_law = name_is
 
 -- ---- among names that rise it is found once, or not at all
 
-module _ (view : View) (sought : Sought) (name : List ℕ) (only : only_name sought.key ≡ Some name) where
+module _ (view : View) (sought : SearchSpec) (name : List ℕ) (only : only_name sought.key ≡ Some name) where
   abbrev at_name : List ℕ → Option Match
   at_name other = found_at sought None (spot_in view other)
 
@@ -213,18 +213,18 @@ alone_count view by dataset es count v e h c =
     ∙ (sym (length-map (filter (lies_in dataset) (map.entries view.records)) (λ e. e.0.name))
     ∙ (sym (ap length (names_alone view.records dataset view.chain e)) ∙ ap names_count v)))
 
-module _ (law : NamesLaw) (view by : View) (same : view ≡ by) (sought : Sought) (name : List ℕ) (only : only_name sought.key ≡ Some name) where
+module _ (law : NamesLaw) (view by : View) (same : view ≡ by) (sought : SearchSpec) (name : List ℕ) (only : only_name sought.key ≡ Some name) where
   pub named_some : true ≡ has_one view sought name only law → 0 < names_count by
   named_some h = subst (λ view. 0 < names_count view) same (some_name view sought name only law (sym h))
 
   one_by : true ≡ has_one view sought name only law → hits_along by sought ≡ cons_option (found_at sought None (spot_in by name)) []
   one_by h = subst (λ view. hits_along view sought ≡ cons_option (found_at sought None (spot_in view name)) []) same (hits_one view sought name only law (sym h))
 
-  pub named_found : {X F : Type 0} (r : Result X F) (told : List ℕ) (before after : Gathered) → true ≡ has_one view sought name only law → told ≡ name
+  pub named_found : {X F : Type 0} (r : Result X F) (told : List ℕ) (before after : FoundMatches) → true ≡ has_one view sought name only law → told ≡ name
       → OnOk r (after ≡ with_one before (found_at sought None (spot_in by told))) → OnOk r (after ≡ with_more before (hits_along by sought))
   named_found r told before after h t =
       OnOk_then r (λ f. f ∙ (ap (λ name. with_one before (found_at sought None (spot_in by name))) t ∙ ap (with_more before) (sym (one_by h))))
 
-  pub named_none : (before : Gathered) → false ≡ has_one view sought name only law → before ≡ with_more before (hits_along by sought)
+  pub named_none : (before : FoundMatches) → false ≡ has_one view sought name only law → before ≡ with_more before (hits_along by sought)
   named_none before h =
       sym (ap (with_more before) (subst (λ view. hits_along view sought ≡ []) same (hits_none view sought name only law (sym h))) ∙ gathered_none before)

@@ -38,7 +38,7 @@ use Rattle.acap_search.specs.Once.{EachOnce, IsBeneath, ScopeLaw, OnceLaw}
 use Rattle.acap_search.specs.Rows.{stars_of}
 use Rattle.acap_search.specs.Scopes.{Scope, scope_of, datasets_of, beneath, is_reached, levels, is_component_name, reached_by}
 use Rattle.acap_search.specs.Tuples.{name_told, match_of}
-use Rattle.acap_search.specs.declared.query.Sought.{Sought}
+use Rattle.acap_search.specs.declared.query.SearchSpec.{SearchSpec}
 use Rattle.acap_commands.specs.declared.search_modifiers.SortItem.{SortItem}
 use Rattle.acap_search.proofs.TupleLemmas.{made_is}
 use Rattle.acap_search.proofs.SeenLemmas.{first_or, nowhere, either, at_first, in_map, from_map, from_all, in_filter, from_filter, from_put, from_sorted, from_order, named, only_seen}
@@ -441,7 +441,7 @@ module _ (nothing : NothingLaw) (names : NamesLaw) (records : Stored) (realm : R
       (datasets_of records scope) (datasets_once records sound.formed scope) in
       subst EachOnce (plain _) (once_sorted (λ p. p) full_path_lt _ (once_filter (λ p. p) _ (paths_of records scope) (subst EachOnce (sym (plain (paths_of records scope))) all)))
 
-  module _ (sought : Sought) (exists : dataset_exists records sought.dataset ≡ true) where
+  module _ (sought : SearchSpec) (exists : dataset_exists records sought.dataset ≡ true) where
     abbrev pub sight : Sight
     sight = sight_of records realm user (scope_of sought)
 

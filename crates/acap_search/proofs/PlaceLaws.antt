@@ -12,8 +12,8 @@ use Rattle.acap_order.specs.declared.comparator.Direction.{Direction}
 use Rattle.acap_order.specs.declared.comparator.Direction.TheVariants.{Ascending, Descending}
 use Rattle.acap_search.specs.Laws.{PlaceLaw}
 use Rattle.acap_search.specs.Places.{number_rank, rank_in, directed_place, rank_cmp, place_cmp}
-use Rattle.acap_search.specs.declared.rank.SortPlace.TheVariants.{Behind}
-use Rattle.acap_search.specs.declared.rank.Rank.{Rank}
+use Rattle.acap_search.specs.declared.sort_term.SortTerm.TheVariants.{Behind}
+use Rattle.acap_search.specs.declared.sort_term.Rank.{Rank}
 use Rattle.acap_search.proofs.OrderLemmas.{rank_total, match_total}
 
 not_none : (count : ℕ) → (suc count == 0) ≡ false

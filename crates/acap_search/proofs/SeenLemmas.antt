@@ -22,7 +22,7 @@ use Rattle.acap_search.specs.Laws.{SeenLaw, TupleLaw}
 use Rattle.acap_search.specs.Matches.{put_by, sorted_from, sorted_by}
 use Rattle.acap_search.specs.Scopes.{Scope, scope_of, datasets_of}
 use Rattle.acap_search.specs.Sight.{Answers, is_seen, is_nil, cell_at, may_read, rights_on}
-use Rattle.acap_search.specs.declared.query.Sought.{Sought}
+use Rattle.acap_search.specs.declared.query.SearchSpec.{SearchSpec}
 use Rattle.acap_search.proofs.TupleLemmas.{from_among, tuple_at, tuple_inside}
 
 -- ---- what lists contain
@@ -161,7 +161,7 @@ seen_law nothing names = record {
   only = λ records realm user scope path. only_seen nothing names records realm user scope path;
 }
 
-module _ (nothing : NothingLaw) (names : NamesLaw) (records : Stored) (realm : Realm) (user : List ℕ) (sought : Sought) (path : Path) where
+module _ (nothing : NothingLaw) (names : NamesLaw) (records : Stored) (realm : Realm) (user : List ℕ) (sought : SearchSpec) (path : Path) where
   abbrev sight : Sight
   sight = sight_of records realm user (scope_of sought)
 

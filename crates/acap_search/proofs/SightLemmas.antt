@@ -15,16 +15,16 @@ use Rattle.acap_search.specs.Rows.{stars_of}
 use Rattle.acap_search.specs.Scopes.{Scope, scope_of}
 use Rattle.acap_search.specs.Sight.{Answers, answers_at}
 use Rattle.acap_search.specs.Tuples.{tuple_for}
-use Rattle.acap_search.specs.declared.query.Sought.{Sought}
+use Rattle.acap_search.specs.declared.query.SearchSpec.{SearchSpec}
 use Rattle.acap_search.proofs.TupleLemmas.{tuple_at, from_among}
 use Rattle.acap_search.proofs.Stars.{Covers, covers, same_stars, get_stars_of}
 
 abbrev SameTuples : Type 0
-SameTuples = (old new : Stored) (realm other : Realm) (user second : List ℕ) (sought : Sought)
+SameTuples = (old new : Stored) (realm other : Realm) (user second : List ℕ) (sought : SearchSpec)
     → IsSameSight (sight_of old realm user (scope_of sought)) (sight_of new other second (scope_of sought))
     → (path : Path) → tuple_of (sight_of old realm user (scope_of sought)) sought path ≡ tuple_of (sight_of new other second (scope_of sought)) sought path
 
-pub tuple_same : (sought : Sought) (path : Path) (a b : Answers) (names more : List (List ℕ)) → IsSameAnswers a b → Covers a.read names → Covers b.read more → tuple_for sought None path a (stars_of a.read names) ≡ tuple_for sought None path b (stars_of b.read more)
+pub tuple_same : (sought : SearchSpec) (path : Path) (a b : Answers) (names more : List (List ℕ)) → IsSameAnswers a b → Covers a.read names → Covers b.read more → tuple_for sought None path a (stars_of a.read names) ≡ tuple_for sought None path b (stars_of b.read more)
 tuple_same sought path a b names more s g h =
     let answers : a ≡ b = λ i. record { read = λ q. s.read q i; test = λ q. s.test q i; acl = λ q. s.acl q i; rights = λ q. s.rights q i } in
     let read : a.read ≡ b.read = λ i q. s.read q i in

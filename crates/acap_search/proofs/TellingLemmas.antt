@@ -21,8 +21,8 @@ use Rattle.acap_search.specs.Places.{places_cmp, places_in}
 use Rattle.acap_search.specs.Scopes.{beneath}
 use Rattle.acap_search.specs.Sight.{answers_at}
 use Rattle.acap_search.specs.Views.{spot_in, found_at}
-use Rattle.acap_search.specs.Walks.{Quest, quest_of, view_in, hits_in, hits_over, matches_by}
-use Rattle.acap_search.specs.declared.query.Sought.{Sought}
+use Rattle.acap_search.specs.Walks.{Walk, quest_of, view_in, hits_in, hits_over, matches_by}
+use Rattle.acap_search.specs.declared.query.SearchSpec.{SearchSpec}
 use Rattle.acap_search.proofs.OrderLemmas.{match_weak}
 use Rattle.acap_search.proofs.SortLemmas.{Above, Rises, rising_stays}
 use Rattle.acap_search.proofs.WalkLemmas.{fresh_is}
@@ -69,8 +69,8 @@ module _ (dataset : List ℕ) (f : List ℕ → Option Match) where
           | None ↦ λ p. rises names (second_so _ _ e)
         ] (own n)
 
-module _ (records : Stored) (realm : Realm) (user : List ℕ) (sought : Sought) (depth : sought.depth ≡ None) (sort : sought.sort ≡ None) (law : NamesLaw) where
-  abbrev quest : Quest
+module _ (records : Stored) (realm : Realm) (user : List ℕ) (sought : SearchSpec) (depth : sought.depth ≡ None) (sort : sought.sort ≡ None) (law : NamesLaw) where
+  abbrev quest : Walk
   quest = quest_of records realm user sought
 
   abbrev chain : List (List ℕ)

@@ -31,7 +31,7 @@ use Rattle.acap_search.specs.Scopes.{Scope, scope_of, datasets_of}
 use Rattle.acap_search.specs.Sight.{may_read, may_test, is_held, cell_at, own_acl, rights_on, is_readable, is_seen}
 use Rattle.acap_search.specs.Touched.{AreSoundWrites, TouchedLaw}
 use Rattle.acap_search.specs.Tuples.{tuple_for}
-use Rattle.acap_search.specs.declared.query.Sought.{Sought}
+use Rattle.acap_search.specs.declared.query.SearchSpec.{SearchSpec}
 use Rattle.acap_search.proofs.OnceLemmas.{looked_through_too, scope_law}
 use Rattle.acap_search.proofs.SeenLemmas.{either, same_name, not_any, unseen, all_seen, only_seen, tuple_law}
 use Rattle.acap_search.proofs.SightLemmas.{tuple_same}
@@ -173,7 +173,7 @@ module _ (nothing : NothingLaw) (names : NamesLaw) (unread : UnreadLaw) (written
               all_seen nothing names old realm user scope p (had written old new step scope p.dataset r.1 s.0) (seen_same r.0 scope.no_inherit ∙ s.1),
         ))
 
-  module _ (sought : Sought) where
+  module _ (sought : SearchSpec) where
     tuples : TupleLaw
     tuples = tuple_law nothing names
 

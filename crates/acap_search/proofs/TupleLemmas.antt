@@ -10,7 +10,7 @@ use Rattle.acap_search.specs.Fresh.{Sight, same_path, is_among, tuple_of}
 use Rattle.acap_search.specs.Matches.{Match}
 use Rattle.acap_search.specs.Rows.{stars_of}
 use Rattle.acap_search.specs.Tuples.{tuple_for}
-use Rattle.acap_search.specs.declared.query.Sought.{Sought}
+use Rattle.acap_search.specs.declared.query.SearchSpec.{SearchSpec}
 
 -- ---- which paths are among some
 
@@ -39,7 +39,7 @@ from_among ps p e = Contains-from_any same_paths p ps e
 -- ---- tuples
 
 -- what is made of a path that is in sight
-abbrev pub tuple_at : Sight → Sought → Path → Option Match
+abbrev pub tuple_at : Sight → SearchSpec → Path → Option Match
 tuple_at sight sought path = tuple_for sought None path (sight.answers path) (stars_of (sight.answers path).read (sight.attributes path))
 
 pub filter_map_same : {X Y : Type 0} (f g : X → Option Y) (xs : List X) → ((x : X) → Contains xs x → f x ≡ g x) → filter_map f xs ≡ filter_map g xs
@@ -49,10 +49,10 @@ filter_map_same f g (x ∷ xs) h =
     let others : filter_map f xs ≡ filter_map g xs = filter_map_same f g xs (λ y k. h y (suc k.0, omega (arith, k.1), k.2)) in
     λ i. cons_option (first i) (others i)
 
-pub tuple_inside : (sight : Sight) (sought : Sought) (path : Path) → Contains sight.paths path → tuple_of sight sought path ≡ tuple_at sight sought path
+pub tuple_inside : (sight : Sight) (sought : SearchSpec) (path : Path) → Contains sight.paths path → tuple_of sight sought path ≡ tuple_at sight sought path
 tuple_inside sight sought path h = ap (λ b. cond b (tuple_at sight sought path) None) (among sight.paths path h)
 
-pub tuples_are : (sight : Sight) (sought : Sought) → filter_map (tuple_of sight sought) sight.paths ≡ filter_map (tuple_at sight sought) sight.paths
+pub tuples_are : (sight : Sight) (sought : SearchSpec) → filter_map (tuple_of sight sought) sight.paths ≡ filter_map (tuple_at sight sought) sight.paths
 tuples_are sight sought = filter_map_same (tuple_of sight sought) (tuple_at sight sought) sight.paths (tuple_inside sight sought)
 
 -- what is made where two tests hold, is that, and both do

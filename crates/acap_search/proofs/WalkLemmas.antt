@@ -20,8 +20,8 @@ use Rattle.acap_search.specs.Matches.{Match, match_lt, sorted_by, ordered_by}
 use Rattle.acap_search.specs.Places.{places_cmp, places_in}
 use Rattle.acap_search.specs.Scopes.{scope_of, datasets_of, beneath, is_reached, levels, made_by, reached_by}
 use Rattle.acap_search.specs.Sight.{is_seen}
-use Rattle.acap_search.specs.Walks.{Quest, quest_of, hits_in, hits_by, hits_over}
-use Rattle.acap_search.specs.declared.query.Sought.{Sought}
+use Rattle.acap_search.specs.Walks.{Walk, quest_of, hits_in, hits_by, hits_over}
+use Rattle.acap_search.specs.declared.query.SearchSpec.{SearchSpec}
 use Rattle.acap_search.proofs.OrderLemmas.{match_weak, path_weak, paths_tie}
 use Rattle.acap_search.proofs.SortLemmas.{Above, Rises, rising_stays, sorted_by_rises, sorted_alike, ties_kept}
 use Rattle.acap_search.proofs.TupleLemmas.{tuple_at, tuples_are}
@@ -131,8 +131,8 @@ module _ (t : Path → Option Match) (own : (p : Path) → IsPlaceless p (t p)) 
 
 -- ---- the walk
 
-module _ (records : Stored) (realm : Realm) (user : List ℕ) (sought : Sought) where
-  abbrev quest : Quest
+module _ (records : Stored) (realm : Realm) (user : List ℕ) (sought : SearchSpec) where
+  abbrev quest : Walk
   quest = quest_of records realm user sought
 
   abbrev sight : Sight

@@ -13,14 +13,14 @@ use Rattle.acap_search.specs.Scopes.{scope_of, datasets_of}
 use Rattle.acap_search.specs.Sight.{is_seen}
 use Rattle.acap_search.specs.Tuples.{tuple_for}
 use Rattle.acap_search.specs.Views.{found_at, spot_in}
-use Rattle.acap_search.specs.Walks.{Quest, view_in, sight_by}
+use Rattle.acap_search.specs.Walks.{Walk, view_in, sight_by}
 use Rattle.acap_search.specs.Within.{Context, tuple_at, has_old, lacks_positions, matches_within, refusal_within}
 use Rattle.acap_search.specs.declared.query.Query.{Query}
 use Rattle.acap_search.specs.declared.refusal.SearchRefusal.TheVariants as refusal
 use Rattle.acap_search.proofs.SeenLemmas.{only_seen, seen_law}
 use Rattle.acap_search.proofs.TupleLemmas.{among, from_among}
 
-module _ (nothing : NothingLaw) (names : NamesLaw) (quest : Quest) (place : Option ℕ) (path : Path) where
+module _ (nothing : NothingLaw) (names : NamesLaw) (quest : Walk) (place : Option ℕ) (path : Path) where
   abbrev made : Option Match
   made =
       tuple_for quest.sought place path ((sight_by quest).answers path)

@@ -15,7 +15,7 @@ use Rattle.acap_search.specs.Matches.{Match}
 use Rattle.acap_search.specs.Sight.{Answers}
 use Rattle.acap_search.specs.Within.{context_of, position_of, matches_in, matches_within, has_old, refusal_within}
 use Rattle.acap_search.specs.declared.query.Query.{Query}
-use Rattle.acap_search.specs.declared.query.Sought.{Sought}
+use Rattle.acap_search.specs.declared.query.SearchSpec.{SearchSpec}
 use Rattle.acap_search.specs.declared.refusal.SearchRefusal.TheVariants as refusal
 
 -- entries of the dataset /d/ by their names
@@ -46,13 +46,13 @@ abbrev pub tested_by : Bool → Answers
 tested_by first = testing (Single (if first then codes "2" else codes "1")) Nil
 
 -- a search over a context of /d/ by a key, without SORT and with that by x, and over a context with DEPTH
-abbrev pub plain : Wanted → Sought
+abbrev pub plain : Wanted → SearchSpec
 plain wanted = record sorting { key = wanted; sort = None }
 
-abbrev pub by_x : Wanted → Sought
+abbrev pub by_x : Wanted → SearchSpec
 by_x wanted = record sorting { key = wanted }
 
-abbrev pub deep : Wanted → Sought
+abbrev pub deep : Wanted → SearchSpec
 deep wanted = record sorting { depth = Some 2; key = wanted; sort = None }
 
 abbrev pub told_names : List Match → List (List ℕ)

@@ -3,10 +3,10 @@ use Rattle.std.specs.Prelude.{◌≡◌, ◌+◌, ◌≤◌, ℕ, length, Result
 use Rattle.acap_entries.specs.Store.{Store}
 use Rattle.acap_search.specs.Fresh.{paths_of}
 use Rattle.acap_search.specs.Scopes.{scope_of}
-use Rattle.acap_search.specs.declared.query.Sought.{Sought}
+use Rattle.acap_search.specs.declared.query.SearchSpec.{SearchSpec}
 
 -- over a dataset: one for each path in the scope whose name has a record on the chain of its dataset
-abbrev pub paths_count : Store → Sought → ℕ
+abbrev pub paths_count : Store → SearchSpec → ℕ
 paths_count store sought = length (paths_of store.records (scope_of sought))
 
 -- how far a counter rose: by so many exactly where something was answered, else by at most as many

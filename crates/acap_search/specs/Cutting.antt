@@ -4,7 +4,7 @@ use Rattle.std.specs.Prelude.{if◌then◌else◌, map as each}
 use Rattle.acap_commands.specs.declared.search_modifiers.Limit.{Limit}
 use Rattle.acap_search.specs.Matches.{Match}
 use Rattle.acap_search.specs.declared.cutting.Cut.{Cut}
-use Rattle.acap_search.specs.declared.telling.Excerpt.{Excerpt}
+use Rattle.acap_search.specs.declared.answer.SearchAnswer.{SearchAnswer}
 
 -- with more matches than the first number of LIMIT so many as the second number says, and the total is told
 abbrev pub cut_of : Option Limit → ℕ → Cut
@@ -24,7 +24,7 @@ abbrev pub IsWished : Option Limit → Option Limit → Type 0
 IsWished limit wished = (wished ≡ limit) ⊎ (wished ≡ None)
 
 -- what is told of some matches: the rows of the first of them
-abbrev pub IsExcerpt : Option Limit → Excerpt → List Match → Type 0
+abbrev pub IsExcerpt : Option Limit → SearchAnswer → List Match → Type 0
 IsExcerpt limit excerpt matches =
     (excerpt.rows ≡ each (λ found. found.row) (take (cut_of limit (length matches)).told matches))
     × (excerpt.total ≡ (cut_of limit (length matches)).total)

@@ -46,12 +46,12 @@ use Rattle.acap_search.specs.Scopes.{scope_of, datasets_of, reached_by, is_reach
 use Rattle.acap_search.specs.Sight.{Answers, answers_at, cell_at, is_held, is_seen, may_read, may_test}
 use Rattle.acap_search.specs.Tuples.{name_told, match_of, tuple_for}
 use Rattle.acap_search.specs.declared.cutting.Cut.{Cut}
-use Rattle.acap_search.specs.declared.query.Asked.{Asked}
+use Rattle.acap_search.specs.declared.query.SearchRequest.{SearchRequest}
 use Rattle.acap_search.specs.declared.query.Query.{Query}
-use Rattle.acap_search.specs.declared.query.Sought.{Sought}
+use Rattle.acap_search.specs.declared.query.SearchSpec.{SearchSpec}
 use Rattle.acap_search.specs.declared.refusal.SearchRefusal.TheVariants as refusal
-use Rattle.acap_search.specs.declared.rank.SortPlace.TheVariants.{Behind}
-use Rattle.acap_search.specs.declared.rank.SortPlace.{SortPlace}
+use Rattle.acap_search.specs.declared.sort_term.SortTerm.TheVariants.{Behind}
+use Rattle.acap_search.specs.declared.sort_term.SortTerm.{SortTerm}
 
 -- ---- keys
 
@@ -135,7 +135,7 @@ pub record KeyExamples : Type 0 where
 
 -- ---- orders
 
-abbrev pub sorted_places : Comparator → List Cell → List SortPlace
+abbrev pub sorted_places : Comparator → List Cell → List SortTerm
 sorted_places comparator values = sorted_from (λ a b. is_lt (place_cmp a b)) (each (place_in comparator) values)
 
 abbrev pub path_of : List ℕ → List ℕ → Path
@@ -163,7 +163,7 @@ pub record OrderExamples : Type 0 where
 -- ---- scopes, names and limits
 
 -- a search that sorts by the attribute x
-abbrev pub sorting : Sought
+abbrev pub sorting : SearchSpec
 sorting = record {
   dataset = codes "/d/";
   depth = None;
@@ -174,17 +174,17 @@ sorting = record {
 }
 
 -- the same with a modifier
-abbrev pub deep : Option ℕ → Sought
+abbrev pub deep : Option ℕ → SearchSpec
 deep depth = record sorting { depth = depth }
 
-abbrev pub not_inheriting : Sought
+abbrev pub not_inheriting : SearchSpec
 not_inheriting = record sorting { no_inherit = true }
 
 abbrev pub d : List ℕ
 d = codes "/d/"
 
 -- what a user sees of an entry of the dataset /d/ in the scope of a search
-abbrev pub seen_by : Stored → Realm → List ℕ → Sought → List ℕ → Answers
+abbrev pub seen_by : Stored → Realm → List ℕ → SearchSpec → List ℕ → Answers
 seen_by records realm user sought name = (sight_of records realm user (scope_of sought)).answers (path_of d name)
 
 abbrev pub limit : ℕ → ℕ → Option Limit
@@ -205,7 +205,7 @@ all_modifiers = record {
   sort = Some [];
 }
 
-abbrev pub asked_with_all : Asked
+abbrev pub asked_with_all : SearchRequest
 asked_with_all = record {
   query = record {
     sought = record {
@@ -328,7 +328,7 @@ two_seen = record {
 }
 
 -- a search that sorts by two attributes
-abbrev pub by_both : Sought
+abbrev pub by_both : SearchSpec
 by_both = record sorting { sort = Some (record { attribute = x; comparator = ascending Octet } ∷ record { attribute = y; comparator = descending Octet } ∷ []) }
 
 abbrev pub match_at : List ℕ → List ℕ → Match
@@ -390,7 +390,7 @@ abbrev pub beginning : ReturnItem
 beginning = record { name = name.Beginning x; metadata = metadata.Attribute ∷ metadata.Value ∷ [] }
 
 -- what a search with that in RETURN, and with DEPTH, tells of an entry whose attributes are x and y
-abbrev pub listing : Sought
+abbrev pub listing : SearchSpec
 listing = record (deep (Some 1)) { sort = None; returns = Some (beginning ∷ []) }
 
 abbrev pub in_sight : Answers → Sight

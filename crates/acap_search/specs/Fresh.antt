@@ -19,7 +19,7 @@ use Rattle.acap_search.specs.Scopes.{Scope, scope_of, datasets_of}
 use Rattle.acap_search.specs.Sight.{Answers, answers_at, is_seen}
 use Rattle.acap_search.specs.Tuples.{tuple_for}
 use Rattle.acap_search.specs.declared.query.Query.{Query}
-use Rattle.acap_search.specs.declared.query.Sought.{Sought}
+use Rattle.acap_search.specs.declared.query.SearchSpec.{SearchSpec}
 use Rattle.acap_search.specs.declared.refusal.SearchRefusal.{SearchRefusal}
 use Rattle.acap_search.specs.declared.refusal.SearchRefusal.TheVariants as refusal
 
@@ -75,17 +75,17 @@ is_among paths path = list_any (same_path path) paths
 
 -- the tuple of a path: what is made of the entry there. Out of the scope, out of sight, and where the key doesn't want it, there
 -- is none
-abbrev pub tuple_of : Sight → Sought → Path → Option Match
+abbrev pub tuple_of : Sight → SearchSpec → Path → Option Match
 tuple_of sight sought path =
     if is_among sight.paths path
     then tuple_for sought None path (sight.answers path) (stars_of (sight.answers path).read (sight.attributes path))
     else None
 
 -- what a search finds: the tuples of all paths in sight, in order. LIMIT and HARDLIMIT have no part in it
-abbrev pub fresh_of : Sight → Sought → List Match
+abbrev pub fresh_of : Sight → SearchSpec → List Match
 fresh_of sight sought = ordered_by sought.sort (filter_map (tuple_of sight sought) sight.paths)
 
-abbrev pub matches_of : Stored → Realm → List ℕ → Sought → List Match
+abbrev pub matches_of : Stored → Realm → List ℕ → SearchSpec → List Match
 matches_of records realm user sought = fresh_of (sight_of records realm user (scope_of sought)) sought
 
 -- ---- refusals

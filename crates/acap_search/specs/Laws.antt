@@ -21,43 +21,43 @@ use Rattle.acap_search.specs.Scopes.{Scope, scope_of, datasets_of}
 use Rattle.acap_search.specs.Sight.{answers_at, is_nil, is_seen}
 use Rattle.acap_search.specs.Tuples.{seen_tuple}
 use Rattle.acap_search.specs.Views.{found_at, spot_in, view_of}
-use Rattle.acap_search.specs.declared.query.Sought.{Sought}
-use Rattle.acap_search.specs.declared.rank.SortPlace.TheVariants.{Behind}
+use Rattle.acap_search.specs.declared.query.SearchSpec.{SearchSpec}
+use Rattle.acap_search.specs.declared.sort_term.SortTerm.TheVariants.{Behind}
 
 -- a search finds the same in two stores, in the eyes of two users, where nothing but the four answers about what they see in its scope is
 -- the same: each tuple, and so rows, places and which entries match
 pub record SightLaw : Type 0 where
-  pub tuples : (old new : Stored) (realm other : Realm) (user second : List ℕ) (sought : Sought)
+  pub tuples : (old new : Stored) (realm other : Realm) (user second : List ℕ) (sought : SearchSpec)
       → IsSameSight (sight_of old realm user (scope_of sought)) (sight_of new other second (scope_of sought))
       → (path : Path) → tuple_of (sight_of old realm user (scope_of sought)) sought path ≡ tuple_of (sight_of new other second (scope_of sought)) sought path
-  pub fresh : (old new : Stored) (realm other : Realm) (user second : List ℕ) (sought : Sought)
+  pub fresh : (old new : Stored) (realm other : Realm) (user second : List ℕ) (sought : SearchSpec)
       → IsSameSight (sight_of old realm user (scope_of sought)) (sight_of new other second (scope_of sought))
       → fresh_of (sight_of old realm user (scope_of sought)) sought ≡ fresh_of (sight_of new other second (scope_of sought)) sought
 
 -- a path out of the scope has no tuple, and any other the one that is made of the answers about its entry, if
 -- that is seen; so what is made of an entry in the scope is its tuple
 pub record TupleLaw : Type 0 where
-  pub outside : (records : Stored) (realm : Realm) (user : List ℕ) (sought : Sought) (path : Path)
+  pub outside : (records : Stored) (realm : Realm) (user : List ℕ) (sought : SearchSpec) (path : Path)
       → ¬ (Contains (datasets_of records (scope_of sought)) path.dataset)
       → tuple_of (sight_of records realm user (scope_of sought)) sought path ≡ None
-  pub inside : (records : Stored) (realm : Realm) (user : List ℕ) (sought : Sought) (path : Path)
+  pub inside : (records : Stored) (realm : Realm) (user : List ℕ) (sought : SearchSpec) (path : Path)
       → Contains (datasets_of records (scope_of sought)) path.dataset
       → tuple_of (sight_of records realm user (scope_of sought)) sought path
       ≡ seen_tuple sought None path (answers_on records realm user sought.no_inherit path)
       (stars_of (answers_on records realm user sought.no_inherit path).read
       (attributes_at records path.name (chain_of records path.dataset sought.no_inherit)))
-  pub found : (records : Stored) (realm : Realm) (user : List ℕ) (sought : Sought) (path : Path)
+  pub found : (records : Stored) (realm : Realm) (user : List ℕ) (sought : SearchSpec) (path : Path)
       → Contains (datasets_of records (scope_of sought)) path.dataset
       → found_at sought None (spot_in (view_of records realm user sought.no_inherit path.dataset) path.name)
       ≡ tuple_of (sight_of records realm user (scope_of sought)) sought path
 
 -- what a search finds is what is matched, each as often, in the order of the places and then of the full paths
 pub record FreshLaw : Type 0 where
-  pub all : (records : Stored) (realm : Realm) (user : List ℕ) (sought : Sought)
+  pub all : (records : Stored) (realm : Realm) (user : List ℕ) (sought : SearchSpec)
       → IsPermutation (filter_map (tuple_of (sight_of records realm user (scope_of sought)) sought) (sight_of records realm user (scope_of sought)).paths)
       (fresh_of (sight_of records realm user (scope_of sought)) sought)
-  pub order : (records : Stored) (realm : Realm) (user : List ℕ) (sought : Sought) → IsSortedBy match_lt (fresh_of (sight_of records realm user (scope_of sought)) sought)
-  pub untold : (sight : Sight) (sought : Sought) (path : Path) (found : Match) → sought.returns ≡ None → tuple_of sight sought path ≡ Some found → found.row.items ≡ []
+  pub order : (records : Stored) (realm : Realm) (user : List ℕ) (sought : SearchSpec) → IsSortedBy match_lt (fresh_of (sight_of records realm user (scope_of sought)) sought)
+  pub untold : (sight : Sight) (sought : SearchSpec) (path : Path) (found : Match) → sought.returns ≡ None → tuple_of sight sought path ≡ Some found → found.row.items ≡ []
 
 -- of the datasets that a search looks through exactly the entries that are seen are in sight
 pub record SeenLaw : Type 0 where

@@ -10,13 +10,13 @@ use Rattle.acap_entries.specs.contracts.path.Path as path
 use Rattle.acap_entries.specs.contracts.row.Row as row
 use Rattle.acap_commands.specs.declared.search_modifiers.SortItem.{SortItem}
 use Rattle.acap_search.specs.Places.{places_cmp}
-use Rattle.acap_search.specs.declared.rank.SortPlace.{SortPlace}
-use Rattle.acap_search.specs.contracts.rank.SortPlace as place
+use Rattle.acap_search.specs.declared.sort_term.SortTerm.{SortTerm}
+use Rattle.acap_search.specs.contracts.sort_term.SortTerm as place
 
 -- an entry that is wanted: where it is, where it stands for each item of SORT, and what is told of it
 pub record Match : Type 0 where
   pub path : Path
-  pub places : List SortPlace
+  pub places : List SortTerm
   pub row : Row
 
 -- by the places for SORT, and then by the full path in octets
@@ -24,7 +24,7 @@ abbrev pub match_cmp : Match → Match → Ordering
 match_cmp a b = ordering_then (places_cmp a.places b.places) (full_path_cmp a.path b.path)
 
 -- how places and a path stand to a match
-abbrev pub standing_cmp : List SortPlace → Path → Match → Ordering
+abbrev pub standing_cmp : List SortTerm → Path → Match → Ordering
 standing_cmp places path other = match_cmp (record { path = path; places = places; row = other.row }) other
 
 abbrev pub match_lt : Match → Match → Bool
@@ -51,5 +51,5 @@ ordered_by (Some sort) matches = sorted_by match_lt matches
 -- how matches are told apart in proofs
 abbrev pub match_code : Coded Match
 match_code =
-    code_by (Path × (List SortPlace × Row)) (coded× path.the_row.coded (coded× (coded_list place.the_row.coded) row.the_row.coded))
+    code_by (Path × (List SortTerm × Row)) (coded× path.the_row.coded (coded× (coded_list place.the_row.coded) row.the_row.coded))
     (λ m. (m.path, (m.places, m.row))) (λ p. record { path = p.0; places = p.1.0; row = p.1.1 }) (λ _. refl)

@@ -11,7 +11,7 @@ use Rattle.acap_rights.specs.declared.realm.Realm.{Realm}
 use Rattle.acap_search.specs.Fresh.{sight_of, fresh_of}
 use Rattle.acap_search.specs.Matches.{Match, match_cmp}
 use Rattle.acap_search.specs.Scopes.{Scope, scope_of, levels, datasets_of}
-use Rattle.acap_search.specs.declared.query.Sought.{Sought}
+use Rattle.acap_search.specs.declared.query.SearchSpec.{SearchSpec}
 
 -- each of a list comes once
 abbrev pub EachOnce : {X : Type 0} → List X → Type 0
@@ -39,8 +39,8 @@ pub record ScopeLaw : Type 0 where
 -- what is in sight comes once, and so does each name of what is found; two matches that tie have one path
 pub record OnceLaw : Type 0 where
   pub paths : (records : Stored) (realm : Realm) (user : List ℕ) (scope : Scope) → IsSoundStore records → EachOnce (sight_of records realm user scope).paths
-  pub names : (records : Stored) (realm : Realm) (user : List ℕ) (sought : Sought) → IsSoundStore records → dataset_exists records sought.dataset ≡ true
+  pub names : (records : Stored) (realm : Realm) (user : List ℕ) (sought : SearchSpec) → IsSoundStore records → dataset_exists records sought.dataset ≡ true
       → EachOnce (each (λ found. found.row.name) (fresh_of (sight_of records realm user (scope_of sought)) sought))
-  pub ties : (records : Stored) (realm : Realm) (user : List ℕ) (sought : Sought) → IsSoundStore records → dataset_exists records sought.dataset ≡ true
+  pub ties : (records : Stored) (realm : Realm) (user : List ℕ) (sought : SearchSpec) → IsSoundStore records → dataset_exists records sought.dataset ≡ true
       → (a b : Match) → Contains (fresh_of (sight_of records realm user (scope_of sought)) sought) a → Contains (fresh_of (sight_of records realm user (scope_of sought)) sought) b
       → match_cmp a b ≡ Equal → a.path ≡ b.path

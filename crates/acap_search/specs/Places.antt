@@ -17,10 +17,10 @@ use Rattle.acap_order.specs.declared.comparator.Collation.TheVariants.{Octet, As
 use Rattle.acap_order.specs.declared.comparator.Comparator.{Comparator}
 use Rattle.acap_order.specs.declared.comparator.Direction.{Direction}
 use Rattle.acap_order.specs.declared.comparator.Direction.TheVariants.{Ascending, Descending}
-use Rattle.acap_search.specs.declared.rank.SortPlace.{SortPlace}
-use Rattle.acap_search.specs.declared.rank.SortPlace.TheVariants.{Rising, Falling, Behind}
-use Rattle.acap_search.specs.declared.rank.Rank.{Rank}
-use Rattle.acap_search.specs.declared.rank.Rank.TheVariants.{Octets, Number, NoNumber}
+use Rattle.acap_search.specs.declared.sort_term.SortTerm.{SortTerm}
+use Rattle.acap_search.specs.declared.sort_term.SortTerm.TheVariants.{Rising, Falling, Behind}
+use Rattle.acap_search.specs.declared.sort_term.Rank.{Rank}
+use Rattle.acap_search.specs.declared.sort_term.Rank.TheVariants.{Octets, Number, NoNumber}
 
 -- what a string is compared by, as it is kept: its octets, those in upper case, or the digits of the number that it begins
 -- with, without zeros in front, where it begins with a number
@@ -34,17 +34,17 @@ rank_in AsciiCasemap text = Octets (upper_case text)
 rank_in AsciiNumeric text = number_rank (take_while is_ascii_digit text)
 
 -- the sign `-` turns the order of strings round, and of nothing else
-abbrev pub directed_place : Direction → Rank → SortPlace
+abbrev pub directed_place : Direction → Rank → SortTerm
 directed_place Ascending rank = Rising rank
 directed_place Descending rank = Falling rank
 
 -- where a value stands: a string by what it is compared by, and behind all strings NIL and every list alike
-abbrev pub place_in : Comparator → Cell → SortPlace
+abbrev pub place_in : Comparator → Cell → SortTerm
 place_in comparator Nil = Behind
 place_in comparator (Single text) = directed_place comparator.direction (rank_in comparator.collation text)
 place_in comparator (Multi texts) = Behind
 
-abbrev pub places_in : (List ℕ → Cell) → List SortItem → List SortPlace
+abbrev pub places_in : (List ℕ → Cell) → List SortItem → List SortTerm
 places_in read sort = each (λ item. place_in item.comparator (read item.attribute)) sort
 
 -- octet by octet, and numbers by the count of their digits and then digit by digit, no number being behind all numbers. Those
@@ -61,7 +61,7 @@ rank_cmp NoNumber (Number b) = Greater
 rank_cmp NoNumber NoNumber = Equal
 
 -- the places of one comparator are all in one direction
-abbrev pub place_cmp : SortPlace → SortPlace → Ordering
+abbrev pub place_cmp : SortTerm → SortTerm → Ordering
 place_cmp (Rising a) (Rising b) = rank_cmp a b
 place_cmp (Rising a) (Falling b) = Less
 place_cmp (Rising a) Behind = Less
@@ -73,5 +73,5 @@ place_cmp Behind (Falling b) = Greater
 place_cmp Behind Behind = Equal
 
 -- by the items of SORT, the first deciding first
-abbrev pub places_cmp : List SortPlace → List SortPlace → Ordering
+abbrev pub places_cmp : List SortTerm → List SortTerm → Ordering
 places_cmp = slice_cmp place_cmp

@@ -9,7 +9,7 @@ use Rattle.acap_entries.specs.Names.{slash, is_slash, has}
 use Rattle.acap_entries.specs.Store.{Stored}
 use Rattle.acap_entries.specs.declared.path.Path.{Path}
 use Rattle.acap_entries.specs.declared.record.Record.{Record}
-use Rattle.acap_search.specs.declared.query.Sought.{Sought}
+use Rattle.acap_search.specs.declared.query.SearchSpec.{SearchSpec}
 
 -- where a search looks: in a dataset, with DEPTH also beneath it, and whether what is inherited counts
 pub record Scope : Type 0 where
@@ -17,7 +17,7 @@ pub record Scope : Type 0 where
   pub depth : Option ℕ
   pub no_inherit : Bool
 
-abbrev pub scope_of : Sought → Scope
+abbrev pub scope_of : SearchSpec → Scope
 scope_of sought = record { dataset = sought.dataset; depth = sought.depth; no_inherit = sought.no_inherit }
 
 -- the dataset that an entry makes, if it makes one; its name is one component

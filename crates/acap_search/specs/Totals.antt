@@ -10,10 +10,10 @@ use Rattle.acap_entries.specs.FullPaths.{full_path}
 use Rattle.acap_entries.specs.Orders.{octets_cmp}
 use Rattle.acap_search.specs.Matches.{Match, match_cmp}
 use Rattle.acap_search.specs.Places.{rank_cmp, place_cmp, places_cmp}
-use Rattle.acap_search.specs.declared.rank.SortPlace.{SortPlace}
-use Rattle.acap_search.specs.declared.rank.SortPlace.TheVariants.{Rising, Falling, Behind}
-use Rattle.acap_search.specs.declared.rank.Rank.{Rank}
-use Rattle.acap_search.specs.declared.rank.Rank.TheVariants.{Octets, Number, NoNumber}
+use Rattle.acap_search.specs.declared.sort_term.SortTerm.{SortTerm}
+use Rattle.acap_search.specs.declared.sort_term.SortTerm.TheVariants.{Rising, Falling, Behind}
+use Rattle.acap_search.specs.declared.sort_term.Rank.{Rank}
+use Rattle.acap_search.specs.declared.sort_term.Rank.TheVariants.{Octets, Number, NoNumber}
 
 -- ranks by their kind, then by the count of digits, then by octets
 abbrev kind : Rank → ℕ
@@ -51,22 +51,22 @@ by_kind_total = then_total (on_total kind nat_cmp_total) (then_total (on_total s
 pub rank_total : IsTotalOrder rank_cmp
 rank_total = subst (λ (S : Rank → Rank → Ordering). IsTotalOrder S) (λ i a b. rank_is a b i) by_kind_total
 
-abbrev turn : SortPlace → ℕ
+abbrev turn : SortTerm → ℕ
 turn (Rising a) = 0
 turn (Falling a) = 1
 turn Behind = 2
 
-abbrev up : SortPlace → Rank
+abbrev up : SortTerm → Rank
 up (Rising a) = a
 up (Falling a) = NoNumber
 up Behind = NoNumber
 
-abbrev down : SortPlace → Rank
+abbrev down : SortTerm → Rank
 down (Rising a) = NoNumber
 down (Falling a) = a
 down Behind = NoNumber
 
-abbrev by_turn : SortPlace → SortPlace → Ordering
+abbrev by_turn : SortTerm → SortTerm → Ordering
 by_turn a b = ordering_then (nat_cmp (turn a) (turn b)) (ordering_then (rank_cmp (up a) (up b)) (rank_cmp (down b) (down a)))
 
 then_equal : (order : Ordering) → ordering_then order Equal ≡ order
@@ -74,7 +74,7 @@ then_equal Less = refl
 then_equal Equal = refl
 then_equal Greater = refl
 
-place_is : (a b : SortPlace) → by_turn a b ≡ place_cmp a b
+place_is : (a b : SortTerm) → by_turn a b ≡ place_cmp a b
 place_is (Rising a) (Rising b) = then_equal (rank_cmp a b)
 place_is (Rising a) (Falling b) = refl
 place_is (Rising a) Behind = refl
@@ -89,7 +89,7 @@ by_turn_total : IsTotalOrder by_turn
 by_turn_total = then_total (on_total turn nat_cmp_total) (then_total (on_total up rank_total) (on_total down (back_total rank_total)))
 
 pub place_total : IsTotalOrder place_cmp
-place_total = subst (λ (S : SortPlace → SortPlace → Ordering). IsTotalOrder S) (λ i a b. place_is a b i) by_turn_total
+place_total = subst (λ (S : SortTerm → SortTerm → Ordering). IsTotalOrder S) (λ i a b. place_is a b i) by_turn_total
 
 pub places_total : IsTotalOrder places_cmp
 places_total = lists_total place_total

@@ -9,7 +9,7 @@ use Rattle.acap_inherit.specs.Touched.{is_touched}
 use Rattle.acap_rights.specs.declared.realm.Realm.{Realm}
 use Rattle.acap_search.specs.Fresh.{sight_of, tuple_of}
 use Rattle.acap_search.specs.Scopes.{Scope, scope_of, datasets_of}
-use Rattle.acap_search.specs.declared.query.Sought.{Sought}
+use Rattle.acap_search.specs.declared.query.SearchSpec.{SearchSpec}
 
 -- writes lead from one sound store to another, and take no dataset away
 pub record AreSoundWrites (written : Written) (old new : Stored) : Type 0 where
@@ -28,7 +28,7 @@ pub record TouchedLaw : Type 0 where
       → Contains (sight_of old realm user scope).paths path
       ↔ Contains (sight_of new realm user scope).paths path
   pub tuples : (written : Written) (old new : Stored) → AreSoundWrites written old new
-      → (realm : Realm) (user : List ℕ) (sought : Sought) (path : Path)
+      → (realm : Realm) (user : List ℕ) (sought : SearchSpec) (path : Path)
       → is_touched written old new path ≡ false
       → tuple_of (sight_of old realm user (scope_of sought)) sought path
       ≡ tuple_of (sight_of new realm user (scope_of sought)) sought path

@@ -8,7 +8,7 @@ use Rattle.acap_search.specs.Matches.{Match}
 use Rattle.acap_search.specs.Places.{places_in}
 use Rattle.acap_search.specs.Rows.{Names, items_of}
 use Rattle.acap_search.specs.Sight.{Answers, is_seen}
-use Rattle.acap_search.specs.declared.query.Sought.{Sought}
+use Rattle.acap_search.specs.declared.query.SearchSpec.{SearchSpec}
 
 -- the name of an entry as it is told: where DEPTH was written its full path
 abbrev pub name_told : Option ℕ → Path → List ℕ
@@ -16,7 +16,7 @@ name_told None path = path.name
 name_told (Some depth) path = full_path path
 
 -- where an entry stands, and what is told of it: without a RETURN its name alone
-abbrev pub match_of : Sought → Path → Answers → (List ℕ → Names) → Match
+abbrev pub match_of : SearchSpec → Path → Answers → (List ℕ → Names) → Match
 match_of sought path answers stars = record {
   path = path;
   places = places_in answers.read (unwrap_or sought.sort []);
@@ -24,10 +24,10 @@ match_of sought path answers stars = record {
 }
 
 -- the same where the key wants the entry; its position is that in the context that is searched, if one is
-abbrev pub tuple_for : Sought → Option ℕ → Path → Answers → (List ℕ → Names) → Option Match
+abbrev pub tuple_for : SearchSpec → Option ℕ → Path → Answers → (List ℕ → Names) → Option Match
 tuple_for sought place path answers stars =
     if holds sought.key place answers then Some (match_of sought path answers stars) else None
 
 -- and where the entry is seen
-abbrev pub seen_tuple : Sought → Option ℕ → Path → Answers → (List ℕ → Names) → Option Match
+abbrev pub seen_tuple : SearchSpec → Option ℕ → Path → Answers → (List ℕ → Names) → Option Match
 seen_tuple sought place path answers stars = if is_seen answers then tuple_for sought place path answers stars else None

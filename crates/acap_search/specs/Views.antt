@@ -22,8 +22,8 @@ use Rattle.acap_search.specs.Places.{places_in}
 use Rattle.acap_search.specs.Rows.{Names, attributes_at, attributes_in, attributes_on, data_of, item_of, items_of, stars_of, stars_from}
 use Rattle.acap_search.specs.Sight.{Answers, answers_at, is_readable, own_acl, rights_on}
 use Rattle.acap_search.specs.Tuples.{match_of, seen_tuple}
-use Rattle.acap_search.specs.declared.query.Sought.{Sought}
-use Rattle.acap_search.specs.declared.rank.SortPlace.{SortPlace}
+use Rattle.acap_search.specs.declared.query.SearchSpec.{SearchSpec}
+use Rattle.acap_search.specs.declared.sort_term.SortTerm.{SortTerm}
 
 -- who looks, at the entries of which dataset, and along which chain
 pub record View : Type 0 where
@@ -72,10 +72,10 @@ abbrev pub acl_at : Spotted → List ℕ → Option (List (List ℕ))
 acl_at spot attribute = own_acl spot.by.records spot.by.dataset spot.name attribute
 
 -- where it stands for a SORT
-abbrev pub places_at : Spotted → List SortItem → List SortPlace
+abbrev pub places_at : Spotted → List SortItem → List SortTerm
 places_at spot = places_in (answers_of spot).read
 
-abbrev pub standing_at : Sought → Spotted → List SortPlace
+abbrev pub standing_at : SearchSpec → Spotted → List SortTerm
 standing_at sought spot = places_at spot (unwrap_or sought.sort [])
 
 -- those of some attributes that begin with some octets and have a value that is read, beside what was found
@@ -104,10 +104,10 @@ abbrev pub items_at : Spotted → List ReturnItem → List Item
 items_at spot = items_of (answers_of spot) (stars_at spot)
 
 -- what a search makes of it, if it is wanted, and where it is seen and wanted
-abbrev pub match_at : Sought → Spotted → Match
+abbrev pub match_at : SearchSpec → Spotted → Match
 match_at sought spot = match_of sought (path_of spot) (answers_of spot) (stars_at spot)
 
-abbrev pub found_at : Sought → Option ℕ → Spotted → Option Match
+abbrev pub found_at : SearchSpec → Option ℕ → Spotted → Option Match
 found_at sought place spot = seen_tuple sought place (path_of spot) (answers_of spot) (stars_at spot)
 
 -- how views are told apart in proofs

@@ -11,7 +11,7 @@ use Rattle.acap_search.specs.Fresh.{IsSameSight, sight_of, tuple_of, fresh_of, r
 use Rattle.acap_search.specs.Scopes.{Scope, scope_of}
 use Rattle.acap_search.specs.Sight.{is_nil, may_test, rights_on}
 use Rattle.acap_search.specs.declared.query.Query.{Query}
-use Rattle.acap_search.specs.declared.query.Sought.{Sought}
+use Rattle.acap_search.specs.declared.query.SearchSpec.{SearchSpec}
 
 -- two stores that differ in one cell alone: not of a management entry, a string or a list in both, stored at one moment; its
 -- entry makes a dataset in both or in neither
@@ -45,8 +45,8 @@ pub record WithheldLaw : Type 0 where
   pub sight : (old new : Stored) (realm : Realm) (user : List ℕ) (path : Path) (attribute : List ℕ) → IsWithheld old new realm user path attribute
       → (scope : Scope) → IsSameSight (sight_of old realm user scope) (sight_of new realm user scope)
   pub tuples : (old new : Stored) (realm : Realm) (user : List ℕ) (path : Path) (attribute : List ℕ) → IsWithheld old new realm user path attribute
-      → (sought : Sought) (p : Path) → tuple_of (sight_of old realm user (scope_of sought)) sought p ≡ tuple_of (sight_of new realm user (scope_of sought)) sought p
+      → (sought : SearchSpec) (p : Path) → tuple_of (sight_of old realm user (scope_of sought)) sought p ≡ tuple_of (sight_of new realm user (scope_of sought)) sought p
   pub fresh : (old new : Stored) (realm : Realm) (user : List ℕ) (path : Path) (attribute : List ℕ) → IsWithheld old new realm user path attribute
-      → (sought : Sought) → fresh_of (sight_of old realm user (scope_of sought)) sought ≡ fresh_of (sight_of new realm user (scope_of sought)) sought
+      → (sought : SearchSpec) → fresh_of (sight_of old realm user (scope_of sought)) sought ≡ fresh_of (sight_of new realm user (scope_of sought)) sought
   pub refusal : (old new : Stored) (realm : Realm) (user : List ℕ) (path : Path) (attribute : List ℕ) → IsWithheld old new realm user path attribute
       → (query : Query) → refusal_of old realm user query ≡ refusal_of new realm user query

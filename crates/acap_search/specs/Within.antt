@@ -14,10 +14,10 @@ use Rattle.acap_search.specs.Rows.{stars_of}
 use Rattle.acap_search.specs.Scopes.{scope_of}
 use Rattle.acap_search.specs.Tuples.{tuple_for}
 use Rattle.acap_search.specs.declared.query.Query.{Query}
-use Rattle.acap_search.specs.declared.query.Sought.{Sought}
+use Rattle.acap_search.specs.declared.query.SearchSpec.{SearchSpec}
 use Rattle.acap_search.specs.declared.refusal.SearchRefusal.{SearchRefusal}
 use Rattle.acap_search.specs.declared.refusal.SearchRefusal.TheVariants as refusal
-use Rattle.acap_search.specs.declared.showing.Showing.{Showing}
+use Rattle.acap_search.specs.declared.context_list.ContextList.{ContextList}
 
 -- what is kept of a context that is searched: the paths that it shows, in its order, the moment that was last told of it, and whether
 -- its entries have positions
@@ -33,7 +33,7 @@ context_of paths told enumerated = record { paths = paths; told = told; enumerat
 abbrev pub paths_shown : List (Bor Match) → List Path
 paths_shown shown = each (λ hit. hit.now.path) shown
 
-abbrev pub context_shown : Showing → Context
+abbrev pub context_shown : ContextList → Context
 context_shown showing = context_of (paths_shown showing.hits.now) showing.told showing.enumerated
 
 -- the paths of a context with their positions, from 1 on. An entry that went keeps the positions of those behind it
@@ -49,21 +49,21 @@ abbrev pub position_of : ℕ → Option ℕ
 position_of place = if nat_le place 4_294_967_295 then Some place else None
 
 -- what is made of the path at a position: none where it isn't in sight, or where the key doesn't want it
-abbrev pub tuple_at : Sight → Sought → Option ℕ → Path → Option Match
+abbrev pub tuple_at : Sight → SearchSpec → Option ℕ → Path → Option Match
 tuple_at sight sought place path =
     if is_among sight.paths path
     then tuple_for sought place path (sight.answers path) (stars_of (sight.answers path).read (sight.attributes path))
     else None
 
-abbrev pub tuple_within : Sight → Sought → ℕ × Path → Option Match
+abbrev pub tuple_within : Sight → SearchSpec → ℕ × Path → Option Match
 tuple_within sight sought entry = tuple_at sight sought (position_of entry.0) entry.1
 
 -- what a search over a context finds: of its paths in their order those that are in sight now and that the key wants, as they are now.
 -- Dataset, DEPTH and NOINHERIT are the context's, and key, SORT and RETURN those of the new search
-abbrev pub matches_in : Sight → Sought → List Path → List Match
+abbrev pub matches_in : Sight → SearchSpec → List Path → List Match
 matches_in sight sought paths = ordered_by sought.sort (filter_map (tuple_within sight sought) (numbered_paths paths))
 
-abbrev pub matches_within : Stored → Realm → List ℕ → Sought → List Path → List Match
+abbrev pub matches_within : Stored → Realm → List ℕ → SearchSpec → List Path → List Match
 matches_within records realm user sought = matches_in (sight_of records realm user (scope_of sought)) sought
 
 -- ---- refusals

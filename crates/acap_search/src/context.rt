@@ -2,20 +2,20 @@
 ghost use Rattle.std.specs.Prelude.{◌≡◌, ◌+◌, suc, length, not, is_some, IfOk, OnOk};
 ghost use Rattle.acap_search.specs.Counting.{IsCounted};
 ghost use Rattle.acap_search.specs.Gathering.{IsGathered, with_more, with_one};
-ghost use Rattle.acap_search.specs.Grounds.{IsGroundOf};
+ghost use Rattle.acap_search.specs.DatasetCursors.{IsGroundOf};
 ghost use Rattle.acap_search.specs.Walks as walks;
 ghost use Rattle.acap_search.specs.Within as rule;
 
-use crate::finding::hits_of;
-use crate::gathered::Gathered;
-use crate::ground::Ground;
+use crate::context_list::ContextList;
+use crate::dataset_cursor::DatasetCursor;
+use crate::found::hits_of;
+use crate::found_matches::FoundMatches;
 use crate::hit::{Hit, Hits};
 use crate::query::Query;
-use crate::quest::Quest;
 use crate::refusal::SearchRefusal;
+use crate::row_limit::RowLimit;
 use crate::searching::{has_range, is_over};
-use crate::showing::Showing;
-use crate::wish::Wish;
+use crate::walk::Walk;
 use acap_commands::{Key, Node, Test};
 use acap_entries::{Memory, Moment, Path, Steps, Tree, UserName};
 use acap_inherit::{names_law, nothing_law};
@@ -48,14 +48,14 @@ fn position_behind(count: usize) -> Option<u32>
 }
 
 // Adds what is made of an entry at its position, in the dataset where it lies: one step.
-#[tactic(auto, using(crate::proofs::GatheredLemmas::gathered_none))]
+#[tactic(auto, using(crate::proofs::FoundLemmas::gathered_none))]
 fn add_here<'a, L: Ledger>(
     alloc: Global,
-    search: &Quest<'a>,
-    here: &mut Ground<'a>,
+    search: &Walk<'a>,
+    here: &mut DatasetCursor<'a>,
     path: &'a Path,
     place: Option<u32>,
-    found: &mut Gathered<'a>,
+    found: &mut FoundMatches<'a>,
     steps: &mut Steps<L>,
 ) -> Result<(), Memory>
     requires here { IsGroundOf search.now here.old }
@@ -78,11 +78,11 @@ fn add_here<'a, L: Ledger>(
 // Adds what is made of an entry of a context, at its position, wherever it lies: one step.
 fn add_found<'a, L: Ledger>(
     alloc: Global,
-    search: &Quest<'a>,
-    here: &mut Ground<'a>,
+    search: &Walk<'a>,
+    here: &mut DatasetCursor<'a>,
     path: &'a Path,
     place: Option<u32>,
-    found: &mut Gathered<'a>,
+    found: &mut FoundMatches<'a>,
     steps: &mut Steps<L>,
 ) -> Result<(), Memory>
     requires here { IsGroundOf search.now here.old }
@@ -97,14 +97,14 @@ fn add_found<'a, L: Ledger>(
 
 // What is found among the entries of a context, in its order, beside nothing yet. Those that lie in one dataset one after the
 // other share what is made for it.
-#[tactic(auto, using(crate::proofs::GatheredLemmas::gathered_none))]
+#[tactic(auto, using(crate::proofs::FoundLemmas::gathered_none))]
 fn find_among<'a, L: Ledger>(
     alloc: Global,
-    search: &Quest<'a>,
+    search: &Walk<'a>,
     shown: &'a [&'a Hit],
-    none: Gathered<'a>,
+    none: FoundMatches<'a>,
     steps: &mut Steps<L>,
-) -> Result<Gathered<'a>, Memory>
+) -> Result<FoundMatches<'a>, Memory>
     ensures found { IfOk result
         (λ found. found ≡ with_more none.entry (walks.tuples_by search.now shown.now)) }
     ensures count { IsCounted result steps.old steps.new (length shown.now) }
@@ -113,7 +113,7 @@ fn find_among<'a, L: Ledger>(
     let Some(first) = shown.first() else {
         return Ok(found);
     };
-    let mut here = Ground::at(alloc, search, &first.path.dataset)?;
+    let mut here = DatasetCursor::at(alloc, search, &first.path.dataset)?;
     for (count, hit) in shown.iter().enumerate() {
         let place = position_behind(count);
         add_found(
@@ -124,7 +124,7 @@ fn find_among<'a, L: Ledger>(
 }
 
 // Whether what is found stays in the order of the context.
-fn keeps_order(search: &Quest<'_>) -> bool
+fn keeps_order(search: &Walk<'_>) -> bool
     ensures { result ≡ not (is_some search.now.sought.sort) }
 {
     let sought = search.sought;
@@ -134,38 +134,38 @@ fn keeps_order(search: &Quest<'_>) -> bool
 // What is found among them, in the order that is asked for.
 fn find_within<'a, L: Ledger>(
     alloc: Global,
-    search: &Quest<'a>,
+    search: &Walk<'a>,
     shown: &'a [&'a Hit],
-    wish: Wish,
+    wish: RowLimit,
     steps: &mut Steps<L>,
-) -> Result<Gathered<'a>, Memory>
+) -> Result<FoundMatches<'a>, Memory>
     ensures found { IfOk result
         (λ found. IsGathered wish found (walks.matches_among search.now shown.now)) }
     ensures count { IsCounted result steps.old steps.new (length shown.now) }
 {
     if keeps_order(search) {
-        let none = Gathered::in_order(alloc, wish);
+        let none = FoundMatches::in_order(alloc, wish);
         let found = find_among(alloc, search, shown, none, steps)?;
         return Ok(found);
     }
-    let none = Gathered::in_turn(alloc, wish);
+    let none = FoundMatches::in_turn(alloc, wish);
     let found = find_among(alloc, search, shown, none, steps)?;
     let sorted = found.sort()?;
     Ok(sorted)
 }
 
 /// What is answered to a search over a context: all that it finds, whose paths need not be made, or enough of it to tell the first.
-#[tactic(auto, using(crate::proofs::GatheredLemmas::as_many, crate::proofs::WithinLemmas::refused_within))]
+#[tactic(auto, using(crate::proofs::FoundLemmas::as_many, crate::proofs::WithinLemmas::refused_within))]
 pub(crate) fn answer_within<'a, L: Ledger>(
     alloc: Global,
     tree: &'a Tree,
     realm: &'a Realm,
     user: &'a UserName,
     query: &'a Query,
-    context: Showing<'a>,
-    wish: Wish,
+    context: ContextList<'a>,
+    wish: RowLimit,
     steps: &mut Steps<L>,
-) -> Result<Gathered<'a>, SearchRefusal>
+) -> Result<FoundMatches<'a>, SearchRefusal>
     ensures answer { let kept = rule.context_shown context.entry in
         rule.IsWithin tree.now.store.records realm.now user.now query.now kept (IsGathered wish) result }
     ensures count { IsCounted result steps.old steps.new (length context.entry.hits.now) }
@@ -176,7 +176,7 @@ pub(crate) fn answer_within<'a, L: Ledger>(
     if has_old(&query.sought.key, context.told) {
         return Err(SearchRefusal::TooOld);
     }
-    let search = Quest {
+    let search = Walk {
         tree,
         realm,
         user,
@@ -201,19 +201,28 @@ pub fn within<'a, L: Ledger>(
     realm: &'a Realm,
     user: &'a UserName,
     query: &'a Query,
-    context: Showing<'a>,
+    context: ContextList<'a>,
     steps: &mut Steps<L>,
 ) -> Result<Hits, SearchRefusal>
     ensures answer { let kept = rule.context_shown context.entry in
         rule.IsWithin tree.now.store.records realm.now user.now query.now kept (λ h m. h ≡ m) result }
     ensures count { IsCounted result steps.old steps.new (length context.entry.hits.now) }
 {
-    let showing = Showing {
+    let showing = ContextList {
         hits: context.hits,
         told: context.told,
         enumerated: context.enumerated,
     };
-    match answer_within(alloc, tree, realm, user, query, showing, Wish::All, steps) {
+    match answer_within(
+        alloc,
+        tree,
+        realm,
+        user,
+        query,
+        showing,
+        RowLimit::All,
+        steps,
+    ) {
         Ok(found) => match hits_of(alloc, found.into_findings(alloc)) {
             Ok(hits) => Ok(Hits::from_vec(hits)),
             Err(_) => Err(SearchRefusal::Memory),

@@ -7,22 +7,22 @@ ghost use Rattle.acap_rights.specs.Sharing.{AreShared};
 ghost use Rattle.acap_search.specs.Counting.{IsCounted};
 ghost use Rattle.acap_search.specs.Gathering.{with_more, with_one};
 ghost use Rattle.acap_search.specs.Named as naming;
-ghost use Rattle.acap_search.specs.Near as near;
-ghost use Rattle.acap_search.specs.Near.{AreAlong};
+ghost use Rattle.acap_search.specs.RecordCaches as near;
+ghost use Rattle.acap_search.specs.RecordCaches.{AreAlong};
 ghost use Rattle.acap_search.specs.Views.{found_at, spot_in};
 ghost use Rattle.acap_search.specs.Walks as walks;
 
-use crate::at_hand::{Along, Kept};
-use crate::front::Front;
-use crate::gathered::Gathered;
-use crate::named::{find_name, only_name};
+use crate::cached::{ChainRights, OwnRecord};
+use crate::dataset_head::DatasetHead;
+use crate::dataset_view::DatasetView;
+use crate::entry_view::EntryView;
+use crate::found_matches::FoundMatches;
+use crate::name_key::{find_name, only_name};
 use crate::names_count::{count_all, count_others};
-use crate::near::{Near, near_by};
-use crate::plain::is_alone;
-use crate::query::Sought;
-use crate::quest::Quest;
-use crate::spot::Spot;
-use crate::viewer::Viewer;
+use crate::plain_dataset::is_alone;
+use crate::query::SearchSpec;
+use crate::record_cache::{RecordCache, near_by};
+use crate::walk::Walk;
 use acap_entries::{Dataset, EntryName, Listing, Memory, Path, Record, Records, Steps, Tree};
 use acap_inherit::{Lineage, chain_unless, names_law, names_on};
 use acap_rights::{SharedRights, shared_rights};
@@ -30,14 +30,14 @@ use std::alloc::Global;
 use std::sync::ledger::Ledger;
 
 // Adds what is found among the records of a dataset that inherits nothing.
-#[tactic(auto, using(crate::proofs::GatheredLemmas::gathered_next))]
+#[tactic(auto, using(crate::proofs::FoundLemmas::gathered_next))]
 fn add_own<'a: 'b, 'b, L: Ledger>(
     alloc: Global,
-    by: &'b Viewer<'b, Tree>,
+    by: &'b DatasetView<'b, Tree>,
     entries: Listing<'a>,
     shared: &'b SharedRights,
-    sought: &Sought,
-    found: &mut Gathered<'a>,
+    sought: &SearchSpec,
+    found: &mut FoundMatches<'a>,
     steps: &mut Steps<L>,
 ) -> Result<(), Memory>
     requires plain { near.IsPlain by.now shared.now }
@@ -46,7 +46,7 @@ fn add_own<'a: 'b, 'b, L: Ledger>(
     ensures found { OnOk result (found.new ≡ with_more found.old (walks.hits_along by.now sought.now)) }
 {
     for (path, entry) in entries {
-        let spot = Spot::near(by, &path.name, Kept { entry, shared });
+        let spot = EntryView::near(by, &path.name, OwnRecord { entry, shared });
         found.add_at(alloc, &spot, Some(path), sought, None, steps)?;
     }
     Ok(())
@@ -63,12 +63,12 @@ pub(crate) fn base_of<'a>(chain: &Lineage<'a>) -> &'a [u8] {
 // Adds what is found at a name along a chain, with its records at hand. The rights may be.
 fn add_near<'a, L: Ledger>(
     alloc: Global,
-    by: &Viewer<'_, Tree>,
-    near: &Near<'_, Tree>,
+    by: &DatasetView<'_, Tree>,
+    near: &RecordCache<'_, Tree>,
     name: &EntryName,
-    along: Option<Along<'_>>,
-    sought: &Sought,
-    found: &mut Gathered<'a>,
+    along: Option<ChainRights<'_>>,
+    sought: &SearchSpec,
+    found: &mut FoundMatches<'a>,
     steps: &mut Steps<L>,
 ) -> Result<(), Memory>
     requires records { near.now.records ≡ by.now.records }
@@ -78,24 +78,28 @@ fn add_near<'a, L: Ledger>(
         (found.new ≡ with_one found.old (found_at sought.now None (spot_in by.now name.now))) }
 {
     let nearer = by.over(near);
-    let spot = Spot::along(&nearer, name, along);
+    let spot = EntryView::along(&nearer, name, along);
     found.add_at(alloc, &spot, None, sought, None, steps)
 }
 
 // The rights that the entries of a dataset share.
-fn rights_in(alloc: Global, by: &Viewer<'_, Tree>, dataset: &[u8]) -> Result<SharedRights, Memory>
+fn rights_in(
+    alloc: Global,
+    by: &DatasetView<'_, Tree>,
+    dataset: &[u8],
+) -> Result<SharedRights, Memory>
     ensures { IfOk result (λ shared. AreShared by.now.records by.now.realm by.now.user dataset.now shared) }
 {
     shared_rights(alloc, by.records, by.realm, by.user, dataset)
 }
 
 // Adds what is found at all names along a chain.
-#[tactic(auto, using(crate::proofs::GatheredLemmas::gathered_none, crate::proofs::GatheredLemmas::gathered_next))]
+#[tactic(auto, using(crate::proofs::FoundLemmas::gathered_none, crate::proofs::FoundLemmas::gathered_next))]
 fn add_far<'a, L: Ledger>(
     alloc: Global,
-    by: &Viewer<'_, Tree>,
-    sought: &Sought,
-    found: &mut Gathered<'a>,
+    by: &DatasetView<'_, Tree>,
+    sought: &SearchSpec,
+    found: &mut FoundMatches<'a>,
     steps: &mut Steps<L>,
 ) -> Result<(), Memory>
     ensures count { IsCounted result steps.old steps.new (walks.names_count by.now) }
@@ -104,15 +108,15 @@ fn add_far<'a, L: Ledger>(
     let below = base_of(&by.chain);
     let own_rights = rights_in(alloc, by, by.dataset.as_slice())?;
     let base_rights = rights_in(alloc, by, below)?;
-    let along = Some(Along {
+    let along = Some(ChainRights {
         own: &own_rights,
         base: below,
         inherited: &base_rights,
     });
-    let own = Front::of(by.records, by.dataset.as_slice());
-    let base = Front::of(by.records, below);
+    let own = DatasetHead::of(by.records, by.dataset.as_slice());
+    let base = DatasetHead::of(by.records, below);
     for name in names_on(by.records, &by.chain) {
-        let near = Near::new(by.records, own, base, name.as_slice());
+        let near = RecordCache::new(by.records, own, base, name.as_slice());
         add_near(alloc, by, &near, name, along, sought, found, steps)?;
     }
     Ok(())
@@ -121,10 +125,10 @@ fn add_far<'a, L: Ledger>(
 // Adds what is found at the only name that the key can hold for, and counts the others, at which nothing is found.
 fn add_named<'a, L: Ledger>(
     alloc: Global,
-    by: &Viewer<'_, Tree>,
+    by: &DatasetView<'_, Tree>,
     name: &EntryName,
-    sought: &Sought,
-    found: &mut Gathered<'a>,
+    sought: &SearchSpec,
+    found: &mut FoundMatches<'a>,
     steps: &mut Steps<L>,
 ) -> Result<(), Memory>
     requires { 0 < walks.names_count by.now }
@@ -138,13 +142,13 @@ fn add_named<'a, L: Ledger>(
 }
 
 // Adds what is found where the key gives the only name that it can hold for: one entry is looked at.
-#[tactic(auto, using(crate::proofs::GatheredLemmas::gathered_none))]
+#[tactic(auto, using(crate::proofs::FoundLemmas::gathered_none))]
 fn add_only<'a, L: Ledger>(
     alloc: Global,
-    by: &Viewer<'_, Tree>,
+    by: &DatasetView<'_, Tree>,
     name: &[u8],
-    sought: &Sought,
-    found: &mut Gathered<'a>,
+    sought: &SearchSpec,
+    found: &mut FoundMatches<'a>,
     steps: &mut Steps<L>,
 ) -> Result<(), Memory>
     requires { naming.only_name sought.now.key ≡ Some name.now }
@@ -165,16 +169,16 @@ fn add_only<'a, L: Ledger>(
 #[tactic(auto, unfolding(crate::specs::Walks::hits_in, crate::specs::Walks::count_in))]
 pub(crate) fn add_in<'a, L: Ledger>(
     alloc: Global,
-    search: &Quest<'a>,
+    search: &Walk<'a>,
     dataset: &Dataset,
-    found: &mut Gathered<'a>,
+    found: &mut FoundMatches<'a>,
     steps: &mut Steps<L>,
 ) -> Result<(), Memory>
     ensures count { IsCounted result steps.old steps.new (walks.count_in search.now dataset.now) }
     ensures found { OnOk result (found.new ≡ with_more found.old (walks.hits_in search.now dataset.now)) }
 {
     let sought = search.sought;
-    let by = Viewer {
+    let by = DatasetView {
         records: search.tree,
         realm: search.realm,
         user: search.user,

@@ -1,7 +1,7 @@
 //! What a search found.
 ghost use Rattle.std.specs.Prelude.{◌≡◌, ◌↔◌, IsTrue};
 
-use crate::rank::SortPlaces;
+use crate::sort_term::SortPlaces;
 use acap_entries::{Copying, Memory, Path, Row, Sequence};
 use std::marker::Model;
 

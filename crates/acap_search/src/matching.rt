@@ -3,12 +3,12 @@ ghost use Rattle.std.specs.Prelude.{◌≡◌, ◌+◌};
 ghost use Rattle.std.specs.List.{list_any};
 ghost use Rattle.acap_search.specs.Keys as rule;
 ghost use Rattle.acap_search.specs.Keys.{some_text};
-ghost use Rattle.acap_search.specs.Shown.{cell_of};
+ghost use Rattle.acap_search.specs.SeenValues.{cell_of};
 ghost use Rattle.acap_search.specs.Views.{answers_of, spot_in};
 
-use crate::looking::{is_nil, look};
-use crate::spot::Spot;
-use crate::viewer::Viewer;
+use crate::dataset_view::DatasetView;
+use crate::entry_view::EntryView;
+use crate::values::{is_nil, look};
 use acap_commands::{Key, Node, Relation, Test};
 use acap_entries::{EntryName, Records, Steps, Value};
 use acap_inherit::Lent;
@@ -76,7 +76,7 @@ pub(crate) fn is_equal(relation: Relation) -> bool
 
 // What is tested of an attribute: where octets are to be equal that which may be tested, else that which may be read.
 fn pick_cell<'a, R: Records>(
-    spot: &Spot<'a, R>,
+    spot: &EntryView<'a, R>,
     attribute: &[u8],
     by_octets: bool,
 ) -> Option<Lent<'a>>
@@ -97,7 +97,7 @@ fn is_within(first: u32, last: u32, place: Option<u32>) -> bool
 }
 
 // Whether an entry passes one test.
-fn passes<R: Records>(spot: &Spot<'_, R>, test: &Test, place: Option<u32>) -> bool
+fn passes<R: Records>(spot: &EntryView<'_, R>, test: &Test, place: Option<u32>) -> bool
     ensures { result ≡ rule.passes test.now place (answers_of spot.now) }
 {
     match test {
@@ -115,7 +115,7 @@ fn passes<R: Records>(spot: &Spot<'_, R>, test: &Test, place: Option<u32>) -> bo
 }
 
 /// Whether a key wants an entry that is looked at.
-pub(crate) fn wants<R: Records>(spot: &Spot<'_, R>, key: &Key, place: Option<u32>) -> bool
+pub(crate) fn wants<R: Records>(spot: &EntryView<'_, R>, key: &Key, place: Option<u32>) -> bool
     ensures { result ≡ rule.holds key.now place (answers_of spot.now) }
 {
     match key.node() {
@@ -130,7 +130,7 @@ pub(crate) fn wants<R: Records>(spot: &Spot<'_, R>, key: &Key, place: Option<u32
 /// the context that is searched, and none over a dataset; RANGE asks for it, and is false where there is none. Takes no memory.
 /// It counts as one step.
 pub fn matches<'a, R: Records, L: Ledger>(
-    by: &Viewer<'a, R>,
+    by: &DatasetView<'a, R>,
     name: &'a EntryName,
     key: &Key,
     place: Option<u32>,
@@ -140,5 +140,5 @@ pub fn matches<'a, R: Records, L: Ledger>(
     ensures wanted { result ≡ rule.holds key.now place (answers_of (spot_in by.now name.now)) }
 {
     steps.tick();
-    wants(&Spot::far(by, name), key, place)
+    wants(&EntryView::far(by, name), key, place)
 }

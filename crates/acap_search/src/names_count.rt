@@ -2,14 +2,14 @@
 ghost use Rattle.std.specs.Prelude.{◌≡◌, ◌+◌, ◌<◌, IfSome};
 ghost use Rattle.acap_search.specs.Walks as walks;
 
-use crate::plain::is_alone;
-use crate::viewer::Viewer;
+use crate::dataset_view::DatasetView;
+use crate::plain_dataset::is_alone;
 use acap_entries::{Steps, Tree};
 use acap_inherit::names_on;
 use std::sync::ledger::Ledger;
 
 // How many names there are along a chain that is its dataset alone: no record is looked at.
-fn own_count(by: &Viewer<'_, Tree>) -> Option<usize>
+fn own_count(by: &DatasetView<'_, Tree>) -> Option<usize>
     ensures { IfSome result (λ count. count ≡ walks.names_count by.now) }
 {
     let dataset = by.dataset.as_slice();
@@ -21,7 +21,7 @@ fn own_count(by: &Viewer<'_, Tree>) -> Option<usize>
 }
 
 /// Counts the names along a chain, but for one.
-pub(crate) fn count_others<L: Ledger>(by: &Viewer<'_, Tree>, steps: &mut Steps<L>)
+pub(crate) fn count_others<L: Ledger>(by: &DatasetView<'_, Tree>, steps: &mut Steps<L>)
     requires { 0 < walks.names_count by.now }
     ensures { steps.new + 1 ≡ steps.old + walks.names_count by.now }
 {
@@ -38,7 +38,7 @@ pub(crate) fn count_others<L: Ledger>(by: &Viewer<'_, Tree>, steps: &mut Steps<L
 }
 
 /// Counts the names along a chain.
-pub(crate) fn count_all<L: Ledger>(by: &Viewer<'_, Tree>, steps: &mut Steps<L>)
+pub(crate) fn count_all<L: Ledger>(by: &DatasetView<'_, Tree>, steps: &mut Steps<L>)
     ensures { steps.new ≡ steps.old + walks.names_count by.now }
 {
     match own_count(by) {

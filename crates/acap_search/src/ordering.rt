@@ -3,9 +3,9 @@ ghost use Rattle.std.specs.Prelude.{◌≡◌, OnOk};
 ghost use Rattle.acap_search.specs.Matches as found;
 ghost use Rattle.acap_search.specs.Places as rule;
 
-use crate::finding::Finding;
-use crate::rank::{Rank, SortPlace};
-use crate::stand::Stand;
+use crate::found::Found;
+use crate::match_key::MatchKey;
+use crate::sort_term::{Rank, SortTerm};
 use acap_entries::Memory;
 use std::cmp::Ordering;
 
@@ -30,22 +30,22 @@ fn rank_order(a: &Rank, b: &Rank) -> Ordering
 }
 
 // How places for one item of SORT compare.
-fn place_order(a: &SortPlace, b: &SortPlace) -> Ordering
+fn place_order(a: &SortTerm, b: &SortTerm) -> Ordering
     ensures { result ≡ rule.place_cmp a.now b.now }
 {
     match (a, b) {
-        (SortPlace::Rising(x), SortPlace::Rising(y)) => rank_order(x, y),
-        (SortPlace::Rising(_), _) => Ordering::Less,
-        (SortPlace::Falling(_), SortPlace::Rising(_)) => Ordering::Greater,
-        (SortPlace::Falling(x), SortPlace::Falling(y)) => rank_order(y, x),
-        (SortPlace::Falling(_), SortPlace::Behind) => Ordering::Less,
-        (SortPlace::Behind, SortPlace::Behind) => Ordering::Equal,
-        (SortPlace::Behind, _) => Ordering::Greater,
+        (SortTerm::Rising(x), SortTerm::Rising(y)) => rank_order(x, y),
+        (SortTerm::Rising(_), _) => Ordering::Less,
+        (SortTerm::Falling(_), SortTerm::Rising(_)) => Ordering::Greater,
+        (SortTerm::Falling(x), SortTerm::Falling(y)) => rank_order(y, x),
+        (SortTerm::Falling(_), SortTerm::Behind) => Ordering::Less,
+        (SortTerm::Behind, SortTerm::Behind) => Ordering::Equal,
+        (SortTerm::Behind, _) => Ordering::Greater,
     }
 }
 
 /// How places for all items of SORT compare, the first that differ deciding.
-pub(crate) fn places_order(a: &[SortPlace], b: &[SortPlace]) -> Ordering
+pub(crate) fn places_order(a: &[SortTerm], b: &[SortTerm]) -> Ordering
     ensures { result ≡ rule.places_cmp a.now b.now }
 {
     let mut left = a;
@@ -71,7 +71,7 @@ pub(crate) fn places_order(a: &[SortPlace], b: &[SortPlace]) -> Ordering
 }
 
 // How what is found compares: by the places, and then by the full paths in octets.
-fn order(a: &Stand<'_>, b: &Stand<'_>) -> Ordering
+fn order(a: &MatchKey<'_>, b: &MatchKey<'_>) -> Ordering
     ensures { result ≡ found.match_cmp a.now b.now }
 {
     match places_order(a.footing.as_slice(), b.footing.as_slice()) {
@@ -81,7 +81,7 @@ fn order(a: &Stand<'_>, b: &Stand<'_>) -> Ordering
 }
 
 /// Puts what is found in order. Fails only for want of memory.
-pub(crate) fn sort_found(hits: &mut Vec<Finding<'_>>) -> Result<(), Memory>
+pub(crate) fn sort_found(hits: &mut Vec<Found<'_>>) -> Result<(), Memory>
     ensures { OnOk result (hits.new.items ≡ found.sorted_by found.match_lt hits.old.items) }
 {
     hits.sort_by(|a, b| order(&a.stand, &b.stand))?;
@@ -89,7 +89,7 @@ pub(crate) fn sort_found(hits: &mut Vec<Finding<'_>>) -> Result<(), Memory>
 }
 
 /// The same of what is found before anything is told of it.
-pub(crate) fn sort_stands(stands: &mut Vec<Stand<'_>>) -> Result<(), Memory>
+pub(crate) fn sort_stands(stands: &mut Vec<MatchKey<'_>>) -> Result<(), Memory>
     ensures { OnOk result (stands.new.items ≡ found.sorted_by found.match_lt stands.old.items) }
 {
     stands.sort_by(|a, b| order(a, b))?;

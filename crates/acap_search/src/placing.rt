@@ -2,11 +2,11 @@
 ghost use Rattle.std.specs.Prelude.{◌≡◌, IfOk};
 ghost use Rattle.acap_search.specs.Views.{standing_at, spot_in};
 
-use crate::query::Sought;
-use crate::rank::SortPlaces;
-use crate::spot::Spot;
-use crate::tuples::places_by;
-use crate::viewer::Viewer;
+use crate::dataset_view::DatasetView;
+use crate::entry_match::places_by;
+use crate::entry_view::EntryView;
+use crate::query::SearchSpec;
+use crate::sort_term::SortPlaces;
 use acap_entries::{EntryName, Memory, Records};
 use std::alloc::Global;
 
@@ -14,11 +14,11 @@ use std::alloc::Global;
 /// no hit is made. Fails only for want of memory.
 pub fn places_at<'a, R: Records>(
     alloc: Global,
-    by: &Viewer<'a, R>,
+    by: &DatasetView<'a, R>,
     name: &'a EntryName,
-    sought: &Sought,
+    sought: &SearchSpec,
 ) -> Result<SortPlaces, Memory>
     ensures { IfOk result (λ places. places ≡ standing_at sought.now (spot_in by.now name.now)) }
 {
-    places_by(alloc, &Spot::far(by, name), sought)
+    places_by(alloc, &EntryView::far(by, name), sought)
 }

@@ -8,7 +8,7 @@ use acap_entries::{Copying, Dataset, Memory, UserName};
 /// What a search over a dataset looks for, and what is told of each match (RFC 2244 section 6.4.1): all that a context keeps of
 /// the SEARCH that made it, and all that the list of its matches depends on.
 #[derive(Drop)]
-pub struct Sought {
+pub struct SearchSpec {
     /// The dataset, in which no component stands for the user.
     pub dataset: Dataset,
     /// DEPTH: how many levels of datasets are looked through, 0 standing for all; one where it isn't sent.
@@ -27,14 +27,14 @@ pub struct Sought {
 #[derive(Clone, Drop)]
 pub struct Query {
     /// What is looked for.
-    pub sought: Sought,
+    pub sought: SearchSpec,
     /// HARDLIMIT: with more matches than these the search fails.
     pub hard_limit: Option<u32>,
 }
 
 /// What a SEARCH over a dataset asks for (RFC 2244 section 6.4.1).
 #[derive(Drop)]
-pub struct Asked {
+pub struct SearchRequest {
     /// What is searched for.
     pub query: Query,
     /// LIMIT: how many matches are told.
@@ -43,7 +43,7 @@ pub struct Asked {
     pub make_context: Option<MakeContext>,
 }
 
-impl Asked {
+impl SearchRequest {
     /// What a user asks for by a SEARCH over a dataset, as it was sent: its parts are moved, and only the name of the dataset is
     /// copied, with the user's in place of a second component `~`. Fails only for want of memory.
     pub fn new(
@@ -51,7 +51,7 @@ impl Asked {
         dataset: &Dataset,
         modifiers: SearchModifiers,
         key: Key,
-    ) -> Result<Asked, Memory>
+    ) -> Result<SearchRequest, Memory>
         ensures { IfOk result (λ asked. asked ≡ asked_of user.now dataset.now modifiers key) }
     {
         let dataset = dataset.for_user(user)?;
@@ -64,9 +64,9 @@ impl Asked {
             returns,
             sort,
         } = modifiers;
-        Ok(Asked {
+        Ok(SearchRequest {
             query: Query {
-                sought: Sought {
+                sought: SearchSpec {
                     dataset,
                     depth,
                     no_inherit,
@@ -82,15 +82,15 @@ impl Asked {
     }
 }
 
-impl Clone for Sought {
+impl Clone for SearchSpec {
     ghost is_clone = { λ x y. y ≡ x };
 
-    fn clone(&self) -> Result<Sought, Memory> {
+    fn clone(&self) -> Result<SearchSpec, Memory> {
         let dataset = self.dataset.copy()?;
         let sort = self.sort.copy()?;
         let returns = self.returns.copy()?;
         let key = self.key.copy()?;
-        Ok(Sought {
+        Ok(SearchSpec {
             dataset,
             depth: self.depth,
             no_inherit: self.no_inherit,
@@ -101,8 +101,8 @@ impl Clone for Sought {
     }
 }
 
-impl Copying for Sought {
-    fn copy(&self) -> Result<Sought, Memory> {
+impl Copying for SearchSpec {
+    fn copy(&self) -> Result<SearchSpec, Memory> {
         self.clone()
     }
 }

@@ -1,15 +1,15 @@
 //! What strings are compared by, made once for an entry.
 ghost use Rattle.std.specs.Prelude.{◌≡◌, ◌∷◌, [], IfOk};
 ghost use Rattle.acap_order.specs.Ranks.{upper_case};
-ghost use Rattle.acap_search.specs.Lying.{places_on};
+ghost use Rattle.acap_search.specs.PathRefs.{places_on};
 ghost use Rattle.acap_search.specs.Places as rule;
-ghost use Rattle.acap_search.specs.Shown as shown;
+ghost use Rattle.acap_search.specs.SeenValues as shown;
 ghost use Rattle.acap_search.specs.Views.{places_at};
 
-use crate::footing::Footing;
-use crate::looking::read;
-use crate::rank::{Rank, SortPlace, SortPlaces};
-use crate::spot::Spot;
+use crate::entry_view::EntryView;
+use crate::sort_key::SortKey;
+use crate::sort_term::{Rank, SortPlaces, SortTerm};
+use crate::values::read;
 use acap_commands::SortItem;
 use acap_entries::{Label, Memory, Octets, Records};
 use acap_inherit::Lent;
@@ -46,12 +46,12 @@ fn rank_of(alloc: Global, collation: Collation, text: &[u8]) -> Result<Rank, Mem
 }
 
 // In a direction.
-fn place_by(direction: Direction, rank: Rank) -> SortPlace
+fn place_by(direction: Direction, rank: Rank) -> SortTerm
     ensures { result ≡ rule.directed_place direction rank }
 {
     match direction {
-        Direction::Ascending => SortPlace::Rising(rank),
-        Direction::Descending => SortPlace::Falling(rank),
+        Direction::Ascending => SortTerm::Rising(rank),
+        Direction::Descending => SortTerm::Falling(rank),
     }
 }
 
@@ -60,15 +60,15 @@ fn place_of(
     alloc: Global,
     comparator: &Comparator,
     value: Option<Lent<'_>>,
-) -> Result<SortPlace, Memory>
+) -> Result<SortTerm, Memory>
     ensures { IfOk result (λ place. place ≡ rule.place_in comparator.now (shown.cell_of value.entry)) }
 {
     let text = match &value {
         Some(Lent::Name(text)) => *text,
         Some(Lent::Single(text)) => text.as_slice(),
         Some(Lent::Stamp(digits)) => digits.as_slice(),
-        Some(Lent::Multi(_)) => return Ok(SortPlace::Behind),
-        None => return Ok(SortPlace::Behind),
+        Some(Lent::Multi(_)) => return Ok(SortTerm::Behind),
+        None => return Ok(SortTerm::Behind),
     };
     let rank = rank_of(alloc, comparator.collation, text)?;
     Ok(place_by(comparator.direction, rank))
@@ -77,9 +77,9 @@ fn place_of(
 // Where an entry stands for an item of SORT.
 fn place_at<R: Records>(
     alloc: Global,
-    spot: &Spot<'_, R>,
+    spot: &EntryView<'_, R>,
     item: &SortItem,
-) -> Result<SortPlace, Memory>
+) -> Result<SortTerm, Memory>
     ensures { IfOk result (λ place. place ∷ [] ≡ places_at spot.now (item.now ∷ [])) }
 {
     let seen = read(spot, item.attribute.as_slice());
@@ -89,7 +89,7 @@ fn place_at<R: Records>(
 /// Where an entry stands for each item of SORT. Fails only for want of memory.
 pub(crate) fn places_of<R: Records>(
     alloc: Global,
-    spot: &Spot<'_, R>,
+    spot: &EntryView<'_, R>,
     sort: &[SortItem],
 ) -> Result<SortPlaces, Memory>
     ensures { IfOk result (λ places. places ≡ places_at spot.now sort.now) }
@@ -104,13 +104,13 @@ pub(crate) fn places_of<R: Records>(
 /// As `places_of`, and for an only item in no memory of its own.
 pub(crate) fn footing_of<R: Records>(
     alloc: Global,
-    spot: &Spot<'_, R>,
+    spot: &EntryView<'_, R>,
     sort: &[SortItem],
-) -> Result<Footing, Memory>
+) -> Result<SortKey, Memory>
     ensures { IfOk result (λ footing. places_on footing ≡ places_at spot.now sort.now) }
 {
     match sort {
-        [item] => Ok(Footing::Only(place_at(alloc, spot, item)?)),
-        _ => Ok(Footing::Each(places_of(alloc, spot, sort)?)),
+        [item] => Ok(SortKey::Only(place_at(alloc, spot, item)?)),
+        _ => Ok(SortKey::Each(places_of(alloc, spot, sort)?)),
     }
 }

@@ -2,11 +2,11 @@
 ghost use Rattle.std.specs.Prelude.{◌≡◌, ◌∷◌, [], IfOk, OnOk, map as each};
 ghost use Rattle.std.specs.FinMap as map;
 ghost use Rattle.acap_search.specs.Rows as rule;
-ghost use Rattle.acap_search.specs.Shown as shown;
+ghost use Rattle.acap_search.specs.SeenValues as shown;
 ghost use Rattle.acap_search.specs.Views.{acl_at, answers_of, data_at, item_at, items_at, stars_along, stars_among, stars_at, stars_by};
 
-use crate::looking::{is_nil, look, read};
-use crate::spot::Spot;
+use crate::entry_view::EntryView;
+use crate::values::{is_nil, look, read};
 use acap_commands::{Metadata, ReturnItem, ReturnName};
 use acap_entries::{
     Attribute, Cell, CellList, CellLists, Cells, Copying, Item, Items, Memory, Octets, Records,
@@ -61,7 +61,7 @@ fn value_of(alloc: Global, value: Option<Lent<'_>>) -> Result<Cell, Memory>
 }
 
 // The list of an attribute in the record of the searched dataset, if there is one.
-fn acl_of<R: Records>(spot: &Spot<'_, R>, attribute: &[u8]) -> Result<Cell, Memory>
+fn acl_of<R: Records>(spot: &EntryView<'_, R>, attribute: &[u8]) -> Result<Cell, Memory>
     ensures { IfOk result (λ cell. cell ≡ rule.list_cell (acl_at spot.now attribute.now)) }
 {
     let by = spot.by;
@@ -75,7 +75,7 @@ fn acl_of<R: Records>(spot: &Spot<'_, R>, attribute: &[u8]) -> Result<Cell, Memo
 }
 
 // The same where it is seen.
-fn seen_acl<R: Records>(spot: &Spot<'_, R>, attribute: &[u8]) -> Result<Cell, Memory>
+fn seen_acl<R: Records>(spot: &EntryView<'_, R>, attribute: &[u8]) -> Result<Cell, Memory>
     ensures { IfOk result (λ cell. cell ≡ rule.list_cell ((answers_of spot.now).acl attribute.now)) }
 {
     if look(spot, attribute).is_readable {
@@ -88,7 +88,7 @@ fn seen_acl<R: Records>(spot: &Spot<'_, R>, attribute: &[u8]) -> Result<Cell, Me
 // What is told of an attribute.
 fn datum<R: Records>(
     alloc: Global,
-    spot: &Spot<'_, R>,
+    spot: &EntryView<'_, R>,
     attribute: &[u8],
     wanted: Metadata,
 ) -> Result<Cell, Memory>
@@ -107,7 +107,7 @@ fn datum<R: Records>(
 #[tactic(auto, unfolding(crate::specs::Rows::data_of))]
 fn data_of<R: Records>(
     alloc: Global,
-    spot: &Spot<'_, R>,
+    spot: &EntryView<'_, R>,
     attribute: &[u8],
     wanted: &[Metadata],
 ) -> Result<CellList, Memory>
@@ -123,7 +123,7 @@ fn data_of<R: Records>(
 // Adds an attribute that begins with some octets and has a value that is seen.
 fn add_star<R: Records>(
     alloc: Global,
-    spot: &Spot<'_, R>,
+    spot: &EntryView<'_, R>,
     front: &[u8],
     attribute: &[u8],
     stars: &mut Table<bool>,
@@ -139,7 +139,7 @@ fn add_star<R: Records>(
 // Adds those of the attributes for which cells are kept.
 fn add_stars<R: Records>(
     alloc: Global,
-    spot: &Spot<'_, R>,
+    spot: &EntryView<'_, R>,
     front: &[u8],
     cells: &Cells,
     stars: &mut Table<bool>,
@@ -155,7 +155,7 @@ fn add_stars<R: Records>(
 // Adds those of the attributes in the record of one dataset.
 fn add_record_stars<R: Records>(
     alloc: Global,
-    spot: &Spot<'_, R>,
+    spot: &EntryView<'_, R>,
     front: &[u8],
     dataset: &[u8],
     stars: &mut Table<bool>,
@@ -172,7 +172,7 @@ fn add_record_stars<R: Records>(
 // Adds those of the attributes in the records along the chain.
 fn add_chain_stars<R: Records>(
     alloc: Global,
-    spot: &Spot<'_, R>,
+    spot: &EntryView<'_, R>,
     front: &[u8],
     stars: &mut Table<bool>,
 ) -> Result<(), Memory>
@@ -189,7 +189,7 @@ fn add_chain_stars<R: Records>(
 #[tactic(auto, unfolding(crate::specs::Rows::stars_of))]
 fn stars_of<R: Records>(
     alloc: Global,
-    spot: &Spot<'_, R>,
+    spot: &EntryView<'_, R>,
     front: &[u8],
 ) -> Result<Table<bool>, Memory>
     ensures { IfOk result (λ stars. stars ≡ stars_at spot.now front.now) }
@@ -204,7 +204,7 @@ fn stars_of<R: Records>(
 // What is told of each of some attributes.
 fn lists_of<R: Records>(
     alloc: Global,
-    spot: &Spot<'_, R>,
+    spot: &EntryView<'_, R>,
     stars: &Table<bool>,
     wanted: &[Metadata],
 ) -> Result<CellLists, Memory>
@@ -221,7 +221,7 @@ fn lists_of<R: Records>(
 #[tactic(auto, unfolding(crate::specs::Rows::data_of))]
 fn named_item<R: Records>(
     alloc: Global,
-    spot: &Spot<'_, R>,
+    spot: &EntryView<'_, R>,
     attribute: &[u8],
     wanted: &[Metadata],
 ) -> Result<Item, Memory>
@@ -237,7 +237,7 @@ fn named_item<R: Records>(
 // What one item of RETURN tells.
 fn item_of<R: Records>(
     alloc: Global,
-    spot: &Spot<'_, R>,
+    spot: &EntryView<'_, R>,
     asked: &ReturnItem,
 ) -> Result<Item, Memory>
     ensures { IfOk result (λ item. item ≡ item_at spot.now asked.now) }
@@ -255,7 +255,7 @@ fn item_of<R: Records>(
 // What the only item of RETURN tells.
 fn one_item<R: Records>(
     alloc: Global,
-    spot: &Spot<'_, R>,
+    spot: &EntryView<'_, R>,
     asked: &ReturnItem,
 ) -> Result<Items, Memory>
     ensures { IfOk result (λ items. items ≡ item_at spot.now asked.now ∷ []) }
@@ -267,7 +267,7 @@ fn one_item<R: Records>(
 // What each item of RETURN tells.
 fn all_items<R: Records>(
     alloc: Global,
-    spot: &Spot<'_, R>,
+    spot: &EntryView<'_, R>,
     returns: &[ReturnItem],
 ) -> Result<Vec<Item>, Memory>
     ensures { IfOk result (λ items. items.items ≡ items_at spot.now returns.now) }
@@ -282,7 +282,7 @@ fn all_items<R: Records>(
 /// What a RETURN tells of an entry that is looked at.
 pub(crate) fn items_of<R: Records>(
     alloc: Global,
-    spot: &Spot<'_, R>,
+    spot: &EntryView<'_, R>,
     returns: &[ReturnItem],
 ) -> Result<Items, Memory>
     ensures { IfOk result (λ items. items ≡ items_at spot.now returns.now) }

@@ -2,7 +2,7 @@
 ghost use Rattle.std.specs.Prelude.{◌≡◌};
 ghost use Rattle.acap_search.specs.Scoped as rule;
 
-use crate::query::Sought;
+use crate::query::SearchSpec;
 use crate::reaching::lies_within;
 use acap_entries::{Dataset, Records, is_same};
 use std::marker::Model;
@@ -42,7 +42,7 @@ impl<'a> Scope<'a> {
     }
 }
 
-impl Sought {
+impl SearchSpec {
     ghost use Rattle.acap_search.specs.Scopes.{scope_of};
 
     /// Where it looks.

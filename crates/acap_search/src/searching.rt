@@ -7,14 +7,14 @@ ghost use Rattle.acap_search.specs.Gathering.{IsGathered, with_more};
 ghost use Rattle.acap_search.specs.Walks as walks;
 
 use crate::dataset_walk::add_in;
-use crate::finding::hits_of;
-use crate::gathered::Gathered;
+use crate::found::hits_of;
+use crate::found_matches::FoundMatches;
 use crate::hit::Hits;
 use crate::query::Query;
-use crate::quest::Quest;
 use crate::reaching::find_reached;
 use crate::refusal::SearchRefusal;
-use crate::wish::Wish;
+use crate::row_limit::RowLimit;
+use crate::walk::Walk;
 use acap_commands::{Key, Node, Test};
 use acap_entries::{Memory, Path, Record, Steps, Tree, UserName};
 use acap_inherit::names_law;
@@ -46,14 +46,14 @@ pub(crate) fn is_over(most: Option<u32>, count: usize) -> bool
 }
 
 // Adds what is found in the dataset that an entry makes, where that is reached in so many levels.
-#[tactic(auto, using(crate::proofs::GatheredLemmas::gathered_none), unfolding(crate::specs::Walks::hits_by, crate::specs::Walks::count_by))]
+#[tactic(auto, using(crate::proofs::FoundLemmas::gathered_none), unfolding(crate::specs::Walks::hits_by, crate::specs::Walks::count_by))]
 fn add_reached<'a, L: Ledger>(
     alloc: Global,
-    search: &Quest<'a>,
+    search: &Walk<'a>,
     depth: u32,
     path: &Path,
     entry: &Record,
-    found: &mut Gathered<'a>,
+    found: &mut FoundMatches<'a>,
     steps: &mut Steps<L>,
 ) -> Result<(), Memory>
     ensures count { IsCounted result steps.old steps.new
@@ -68,12 +68,12 @@ fn add_reached<'a, L: Ledger>(
 }
 
 // Adds what is found beneath the searched dataset, in so many levels: with one level nothing, and nothing is walked through.
-#[tactic(auto, using(crate::proofs::GatheredLemmas::gathered_twice))]
+#[tactic(auto, using(crate::proofs::FoundLemmas::gathered_twice))]
 fn add_beneath<'a, L: Ledger>(
     alloc: Global,
-    search: &Quest<'a>,
+    search: &Walk<'a>,
     depth: u32,
-    found: &mut Gathered<'a>,
+    found: &mut FoundMatches<'a>,
     steps: &mut Steps<L>,
 ) -> Result<(), Memory>
     ensures count { IsCounted result steps.old steps.new (walks.count_beneath search.now depth) }
@@ -89,13 +89,13 @@ fn add_beneath<'a, L: Ledger>(
 }
 
 // What is found, in the order of the store, beside nothing yet.
-#[tactic(auto, using(crate::proofs::GatheredLemmas::gathered_twice), unfolding(crate::specs::Walks::count_over))]
+#[tactic(auto, using(crate::proofs::FoundLemmas::gathered_twice), unfolding(crate::specs::Walks::count_over))]
 fn walk<'a, L: Ledger>(
     alloc: Global,
-    search: &Quest<'a>,
-    none: Gathered<'a>,
+    search: &Walk<'a>,
+    none: FoundMatches<'a>,
     steps: &mut Steps<L>,
-) -> Result<Gathered<'a>, Memory>
+) -> Result<FoundMatches<'a>, Memory>
     ensures count { IsCounted result steps.old steps.new (walks.count_over search.now) }
     ensures found { IfOk result
         (λ found. found ≡ with_more none.entry (walks.hits_over search.now)) }
@@ -110,7 +110,7 @@ fn walk<'a, L: Ledger>(
 }
 
 // Whether all comes in order.
-fn is_in_order(search: &Quest<'_>) -> bool
+fn is_in_order(search: &Walk<'_>) -> bool
     ensures depth { IsTrue result → search.now.sought.depth ≡ None }
     ensures sort { IsTrue result → search.now.sought.sort ≡ None }
 {
@@ -122,35 +122,35 @@ fn is_in_order(search: &Quest<'_>) -> bool
 #[tactic(auto, using(crate::proofs::CountingLemmas::count_over_is))]
 fn find_by<'a, L: Ledger>(
     alloc: Global,
-    search: &Quest<'a>,
-    wish: Wish,
+    search: &Walk<'a>,
+    wish: RowLimit,
     steps: &mut Steps<L>,
-) -> Result<Gathered<'a>, Memory>
+) -> Result<FoundMatches<'a>, Memory>
     ensures count { IsCounted result steps.old steps.new (walks.paths_by search.now) }
     ensures found { IfOk result (λ found. IsGathered wish found (walks.matches_by search.now)) }
 {
     names_law();
     if is_in_order(search) {
-        let found = walk(alloc, search, Gathered::in_order(alloc, wish), steps)?;
+        let found = walk(alloc, search, FoundMatches::in_order(alloc, wish), steps)?;
         return Ok(found);
     }
-    let found = walk(alloc, search, Gathered::in_turn(alloc, wish), steps)?;
+    let found = walk(alloc, search, FoundMatches::in_turn(alloc, wish), steps)?;
     let sorted = found.sort()?;
     Ok(sorted)
 }
 
 /// What is answered to a search over a dataset: all that it finds, whose paths need not be made, or enough of
 /// it to tell the first.
-#[tactic(auto, using(crate::proofs::GatheredLemmas::as_many, crate::proofs::RefusalLemmas::refused))]
+#[tactic(auto, using(crate::proofs::FoundLemmas::as_many, crate::proofs::RefusalLemmas::refused))]
 pub(crate) fn answer<'a, L: Ledger>(
     alloc: Global,
     tree: &'a Tree,
     realm: &'a Realm,
     user: &'a UserName,
     query: &'a Query,
-    wish: Wish,
+    wish: RowLimit,
     steps: &mut Steps<L>,
-) -> Result<Gathered<'a>, SearchRefusal>
+) -> Result<FoundMatches<'a>, SearchRefusal>
     ensures count { IsCounted result steps.old steps.new (paths_count tree.now.store query.now.sought) }
     ensures found { let records = tree.now.store.records in
         IsAnswer records realm.now user.now query.now (IsGathered wish) result }
@@ -161,7 +161,7 @@ pub(crate) fn answer<'a, L: Ledger>(
     if !tree.dataset_exists(query.sought.dataset.as_slice()) {
         return Err(SearchRefusal::NoExist);
     }
-    let search = Quest {
+    let search = Walk {
         tree,
         realm,
         user,
@@ -189,7 +189,7 @@ pub fn fresh<L: Ledger>(
     ensures count { IsCounted result steps.old steps.new (paths_count tree.now.store query.now.sought) }
     ensures found { IsAnswer tree.now.store.records realm.now user.now query.now (λ h m. h ≡ m) result }
 {
-    match answer(alloc, tree, realm, user, query, Wish::All, steps) {
+    match answer(alloc, tree, realm, user, query, RowLimit::All, steps) {
         Ok(found) => match hits_of(alloc, found.into_findings(alloc)) {
             Ok(hits) => Ok(Hits::from_vec(hits)),
             Err(_) => Err(SearchRefusal::Memory),

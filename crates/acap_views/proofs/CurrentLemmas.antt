@@ -29,7 +29,7 @@ use Rattle.acap_rights.specs.declared.realm.Realm.{Realm}
 use Rattle.acap_search.specs.Fresh.{matches_of}
 use Rattle.acap_search.specs.Matches.{Match}
 use Rattle.acap_search.specs.Once.{OnceLaw}
-use Rattle.acap_search.specs.declared.query.Sought.{Sought}
+use Rattle.acap_search.specs.declared.query.SearchSpec.{SearchSpec}
 use Rattle.acap_search.proofs.SeenLemmas.{first_or, nowhere, either}
 use Rattle.acap_search.proofs.OnceLemmas.{from_made}
 use Rattle.acap_views.specs.Changing.{IsSoundStep, sight_for, follows, changed_context, changed_occupant, changed_seats}
@@ -98,7 +98,7 @@ unfolding IsDistinct
 each_once [] d = refl
 each_once (m ∷ ms) d = (λ i. not ((held_is m.row.name ms ∙ d.0) i) && is_each_once (rows ms)) ∙ each_once ms d.1
 
-rows_once : OnceLaw → (store : Store) (realm : Realm) (user : List ℕ) (sought : Sought) → IsSoundStore store.records → dataset_exists store.records sought.dataset ≡ true → IsEachOnce (rows (matches_of store.records realm user sought))
+rows_once : OnceLaw → (store : Store) (realm : Realm) (user : List ℕ) (sought : SearchSpec) → IsSoundStore store.records → dataset_exists store.records sought.dataset ≡ true → IsEachOnce (rows (matches_of store.records realm user sought))
 rows_once law store realm user sought sound exists =
     record { once = each_once _ (distinct _ (law.names store.records realm user sought sound exists)) }
 

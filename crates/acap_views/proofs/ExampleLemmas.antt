@@ -8,7 +8,7 @@ use Rattle.std.proofs.Math.Bool.{and-false}
 use Rattle.acap_entries.specs.Orders.{octets_cmp}
 use Rattle.acap_notices.specs.declared.told.Told.{Told}
 use Rattle.acap_notices.specs.declared.told.Told.TheVariants as told
-use Rattle.acap_search.specs.declared.query.Sought.{Sought}
+use Rattle.acap_search.specs.declared.query.SearchSpec.{SearchSpec}
 use Rattle.acap_views.specs.Telling.{fault_in, notes_of, updated_to, after_update, told_in_turn}
 use Rattle.acap_views.specs.declared.refusal.ViewRefusal.{ViewRefusal}
 use Rattle.acap_views.specs.declared.refusal.ViewRefusal.TheVariants as refusal
@@ -45,7 +45,7 @@ kept_examples = record {
 }
 
 -- what stands at a name
-at : (sought : Sought) (list : List Match) (one two : Notice) (name : List ℕ) → table.get (by_name sought list one two) name ≡ table.find octets_cmp name (four sought list one two)
+at : (sought : SearchSpec) (list : List Match) (one two : Notice) (name : List ℕ) → table.get (by_name sought list one two) name ≡ table.find octets_cmp name (four sought list one two)
 at sought list one two name = table.get-from_entries nat_list_cmp_total (four sought list one two) name
 
 abbrev fault_by : Option Context → Option ViewRefusal
@@ -60,7 +60,7 @@ at_after contexts name q last c e =
     ap (λ o. table.get (option_map_or (λ (c : Context). table.insert contexts name (updated_to last c)) o contexts) q) e
     ∙ table.get-insert nat_list_cmp_total contexts name (updated_to last c) q
 
-told_thrice : (sought : Sought) (list : List Match) (one two : Notice) (last : ℤ)
+told_thrice : (sought : SearchSpec) (list : List Match) (one two : Notice) (last : ℤ)
     → told_in_turn (by_name sought list one two) (codes "b" ∷ codes "a" ∷ codes "b" ∷ []) last
     ≡ told.Note (codes "b") two ∷ told.Upto (codes "b") last ∷ told.Note (codes "a") one ∷ told.Upto (codes "a") last ∷ told.Upto (codes "b") last ∷ []
 told_thrice sought list one two last =

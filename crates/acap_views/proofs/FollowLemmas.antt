@@ -24,12 +24,12 @@ use Rattle.acap_search.specs.Matches.{Match, match_cmp}
 use Rattle.acap_search.specs.Places.{places_cmp}
 use Rattle.acap_search.specs.Totals.{match_total}
 use Rattle.acap_search.specs.Tuples.{name_told}
-use Rattle.acap_search.specs.declared.rank.SortPlace.{SortPlace}
+use Rattle.acap_search.specs.declared.sort_term.SortTerm.{SortTerm}
 use Rattle.acap_search.proofs.SeenLemmas.{first_or, nowhere, either}
 use Rattle.acap_views.specs.Notices.{told_shape}
-use Rattle.acap_views.specs.Shifting.{Shift, standing, with_match, without_old, old_place, stands, from_one, after_shift, after_shifts, shift_notices, shifts_notices, tells_between, surely_tells, count_with, until_full}
+use Rattle.acap_views.specs.EntryUpdates.{EntryUpdate, standing, with_match, without_old, old_place, stands, from_one, after_shift, after_shifts, shift_notices, shifts_notices, tells_between, surely_tells, count_with, until_full}
 use Rattle.acap_views.proofs.PathLemmas.{IsIn, told_apart}
-use Rattle.acap_views.proofs.ShiftLemmas.{Unlike, IsApt, rises, left_of, finds_place, shift_is, told_is}
+use Rattle.acap_views.proofs.UpdateLemmas.{Unlike, IsApt, rises, left_of, finds_place, shift_is, told_is}
 use Rattle.acap_views.proofs.StayLemmas.{stays, untold}
 
 from_with : (come : Match) (es : List Match) (x : Match) → Contains (with_item match_cmp come es) x → (come ≡ x) ⊎ Contains es x
@@ -94,11 +94,11 @@ abbrev pub Apart : List Path → Type 0
 Apart [] = Unit {0}
 Apart (p ∷ ps) = ((q : Path) → Contains ps q → p ≡ q → ⊥) × Apart ps
 
-module _ (dataset : List ℕ) (depth : Option ℕ) (was : Path → List SortPlace) (come : Path → Option Match) where
+module _ (dataset : List ℕ) (depth : Option ℕ) (was : Path → List SortTerm) (come : Path → Option Match) where
   abbrev pub told : Path → Name
   told = name_told depth
 
-  abbrev pub shift_by : Path → Shift
+  abbrev pub shift_by : Path → EntryUpdate
   shift_by p = record { name = told p; old = standing p (was p); come = come p }
 
   abbrev pub move_of : Path → Move Match
@@ -197,12 +197,12 @@ module _ (dataset : List ℕ) (depth : Option ℕ) (was : Path → List SortPlac
       ((λ i. tells_between (stood_is i) (place i)) ∙ e)
 
   -- what is made of some comes to what all come to, or more notices would wait than may: with those that are made, and with all
-  abbrev pub Suffices : Bool → ℕ → List Shift → List Shift → List Match → Type 0
+  abbrev pub Suffices : Bool → ℕ → List EntryUpdate → List EntryUpdate → List Match → Type 0
   Suffices enumerated count made all hits =
       ((after_shifts made hits ≡ after_shifts all hits) × (shifts_notices enumerated made hits ≡ shifts_notices enumerated all hits))
       ⊎ ((most_waiting < count + length (shifts_notices enumerated made hits)) × (most_waiting < count + length (shifts_notices enumerated all hits)))
 
-  one_suffices : (enumerated : Bool) (count next : ℕ) (shift : Shift) (made all : List Shift) (hits : List Match) → next ≤ count + length (shift_notices enumerated shift hits)
+  one_suffices : (enumerated : Bool) (count next : ℕ) (shift : EntryUpdate) (made all : List EntryUpdate) (hits : List Match) → next ≤ count + length (shift_notices enumerated shift hits)
       → Suffices enumerated next made all (after_shift shift hits) → Suffices enumerated count (shift ∷ made) (shift ∷ all) hits
   one_suffices enumerated count next shift made all hits h (inl e) = inl (e.0, ap (λ ns. shift_notices enumerated shift hits ++ ns) e.1)
   one_suffices enumerated count next shift made all hits h (inr over) =
@@ -213,7 +213,7 @@ module _ (dataset : List ℕ) (depth : Option ℕ) (was : Path → List SortPlac
       )
 
   -- one that leaves the list as it is and tells nothing may be left out
-  none_suffices : (enumerated : Bool) (count : ℕ) (shift : Shift) (made all : List Shift) (hits : List Match) → after_shift shift hits ≡ hits → shift_notices enumerated shift hits ≡ []
+  none_suffices : (enumerated : Bool) (count : ℕ) (shift : EntryUpdate) (made all : List EntryUpdate) (hits : List Match) → after_shift shift hits ≡ hits → shift_notices enumerated shift hits ≡ []
       → Suffices enumerated count made all (after_shift shift hits) → Suffices enumerated count made (shift ∷ all) hits
   none_suffices enumerated count shift made all hits same none (inl e) =
       inl (
@@ -227,7 +227,7 @@ module _ (dataset : List ℕ) (depth : Option ℕ) (was : Path → List SortPlac
       )
 
   -- so it does of those that are due, where all others are found again as they were
-  pub suffices : (due : Shift → Bool) (enumerated : Bool) (first : List Match) (ps : List Path) (hits : List Match) (count : ℕ)
+  pub suffices : (due : EntryUpdate → Bool) (enumerated : Bool) (first : List Match) (ps : List Path) (hits : List Match) (count : ℕ)
       → AreNamed hits → ((p : Path) → Contains ps p → IsAsked p) → ((p : Path) → Contains ps p → StoodThere hits p) → Apart ps
       → ((p : Path) → Contains ps p → item_at match_cmp (standing p (was p)) hits ≡ item_at match_cmp (standing p (was p)) first)
       → ((p : Path) → due (shift_by p) ≡ false → item_at match_cmp (standing p (was p)) first ≡ come p)

@@ -15,7 +15,7 @@ use Rattle.acap_views.specs.Keeping.{RoomyContext, RoomyContexts, RoomyOccupant,
 use Rattle.acap_views.specs.Listing.{as_contexts, as_seated, bare, bare_seat}
 use Rattle.acap_views.specs.Preparing.{context_after, contexts_after, occupant_after, seats_after}
 use Rattle.acap_views.specs.Seats.{Occupant, Seated}
-use Rattle.acap_views.specs.Shifting.{Shift}
+use Rattle.acap_views.specs.EntryUpdates.{EntryUpdate}
 use Rattle.acap_views.specs.Followed.{EachFits, FitsContext, FitsSeat, IsRoomySeat}
 use Rattle.acap_views.proofs.InPlaceLemmas.{keys_kept, listed_from, same_order}
 use Rattle.acap_views.proofs.KeepingLemmas.{listed_entries, seats_from}
@@ -147,18 +147,18 @@ module _ {E B : Type 0} (f : E → B) where
 
 -- ---- contexts and seats
 
-abbrev pub context_turn : List Shift → List ℕ × Context → List ℕ × Context
+abbrev pub context_turn : List EntryUpdate → List ℕ × Context → List ℕ × Context
 context_turn shifts entry = (entry.0, context_after shifts entry.1)
 
-abbrev pub seat_turn : List (List Shift) → ℕ × Occupant → ℕ × Occupant
+abbrev pub seat_turn : List (List EntryUpdate) → ℕ × Occupant → ℕ × Occupant
 seat_turn turns entry = (entry.0, occupant_after turns entry.1)
 
-pub contexts_is : (turns : List (List Shift)) (contexts : List (List ℕ × Context)) → after_each context_turn turns contexts ≡ contexts_after turns contexts
+pub contexts_is : (turns : List (List EntryUpdate)) (contexts : List (List ℕ × Context)) → after_each context_turn turns contexts ≡ contexts_after turns contexts
 contexts_is [] contexts = refl
 contexts_is (shifts ∷ turns) [] = refl
 contexts_is (shifts ∷ turns) (c ∷ contexts) = ap (λ t. context_turn shifts c ∷ t) (contexts_is turns contexts)
 
-pub seats_is : (turns : List (List (List Shift))) (seats : List (ℕ × Occupant)) → after_each seat_turn turns seats ≡ seats_after turns seats
+pub seats_is : (turns : List (List (List EntryUpdate))) (seats : List (ℕ × Occupant)) → after_each seat_turn turns seats ≡ seats_after turns seats
 seats_is [] seats = refl
 seats_is (at_seat ∷ turns) [] = refl
 seats_is (at_seat ∷ turns) (s ∷ seats) = ap (λ t. seat_turn at_seat s ∷ t) (seats_is turns seats)
@@ -178,7 +178,7 @@ module _ {S K X : Type 0} (R : K → K → Ordering) (h : S → X → X) where
   sorted_after (s ∷ ss) [] = refl
   sorted_after (s ∷ ss) (e ∷ es) = λ i. below_after e.0 ss es i && sorted_after ss es i
 
-module _ (turns : List (List Shift)) (es now : List (List ℕ × RoomyContext)) (h : InOrder octets_cmp es) (n : each bare now ≡ contexts_after turns (each bare es)) where
+module _ (turns : List (List EntryUpdate)) (es now : List (List ℕ × RoomyContext)) (h : InOrder octets_cmp es) (n : each bare now ≡ contexts_after turns (each bare es)) where
   pub turned_order : InOrder octets_cmp now
   turned_order = keys_kept now es (ap (is_sorted octets_cmp) (n ∙ sym (contexts_is turns (each bare es))) ∙ sorted_after octets_cmp context_after turns (each bare es)) h
 
@@ -201,19 +201,19 @@ same_occupant es now old user h n u v = λ i. record {
   contexts = (listed_from now (same_order now es n h) ∙ (ap (λ (xs : List (List ℕ × Context)). table.from_entries xs) n ∙ (sym (listed_from es h) ∙ ap contexts_in v))) i;
 }
 
-pub fits_entries : (turns : List (List Shift)) (es : List (List ℕ × RoomyContext)) (o : RoomyOccupant) → InOrder octets_cmp es → table.from_sorted es ≡ o.contexts
+pub fits_entries : (turns : List (List EntryUpdate)) (es : List (List ℕ × RoomyContext)) (o : RoomyOccupant) → InOrder octets_cmp es → table.from_sorted es ≡ o.contexts
     → IsRoomySeat turns o → EachFits FitsContext turns es
 fits_entries turns es o h v r =
     subst (λ (xs : List (List ℕ × RoomyContext)). EachFits FitsContext turns xs) (sym (ap (λ (cs : RoomyContexts). table.entries cs) v) ∙ table.entries-from_sorted octets_cmp es (sorted octets_cmp es h)) r
 
-pub fits_made : (turns : List (List Shift)) (es : List (List ℕ × RoomyContext)) → InOrder octets_cmp es
+pub fits_made : (turns : List (List EntryUpdate)) (es : List (List ℕ × RoomyContext)) → InOrder octets_cmp es
     → EachFits FitsContext turns es → EachFits FitsContext turns (table.entries (table.from_sorted {R = octets_cmp} es))
 fits_made turns es h r =
     subst (λ (xs : List (List ℕ × RoomyContext)). EachFits FitsContext turns xs) (sym (table.entries-from_sorted octets_cmp es (sorted octets_cmp es h))) r
 
 -- ---- all seats
 
-module _ (turns : List (List (List Shift))) (es now : List (ℕ × RoomyOccupant)) (h : InOrder nat_cmp es) (n : each bare_seat now ≡ seats_after turns (each bare_seat es)) where
+module _ (turns : List (List (List EntryUpdate))) (es now : List (ℕ × RoomyOccupant)) (h : InOrder nat_cmp es) (n : each bare_seat now ≡ seats_after turns (each bare_seat es)) where
   pub seats_turned : InOrder nat_cmp now
   seats_turned =
       in_order nat_cmp now
@@ -227,12 +227,12 @@ module _ (turns : List (List (List Shift))) (es now : List (ℕ × RoomyOccupant
       ∙ (ap (λ (xs : List (ℕ × Occupant)). table.from_entries xs) (n ∙ sym (ap (seats_after turns) (entries_kept nat_cmp_total nat_cmp-IsAntisymmetric occupant_in es h)))
       ∙ ap (λ (x : Seated). table.from_entries (seats_after turns (table.entries x))) v)
 
-pub seats_fit : (turns : List (List (List Shift))) (es : List (ℕ × RoomyOccupant)) (seats : table.FinMap nat_cmp RoomyOccupant) → InOrder nat_cmp es → table.from_sorted es ≡ seats
+pub seats_fit : (turns : List (List (List EntryUpdate))) (es : List (ℕ × RoomyOccupant)) (seats : table.FinMap nat_cmp RoomyOccupant) → InOrder nat_cmp es → table.from_sorted es ≡ seats
     → EachFits FitsSeat turns (table.entries seats) → EachFits FitsSeat turns es
 seats_fit turns es seats h v r =
     subst (λ (xs : List (ℕ × RoomyOccupant)). EachFits FitsSeat turns xs) (sym (ap (λ (m : table.FinMap nat_cmp RoomyOccupant). table.entries m) v) ∙ table.entries-from_sorted nat_cmp es (sorted nat_cmp es h)) r
 
-pub seats_fit_made : (turns : List (List (List Shift))) (es : List (ℕ × RoomyOccupant)) → InOrder nat_cmp es
+pub seats_fit_made : (turns : List (List (List EntryUpdate))) (es : List (ℕ × RoomyOccupant)) → InOrder nat_cmp es
     → EachFits FitsSeat turns es → EachFits FitsSeat turns (table.entries (table.from_sorted {R = nat_cmp} es))
 seats_fit_made turns es h r =
     subst (λ (xs : List (ℕ × RoomyOccupant)). EachFits FitsSeat turns xs) (sym (table.entries-from_sorted nat_cmp es (sorted nat_cmp es h))) r

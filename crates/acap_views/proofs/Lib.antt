@@ -13,11 +13,11 @@ pub mod WaitingLemmas
 pub mod SeatBitLemmas
 pub mod ClientLemmas
 pub mod RangingLemmas
-pub mod ShiftLemmas
+pub mod UpdateLemmas
 pub mod StayLemmas
 pub mod SeekLemmas
 pub mod FollowLemmas
-pub mod LoopShiftLemmas
+pub mod LoopUpdateLemmas
 pub mod UndoLemmas
 pub mod IdleLemmas
 pub mod TouchingLemmas

@@ -41,7 +41,7 @@ use Rattle.acap_search.specs.Sight.{is_seen}
 use Rattle.acap_search.specs.Touched.{TouchedLaw}
 use Rattle.acap_search.specs.Touched as search
 use Rattle.acap_search.specs.Tuples.{name_told, match_of}
-use Rattle.acap_search.specs.declared.query.Sought.{Sought}
+use Rattle.acap_search.specs.declared.query.SearchSpec.{SearchSpec}
 use Rattle.acap_search.proofs.OnceLemmas.{scope_law}
 use Rattle.acap_search.proofs.SeenLemmas.{named as name_seen, first_or, nowhere, either, in_map, in_filter, from_filter, same_name}
 use Rattle.acap_search.proofs.TupleLemmas.{from_among as from_paths, made_is}
@@ -89,7 +89,7 @@ same_answers None (Some m) f g = g m refl
 same_answers (Some m) b f g = sym (f m refl)
 
 -- what is seen is split at its last slash
-pub split_seen : NothingLaw → NamesLaw → SeenLaw → (store : Store) (realm : Realm) (user : List ℕ) (sought : Sought) → IsSoundStore store.records → dataset_exists store.records sought.dataset ≡ true
+pub split_seen : NothingLaw → NamesLaw → SeenLaw → (store : Store) (realm : Realm) (user : List ℕ) (sought : SearchSpec) → IsSoundStore store.records → dataset_exists store.records sought.dataset ≡ true
     → (p : Path) → Contains (sight_for realm store user sought).paths p → IsSplit p
 split_seen nothing names seen store realm user sought sound exists p k =
     let chain : List (List ℕ) = chain_of store.records p.dataset sought.no_inherit in
@@ -101,7 +101,7 @@ split_seen nothing names seen store realm user sought sound exists p k =
       name = record_name store.records sound chain p.name (sym (names.names store.records chain p.name) ∙ name_seen nothing names store.records realm user (scope_of sought) p is);
     }
 
-module _ (nothing : NothingLaw) (names : NamesLaw) (listed : TouchedPathsLaw) (seen : SeenLaw) (unread : TouchedLaw) (changed : ChangedLaw) (found : FoundLaw) (written : Written) (old new : Store) (realm : Realm) (user : List ℕ) (sought : Sought) (taken : IsTaken written old new) (exists : dataset_exists old.records sought.dataset ≡ true) where
+module _ (nothing : NothingLaw) (names : NamesLaw) (listed : TouchedPathsLaw) (seen : SeenLaw) (unread : TouchedLaw) (changed : ChangedLaw) (found : FoundLaw) (written : Written) (old new : Store) (realm : Realm) (user : List ℕ) (sought : SearchSpec) (taken : IsTaken written old new) (exists : dataset_exists old.records sought.dataset ≡ true) where
   abbrev before : Sight
   before = sight_for realm old user sought
 

@@ -23,7 +23,7 @@ use Rattle.acap_search.specs.Once.{OnceLaw}
 use Rattle.acap_search.specs.Rows.{stars_of}
 use Rattle.acap_search.specs.Tuples.{name_told, match_of}
 use Rattle.acap_search.specs.Walks.{quest_of, hits_over}
-use Rattle.acap_search.specs.declared.query.Sought.{Sought}
+use Rattle.acap_search.specs.declared.query.SearchSpec.{SearchSpec}
 use Rattle.acap_search.proofs.FreshLemmas.{fresh_law}
 use Rattle.acap_search.proofs.OrderLemmas.{match_weak}
 use Rattle.acap_search.proofs.SeenLemmas.{in_map, in_filter}
@@ -42,12 +42,12 @@ use Rattle.acap_views.proofs.MovingLemmas.{same_answers}
 
 -- ---- tuples
 
-made_at : (sight : Sight) (sought : Sought) (p : Path) (m : Match) → tuple_of sight sought p ≡ Some m → (paths.is_among sight.paths p ≡ true) × ((m.path ≡ p) × (m.row.name ≡ name_told sought.depth p))
+made_at : (sight : Sight) (sought : SearchSpec) (p : Path) (m : Match) → tuple_of sight sought p ≡ Some m → (paths.is_among sight.paths p ≡ true) × ((m.path ≡ p) × (m.row.name ≡ name_told sought.depth p))
 made_at sight sought p m e =
     let made = made_is (paths.is_among sight.paths p) (holds sought.key None (sight.answers p)) (match_of sought p (sight.answers p) (stars_of (sight.answers p).read (sight.attributes p))) m e in
     (made.0, (ap (λ (m : Match). m.path) (sym made.1.1), ap (λ (m : Match). m.row.name) (sym made.1.1)))
 
-module _ (realm : Realm) (user : List ℕ) (sought : Sought) (store : Store) where
+module _ (realm : Realm) (user : List ℕ) (sought : SearchSpec) (store : Store) where
   abbrev sight : Sight
   sight = sight_for realm store user sought
 
@@ -81,10 +81,10 @@ module _ (realm : Realm) (user : List ℕ) (sought : Sought) (store : Store) whe
 
 -- ---- what has changed
 
-nothing : (old new : Sight) (sought : Sought) (p : Path) → paths.is_among old.paths p ≡ false → paths.is_among new.paths p ≡ false → same_tuple (tuple_of old sought p) (tuple_of new sought p) ≡ true
+nothing : (old new : Sight) (sought : SearchSpec) (p : Path) → paths.is_among old.paths p ≡ false → paths.is_among new.paths p ≡ false → same_tuple (tuple_of old sought p) (tuple_of new sought p) ≡ true
 nothing old new sought p k l = rw (k, l) refl
 
-pub in_both : (old new : Sight) (sought : Sought) (p : Path) → same_tuple (tuple_of old sought p) (tuple_of new sought p) ≡ false → Contains (paths_of_both old new) p
+pub in_both : (old new : Sight) (sought : SearchSpec) (p : Path) → same_tuple (tuple_of old sought p) (tuple_of new sought p) ≡ false → Contains (paths_of_both old new) p
 in_both old new sought p e =
     elim (paths.is_among old.paths p) as (λ b. paths.is_among old.paths p ≡ b → Contains (paths_of_both old new) p) [
       | true ↦ λ k. Contains-append_left old.paths _ p (from_among old.paths p k)
@@ -95,7 +95,7 @@ in_both old new sought p e =
     ] refl
 
 -- a name that isn't among the changed ones is that of no path whose tuple differs
-pub unchanged : (old new : Sight) (sought : Sought) (p : Path) → is_among (name_told sought.depth p) (changed_names sought old new) ≡ false → tuple_of old sought p ≡ tuple_of new sought p
+pub unchanged : (old new : Sight) (sought : SearchSpec) (p : Path) → is_among (name_told sought.depth p) (changed_names sought old new) ≡ false → tuple_of old sought p ≡ tuple_of new sought p
 unchanged old new sought p e =
     same_exact _ _ (elim (same_tuple (tuple_of old sought p) (tuple_of new sought p)) as (λ b. same_tuple (tuple_of old sought p) (tuple_of new sought p) ≡ b → b ≡ true) [
       | true ↦ λ t. refl
@@ -106,7 +106,7 @@ unchanged old new sought p e =
           absurd (cc (e, among_ascending (name_told sought.depth p) told ∙ among told _ (in_map (name_told sought.depth) (changed_paths sought old new) p kept)))
     ] refl)
 
-module _ (once : OnceLaw) (realm : Realm) (user : List ℕ) (sought : Sought) (old new : Store) (sound : IsSoundStep old new) (exists : dataset_exists old.records sought.dataset ≡ true) where
+module _ (once : OnceLaw) (realm : Realm) (user : List ℕ) (sought : SearchSpec) (old new : Store) (sound : IsSoundStep old new) (exists : dataset_exists old.records sought.dataset ≡ true) where
   abbrev before : Sight
   before = sight_for realm old user sought
 

@@ -31,12 +31,12 @@ use Rattle.acap_search.specs.Sight.{is_seen}
 use Rattle.acap_search.specs.Touched.{TouchedLaw}
 use Rattle.acap_search.specs.Tuples.{name_told, match_of}
 use Rattle.acap_search.specs.Views.{answers_of, stars_at}
-use Rattle.acap_search.specs.declared.query.Sought.{Sought}
-use Rattle.acap_search.specs.declared.rank.SortPlace.{SortPlace}
+use Rattle.acap_search.specs.declared.query.SearchSpec.{SearchSpec}
+use Rattle.acap_search.specs.declared.sort_term.SortTerm.{SortTerm}
 use Rattle.acap_search.proofs.OnceLemmas.{from_made, found_at, in_one, from_ordered}
 use Rattle.acap_search.proofs.SeenLemmas.{first_or, nowhere, either, in_map}
 use Rattle.acap_search.proofs.TupleLemmas.{made_is}
-use Rattle.acap_views.specs.Aheads.{Planned, store_ahead}
+use Rattle.acap_views.specs.PlannedChanges.{Planned, store_ahead}
 use Rattle.acap_views.specs.Changing.{sight_for, follows, changed_context, changed_occupant, changed_seats}
 use Rattle.acap_views.specs.Contexts.{Kept, Snapshot, Live, Freed, Context}
 use Rattle.acap_views.specs.Current.{IsCurrentKept, IsCurrentContext, IsCurrentOccupant, IsCurrent}
@@ -47,7 +47,7 @@ use Rattle.acap_views.specs.Plans.{live_shifts, shifts_in, needed_in, turns_by, 
 use Rattle.acap_views.specs.PreparedLaws.{PreparedLaw}
 use Rattle.acap_views.specs.Preparing.{seen_at, shift_for, shifts_if, shifts_for, needed_if, kept_after, context_after, contexts_after, occupant_after, seats_after, with_delta}
 use Rattle.acap_views.specs.Seats.{Occupant, Seated}
-use Rattle.acap_views.specs.Shifting.{Shift, after_shifts, shifts_notices, until_full, has_changed, few, due_among}
+use Rattle.acap_views.specs.EntryUpdates.{EntryUpdate, after_shifts, shifts_notices, until_full, has_changed, few, due_among}
 use Rattle.acap_views.specs.Work.{is_live, touched_for}
 use Rattle.acap_views.proofs.CurrentLemmas.{find_own}
 use Rattle.acap_views.proofs.FollowLemmas.{Apart, move_of, IsNamed, AreNamed, IsAsked, StoodThere, suffices, follow}
@@ -75,13 +75,13 @@ apart depth (p ∷ ps) a = (
 freed : (count : ℕ) (kept : Kept) → most_waiting < count → cond (nat_lt most_waiting count) Freed kept ≡ Freed
 freed count kept h = ap (λ b. cond b Freed kept) (lt-ltb _ _ h)
 
-all_of : (xs : List Shift) → filter (λ _. true) xs ≡ xs
+all_of : (xs : List EntryUpdate) → filter (λ _. true) xs ≡ xs
 all_of [] = refl
 all_of (x ∷ xs) = ap (λ t. x ∷ t) (all_of xs)
 
 module _ (nothing : NothingLaw) (names : NamesLaw) (listed : TouchedPathsLaw) (seen : SeenLaw) (unread : TouchedLaw) (changes : ChangedLaw) (found : FoundLaw) (tuples : TupleLaw) (hits : HitLaw) (moved : TouchedMovesLaw) where
   module _ (written : Written) (old new : Store) (realm : Realm) (user : List ℕ) (context : Context) (taken : IsTaken written old new) (exists : dataset_exists old.records context.sought.dataset ≡ true) where
-    abbrev sought : Sought
+    abbrev sought : SearchSpec
     sought = context.sought
 
     abbrev before : Sight
@@ -90,7 +90,7 @@ module _ (nothing : NothingLaw) (names : NamesLaw) (listed : TouchedPathsLaw) (s
     abbrev after : Sight
     after = sight_for realm new user sought
 
-    abbrev was : Path → List SortPlace
+    abbrev was : Path → List SortTerm
     was p = (shift_for old.records new.records realm user sought p).old.places
 
     abbrev come : Path → Option Match
@@ -176,13 +176,13 @@ module _ (nothing : NothingLaw) (names : NamesLaw) (listed : TouchedPathsLaw) (s
         ∙ ap (λ ms. follows (event_notices context.enumerated sought before after) ms (Live shown now pending)) followed.0)
     kept_is Freed i = refl
 
-    abbrev all : List Shift
+    abbrev all : List EntryUpdate
     all = each (shift_for old.records new.records realm user sought) looked
 
-    abbrev kept_by : List Match → List Match → List Notice → List Shift → Kept
+    abbrev kept_by : List Match → List Match → List Notice → List EntryUpdate → Kept
     kept_by shown now pending shifts = follows (shifts_notices context.enumerated shifts now) (after_shifts shifts now) (Live shown now pending)
 
-    due_at : (shown : List Match) (pending : List Notice) (due : Shift → Bool)
+    due_at : (shown : List Match) (pending : List Notice) (due : EntryUpdate → Bool)
         → ((p : Path) → due (shift_for old.records new.records realm user sought p) ≡ false → item_at match_cmp (shift_for old.records new.records realm user sought p).old last ≡ come p)
         → kept_by shown last pending (until_full last (length pending) (filter due all)) ≡ kept_by shown last pending all
     due_at shown pending due left = either
@@ -221,7 +221,7 @@ module _ (nothing : NothingLaw) (names : NamesLaw) (listed : TouchedPathsLaw) (s
       current.each e.0 e.1 (table.get-entries occupant.contexts e.0 ∙ find_own nat_list_cmp_total (table.entries occupant.contexts) e (true_from_T _ (table.entries_sorted occupant.contexts)) k)
 
   -- whatever is made for each context, true_from_T that it comes to the change of that one
-  module _ (plan : Planned) (made : List ℕ → Context → List Shift) (right : (user : List ℕ) (context : Context) → IsCurrentContext plan.old plan.realm user context
+  module _ (plan : Planned) (made : List ℕ → Context → List EntryUpdate) (right : (user : List ℕ) (context : Context) → IsCurrentContext plan.old plan.realm user context
       → context_after (made user context) context ≡ changed_context plan.realm plan.old (store_ahead plan) user context) where
     all_contexts : (user : List ℕ) (es : List (List ℕ × Context)) → ((e : List ℕ × Context) → Contains es e → IsCurrentContext plan.old plan.realm user e.1)
         → contexts_after (each (made user) (each (λ e. e.1) es)) es ≡ filter_map (λ e. option_map (λ y. (e.0, y)) (Some (changed_context plan.realm plan.old (store_ahead plan) user e.1))) es
@@ -254,7 +254,7 @@ module _ (nothing : NothingLaw) (names : NamesLaw) (listed : TouchedPathsLaw) (s
   sum_each f g h [] e = refl
   sum_each f g h (x ∷ xs) e = sum_by-cons f (g x) (each g xs) ∙ omega (arith, e x, sum_each f g h xs e, sum_by-cons h x xs)
 
-  count_if : (kept : Kept) (shifts : List Shift) → length (shifts_if kept shifts) ≡ cond (is_live kept) (length shifts) 0
+  count_if : (kept : Kept) (shifts : List EntryUpdate) → length (shifts_if kept shifts) ≡ cond (is_live kept) (length shifts) 0
   count_if (Snapshot shown) shifts = refl
   count_if (Live shown now pending) shifts = refl
   count_if Freed shifts = refl

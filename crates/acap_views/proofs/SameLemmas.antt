@@ -6,7 +6,7 @@ use Rattle.acap_entries.proofs.Equalities.{row_exact}
 use Rattle.acap_moves.specs.Notices.{same_row}
 use Rattle.acap_search.specs.Fresh.{same_path}
 use Rattle.acap_search.specs.Matches.{Match}
-use Rattle.acap_search.specs.contracts.rank.SortPlacePartialEq.TheImpl as place
+use Rattle.acap_search.specs.contracts.sort_term.SortTermPartialEq.TheImpl as place
 use Rattle.acap_search.proofs.EqualLemmas.{places_exact}
 use Rattle.acap_search.proofs.TupleLemmas.{itself, same_paths}
 use Rattle.acap_views.specs.Notices.{same_tuple}

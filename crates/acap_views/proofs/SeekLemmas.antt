@@ -8,8 +8,8 @@ use Rattle.acap_entries.proofs.Logic.{Contains-here, Contains-there, Equal_from_
 use Rattle.acap_search.specs.Matches.{Match, match_cmp}
 use Rattle.acap_search.specs.Totals.{match_total}
 use Rattle.acap_search.proofs.SeenLemmas.{first_or, nowhere, either}
-use Rattle.acap_views.specs.Seeking.{AreAmong, matches_left}
-use Rattle.acap_views.proofs.ShiftLemmas.{Rises, rises}
+use Rattle.acap_views.specs.HitCursors.{AreAmong, matches_left}
+use Rattle.acap_views.proofs.UpdateLemmas.{Rises, rises}
 
 -- those behind the first
 pub others_among : (matches : List Match) (next : Option (Bor Match)) (others : List Match) → AreAmong matches (matches_left next others) → AreAmong matches others

@@ -18,7 +18,7 @@ use Rattle.acap_notices.specs.declared.notice.Notice.{Notice}
 use Rattle.acap_rights.specs.declared.realm.Realm.{Realm}
 use Rattle.acap_search.specs.Fresh.{Sight, tuple_of, matches_of}
 use Rattle.acap_search.specs.Matches.{Match}
-use Rattle.acap_search.specs.declared.query.Sought.{Sought}
+use Rattle.acap_search.specs.declared.query.SearchSpec.{SearchSpec}
 use Rattle.acap_search.proofs.SeenLemmas.{first_or, nowhere, either, in_filter, from_filter}
 use Rattle.acap_views.specs.Changing.{sight_for, follows, changed_context, changed_occupant}
 use Rattle.acap_views.specs.Contexts.{Kept, Snapshot, Live, Freed, Context, Contexts}
@@ -190,27 +190,27 @@ shown_law = record {
 
 -- ---- what has changed
 
-abbrev differs : Sought → Sight → Sight → Path → Bool
+abbrev differs : SearchSpec → Sight → Sight → Path → Bool
 differs sought old new path = not (same_tuple (tuple_of old sought path) (tuple_of new sought path))
 
-changed_differs : (sought : Sought) (old new : Sight) (path : Path) → Contains (changed_paths sought old new) path → tuple_of old sought path ≢ tuple_of new sought path
+changed_differs : (sought : SearchSpec) (old new : Sight) (path : Path) → Contains (changed_paths sought old new) path → tuple_of old sought path ≢ tuple_of new sought path
 changed_differs sought old new path h e =
     let kept = from_filter (differs sought old new) (paths_of_both old new) path h in
     cc (kept.1, ap not (same_itself _ _ e))
 
-differs_changed : (sought : Sought) (old new : Sight) (path : Path) → tuple_of old sought path ≢ tuple_of new sought path → Contains (changed_paths sought old new) path
+differs_changed : (sought : SearchSpec) (old new : Sight) (path : Path) → tuple_of old sought path ≢ tuple_of new sought path → Contains (changed_paths sought old new) path
 differs_changed sought old new path n =
     elim (same_tuple (tuple_of old sought path) (tuple_of new sought path)) as (λ b. same_tuple (tuple_of old sought path) (tuple_of new sought path) ≡ b → Contains (changed_paths sought old new) path) [
       | true ↦ λ e. absurd (n (same_exact _ _ e))
       | false ↦ λ e. in_filter (differs sought old new) (paths_of_both old new) path (in_both old new sought path e) (ap not e)
     ] refl
 
-named_from : (sought : Sought) (old new : Sight) (name : Name) → Contains (changed_names sought old new) name → (path : Path) × (Contains (changed_paths sought old new) path × (name_told sought.depth path ≡ name))
+named_from : (sought : SearchSpec) (old new : Sight) (name : Name) → Contains (changed_names sought old new) name → (path : Path) × (Contains (changed_paths sought old new) path × (name_told sought.depth path ≡ name))
 named_from sought old new name h =
     let told : List Name = each (name_told sought.depth) (changed_paths sought old new) in
     from_map (name_told sought.depth) (changed_paths sought old new) name (from_among told name (sym (among_ascending name told) ∙ among (changed_names sought old new) name h))
 
-named_to : (sought : Sought) (old new : Sight) (name : Name) (path : Path) → Contains (changed_paths sought old new) path → name_told sought.depth path ≡ name → Contains (changed_names sought old new) name
+named_to : (sought : SearchSpec) (old new : Sight) (name : Name) (path : Path) → Contains (changed_paths sought old new) path → name_told sought.depth path ≡ name → Contains (changed_names sought old new) name
 named_to sought old new name path h e =
     let told : List Name = each (name_told sought.depth) (changed_paths sought old new) in
     let in_it : Contains told name = subst (λ n. Contains told n) e (in_map (name_told sought.depth) (changed_paths sought old new) path h) in

@@ -7,13 +7,13 @@ use Rattle.std.proofs.lemmas.Bool.{and_left, or_from}
 use Rattle.acap_entries.specs.declared.path.Path.{Path}
 use Rattle.acap_entries.proofs.Logic.{first_not, second_not, None_from_is_some}
 use Rattle.acap_inherit.specs.Reaching.{TouchesNoOther}
-use Rattle.acap_search.specs.declared.query.Sought.{Sought}
-use Rattle.acap_views.specs.Aheads.{Planned, store_ahead, reaching}
+use Rattle.acap_search.specs.declared.query.SearchSpec.{SearchSpec}
+use Rattle.acap_views.specs.PlannedChanges.{Planned, store_ahead, reaching}
 use Rattle.acap_views.specs.Contexts.{Kept, Snapshot, Live, Freed, Context}
 use Rattle.acap_views.specs.Keeping.{RoomyContext}
 use Rattle.acap_views.specs.Plans.{work_in, needed_in, is_still, unless_still}
 use Rattle.acap_views.specs.Preparing.{shift_for, shifts_if, needed_if}
-use Rattle.acap_views.specs.Shifting.{Shift, due_among}
+use Rattle.acap_views.specs.EntryUpdates.{EntryUpdate, due_among}
 use Rattle.acap_views.specs.Touching.{is_asked, looked_at_by, may_look, any_may_look, may_be_in, any_may_be_in}
 use Rattle.acap_views.specs.Work.{is_live}
 use Rattle.acap_views.proofs.TouchingLemmas.{in_no_dataset, says_touched}
@@ -24,7 +24,7 @@ alone_no true e = cc
 alone_no false e = refl
 
 -- a live context that may not look looks at nothing
-module _ (plan : Planned) (sought : Sought) where
+module _ (plan : Planned) (sought : SearchSpec) where
   none_looked : is_asked plan sought ≡ false → looked_at_by plan sought ≡ []
   none_looked e = sym (in_no_dataset plan sought (second_not (is_some sought.depth) _ e) (None_from_is_some sought.depth (first_not _ _ e)))
 
@@ -53,7 +53,7 @@ module _ (plan : Planned) (user : List ℕ) where
   all_still : (es : List (List ℕ × RoomyContext)) → any_may_look plan es ≡ false → is_still (each (shifts_there plan user) es) ≡ true
   all_still [] e = refl
   all_still (x ∷ es) e =
-      ap (λ (shifts : List Shift). (length shifts == 0) && is_still (each (shifts_there plan user) es)) (shifts_silent x.1.context (first_not _ _ e))
+      ap (λ (shifts : List EntryUpdate). (length shifts == 0) && is_still (each (shifts_there plan user) es)) (shifts_silent x.1.context (first_not _ _ e))
       ∙ all_still es (second_not (may_look plan x.1.context) _ e)
 
   pub no_turns : (es : List (List ℕ × RoomyContext)) → any_may_look plan es ≡ false → [] ≡ unless_still (each (shifts_there plan user) es)
@@ -62,7 +62,7 @@ module _ (plan : Planned) (user : List ℕ) where
 -- ---- where nothing is touched outside of a dataset
 
 module _ (plan : Planned) (only : List ℕ) (no_other : TouchesNoOther (reaching plan) only) where
-  not_asked : (sought : Sought) → may_be_in only sought ≡ false → is_asked plan sought ≡ false
+  not_asked : (sought : SearchSpec) → may_be_in only sought ≡ false → is_asked plan sought ≡ false
   not_asked sought e =
       or_from _ _ (first_not _ _ e)
       (sym (says_touched plan (reaching plan) sought.dataset false refl (no_other sought.dataset (second_not (is_some sought.depth) _ e))))

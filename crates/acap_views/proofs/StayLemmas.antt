@@ -12,8 +12,8 @@ use Rattle.acap_moves.specs.Notices.{notice_at, notice_between}
 use Rattle.acap_search.specs.Matches.{Match, match_cmp}
 use Rattle.acap_search.specs.Totals.{match_total}
 use Rattle.acap_views.specs.Notices.{told_shape}
-use Rattle.acap_views.specs.Shifting.{Shift, with_match, without_old, shift_notices, after_shift}
-use Rattle.acap_views.proofs.ShiftLemmas.{Rises, IsApt, all_kept, untied_behind, where_found, shift_is, told_is}
+use Rattle.acap_views.specs.EntryUpdates.{EntryUpdate, with_match, without_old, shift_notices, after_shift}
+use Rattle.acap_views.proofs.UpdateLemmas.{Rises, IsApt, all_kept, untied_behind, where_found, shift_is, told_is}
 
 -- ---- it is put where it stood
 
@@ -49,7 +49,7 @@ nothing_between true name (Some a) = rw (eq-eqb a.0 a.0 refl, (row_exact a.1.row
 nothing_between false name None = refl
 nothing_between false name (Some a) = rw ((row_exact a.1.row a.1.row).1 refl) refl
 
-module _ (shift : Shift) (hits : List Match) (apt : IsApt shift hits) (again : item_at match_cmp shift.old hits ≡ shift.come) where
+module _ (shift : EntryUpdate) (hits : List Match) (apt : IsApt shift hits) (again : item_at match_cmp shift.old hits ≡ shift.come) where
   pub stays : after_shift shift hits ≡ hits
   unfolding item_at
   stays = exchanged shift.old hits apt.rises shift.come again

@@ -14,7 +14,7 @@ use Rattle.acap_views.specs.Contexts.{Kept, Snapshot, Live, Freed, Context}
 use Rattle.acap_views.specs.Current.{IsCurrentKept, IsCurrentContext}
 use Rattle.acap_views.specs.Plans.{is_still, unless_still, shifts_count}
 use Rattle.acap_views.specs.Preparing.{kept_after, context_after, contexts_after}
-use Rattle.acap_views.specs.Shifting.{Shift}
+use Rattle.acap_views.specs.EntryUpdates.{EntryUpdate}
 
 none_more : (n : ℕ) (b : Bool) → n ≤ most_waiting → nat_lt most_waiting (n + 0) ≡ b → b ≡ false
 none_more n true h e = absurd (omega (arith, h, ltb-true _ _ e))
@@ -30,23 +30,23 @@ kept_still enumerated last (Live shown now pending) i =
     ap (λ b. cond b Freed (Live shown now (pending ++ []))) (none_more (length pending) _ i.few refl) ∙ ap (Live shown now) (none_added pending)
 kept_still enumerated last Freed i = refl
 
-no_shifts : (shifts : List Shift) → (length shifts == 0) ≡ true → shifts ≡ []
+no_shifts : (shifts : List EntryUpdate) → (length shifts == 0) ≡ true → shifts ≡ []
 no_shifts [] e = refl
 no_shifts (s ∷ shifts) e = absurd (omega (arith, eqb-true _ _ e))
 
 module _ (store : Store) (realm : Realm) (user : List ℕ) where
-  context_still : (shifts : List Shift) (context : Context) → (length shifts == 0) ≡ true → IsCurrentContext store realm user context → context_after shifts context ≡ context
+  context_still : (shifts : List EntryUpdate) (context : Context) → (length shifts == 0) ≡ true → IsCurrentContext store realm user context → context_after shifts context ≡ context
   context_still shifts context e i =
       ap (λ ss. context_after ss context) (no_shifts shifts e) ∙ (λ j. record context { kept = kept_still context.enumerated _ context.kept i.kept j })
 
-  contexts_still : (turns : List (List Shift)) (es : List (List ℕ × Context)) → is_still turns ≡ true → ((e : List ℕ × Context) → Contains es e → IsCurrentContext store realm user e.1)
+  contexts_still : (turns : List (List EntryUpdate)) (es : List (List ℕ × Context)) → is_still turns ≡ true → ((e : List ℕ × Context) → Contains es e → IsCurrentContext store realm user e.1)
       → contexts_after turns es ≡ es
   contexts_still [] es s i = refl
   contexts_still (shifts ∷ turns) [] s i = refl
   contexts_still (shifts ∷ turns) (e ∷ es) s i = λ j.
       (e.0, context_still shifts e.1 (first_so _ _ s) (i e (Contains-here e es)) j) ∷ contexts_still turns es (second_so _ _ s) (λ x k. i x (Contains-there e x es k)) j
 
-  pub contexts_trimmed : (turns : List (List Shift)) (es : List (List ℕ × Context)) → ((e : List ℕ × Context) → Contains es e → IsCurrentContext store realm user e.1)
+  pub contexts_trimmed : (turns : List (List EntryUpdate)) (es : List (List ℕ × Context)) → ((e : List ℕ × Context) → Contains es e → IsCurrentContext store realm user e.1)
       → contexts_after (unless_still turns) es ≡ contexts_after turns es
   contexts_trimmed turns es i = elim (is_still turns) as (λ b. is_still turns ≡ b → contexts_after (cond b [] turns) es ≡ contexts_after turns es) [
     | true ↦ λ s. sym (contexts_still turns es s i)
@@ -55,13 +55,13 @@ module _ (store : Store) (realm : Realm) (user : List ℕ) where
 
 -- and no entry is counted for it
 
-none_counted : (turns : List (List Shift)) → is_still turns ≡ true → shifts_count turns ≡ 0
+none_counted : (turns : List (List EntryUpdate)) → is_still turns ≡ true → shifts_count turns ≡ 0
 none_counted [] s = refl
 none_counted (shifts ∷ turns) s =
     let none : length shifts ≡ 0 = ap length (no_shifts shifts (first_so _ _ s)) in
     sum_by-cons length shifts turns ∙ omega (arith, none, none_counted turns (second_so _ _ s))
 
-pub count_trimmed : (turns : List (List Shift)) → shifts_count (unless_still turns) ≡ shifts_count turns
+pub count_trimmed : (turns : List (List EntryUpdate)) → shifts_count (unless_still turns) ≡ shifts_count turns
 count_trimmed turns = elim (is_still turns) as (λ b. is_still turns ≡ b → shifts_count (cond b [] turns) ≡ shifts_count turns) [
   | true ↦ λ s. sym (none_counted turns s)
   | false ↦ λ s. refl

@@ -24,11 +24,11 @@ use Rattle.acap_inherit.specs.Reaching.{Reaching, SaysWhether, AreTouchedAmong, 
 use Rattle.acap_inherit.specs.Touched.{ordered_among, touched_paths, datasets_touched}
 use Rattle.acap_search.specs.Scoped.{SaysWhether as SaysLooked}
 use Rattle.acap_search.specs.Scopes.{Scope, datasets_of, beneath}
-use Rattle.acap_search.specs.declared.query.Sought.{Sought}
+use Rattle.acap_search.specs.declared.query.SearchSpec.{SearchSpec}
 use Rattle.acap_search.proofs.SeenLemmas.{first_or, nowhere, either, at_first, in_map, same_name}
-use Rattle.acap_views.specs.Aheads.{Planned, store_ahead, reaching}
+use Rattle.acap_views.specs.PlannedChanges.{Planned, store_ahead, reaching}
 use Rattle.acap_views.specs.Touching.{touched_by, looks_at, looks_into, is_touched_in, looked_at_by, AreReached, ArePathsNoted}
-use Rattle.acap_views.specs.declared.noted.NotedPaths.{NotedPaths}
+use Rattle.acap_views.specs.declared.touched_cache.CachedPaths.{CachedPaths}
 use Rattle.acap_views.specs.Work.{is_looked_at}
 
 pub whether : (records : Stored) (scope : Scope) (dataset : List ℕ) (answer : Bool) → AreWellFormed records → SaysLooked records scope dataset answer
@@ -39,13 +39,13 @@ whether records scope dataset answer formed says =
     (λ e. (says formed).1 (Contains-from_any same_name dataset (datasets_of records scope) e))
 
 -- without DEPTH the one dataset is looked through
-alone : (records : Stored) (sought : Sought) → sought.depth ≡ None → (path : Path) → octets_eq sought.dataset path.dataset ≡ is_looked_at records sought path
+alone : (records : Stored) (sought : SearchSpec) → sought.depth ≡ None → (path : Path) → octets_eq sought.dataset path.dataset ≡ is_looked_at records sought path
 alone records sought none path =
     other_way sought.dataset path.dataset
     ∙ (sym (or-false (octets_eq path.dataset sought.dataset))
     ∙ sym (ap (λ depth. list_any (octets_eq path.dataset) (sought.dataset ∷ option_map_or (beneath records sought.dataset) depth [])) none))
 
-pub in_one_dataset : (change : Change) (old : Store) (sought : Sought) (paths : List Path) → AreTouchedAt change old sought.dataset paths → sought.depth ≡ None
+pub in_one_dataset : (change : Change) (old : Store) (sought : SearchSpec) (paths : List Path) → AreTouchedAt change old sought.dataset paths → sought.depth ≡ None
     → paths ≡ filter (is_looked_at (store_after change old).records sought) (touched_paths change.writes old.records (store_after change old).records)
 in_one_dataset change old sought paths at none =
     at (store_after change old) (value_after change old)
@@ -80,7 +80,7 @@ none_kept : (p : Path → Bool) (xs : List Path) → ((x : Path) → Contains xs
 none_kept p [] h = refl
 none_kept p (x ∷ xs) h = rw (h x (Contains-here x xs)) (none_kept p xs (λ y k. h y (Contains-there x y xs k)))
 
-pub in_no_dataset : (plan : Planned) (sought : Sought) → is_touched_in plan sought.dataset ≡ false → sought.depth ≡ None → [] ≡ looked_at_by plan sought
+pub in_no_dataset : (plan : Planned) (sought : SearchSpec) → is_touched_in plan sought.dataset ≡ false → sought.depth ≡ None → [] ≡ looked_at_by plan sought
 in_no_dataset plan sought lacks none =
     let new = store_ahead plan in
     sym (none_kept (is_looked_at new.records sought) _ (λ path k.
@@ -123,7 +123,7 @@ both_kept f g (x ∷ xs) =
     ]
 
 -- what is touched in those of the datasets through which a search looks is what it looks at
-pub in_all : (plan : Planned) (reach : Reaching) (sought : Sought) (datasets looked : List (List ℕ)) (paths : List Path) → reach ≡ reaching plan → AreReached plan datasets
+pub in_all : (plan : Planned) (reach : Reaching) (sought : SearchSpec) (datasets looked : List (List ℕ)) (paths : List Path) → reach ≡ reaching plan → AreReached plan datasets
     → looked ≡ filter (looks_into plan sought) datasets → AreTouchedAmong reach looked paths → paths ≡ looked_at_by plan sought
 in_all plan reach sought datasets looked paths same are e among =
     let new = store_ahead plan in
@@ -136,7 +136,7 @@ in_all plan reach sought datasets looked paths same are e among =
 
 -- ---- a dataset of which they are kept
 
-pub known_is : (plan : Planned) (sought : Sought) (last : Option NotedPaths) (known : NotedPaths) → last ≡ Some known → ArePathsNoted plan last → known.dataset.now ≡ sought.dataset → sought.depth ≡ None
+pub known_is : (plan : Planned) (sought : SearchSpec) (last : Option CachedPaths) (known : CachedPaths) → last ≡ Some known → ArePathsNoted plan last → known.dataset.now ≡ sought.dataset → sought.depth ≡ None
     → known.paths ≡ looked_at_by plan sought
 known_is plan sought last known e is same none =
     in_one_dataset plan.change plan.old sought known.paths

@@ -11,16 +11,16 @@ use Rattle.acap_entries.specs.Sorted.{InOrder}
 use Rattle.std.specs.Result.{IsErr}
 use Rattle.acap_entries.specs.declared.path.Path.{Path}
 use Rattle.acap_search.specs.Counting.{IsCounted}
-use Rattle.acap_search.specs.declared.query.Sought.{Sought}
-use Rattle.acap_views.specs.Aheads.{Planned, store_ahead}
+use Rattle.acap_search.specs.declared.query.SearchSpec.{SearchSpec}
+use Rattle.acap_views.specs.PlannedChanges.{Planned, store_ahead}
 use Rattle.acap_views.specs.Contexts.{Context}
 use Rattle.acap_views.specs.Keeping.{RoomyContext, RoomyContexts, RoomyOccupant, contexts_in, occupant_in}
 use Rattle.acap_views.specs.Listing.{as_seated, bare, bare_seat}
 use Rattle.acap_views.specs.Plans.{live_shifts, work_in, needed_in, work_at, turns_by, unless_still, work_of, needed_of}
 use Rattle.acap_views.specs.Preparing.{shift_for}
-use Rattle.acap_views.specs.Scenes.{Scene, shift_in}
+use Rattle.acap_views.specs.ContextViews.{ContextView, shift_in}
 use Rattle.acap_views.specs.Seats.{Occupant, Seated}
-use Rattle.acap_views.specs.Shifting.{Shift}
+use Rattle.acap_views.specs.EntryUpdates.{EntryUpdate}
 use Rattle.acap_views.specs.Touching.{looked_at_by}
 use Rattle.acap_views.proofs.KeepingLemmas.{listed_entries}
 use Rattle.acap_views.proofs.ValueLemmas.{entries_kept}
@@ -47,13 +47,13 @@ each_each f k (x ∷ xs) = ap (λ t. k (f x) ∷ t) (each_each f k xs)
 abbrev pub work_there : Planned → List ℕ × RoomyContext → ℕ
 work_there plan entry = work_in plan entry.1.context
 
-abbrev pub shifts_there : Planned → List ℕ → List ℕ × RoomyContext → List Shift
+abbrev pub shifts_there : Planned → List ℕ → List ℕ × RoomyContext → List EntryUpdate
 shifts_there plan user entry = needed_in plan user entry.1.context
 
 abbrev pub seat_work : Planned → ℕ × RoomyOccupant → ℕ
 seat_work plan entry = work_at plan (occupant_in entry.1)
 
-abbrev pub seat_turns : Planned → ℕ × RoomyOccupant → List (List Shift)
+abbrev pub seat_turns : Planned → ℕ × RoomyOccupant → List (List EntryUpdate)
 seat_turns plan entry = turns_by (needed_in plan) (occupant_in entry.1)
 
 module _ (plan : Planned) (es : List (List ℕ × RoomyContext)) (o : RoomyOccupant) (h : InOrder octets_cmp es) (v : table.from_sorted es ≡ o.contexts) where
@@ -84,7 +84,7 @@ module _ (plan : Planned) (es : List (ℕ × RoomyOccupant)) (s : Seated) (h : I
 
 -- ---- of a live context
 
-pub made_live : (plan : Planned) (user : List ℕ) (sought : Sought) (scene : Scene) (paths : List Path)
+pub made_live : (plan : Planned) (user : List ℕ) (sought : SearchSpec) (scene : ContextView) (paths : List Path)
     → scene.old ≡ plan.old.records → scene.new ≡ (store_ahead plan).records → scene.realm ≡ plan.realm → scene.user ≡ user → scene.sought ≡ sought → paths ≡ looked_at_by plan sought
     → each (shift_in scene) paths ≡ live_shifts plan user sought
 made_live plan user sought scene paths old new realm seen same e = λ i. each (shift_for (old i) (new i) (realm i) (seen i) (same i)) (e i)

@@ -9,7 +9,7 @@ use Rattle.acap_notices.specs.declared.notice.Notice.{Notice}
 use Rattle.acap_search.specs.Fresh.{Sight, sight_of, matches_of}
 use Rattle.acap_search.specs.Matches.{Match}
 use Rattle.acap_search.specs.Scopes.{scope_of}
-use Rattle.acap_search.specs.declared.query.Sought.{Sought}
+use Rattle.acap_search.specs.declared.query.SearchSpec.{SearchSpec}
 use Rattle.acap_views.specs.Contexts.{Kept, Snapshot, Live, Freed, Context}
 use Rattle.acap_views.specs.Maps.{each_value}
 use Rattle.acap_views.specs.Notices.{event_notices}
@@ -29,7 +29,7 @@ follows notices after (Live shown before pending) =
 follows notices after Freed = Freed
 
 -- what a user sees for a search
-abbrev pub sight_for : Realm → Store → List ℕ → Sought → Sight
+abbrev pub sight_for : Realm → Store → List ℕ → SearchSpec → Sight
 sight_for realm store user sought = sight_of store.records realm user (scope_of sought)
 
 -- a context in the eyes of its user

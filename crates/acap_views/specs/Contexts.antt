@@ -7,8 +7,8 @@ use Rattle.acap_commands.specs.declared.search_modifiers.MakeContext.{MakeContex
 use Rattle.acap_notices.specs.contracts.notice.Notice as notice
 use Rattle.acap_notices.specs.declared.notice.Notice.{Notice}
 use Rattle.acap_search.specs.Matches.{Match, match_code}
-use Rattle.acap_search.specs.contracts.query.Sought as query
-use Rattle.acap_search.specs.declared.query.Sought.{Sought}
+use Rattle.acap_search.specs.contracts.query.SearchSpec as query
+use Rattle.acap_search.specs.declared.query.SearchSpec.{SearchSpec}
 
 -- the list that its client was told, which stays as it is; that list, the present one and the notices that wait; or neither, where
 -- too many notices came
@@ -19,7 +19,7 @@ pub data Kept : Type 0 where
 
 -- what the search looked for, whether positions are told, up to which moment its client was told, and what is kept
 pub record Context : Type 0 where
-  pub sought : Sought
+  pub sought : SearchSpec
   pub enumerated : Bool
   pub told : ℤ
   pub kept : Kept
@@ -34,7 +34,7 @@ kept_of true found = Live found found []
 kept_of false found = Snapshot found
 
 -- what a search makes that found these matches; all of them, whatever LIMIT told
-abbrev pub context_of : MakeContext → Sought → List Match → ℤ → Context
+abbrev pub context_of : MakeContext → SearchSpec → List Match → ℤ → Context
 context_of make sought found last = record {
   sought = sought;
   enumerated = make.enumerate;
@@ -66,7 +66,7 @@ kept_code =
 
 abbrev pub context_code : Coded Context
 context_code =
-    code_by (Sought × (Bool × (ℤ × Kept))) (coded× query.the_row.coded (coded× coded_bool (coded× coded_ℤ kept_code)))
+    code_by (SearchSpec × (Bool × (ℤ × Kept))) (coded× query.the_row.coded (coded× coded_bool (coded× coded_ℤ kept_code)))
     (λ c. (c.sought, (c.enumerated, (c.told, c.kept)))) (λ p. record { sought = p.0; enumerated = p.1.0; told = p.1.1.0; kept = p.1.1.1 }) (λ _. refl)
 
 abbrev pub contexts_code : Coded Contexts

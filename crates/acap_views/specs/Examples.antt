@@ -8,9 +8,9 @@ use Rattle.acap_notices.specs.declared.notice.Notice.TheVariants.{AddTo, RemoveF
 use Rattle.acap_notices.specs.declared.told.Told.TheVariants as told
 use Rattle.acap_moves.specs.Hits.{Name}
 use Rattle.acap_search.specs.Matches.{Match}
-use Rattle.acap_search.specs.declared.query.Sought.{Sought}
-use Rattle.acap_search.specs.declared.rank.SortPlace.TheVariants.{Rising}
-use Rattle.acap_search.specs.declared.rank.Rank.TheVariants.{Octets}
+use Rattle.acap_search.specs.declared.query.SearchSpec.{SearchSpec}
+use Rattle.acap_search.specs.declared.sort_term.SortTerm.TheVariants.{Rising}
+use Rattle.acap_search.specs.declared.sort_term.Rank.TheVariants.{Octets}
 use Rattle.acap_views.specs.Changing.{follows}
 use Rattle.acap_views.specs.Contexts.{Kept, Snapshot, Live, Freed, Context, Contexts, kept_of}
 use Rattle.acap_views.specs.Notices.{list_notices, same_tuple}
@@ -50,30 +50,30 @@ pub record KeptExamples : Type 0 where
 
 -- ---- contexts by name
 
-abbrev pub context : Sought → Kept → Context
+abbrev pub context : SearchSpec → Kept → Context
 context sought kept = record { sought = sought; enumerated = true; told = pos 0; kept = kept }
 
 -- a snapshot s, a freed one f, and two live ones of which one notice each waits
-abbrev pub four : Sought → List Match → Notice → Notice → List (List ℕ × Context)
+abbrev pub four : SearchSpec → List Match → Notice → Notice → List (List ℕ × Context)
 four sought list one two =
     (codes "a", context sought (Live list list (one ∷ []))) ∷ (codes "b", context sought (Live list list (two ∷ [])))
     ∷ (codes "f", context sought Freed) ∷ (codes "s", context sought (Snapshot list)) ∷ []
 
-abbrev pub by_name : Sought → List Match → Notice → Notice → Contexts
+abbrev pub by_name : SearchSpec → List Match → Notice → Notice → Contexts
 by_name sought list one two = table.from_entries (four sought list one two)
 
 pub record NamedExamples : Type 0 where
   -- each name in turn, all that waits and then the moment; for a name that is said again the moment alone
-  pub updates : (sought : Sought) (list : List Match) (one two : Notice) (last : ℤ)
+  pub updates : (sought : SearchSpec) (list : List Match) (one two : Notice) (last : ℤ)
       → told_in_turn (by_name sought list one two) (codes "b" ∷ codes "a" ∷ codes "b" ∷ []) last
       ≡ told.Note (codes "b") two ∷ told.Upto (codes "b") last ∷ told.Note (codes "a") one ∷ told.Upto (codes "a") last ∷ told.Upto (codes "b") last ∷ []
   -- the first faulty name refuses all
-  pub unknown : (sought : Sought) (list : List Match) (one two : Notice) → fault_of (by_name sought list one two) (codes "a" ∷ codes "x" ∷ codes "f" ∷ []) ≡ Some refusal.NoContext
-  pub freed : (sought : Sought) (list : List Match) (one two : Notice) → fault_of (by_name sought list one two) (codes "a" ∷ codes "f" ∷ codes "s" ∷ []) ≡ Some refusal.FreedContext
-  pub snapshot : (sought : Sought) (list : List Match) (one two : Notice) → fault_of (by_name sought list one two) (codes "s" ∷ codes "f" ∷ []) ≡ Some refusal.NotNotify
-  pub right : (sought : Sought) (list : List Match) (one two : Notice) → fault_of (by_name sought list one two) (codes "b" ∷ codes "a" ∷ codes "b" ∷ []) ≡ None
+  pub unknown : (sought : SearchSpec) (list : List Match) (one two : Notice) → fault_of (by_name sought list one two) (codes "a" ∷ codes "x" ∷ codes "f" ∷ []) ≡ Some refusal.NoContext
+  pub freed : (sought : SearchSpec) (list : List Match) (one two : Notice) → fault_of (by_name sought list one two) (codes "a" ∷ codes "f" ∷ codes "s" ∷ []) ≡ Some refusal.FreedContext
+  pub snapshot : (sought : SearchSpec) (list : List Match) (one two : Notice) → fault_of (by_name sought list one two) (codes "s" ∷ codes "f" ∷ []) ≡ Some refusal.NotNotify
+  pub right : (sought : SearchSpec) (list : List Match) (one two : Notice) → fault_of (by_name sought list one two) (codes "b" ∷ codes "a" ∷ codes "b" ∷ []) ≡ None
   -- a drain tells in the order of the names
-  pub drained : (sought : Sought) (list : List Match) (one two : Notice)
+  pub drained : (sought : SearchSpec) (list : List Match) (one two : Notice)
       → flat_map (λ e. drain_told e.0 e.1.kept) (four sought list one two)
       ≡ told.Note (codes "a") one ∷ told.Note (codes "b") two ∷ told.Freed (codes "f") ∷ []
   -- 200 contexts are all that there may be, freed ones among them, but one may be replaced

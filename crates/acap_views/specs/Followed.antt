@@ -6,7 +6,7 @@ use Rattle.acap_views.specs.Keeping.{RoomyContext, RoomyOccupant, RoomySeats}
 use Rattle.acap_views.specs.Preparing.{Prepared}
 use Rattle.acap_views.specs.Room.{Space}
 use Rattle.acap_views.specs.Room as room
-use Rattle.acap_views.specs.Shifting.{Shift}
+use Rattle.acap_views.specs.EntryUpdates.{EntryUpdate}
 
 -- a context that isn't live needs none
 abbrev pub HasRoomIn : ℕ → Kept → Space → Type 0
@@ -24,19 +24,19 @@ EachFits P (x ∷ xs) [] = Unit {0}
 EachFits P (x ∷ xs) (y ∷ ys) = P x y × EachFits P xs ys
 
 -- each context has room for what is prepared for it, which stands at the same place
-abbrev pub FitsContext : List Shift → List ℕ × RoomyContext → Type 0
+abbrev pub FitsContext : List EntryUpdate → List ℕ × RoomyContext → Type 0
 FitsContext shifts entry = HasRoomFor (length shifts) entry.1
 
-abbrev pub AreRoomy : List (List Shift) → List (List ℕ × RoomyContext) → Type 0
+abbrev pub AreRoomy : List (List EntryUpdate) → List (List ℕ × RoomyContext) → Type 0
 AreRoomy turns contexts = EachFits FitsContext turns contexts
 
-abbrev pub IsRoomySeat : List (List Shift) → RoomyOccupant → Type 0
+abbrev pub IsRoomySeat : List (List EntryUpdate) → RoomyOccupant → Type 0
 IsRoomySeat turns occupant = AreRoomy turns (table.entries occupant.contexts)
 
-abbrev pub FitsSeat : List (List Shift) → ℕ × RoomyOccupant → Type 0
+abbrev pub FitsSeat : List (List EntryUpdate) → ℕ × RoomyOccupant → Type 0
 FitsSeat turns entry = IsRoomySeat turns entry.1
 
-abbrev pub AreRoomySeats : List (List (List Shift)) → List (ℕ × RoomyOccupant) → Type 0
+abbrev pub AreRoomySeats : List (List (List EntryUpdate)) → List (ℕ × RoomyOccupant) → Type 0
 AreRoomySeats turns seats = EachFits FitsSeat turns seats
 
 abbrev pub HasRoom : Prepared → RoomySeats → Type 0

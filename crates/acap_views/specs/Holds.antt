@@ -3,10 +3,10 @@ use Rattle.std.specs.Prelude.{Bool, true, false, List, [], None}
 use Rattle.acap_notices.specs.declared.notice.Notice.{Notice}
 use Rattle.acap_views.specs.Contexts.{Kept, Snapshot, Live, Freed}
 use Rattle.acap_views.specs.Room.{Space}
-use Rattle.acap_views.specs.declared.held.Held.{Held}
-use Rattle.acap_views.specs.declared.held.Held.TheVariants as held
+use Rattle.acap_views.specs.declared.context_lists.ContextLists.{ContextLists}
+use Rattle.acap_views.specs.declared.context_lists.ContextLists.TheVariants as held
 
-abbrev pub kept_in : Held → Kept
+abbrev pub kept_in : ContextLists → Kept
 kept_in (held.Snapshot hits) = Snapshot hits
 kept_in (held.Live watch) = Live watch.shown watch.present watch.pending
 kept_in held.Freed = Freed
@@ -15,7 +15,7 @@ kept_in held.Freed = Freed
 abbrev pub no_space : Space
 no_space = record { hits = 0; moves = None; notices = 0 }
 
-abbrev pub space_in : Held → Space
+abbrev pub space_in : ContextLists → Space
 space_in (held.Snapshot hits) = no_space
 space_in (held.Live watch) = watch.space
 space_in held.Freed = no_space

@@ -17,7 +17,7 @@ use Rattle.acap_moves.specs.Moves.{moves_to, after_moves, moves_notices}
 use Rattle.acap_search.specs.Fresh.{Sight, tuple_of, IsSameSight, matches_of}
 use Rattle.acap_search.specs.Matches.{Match}
 use Rattle.acap_search.specs.Tuples.{name_told}
-use Rattle.acap_search.specs.declared.query.Sought.{Sought}
+use Rattle.acap_search.specs.declared.query.SearchSpec.{SearchSpec}
 use Rattle.acap_views.specs.Changing.{IsSoundStep, sight_for, changed_context, changed_occupant, changed_seats}
 use Rattle.acap_views.specs.Contexts.{Snapshot, Live, Freed, Context, Contexts}
 use Rattle.acap_views.specs.Current.{IsCurrent, IsCurrentOccupant, IsToldAll, rows}
@@ -30,12 +30,12 @@ use Rattle.acap_views.specs.Telling.{after_updates, after_drain, told_of, drain_
 -- two changes come to the same notices where what is seen before is the same, and what is seen after; and a client that holds the
 -- rows of the old list, in order or by name, and applies the notices of a change, holds those of the new one
 pub record NoticeLaw : Type 0 where
-  pub same : (old new first second : Store) (realm other : Realm) (user one : List ℕ) (enumerated : Bool) (sought : Sought)
+  pub same : (old new first second : Store) (realm other : Realm) (user one : List ℕ) (enumerated : Bool) (sought : SearchSpec)
       → IsSameSight (sight_for realm old user sought) (sight_for other first one sought)
       → IsSameSight (sight_for realm new user sought) (sight_for other second one sought)
       → event_notices enumerated sought (sight_for realm old user sought) (sight_for realm new user sought)
       ≡ event_notices enumerated sought (sight_for other first one sought) (sight_for other second one sought)
-  pub leads : (old new : Store) (realm : Realm) (user : List ℕ) (enumerated : Bool) (sought : Sought)
+  pub leads : (old new : Store) (realm : Realm) (user : List ℕ) (enumerated : Bool) (sought : SearchSpec)
       → IsSoundStep old new → dataset_exists old.records sought.dataset ≡ true
       → holding_after_all (holding enumerated (rows (matches_of old.records realm user sought)))
       (event_notices enumerated sought (sight_for realm old user sought) (sight_for realm new user sought))
@@ -48,7 +48,7 @@ pub record CurrentLaw : Type 0 where
       → IsCurrent store realm seats → IsCurrent store realm (with_user seats seat user)
   pub left : (store : Store) (realm : Realm) (seats : Seated) (seat : ℕ)
       → IsCurrent store realm seats → IsCurrent store realm (without_user seats seat)
-  pub opened : (store : Store) (realm : Realm) (seats new : Seated) (seat : ℕ) (make : MakeContext) (sought : Sought) (user : List ℕ) (last : ℤ)
+  pub opened : (store : Store) (realm : Realm) (seats new : Seated) (seat : ℕ) (make : MakeContext) (sought : SearchSpec) (user : List ℕ) (last : ℤ)
       → IsSoundStore store.records → dataset_exists store.records sought.dataset ≡ true → IsAt seats seat user
       → with_context seats seat make sought (matches_of store.records realm user sought) last ≡ Ok new
       → IsCurrent store realm seats → IsCurrent store realm new
@@ -84,20 +84,20 @@ pub record ShownLaw : Type 0 where
 
 -- the changed paths are those whose tuple before isn't that after: an entry that comes, goes, or has another place or another row
 pub record ChangedLaw : Type 0 where
-  pub exact : (sought : Sought) (old new : Sight) (path : Path) → Contains (changed_paths sought old new) path ↔ (tuple_of old sought path ≢ tuple_of new sought path)
-  pub named : (sought : Sought) (old new : Sight) (name : Name)
+  pub exact : (sought : SearchSpec) (old new : Sight) (path : Path) → Contains (changed_paths sought old new) path ↔ (tuple_of old sought path ≢ tuple_of new sought path)
+  pub named : (sought : SearchSpec) (old new : Sight) (name : Name)
       → Contains (changed_names sought old new) name ↔ ((path : Path) × (Contains (changed_paths sought old new) path × (name_told sought.depth path ≡ name)))
-  pub ascending : (sought : Sought) (old new : Sight) → IsAscending (changed_names sought old new)
+  pub ascending : (sought : SearchSpec) (old new : Sight) → IsAscending (changed_names sought old new)
   pub seats : (realm : Realm) (old new : Store) (seats : Seated) (seat : ℕ) → table.get (changed_seats realm old new seats) seat ≡ option_map (changed_occupant realm old new) (table.get seats seat)
   pub contexts : (realm : Realm) (old new : Store) (occupant : Occupant) (name : List ℕ)
       → table.get (changed_occupant realm old new occupant).contexts name ≡ option_map (changed_context realm old new occupant.user) (table.get occupant.contexts name)
 
 -- a match is told by the name of its path, and by no other
 pub record FoundLaw : Type 0 where
-  pub name : (store : Store) (realm : Realm) (user : List ℕ) (sought : Sought) (name : Name) (found : Match)
+  pub name : (store : Store) (realm : Realm) (user : List ℕ) (sought : SearchSpec) (name : Name) (found : Match)
       → match_told (matches_of store.records realm user sought) name ≡ Some found
       → (tuple_of (sight_for realm store user sought) sought found.path ≡ Some found) × ((found.row.name ≡ name) × (name_told sought.depth found.path ≡ name))
-  pub found : (store : Store) (realm : Realm) (user : List ℕ) (sought : Sought) (path : Path) (found : Match)
+  pub found : (store : Store) (realm : Realm) (user : List ℕ) (sought : SearchSpec) (path : Path) (found : Match)
       → IsSoundStore store.records → dataset_exists store.records sought.dataset ≡ true
       → tuple_of (sight_for realm store user sought) sought path ≡ Some found
       → match_told (matches_of store.records realm user sought) (name_told sought.depth path) ≡ Some found
@@ -106,7 +106,7 @@ pub record FoundLaw : Type 0 where
 -- place; the notices of the change are those of these moves. The names ascend, and may be more than those that have changed
 abbrev pub MovedLaw : Type 0
 MovedLaw =
-    (old new : Store) (realm : Realm) (user : List ℕ) (enumerated : Bool) (sought : Sought) (touched : List Name)
+    (old new : Store) (realm : Realm) (user : List ℕ) (enumerated : Bool) (sought : SearchSpec) (touched : List Name)
     → IsSoundStep old new → dataset_exists old.records sought.dataset ≡ true → IsAscending touched
     → ((name : Name) → is_among name (changed_names sought (sight_for realm old user sought) (sight_for realm new user sought)) ≡ true → is_among name touched ≡ true)
     → (after_moves told_shape (moves_to (match_told (matches_of new.records realm user sought)) touched) (matches_of old.records realm user sought)

@@ -1,4 +1,4 @@
-pub mod Aheads
+pub mod PlannedChanges
 pub mod Answering
 pub mod Changing
 pub mod Clients
@@ -14,7 +14,7 @@ pub mod Lending
 pub mod Listing
 pub mod Maps
 pub mod Moving
-pub mod News
+pub mod EntryOutcomes
 pub mod Notices
 pub mod Opening
 pub mod Plans
@@ -23,16 +23,16 @@ pub mod Preparing
 pub mod Ranging
 pub mod RangingLaws
 pub mod Room
-pub mod Scenes
+pub mod ContextViews
 pub mod Seats
-pub mod Seeking
-pub mod Shares
-pub mod Shifting
+pub mod HitCursors
+pub mod SharedRights
+pub mod EntryUpdates
 pub mod Started
 pub mod Telling
 pub mod Touching
 pub mod Undoing
-pub mod Undone
+pub mod UndoMoves
 pub mod Waiting
 pub mod WaitingLaws
 pub mod Work

@@ -9,14 +9,14 @@ use Rattle.acap_rights.specs.declared.realm.Realm.{Realm}
 use Rattle.acap_search.specs.Fresh.{Sight, tuple_of, matches_of}
 use Rattle.acap_search.specs.Matches.{Match}
 use Rattle.acap_search.specs.Tuples.{name_told}
-use Rattle.acap_search.specs.declared.query.Sought.{Sought}
+use Rattle.acap_search.specs.declared.query.SearchSpec.{SearchSpec}
 use Rattle.acap_views.specs.Changing.{IsSoundStep, sight_for}
 use Rattle.acap_views.specs.Contexts.{Context}
 use Rattle.acap_views.specs.Notices.{told_shape, event_notices}
 use Rattle.acap_views.specs.Work.{touched_for}
 
 -- each under the name by which it is told, with what is made of it now, if it is found
-abbrev pub moves_of : Sought → Sight → List Path → List (Move Match)
+abbrev pub moves_of : SearchSpec → Sight → List Path → List (Move Match)
 moves_of sought now paths = each (λ path. (name_told sought.depth path, tuple_of now sought path)) paths
 
 -- a change as a tree takes it: from a sound store to a sound store, path by path, by writes at well-formed paths

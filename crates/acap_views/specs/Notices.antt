@@ -14,8 +14,8 @@ use Rattle.acap_moves.specs.Notices.{same_row, notices}
 use Rattle.acap_search.specs.Fresh.{Sight, same_path, is_among, tuple_of, fresh_of}
 use Rattle.acap_search.specs.Matches.{Match, match_cmp}
 use Rattle.acap_search.specs.Tuples.{name_told}
-use Rattle.acap_search.specs.contracts.rank.SortPlacePartialEq.TheImpl as place
-use Rattle.acap_search.specs.declared.query.Sought.{Sought}
+use Rattle.acap_search.specs.contracts.sort_term.SortTermPartialEq.TheImpl as place
+use Rattle.acap_search.specs.declared.query.SearchSpec.{SearchSpec}
 
 -- ---- the list in which an entry has a position
 
@@ -53,7 +53,7 @@ same_tuple (Some a) (Some b) = same_match a b
 abbrev pub paths_of_both : Sight → Sight → List Path
 paths_of_both old new = old.paths ++ filter (λ path. not (is_among old.paths path)) new.paths
 
-abbrev pub changed_paths : Sought → Sight → Sight → List Path
+abbrev pub changed_paths : SearchSpec → Sight → Sight → List Path
 changed_paths sought old new = filter (λ path. not (same_tuple (tuple_of old sought path) (tuple_of new sought path))) (paths_of_both old new)
 
 -- the names by which they are told, ascending in octets: with DEPTH these are the full paths, and without it what stands behind
@@ -61,7 +61,7 @@ changed_paths sought old new = filter (λ path. not (same_tuple (tuple_of old so
 abbrev pub ascending : List Name → List Name
 ascending names = table.keys (table.from_entries {R = octets_cmp} (each (λ name. (name, name)) names))
 
-abbrev pub changed_names : Sought → Sight → Sight → List Name
+abbrev pub changed_names : SearchSpec → Sight → Sight → List Name
 changed_names sought old new = ascending (each (name_told sought.depth) (changed_paths sought old new))
 
 -- the notices by mixed lists: in list k the first k of these have their new matches, and all others their old ones
@@ -69,6 +69,6 @@ abbrev pub list_notices : Bool → List Match → List Match → List Name → L
 list_notices enumerated old new changed =
     notices told_shape enumerated (match_told old) (match_told new) (names_of_both old new) changed
 
-abbrev pub event_notices : Bool → Sought → Sight → Sight → List Notice
+abbrev pub event_notices : Bool → SearchSpec → Sight → Sight → List Notice
 event_notices enumerated sought old new =
     list_notices enumerated (fresh_of old sought) (fresh_of new sought) (changed_names sought old new)

@@ -3,7 +3,7 @@ use Rattle.std.specs.Prelude.{ℕ, ℤ, Bool, not, ◌&&◌, nat_le, if◌then�
 use Rattle.std.specs.FinMap as table
 use Rattle.acap_commands.specs.declared.search_modifiers.MakeContext.{MakeContext}
 use Rattle.acap_search.specs.Matches.{Match}
-use Rattle.acap_search.specs.declared.query.Sought.{Sought}
+use Rattle.acap_search.specs.declared.query.SearchSpec.{SearchSpec}
 use Rattle.acap_views.specs.Contexts.{Contexts, context_of}
 use Rattle.acap_views.specs.Seats.{Seated, contexts_at, with_contexts}
 use Rattle.acap_views.specs.declared.refusal.ViewRefusal.{ViewRefusal}
@@ -17,7 +17,7 @@ most_contexts = 200
 abbrev pub is_full : Contexts → List ℕ → Bool
 is_full contexts name = not (table.contains_key contexts name) && nat_le most_contexts (table.len contexts)
 
-abbrev pub with_context : Seated → ℕ → MakeContext → Sought → List Match → ℤ → Result Seated ViewRefusal
+abbrev pub with_context : Seated → ℕ → MakeContext → SearchSpec → List Match → ℤ → Result Seated ViewRefusal
 with_context seats seat make sought found last =
     if is_full (contexts_at seats seat) make.name then Err refusal.TryFreeContext
     else Ok (with_contexts seats seat (table.insert (contexts_at seats seat) make.name (context_of make sought found last)))

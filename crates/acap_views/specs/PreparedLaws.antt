@@ -1,6 +1,6 @@
 -- What is prepared of a change comes to it: from the definitions alone [RFC 2244 sections 3.3, 3.5 and 6.5].
 use Rattle.std.specs.Prelude.{◌≡◌, ℕ}
-use Rattle.acap_views.specs.Aheads.{Planned, store_ahead}
+use Rattle.acap_views.specs.PlannedChanges.{Planned, store_ahead}
 use Rattle.acap_views.specs.Changing.{changed_seats}
 use Rattle.acap_views.specs.Current.{IsCurrent}
 use Rattle.acap_views.specs.Moving.{IsTaken}

@@ -2,7 +2,7 @@
 use Rattle.std.specs.Prelude.{ℕ, ℤ, Bool, List, Option, Some, None, Result, Ok, Err}
 use Rattle.std.specs.FinMap as table
 use Rattle.acap_search.specs.Matches.{Match}
-use Rattle.acap_search.specs.declared.query.Sought.{Sought}
+use Rattle.acap_search.specs.declared.query.SearchSpec.{SearchSpec}
 use Rattle.acap_views.specs.Contexts.{Kept, Snapshot, Live, Freed, Context}
 use Rattle.acap_views.specs.Seats.{Seated, contexts_at}
 use Rattle.acap_views.specs.declared.refusal.ViewRefusal.{ViewRefusal}
@@ -11,7 +11,7 @@ use Rattle.acap_views.specs.declared.refusal.ViewRefusal.TheVariants as refusal
 -- what its own search looked for, whether its entries have positions, up to which moment its client was told, and the list that was
 -- told, in which these positions count
 pub record Ranged : Type 0 where
-  pub sought : Sought
+  pub sought : SearchSpec
   pub enumerated : Bool
   pub told : ℤ
   pub shown : List Match

@@ -7,7 +7,7 @@ use Rattle.acap_entries.specs.Store.{Store, Stored, Written}
 use Rattle.acap_entries.specs.declared.path.Path.{Path}
 use Rattle.acap_inherit.specs.Touched.{touched_paths}
 use Rattle.acap_search.specs.Scopes.{scope_of, datasets_of}
-use Rattle.acap_search.specs.declared.query.Sought.{Sought}
+use Rattle.acap_search.specs.declared.query.SearchSpec.{SearchSpec}
 use Rattle.acap_views.specs.Contexts.{Kept, Snapshot, Live, Freed, Context, Contexts}
 use Rattle.acap_views.specs.Seats.{Seated}
 
@@ -24,7 +24,7 @@ abbrev pub has_live : Seated → Bool
 has_live seats = list_any (λ occupant. any_live occupant.contexts) (table.values seats)
 
 -- whether a search looks through the dataset of an entry
-abbrev pub is_looked_at : Stored → Sought → Path → Bool
+abbrev pub is_looked_at : Stored → SearchSpec → Path → Bool
 is_looked_at records sought path = list_any (octets_eq path.dataset) (datasets_of records (scope_of sought))
 
 -- those in the scope of a context, as it is after the change; a context that isn't live looks at none

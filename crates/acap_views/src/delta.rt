@@ -1,21 +1,21 @@
 //! What a change comes to for all contexts, before it is committed.
 
-use crate::shift::Shift;
+use crate::entry_update::EntryUpdate;
 use acap_entries::Sequence;
 use std::alloc::Global;
 use std::marker::Model;
 
 /// What becomes of touched entries that a context looks at, as far as it is due.
-pub(crate) type Shifts = Sequence<Shift>;
+pub(crate) type Shifts = Sequence<EntryUpdate>;
 
 /// The same for each context of a seat, in the order of their names.
-pub(crate) type Turns = Sequence<Shifts>;
+pub(crate) type SeatUpdates = Sequence<Shifts>;
 
 /// What a change of the store comes to for the contexts of all seats, made before it is committed so that it can be done afterwards
 /// without memory (RFC 2244 sections 3.3 and 6.5).
 #[derive(Drop)]
 pub struct Delta {
-    pub(crate) seats: Sequence<Turns>,
+    pub(crate) seats: Sequence<SeatUpdates>,
     pub(crate) work: u64,
 }
 

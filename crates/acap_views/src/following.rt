@@ -7,25 +7,25 @@ ghost use Rattle.acap_views.specs.Listing.{bare, bare_seat};
 ghost use Rattle.acap_views.specs.Preparing.{kept_after, context_after, contexts_after};
 ghost use Rattle.acap_views.specs.Preparing.{occupant_after, seats_after, with_delta};
 
-use crate::delta::{Delta, Shifts, Turns};
-use crate::held::Held;
+use crate::context_lists::ContextLists;
+use crate::delta::{Delta, SeatUpdates, Shifts};
 use crate::open_context::OpenContext;
-use crate::sitting::Sitting;
+use crate::seat_contexts::SeatContexts;
 use crate::views::Views;
 use acap_entries::{ContextName, Memory, Seat};
 use std::alloc::Global;
 
 // Brings what is kept of a context up to date, in the room that there is; with too many notices it is freed.
-fn follow(held: &mut Held, shifts: Shifts, enumerated: bool)
+fn follow(held: &mut ContextLists, shifts: Shifts, enumerated: bool)
     requires { rule.HasRoomIn (length shifts) (kept_in held.old) (space_in held.old) }
     ensures { kept_in held.new ≡ kept_after enumerated shifts (kept_in held.old) }
 {
     let is_kept = match held {
-        Held::Live(watch) => watch.follow(shifts.into_vec(), enumerated),
-        Held::Snapshot(_) | Held::Freed => true,
+        ContextLists::Live(watch) => watch.follow(shifts.into_vec(), enumerated),
+        ContextLists::Snapshot(_) | ContextLists::Freed => true,
     };
     if !is_kept {
-        *held = Held::Freed;
+        *held = ContextLists::Freed;
     }
 }
 
@@ -39,8 +39,8 @@ impl OpenContext {
             return Ok(());
         }
         match &mut self.held {
-            Held::Live(watch) => watch.reserve(alloc, more),
-            Held::Snapshot(_) | Held::Freed => Ok(()),
+            ContextLists::Live(watch) => watch.reserve(alloc, more),
+            ContextLists::Snapshot(_) | ContextLists::Freed => Ok(()),
         }
     }
 
@@ -71,7 +71,7 @@ fn reserve_all(
 }
 
 // Brings contexts up to date, context by context.
-fn follow_all(contexts: &mut Vec<(ContextName, OpenContext)>, turns: Turns)
+fn follow_all(contexts: &mut Vec<(ContextName, OpenContext)>, turns: SeatUpdates)
     requires { rule.AreRoomy turns contexts.old.items }
     ensures { each bare contexts.new.items ≡ contexts_after turns (each bare contexts.old.items) }
 {
@@ -85,7 +85,7 @@ fn follow_all(contexts: &mut Vec<(ContextName, OpenContext)>, turns: Turns)
     }
 }
 
-impl Sitting {
+impl SeatContexts {
     // Makes room for what becomes of the contexts.
     fn reserve(&mut self, alloc: Global, turns: &[Shifts]) -> Result<(), Memory>
         ensures same { occupant_in self.new ≡ occupant_in self.old }
@@ -95,7 +95,7 @@ impl Sitting {
     }
 
     // Brings the contexts up to date.
-    fn follow(&mut self, turns: Turns)
+    fn follow(&mut self, turns: SeatUpdates)
         requires { rule.IsRoomySeat turns self.old }
         ensures { occupant_in self.new ≡ occupant_after turns (occupant_in self.old) }
     {
@@ -106,8 +106,8 @@ impl Sitting {
 // Makes room at some seats.
 fn reserve_seats(
     alloc: Global,
-    seats: &mut Vec<(Seat, Sitting)>,
-    turns: &[Turns],
+    seats: &mut Vec<(Seat, SeatContexts)>,
+    turns: &[SeatUpdates],
 ) -> Result<(), Memory>
     ensures same { each bare_seat seats.new.items ≡ each bare_seat seats.old.items }
     ensures room { OnOk result (rule.AreRoomySeats turns.now seats.new.items) }
@@ -120,7 +120,7 @@ fn reserve_seats(
 }
 
 // Brings the contexts at some seats up to date.
-fn follow_seats(seats: &mut Vec<(Seat, Sitting)>, turns: Vec<Turns>)
+fn follow_seats(seats: &mut Vec<(Seat, SeatContexts)>, turns: Vec<SeatUpdates>)
     requires { rule.AreRoomySeats turns.items seats.old.items }
     ensures { each bare_seat seats.new.items ≡ seats_after turns.items (each bare_seat seats.old.items) }
 {

@@ -2,58 +2,58 @@
 //! and 6.5).
 #![tactic(auto)]
 
-mod ahead;
-mod beside;
+mod apply_updates;
 mod calls;
+mod change_view;
+mod changed_entries;
+mod context_lists;
+mod context_view;
 mod contexts;
+mod dataset_change;
 mod delta;
-mod due;
-mod field;
+mod entry_update;
+mod entry_updates;
 mod first_written;
 mod following;
-mod held;
-mod idle;
+mod hit_cursor;
+mod idle_moves;
+mod last_sent;
+mod last_sent_list;
 mod laws;
-mod lending;
-mod lookout;
+mod lend_context;
+mod lent_context;
+mod live_contexts;
+mod live_lists;
 mod moving;
 mod new_context;
-mod noted;
 mod open_context;
 mod opening;
 mod places;
+mod planned_change;
 mod preparing;
-mod quiet;
-mod ranged_context;
 mod refusal;
-mod scene;
-mod seeking;
-mod shares;
-mod sharing;
-mod shift;
-mod shift_making;
-mod shifting;
-mod shown;
-mod shown_list;
-mod sitting;
+mod seat_contexts;
+mod seat_updates;
+mod share_rights;
+mod shared_rights;
 mod telling;
+mod touched_cache;
 mod touching;
-mod turns;
-mod undoing;
-mod undone;
+mod undo;
+mod undo_move;
 mod views;
-mod watch;
+mod with_record;
 
 pub use delta::Delta;
+pub use last_sent_list::LastSentList;
 pub use laws::{
     changed_law, client_law, current_law, found_law, kept_examples, moved_law, named_examples,
     notice_examples, notice_law, ranged_law, seats_law, shown_law, waiting_law,
 };
+pub use lent_context::LentContext;
 pub use moving::{prepared_law, touched_moves_law};
 pub use new_context::NewContext;
 pub use opening::MOST_CONTEXTS;
 pub use places::{has_context, is_full};
-pub use ranged_context::RangedContext;
 pub use refusal::ViewRefusal;
-pub use shown_list::ShownList;
 pub use views::Views;

@@ -8,13 +8,13 @@ ghost use Rattle.acap_views.specs.Telling.{shown_now, updated_to, fault_in};
 ghost use Rattle.acap_views.specs.Waiting.{waits};
 ghost use Rattle.acap_views.specs.Work.{is_live};
 
-use crate::held::Held;
+use crate::context_lists::ContextLists;
+use crate::live_lists::LiveLists;
 use crate::refusal::ViewRefusal;
-use crate::watch::Watch;
 use acap_commands::MakeContext;
 use acap_entries::{Copying, Memory, Moment, Shared};
 use acap_notices::Notice;
-use acap_search::{Hits, Sought};
+use acap_search::{Hits, SearchSpec};
 use std::alloc::Global;
 use std::marker::Model;
 
@@ -22,10 +22,10 @@ use std::marker::Model;
 /// (RFC 2244 section 3.3).
 #[derive(Drop)]
 pub(crate) struct OpenContext {
-    pub(crate) sought: Sought,
+    pub(crate) sought: SearchSpec,
     pub(crate) enumerated: bool,
     pub(crate) told: Moment,
-    pub(crate) held: Held,
+    pub(crate) held: ContextLists,
 }
 
 impl Model for OpenContext {
@@ -43,44 +43,44 @@ impl Model for OpenContext {
 }
 
 // What is kept of what a search found.
-fn hold(alloc: Global, notify: bool, hits: Hits) -> Result<Held, Memory>
+fn hold(alloc: Global, notify: bool, hits: Hits) -> Result<ContextLists, Memory>
     requires { Ascending match_cmp hits }
     ensures { IfOk result (λ made. kept_in made ≡ kept_of notify hits) }
 {
     if notify {
-        Ok(Held::Live(Watch::new(alloc, hits)?))
+        Ok(ContextLists::Live(LiveLists::new(alloc, hits)?))
     } else {
-        Ok(Held::Snapshot(hits))
+        Ok(ContextLists::Snapshot(hits))
     }
 }
 
 // What is kept of a context, again.
-fn copy_held(held: &Held) -> Result<Held, Memory>
+fn copy_held(held: &ContextLists) -> Result<ContextLists, Memory>
     ensures { IfOk result (λ made. kept_in made ≡ kept_in held.now) }
 {
     match held {
-        Held::Snapshot(hits) => Ok(Held::Snapshot(hits.copy()?)),
-        Held::Live(watch) => Ok(Held::Live(watch.copy()?)),
-        Held::Freed => Ok(Held::Freed),
+        ContextLists::Snapshot(hits) => Ok(ContextLists::Snapshot(hits.copy()?)),
+        ContextLists::Live(watch) => Ok(ContextLists::Live(watch.copy()?)),
+        ContextLists::Freed => Ok(ContextLists::Freed),
     }
 }
 
 // All that waits has been told.
-fn tell(alloc: Global, held: &mut Held)
+fn tell(alloc: Global, held: &mut ContextLists)
     ensures { kept_in held.new ≡ shown_now (kept_in held.old) }
 {
-    if let Held::Live(watch) = held {
+    if let ContextLists::Live(watch) = held {
         watch.tell(alloc);
     }
 }
 
 // What waits is put where a reply can hold it too.
-fn gather(held: &mut Held) -> Result<(), Memory>
+fn gather(held: &mut ContextLists) -> Result<(), Memory>
     ensures { kept_in held.new ≡ kept_in held.old }
 {
     match held {
-        Held::Live(watch) => watch.gather(),
-        Held::Snapshot(_) | Held::Freed => Ok(()),
+        ContextLists::Live(watch) => watch.gather(),
+        ContextLists::Snapshot(_) | ContextLists::Freed => Ok(()),
     }
 }
 
@@ -89,7 +89,7 @@ impl OpenContext {
     pub(crate) fn new(
         alloc: Global,
         make: &MakeContext,
-        sought: Sought,
+        sought: SearchSpec,
         hits: Hits,
         last: Moment,
     ) -> Result<OpenContext, Memory>
@@ -110,8 +110,8 @@ impl OpenContext {
         ensures { result.now ≡ pending_in self.now.context.kept }
     {
         match &self.held {
-            Held::Live(watch) => watch.pending(),
-            Held::Snapshot(_) | Held::Freed => &[],
+            ContextLists::Live(watch) => watch.pending(),
+            ContextLists::Snapshot(_) | ContextLists::Freed => &[],
         }
     }
 
@@ -120,8 +120,8 @@ impl OpenContext {
         ensures { IfOk result (λ notices. notices ≡ pending_in self.now.context.kept) }
     {
         match &self.held {
-            Held::Live(watch) => watch.share(),
-            Held::Snapshot(_) | Held::Freed => Ok(Shared::none()),
+            ContextLists::Live(watch) => watch.share(),
+            ContextLists::Snapshot(_) | ContextLists::Freed => Ok(Shared::none()),
         }
     }
 
@@ -136,14 +136,14 @@ impl OpenContext {
     pub(crate) fn is_freed(&self) -> bool
         ensures { result ≡ is_freed self.now.context.kept }
     {
-        matches!(self.held, Held::Freed)
+        matches!(self.held, ContextLists::Freed)
     }
 
     /// Whether it follows the store.
     pub(crate) fn is_live(&self) -> bool
         ensures { result ≡ is_live self.now.context.kept }
     {
-        matches!(self.held, Held::Live(_))
+        matches!(self.held, ContextLists::Live(_))
     }
 
     /// Whether a drain tells something of it.
@@ -151,9 +151,9 @@ impl OpenContext {
         ensures { result ≡ waits self.now.context.kept }
     {
         match &self.held {
-            Held::Snapshot(_) => false,
-            Held::Live(watch) => !watch.pending().is_empty(),
-            Held::Freed => true,
+            ContextLists::Snapshot(_) => false,
+            ContextLists::Live(watch) => !watch.pending().is_empty(),
+            ContextLists::Freed => true,
         }
     }
 
@@ -162,9 +162,9 @@ impl OpenContext {
         ensures { result ≡ fault_in self.now.context.kept }
     {
         match &self.held {
-            Held::Snapshot(_) => Some(ViewRefusal::NotNotify),
-            Held::Live(_) => None,
-            Held::Freed => Some(ViewRefusal::FreedContext),
+            ContextLists::Snapshot(_) => Some(ViewRefusal::NotNotify),
+            ContextLists::Live(_) => None,
+            ContextLists::Freed => Some(ViewRefusal::FreedContext),
         }
     }
 

@@ -12,14 +12,14 @@ ghost use Rattle.acap_views.specs.Opening as rule;
 ghost use Rattle.acap_views.specs.Ranging.{range_at};
 ghost use Rattle.acap_views.specs.Started.{as_ranged};
 
+use crate::lent_context::LentContext;
 use crate::new_context::NewContext;
 use crate::open_context::OpenContext;
-use crate::ranged_context::RangedContext;
 use crate::refusal::ViewRefusal;
 use crate::views::Views;
 use acap_commands::MakeContext;
 use acap_entries::{ContextName, Memory, Moment, Seat, Whole, lookup, place_of};
-use acap_search::{Hits, Sought};
+use acap_search::{Hits, SearchSpec};
 
 /// How many contexts a session may have, freed ones among them (RFC 2244 section 3.3).
 pub const MOST_CONTEXTS: usize = 200;
@@ -52,7 +52,7 @@ impl Views {
         &mut self,
         seat: Seat,
         make: MakeContext,
-        sought: Sought,
+        sought: SearchSpec,
         hits: Hits,
         last: Moment,
     ) -> Result<NewContext, ViewRefusal>
@@ -91,7 +91,7 @@ impl Views {
         &mut self,
         seat: Seat,
         make: MakeContext,
-        sought: Sought,
+        sought: SearchSpec,
         hits: Hits,
         last: Moment,
     ) -> Result<(), ViewRefusal>
@@ -109,7 +109,7 @@ impl Views {
     /// What a search over the context of a name starts from: what its own search looked for, whether its entries have positions,
     /// up to which moment its client was told, and the list that was told. Refused exactly where there is no such context, or the
     /// server has freed it (RFC 2244 sections 3.3 and 6.4.1). Takes no memory.
-    pub fn range(&self, seat: Seat, name: &ContextName) -> Result<RangedContext<'_>, ViewRefusal>
+    pub fn range(&self, seat: Seat, name: &ContextName) -> Result<LentContext<'_>, ViewRefusal>
         ensures ok { IfOk result (λ lent. range_at (seats_in self.now) seat name.now ≡ Ok (as_ranged lent)) }
         ensures refused { IfErr result (λ why. range_at (seats_in self.now) seat name.now ≡ Err why) }
     {

@@ -9,11 +9,11 @@ ghost use Rattle.acap_views.specs.Keeping.{seats_in};
 ghost use Rattle.acap_views.specs.Plans as rule;
 ghost use Rattle.acap_views.specs.Preparing.{IsPreparedFor, touched_in};
 
-use crate::ahead::Ahead;
-use crate::delta::{Delta, Turns};
+use crate::delta::{Delta, SeatUpdates};
 use crate::moving::prepared_law;
-use crate::noted::Noted;
-use crate::turns::turns_of;
+use crate::planned_change::PlannedChange;
+use crate::seat_updates::turns_of;
+use crate::touched_cache::TouchedCache;
 use crate::views::Views;
 use acap_entries::{After, Change, Memory, Sequence, Steps, Tree};
 use acap_inherit::Resolved;
@@ -24,16 +24,16 @@ impl Views {
     // What becomes of the entries that the contexts of all seats look at, seat by seat, and how many these are.
     fn all_turns<L: Ledger>(
         &self,
-        ahead: &Ahead<'_, '_>,
+        ahead: &PlannedChange<'_, '_>,
         work: &mut u64,
         steps: &mut Steps<L>,
-    ) -> Result<Sequence<Turns>, Memory>
+    ) -> Result<Sequence<SeatUpdates>, Memory>
         ensures count { IsCounted result steps.old steps.new (rule.work_of ahead.now (seats_in self.now)) }
         ensures work { OnOk result (work.new ≡ work.old + rule.work_of ahead.now (seats_in self.now)) }
         ensures turns { IfOk result (λ turns. turns ≡ rule.needed_of ahead.now (seats_in self.now)) }
     {
         let mut turns = Vec::with_capacity(self.alloc, self.seats.len())?;
-        let mut noted = Noted::nothing();
+        let mut noted = TouchedCache::nothing();
         for entry in &self.seats {
             turns.push(turns_of(self.alloc, ahead, &entry.1, &mut noted, work, steps)?)?;
         }
@@ -65,7 +65,7 @@ impl Views {
         change.writes.form_law();
         let reach = index.reach(tree, change)?;
         let after = After::of(tree, change);
-        let ahead = Ahead {
+        let ahead = PlannedChange {
             tree,
             change,
             after: &after,

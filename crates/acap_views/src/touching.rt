@@ -3,28 +3,28 @@ ghost use Rattle.std.specs.Prelude.{◌≡◌, IfOk, IfSome};
 ghost use Rattle.acap_inherit.specs.Leaving.{AreTouchedAt};
 ghost use Rattle.acap_views.specs.Touching as rule;
 
-use crate::ahead::Ahead;
-use crate::noted::{Noted, NotedPaths};
+use crate::planned_change::PlannedChange;
+use crate::touched_cache::{CachedPaths, TouchedCache};
 use acap_entries::{Boxed, Copying, Dataset, Memory, Paths, Ranked, is_same};
-use acap_search::{Sought, looks_in};
+use acap_search::{SearchSpec, looks_in};
 use std::alloc::Global;
 
 /// Whether a change touches something in a dataset.
-pub(crate) fn is_touched_in(ahead: &Ahead<'_, '_>, dataset: &Dataset) -> bool
+pub(crate) fn is_touched_in(ahead: &PlannedChange<'_, '_>, dataset: &Dataset) -> bool
     ensures { result ≡ rule.is_touched_in ahead.now dataset.now }
 {
     ahead.reach.has(dataset)
 }
 
 // The datasets in which something may be touched.
-fn reached_datasets(ahead: &Ahead<'_, '_>) -> Result<Ranked<Boxed<Dataset>>, Memory>
+fn reached_datasets(ahead: &PlannedChange<'_, '_>) -> Result<Ranked<Boxed<Dataset>>, Memory>
     ensures { IfOk result (λ made. rule.AreReached ahead.now made.0) }
 {
     ahead.reach.datasets()
 }
 
 // Whether a search looks through a dataset.
-fn is_looked_into(ahead: &Ahead<'_, '_>, sought: &Sought, dataset: &Dataset) -> bool
+fn is_looked_into(ahead: &PlannedChange<'_, '_>, sought: &SearchSpec, dataset: &Dataset) -> bool
     ensures { result ≡ rule.looks_into ahead.now sought.now dataset.now }
 {
     looks_in(&sought.scope(), ahead.after, dataset)
@@ -33,8 +33,8 @@ fn is_looked_into(ahead: &Ahead<'_, '_>, sought: &Sought, dataset: &Dataset) -> 
 // Those of some datasets through which a search looks.
 fn looked_into<'n>(
     alloc: Global,
-    ahead: &Ahead<'_, '_>,
-    sought: &Sought,
+    ahead: &PlannedChange<'_, '_>,
+    sought: &SearchSpec,
     datasets: &'n Ranked<Boxed<Dataset>>,
 ) -> Result<Vec<&'n Dataset>, Memory>
     ensures { IfOk result (λ made. rule.AreLookedInto ahead.now sought.now datasets.now.0 made.items) }
@@ -52,8 +52,8 @@ fn looked_into<'n>(
 // The touched entries that a search looks at, of which the datasets are among some.
 fn in_datasets(
     alloc: Global,
-    ahead: &Ahead<'_, '_>,
-    sought: &Sought,
+    ahead: &PlannedChange<'_, '_>,
+    sought: &SearchSpec,
     datasets: &Ranked<Boxed<Dataset>>,
 ) -> Result<Paths, Memory>
     requires { rule.AreReached ahead.now datasets.now.0 }
@@ -67,9 +67,9 @@ fn in_datasets(
 // may be touched are listed once for a change.
 fn beneath(
     alloc: Global,
-    ahead: &Ahead<'_, '_>,
-    sought: &Sought,
-    noted: &mut Noted<'_>,
+    ahead: &PlannedChange<'_, '_>,
+    sought: &SearchSpec,
+    noted: &mut TouchedCache<'_>,
 ) -> Result<Paths, Memory>
     requires { rule.IsNoted ahead.now noted.old }
     ensures noted { rule.IsNoted ahead.now noted.new }
@@ -86,9 +86,9 @@ fn beneath(
 
 // The touched entries of a dataset, where it is the one of which they are kept.
 fn known_paths<'n>(
-    ahead: &Ahead<'_, '_>,
-    sought: &Sought,
-    noted: &'n Noted<'_>,
+    ahead: &PlannedChange<'_, '_>,
+    sought: &SearchSpec,
+    noted: &'n TouchedCache<'_>,
 ) -> Option<&'n Paths>
     requires { rule.IsNoted ahead.now noted.now }
     ensures { IfSome result (λ paths. rule.AreLookedAt ahead.now sought.now paths.now) }
@@ -102,7 +102,11 @@ fn known_paths<'n>(
 }
 
 // The touched entries of a dataset.
-fn touched_in(alloc: Global, ahead: &Ahead<'_, '_>, dataset: &Dataset) -> Result<Paths, Memory>
+fn touched_in(
+    alloc: Global,
+    ahead: &PlannedChange<'_, '_>,
+    dataset: &Dataset,
+) -> Result<Paths, Memory>
     ensures { IfOk result (AreTouchedAt ahead.now.change ahead.now.old dataset.now) }
 {
     ahead.reach.touched_in(alloc, dataset)
@@ -111,9 +115,9 @@ fn touched_in(alloc: Global, ahead: &Ahead<'_, '_>, dataset: &Dataset) -> Result
 // Lists the touched entries of a dataset, and keeps them if there are any.
 fn note_paths<'a>(
     alloc: Global,
-    ahead: &Ahead<'_, '_>,
-    sought: &'a Sought,
-    noted: &mut Noted<'a>,
+    ahead: &PlannedChange<'_, '_>,
+    sought: &'a SearchSpec,
+    noted: &mut TouchedCache<'a>,
 ) -> Result<Paths, Memory>
     requires { rule.IsNoted ahead.now noted.old }
     ensures noted { rule.IsNoted ahead.now noted.new }
@@ -124,7 +128,7 @@ fn note_paths<'a>(
         return Ok(paths);
     }
     let dataset = sought.dataset.as_slice();
-    noted.last = Some(NotedPaths {
+    noted.last = Some(CachedPaths {
         dataset,
         paths: paths.copy()?,
     });
@@ -134,9 +138,9 @@ fn note_paths<'a>(
 // The touched entries of the one dataset that a search without DEPTH looks through.
 fn in_dataset<'a>(
     alloc: Global,
-    ahead: &Ahead<'_, '_>,
-    sought: &'a Sought,
-    noted: &mut Noted<'a>,
+    ahead: &PlannedChange<'_, '_>,
+    sought: &'a SearchSpec,
+    noted: &mut TouchedCache<'a>,
 ) -> Result<Paths, Memory>
     requires { rule.IsNoted ahead.now noted.old }
     ensures noted { rule.IsNoted ahead.now noted.new }
@@ -153,9 +157,9 @@ fn in_dataset<'a>(
 /// only for want of memory.
 pub(crate) fn list_touched<'a>(
     alloc: Global,
-    ahead: &Ahead<'_, '_>,
-    sought: &'a Sought,
-    noted: &mut Noted<'a>,
+    ahead: &PlannedChange<'_, '_>,
+    sought: &'a SearchSpec,
+    noted: &mut TouchedCache<'a>,
 ) -> Result<Paths, Memory>
     requires { rule.IsNoted ahead.now noted.old }
     ensures noted { rule.IsNoted ahead.now noted.new }

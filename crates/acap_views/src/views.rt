@@ -11,7 +11,7 @@ ghost use Rattle.acap_views.specs.Seats as rule;
 ghost use Rattle.acap_views.specs.Waiting.{waiting};
 
 use crate::open_context::OpenContext;
-use crate::sitting::Sitting;
+use crate::seat_contexts::SeatContexts;
 use crate::telling::any_waits;
 use acap_entries::{
     ContextName, Memory, Seat, UserName, Whole, lookup, put_in_room, room_for_one, take_out,
@@ -23,7 +23,7 @@ use std::marker::Model;
 #[derive(Drop)]
 pub struct Views {
     pub(crate) alloc: Global,
-    pub(crate) seats: Vec<(Seat, Sitting)>,
+    pub(crate) seats: Vec<(Seat, SeatContexts)>,
 }
 
 impl Model for Views {
@@ -46,7 +46,10 @@ impl Model for Views {
 }
 
 // The same users at the same seats, with equal contexts. Fails only for want of memory.
-fn copy_each(alloc: Global, seats: &Vec<(Seat, Sitting)>) -> Result<Vec<(Seat, Sitting)>, Memory>
+fn copy_each(
+    alloc: Global,
+    seats: &Vec<(Seat, SeatContexts)>,
+) -> Result<Vec<(Seat, SeatContexts)>, Memory>
     ensures { IfOk result (λ made. each bare_seat made.items ≡ each bare_seat seats.now.items) }
 {
     let mut made = Vec::with_capacity(alloc, seats.len())?;
@@ -90,7 +93,7 @@ impl Views {
         requires { 0 < self.old.spare }
         ensures { seats_in self.new ≡ rule.with_user (seats_in self.old) seat user }
     {
-        let sitting = Sitting::new(self.alloc, user);
+        let sitting = SeatContexts::new(self.alloc, user);
         put_in_room(&mut self.seats, seat, sitting);
     }
 
@@ -112,7 +115,7 @@ impl Views {
     }
 
     /// Who sits at a seat, with the contexts of the session.
-    pub(crate) fn sitting(&self, seat: Seat) -> Option<&Sitting>
+    pub(crate) fn sitting(&self, seat: Seat) -> Option<&SeatContexts>
         ensures { option_copied result ≡ table.get self.now.seats seat }
     {
         lookup(self.seats.as_slice(), &Whole { key: &seat })

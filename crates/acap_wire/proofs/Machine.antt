@@ -48,8 +48,8 @@ use Rattle.acap_notices.specs.declared.told.Told.{Told}
 use Rattle.acap_notices.specs.declared.told.Told.TheVariants as told
 use Rattle.acap_search.specs.Asking.{asked_of}
 use Rattle.acap_search.specs.Matches.{Match}
-use Rattle.acap_search.specs.declared.query.Asked.{Asked}
-use Rattle.acap_search.specs.declared.query.Sought.{Sought}
+use Rattle.acap_search.specs.declared.query.SearchRequest.{SearchRequest}
+use Rattle.acap_search.specs.declared.query.SearchSpec.{SearchSpec}
 use Rattle.acap_search.specs.declared.refusal.SearchRefusal.{SearchRefusal}
 use Rattle.acap_search.specs.declared.refusal.SearchRefusal.TheVariants as refusal
 use Rattle.acap_views.proofs.WaitingLemmas.{tied_none}
@@ -83,11 +83,11 @@ seated_finds : (m : Machine) (found : SearchReply) (r : Result Seated ViewRefusa
 seated_finds m found (Ok seats) = tt
 seated_finds m found (Err why) = view_good why
 
-kept_finds : (m : Machine) (seat : ℕ) (make : Option MakeContext) (sought : Sought) (limit : Option Limit) (matches : List Match) → Finds (kept_if m seat make sought limit matches).0
+kept_finds : (m : Machine) (seat : ℕ) (make : Option MakeContext) (sought : SearchSpec) (limit : Option Limit) (matches : List Match) → Finds (kept_if m seat make sought limit matches).0
 kept_finds m seat None sought limit matches = tt
 kept_finds m seat (Some make) sought limit matches = seated_finds m _ _
 
-over_finds : (m : Machine) (seat : ℕ) (asked : Asked) (because : Option SearchRefusal) (matches : List Match) → Finds (found_or m seat asked because matches).0
+over_finds : (m : Machine) (seat : ℕ) (asked : SearchRequest) (because : Option SearchRefusal) (matches : List Match) → Finds (found_or m seat asked because matches).0
 over_finds m seat asked (Some why) matches = search_good asked.query.sought.dataset why
 over_finds m seat asked None matches = kept_finds m seat asked.make_context asked.query.sought asked.limit matches
 

@@ -5,7 +5,7 @@ use Rattle.acap_examples.proofs.showing.show.Goals as goal
 use Rattle.acap_examples.specs.Stories.{Shows, telling_of}
 use Rattle.acap_examples.specs.declared.trouble.Trouble.{Trouble}
 use Rattle.acap_notices.specs.Holding.{Holding}
-use Rattle.acap_views.proofs.LoopShiftLemmas.{none_of}
+use Rattle.acap_views.proofs.LoopUpdateLemmas.{none_of}
 
 -- what holds of each thing that is there holds of it in the place of a failure
 if_there : (P : Holding → Type 0) (held : Option Holding) (otherwise : Trouble) → ((h : Holding) → held ≡ Some h → P h) → IfOk (ok_or held otherwise) P

@@ -3,7 +3,7 @@ use Rattle.std.specs.List.{Contains}
 use Rattle.acap_search.specs.Gathering.{with_one}
 use Rattle.acap_search.specs.Views.{found_at, spot_in}
 use Rattle.acap_search.specs.Walks.{datasets_by, view_in}
-use Rattle.acap_search.proofs.GatheredLemmas.{gathered_none}
+use Rattle.acap_search.proofs.FoundLemmas.{gathered_none}
 use Rattle.acap_search.proofs.WithinLemmas.{looked_in, not_looked_in}
 use Rattle.acap_search.proofs.context.add_here.Goals as goal
 

@@ -4,7 +4,7 @@ use Rattle.std.specs.Option.{option_copied}
 use Rattle.acap_search.specs.Gathering.{with_one}
 use Rattle.acap_search.specs.Walks.{sight_by}
 use Rattle.acap_search.specs.Within.{tuple_within, tuple_at}
-use Rattle.acap_search.proofs.GroundLemmas.{all_looked, none_shown, one_looked}
+use Rattle.acap_search.proofs.CursorLemmas.{all_looked, none_shown, one_looked}
 use Rattle.acap_search.proofs.context.find_among.Goals as goal
 
 pub loop-count-preserved : goal.loop-count-preserved

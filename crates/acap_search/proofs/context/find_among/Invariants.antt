@@ -1,7 +1,7 @@
 use Rattle.std.proofs.Common.{◌≡◌, ◌+◌, suc, drop, map}
 use Rattle.std.specs.List.{filter_map}
 use Rattle.acap_search.specs.Gathering.{with_more}
-use Rattle.acap_search.specs.Grounds.{IsGroundOf}
+use Rattle.acap_search.specs.DatasetCursors.{IsGroundOf}
 use Rattle.acap_search.specs.Walks.{sight_by}
 use Rattle.acap_search.specs.Within.{tuple_within, numbered_from, numbered_paths}
 use Rattle.acap_search.proofs.context.find_among.Given as goal

@@ -1,7 +1,7 @@
 use Rattle.std.proofs.Common.{ap, sym, ◌∙◌}
 use Rattle.acap_search.specs.Gathering.{with_more}
 use Rattle.acap_search.specs.Walks.{tuples_by}
-use Rattle.acap_search.proofs.GatheredLemmas.{came_so, put_so}
+use Rattle.acap_search.proofs.FoundLemmas.{came_so, put_so}
 use Rattle.acap_search.proofs.WithinLemmas.{unsorted, put_sorted}
 use Rattle.acap_search.proofs.context.find_within.Goals as goal
 

@@ -2,7 +2,7 @@ use Rattle.std.proofs.Common.{None, ap, arith, length, sym, ◌∙◌}
 use Rattle.acap_search.specs.Gathering.{with_more}
 use Rattle.acap_search.specs.Views.{found_at, spot_in}
 use Rattle.acap_search.specs.Walks.{hits_at}
-use Rattle.acap_search.proofs.GatheredLemmas.{gathered_next}
+use Rattle.acap_search.proofs.FoundLemmas.{gathered_next}
 use Rattle.acap_search.proofs.dataset_walk.add_far.Goals as goal
 
 pub loop-name-preserved : goal.loop-name-preserved

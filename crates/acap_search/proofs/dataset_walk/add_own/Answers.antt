@@ -1,11 +1,11 @@
 use Rattle.std.proofs.Common.{None, ◌+◌, ap, arith, length, refl, subst, sym, ◌∙◌, map}
 use Rattle.std.proofs.lemmas.List.{length-map}
 use Rattle.acap_search.specs.Gathering.{with_more, with_one}
-use Rattle.acap_search.specs.Near.{AreKept}
+use Rattle.acap_search.specs.RecordCaches.{AreKept}
 use Rattle.acap_search.specs.Views.{found_at, spot_in}
 use Rattle.acap_search.specs.Walks.{hits_at}
-use Rattle.acap_search.proofs.GatheredLemmas.{gathered_next, own_walked}
-use Rattle.acap_search.proofs.NearLemmas.{names_alone, all_kept}
+use Rattle.acap_search.proofs.FoundLemmas.{gathered_next, own_walked}
+use Rattle.acap_search.proofs.CacheLemmas.{names_alone, all_kept}
 use Rattle.acap_search.proofs.dataset_walk.add_own.Goals as goal
 
 pub loop-path-init : goal.loop-path-init

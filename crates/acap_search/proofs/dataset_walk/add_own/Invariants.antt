@@ -1,6 +1,6 @@
 use Rattle.std.proofs.Common.{◌≡◌, ◌+◌, ◌≤◌, length, map}
 use Rattle.acap_search.specs.Gathering.{with_more}
-use Rattle.acap_search.specs.Near.{AreKept}
+use Rattle.acap_search.specs.RecordCaches.{AreKept}
 use Rattle.acap_search.specs.Walks.{hits_at, names_count}
 use Rattle.acap_search.proofs.dataset_walk.add_own.Given as goal
 

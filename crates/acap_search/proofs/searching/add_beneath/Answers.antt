@@ -7,7 +7,7 @@ use Rattle.acap_entries.specs.declared.record.Record.{Record}
 use Rattle.acap_search.specs.Gathering.{with_more}
 use Rattle.acap_search.specs.Walks.{hits_in, hits_by, count_in, count_by}
 use Rattle.acap_search.proofs.CountingLemmas.{count_beneath_is}
-use Rattle.acap_search.proofs.GatheredLemmas.{gathered_none, gathered_twice, walked}
+use Rattle.acap_search.proofs.FoundLemmas.{gathered_none, gathered_twice, walked}
 use Rattle.acap_search.proofs.WalkLemmas.{beneath_is, none_beneath}
 use Rattle.acap_search.proofs.searching.add_beneath.Goals as goal
 

@@ -1,7 +1,7 @@
 use Rattle.std.proofs.Common.{ap, ◌∙◌}
 use Rattle.acap_search.specs.Gathering.{with_more}
 use Rattle.acap_search.specs.Walks.{hits_over}
-use Rattle.acap_search.proofs.GatheredLemmas.{came_so, put_so}
+use Rattle.acap_search.proofs.FoundLemmas.{came_so, put_so}
 use Rattle.acap_search.proofs.TellingLemmas.{plain_is}
 use Rattle.acap_search.proofs.WalkLemmas.{fresh_is}
 use Rattle.acap_search.proofs.searching.find_by.Goals as goal

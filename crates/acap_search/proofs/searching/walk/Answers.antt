@@ -3,7 +3,7 @@ use Rattle.std.specs.Option.{option_map_or}
 use Rattle.acap_search.specs.Gathering.{with_more}
 use Rattle.acap_search.specs.Scopes.{beneath}
 use Rattle.acap_search.specs.Walks.{hits_in, hits_beneath}
-use Rattle.acap_search.proofs.GatheredLemmas.{gathered_twice}
+use Rattle.acap_search.proofs.FoundLemmas.{gathered_twice}
 use Rattle.acap_search.proofs.searching.walk.Goals as goal
 use Rattle.acap_search.proofs.searching.walk.Goals.{in-Some+in_ok-add_beneath, in_default}
 

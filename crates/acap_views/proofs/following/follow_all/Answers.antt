@@ -2,7 +2,7 @@ use Rattle.std.proofs.Common.{◌≡◌, ◌<◌, ◌≤◌, [], length, refl, s
 use Rattle.acap_views.specs.Followed.{FitsContext}
 use Rattle.acap_views.specs.Listing.{bare}
 use Rattle.acap_views.proofs.FollowingLemmas.{context_turn, contexts_is, followed_on, followed_past, followed_all, room_on}
-use Rattle.acap_views.proofs.LoopShiftLemmas.{none_of}
+use Rattle.acap_views.proofs.LoopUpdateLemmas.{none_of}
 use Rattle.acap_views.proofs.following.follow_all.Goals as goal
 
 pub returns-then-at-len : goal.returns-then-at-len

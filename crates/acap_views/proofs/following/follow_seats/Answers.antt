@@ -2,7 +2,7 @@ use Rattle.std.proofs.Common.{◌≡◌, ◌<◌, ◌≤◌, [], length, refl, s
 use Rattle.acap_views.specs.Followed.{FitsSeat}
 use Rattle.acap_views.specs.Listing.{bare_seat}
 use Rattle.acap_views.proofs.FollowingLemmas.{seat_turn, seats_is, followed_on, followed_past, followed_all, room_on}
-use Rattle.acap_views.proofs.LoopShiftLemmas.{none_of}
+use Rattle.acap_views.proofs.LoopUpdateLemmas.{none_of}
 use Rattle.acap_views.proofs.following.follow_seats.Goals as goal
 
 pub returns-then-at-len : goal.returns-then-at-len

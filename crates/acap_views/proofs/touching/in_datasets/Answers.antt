@@ -1,6 +1,6 @@
 use Rattle.std.proofs.Common.{◌∙◌, ap, map as each}
 use Rattle.std.proofs.lemmas.Result.{IfOk-weaker}
-use Rattle.acap_views.specs.Aheads.{reaching}
+use Rattle.acap_views.specs.PlannedChanges.{reaching}
 use Rattle.acap_views.proofs.TouchingLemmas.{in_all}
 use Rattle.acap_views.proofs.touching.in_datasets.Goals as goal
 

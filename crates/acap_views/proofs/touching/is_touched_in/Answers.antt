@@ -1,5 +1,5 @@
 use Rattle.std.proofs.Common.{◌∙◌, ap}
-use Rattle.acap_views.specs.Aheads.{reaching}
+use Rattle.acap_views.specs.PlannedChanges.{reaching}
 use Rattle.acap_views.proofs.TouchingLemmas.{says_touched}
 use Rattle.acap_views.proofs.touching.is_touched_in.Goals as goal
 

@@ -1,7 +1,7 @@
 use Rattle.std.proofs.Common.{◌∙◌, ap, subst}
 use Rattle.std.specs.Result.{IfOk}
 use Rattle.acap_inherit.specs.Reaching.{AreAllReached}
-use Rattle.acap_views.specs.Aheads.{reaching}
+use Rattle.acap_views.specs.PlannedChanges.{reaching}
 use Rattle.acap_views.proofs.touching.reached_datasets.Goals as goal
 
 pub returns : goal.returns

@@ -2,7 +2,7 @@ use Rattle.std.proofs.Common.{rules, ◌∙◌, ap, arith, sym}
 use Rattle.std.specs.FinMap as table
 use Rattle.acap_entries.specs.Changes.{store_after}
 use Rattle.acap_entries.proofs.StoreLaws.{value_after}
-use Rattle.acap_views.specs.Aheads.{Planned}
+use Rattle.acap_views.specs.PlannedChanges.{Planned}
 use Rattle.acap_views.specs.Keeping.{seats_in}
 use Rattle.acap_views.specs.Preparing.{seats_after, with_delta}
 use Rattle.acap_views.proofs.QuietLemmas.{quiet_same, quiet_work, same_seats}

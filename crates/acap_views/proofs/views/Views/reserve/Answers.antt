@@ -5,7 +5,7 @@ use Rattle.acap_entries.proofs.Logic.{OnOk_then}
 use Rattle.acap_views.specs.Followed.{EachFits, FitsSeat}
 use Rattle.acap_views.specs.Keeping.{seats_in}
 use Rattle.acap_views.specs.Preparing.{Prepared}
-use Rattle.acap_views.specs.Shifting.{Shift}
+use Rattle.acap_views.specs.EntryUpdates.{EntryUpdate}
 use Rattle.acap_views.proofs.FollowingLemmas.{seats_fit_made}
 use Rattle.acap_views.proofs.KeepingLemmas.{copied_order, copied_seats}
 use Rattle.acap_views.proofs.views.Views.reserve.Goals as goal
@@ -23,5 +23,5 @@ returns-clause-room c =
     let order = copied_order items c.self.inside.seats.items c.reserve_seats.ensures.same c.self.invariant in
     let same : c.as_slice.result.now ≡ c.args.delta.now.seats = c.as_slice.ensures ∙ ap (λ (d : Prepared). d.seats) c.delta.view_is in
     OnOk_then c.reserve_seats.result
-    (λ r. subst (λ (ts : List (List (List Shift))). EachFits FitsSeat ts (table.entries (table.from_sorted {R = nat_cmp} items))) same (seats_fit_made c.as_slice.result.now items order r))
+    (λ r. subst (λ (ts : List (List (List EntryUpdate))). EachFits FitsSeat ts (table.entries (table.from_sorted {R = nat_cmp} items))) same (seats_fit_made c.as_slice.result.now items order r))
     c.reserve_seats.ensures.room

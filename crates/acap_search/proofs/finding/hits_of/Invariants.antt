@@ -1,5 +1,0 @@
-use Rattle.std.proofs.Common.{◌≡◌}
-use Rattle.acap_search.proofs.finding.hits_of.Given as goal
-
-abbrev pub invariant-loop-finding : goal.invariant-loop-finding
-invariant-loop-finding l = l.hits.items ≡ l.yielded

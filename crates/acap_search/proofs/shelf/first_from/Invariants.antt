@@ -1,5 +1,0 @@
-use Rattle.acap_search.specs.Near.{AreKept}
-use Rattle.acap_search.proofs.shelf.first_from.Given as goal
-
-abbrev pub invariant-passed : goal.invariant-passed
-invariant-passed l = record { kept : AreKept l.tree.store.records l.dataset l.others }

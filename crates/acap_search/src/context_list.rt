@@ -1,0 +1,15 @@
+//! What a search over a context is told of it.
+
+use crate::hit::Hit;
+use acap_entries::Moment;
+
+/// What a context shows, for a search over it (RFC 2244 section 3.3).
+#[derive(Clone, Copy)]
+pub struct ContextList<'a> {
+    /// Its hits, in its order.
+    pub hits: &'a [&'a Hit],
+    /// The moment that was last told of it.
+    pub told: Moment,
+    /// Whether its entries have positions.
+    pub enumerated: bool,
+}

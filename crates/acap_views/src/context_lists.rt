@@ -1,0 +1,24 @@
+//! The lists of one context, held and lent.
+
+use crate::live_lists::LiveLists;
+use acap_search::Hits;
+
+/// What is kept of the entries of a context (RFC 2244 section 3.3).
+#[derive(Drop)]
+pub(crate) enum ContextLists {
+    /// What its search found, which stays as it is.
+    Snapshot(Hits),
+    /// A list that follows the store.
+    Live(LiveLists),
+    /// Nothing: too many notices came.
+    Freed,
+}
+
+/// Where the list of a context lies that was told last.
+#[derive(Drop)]
+pub(crate) enum LentLists<'a> {
+    /// In a snapshot.
+    Snapshot(&'a Hits),
+    /// In the lists of a live context.
+    Live(&'a LiveLists),
+}
