@@ -10,7 +10,7 @@ use Rattle.acap_machine.specs.Machine.{Machine, Roomed, user_at}
 use Rattle.acap_machine.specs.Readied.{Pending, pending_of, IsReady}
 use Rattle.acap_machine.specs.Searching.{found_of, found_or, found_unless, kept_if, refused_as, is_search_memory, searched_alone, searched_over}
 use Rattle.acap_machine.specs.Stepping.{plain, answer_at, reply_of}
-use Rattle.acap_machine.specs.declared.deed.Deed.TheVariants as deed
+use Rattle.acap_machine.specs.declared.effect.Effect.TheVariants as deed
 use Rattle.acap_machine.proofs.Following.{is_at, there}
 use Rattle.acap_machine.proofs.ReadyLemmas.{ready_for}
 use Rattle.acap_rights.specs.declared.realm.Realm.{Realm}

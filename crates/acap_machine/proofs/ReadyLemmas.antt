@@ -21,8 +21,8 @@ use Rattle.acap_machine.specs.Readied.{Pending, pending_of, after_deed, links_af
 use Rattle.acap_machine.specs.Searching.{seated_or}
 use Rattle.acap_machine.specs.Serving.{free_answer, update_answer, updated_or}
 use Rattle.acap_machine.specs.Stepping.{plain, by_user, answer_at, reply_of}
-use Rattle.acap_machine.specs.declared.deed.Deed.{Deed}
-use Rattle.acap_machine.specs.declared.deed.Deed.TheVariants as deed
+use Rattle.acap_machine.specs.declared.effect.Effect.{Effect}
+use Rattle.acap_machine.specs.declared.effect.Effect.TheVariants as deed
 use Rattle.acap_machine.proofs.SeatLemmas.{freed_is, told_is}
 use Rattle.acap_rights.specs.declared.realm.Realm.{Realm}
 use Rattle.acap_notices.specs.declared.told.Told.{Told}
@@ -84,10 +84,10 @@ performs m change delta made = ap (λ s. record m { store = store_after change m
 
 -- ---- a change is put in place
 
-same_deed : (d e : Deed) (seat : ℕ) (m : Machine) → d ≡ e → after_deed d seat m ≡ after_deed e seat m
+same_deed : (d e : Effect) (seat : ℕ) (m : Machine) → d ≡ e → after_deed d seat m ≡ after_deed e seat m
 same_deed d e seat m is = ap (λ x. after_deed x seat m) is
 
-pub committed : (d : Deed) (change : Change) (prepared : List Link × List Link) (delta : Prepared) (seat : ℕ) (m : Machine) (realm : Realm) (old new : Store) (was views : RoomySeats)
+pub committed : (d : Effect) (change : Change) (prepared : List Link × List Link) (delta : Prepared) (seat : ℕ) (m : Machine) (realm : Realm) (old new : Store) (was views : RoomySeats)
     → machine_with realm old was ≡ m → d ≡ deed.Changes change prepared delta → IsStoreAfter change old new → seats_in views ≡ with_delta delta (seats_in was)
     → machine_with realm new views ≡ after_deed d seat m
 committed d change prepared delta seat m realm old new was views m_is d_is after told =
@@ -96,7 +96,7 @@ committed d change prepared delta seat m realm old new was views m_is d_is after
     ∙ ap (λ (n : Machine). record n { store = store_after change n.store; seats = with_delta delta n.seats }) m_is
     ∙ sym (same_deed d (deed.Changes change prepared delta) seat m d_is)
 
-pub kept_committed : (d : Deed) (change : Change) (prepared : List Link × List Link) (delta : Prepared) (links index : List Link) (m n : Machine)
+pub kept_committed : (d : Effect) (change : Change) (prepared : List Link × List Link) (delta : Prepared) (links index : List Link) (m n : Machine)
     → d ≡ deed.Changes change prepared delta → n ≡ m → index ≡ index_with prepared links → IsKept m (links_after d links) → IsKept n index
 kept_committed d change prepared delta links index m n d_is m_is index_is is =
     let links_are : links_after d links ≡ index = ap (λ x. links_after x links) d_is ∙ sym index_is in
@@ -112,7 +112,7 @@ begins law store_law realm store kept links store_is seats_are index =
 
 -- ---- what is made ready of who has a seat
 
-pub ready_from : (old new : Roomed) (stepped : Result (Reply × Machine) Fault) (seat : ℕ) (pending : Pending) (d : Deed) (words : Said) (work : ℕ) → pending ≡ pending_of seat d (plain words) work
+pub ready_from : (old new : Roomed) (stepped : Result (Reply × Machine) Fault) (seat : ℕ) (pending : Pending) (d : Effect) (words : Said) (work : ℕ) → pending ≡ pending_of seat d (plain words) work
     → stepped ≡ Ok (plain words, after_deed d seat old.machine) → new.machine ≡ old.machine → new.kept.index.0 ≡ old.kept.index.0 → HasRoom d seat new.kept
     → IsKept (after_deed d seat old.machine) (links_after d old.kept.index.0) → IsReady old stepped pending new
 ready_from old new stepped seat pending d words work pending_is step m_is links_are room kept =
@@ -124,7 +124,7 @@ ready_from old new stepped seat pending d words work pending_is step m_is links_
     let ready : IsReady old stepped (pending_of seat d (plain words) work) new = record { step = step; readied = readied } in
     subst (λ p. IsReady old stepped p new) (sym pending_is) ready
 
-pub ready_for : (old new : Roomed) (seat : ℕ) (does : List ℕ → Reply × Machine) (user : List ℕ) (pending : Pending) (d : Deed) (words : Said) → user_at old.machine seat ≡ Some user
+pub ready_for : (old new : Roomed) (seat : ℕ) (does : List ℕ → Reply × Machine) (user : List ℕ) (pending : Pending) (d : Effect) (words : Said) → user_at old.machine seat ≡ Some user
     → pending ≡ pending_of seat d (plain words) 0 → does user ≡ (plain words, after_deed d seat old.machine)
     → new.machine ≡ old.machine → new.kept.index.0 ≡ old.kept.index.0 → HasRoom d seat new.kept
     → IsKept (after_deed d seat old.machine) (links_after d old.kept.index.0) → IsReady old (by_user (user_at old.machine seat) does) pending new

@@ -15,9 +15,9 @@ use Rattle.acap_inherit.specs.declared.link.Link.{Link}
 use Rattle.acap_machine.specs.Changing.{IsKept}
 use Rattle.acap_machine.specs.Machine.{Machine, Kept, Roomed}
 use Rattle.acap_machine.specs.Stepping.{IsFault, step_of}
-use Rattle.acap_machine.specs.contracts.deed.Deed as deeds
-use Rattle.acap_machine.specs.declared.deed.Deed.{Deed}
-use Rattle.acap_machine.specs.declared.deed.Deed.TheVariants as deed
+use Rattle.acap_machine.specs.contracts.effect.Effect as deeds
+use Rattle.acap_machine.specs.declared.effect.Effect.{Effect}
+use Rattle.acap_machine.specs.declared.effect.Effect.TheVariants as deed
 use Rattle.acap_views.specs.Answering.{HasPlace, with_context}
 use Rattle.acap_views.specs.Followed as views
 use Rattle.acap_views.specs.Keeping.{seats_in}
@@ -28,15 +28,15 @@ use Rattle.acap_views.specs.Telling.{after_updates, drain_of}
 -- the seat, what is put in place there, what is said, and how many touched entries were looked at
 pub record Pending : Type 0 where
   pub seat : ℕ
-  pub deed : Deed
+  pub deed : Effect
   pub reply : Reply
   pub work : ℕ
 
-abbrev pub pending_of : ℕ → Deed → Reply → ℕ → Pending
+abbrev pub pending_of : ℕ → Effect → Reply → ℕ → Pending
 pending_of seat deed reply work = record { seat = seat; deed = deed; reply = reply; work = work }
 
 -- what putting it in place makes of a machine
-abbrev pub after_deed : Deed → ℕ → Machine → Machine
+abbrev pub after_deed : Effect → ℕ → Machine → Machine
 after_deed deed.Nothing seat m = m
 after_deed (deed.Enters user) seat m = record m { seats = with_user m.seats seat user }
 after_deed (deed.Changes change links delta) seat m = record m { store = store_after change m.store; seats = with_delta delta m.seats }
@@ -48,7 +48,7 @@ after_deed deed.Drains seat m = record m { seats = (drain_of m.seats seat).1 }
 after_deed deed.Leaves seat m = record m { seats = without_user m.seats seat }
 
 -- what it makes of the index of heirs
-abbrev pub links_after : Deed → List Link → List Link
+abbrev pub links_after : Effect → List Link → List Link
 links_after deed.Nothing links = links
 links_after (deed.Enters user) links = links
 links_after (deed.Changes change prepared delta) links = index_with prepared links
@@ -59,7 +59,7 @@ links_after deed.Drains links = links
 links_after deed.Leaves links = links
 
 -- there is room for it, and what is to be freed is there
-abbrev pub HasRoom : Deed → ℕ → Kept → Type 0
+abbrev pub HasRoom : Effect → ℕ → Kept → Type 0
 HasRoom deed.Nothing seat kept = Unit {0}
 HasRoom (deed.Enters user) seat kept = 0 < kept.views.spare
 HasRoom (deed.Changes change links delta) seat kept =
@@ -71,7 +71,7 @@ HasRoom deed.Drains seat kept = Unit {0}
 HasRoom deed.Leaves seat kept = Unit {0}
 
 -- once it is in place, what the machine keeps beside its store and seats is true of them
-abbrev pub StaysKept : Deed → ℕ → Roomed → Type 0
+abbrev pub StaysKept : Effect → ℕ → Roomed → Type 0
 StaysKept deed seat state = IsKept (after_deed deed seat state.machine) (links_after deed state.kept.index.0)
 
 -- the state is one for which it was made ready: there is room, and what is so of machines between two events is so afterwards
@@ -108,5 +108,5 @@ IsWork (Err fault) old new most = (old ≤ new) × (new ≤ old + most)
 -- how they are told apart in proofs
 abbrev pub pending_code : Coded Pending
 pending_code =
-    code_by (ℕ × (Deed × (Reply × ℕ))) (coded× coded_ℕ (coded× deeds.the_row.coded (coded× reply.the_row.coded coded_ℕ)))
+    code_by (ℕ × (Effect × (Reply × ℕ))) (coded× coded_ℕ (coded× deeds.the_row.coded (coded× reply.the_row.coded coded_ℕ)))
     (λ p. (p.seat, (p.deed, (p.reply, p.work)))) (λ q. record { seat = q.0; deed = q.1.0; reply = q.1.1.0; work = q.1.1.1 }) (λ _. refl)

@@ -2,7 +2,7 @@
 ghost use Rattle.std.specs.Prelude.{◌≡◌};
 ghost use Rattle.acap_machine.specs.Readied.{IsReadied, HasRoom, StaysKept, after_deed};
 
-use crate::deed::Deed;
+use crate::effect::Effect;
 use crate::ready::Ready;
 use crate::state::State;
 use acap_commands::Reply;
@@ -29,26 +29,26 @@ impl State {
     }
 
     // Puts something in place at a seat, in the room that there is.
-    fn perform(&mut self, seat: Seat, deed: Deed)
+    fn perform(&mut self, seat: Seat, deed: Effect)
         requires room { HasRoom deed seat self.old.kept }
         requires sound { StaysKept deed seat self.old }
         ensures { self.new.machine ≡ after_deed deed seat self.old.machine }
     {
         match deed {
-            Deed::Nothing => {}
-            Deed::Enters(user) => self.views.take_seat(seat, user),
-            Deed::Changes(change, links, delta) => {
+            Effect::Nothing => {}
+            Effect::Enters(user) => self.views.take_seat(seat, user),
+            Effect::Changes(change, links, delta) => {
                 self.tree.commit(change);
                 self.index.commit(links);
                 self.views.on_change(delta);
             }
-            Deed::Makes(new) => self.views.put_context(seat, new),
-            Deed::Frees(name) => {
+            Effect::Makes(new) => self.views.put_context(seat, new),
+            Effect::Frees(name) => {
                 let _ = self.views.free(seat, &name);
             }
-            Deed::Tells(names, last) => self.views.tell(seat, names.as_slice(), last),
-            Deed::Drains => self.views.drop_told(seat),
-            Deed::Leaves => self.views.leave(seat),
+            Effect::Tells(names, last) => self.views.tell(seat, names.as_slice(), last),
+            Effect::Drains => self.views.drop_told(seat),
+            Effect::Leaves => self.views.leave(seat),
         }
     }
 }

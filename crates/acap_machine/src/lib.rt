@@ -2,14 +2,14 @@
 //! 6).
 #![tactic(auto)]
 
+mod answering;
 mod applying;
-mod deed;
+mod effect;
 pub mod laws;
 mod ready;
 mod readying;
 mod refusing;
 mod searching;
-mod serving;
 pub mod state;
 pub mod step;
 mod writing;

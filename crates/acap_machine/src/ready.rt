@@ -1,6 +1,6 @@
 //! An event that was made ready.
 
-use crate::deed::Deed;
+use crate::effect::Effect;
 use acap_commands::{Reply, Said};
 use acap_entries::Seat;
 use std::marker::Model;
@@ -9,7 +9,7 @@ use std::marker::Model;
 #[derive(Drop)]
 pub struct Ready {
     pub(crate) seat: Seat,
-    pub(crate) deed: Deed,
+    pub(crate) deed: Effect,
     pub(crate) reply: Reply,
     pub(crate) work: u64,
 }
@@ -28,10 +28,10 @@ impl Ready {
     ghost use Rattle.std.specs.Prelude.{◌≡◌};
     ghost use Rattle.acap_machine.specs.Readied.{pending_of};
     ghost use Rattle.acap_machine.specs.Stepping.{plain};
-    ghost use Rattle.acap_machine.specs.declared.deed.Deed.TheVariants as deeds;
+    ghost use Rattle.acap_machine.specs.declared.effect.Effect.TheVariants as deeds;
 
     // What is said, and what is yet to be put in place; no touched entry was looked at for it.
-    pub(crate) fn new(seat: Seat, deed: Deed, words: Said) -> Ready
+    pub(crate) fn new(seat: Seat, deed: Effect, words: Said) -> Ready
         ensures { result ≡ pending_of seat deed (plain words) 0 }
     {
         Ready {
@@ -46,7 +46,7 @@ impl Ready {
     pub(crate) fn saying(seat: Seat, words: Said) -> Ready
         ensures { result ≡ pending_of seat deeds.Nothing (plain words) 0 }
     {
-        Ready::new(seat, Deed::Nothing, words)
+        Ready::new(seat, Effect::Nothing, words)
     }
 
     /// What is answered once it is put in place.

@@ -5,7 +5,7 @@ ghost use Rattle.acap_machine.specs.Machine.{user_at};
 ghost use Rattle.acap_machine.specs.Readied.{IsReadyFor, IsWork};
 ghost use Rattle.acap_machine.specs.Work.{is_search, searches, work_of};
 
-use crate::deed::Deed;
+use crate::effect::Effect;
 use crate::ready::Ready;
 use crate::state::State;
 use acap_commands::{Command, Event, Fault, Refusal, Said, Verb};
@@ -77,7 +77,7 @@ impl State {
             return Err(Fault::AlreadyEntered);
         }
         self.views.reserve_seat()?;
-        Ok(Ready::new(seat, Deed::Enters(user), Said::Greeting))
+        Ok(Ready::new(seat, Effect::Enters(user), Said::Greeting))
     }
 
     // All that waits at a seat is told.
@@ -90,7 +90,7 @@ impl State {
         self.kept_law();
         self.user(seat)?;
         let tolds = self.views.drain_tolds(seat)?;
-        Ok(Ready::new(seat, Deed::Drains, Said::Drained(tolds)))
+        Ok(Ready::new(seat, Effect::Drains, Said::Drained(tolds)))
     }
 
     // The user leaves the seat. Takes no memory.
@@ -101,7 +101,7 @@ impl State {
     {
         self.kept_law();
         self.user(seat)?;
-        Ok(Ready::new(seat, Deed::Leaves, Said::Left))
+        Ok(Ready::new(seat, Effect::Leaves, Said::Left))
     }
 
     // The user of a seat gives a command.

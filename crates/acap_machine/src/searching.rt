@@ -10,7 +10,7 @@ ghost use Rattle.acap_search.specs.Matches.{match_cmp};
 ghost use Rattle.acap_views.specs.Ranging.{range_at};
 ghost use Rattle.acap_views.specs.Started.{as_ranged};
 
-use crate::deed::Deed;
+use crate::effect::Effect;
 use crate::ready::Ready;
 use crate::refusing::{refuse_query, refuse_view};
 use crate::state::State;
@@ -22,7 +22,8 @@ use acap_entries::{
     Boxed, ContextName, Copying, Memory, Moment, Row, Seat, Sequence, Steps, UserName,
 };
 use acap_search::{
-    SearchRequest, SearchAnswer, Hit, Hits, Query, ContextList, SearchSpec, cut_by, fresh, hit_law, tell, tell_within,
+    ContextList, Hit, Hits, Query, SearchAnswer, SearchRequest, SearchSpec, cut_by, fresh, hit_law,
+    tell, tell_within,
 };
 use acap_views::{LentContext, is_full};
 use std::alloc::Global;
@@ -46,7 +47,11 @@ fn total_told(total: Option<usize>) -> Option<u32>
 }
 
 // What a reply has of what is told of the matches.
-fn reply_with(last: Moment, sought: &SearchSpec, excerpt: SearchAnswer) -> Result<SearchReply, Memory>
+fn reply_with(
+    last: Moment,
+    sought: &SearchSpec,
+    excerpt: SearchAnswer,
+) -> Result<SearchReply, Memory>
     ensures { IfOk result (λ found. found ≡ rule.found_with last sought.now excerpt.rows excerpt.total) }
 {
     let total = total_told(excerpt.total);
@@ -320,7 +325,7 @@ impl State {
         let last = self.tree.last();
         let found = reply_of(self.alloc, last, &sought, limit, &hits)?;
         match self.views.make_context(seat, make, sought, hits, last) {
-            Ok(new) => Ok(Ready::new(seat, Deed::Makes(new), Said::Searched(found))),
+            Ok(new) => Ok(Ready::new(seat, Effect::Makes(new), Said::Searched(found))),
             Err(why) => Ok(Ready::saying(seat, refuse_view(why)?)),
         }
     }

@@ -14,7 +14,7 @@ ghost use Rattle.acap_store.specs.DatasetLaws.{paths_named};
 ghost use Rattle.acap_store.specs.Meaning.{list_path, target_in};
 ghost use Rattle.acap_views.specs.Changing.{IsSoundStep};
 
-use crate::deed::Deed;
+use crate::effect::Effect;
 use crate::ready::Ready;
 use crate::refusing::refuse;
 use crate::state::State;
@@ -108,7 +108,7 @@ impl State {
         self.views.reserve(&delta)?;
         Ok(Ready {
             seat,
-            deed: Deed::Changes(change, links, delta),
+            deed: Effect::Changes(change, links, delta),
             reply: Reply::new(Said::Done(verb)),
             work,
         })

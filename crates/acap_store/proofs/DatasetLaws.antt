@@ -41,7 +41,7 @@ use Rattle.acap_store.specs.Permission.{permission}
 use Rattle.acap_store.specs.Limits.{gives_large}
 use Rattle.acap_commands.specs.declared.refusal.Refusal.TheVariants as refusal
 use Rattle.acap_store.specs.Writing.{Celled, with_value, with_values, with_named, with_given, kept_as, cells_of, given_record, fate_of, entry_at, steps_for, step_at, record_with_steps, missing_for, missing_to, missing_within, own_if_missing, deletes, ends, written_for}
-use Rattle.acap_store.specs.declared.write.Meant.{Meant}
+use Rattle.acap_store.specs.declared.write.ResolvedWrite.{ResolvedWrite}
 use Rattle.acap_store.proofs.DatasetLemmas.{not_true, octets_same, octets_refl, paths_same, own_whole, append_behind, makes_at, exists_by, exists_without, missing_is, found_as, found_has, not_found_none, some_found}
 use Rattle.acap_store.proofs.StoreLaws.{path_law, steps_at, order}
 
@@ -303,7 +303,7 @@ or_none : (a b : Option Refusal) → option_or a b ≡ None → (a ≡ None) × 
 or_none None b e = (refl, e)
 or_none (Some r) b e = cc
 
-entry_valid : (records : Stored) (meant : Meant) (test : StoreEntry → Bool) (entries : List StoreEntry) (e : StoreEntry) → first_invalid records meant entries ≡ None → find test entries ≡ Some e → list_any (is_invalid records meant.entries e) e.items ≡ false
+entry_valid : (records : Stored) (meant : ResolvedWrite) (test : StoreEntry → Bool) (entries : List StoreEntry) (e : StoreEntry) → first_invalid records meant entries ≡ None → find test entries ≡ Some e → list_any (is_invalid records meant.entries e) e.items ≡ false
 entry_valid records meant test [] e h = λ g. cc
 entry_valid records meant test (x ∷ entries) e h =
     let parts = or_none (invalid_in records meant x) (first_invalid records meant entries) h in
@@ -316,7 +316,7 @@ entry_valid records meant test (x ∷ entries) e h =
 
 -- ---- what a path has afterwards
 
-at_path : (records : Stored) (user : List ℕ) (meant : Meant) (moment : ℤ) (d : List ℕ) (own : List ℕ × List ℕ) (found : Option StoreEntry) → own_entry d ≡ Some own →
+at_path : (records : Stored) (user : List ℕ) (meant : ResolvedWrite) (moment : ℤ) (d : List ℕ) (own : List ℕ × List ℕ) (found : Option StoreEntry) → own_entry d ≡ Some own →
     first_invalid records meant meant.entries ≡ None → IsHoused records → find (λ e. same_path (own_path own) e.path) meant.entries ≡ found →
     makes_at (after_fate (option_or (option_map (λ e. (entry_at records user (steps_for records meant.entries moment) moment e).1) found) (table.find path_cmp (own_path own) (map (step_at records moment) (missing_for records meant.entries)))) (table.get records (own_path own)))
     ≡ ((makes_at (table.get records (own_path own)) || is_on_way meant.entries d) || option_map_or gets_subdataset found false)
@@ -339,7 +339,7 @@ at_path records user meant moment d own (Some e) q valid housed f =
     ∙ ap (λ o. makes_at (after_fate (Some (fate_of user o moment e)) (table.get records e.path))) there
     ∙ one_entry records user meant.entries moment d own e (is_on_way meant.entries d) existed q same (entry_valid records meant _ meant.entries e valid f) housed refl kept
 
-pub after_is : (records : Stored) (user : List ℕ) (meant : Meant) (moment : ℤ) (after : Stored) → first_invalid records meant meant.entries ≡ None → IsHoused records →
+pub after_is : (records : Stored) (user : List ℕ) (meant : ResolvedWrite) (moment : ℤ) (after : Stored) → first_invalid records meant meant.entries ≡ None → IsHoused records →
     ((p : Path) → table.get after p ≡ after_fate (option_or (table.find path_cmp p (map (entry_at records user (steps_for records meant.entries moment) moment) meant.entries)) (table.find path_cmp p (map (step_at records moment) (missing_for records meant.entries)))) (table.get records p)) →
     (d : List ℕ) → dataset_exists after d ≡ (dataset_exists records d || is_on_way meant.entries d || is_made meant.entries d)
 after_is records user meant moment after valid housed law d =
@@ -366,7 +366,7 @@ invalid_of None None (Some r) d e rest h = cc
 invalid_of None (Some r) c d e rest h = cc
 invalid_of (Some r) b c d e rest h = cc
 
-pub all_valid : (s : Store) (realm : Realm) (user : List ℕ) (meant : Meant) (now : ℤ) → list_all is_none (refusals_of s realm user meant now) ≡ true → first_invalid s.records meant meant.entries ≡ None
+pub all_valid : (s : Store) (realm : Realm) (user : List ℕ) (meant : ResolvedWrite) (now : ℤ) → list_all is_none (refusals_of s realm user meant now) ≡ true → first_invalid s.records meant meant.entries ≡ None
 unfolding refusals_of invalid
 all_valid s realm user meant now h = invalid_of (refused_if (has_twice meant.entries) refusal.NotPermittedTwice) (permission s.records realm user meant.entries) (no_exist s.records meant.entries) (modified s.records meant.entries) (first_invalid s.records meant meant.entries) (refusals_by_room s (gives_large meant.entries) (written_for s.records user meant.entries (written_at s now)) now) h
 

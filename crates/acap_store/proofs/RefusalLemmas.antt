@@ -7,7 +7,7 @@ use Rattle.acap_store.specs.Refusing.{first_of}
 use Rattle.acap_store.specs.Limits.{gives_large}
 use Rattle.acap_store.specs.Planning.{unless_refused, written_at, refusals_by_terms, refusals_by_room, refusals_of, room_refusal, change_of, planned_for}
 use Rattle.acap_store.specs.Writing.{written_for}
-use Rattle.acap_store.specs.declared.write.Meant.{Meant}
+use Rattle.acap_store.specs.declared.write.ResolvedWrite.{ResolvedWrite}
 use Rattle.acap_entries.specs.Store.{Store}
 use Rattle.acap_rights.specs.declared.realm.Realm.{Realm}
 use Rattle.std.specs.Prelude.{Result, Ok, Err}
@@ -29,14 +29,14 @@ refused_then xs ys change refusal none e = ap (λ o. unless_refused o change) (b
 
 -- ---- the answer to what a command means
 
-pub by_terms : (s : Store) (realm : Realm) (user : List ℕ) (meant : Meant) (now : ℤ) (refusal : Refusal)
+pub by_terms : (s : Store) (realm : Realm) (user : List ℕ) (meant : ResolvedWrite) (now : ℤ) (refusal : Refusal)
     → IsCheck (first_of (refusals_by_terms s.records realm user meant)) (Err refusal) → IsAnswer (Err refusal) (planned_for s realm user meant now)
 unfolding planned_for refusals_of
 by_terms s realm user meant now refusal h =
     λ aside. refused_first (refusals_by_terms s.records realm user meant) (refusals_by_room s (gives_large meant.entries) (written_for s.records user meant.entries (written_at s now)) now)
     (change_of s user meant.entries (written_at s now)) refusal (h aside)
 
-pub by_room : (s : Store) (realm : Realm) (user : List ℕ) (meant : Meant) (now : ℤ) (refusal : Refusal) → first_of (refusals_by_terms s.records realm user meant) ≡ None
+pub by_room : (s : Store) (realm : Realm) (user : List ℕ) (meant : ResolvedWrite) (now : ℤ) (refusal : Refusal) → first_of (refusals_by_terms s.records realm user meant) ≡ None
     → IsCheck (room_refusal s (gives_large meant.entries) (written_for s.records user meant.entries (written_at s now)) now) (Err refusal) → IsAnswer (Err refusal) (planned_for s realm user meant now)
 unfolding planned_for refusals_of
 by_room s realm user meant now refusal none h =

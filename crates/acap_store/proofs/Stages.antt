@@ -12,9 +12,9 @@ use Rattle.acap_inherit.specs.Chains.{chain_of}
 use Rattle.acap_store.specs.Examples.{StageLaw, ChangeExamples, home, at}
 use Rattle.acap_store.specs.Forms.{resolved_at, exists_at}
 use Rattle.acap_store.specs.Planning.{planned_for, refusals_of}
-use Rattle.acap_store.specs.declared.write.Meant.{Meant}
+use Rattle.acap_store.specs.declared.write.ResolvedWrite.{ResolvedWrite}
 
-pub stage_law : (s : Store) (realm : Realm) (user : List ℕ) (meant : Meant) (now : ℤ) → StageLaw s realm user meant now
+pub stage_law : (s : Store) (realm : Realm) (user : List ℕ) (meant : ResolvedWrite) (now : ℤ) → StageLaw s realm user meant now
 unfolding planned_for refusals_of
 stage_law s realm user meant now = record {
   twice = λ a. rw a refl;

@@ -25,7 +25,7 @@ use Rattle.acap_store.specs.Meaning.{meaning}
 use Rattle.acap_store.specs.Planning.{planned_for, refusals_of, refusals_by_terms, unless_refused, change_of, written_at}
 use Rattle.acap_store.specs.Refusing.{first_of, same_path, refused_if}
 use Rattle.acap_store.specs.Writing.{put_all, written_for, steps_for, entry_at, step_at, missing_for}
-use Rattle.acap_store.specs.declared.write.Meant.{Meant}
+use Rattle.acap_store.specs.declared.write.ResolvedWrite.{ResolvedWrite}
 use Rattle.acap_entries.proofs.AfterLemmas.{get_after}
 use Rattle.acap_entries.proofs.Logic.{first_not, second_not, is_eq-then}
 
@@ -68,11 +68,11 @@ accepted_is [] change made e = cc
 accepted_is (None ∷ all) change made e = accepted_is all change made e
 accepted_is (Some first ∷ all) change made e = cc
 
-pub change_is : (s : Store) (realm : Realm) (user : List ℕ) (meant : Meant) (now : ℤ) (change : Change) → planned_for s realm user meant now ≡ Ok change → change ≡ change_of s user meant.entries (written_at s now)
+pub change_is : (s : Store) (realm : Realm) (user : List ℕ) (meant : ResolvedWrite) (now : ℤ) (change : Change) → planned_for s realm user meant now ≡ Ok change → change ≡ change_of s user meant.entries (written_at s now)
 unfolding planned_for
 change_is s realm user meant now change e = accepted_is (refusals_of s realm user meant now) _ change e
 
-pub writes_are : (s : Store) (realm : Realm) (user : List ℕ) (meant : Meant) (now : ℤ) (change : Change) → planned_for s realm user meant now ≡ Ok change → change.writes ≡ written_for s.records user meant.entries change.moment
+pub writes_are : (s : Store) (realm : Realm) (user : List ℕ) (meant : ResolvedWrite) (now : ℤ) (change : Change) → planned_for s realm user meant now ≡ Ok change → change.writes ≡ written_for s.records user meant.entries change.moment
 unfolding change_of
 writes_are s realm user meant now change e =
     let is = change_is s realm user meant now change e in
@@ -169,7 +169,7 @@ there_is : (o : Option ℤ) (last : ℤ) → is_none (refused_if (is_none o) ref
 there_is None last e = cc
 there_is (Some moment) last e = refl
 
-later_for : (s : Store) (realm : Realm) (user : List ℕ) (meant : Meant) (now : ℤ) (change : Change) → planned_for s realm user meant now ≡ Ok change → int_lt s.last change.moment ≡ true
+later_for : (s : Store) (realm : Realm) (user : List ℕ) (meant : ResolvedWrite) (now : ℤ) (change : Change) → planned_for s realm user meant now ≡ Ok change → int_lt s.last change.moment ≡ true
 unfolding planned_for refusals_of change_of
 later_for s realm user meant now change e =
     let none = none_by (refusals_of s realm user meant now) _ change e in

@@ -17,7 +17,7 @@ use Rattle.acap_store.specs.Permission.{may_touch, may_store, denied_in, name_in
 use Rattle.acap_store.specs.Planning.{refusals_by_terms}
 use Rattle.acap_store.specs.Refusing.{first_of}
 use Rattle.acap_store.specs.Sharing.{AreShared}
-use Rattle.acap_store.specs.declared.write.Meant.{Meant}
+use Rattle.acap_store.specs.declared.write.ResolvedWrite.{ResolvedWrite}
 
 -- who asks, and of what store
 pub record Asking : Type 0 where
@@ -44,7 +44,7 @@ entry_refusal asking e = permission_in asking.store.records asking.realm asking.
 abbrev pub rights_refusal : Asking → List StoreEntry → Option Refusal
 rights_refusal asking entries = permission asking.store.records asking.realm asking.user entries
 
-abbrev pub terms_refusal : Asking → Meant → Option Refusal
+abbrev pub terms_refusal : Asking → ResolvedWrite → Option Refusal
 terms_refusal asking meant = first_of (refusals_by_terms asking.store.records asking.realm asking.user meant)
 
 -- an entry that is asked about

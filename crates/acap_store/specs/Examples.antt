@@ -39,7 +39,7 @@ use Rattle.acap_store.specs.Permission.{permission, permission_in, suffices_for_
 use Rattle.acap_store.specs.Planning.{planned_for, refusals_by_room, change_with}
 use Rattle.acap_store.specs.Refusing.{has_twice, no_exist, modified, modtime_at, is_later, first_of}
 use Rattle.acap_store.specs.Writing.{Celled, Listed, record_after, deleted_record, with_values, with_lists, fate_of, own_if_missing, missing_to, step_at, written_for}
-use Rattle.acap_store.specs.declared.write.Meant.{Meant}
+use Rattle.acap_store.specs.declared.write.ResolvedWrite.{ResolvedWrite}
 use Rattle.acap_store.specs.declared.write.Write.TheVariants as write
 
 abbrev pub joe : List ℕ
@@ -282,7 +282,7 @@ pub record TellingLaw : Type 0 where
 -- ---- the order of refusals
 
 -- each comes before the later ones, whatever these say, and is judged by the store as it was
-pub record StageLaw (s : Store) (realm : Realm) (user : List ℕ) (meant : Meant) (now : ℤ) : Type 0 where
+pub record StageLaw (s : Store) (realm : Realm) (user : List ℕ) (meant : ResolvedWrite) (now : ℤ) : Type 0 where
   pub twice : has_twice meant.entries ≡ true → planned_for s realm user meant now ≡ Err refusals.NotPermittedTwice
   pub denied : (r : Refusal) → has_twice meant.entries ≡ false → permission s.records realm user meant.entries ≡ Some r → planned_for s realm user meant now ≡ Err r
   pub missing : (r : Refusal) → has_twice meant.entries ≡ false → permission s.records realm user meant.entries ≡ None → no_exist s.records meant.entries ≡ Some r → planned_for s realm user meant now ≡ Err r
@@ -295,7 +295,7 @@ pub record StageLaw (s : Store) (realm : Realm) (user : List ℕ) (meant : Meant
       → is_too_much s.records (gives_large meant.entries) (written_for s.records user meant.entries s.last) ≡ false → moment_after s.last now ≡ None → planned_for s realm user meant now ≡ Err refusals.ClockEnd
 
 abbrev pub StageLaws : Type 0
-StageLaws = (s : Store) (realm : Realm) (user : List ℕ) (meant : Meant) (now : ℤ) → StageLaw s realm user meant now
+StageLaws = (s : Store) (realm : Realm) (user : List ℕ) (meant : ResolvedWrite) (now : ℤ) → StageLaw s realm user meant now
 
 -- ---- deletions and moments
 

@@ -17,7 +17,7 @@ use Rattle.acap_commands.specs.declared.store.StoreItem.{StoreItem}
 use Rattle.acap_rights.specs.Pairs.{is_acl}
 use Rattle.acap_store.specs.Forms.{is_management, is_value, is_nothing, resolved_at}
 use Rattle.acap_store.specs.Permission.{list_target}
-use Rattle.acap_store.specs.declared.write.Meant.{Meant}
+use Rattle.acap_store.specs.declared.write.ResolvedWrite.{ResolvedWrite}
 
 -- ---- what may be given
 
@@ -83,19 +83,19 @@ is_invalid records all e item =
 
 -- ---- the first of an entry's items, and of all entries'
 
-abbrev pub is_refused : Stored → Meant → StoreEntry → StoreItem → Bool
+abbrev pub is_refused : Stored → ResolvedWrite → StoreEntry → StoreItem → Bool
 is_refused records meant e item = meant.drops_dataset_list || is_invalid records meant.entries e item
 
-abbrev pub first_refused : Stored → Meant → StoreEntry → Option StoreItem
+abbrev pub first_refused : Stored → ResolvedWrite → StoreEntry → Option StoreItem
 first_refused records meant e = find (is_refused records meant e) e.items
 
-abbrev pub invalid_in : Stored → Meant → StoreEntry → Option Refusal
+abbrev pub invalid_in : Stored → ResolvedWrite → StoreEntry → Option Refusal
 invalid_in records meant e = option_map (λ item. refusals.Invalid e.path item.attribute) (first_refused records meant e)
 
-abbrev pub first_invalid : Stored → Meant → List StoreEntry → Option Refusal
+abbrev pub first_invalid : Stored → ResolvedWrite → List StoreEntry → Option Refusal
 first_invalid records meant [] = None
 first_invalid records meant (e ∷ entries) = option_or (invalid_in records meant e) (first_invalid records meant entries)
 
 -- the list of a dataset may not be dropped as a whole: then the one item that says so is invalid
-unfoldable pub invalid : Stored → Meant → Option Refusal
+unfoldable pub invalid : Stored → ResolvedWrite → Option Refusal
 invalid records meant = first_invalid records meant meant.entries

@@ -15,7 +15,7 @@ use Rattle.acap_commands.specs.declared.store.StoreMetadata.TheVariants as metad
 use Rattle.acap_commands.specs.declared.store.StoreModifiers.{StoreModifiers}
 use Rattle.acap_rights.specs.Deciding.{Target, OfDataset, OfAttribute, OfEntry, attribute_list_name, dataset_list_name, deciding_list}
 use Rattle.acap_rights.specs.Edits.{with_pair, without}
-use Rattle.acap_store.specs.declared.write.Meant.{Meant}
+use Rattle.acap_store.specs.declared.write.ResolvedWrite.{ResolvedWrite}
 use Rattle.acap_store.specs.declared.write.Write.{Write}
 use Rattle.acap_store.specs.declared.write.Write.TheVariants as write
 
@@ -78,28 +78,28 @@ is_dataset_list (OfDataset dataset) = true
 is_dataset_list (OfAttribute dataset attribute) = false
 is_dataset_list (OfEntry dataset attribute name) = false
 
-abbrev pub list_store : Target → List (List ℕ) → Meant
+abbrev pub list_store : Target → List (List ℕ) → ResolvedWrite
 list_store target acl = record { entries = list_entry target (Put (Multi acl)) ∷ []; drops_dataset_list = false }
 
 -- the list that decides at a target, with letters for an identifier, or without it
-abbrev pub with_pair_in : Stored → Target → List ℕ → List ℕ → Meant
+abbrev pub with_pair_in : Stored → Target → List ℕ → List ℕ → ResolvedWrite
 with_pair_in records target identifier letters = list_store target (with_pair identifier letters (deciding_list records target))
 
-abbrev pub set_in : Stored → ObjectName → List ℕ → List ℕ → Meant
+abbrev pub set_in : Stored → ObjectName → List ℕ → List ℕ → ResolvedWrite
 set_in records object identifier letters = with_pair_in records (target_in object) identifier letters
 
-abbrev pub without_in : Stored → Target → List ℕ → Meant
+abbrev pub without_in : Stored → Target → List ℕ → ResolvedWrite
 without_in records target identifier = list_store target (without identifier (deciding_list records target))
 
-abbrev pub taken_off_in : Stored → ObjectName → List ℕ → Meant
+abbrev pub taken_off_in : Stored → ObjectName → List ℕ → ResolvedWrite
 taken_off_in records object identifier = without_in records (target_in object) identifier
 
-abbrev pub list_removal : Target → Meant
+abbrev pub list_removal : Target → ResolvedWrite
 list_removal target = record { entries = list_entry target Default ∷ []; drops_dataset_list = is_dataset_list target }
 
 -- ---- each command. An edit starts from the list that decides at the object: that is the list stored there, if one is
 
-unfoldable pub meaning : Stored → List ℕ → Write → Meant
+unfoldable pub meaning : Stored → List ℕ → Write → ResolvedWrite
 meaning records user (write.Store entries) = record { entries = entries_for user entries; drops_dataset_list = false }
 meaning records user (write.SetAcl object identifier letters) = with_pair_in records (target_for user object) identifier letters
 meaning records user (write.DeleteAcl object (Some identifier)) = without_in records (target_for user object) identifier

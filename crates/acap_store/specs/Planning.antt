@@ -15,7 +15,7 @@ use Rattle.acap_store.specs.Meaning.{meaning}
 use Rattle.acap_store.specs.Permission.{permission}
 use Rattle.acap_store.specs.Refusing.{refused_if, first_of, has_twice, no_exist, modified}
 use Rattle.acap_store.specs.Writing.{written_for}
-use Rattle.acap_store.specs.declared.write.Meant.{Meant}
+use Rattle.acap_store.specs.declared.write.ResolvedWrite.{ResolvedWrite}
 use Rattle.acap_store.specs.declared.write.Write.{Write}
 
 -- the moment of what is written: the change's, and where none is left that of the last change, by which alone it is then judged
@@ -25,7 +25,7 @@ written_at s now = unwrap_or (moment_after s.last now) s.last
 
 -- ---- the refusals in their order, each over all entries
 
-abbrev pub refusals_by_asking : Stored → Realm → List ℕ → Meant → List (Option Refusal)
+abbrev pub refusals_by_asking : Stored → Realm → List ℕ → ResolvedWrite → List (Option Refusal)
 refusals_by_asking records realm user meant =
     permission records realm user meant.entries
     ∷ no_exist records meant.entries
@@ -33,7 +33,7 @@ refusals_by_asking records realm user meant =
     ∷ invalid records meant
     ∷ []
 
-abbrev pub refusals_by_terms : Stored → Realm → List ℕ → Meant → List (Option Refusal)
+abbrev pub refusals_by_terms : Stored → Realm → List ℕ → ResolvedWrite → List (Option Refusal)
 refusals_by_terms records realm user meant =
     refused_if (has_twice meant.entries) refusals.NotPermittedTwice ∷ refusals_by_asking records realm user meant
 
@@ -46,7 +46,7 @@ refusals_by_room s is_given_large written now =
 abbrev pub room_refusal : Store → Bool → Written → ℤ → Option Refusal
 room_refusal s is_given_large written now = first_of (refusals_by_room s is_given_large written now)
 
-unfoldable pub refusals_of : Store → Realm → List ℕ → Meant → ℤ → List (Option Refusal)
+unfoldable pub refusals_of : Store → Realm → List ℕ → ResolvedWrite → ℤ → List (Option Refusal)
 refusals_of s realm user meant now =
     refusals_by_terms s.records realm user meant ++ refusals_by_room s (gives_large meant.entries) (written_for s.records user meant.entries (written_at s now)) now
 
@@ -68,7 +68,7 @@ abbrev pub unless_refused : Option Refusal → Change → Result Change Refusal
 unless_refused (Some refusal) change = Err refusal
 unless_refused None change = Ok change
 
-unfoldable pub planned_for : Store → Realm → List ℕ → Meant → ℤ → Result Change Refusal
+unfoldable pub planned_for : Store → Realm → List ℕ → ResolvedWrite → ℤ → Result Change Refusal
 planned_for s realm user meant now =
     unless_refused (first_of (refusals_of s realm user meant now)) (change_of s user meant.entries (written_at s now))
 

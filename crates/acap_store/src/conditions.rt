@@ -4,7 +4,7 @@ ghost use Rattle.std.specs.Option.{option_copied};
 ghost use Rattle.acap_commands.specs.Answers.{IsCheck};
 ghost use Rattle.acap_store.specs.Refusing as rule;
 
-use crate::forms::exists_at;
+use crate::item_tests::exists_at;
 use acap_commands::{Refusal, StoreEntry};
 use acap_entries::{Boxed, Copying, Moment, Path, Tree};
 use acap_inherit::{chain, modtime};

@@ -4,7 +4,7 @@ ghost use Rattle.acap_commands.specs.Answers.{IsAnswer};
 ghost use Rattle.acap_entries.specs.Made.{IsMade};
 ghost use Rattle.acap_store.specs.Deleting as rule;
 
-use crate::forms::exists_at;
+use crate::item_tests::exists_at;
 use crate::writing::ends;
 use acap_commands::{Refusal, StoreEntry};
 use acap_entries::{

@@ -3,7 +3,7 @@ ghost use Rattle.std.specs.Prelude.{◌≡◌, ◌++◌, nat_eq};
 ghost use Rattle.std.specs.List.{list_any, starts_with};
 ghost use Rattle.acap_store.specs.Invalid as rule;
 
-use crate::forms::{is_management, is_nil_at};
+use crate::item_tests::{is_management, is_nil_at};
 use acap_commands::StoreEntry;
 use acap_entries::{Path, Tree};
 

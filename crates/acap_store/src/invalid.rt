@@ -5,9 +5,9 @@ ghost use Rattle.acap_commands.specs.Answers.{IsCheck};
 ghost use Rattle.acap_store.specs.Invalid as rule;
 
 use crate::ending::may_end;
-use crate::forms::{is_management, is_nothing, is_value};
+use crate::item_tests::{is_management, is_nothing, is_value};
 use crate::permission::is_list;
-use crate::write::Meant;
+use crate::write::ResolvedWrite;
 use acap_commands::{Given, Refusal, StoreEntry, StoreItem};
 use acap_entries::{Boxed, Cell, Copying, Tree, is_dataset_argument};
 use acap_rights::is_acl;
@@ -102,7 +102,7 @@ fn is_invalid(tree: &Tree, all: &[StoreEntry], entry: &StoreEntry, item: &StoreI
 }
 
 // The first item of an entry that may not be stored.
-fn first_in<'a>(tree: &Tree, meant: &Meant, entry: &'a StoreEntry) -> Option<&'a StoreItem>
+fn first_in<'a>(tree: &Tree, meant: &ResolvedWrite, entry: &'a StoreEntry) -> Option<&'a StoreItem>
     ensures { option_copied result ≡ rule.first_refused tree.now.store.records meant.now entry.now }
 {
     entry.items.as_slice().iter().find(|item| {
@@ -114,7 +114,7 @@ fn first_in<'a>(tree: &Tree, meant: &Meant, entry: &'a StoreEntry) -> Option<&'a
 fn check_items_in(
     alloc: Global,
     tree: &Tree,
-    meant: &Meant,
+    meant: &ResolvedWrite,
     entry: &StoreEntry,
 ) -> Result<(), Refusal>
     ensures { IsCheck (rule.invalid_in tree.now.store.records meant.now entry.now) result }
@@ -131,7 +131,7 @@ fn check_items_in(
 
 /// That each item of all may be stored, or the refusal for the first that may not.
 #[tactic(auto, unfolding(crate::specs::Invalid::invalid))]
-pub(crate) fn check_items(alloc: Global, tree: &Tree, meant: &Meant) -> Result<(), Refusal>
+pub(crate) fn check_items(alloc: Global, tree: &Tree, meant: &ResolvedWrite) -> Result<(), Refusal>
     ensures { IsCheck (rule.invalid tree.now.store.records meant.now) result }
 {
     for entry in meant.entries.as_slice() {

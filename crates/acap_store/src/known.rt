@@ -2,7 +2,7 @@
 ghost use Rattle.std.specs.Prelude.{◌≡◌, ◌<◌, ◌≤◌, length, slice_index_or, vec_len, IfOk, IsTrue, OnOk};
 ghost use Rattle.acap_store.specs.Known as asking;
 
-use crate::asker::Asker;
+use crate::write_env::WriteEnv;
 use acap_entries::Memory;
 use acap_rights::{SharedRights, shared_rights};
 use std::alloc::Global;
@@ -39,7 +39,7 @@ fn stand_at(known: &[Known<'_>], at: usize, dataset: &[u8]) -> bool
 /// and put there.
 pub(crate) fn learn_rights<'a>(
     alloc: Global,
-    by: &Asker<'_>,
+    by: &WriteEnv<'_>,
     known: &mut Vec<Known<'a>>,
     dataset: &'a [u8],
 ) -> Result<usize, Memory>

@@ -2,12 +2,11 @@
 //! make or why they are refused, and what DELETEDSINCE tells.
 #![tactic(auto)]
 
-mod asker;
 mod conditions;
 mod deleting;
 mod ending;
-mod forms;
 mod invalid;
+mod item_tests;
 mod known;
 mod laws;
 mod limits;
@@ -20,6 +19,7 @@ mod records;
 mod refusing;
 mod subject;
 mod write;
+mod write_env;
 mod writing;
 
 pub use acap_commands::Refusal;

@@ -4,7 +4,7 @@ ghost use Rattle.acap_entries.specs.Made.{IsMade};
 ghost use Rattle.acap_store.specs.Meaning as rule;
 
 use crate::objects::{lent_object, object_for};
-use crate::write::{Meant, Write};
+use crate::write::{ResolvedWrite, Write};
 use acap_commands::{
     Entries, Given, ObjectName, StoreEntry, StoreItem, StoreItems, StoreMetadata, StoreModifiers,
 };
@@ -92,12 +92,12 @@ fn list_store(alloc: Global, object: ObjectName, given: Given) -> Result<Entries
 }
 
 // The STORE of a list that was edited.
-fn put_list(alloc: Global, object: ObjectName, acl: Acl) -> Result<Meant, Memory>
+fn put_list(alloc: Global, object: ObjectName, acl: Acl) -> Result<ResolvedWrite, Memory>
     ensures { IsMade (rule.list_store (rule.target_in object) acl) result }
 {
     let given = Given::Put(Cell::Multi(acl.into_values()?));
     let entries = list_store(alloc, object, given)?;
-    Ok(Meant {
+    Ok(ResolvedWrite {
         entries,
         drops_dataset_list: false,
     })
@@ -110,7 +110,7 @@ fn set(
     object: ObjectName,
     identifier: &[u8],
     letters: &[u8],
-) -> Result<Meant, Memory>
+) -> Result<ResolvedWrite, Memory>
     ensures { IsMade (rule.set_in tree.now.store.records object identifier.now letters.now) result }
 {
     let acl = decided_list(alloc, tree, &lent_object(&object))?;
@@ -124,7 +124,7 @@ fn take_off(
     tree: &Tree,
     object: ObjectName,
     identifier: &[u8],
-) -> Result<Meant, Memory>
+) -> Result<ResolvedWrite, Memory>
     ensures { IsMade (rule.taken_off_in tree.now.store.records object identifier.now) result }
 {
     let acl = decided_list(alloc, tree, &lent_object(&object))?;
@@ -133,12 +133,12 @@ fn take_off(
 }
 
 // The STORE that DELETEACL of a whole list is.
-fn drop_list(alloc: Global, object: ObjectName) -> Result<Meant, Memory>
+fn drop_list(alloc: Global, object: ObjectName) -> Result<ResolvedWrite, Memory>
     ensures { IsMade (rule.list_removal (rule.target_in object)) result }
 {
     let drops_dataset_list = matches!(&object, ObjectName::Dataset { .. });
     let entries = list_store(alloc, object, Given::Default)?;
-    Ok(Meant {
+    Ok(ResolvedWrite {
         entries,
         drops_dataset_list,
     })
@@ -151,11 +151,11 @@ pub(crate) fn meaning(
     tree: &Tree,
     user: &UserName,
     write: Write,
-) -> Result<Meant, Memory>
+) -> Result<ResolvedWrite, Memory>
     ensures { IfOk result (λ meant. meant ≡ rule.meaning tree.now.store.records user.now write) }
 {
     match write {
-        Write::Store(entries) => Ok(Meant {
+        Write::Store(entries) => Ok(ResolvedWrite {
             entries: entries_for(user, entries)?,
             drops_dataset_list: false,
         }),

@@ -7,10 +7,10 @@ ghost use Rattle.acap_store.specs.Asking as asking;
 ghost use Rattle.acap_store.specs.Permission as rule;
 ghost use Rattle.acap_store.specs.Sharing.{HasNoLists};
 
-use crate::asker::Asker;
-use crate::forms::{exists_at, is_management, is_nil_at, is_value};
+use crate::item_tests::{exists_at, is_management, is_nil_at, is_value};
 use crate::known::learn_rights;
 use crate::subject::Subject;
+use crate::write_env::WriteEnv;
 use acap_commands::{ObjectName, Refusal, StoreEntry, StoreItem};
 use acap_entries::{Attribute, Boxed, Copying, Memory, Path, Tree};
 use acap_rights::{Object, Rights, SharedRights, object_of_list, rights_of};
@@ -39,7 +39,7 @@ fn has_no_lists(tree: &Tree, path: &Path) -> bool
 
 // The rights on the attributes of the entry at a path, where it has no list for one of them: those in its dataset.
 fn select_shared<'a>(
-    by: &Asker<'_>,
+    by: &WriteEnv<'_>,
     path: &Path,
     shared: &'a SharedRights,
 ) -> Option<&'a SharedRights>
@@ -149,7 +149,7 @@ fn denied_item<'a>(subject: &Subject<'_>, items: &'a [StoreItem]) -> Option<&'a 
 // The first object of an entry on which rights are missing.
 #[tactic(auto, unfolding(crate::specs::Permission::denied_in))]
 fn find_denied<'a>(
-    by: &Asker<'_>,
+    by: &WriteEnv<'_>,
     entry: &'a StoreEntry,
     shared: &SharedRights,
 ) -> Option<Object<'a>>
@@ -194,7 +194,7 @@ fn name_object(alloc: Global, path: &Path, object: &Object<'_>) -> Result<Object
 // That no object of an entry is one on which rights are missing, or the refusal for the first.
 fn check_entry(
     alloc: Global,
-    by: &Asker<'_>,
+    by: &WriteEnv<'_>,
     entry: &StoreEntry,
     shared: &SharedRights,
 ) -> Result<(), Refusal>
@@ -213,7 +213,7 @@ fn check_entry(
 /// That rights are missing on no object of all entries, or the refusal for the first (RFC 2244 section 3.5).
 pub(crate) fn check_rights(
     alloc: Global,
-    by: &Asker<'_>,
+    by: &WriteEnv<'_>,
     entries: &[StoreEntry],
 ) -> Result<(), Refusal>
     ensures { IsCheck (asking.rights_refusal by.now entries.now) result }

@@ -3,12 +3,12 @@ ghost use Rattle.std.specs.Prelude.{◌≡◌, IfOk};
 ghost use Rattle.acap_commands.specs.Answers.{IsAnswer, IsCheck};
 ghost use Rattle.acap_store.specs.Planning as rule;
 
-use crate::asker::Asker;
 use crate::deleting::{ending, keep_gone};
 use crate::limits::{gives_large, is_too_much};
 use crate::meaning::meaning;
 use crate::refusing::check;
-use crate::write::{Meant, Write};
+use crate::write::{ResolvedWrite, Write};
+use crate::write_env::WriteEnv;
 use crate::writing::write_for;
 use acap_commands::{Entries, Refusal};
 use acap_entries::{Change, Memory, Moment, Tree, UserName};
@@ -61,7 +61,12 @@ fn check_room(tree: &Tree, gives_large: bool, change: &Change, now: Moment) -> R
 
 // The change of what a command stores, or its first refusal.
 #[tactic(auto, unfolding(crate::specs::Planning::planned_for, crate::specs::Planning::refusals_of, crate::specs::Planning::change_of))]
-fn plan_for(alloc: Global, by: &Asker<'_>, meant: Meant, now: Moment) -> Result<Change, Refusal>
+fn plan_for(
+    alloc: Global,
+    by: &WriteEnv<'_>,
+    meant: ResolvedWrite,
+    now: Moment,
+) -> Result<Change, Refusal>
     ensures { IsAnswer result (rule.planned_for by.now.store by.now.realm by.now.user meant now) }
 {
     check(alloc, by, &meant)?;
@@ -85,7 +90,7 @@ pub fn plan(
 ) -> Result<Change, Refusal>
     ensures { IsAnswer result (rule.plan tree.now.store realm.now user.now write now) }
 {
-    let by = Asker { tree, realm, user };
+    let by = WriteEnv { tree, realm, user };
     let meant = meaning(alloc, tree, user, write)?;
     plan_for(alloc, &by, meant, now)
 }

@@ -4,7 +4,7 @@ ghost use Rattle.std.specs.Option.{option_copied};
 ghost use Rattle.acap_entries.specs.Homes.{for_user};
 ghost use Rattle.acap_store.specs.Writing as writing;
 
-use crate::forms::{is_management, is_value};
+use crate::item_tests::{is_management, is_value};
 use acap_commands::{Given, StoreItem};
 use acap_entries::{
     Acls, Attribute, Cell, Cells, Copying, Dataset, Memory, Moment, NameFault, Path, Record,

@@ -6,11 +6,11 @@ ghost use Rattle.acap_store.specs.Asking as asking;
 ghost use Rattle.acap_store.specs.Refusing as rule;
 ghost use Rattle.acap_store.specs.Rising.{rising};
 
-use crate::asker::Asker;
 use crate::conditions::{check_datasets, check_unchanged};
 use crate::invalid::check_items;
 use crate::permission::check_rights;
-use crate::write::Meant;
+use crate::write::ResolvedWrite;
+use crate::write_env::WriteEnv;
 use acap_commands::{EntryOrder, Refusal, StoreEntry};
 use acap_entries::Memory;
 use std::alloc::Global;
@@ -61,7 +61,7 @@ fn check_once(alloc: Global, entries: &[StoreEntry]) -> Result<(), Refusal>
 }
 
 /// That nothing stands against a change, or the first refusal: each is asked of all entries before the next.
-pub(crate) fn check(alloc: Global, by: &Asker<'_>, meant: &Meant) -> Result<(), Refusal>
+pub(crate) fn check(alloc: Global, by: &WriteEnv<'_>, meant: &ResolvedWrite) -> Result<(), Refusal>
     ensures { IsCheck (asking.terms_refusal by.now meant.now) result }
 {
     let entries = meant.entries.as_slice();

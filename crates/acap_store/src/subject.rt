@@ -1,6 +1,6 @@
 //! An entry that is asked about.
 
-use crate::asker::Asker;
+use crate::write_env::WriteEnv;
 use acap_entries::Path;
 use acap_rights::SharedRights;
 use std::marker::Model;
@@ -9,7 +9,7 @@ use std::marker::Model;
 #[derive(Drop)]
 pub(crate) struct Subject<'a> {
     /// Who asks.
-    pub(crate) by: &'a Asker<'a>,
+    pub(crate) by: &'a WriteEnv<'a>,
     /// The entry's path.
     pub(crate) path: &'a Path,
     /// These rights.

@@ -16,7 +16,7 @@ pub enum Write {
 
 /// What a command stores, `~` being replaced.
 #[derive(Drop)]
-pub(crate) struct Meant {
+pub(crate) struct ResolvedWrite {
     /// The entries.
     pub(crate) entries: Entries,
     /// Whether the list of a dataset is to go as a whole, which DELETEACL may not do (RFC 2244 section 6.7).

@@ -7,7 +7,7 @@ ghost use Rattle.acap_store.specs.Forms.{is_of};
 ghost use Rattle.acap_store.specs.Writing as writing;
 ghost use Rattle.acap_store.specs.Writing.{fates_in};
 
-use crate::forms::{is_ending, is_of};
+use crate::item_tests::{is_ending, is_of};
 use crate::missing::steps_for;
 use crate::records::{acls_of, cells_of, deleted_record, give_item, renew};
 use acap_commands::{Entries, Given, StoreEntry, StoreItem, StoreItems};

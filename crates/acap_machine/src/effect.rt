@@ -6,7 +6,7 @@ use acap_views::{Delta, NewContext};
 
 /// What is yet to be put in place of an event that was made ready (RFC 2244 sections 2, 3.3 and 6).
 #[derive(Drop)]
-pub(crate) enum Deed {
+pub(crate) enum Effect {
     /// Nothing.
     Nothing,
     /// A user takes the seat.

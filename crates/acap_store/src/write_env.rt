@@ -6,7 +6,7 @@ use std::marker::Model;
 
 /// Who asks, and of what store.
 #[derive(Drop)]
-pub(crate) struct Asker<'a> {
+pub(crate) struct WriteEnv<'a> {
     /// The store.
     pub(crate) tree: &'a Tree,
     /// Who is who.
@@ -15,7 +15,7 @@ pub(crate) struct Asker<'a> {
     pub(crate) user: &'a UserName,
 }
 
-impl<'a> Model for Asker<'a> {
+impl<'a> Model for WriteEnv<'a> {
     ghost use Rattle.acap_store.specs.Asking.{Asking, asking_code};
 
     ghost Value = { Asking };

@@ -4,7 +4,7 @@ ghost use Rattle.acap_machine.specs.Readied.{IsReadyOf};
 ghost use Rattle.acap_machine.specs.Serving as rule;
 ghost use Rattle.acap_machine.specs.Stepping.{answer_at};
 
-use crate::deed::Deed;
+use crate::effect::Effect;
 use crate::ready::Ready;
 use crate::refusing::{refuse, refuse_view};
 use crate::state::State;
@@ -90,7 +90,7 @@ impl State {
         if !has_context(&self.views, seat, &name) {
             return Ok(Ready::saying(seat, Said::Refused(Refusal::NoContext)));
         }
-        Ok(Ready::new(seat, Deed::Frees(name), Said::Done(Verb::FreeContext)))
+        Ok(Ready::new(seat, Effect::Frees(name), Said::Done(Verb::FreeContext)))
     }
 
     /// An UPDATECONTEXT (RFC 2244 section 6.5).
@@ -108,6 +108,6 @@ impl State {
             Ok(tolds) => tolds,
             Err(refusal) => return Ok(Ready::saying(seat, refuse_view(refusal)?)),
         };
-        Ok(Ready::new(seat, Deed::Tells(names, last), Said::Updated(tolds)))
+        Ok(Ready::new(seat, Effect::Tells(names, last), Said::Updated(tolds)))
     }
 }
