@@ -1,5 +1,7 @@
--- What the words behind the program's name ask for, what is done then, and with which status and line that ends.
-use Rattle.std.specs.Prelude.{◌≡◌, ℕ, List, [], ◌∷◌, map, string_bytes, Bool, true, false, ◌&&◌, codes, Option, Some, None, Result, Ok, Err}
+-- What the words behind the program's name ask for, what is
+-- done then, and with which status and line that ends.
+use Rattle.std.specs.Prelude.{◌≡◌, ℕ, List, [], ◌∷◌, map, string_bytes, Bool, true, false, ◌&&◌, codes}
+use Rattle.std.specs.Prelude.{Option, Some, None, Result, Ok, Err}
 use Rattle.std.specs.declared.alloc.Global.{Global}
 use Rattle.std.specs.declared.io.ErrorKind.{ErrorKind}
 use Rattle.std.specs.declared.io.ErrorKind.TheVariants as kind
@@ -38,7 +40,8 @@ abbrev pub is_serve : List (List ℕ) → Bool
 is_serve (verb ∷ file ∷ []) = octets_eq verb (codes "serve")
 is_serve _ = false
 
--- a session of that user, a script, a server with that file, nothing where the words are no such call, or memory was refused
+-- a session of that user, a script, a server with that file,
+-- nothing where the words are no such call, or memory was refused
 abbrev pub IsCall : List (List ℕ) → Call → Type 0
 IsCall words call.Nothing = (is_pipe words ≡ false) × (is_script words ≡ false) × (is_serve words ≡ false)
 IsCall words call.Script = words ≡ codes "script" ∷ []

@@ -4,8 +4,8 @@ use Rattle.acap_grammar.specs.Lines.{Datum, Word, Text, group}
 use Rattle.acap_client.specs.declared.draft.Token.{Token}
 use Rattle.acap_client.specs.declared.draft.Token.TheVariants as token
 
--- What stands from a token on: the data up to the end of the parenthesis that the token stands in, and those that
--- follow each parenthesis around it, the innermost first.
+-- What stands from a token on: the data up to the end of the parenthesis that the token stands in, and those
+-- that follow each parenthesis around it, the innermost first.
 pub record Rest : Type 0 where
   pub inner : List Datum
   pub outer : List (List Datum)

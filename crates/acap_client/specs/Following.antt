@@ -49,7 +49,8 @@ put name x (first ∷ others) = if bytes_eq name first.0 then (name, x) ∷ othe
 
 -- ---- a follower
 
--- a command that waits for its end: a SEARCH that makes a context, with the rows that have come, or a FREECONTEXT
+-- a command that waits for its end: a SEARCH that makes a
+-- context, with the rows that have come, or a FREECONTEXT
 pub data Asked : Type 0 where
   Making : MakeContext → List PrintedRow → Asked
   Freeing : List ℕ → Asked

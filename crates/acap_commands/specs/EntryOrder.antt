@@ -10,7 +10,8 @@ use Rattle.acap_commands.specs.declared.store.StoreEntry.{StoreEntry}
 
 -- whether an entry with this path stands among those before
 unfoldable pub has_path : Path → List StoreEntry → Bool
-has_path path seen = list_any (λ e. bytes_eq e.path.dataset path.dataset && bytes_eq e.path.name path.name) seen
+has_path path seen =
+    list_any (λ e. bytes_eq e.path.dataset path.dataset && bytes_eq e.path.name path.name) seen
 
 -- the path of the entry at a place
 abbrev pub path_at : List StoreEntry → ℕ → Path

@@ -6,7 +6,15 @@ use Rattle.acap_commands.specs.declared.store.StoreModifiers.{StoreModifiers}
 -- a SEARCH that has none
 abbrev pub no_modifiers : SearchModifiers
 no_modifiers =
-    record { depth = None; hard_limit = None; limit = None; make_context = None; no_inherit = false; returns = None; sort = None }
+    record {
+      depth = None;
+      hard_limit = None;
+      limit = None;
+      make_context = None;
+      no_inherit = false;
+      returns = None;
+      sort = None;
+    }
 
 -- an entry of a STORE that has none
 abbrev pub unconditional : StoreModifiers

@@ -20,7 +20,8 @@ height (And a b) = height a + height b + 1
 height (Or a b) = height a + height b + 1
 height (Not a) = height a + 1
 
--- How keys are told apart in proofs: by their signs in a row, each word behind the keys that it joins, in front of others.
+-- How keys are told apart in proofs: by their signs in a row,
+-- each word behind the keys that it joins, in front of others.
 abbrev pub Sign : Type 0
 Sign = Option (Option (Option Test))
 
@@ -52,12 +53,16 @@ last_key [] = One test.All
 last_key (a ∷ others) = a
 
 -- a key's signs give it back
-pub signs_back : (k : Wanted) (rest : List Sign) (keys : List Wanted) → joined_by keys (signs k rest) ≡ joined_by (k ∷ keys) rest
+pub signs_back : (k : Wanted) (rest : List Sign) (keys : List Wanted)
+    → joined_by keys (signs k rest) ≡ joined_by (k ∷ keys) rest
 signs_back (One t) rest keys = refl
-signs_back (And a b) rest keys = signs_back a (signs b (None ∷ rest)) keys ∙ signs_back b (None ∷ rest) (a ∷ keys)
-signs_back (Or a b) rest keys = signs_back a (signs b (Some None ∷ rest)) keys ∙ signs_back b (Some None ∷ rest) (a ∷ keys)
+signs_back (And a b) rest keys =
+    signs_back a (signs b (None ∷ rest)) keys ∙ signs_back b (None ∷ rest) (a ∷ keys)
+signs_back (Or a b) rest keys =
+    signs_back a (signs b (Some None ∷ rest)) keys ∙ signs_back b (Some None ∷ rest) (a ∷ keys)
 signs_back (Not a) rest keys = signs_back a (Some (Some None) ∷ rest) keys
 
 abbrev pub wanted_code : Coded Wanted
 wanted_code =
-    code_by (List Sign) (coded_list (coded_option (coded_option (coded_option test_row.the_row.coded)))) (λ k. signs k []) (λ s. last_key (joined_by [] s)) (λ k. ap last_key (signs_back k [] []))
+    code_by (List Sign) (coded_list (coded_option (coded_option (coded_option test_row.the_row.coded))))
+    (λ k. signs k []) (λ s. last_key (joined_by [] s)) (λ k. ap last_key (signs_back k [] []))

@@ -9,7 +9,8 @@ use acap_commands::{Command, Limit, Search, Target};
 use acap_entries::{Memory, Moment, Row, Steps, UserName};
 use acap_machine::State;
 use acap_search::{
-    SearchRequest, SearchAnswer, Hit, Hits, Query, SearchRefusal, ContextList, fresh, tell_within, within,
+    ContextList, Hit, Hits, Query, SearchAnswer, SearchRefusal, SearchRequest, fresh, tell_within,
+    within,
 };
 use std::alloc::Global;
 use std::marker::Brand;

@@ -1,6 +1,7 @@
--- Examples of what a session says, by the definitions alone [RFC 2244 sections 2.2, 2.6.3, 3.6, 6.2 and 6.3.1; RFC 2195
--- section 2].
-use Rattle.std.specs.Prelude.{◌≡◌, ℕ, List, [], ◌∷◌, ◌++◌, map, replicate, codes, pos, negsuc, Bool, true, false, Option, Some, None, Ok, Err}
+-- Examples of what a session says, by the definitions alone [RFC
+-- 2244 sections 2.2, 2.6.3, 3.6, 6.2 and 6.3.1; RFC 2195 section 2].
+use Rattle.std.specs.Prelude.{◌≡◌, ℕ, List, [], ◌∷◌, ◌++◌, map, replicate, codes, pos, negsuc, Bool, true}
+use Rattle.std.specs.Prelude.{false, Option, Some, None, Ok, Err}
 use Rattle.acap_lexer.specs.Token.{Token}
 use Rattle.acap_lexer.specs.declared.fault.LexFault.TheVariants as lexical
 use Rattle.acap_lexer.specs.declared.kind.Kind.TheVariants as kind
@@ -43,7 +44,13 @@ joe = Some (codes "joe")
 
 -- a session at a stage, with a text that it holds
 abbrev pub talking : Option (List ℕ) → Stage → List ℕ → Talking
-talking user stage text = record { host = codes "postoffice.reston.mci.net"; user = user; held = record { text = text; told = 0; fatal = None }; stage = stage }
+talking user stage text =
+    record {
+      host = codes "postoffice.reston.mci.net";
+      user = user;
+      held = record { text = text; told = 0; fatal = None };
+      stage = stage;
+    }
 
 -- and the same with what is said
 abbrev pub then_says : Option (List ℕ) → List ℕ → Next × Talking
@@ -58,22 +65,37 @@ abbrev pub logging : Stage
 logging = stage.LoggingIn (Some (codes "A1")) (codes "tim")
 
 pub record AnswerExamples : Type 0 where
-  pub asked : map is_asked (stage.Opening ∷ stage.Entering ∷ stage.Ready ∷ waiting ∷ stage.Challenged None [] ∷ logging ∷ stage.Draining ∷ stage.Closed ∷ []) ≡ false ∷ true ∷ false ∷ true ∷ false ∷ true ∷ true ∷ false ∷ []
-  pub enters : after_answer (talking joe stage.Entering []) (Ok (plain said.Greeting)) ≡ (next.Say greeting, talking joe stage.Ready [])
-  pub may_not_enter : map (λ f. after_answer (talking joe stage.Entering []) (Err f)) (fault.Memory ∷ fault.NotEntered ∷ fault.AlreadyEntered ∷ fault.HistoryFull ∷ []) ≡ replicate 4 (then_ends joe [])
-  pub done : after_answer (talking joe waiting []) (Ok (plain (said.Done verb.Store))) ≡ then_says joe (codes "A1 OK \"STORE done\"")
-  pub no_memory : after_answer (talking joe waiting []) (Err fault.Memory) ≡ then_says joe (codes "A1 NO (TRYLATER) \"No memory\"")
-  pub history_full : after_answer (talking joe waiting []) (Err fault.HistoryFull) ≡ then_says joe (codes "A1 NO (TRYLATER) \"History is full\"")
-  pub not_entered : map (λ f. after_answer (talking joe waiting []) (Err f)) (fault.NotEntered ∷ fault.AlreadyEntered ∷ []) ≡ replicate 2 (then_ends joe [])
+  pub asked : map is_asked (stage.Opening ∷ stage.Entering ∷ stage.Ready ∷ waiting ∷ stage.Challenged None []
+      ∷ logging ∷ stage.Draining ∷ stage.Closed ∷ [])
+      ≡ false ∷ true ∷ false ∷ true ∷ false ∷ true ∷ true ∷ false ∷ []
+  pub enters : after_answer (talking joe stage.Entering []) (Ok (plain said.Greeting))
+      ≡ (next.Say greeting, talking joe stage.Ready [])
+  pub may_not_enter : map (λ f. after_answer (talking joe stage.Entering []) (Err f))
+      (fault.Memory ∷ fault.NotEntered ∷ fault.AlreadyEntered ∷ fault.HistoryFull ∷ [])
+      ≡ replicate 4 (then_ends joe [])
+  pub done : after_answer (talking joe waiting []) (Ok (plain (said.Done verb.Store)))
+      ≡ then_says joe (codes "A1 OK \"STORE done\"")
+  pub no_memory : after_answer (talking joe waiting []) (Err fault.Memory)
+      ≡ then_says joe (codes "A1 NO (TRYLATER) \"No memory\"")
+  pub history_full : after_answer (talking joe waiting []) (Err fault.HistoryFull)
+      ≡ then_says joe (codes "A1 NO (TRYLATER) \"History is full\"")
+  pub not_entered : map (λ f. after_answer (talking joe waiting []) (Err f))
+      (fault.NotEntered ∷ fault.AlreadyEntered ∷ []) ≡ replicate 2 (then_ends joe [])
   -- who has entered after a login is the session's user; where that was refused there is none
-  pub logged_in : after_answer (talking None logging []) (Ok (plain said.Greeting)) ≡ then_says (Some (codes "tim")) (codes "A1 OK \"AUTHENTICATE done\"")
-  pub login_no_memory : after_answer (talking None logging []) (Err fault.Memory) ≡ then_says None (codes "A1 NO (TRYLATER) \"No memory\"")
-  pub login_history_full : after_answer (talking None logging []) (Err fault.HistoryFull) ≡ then_says None (codes "A1 NO (TRYLATER) \"History is full\"")
-  pub login_seat : map (λ f. after_answer (talking None logging []) (Err f)) (fault.NotEntered ∷ fault.AlreadyEntered ∷ []) ≡ replicate 2 (then_ends None [])
+  pub logged_in : after_answer (talking None logging []) (Ok (plain said.Greeting))
+      ≡ then_says (Some (codes "tim")) (codes "A1 OK \"AUTHENTICATE done\"")
+  pub login_no_memory : after_answer (talking None logging []) (Err fault.Memory)
+      ≡ then_says None (codes "A1 NO (TRYLATER) \"No memory\"")
+  pub login_history_full : after_answer (talking None logging []) (Err fault.HistoryFull)
+      ≡ then_says None (codes "A1 NO (TRYLATER) \"History is full\"")
+  pub login_seat : map (λ f. after_answer (talking None logging []) (Err f))
+      (fault.NotEntered ∷ fault.AlreadyEntered ∷ []) ≡ replicate 2 (then_ends None [])
   -- a drain that is refused says nothing, and where the seat isn't the session's own it ends
-  pub drained : map (after_answer (talking joe stage.Draining [])) (Ok (plain (said.Drained [])) ∷ Err fault.Memory ∷ Err fault.HistoryFull ∷ [])
+  pub drained : map (after_answer (talking joe stage.Draining []))
+      (Ok (plain (said.Drained [])) ∷ Err fault.Memory ∷ Err fault.HistoryFull ∷ [])
       ≡ replicate 3 (next.Say [], talking joe stage.Ready [])
-  pub drain_seat : map (λ f. after_answer (talking joe stage.Draining []) (Err f)) (fault.NotEntered ∷ fault.AlreadyEntered ∷ []) ≡ replicate 2 (then_ends joe [])
+  pub drain_seat : map (λ f. after_answer (talking joe stage.Draining []) (Err f))
+      (fault.NotEntered ∷ fault.AlreadyEntered ∷ []) ≡ replicate 2 (then_ends joe [])
 
 -- ---- what is said to an answer of the lexer
 
@@ -96,7 +118,14 @@ authenticate mechanism = line (token (codes "AUTHENTICATE") ∷ string mechanism
 
 -- a host, a nonce and a moment
 abbrev pub hears : Option (List ℕ) → Lexed → Next × Stage
-hears user x = response_to (record { host = codes "postoffice.reston.mci.net"; user = user; nonce = 1896; clock = pos 697170952000000 }) x
+hears user x =
+    response_to
+    (record {
+      host = codes "postoffice.reston.mci.net";
+      user = user;
+      nonce = 1896;
+      clock = pos 697170952000000;
+    }) x
 
 abbrev pub rfc_challenge : List ℕ
 rfc_challenge = codes "<1896.697170952@postoffice.reston.mci.net>"
@@ -113,15 +142,20 @@ pub record HearingExamples : Type 0 where
   pub bad_tag : hears joe (lexed.Bad lexical.BadTag None) ≡ says (codes "* BAD \"Bad tag\"")
   pub too_long : hears joe (lexed.Fatal lexical.LineTooLong) ≡ ends (codes "* BYE \"Line too long\"" ++ crlf)
   pub noop : hears None (line (token (codes "NOOP") ∷ [])) ≡ says (codes "A1 OK \"NOOP done\"")
-  pub logout : hears None (line (token (codes "LOGOUT") ∷ [])) ≡ ends (codes "* BYE \"Good bye\"" ++ crlf ++ codes "A1 OK \"LOGOUT done\"" ++ crlf)
+  pub logout : hears None (line (token (codes "LOGOUT") ∷ []))
+      ≡ ends (codes "* BYE \"Good bye\"" ++ crlf ++ codes "A1 OK \"LOGOUT done\"" ++ crlf)
   -- the machine is asked only for a user, and what is wrong with a line is told before that
-  pub asks : hears joe (free (codes "c")) ≡ (next.Ask (event.Command (command.FreeContext (codes "c"))), waiting)
+  pub asks : hears joe (free (codes "c"))
+      ≡ (next.Ask (event.Command (command.FreeContext (codes "c"))), waiting)
   pub log_in : hears None (free (codes "c")) ≡ says (codes "A1 BAD \"Log in first\"")
   pub fault_first : hears None (free []) ≡ says (codes "A1 BAD \"Bad name\"")
   -- a login begins with a challenge; who is logged in needs none, whatever the mechanism
-  pub challenge : hears None (authenticate (codes "cram-md5")) ≡ (next.Say (codes "+ \"<1896.697170952@postoffice.reston.mci.net>\"" ++ crlf), challenge_stage)
-  pub no_mechanism : hears None (authenticate (codes "PLAIN")) ≡ says (codes "A1 NO \"Mechanism not offered\"")
-  pub logged_in : map (λ m. hears joe (authenticate m)) (codes "CRAM-MD5" ∷ codes "PLAIN" ∷ []) ≡ replicate 2 (says (codes "A1 BAD \"Already logged in\""))
+  pub challenge : hears None (authenticate (codes "cram-md5"))
+      ≡ (next.Say (codes "+ \"<1896.697170952@postoffice.reston.mci.net>\"" ++ crlf), challenge_stage)
+  pub no_mechanism : hears None (authenticate (codes "PLAIN"))
+      ≡ says (codes "A1 NO \"Mechanism not offered\"")
+  pub logged_in : map (λ m. hears joe (authenticate m)) (codes "CRAM-MD5" ∷ codes "PLAIN" ∷ [])
+      ≡ replicate 2 (says (codes "A1 BAD \"Already logged in\""))
   pub seconds : map seconds_of (negsuc 0 ∷ pos 0 ∷ pos 999999 ∷ pos 1000000 ∷ []) ≡ 0 ∷ 0 ∷ 0 ∷ 1 ∷ []
 
 -- ---- what is said to the answer to a challenge
@@ -136,17 +170,21 @@ abbrev pub answer : Token → Lexed
 answer t = lexed.Line (t ∷ [])
 
 pub record LoginExamples : Type 0 where
-  pub accepted : hears_answer (answer (string (codes "tim b913a602c7eda7a495b4e6e7334d3890"))) ≡ (next.Ask (event.Enter (codes "tim")), stage.LoggingIn (Some (codes "A1")) (codes "tim"))
-  pub refused : hears_answer (answer (string (codes "tim B913A602C7EDA7A495B4E6E7334D3890"))) ≡ says (codes "A1 NO \"Login failed\"")
+  pub accepted : hears_answer (answer (string (codes "tim b913a602c7eda7a495b4e6e7334d3890")))
+      ≡ (next.Ask (event.Enter (codes "tim")), stage.LoggingIn (Some (codes "A1")) (codes "tim"))
+  pub refused : hears_answer (answer (string (codes "tim B913A602C7EDA7A495B4E6E7334D3890")))
+      ≡ says (codes "A1 NO \"Login failed\"")
   -- a word is no answer, and `*` gives the login up; the string `*` is an answer
   pub cancelled : hears_answer (answer (token (codes "*"))) ≡ says (codes "A1 BAD \"Login cancelled\"")
   pub other_word : hears_answer (answer (token (codes "tim"))) ≡ says (codes "A1 BAD \"Bad arguments\"")
   pub star : hears_answer (answer (string (codes "*"))) ≡ says (codes "A1 NO \"Login failed\"")
   -- any other line ends the login: two tokens, none, one that can't be read
-  pub two : hears_answer (lexed.Line (token (codes "A2") ∷ token (codes "LOGOUT") ∷ [])) ≡ says (codes "A1 BAD \"Bad arguments\"")
+  pub two : hears_answer (lexed.Line (token (codes "A2") ∷ token (codes "LOGOUT") ∷ []))
+      ≡ says (codes "A1 BAD \"Bad arguments\"")
   pub none : hears_answer (lexed.Line []) ≡ says (codes "A1 BAD \"Bad arguments\"")
   pub bad : hears_answer (lexed.Bad lexical.BadToken None) ≡ says (codes "A1 BAD \"Bad arguments\"")
-  pub too_long : hears_answer (lexed.Fatal lexical.LineTooLong) ≡ ends (codes "* BYE \"Line too long\"" ++ crlf)
+  pub too_long : hears_answer (lexed.Fatal lexical.LineTooLong)
+      ≡ ends (codes "* BYE \"Line too long\"" ++ crlf)
   pub waits : hears_answer lexed.More ≡ (next.More, challenge_stage)
   pub continues : hears_answer lexed.Plus ≡ (next.Say (codes "+ \"Ready\"" ++ crlf), challenge_stage)
 
@@ -157,18 +195,31 @@ nexts t = session_next tims 1896 (pos 697170952000000) t
 
 pub record NextExamples : Type 0 where
   -- a session that awaits the machine's answer, or is closed, hears nothing
-  pub entering : (text : List ℕ) → nexts (talking joe stage.Entering text) ≡ (next.More, talking joe stage.Entering text)
+  pub entering : (text : List ℕ)
+      → nexts (talking joe stage.Entering text) ≡ (next.More, talking joe stage.Entering text)
   pub asking : (text : List ℕ) → nexts (talking joe waiting text) ≡ (next.More, talking joe waiting text)
-  pub logging_in : (text : List ℕ) → nexts (talking None logging text) ≡ (next.More, talking None logging text)
-  pub draining : (text : List ℕ) → nexts (talking joe stage.Draining text) ≡ (next.More, talking joe stage.Draining text)
-  pub closed : (text : List ℕ) → nexts (talking joe stage.Closed text) ≡ (next.More, talking joe stage.Closed text)
-  pub opens : (text : List ℕ) → nexts (talking joe stage.Opening text) ≡ (next.Ask (event.Enter (codes "joe")), talking joe stage.Entering text)
-  pub hears : nexts (talking joe stage.Ready (codes "A1 NOOP" ++ crlf ++ codes "A2")) ≡ (next.Say (codes "A1 OK \"NOOP done\"" ++ crlf), talking joe stage.Ready (codes "A2"))
+  pub logging_in : (text : List ℕ)
+      → nexts (talking None logging text) ≡ (next.More, talking None logging text)
+  pub draining : (text : List ℕ)
+      → nexts (talking joe stage.Draining text) ≡ (next.More, talking joe stage.Draining text)
+  pub closed : (text : List ℕ) → nexts (talking joe stage.Closed text)
+      ≡ (next.More, talking joe stage.Closed text)
+  pub opens : (text : List ℕ) → nexts (talking joe stage.Opening text)
+      ≡ (next.Ask (event.Enter (codes "joe")), talking joe stage.Entering text)
+  pub hears : nexts (talking joe stage.Ready (codes "A1 NOOP" ++ crlf ++ codes "A2"))
+      ≡ (next.Say (codes "A1 OK \"NOOP done\"" ++ crlf), talking joe stage.Ready (codes "A2"))
   -- the line behind an AUTHENTICATE is its answer, though it was sent before the challenge
-  pub challenge : nexts (talking None stage.Ready (codes "A1 AUTHENTICATE \"CRAM-MD5\"" ++ crlf ++ codes "*" ++ crlf)) ≡ (next.Say (codes "+ \"<1896.697170952@postoffice.reston.mci.net>\"" ++ crlf), talking None challenge_stage (codes "*" ++ crlf))
-  pub sent_ahead : nexts (talking None challenge_stage (codes "*" ++ crlf)) ≡ then_says None (codes "A1 BAD \"Login cancelled\"")
+  pub challenge : nexts
+      (talking None stage.Ready (codes "A1 AUTHENTICATE \"CRAM-MD5\"" ++ crlf ++ codes "*" ++ crlf))
+      ≡ (
+        next.Say (codes "+ \"<1896.697170952@postoffice.reston.mci.net>\"" ++ crlf),
+        talking None challenge_stage (codes "*" ++ crlf),
+      )
+  pub sent_ahead : nexts (talking None challenge_stage (codes "*" ++ crlf))
+      ≡ then_says None (codes "A1 BAD \"Login cancelled\"")
   -- what is pending is asked for by a user's session that awaits nothing
-  pub drains : session_drain (talking joe stage.Ready []) ≡ (next.Ask event.Drain, talking joe stage.Draining [])
+  pub drains : session_drain (talking joe stage.Ready [])
+      ≡ (next.Ask event.Drain, talking joe stage.Draining [])
   pub nobody_drains : session_drain (talking None stage.Ready []) ≡ (next.More, talking None stage.Ready [])
   pub no_drain : session_drain (talking joe waiting []) ≡ (next.More, talking joe waiting [])
 
@@ -199,18 +250,23 @@ pub record RunExamples : Type 0 where
   -- a user enters, and is heard
   pub enters : runs joe (turn (replies said.Greeting) None ∷ []) ≡ stands joe stage.Ready greeting true
   -- who is closed leaves the seat in the same turn, and that Leave is answered
-  pub leaves : runs joe (turn (replies said.Greeting) None ∷ logout ∷ turn None (replies said.Left) ∷ []) ≡ stands joe stage.Closed (greeting ++ farewell) false
+  pub leaves : runs joe (turn (replies said.Greeting) None ∷ logout ∷ turn None (replies said.Left) ∷ [])
+      ≡ stands joe stage.Closed (greeting ++ farewell) false
   pub must_leave : runs joe (turn (replies said.Greeting) None ∷ logout ∷ turn None None ∷ []) ≡ None
   -- who never entered has nothing to leave
-  pub nothing_left : runs None (turn None None ∷ logout ∷ turn None None ∷ []) ≡ stands None stage.Closed (greeting ++ farewell) false
+  pub nothing_left : runs None (turn None None ∷ logout ∷ turn None None ∷ [])
+      ≡ stands None stage.Closed (greeting ++ farewell) false
   pub no_leave : runs None (turn None None ∷ logout ∷ turn None (replies said.Left) ∷ []) ≡ None
   pub refused : runs joe (turn (Some (Err fault.AlreadyEntered)) None ∷ []) ≡ stands joe stage.Closed [] false
   -- an event that is asked is answered, and nothing else is
   pub unanswered : runs joe (turn None None ∷ []) ≡ None
   pub not_asked : runs None (turn (replies said.Greeting) None ∷ []) ≡ None
   -- a drain before a login asks nothing
-  pub drains : runs joe (turn (replies said.Greeting) None ∷ Drain (pos 0) (replies (said.Drained [])) None ∷ []) ≡ stands joe stage.Ready greeting true
-  pub nobody_drains : runs None (turn None None ∷ Drain (pos 0) None None ∷ []) ≡ stands None stage.Ready greeting false
+  pub drains : runs joe (turn (replies said.Greeting) None ∷ Drain (pos 0) (replies (said.Drained [])) None
+      ∷ []) ≡ stands joe stage.Ready greeting true
+  pub nobody_drains : runs None (turn None None ∷ Drain (pos 0) None None ∷ [])
+      ≡ stands None stage.Ready greeting false
   pub no_drain : runs None (turn None None ∷ Drain (pos 0) (replies (said.Drained [])) None ∷ []) ≡ None
   -- a session ends without a word
-  pub ends : runs joe (turn (replies said.Greeting) None ∷ Leave (pos 0) (replies said.Left) ∷ []) ≡ stands joe stage.Closed greeting false
+  pub ends : runs joe (turn (replies said.Greeting) None ∷ Leave (pos 0) (replies said.Left) ∷ [])
+      ≡ stands joe stage.Closed greeting false

@@ -1,6 +1,7 @@
 -- What a session says to an answer of its lexer, without the machine, or what it asks the machine then
 -- [RFC 2244 sections 2.2, 2.6.3, 6.2 and 6.3.1; RFC 2195 section 2].
-use Rattle.std.specs.Prelude.{ℕ, ℤ, pos, negsuc, ◌/◌, List, [], ◌∷◌, ◌++◌, Option, Some, None, is_some, Result, Ok, Err, option_map, slice_get, codes, if◌then◌else◌}
+use Rattle.std.specs.Prelude.{ℕ, ℤ, pos, negsuc, ◌/◌, List, [], ◌∷◌, ◌++◌, Option, Some, None, is_some}
+use Rattle.std.specs.Prelude.{Result, Ok, Err, option_map, slice_get, codes, if◌then◌else◌}
 use Rattle.std.specs.Option.{option_and_then}
 use Rattle.std.specs.Str.{bytes_eq, str_eq_ignore_ascii_case}
 use Rattle.acap_lexer.specs.declared.kind.Kind.{Kind}
@@ -49,7 +50,10 @@ seconds_of (negsuc n) = 0
 
 -- the client is to answer this challenge
 abbrev pub challenges : Option (List ℕ) → List ℕ → Next × Stage
-challenges tag challenge = (next.Say (octets_of (record { tag = None; said = said.Challenge challenge })), stage.Challenged tag challenge)
+challenges tag challenge = (
+  next.Say (octets_of (record { tag = None; said = said.Challenge challenge })),
+  stage.Challenged tag challenge,
+)
 
 -- the one mechanism, in any case
 abbrev pub mechanism_name : List ℕ
@@ -57,12 +61,14 @@ mechanism_name = codes "CRAM-MD5"
 
 abbrev pub challenge_or_refusal : Listening → Option (List ℕ) → List ℕ → Next × Stage
 challenge_or_refusal l tag mechanism =
-    if str_eq_ignore_ascii_case mechanism mechanism_name then challenges tag (challenge_of l.nonce (seconds_of l.clock) l.host)
+    if str_eq_ignore_ascii_case mechanism mechanism_name
+    then challenges tag (challenge_of l.nonce (seconds_of l.clock) l.host)
     else refuses tag refusals.NoMechanism
 
 -- a user who is logged in needs no mechanism, whatever it is
 abbrev pub login_or_refusal : Listening → Option (List ℕ) → List ℕ → Next × Stage
-login_or_refusal l tag mechanism = if is_some l.user then refuses tag refusals.LoggedIn else challenge_or_refusal l tag mechanism
+login_or_refusal l tag mechanism =
+    if is_some l.user then refuses tag refusals.LoggedIn else challenge_or_refusal l tag mechanism
 
 unfoldable pub heard_command : Listening → Option (List ℕ) → Command → Next × Stage
 heard_command l tag command.Noop = says tag (said.Done verb.Noop)
@@ -94,7 +100,8 @@ response_to l (lexed.Fatal fault) = closes None (said.Refused (of_lexical fault)
 
 -- whom an answer logs in
 abbrev pub who : List User → List ℕ → List ℕ → Option (List ℕ)
-who users challenge answer = option_and_then (λ place. name_at users place) (answering_user users challenge answer)
+who users challenge answer =
+    option_and_then (λ place. name_at users place) (answering_user users challenge answer)
 
 -- who is logged in asks to enter
 abbrev pub logs_in : Option (List ℕ) → Option (List ℕ) → Next × Stage

@@ -1,6 +1,7 @@
 -- One session's run, the machine's answers being handed in: its steps, what they come to, and what they use
 -- [RFC 2244 section 2].
-use Rattle.std.specs.Prelude.{◌≡◌, ℕ, ℤ, ◌+◌, List, [], ◌∷◌, ◌++◌, flat_map, Bool, true, false, ◌&&◌, not, Option, Some, None, Result, Ok, Err}
+use Rattle.std.specs.Prelude.{◌≡◌, ℕ, ℤ, ◌+◌, List, [], ◌∷◌, ◌++◌, flat_map, Bool, true, false, ◌&&◌, not}
+use Rattle.std.specs.Prelude.{Option, Some, None, Result, Ok, Err}
 use Rattle.std.specs.Option.{option_and_then, option_map_or}
 use Rattle.acap_login.specs.Login.{User}
 use Rattle.acap_commands.specs.declared.event.Event.{Event}
@@ -19,8 +20,9 @@ use Rattle.acap_dialogue.specs.declared.stage.Stage.TheVariants as stage
 abbrev pub Outcome : Type 0
 Outcome = Option (Result Reply Fault)
 
--- A step with all that it used: octets come; a turn, with what the clock shows and a nonce; a drain, or an end, with
--- what the clock shows. Then: what the event that it asks was answered, and what the Leave behind it was.
+-- A step with all that it used: octets come; a turn, with what the clock
+-- shows and a nonce; a drain, or an end, with what the clock shows. Then:
+-- what the event that it asks was answered, and what the Leave behind it was.
 pub data Did : Type 0 where
   Piece : List ℕ → Did
   Turn : ℤ → ℕ → Outcome → Outcome → Did
@@ -60,10 +62,11 @@ seated_by (event.Command command) outcome seated = seated
 seated_by event.Drain outcome seated = seated
 seated_by event.Leave outcome seated = seated
 
--- What is next once the event that is asked is answered, and whether an Enter stands then. An event that is asked is
--- answered, and nothing else is.
+-- What is next once the event that is asked is answered, and whether an Enter stands then. An event that is
+-- asked is answered, and nothing else is.
 abbrev pub after_asking : Bool → Next × Talking → Outcome → Option (Bool × (Next × Talking))
-after_asking seated (next.Ask event, t) (Some outcome) = Some (seated_by event outcome seated, after_answer t outcome)
+after_asking seated (next.Ask event, t) (Some outcome) =
+    Some (seated_by event outcome seated, after_answer t outcome)
 after_asking seated (next.Ask event, t) None = None
 after_asking seated x None = Some (seated, x)
 after_asking seated x (Some outcome) = None
@@ -85,7 +88,8 @@ after_saying out x = record { talk = x.1.1; out = with_said out x.1.0; seated = 
 
 -- a turn or a drain, by what is next
 abbrev pub after_turn : At → Next × Talking → Outcome → Outcome → Option At
-after_turn at x asked left = option_and_then (λ y. leaving (is_left y) left (after_saying at.out y)) (after_asking at.seated x asked)
+after_turn at x asked left =
+    option_and_then (λ y. leaving (is_left y) left (after_saying at.out y)) (after_asking at.seated x asked)
 
 -- the session takes octets, as many as it has room for
 abbrev pub taking : Talking → List ℕ → Talking
@@ -100,7 +104,8 @@ unfoldable pub did : List User → Did → At → Option At
 did users (Piece octets) at = Some (record at { talk = taking at.talk octets })
 did users (Turn clock nonce asked left) at = after_turn at (session_next users nonce clock at.talk) asked left
 did users (Drain clock asked left) at = after_turn at (session_drain at.talk) asked left
-did users (Leave clock left) at = leaving at.seated left (record { talk = over at.talk; out = at.out; seated = false })
+did users (Leave clock left) at =
+    leaving at.seated left (record { talk = over at.talk; out = at.out; seated = false })
 
 -- its steps, one after the other
 abbrev pub after_steps : List User → List Did → At → Option At
@@ -185,7 +190,8 @@ leaves_by seated x asked = option_map_or is_left (after_asking seated x asked) f
 
 abbrev pub leaves_in : List User → Did → At → Bool
 leaves_in users (Piece octets) at = false
-leaves_in users (Turn clock nonce asked left) at = leaves_by at.seated (session_next users nonce clock at.talk) asked
+leaves_in users (Turn clock nonce asked left) at =
+    leaves_by at.seated (session_next users nonce clock at.talk) asked
 leaves_in users (Drain clock asked left) at = leaves_by at.seated (session_drain at.talk) asked
 leaves_in users (Leave clock left) at = at.seated
 
@@ -195,7 +201,8 @@ calls_with clock asks asked left = call_of clock asks asked ++ call_of clock (So
 -- the events of a step that were answered with replies, in their order
 abbrev pub calls_in : List User → Did → At → List Call
 calls_in users (Piece octets) at = []
-calls_in users (Turn clock nonce asked left) at = calls_with clock (event_in (session_next users nonce clock at.talk)) asked left
+calls_in users (Turn clock nonce asked left) at =
+    calls_with clock (event_in (session_next users nonce clock at.talk)) asked left
 calls_in users (Drain clock asked left) at = calls_with clock (event_in (session_drain at.talk)) asked left
 calls_in users (Leave clock left) at = call_of clock (Some event.Leave) left
 
@@ -211,8 +218,8 @@ abbrev pub SeatedLaw : Type 0
 SeatedLaw = (users : List User) (host : List ℕ) (user : Option (List ℕ)) (dids : List Did) (end : At) →
     after_steps users dids (start host user) ≡ Some end → end.seated ≡ has_seat end.talk
 
--- Where nothing is next, nothing is next whatever the clock shows and whichever nonce is handed in: only octets, or the
--- answer to an event, bring more.
+-- Where nothing is next, nothing is next whatever the clock shows and whichever nonce is handed in: only
+-- octets, or the answer to an event, bring more.
 abbrev pub QuietLaw : Type 0
 QuietLaw = (users : List User) (nonce later : ℕ) (clock after : ℤ) (t : Talking) →
     (session_next users nonce clock t).0 ≡ next.More → (session_next users later after t).0 ≡ next.More

@@ -1,4 +1,5 @@
--- How what is next is told by functions that are lent a vector: its octets are added to it, and all else is told apart.
+-- How what is next is told by functions that are lent a vector:
+-- its octets are added to it, and all else is told apart.
 use Rattle.std.specs.Prelude.{◌≡◌, ℕ, Vec, List, ◌++◌, Result, Ok, Err}
 use Rattle.std.specs.declared.alloc.Global.{Global}
 use Rattle.std.specs.declared.alloc.AllocError.{AllocError as Memory}
@@ -32,20 +33,25 @@ next_of heard.Closes octets = next.Close octets
 
 -- ---- words of the contracts
 
--- What a call makes of a stage and of the octets to be written: what is next is told, and where memory was refused
--- both are as before.
+-- What a call makes of a stage and of the octets to be written: what
+-- is next is told, and where memory was refused both are as before.
 abbrev pub Hears : Next × Stage → Result Heard Memory → Stage → Stage → Vec ℕ Global → Vec ℕ Global → Type 0
-Hears turn (Ok told) before after out written = (told ≡ heard_of turn.0) × (after ≡ turn.1) × (written.items ≡ with_said out.items turn.0)
+Hears turn (Ok told) before after out written =
+    (told ≡ heard_of turn.0) × (after ≡ turn.1) × (written.items ≡ with_said out.items turn.0)
 Hears turn (Err memory) before after out written = (after ≡ before) × (written.items ≡ out.items)
 
 -- the same host's session, of the same user
 abbrev pub KeepsUser : Talking → Talking → Type 0
 KeepsUser before after = (after.host ≡ before.host) × (after.user ≡ before.user)
 
--- What a call makes of a session: where memory was refused it is closed without a word, and has the user that it had.
-abbrev pub Makes : Next × Talking → Result Heard Memory → Talking → Talking → Vec ℕ Global → Vec ℕ Global → Type 0
-Makes turn (Ok told) before after out written = (told ≡ heard_of turn.0) × (after ≡ turn.1) × (written.items ≡ with_said out.items turn.0)
-Makes turn (Err memory) before after out written = (after.stage ≡ stage.Closed) × (written.items ≡ out.items) × KeepsUser before after
+-- What a call makes of a session: where memory was refused
+-- it is closed without a word, and has the user that it had.
+abbrev pub Makes : Next × Talking → Result Heard Memory → Talking → Talking → Vec ℕ Global → Vec ℕ Global
+    → Type 0
+Makes turn (Ok told) before after out written =
+    (told ≡ heard_of turn.0) × (after ≡ turn.1) × (written.items ≡ with_said out.items turn.0)
+Makes turn (Err memory) before after out written =
+    (after.stage ≡ stage.Closed) × (written.items ≡ out.items) × KeepsUser before after
 
 -- memory was refused: the session is closed, and has the user that it had
 abbrev pub IsCutOff : Talking → Talking → Type 0

@@ -29,12 +29,14 @@ listening t nonce clock = record { host = t.host; user = t.user; nonce = nonce; 
 -- one that awaits no answer hears a command
 abbrev pub heard_at : Talking → ℕ → ℤ → Next × Talking
 heard_at t nonce clock =
-    comes_to (record t { held = (next_of mode.Command t.held).1 }) (response_to (listening t nonce clock) (next_of mode.Command t.held).0)
+    comes_to (record t { held = (next_of mode.Command t.held).1 })
+    (response_to (listening t nonce clock) (next_of mode.Command t.held).0)
 
 -- and one whose challenge waits hears what the client answers
 abbrev pub answer_at : List User → Option (List ℕ) → List ℕ → Talking → Next × Talking
 answer_at users tag challenge t =
-    comes_to (record t { held = (next_of mode.Answer t.held).1 }) (heard_answer users tag challenge (next_of mode.Answer t.held).0)
+    comes_to (record t { held = (next_of mode.Answer t.held).1 })
+    (heard_answer users tag challenge (next_of mode.Answer t.held).0)
 
 -- one that awaits the machine's answer, or is closed, has nothing to say
 abbrev pub next_at : List User → ℕ → ℤ → Stage → Talking → Next × Talking
@@ -61,8 +63,8 @@ is_asked (stage.LoggingIn tag user) = true
 is_asked stage.Draining = true
 is_asked stage.Closed = false
 
--- the machine's answer to a command is said under its tag; want of memory and a full history are refusals, and a
--- session whose seat isn't its own is closed without a word
+-- the machine's answer to a command is said under its tag; want of memory and a full history are refusals,
+-- and a session whose seat isn't its own is closed without a word
 abbrev pub command_said : Option (List ℕ) → Result Reply Fault → Next × Stage
 command_said tag (Ok reply) = says tag reply.said
 command_said tag (Err fault.Memory) = refuses tag refusals.Memory
@@ -84,8 +86,8 @@ abbrev pub login_user : List ℕ → Option (List ℕ) → Result Reply Fault �
 login_user name user (Ok reply) = Some name
 login_user name user (Err fault) = user
 
--- that of a drain is said as it is; one that is refused memory, or that a full history refuses, says nothing, and a
--- session whose seat isn't its own is closed without a word
+-- that of a drain is said as it is; one that is refused memory, or that a full history refuses, says nothing,
+-- and a session whose seat isn't its own is closed without a word
 abbrev pub drain_said : Result Reply Fault → Next × Stage
 drain_said (Ok reply) = says None reply.said
 drain_said (Err fault.Memory) = (next.Say [], stage.Ready)
@@ -115,7 +117,8 @@ answer_user stage.Draining user outcome = user
 answer_user stage.Closed user outcome = user
 
 unfoldable pub after_answer : Talking → Result Reply Fault → Next × Talking
-after_answer t outcome = comes_to (record t { user = answer_user t.stage t.user outcome }) (answer_said t.stage outcome)
+after_answer t outcome =
+    comes_to (record t { user = answer_user t.stage t.user outcome }) (answer_said t.stage outcome)
 
 -- a user's session that is ready may ask for what is pending; any other has nothing to ask
 abbrev pub drain_for : Option (List ℕ) → Talking → Next × Talking

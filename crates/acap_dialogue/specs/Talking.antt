@@ -13,4 +13,10 @@ pub record Talking : Type 0 where
 
 -- a session on that host that hasn't said anything, of that user if there is one
 abbrev pub beginning : List ℕ → Option (List ℕ) → Talking
-beginning host user = record { host = host; user = user; held = record { text = []; told = 0; fatal = None }; stage = stage.Opening }
+beginning host user =
+    record {
+      host = host;
+      user = user;
+      held = record { text = []; told = 0; fatal = None };
+      stage = stage.Opening;
+    }

@@ -10,7 +10,8 @@ pub record IsStoreAfter (change : Change) (old new : Store) : Type 0 where
   pub paths : IsPathByPath change.writes old.records new.records
   pub last : new.last ≡ change.moment
   pub deletions : new.deletions ≡ newest_of (old.deletions ++ deletions_at change.deleted change.moment)
-  pub forgotten : new.forgotten ≡ forgotten_of old.forgotten (old.deletions ++ deletions_at change.deleted change.moment)
+  pub forgotten : new.forgotten
+      ≡ forgotten_of old.forgotten (old.deletions ++ deletions_at change.deleted change.moment)
 
 -- the same store as a value
 abbrev pub store_after : Change → Store → Store

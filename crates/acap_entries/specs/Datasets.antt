@@ -1,5 +1,6 @@
 -- Which datasets exist [RFC 2244 sections 3.1.1 and 4.1].
-use Rattle.std.specs.Prelude.{ℕ, Bool, false, ◌&&◌, ◌||◌, nat_eq, List, [], ◌∷◌, filter, Option, Some, None, codes}
+use Rattle.std.specs.Prelude.{ℕ, Bool, false, ◌&&◌, ◌||◌, nat_eq, List, [], ◌∷◌, filter, Option, Some, None}
+use Rattle.std.specs.Prelude.{codes}
 use Rattle.std.specs.List.{starts_with}
 use Rattle.std.specs.Option.{option_map_or, option_and_then}
 use Rattle.std.specs.FinMap as map
@@ -28,7 +29,9 @@ makes_dataset entry = entry.present && is_dot_list (map.get entry.cells (codes "
 abbrev pub dataset_exists : Stored → List ℕ → Bool
 dataset_exists records dataset =
     octets_eq dataset (slash ∷ [])
-    || option_map_or makes_dataset (option_and_then (λ own. map.get records (record { dataset = own.0; name = own.1 })) (own_entry dataset)) false
+    || option_map_or makes_dataset
+    (option_and_then (λ own. map.get records (record { dataset = own.0; name = own.1 }))
+    (own_entry dataset)) false
 
 -- the records of one dataset, and those of a dataset and of the datasets beneath it, in their order
 abbrev pub entries_of : Stored → List ℕ → List (Path × Record)

@@ -1,5 +1,6 @@
 -- The newest deletions of a store, which DELETEDSINCE tells [RFC 2244 section 6.6.2].
-use Rattle.std.specs.Prelude.{◌≡◌, ℕ, ◌+◌, ◌-◌, min, ◌≤◌, ℤ, List, ◌++◌, length, take, drop, map, slice_get, Option, refl}
+use Rattle.std.specs.Prelude.{◌≡◌, ℕ, ◌+◌, ◌-◌, min, ◌≤◌, ℤ, List, ◌++◌, length, take, drop, map, slice_get}
+use Rattle.std.specs.Prelude.{Option, refl}
 use Rattle.std.specs.Option.{option_map, option_or}
 use Rattle.std.specs.Coded.{Coded, code_by, coded×, coded_ℕ, coded_ℤ, coded_list, coded_option}
 use Rattle.acap_entries.specs.declared.deletion.Deletion.{Deletion}
@@ -19,7 +20,8 @@ others_of all = take (length all - most_kept) all
 
 -- the last moment of those that are not kept, or the one that was the last before
 unfoldable pub forgotten_of : Option ℤ → List Deletion → Option ℤ
-forgotten_of before all = option_or (option_map (λ d. d.moment) (slice_get (others_of all) (length (others_of all) - 1))) before
+forgotten_of before all =
+    option_or (option_map (λ d. d.moment) (slice_get (others_of all) (length (others_of all) - 1))) before
 
 -- the deletions of some paths at a moment
 abbrev pub deletions_at : List Path → ℤ → List Deletion
@@ -42,5 +44,7 @@ pub record IsAdded (added : List Deletion) (old new : Remembered) : Type 0 where
 
 abbrev pub remembered_code : Coded Remembered
 remembered_code =
-    code_by (List Deletion × (Option ℤ × ℕ)) (coded× (coded_list deletion.the_row.coded) (coded× (coded_option coded_ℤ) coded_ℕ))
-    (λ d. (d.kept, (d.forgotten, d.slots))) (λ p. record { kept = p.0; forgotten = p.1.0; slots = p.1.1 }) (λ _. refl)
+    code_by (List Deletion × (Option ℤ × ℕ))
+    (coded× (coded_list deletion.the_row.coded) (coded× (coded_option coded_ℤ) coded_ℕ))
+    (λ d. (d.kept, (d.forgotten, d.slots))) (λ p. record { kept = p.0; forgotten = p.1.0; slots = p.1.1 })
+    (λ _. refl)

@@ -3,7 +3,8 @@ use Rattle.std.specs.Prelude.{◌≡◌, ℕ, Bool, false, List, ◌++◌, IsTru
 use Rattle.std.specs.FinMap as map
 use Rattle.std.specs.declared.cmp.Ordering.{Ordering}
 use Rattle.acap_entries.specs.Homes.{for_user}
-use Rattle.acap_entries.specs.Names.{slash, has, ends_with, dataset_of, name_of, is_closed_dataset, is_entry_name, are_parts}
+use Rattle.acap_entries.specs.Names.{slash, has, ends_with, dataset_of, name_of, is_closed_dataset}
+use Rattle.acap_entries.specs.Names.{is_entry_name, are_parts}
 use Rattle.acap_entries.specs.Orders.{octets_cmp}
 use Rattle.acap_entries.specs.Sorted.{InOrder}
 use Rattle.acap_entries.specs.Store.{path_cmp}
@@ -28,8 +29,8 @@ path_for user p = record p { dataset = for_user user p.dataset }
 abbrev pub full_path : Path → List ℕ
 full_path p = p.dataset ++ p.name
 
--- octet by octet, a proper prefix first. This is another order than that by dataset and then by name: the entry `a!` of
--- a dataset comes before the entries of its dataset `a/`, since `!` is less than `/`
+-- octet by octet, a proper prefix first. This is another order than that by dataset and then by name: the
+-- entry `a!` of a dataset comes before the entries of its dataset `a/`, since `!` is less than `/`
 abbrev pub full_path_cmp : Path → Path → Ordering
 full_path_cmp a b = octets_cmp (full_path a) (full_path b)
 

@@ -1,5 +1,5 @@
--- What `~` stands for: the second component of a dataset, where it is `~`, is `user/USER` of the logged-in user
--- [RFC 2244 section 4.1].
+-- What `~` stands for: the second component of a dataset, where it is
+-- `~`, is `user/USER` of the logged-in user [RFC 2244 section 4.1].
 use Rattle.std.specs.Prelude.{ℕ, ◌+◌, Bool, nat_eq, ◌&&◌, List, ◌++◌, take, drop, codes, if◌then◌else◌}
 use Rattle.std.specs.List.{position_or_len, starts_with}
 use Rattle.acap_entries.specs.Names.{slash, is_slash, begins_with}
@@ -10,7 +10,8 @@ second_at dataset = position_or_len is_slash (drop 1 dataset) + 2
 
 -- whether the second component is `~`
 unfoldable pub is_home : List ℕ → Bool
-is_home dataset = begins_with slash dataset && starts_with nat_eq (drop (second_at dataset) dataset) (codes "~/")
+is_home dataset = begins_with slash dataset
+    && starts_with nat_eq (drop (second_at dataset) dataset) (codes "~/")
 
 -- the dataset with `user/USER` in place of the one octet there
 abbrev pub with_user_at : ℕ → List ℕ → List ℕ → List ℕ

@@ -1,12 +1,15 @@
 -- What follows from the definitions alone.
 use Rattle.std.specs.Cmp.{IsTotalOrder}
 use Rattle.std.specs.declared.cmp.Ordering.TheVariants.{Equal}
-use Rattle.std.specs.Prelude.{◌≡◌, ◌↔◌, ◌≤◌, length, Option, ℕ, ℤ, pos, neg_ℤ, true, false, List, [], ◌∷◌, ◌++◌, Some, None, codes, replicate}
+use Rattle.std.specs.Prelude.{◌≡◌, ◌↔◌, ◌≤◌, length, Option, ℕ, ℤ, pos, neg_ℤ, true, false, List, [], ◌∷◌}
+use Rattle.std.specs.Prelude.{◌++◌, Some, None, codes, replicate}
 use Rattle.std.specs.FinMap as map
 use Rattle.acap_entries.specs.Datasets.{is_dot_list, makes_dataset, dataset_exists}
 use Rattle.acap_entries.specs.Moments.{first_moment, last_moment, IsMoment, moment_after}
 use Rattle.acap_entries.specs.declared.cell.Cell.TheVariants.{Nil, Single, Multi}
-use Rattle.acap_entries.specs.Names.{is_path, is_dataset_argument, is_attribute, is_user_name, is_context_name, is_closed_dataset, is_component, dataset_of, name_of, own_entry, slash}
+use Rattle.acap_entries.specs.Names.{is_path, is_dataset_argument, is_attribute, is_user_name}
+use Rattle.acap_entries.specs.Names.{is_context_name, is_closed_dataset, is_component, dataset_of, name_of}
+use Rattle.acap_entries.specs.Names.{own_entry, slash}
 use Rattle.acap_entries.specs.Homes.{for_user}
 use Rattle.acap_entries.specs.Stamp.{IsStamp, stamp_of}
 use Rattle.acap_entries.specs.Changes.{IsStoreAfter, store_after}
@@ -23,16 +26,22 @@ use Rattle.acap_entries.specs.declared.record.Record.{Record}
 
 -- a change determines the store that it leaves
 abbrev pub ChangeLaw : Type 0
-ChangeLaw = (change : Change) (old a b : Store) → IsStoreAfter change old a → IsStoreAfter change old b → a ≡ b
+ChangeLaw = (change : Change) (old a b : Store) → IsStoreAfter change old a → IsStoreAfter change old b
+    → a ≡ b
 
 -- the store that is a change's, as a value, is what the change stands for, path by path
 abbrev pub AfterLaw : Type 0
 AfterLaw = (change : Change) (old : Store) → IsStoreAfter change old (store_after change old)
 
--- after two changes each path has what the later one writes there, else what the earlier one writes, else its old record
+-- after two changes each path has what the later one writes
+-- there, else what the earlier one writes, else its old record
 abbrev pub TwoChangesLaw : Type 0
-TwoChangesLaw = (earlier later : Change) (old mid new : Store) → IsStoreAfter earlier old mid → IsStoreAfter later mid new
-    → ((p : Path) → map.get new.records p ≡ after_fate (map.get later.writes p) (after_fate (map.get earlier.writes p) (map.get old.records p))) × (new.last ≡ later.moment)
+TwoChangesLaw = (earlier later : Change) (old mid new : Store) → IsStoreAfter earlier old mid
+    → IsStoreAfter later mid new
+    → ((p : Path)
+    → map.get new.records p
+    ≡ after_fate (map.get later.writes p) (after_fate (map.get earlier.writes p) (map.get old.records p)))
+    × (new.last ≡ later.moment)
 
 -- a change that writes at one path alone
 abbrev pub change_of : Path → Fate → ℤ → Change
@@ -40,42 +49,48 @@ change_of p fate moment = record { writes = map.insert map.empty p fate; moment 
 
 -- a record that one change puts and the next removes is gone
 abbrev pub RemovalLaw : Type 0
-RemovalLaw = (p : Path) (r : Record) (earlier later : ℤ) (old mid new : Store) → IsStoreAfter (change_of p (Put r) earlier) old mid → IsStoreAfter (change_of p Remove later) mid new
+RemovalLaw = (p : Path) (r : Record) (earlier later : ℤ) (old mid new : Store)
+    → IsStoreAfter (change_of p (Put r) earlier) old mid → IsStoreAfter (change_of p Remove later) mid new
     → (map.get mid.records p ≡ Some r) × (map.get new.records p ≡ None)
 
--- the newest deletions are kept, and the rest is forgotten: at most 4,096 are kept, they are the end of all of them, and
--- of what isn't kept the last moment is known
+-- the newest deletions are kept, and the rest is forgotten: at most 4,096 are kept, they are the end of all
+-- of them, and of what isn't kept the last moment is known
 pub record DeletionLaw : Type 0 where
   pub whole : (all : List Deletion) → others_of all ++ newest_of all ≡ all
   pub few : (all : List Deletion) → length (newest_of all) ≤ 4_096
   pub all_of_few : (all : List Deletion) → length all ≤ 4_096 → newest_of all ≡ all
-  pub none_of_few : (before : Option ℤ) (all : List Deletion) → length all ≤ 4_096 → forgotten_of before all ≡ before
-  pub last_of_others : (before : Option ℤ) (front : List Deletion) (d : Deletion) (rest : List Deletion) → length rest ≡ 4_096 → forgotten_of before (front ++ d ∷ rest) ≡ Some d.moment
+  pub none_of_few : (before : Option ℤ) (all : List Deletion) → length all ≤ 4_096
+      → forgotten_of before all ≡ before
+  pub last_of_others : (before : Option ℤ) (front : List Deletion) (d : Deletion) (rest : List Deletion)
+      → length rest ≡ 4_096 → forgotten_of before (front ++ d ∷ rest) ≡ Some d.moment
   pub by_parts : (all more : List Deletion) → newest_of (newest_of all ++ more) ≡ newest_of (all ++ more)
 
--- the order of full paths is one of lists of octets, and equal full paths of well-formed paths are equal paths
+-- the order of full paths is one of lists of octets, and
+-- equal full paths of well-formed paths are equal paths
 pub record FullPathLaw : Type 0 where
   pub total : IsTotalOrder full_path_cmp
   pub same : (a b : Path) → IsSplit a → IsSplit b → full_path_cmp a b ≡ Equal → a ≡ b
 
--- the own entry of a dataset is the one path, split at its last slash, whose octets, with a slash behind them, are the
--- dataset's
+-- the own entry of a dataset is the one path, split at its last
+-- slash, whose octets, with a slash behind them, are the dataset's
 abbrev pub OwnEntryLaw : Type 0
-OwnEntryLaw = (dataset : List ℕ) (p : Path) → (own_entry dataset ≡ Some (p.dataset, p.name)) ↔ (IsSplit p × (full_path p ++ slash ∷ [] ≡ dataset))
+OwnEntryLaw = (dataset : List ℕ) (p : Path) → (own_entry dataset ≡ Some (p.dataset, p.name))
+    ↔ (IsSplit p × (full_path p ++ slash ∷ [] ≡ dataset))
 
--- the own entry of a dataset is well formed, and so is the dataset that a named entry makes, and the one that a user means;
--- a well-formed path is split where it should be
+-- the own entry of a dataset is well formed, and so is the dataset that a named entry makes, and the one that
+-- a user means; a well-formed path is split where it should be
 pub record FormLaw : Type 0 where
   pub split : (p : Path) → IsWellFormed p → IsSplit p
-  pub own : (dataset : List ℕ) (p : Path) → is_closed_dataset dataset ≡ true → own_entry dataset ≡ Some (p.dataset, p.name)
+  pub own : (dataset : List ℕ) (p : Path) → is_closed_dataset dataset ≡ true
+      → own_entry dataset ≡ Some (p.dataset, p.name)
       → IsWellFormed p × (is_component p.name ≡ true)
   pub beneath : (dataset name : List ℕ) → is_closed_dataset dataset ≡ true → is_component name ≡ true
       → is_closed_dataset (dataset ++ name ++ slash ∷ []) ≡ true
   pub meant : (user dataset : List ℕ) → is_user_name user ≡ true → is_closed_dataset dataset ≡ true
       → is_closed_dataset (for_user user dataset) ≡ true
 
--- the moment of a change is the clock's where that is later than the last one, else the next, and there is none after the
--- last of all moments
+-- the moment of a change is the clock's where that is later than the last
+-- one, else the next, and there is none after the last of all moments
 pub record MomentExamples : Type 0 where
   pub later_clock : moment_after (pos 5) (pos 9) ≡ Some (pos 9)
   pub same_clock : moment_after (pos 5) (pos 5) ≡ Some (pos 6)
@@ -92,11 +107,17 @@ pub record ExistenceLaw : Type 0 where
   pub no_string : is_dot_list (Some (Multi [])) ≡ false
   pub two_dots : is_dot_list (Some (Multi (codes ".." ∷ []))) ≡ false
   pub twice : is_dot_list (Some (Multi (codes "." ∷ codes "." ∷ []))) ≡ false
-  pub present : (e : Record) → map.get e.cells (codes "subdataset") ≡ Some (Multi (codes "." ∷ [])) → makes_dataset e ≡ e.present
-  pub without : (e : Record) → map.get e.cells (codes "subdataset") ≡ None → e.present ≡ true → makes_dataset e ≡ false
+  pub present : (e : Record) → map.get e.cells (codes "subdataset") ≡ Some (Multi (codes "." ∷ []))
+      → makes_dataset e ≡ e.present
+  pub without : (e : Record) → map.get e.cells (codes "subdataset") ≡ None → e.present ≡ true
+      → makes_dataset e ≡ false
   pub root : (records : Stored) → dataset_exists records (codes "/") ≡ true
-  pub made : (records : Stored) (e : Record) → map.get records (record { dataset = codes "/a/"; name = codes "b" }) ≡ Some e → dataset_exists records (codes "/a/b/") ≡ makes_dataset e
-  pub missing : (records : Stored) → map.get records (record { dataset = codes "/a/"; name = codes "b" }) ≡ None → dataset_exists records (codes "/a/b/") ≡ false
+  pub made : (records : Stored) (e : Record)
+      → map.get records (record { dataset = codes "/a/"; name = codes "b" }) ≡ Some e
+      → dataset_exists records (codes "/a/b/") ≡ makes_dataset e
+  pub missing : (records : Stored)
+      → map.get records (record { dataset = codes "/a/"; name = codes "b" }) ≡ None
+      → dataset_exists records (codes "/a/b/") ≡ false
   pub unclosed : (records : Stored) → dataset_exists records (codes "/a/b") ≡ false
 
 -- a path is its dataset and then its name

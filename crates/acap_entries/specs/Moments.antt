@@ -2,7 +2,8 @@
 use Rattle.std.specs.Prelude.{ℤ, pos, neg_ℤ, ◌+ℤ◌, ◌≤ℤ◌, if◌then◌else◌, Option, Some, None, int_lt}
 use Rattle.std.specs.Ordering.{int_eq}
 
--- the first microsecond of the year 0000, counted from the start of 1970: 719,528 days of 86,400,000,000 earlier
+-- the first microsecond of the year 0000, counted from the
+-- start of 1970: 719,528 days of 86,400,000,000 earlier
 abbrev pub first_moment : ℤ
 first_moment = neg_ℤ (pos 62_167_219_200_000_000)
 
@@ -14,7 +15,8 @@ last_moment = pos 253_402_300_799_999_999
 abbrev pub IsMoment : ℤ → Type 0
 IsMoment micros = (first_moment ≤ℤ micros) × (micros ≤ℤ last_moment)
 
--- the moment of a change: the greater of the clock and one after the last change, and none after the last of all moments
+-- the moment of a change: the greater of the clock and one
+-- after the last change, and none after the last of all moments
 abbrev pub moment_after : ℤ → ℤ → Option ℤ
 moment_after last clock =
     if int_eq last last_moment then None

@@ -1,6 +1,8 @@
 -- The names of datasets, entries, attributes, users and contexts, as lists of octets
 -- [RFC 2244 sections 3.1, 3.1.1, 3.3, 4.1; UTF-8 is that of RFC 3629].
-use Rattle.std.specs.Prelude.{ℕ, ◌+◌, ◌-◌, ◌==◌, Bool, true, false, not, ◌&&◌, ◌||◌, nat_le, nat_lt, nat_eq, List, [], ◌∷◌, ◌++◌, length, take, drop, codes, slice_index, Option, Some, None, if◌then◌else◌}
+use Rattle.std.specs.Prelude.{ℕ, ◌+◌, ◌-◌, ◌==◌, Bool, true, false, not, ◌&&◌, ◌||◌, nat_le, nat_lt, nat_eq}
+use Rattle.std.specs.Prelude.{List, [], ◌∷◌, ◌++◌, length, take, drop, codes, slice_index, Option, Some, None}
+use Rattle.std.specs.Prelude.{if◌then◌else◌}
 use Rattle.std.specs.List.{list_any, list_all, slice_split, suffix_len, starts_with}
 use Rattle.std.specs.Str.{is_utf8}
 use Rattle.acap_entries.specs.Orders.{octets_eq}
@@ -55,13 +57,15 @@ is_sized most text = nat_lt 0 (length text) && nat_le (length text) most
 -- a component: 1 or more octets of UTF-8 without NUL and `/`, not beginning `.`
 unfoldable pub is_component : List ℕ → Bool
 is_component text =
-    nat_lt 0 (length text) && is_utf8 text && not (has nul text) && not (has slash text) && not (begins_with dot text)
+    nat_lt 0 (length text) && is_utf8 text && not (has nul text) && not (has slash text)
+    && not (begins_with dot text)
 
 -- a component without SP and TAB
 abbrev pub is_unbroken_component : List ℕ → Bool
 is_unbroken_component text = is_component text && not (has space text) && not (has tab text)
 
--- the components of a dataset, written with its closing `/` or without: none of `/`, else what stands between slashes
+-- the components of a dataset, written with its closing `/`
+-- or without: none of `/`, else what stands between slashes
 abbrev pub inside : List ℕ → List ℕ
 inside text = drop 1 (if ends_with slash text then take (length text - 1) text else text)
 
@@ -105,7 +109,8 @@ step_count text = length (components (dataset_of text)) + (if length (name_of te
 -- a path as a client sends it: at most 1,024 octets and 16 components
 unfoldable pub is_path : List ℕ → Bool
 is_path text =
-    nat_le (length text) 1024 && is_dataset (dataset_of text) && is_entry_name (name_of text) && nat_le (step_count text) 16
+    nat_le (length text) 1024 && is_dataset (dataset_of text) && is_entry_name (name_of text)
+    && nat_le (step_count text) 16
 
 -- a dataset as a client sends it, with its closing `/` or without: at most 1,024 octets and 16 components
 unfoldable pub is_dataset_argument : List ℕ → Bool
@@ -123,12 +128,14 @@ group_prefix = codes "group:"
 
 -- what stands for other than one user: `anyone`, `~`, and what begins as a group's identifier
 abbrev pub is_reserved : List ℕ → Bool
-is_reserved text = octets_eq text (codes "anyone") || octets_eq text (codes "~") || starts_with nat_eq text group_prefix
+is_reserved text = octets_eq text (codes "anyone") || octets_eq text (codes "~")
+    || starts_with nat_eq text group_prefix
 
 -- the name of a user or a group: a component of at most 64 octets, without SP and TAB, not beginning `-`
 unfoldable pub is_identity : List ℕ → Bool
 is_identity text =
-    is_component text && nat_le (length text) 64 && not (has space text) && not (has tab text) && not (begins_with minus text)
+    is_component text && nat_le (length text) 64 && not (has space text) && not (has tab text)
+    && not (begins_with minus text)
 
 -- and not reserved
 unfoldable pub is_user_name : List ℕ → Bool
@@ -138,9 +145,10 @@ is_user_name text = is_identity text && not (is_reserved text)
 unfoldable pub is_context_name : List ℕ → Bool
 is_context_name text = is_sized 255 text && is_utf8 text && not (begins_with slash text)
 
--- the own entry of a dataset other than `/`, in its parent: the dataset without its closing `/`, read as a path. Octets
--- without a closing `/`, or without one before it, have none
+-- the own entry of a dataset other than `/`, in its parent: the dataset without its closing `/`, read as a
+-- path. Octets without a closing `/`, or without one before it, have none
 abbrev pub own_entry : List ℕ → Option (List ℕ × List ℕ)
 own_entry dataset =
     let path = take (length dataset - 1) dataset in
-    if ends_with slash dataset && ends_with slash (dataset_of path) then Some (dataset_of path, name_of path) else None
+    if ends_with slash dataset && ends_with slash (dataset_of path) then Some (dataset_of path, name_of path)
+    else None

@@ -9,8 +9,10 @@ use Rattle.acap_entries.specs.declared.record.Record.{Record}
 
 -- the dataset of each record exists, and a record of an entry that is not present has no `subdataset`
 pub record IsHoused (records : Stored) : Type 0 where
-  pub homes : (p : Path) (entry : Record) → map.get records p ≡ Some entry → dataset_exists records p.dataset ≡ true
-  pub absent : (p : Path) (entry : Record) → map.get records p ≡ Some entry → entry.present ≡ false → map.get entry.cells (codes "subdataset") ≡ None
+  pub homes : (p : Path) (entry : Record) → map.get records p ≡ Some entry
+      → dataset_exists records p.dataset ≡ true
+  pub absent : (p : Path) (entry : Record) → map.get records p ≡ Some entry → entry.present ≡ false
+      → map.get entry.cells (codes "subdataset") ≡ None
 
 -- besides, the path of each record is well formed, as in each tree and in each list of writes
 pub record IsSoundStore (records : Stored) : Type 0 where

@@ -1,7 +1,8 @@
--- The printed form of a moment: `YYYYMMDDHHMMSS` and six digits of fraction, in UTC [RFC 2244 sections 3.1.1 and 8].
--- `day_count y m d` is how many days lie between 1 January of the year -10000 and the date y-m-d, in the proleptic
--- Gregorian calendar, and `IsCivilDate y m d` says that the calendar has this date.
-use Rattle.std.specs.Prelude.{◌≡◌, ℕ, ◌+◌, ◌-◌, ◌*◌, ◌/◌, ◌%◌, ◌<◌, ◌≤◌, ℤ, pos, ◌+ℤ◌, unsigned_abs, List, [], ◌∷◌, ◌++◌, nat_lt, if◌then◌else◌}
+-- The printed form of a moment: `YYYYMMDDHHMMSS` and six digits of fraction, in UTC [RFC 2244 sections 3.1.1
+-- and 8]. `day_count y m d` is how many days lie between 1 January of the year -10000 and the date y-m-d, in
+-- the proleptic Gregorian calendar, and `IsCivilDate y m d` says that the calendar has this date.
+use Rattle.std.specs.Prelude.{◌≡◌, ℕ, ◌+◌, ◌-◌, ◌*◌, ◌/◌, ◌%◌, ◌<◌, ◌≤◌, ℤ, pos, ◌+ℤ◌, unsigned_abs, List, []}
+use Rattle.std.specs.Prelude.{◌∷◌, ◌++◌, nat_lt, if◌then◌else◌}
 use Rattle.jiff_core.specs.Calendar.{day_count, IsCivilDate}
 use Rattle.acap_entries.specs.Moments.{first_moment}
 use Rattle.acap_entries.specs.declared.civil.Civil.{Civil}
@@ -37,7 +38,8 @@ abbrev pub six : ℕ → List ℕ
 six n = two (n / 10_000) ++ four (n % 10_000)
 
 abbrev pub text_of : Civil → List ℕ
-text_of c = four c.year ++ two c.month ++ two c.day ++ two c.hour ++ two c.minute ++ two c.second ++ six c.micros
+text_of c = four c.year ++ two c.month ++ two c.day ++ two c.hour ++ two c.minute ++ two c.second
+    ++ six c.micros
 
 -- the text is the stamp of the moment: the digits of the date and time at which it begins
 pub record IsStamp (moment : ℤ) (text : List ℕ) : Type 0 where
@@ -46,9 +48,10 @@ pub record IsStamp (moment : ℤ) (text : List ℕ) : Type 0 where
   pub begins : moment_of civil ≡ moment
   pub shown : text ≡ text_of civil
 
--- The same as a function of the moment. Years are counted as beginning on 1 March, from 1 March of the year -10000 on,
--- so that a leap day ends its year: a year has 1461 / 4 days on average within a century, a century 146097 / 4. From that day
--- 1 January of the year 0000 is 3,652,365 days: 25 times the 146,097 of 400 years, less the 60 of its January and February.
+-- The same as a function of the moment. Years are counted as beginning on 1 March, from 1 March of the year
+-- -10000 on, so that a leap day ends its year: a year has 1461 / 4 days on average within a century, a
+-- century 146097 / 4. From that day 1 January of the year 0000 is 3,652,365 days: 25 times the 146,097 of 400
+-- years, less the 60 of its January and February.
 abbrev pub in_century : ℕ → ℕ
 in_century day = (4 * (day + 3_652_365) + 3) % 146_097 / 4 * 4 + 3
 

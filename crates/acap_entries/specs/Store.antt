@@ -1,4 +1,5 @@
--- The store: a finite map from paths to records, the last moment, and the newest deletions [RFC 2244 section 3.1].
+-- The store: a finite map from paths to records, the last
+-- moment, and the newest deletions [RFC 2244 section 3.1].
 use Rattle.std.specs.Prelude.{◌≡◌, ℕ, ℤ, List, [], ◌∷◌, Option, Some, None, refl}
 use Rattle.std.specs.declared.cmp.Ordering.{Ordering}
 use Rattle.std.specs.Ordering.{ordering_then}
@@ -69,11 +70,16 @@ empty_store = record { records = map.empty; last = first_moment; deletions = [];
 abbrev pub store_code : Coded Store
 store_code =
     code_by ((Stored × ℤ) × (List Deletion × Option ℤ))
-    (coded× (coded× (map.code path.the_row.coded row.the_row.coded) coded_ℤ) (coded× (coded_list deletion.the_row.coded) (coded_option coded_ℤ)))
-    (λ s. ((s.records, s.last), (s.deletions, s.forgotten))) (λ p. record { records = p.0.0; last = p.0.1; deletions = p.1.0; forgotten = p.1.1 }) (λ _. refl)
+    (coded× (coded× (map.code path.the_row.coded row.the_row.coded) coded_ℤ)
+    (coded× (coded_list deletion.the_row.coded) (coded_option coded_ℤ)))
+    (λ s. ((s.records, s.last), (s.deletions, s.forgotten)))
+    (λ p. record { records = p.0.0; last = p.0.1; deletions = p.1.0; forgotten = p.1.1 }) (λ _. refl)
 
 abbrev pub roomy_code : Coded Roomy
-roomy_code = code_by (Store × (ℕ × ℕ)) (coded× store_code (coded× coded_ℕ coded_ℕ)) (λ s. (s.store, (s.spare, s.slots))) (λ p. record { store = p.0; spare = p.1.0; slots = p.1.1 }) (λ _. refl)
+roomy_code =
+    code_by (Store × (ℕ × ℕ)) (coded× store_code (coded× coded_ℕ coded_ℕ))
+    (λ s. (s.store, (s.spare, s.slots))) (λ p. record { store = p.0; spare = p.1.0; slots = p.1.1 })
+    (λ _. refl)
 
 abbrev pub written_code : Coded Written
 written_code = map.code path.the_row.coded fate.the_row.coded

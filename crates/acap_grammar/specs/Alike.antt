@@ -1,5 +1,5 @@
--- When two lines say the same: where a token lies makes no difference, nor whether a string is quoted or a literal
--- [RFC 2244 sections 2.2 and 2.6.3].
+-- When two lines say the same: where a token lies makes no difference, nor whether a string is quoted or a
+-- literal [RFC 2244 sections 2.2 and 2.6.3].
 use Rattle.std.specs.Prelude.{◌≡◌, List, map}
 use Rattle.acap_lexer.specs.declared.kind.Kind.{Kind}
 use Rattle.acap_lexer.specs.declared.kind.Kind.TheVariants as kind
@@ -22,4 +22,5 @@ Alike tokens others = map plain tokens ≡ map plain others
 
 -- then they are the same command, or have the same fault at the token with the same index
 abbrev pub PlacesLaw : Type 0
-PlacesLaw = (tokens others : List Token) → Alike tokens others → (command_of tokens ≡ command_of others) × (fault_at tokens ≡ fault_at others)
+PlacesLaw = (tokens others : List Token) → Alike tokens others
+    → (command_of tokens ≡ command_of others) × (fault_at tokens ≡ fault_at others)

@@ -1,5 +1,6 @@
 -- The arguments of commands: names, numbers, times, comparators, objects [RFC 2244 sections 2.2, 3, 6 and 8].
-use Rattle.std.specs.Prelude.{ℕ, ℤ, List, [], ◌∷◌, ◌++◌, Bool, true, false, ◌&&◌, Option, Some, None, Result, Ok, Err, if◌then◌else◌}
+use Rattle.std.specs.Prelude.{ℕ, ℤ, List, [], ◌∷◌, ◌++◌, Bool, true, false, ◌&&◌, Option, Some, None, Result}
+use Rattle.std.specs.Prelude.{Ok, Err, if◌then◌else◌}
 use Rattle.std.specs.List.{list_all}
 use Rattle.std.specs.Char.{is_ascii_digit}
 use Rattle.acap_lexer.specs.Reading.{count_of}
@@ -7,7 +8,8 @@ use Rattle.acap_lexer.specs.Token.{Token}
 use Rattle.acap_order.specs.Ranks.{is_numeric}
 use Rattle.acap_order.specs.Spellings.{comparator_of}
 use Rattle.acap_order.specs.declared.comparator.Comparator.{Comparator}
-use Rattle.acap_entries.specs.Names.{is_path, is_attribute, is_dataset_argument, is_entry_name, is_context_name, dataset_of, name_of, with_slash, begins_with, slash}
+use Rattle.acap_entries.specs.Names.{is_path, is_attribute, is_dataset_argument, is_entry_name}
+use Rattle.acap_entries.specs.Names.{is_context_name, dataset_of, name_of, with_slash, begins_with, slash}
 use Rattle.acap_entries.specs.Times.{time_of}
 use Rattle.acap_entries.specs.declared.path.Path.{Path}
 use Rattle.acap_grammar.specs.declared.command_fault.CommandFault.{CommandFault}
@@ -67,7 +69,8 @@ number_in text = if list_all is_ascii_digit text then count_of text else None
 unfoldable pub number_at : List Token → Read ℕ
 number_at [] = fault_here [] fault.Arguments
 number_at (t ∷ rest) =
-    if is_word t.kind then (verdict_at (t ∷ rest) (or_fault fault.Arguments (number_in t.value)) >>= λ x. Ok (x, rest))
+    if is_word t.kind then (verdict_at (t ∷ rest) (or_fault fault.Arguments (number_in t.value))
+    >>= λ x. Ok (x, rest))
     else fault_here (t ∷ rest) fault.Arguments
 
 -- a time
@@ -94,7 +97,8 @@ comparator_for relation text = do
 unfoldable pub entry_part : List ℕ → List ℕ → List Token → Read ObjectName
 entry_part dataset attribute tokens =
     if starts is_close tokens then Ok (object_name.Attribute dataset attribute, tokens)
-    else (named_at (entry_named dataset) tokens >>= λ name. Ok (object_name.Entry dataset attribute name.0, name.1))
+    else (named_at (entry_named dataset) tokens
+    >>= λ name. Ok (object_name.Entry dataset attribute name.0, name.1))
 
 unfoldable pub attribute_part : List ℕ → List Token → Read ObjectName
 attribute_part dataset tokens =

@@ -1,5 +1,5 @@
--- Which names are well formed, paths and datasets from their components on, and that those of a command are [RFC 2244
--- sections 3.1, 3.1.1, 3.3 and 4.1].
+-- Which names are well formed, paths and datasets from their components on, and that those of a command are
+-- [RFC 2244 sections 3.1, 3.1.1, 3.3 and 4.1].
 use Rattle.std.specs.Prelude.{◌≡◌, ℕ, ◌<◌, ◌≤◌, ◌⊎◌, ◌↔◌, List, [], ◌∷◌, ◌++◌, length, slice_get, Some, Ok}
 use Rattle.std.specs.List.{AllByRecursion}
 use Rattle.std.specs.Str.{IsUtf8}
@@ -47,7 +47,8 @@ pub record IsMadeOf (components : List (List ℕ)) (dataset : List ℕ) : Type 0
   pub each : AllByRecursion IsComponent components
   pub whole : dataset ≡ slash ∷ closed_each components
 
--- A path as it may be sent: 1,024 octets at most, and 16 components, its name counted. The management entry has none.
+-- A path as it may be sent: 1,024 octets at most, and 16
+-- components, its name counted. The management entry has none.
 pub record IsFormed (p : Path) : Type 0 where
   pub components : List (List ℕ)
   pub dataset : IsMadeOf components p.dataset
@@ -90,8 +91,10 @@ IsFormedReturn (name.Beginning front) = (front ≡ []) ⊎ IsFormedAttribute fro
 pub record NamesLaw : Type 0 where
   pub attribute : (text a : List ℕ) → (attribute_named text ≡ Ok a) ↔ ((text ≡ a) × IsFormedAttribute a)
   pub context : (text c : List ℕ) → (context_named text ≡ Ok c) ↔ ((text ≡ c) × IsFormedContext c)
-  pub path : (text : List ℕ) (p : Path) → (path_named text ≡ Ok p) ↔ ((text ≡ p.dataset ++ p.name) × IsFormed p)
-  pub returned : (text : List ℕ) (n : ReturnName) → (return_named text ≡ Ok n) ↔ ((text ≡ return_text n) × IsFormedReturn n)
+  pub path : (text : List ℕ) (p : Path) → (path_named text ≡ Ok p)
+      ↔ ((text ≡ p.dataset ++ p.name) × IsFormed p)
+  pub returned : (text : List ℕ) (n : ReturnName) → (return_named text ≡ Ok n)
+      ↔ ((text ≡ return_text n) × IsFormedReturn n)
   pub dataset : (d : List ℕ) → (dataset_named (dataset_text d) ≡ Ok d) ↔ IsFormedDataset d
   pub closed : (d : List ℕ) → (dataset_named d ≡ Ok d) ↔ (IsFormedDataset d × (length d ≤ 1024))
   pub sent : (text d : List ℕ) → dataset_named text ≡ Ok d → (text ≡ d) ⊎ (text ≡ dataset_text d)
@@ -102,7 +105,8 @@ pub record NamesLaw : Type 0 where
 abbrev pub IsFormedObject : ObjectName → Type 0
 IsFormedObject (object_name.Dataset dataset) = IsFormedDataset dataset
 IsFormedObject (object_name.Attribute dataset attribute) = IsFormedDataset dataset
-IsFormedObject (object_name.Entry dataset attribute name) = IsFormedDataset dataset × IsFormed (record { dataset = dataset; name = name })
+IsFormedObject (object_name.Entry dataset attribute name) =
+    IsFormedDataset dataset × IsFormed (record { dataset = dataset; name = name })
 
 abbrev pub IsFormedTarget : Target → Type 0
 IsFormedTarget (target.Dataset dataset) = IsFormedDataset dataset

@@ -1,6 +1,7 @@
 -- Which command the tokens of a line stand for, and where they stand for none, the first fault from the left
 -- [RFC 2244 sections 2.2, 6 and 8]. Each step gives a value and the tokens behind it.
-use Rattle.std.specs.Prelude.{ℕ, List, [], ◌∷◌, ◌++◌, drop, codes, Option, Some, None, Result, Ok, Err, if◌then◌else◌}
+use Rattle.std.specs.Prelude.{ℕ, List, [], ◌∷◌, ◌++◌, drop, codes, Option, Some, None, Result, Ok, Err}
+use Rattle.std.specs.Prelude.{if◌then◌else◌}
 use Rattle.acap_lexer.specs.Token.{Token}
 use Rattle.acap_commands.specs.declared.command.Command.{Command}
 use Rattle.acap_commands.specs.declared.command.Command.TheVariants as command
@@ -17,9 +18,12 @@ use Rattle.acap_grammar.specs.Searching.{search_at}
 
 abbrev pub verbs : List (List ℕ × Verb)
 verbs =
-    (codes "NOOP", verb.Noop) ∷ (codes "LOGOUT", verb.Logout) ∷ (codes "AUTHENTICATE", verb.Authenticate) ∷ (codes "STORE", verb.Store)
-    ∷ (codes "SEARCH", verb.Search) ∷ (codes "SETACL", verb.SetAcl) ∷ (codes "DELETEACL", verb.DeleteAcl) ∷ (codes "MYRIGHTS", verb.MyRights)
-    ∷ (codes "LISTRIGHTS", verb.ListRights) ∷ (codes "DELETEDSINCE", verb.DeletedSince) ∷ (codes "FREECONTEXT", verb.FreeContext)
+    (codes "NOOP", verb.Noop) ∷ (codes "LOGOUT", verb.Logout) ∷ (codes "AUTHENTICATE", verb.Authenticate)
+    ∷ (codes "STORE", verb.Store)
+    ∷ (codes "SEARCH", verb.Search) ∷ (codes "SETACL", verb.SetAcl) ∷ (codes "DELETEACL", verb.DeleteAcl)
+    ∷ (codes "MYRIGHTS", verb.MyRights)
+    ∷ (codes "LISTRIGHTS", verb.ListRights) ∷ (codes "DELETEDSINCE", verb.DeletedSince)
+    ∷ (codes "FREECONTEXT", verb.FreeContext)
     ∷ (codes "UPDATECONTEXT", verb.UpdateContext) ∷ []
 
 -- behind AUTHENTICATE: mechanism
@@ -36,7 +40,8 @@ set_acl_at tokens = do
 
 -- behind DELETEACL and its object: [identifier]
 abbrev pub identifier_part : List Token → Read (Option (List ℕ))
-identifier_part tokens = if ends tokens then Ok (None, tokens) else (string_at tokens >>= λ x. Ok (Some x.0, x.1))
+identifier_part tokens = if ends tokens then Ok (None, tokens)
+    else (string_at tokens >>= λ x. Ok (Some x.0, x.1))
 
 -- behind DELETEACL: object [identifier]
 unfoldable pub delete_acl_at : List Token → Read Command
@@ -79,7 +84,8 @@ arguments_at verb.DeleteAcl tokens = delete_acl_at tokens
 arguments_at verb.MyRights tokens = object_at tokens >>= λ x. Ok (command.MyRights x.0, x.1)
 arguments_at verb.ListRights tokens = list_rights_at tokens
 arguments_at verb.DeletedSince tokens = deleted_since_at tokens
-arguments_at verb.FreeContext tokens = named_at context_named tokens >>= λ x. Ok (command.FreeContext x.0, x.1)
+arguments_at verb.FreeContext tokens =
+    named_at context_named tokens >>= λ x. Ok (command.FreeContext x.0, x.1)
 arguments_at verb.UpdateContext tokens = contexts_at tokens >>= λ x. Ok (command.UpdateContext x.0, x.1)
 
 -- a command takes all tokens up to the end

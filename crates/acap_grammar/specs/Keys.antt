@@ -16,21 +16,26 @@ use Rattle.acap_commands.specs.Wanted.{Wanted, One, And, Or, Not}
 
 abbrev pub key_words : List (List ℕ × KeyWord)
 key_words =
-    (codes "ALL", key_word.All) ∷ (codes "AND", key_word.And) ∷ (codes "OR", key_word.Or) ∷ (codes "NOT", key_word.Not)
-    ∷ (codes "RANGE", key_word.Range) ∷ (codes "EQUAL", key_word.Meets relation.Equal) ∷ (codes "COMPARE", key_word.Meets relation.AtLeast)
-    ∷ (codes "COMPARESTRICT", key_word.Meets relation.Greater) ∷ (codes "PREFIX", key_word.Meets relation.Begins)
+    (codes "ALL", key_word.All) ∷ (codes "AND", key_word.And) ∷ (codes "OR", key_word.Or)
+    ∷ (codes "NOT", key_word.Not)
+    ∷ (codes "RANGE", key_word.Range) ∷ (codes "EQUAL", key_word.Meets relation.Equal)
+    ∷ (codes "COMPARE", key_word.Meets relation.AtLeast)
+    ∷ (codes "COMPARESTRICT", key_word.Meets relation.Greater)
+    ∷ (codes "PREFIX", key_word.Meets relation.Begins)
     ∷ (codes "SUBSTRING", key_word.Meets relation.Contains) ∷ []
 
 -- behind a relation, its attribute and its comparator: a string, and for EQUAL also NIL
 abbrev pub string_part : Relation → List ℕ → Comparator → List Token → Read Test
-string_part relation attribute comparator tokens = string_at tokens >>= λ x. Ok (test.Meets relation attribute comparator x.0, x.1)
+string_part relation attribute comparator tokens =
+    string_at tokens >>= λ x. Ok (test.Meets relation attribute comparator x.0, x.1)
 
 abbrev pub equal_part : List ℕ → Comparator → List Token → Option (List Token) → Read Test
 equal_part attribute comparator tokens (Some rest) = Ok (test.IsNil attribute comparator, rest)
 equal_part attribute comparator tokens None = string_part relation.Equal attribute comparator tokens
 
 unfoldable pub value_part : Relation → List ℕ → Comparator → List Token → Read Test
-value_part relation.Equal attribute comparator tokens = equal_part attribute comparator tokens (behind_word (codes "NIL") tokens)
+value_part relation.Equal attribute comparator tokens =
+    equal_part attribute comparator tokens (behind_word (codes "NIL") tokens)
 value_part relation attribute comparator tokens = string_part relation attribute comparator tokens
 
 -- behind a relation: attribute comparator string

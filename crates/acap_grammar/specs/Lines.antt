@@ -5,8 +5,8 @@ use Rattle.std.specs.Prelude.{◌&&◌, nat_le, if◌then◌else◌, Option, Som
 use Rattle.std.specs.List.{list_all}
 use Rattle.acap_lexer.specs.Octets.{is_digit}
 
--- A datum of a line: a word, as `OK`, `NIL` or a number; a string; or a list in a parenthesis. A list is empty, or
--- it has a first datum and a list of the others.
+-- A datum of a line: a word, as `OK`, `NIL` or a number; a string; or a list in a parenthesis. A list is
+-- empty, or it has a first datum and a list of the others.
 pub data Datum : Type 0 where
   Word : List ℕ → Datum
   Text : List ℕ → Datum

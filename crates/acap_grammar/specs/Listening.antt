@@ -17,7 +17,8 @@ pub data Place : Type 0 where
   InWord : List ℕ → Place
   InQuotes : List ℕ → Place
   Escaping : List ℕ → Place
-  -- in the mark of a literal: after `{` and these digits; after `}` and after CR, with the number that they are
+  -- in the mark of a literal: after `{` and these digits;
+  -- after `}` and after CR, with the number that they are
   Marking : List ℕ → Place
   Marked : ℕ → Place
   Opening : ℕ → Place
@@ -28,8 +29,9 @@ pub data Place : Type 0 where
   -- what came is no line of a server
   Lost : Place
 
--- What the client knows: the lines so far, each as what it says, or as None if it says nothing. And of the line
--- that has begun: what stands before each parenthesis that is open, the innermost first, and what stands after it.
+-- What the client knows: the lines so far, each as what it says, or as None
+-- if it says nothing. And of the line that has begun: what stands before each
+-- parenthesis that is open, the innermost first, and what stands after it.
 pub record Client : Type 0 where
   pub lines : List (Option Line)
   pub outer : List (List Datum)

@@ -1,5 +1,6 @@
 -- What stands first among tokens [RFC 2244 sections 2.2 and 8].
-use Rattle.std.specs.Prelude.{ℕ, List, [], ◌∷◌, Bool, true, false, Option, Some, None, option_map, Result, Ok, find, if◌then◌else◌}
+use Rattle.std.specs.Prelude.{ℕ, List, [], ◌∷◌, Bool, true, false, Option, Some, None, option_map, Result, Ok}
+use Rattle.std.specs.Prelude.{find, if◌then◌else◌}
 use Rattle.std.specs.Str.{bytes_eq, str_eq_ignore_ascii_case}
 use Rattle.acap_lexer.specs.declared.kind.Kind.{Kind}
 use Rattle.acap_lexer.specs.declared.kind.Kind.TheVariants as kind
@@ -56,9 +57,11 @@ text_in table text = option_map (λ row. row.1) (find (λ row. bytes_eq text row
 -- what a table has beside the word that stands first, and the tokens behind it
 unfoldable pub word_at : {A : Type 0} → List (List ℕ × A) → List Token → Option (A × List Token)
 word_at table [] = None
-word_at table (t ∷ rest) = if is_word t.kind then option_map (λ x. (x, rest)) (word_in table t.value) else None
+word_at table (t ∷ rest) = if is_word t.kind then option_map (λ x. (x, rest)) (word_in table t.value)
+    else None
 
 -- the tokens behind that word, read in any case, if it stands first
 unfoldable pub behind_word : List ℕ → List Token → Option (List Token)
 behind_word word [] = None
-behind_word word (t ∷ rest) = if is_word t.kind then (if str_eq_ignore_ascii_case t.value word then Some rest else None) else None
+behind_word word (t ∷ rest) =
+    if is_word t.kind then (if str_eq_ignore_ascii_case t.value word then Some rest else None) else None

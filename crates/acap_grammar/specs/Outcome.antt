@@ -1,4 +1,5 @@
--- What reading tokens comes to: a value and the tokens behind it, or the first fault from the left and where it lies.
+-- What reading tokens comes to: a value and the tokens behind
+-- it, or the first fault from the left and where it lies.
 use Rattle.std.specs.Prelude.{◌≡◌, List, [], Bool, true, false, Option, Some, None, Result, Ok, Err}
 use Rattle.acap_lexer.specs.Token.{Token}
 use Rattle.acap_grammar.specs.declared.command_fault.CommandFault.{CommandFault}
@@ -47,8 +48,10 @@ left_by (Err e) = e.left
 abbrev pub Refuses : {Y : Type 0} → GrammarFault → Result Y Fault → Type 0
 Refuses e read = (fault : CommandFault) → e ≡ error.Fault fault → read ≡ fault_here (left_by read) fault
 
--- what a function returned, seen by view beside the tokens that it left, is what is read, unless memory was refused
-abbrev pub ReadsBy : {X Y : Type 0} → (X → List Token → Y) → Result X GrammarFault → List Token → Result Y Fault → Type 0
+-- what a function returned, seen by view beside the tokens
+-- that it left, is what is read, unless memory was refused
+abbrev pub ReadsBy : {X Y : Type 0} → (X → List Token → Y) → Result X GrammarFault → List Token
+    → Result Y Fault → Type 0
 ReadsBy view (Ok x) left read = read ≡ Ok (view x left)
 ReadsBy view (Err e) left read = Refuses e read
 

@@ -7,8 +7,8 @@ use Rattle.acap_grammar.specs.Listening.{Client, Between, hears}
 abbrev pub after : List (Option Line) → Client
 after lines = record { lines = lines; outer = []; inner = []; place = Between }
 
--- These octets are one line, which says this. A client between two lines that hears them has heard this line, and
--- is between two lines again. From a prefix that lacks some of the octets it has heard no line.
+-- These octets are one line, which says this. A client between two lines that hears them has heard this line,
+-- and is between two lines again. From a prefix that lacks some of the octets it has heard no line.
 pub record IsLine (octets : List ℕ) (line : Line) : Type 0 where
   pub whole : (lines : List (Option Line)) → hears (after lines) octets ≡ after (lines ++ Some line ∷ [])
   pub part : (lines : List (Option Line)) (prefix rest : List ℕ) → octets ≡ prefix ++ rest → 0 < length rest

@@ -82,7 +82,8 @@ pub record ReadingExamples : Type 0 where
   -- two lines, the second of which isn't whole
   pub cut : lines_in cut_line ≡ Some (Alert (codes "a")) ∷ []
   pub cut_place : place_after cut_line ≡ Returned
-  -- a `"` without a `\` ends a string, and a mark that counts too few octets a literal; no space stands before `)`
+  -- a `"` without a `\` ends a string, and a mark that counts
+  -- too few octets a literal; no space stands before `)`
   pub bare_quote : IsNoLine (codes "* ALERT \"a\"b\"")
   pub short_literal : IsNoLine (codes "* ALERT {2}" ++ crlf ++ codes "abc")
   pub space_before : IsNoLine (codes "* ADDTO \"c\" \"a\" 0 (\"x\" )")

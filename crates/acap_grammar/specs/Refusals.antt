@@ -73,9 +73,11 @@ path_form path = printed_form (path.dataset ++ path.name)
 -- an object: `(` dataset [attribute [entry name]] `)`
 unfoldable pub object_form : ObjectName → List ℕ
 object_form (object_name.Dataset dataset) = codes "(" ++ printed_form dataset ++ codes ")"
-object_form (object_name.Attribute dataset attribute) = codes "(" ++ printed_form dataset ++ codes " " ++ printed_form attribute ++ codes ")"
+object_form (object_name.Attribute dataset attribute) =
+    codes "(" ++ printed_form dataset ++ codes " " ++ printed_form attribute ++ codes ")"
 object_form (object_name.Entry dataset attribute name) =
-    codes "(" ++ printed_form dataset ++ codes " " ++ printed_form attribute ++ codes " " ++ printed_form name ++ codes ")"
+    codes "(" ++ printed_form dataset ++ codes " " ++ printed_form attribute ++ codes " " ++ printed_form name
+    ++ codes ")"
 
 abbrev pub permission_code : ObjectName → List ℕ
 permission_code object = codes "(PERMISSION " ++ object_form object ++ codes ") "
@@ -85,7 +87,8 @@ unfoldable pub code_of : Refusal → List ℕ
 code_of (refusal.Permission object) = permission_code object
 code_of (refusal.NoExist dataset) = codes "(NOEXIST " ++ printed_form dataset ++ codes ") "
 code_of (refusal.Modified path) = codes "(MODIFIED " ++ path_form path ++ codes ") "
-code_of (refusal.Invalid path attribute) = codes "(INVALID (" ++ path_form path ++ codes " " ++ printed_form attribute ++ codes ")) "
+code_of (refusal.Invalid path attribute) =
+    codes "(INVALID (" ++ path_form path ++ codes " " ++ printed_form attribute ++ codes ")) "
 code_of refusal.TooOld = codes "(TOOOLD) "
 code_of refusal.WayTooMany = codes "(WAYTOOMANY) "
 code_of refusal.TryFreeContext = codes "(TRYFREECONTEXT) "

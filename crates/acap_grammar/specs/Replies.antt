@@ -53,7 +53,8 @@ item_form (item.PerAttribute lists) = list_form (list_form cell_form) lists
 
 -- a row of a search: tag `ENTRY` name data*
 unfoldable pub row_form : List ℕ → Row → List ℕ
-row_form tag row = tag ++ codes " ENTRY " ++ printed_form row.name ++ behind_spaces item_form row.items ++ crlf
+row_form tag row = tag ++ codes " ENTRY " ++ printed_form row.name ++ behind_spaces item_form row.items
+    ++ crlf
 
 abbrev pub rows_form : List ℕ → List Row → List ℕ
 rows_form tag rows = flat_map (row_form tag) rows
@@ -89,7 +90,8 @@ status_form status.Bad tag = tag ++ codes " BAD "
 status_form status.Bye tag = codes "* BYE "
 
 unfoldable pub refused_form : List ℕ → Refusal → List ℕ
-refused_form tag refusal = status_form (status_of refusal) tag ++ code_of refusal ++ printed_form (text_of refusal) ++ crlf
+refused_form tag refusal = status_form (status_of refusal) tag ++ code_of refusal
+    ++ printed_form (text_of refusal) ++ crlf
 
 abbrev pub greeting : List ℕ
 greeting = codes "* ACAP (IMPLEMENTATION \"acapd\") (SASL \"CRAM-MD5\") (CONTEXTLIMIT \"200\")" ++ crlf
@@ -101,7 +103,8 @@ total_form total = codes "(TOOMANY " ++ decimal total ++ codes ") "
 -- the completion of a search: with how many matched where LIMIT kept some of them from being printed
 unfoldable pub searched_form : List ℕ → Option ℕ → List ℕ
 searched_form tag None = done_form tag verb.Search
-searched_form tag (Some total) = tag ++ codes " OK " ++ total_form total ++ printed_form (done_of verb.Search) ++ crlf
+searched_form tag (Some total) =
+    tag ++ codes " OK " ++ total_form total ++ printed_form (done_of verb.Search) ++ crlf
 
 -- the end of a search: its rows, the moment that it tells, and its completion
 unfoldable pub found_form : List ℕ → SearchReply → List ℕ
@@ -120,11 +123,13 @@ deleted_form tag names = deleted_names_form tag names ++ done_form tag verb.Dele
 
 -- the end of a MYRIGHTS: tag `MYRIGHTS` rights, and its completion
 unfoldable pub rights_form : List ℕ → List ℕ → List ℕ
-rights_form tag rights = tag ++ codes " MYRIGHTS " ++ printed_form rights ++ crlf ++ done_form tag verb.MyRights
+rights_form tag rights = tag ++ codes " MYRIGHTS " ++ printed_form rights ++ crlf
+    ++ done_form tag verb.MyRights
 
 -- the end of a LISTRIGHTS: tag `LISTRIGHTS` rights*, and its completion
 unfoldable pub rights_list_form : List ℕ → List (List ℕ) → List ℕ
-rights_list_form tag rights = tag ++ codes " LISTRIGHTS" ++ behind_spaces printed_form rights ++ crlf ++ done_form tag verb.ListRights
+rights_list_form tag rights =
+    tag ++ codes " LISTRIGHTS" ++ behind_spaces printed_form rights ++ crlf ++ done_form tag verb.ListRights
 
 -- a login that goes on: `+` challenge, under no tag
 unfoldable pub challenge_form : List ℕ → List ℕ
@@ -146,16 +151,20 @@ position_form position = codes " " ++ decimal position
 
 -- an entry that came in: `ADDTO` context entry position data*
 unfoldable pub added_form : List ℕ → ℕ → Row → List ℕ
-added_form context position row = about_form (codes "* ADDTO ") context row.name ++ position_form position ++ behind_spaces item_form row.items ++ crlf
+added_form context position row =
+    about_form (codes "* ADDTO ") context row.name ++ position_form position
+    ++ behind_spaces item_form row.items ++ crlf
 
 -- one that went: `REMOVEFROM` context entry position
 unfoldable pub removed_form : List ℕ → List ℕ → ℕ → List ℕ
-removed_form context entry position = about_form (codes "* REMOVEFROM ") context entry ++ position_form position ++ crlf
+removed_form context entry position =
+    about_form (codes "* REMOVEFROM ") context entry ++ position_form position ++ crlf
 
 -- one that changed: `CHANGE` context entry old new data*
 unfoldable pub changed_form : List ℕ → ℕ → ℕ → Row → List ℕ
 changed_form context old new row =
-    about_form (codes "* CHANGE ") context row.name ++ position_form old ++ position_form new ++ behind_spaces item_form row.items ++ crlf
+    about_form (codes "* CHANGE ") context row.name ++ position_form old ++ position_form new
+    ++ behind_spaces item_form row.items ++ crlf
 
 abbrev pub notice_form : List ℕ → Notice → List ℕ
 notice_form context (notice.AddTo position row) = added_form context position row

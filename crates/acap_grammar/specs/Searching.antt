@@ -1,5 +1,6 @@
 -- What a SEARCH asks for [RFC 2244 sections 6.4.1 and 8].
-use Rattle.std.specs.Prelude.{ℕ, List, [], ◌∷◌, ◌++◌, ◌-◌, ◌==◌, length, take, codes, is_none, is_some, Bool, true, false, ◌&&◌, ◌||◌, Option, Some, None, Result, Ok, Err, if◌then◌else◌}
+use Rattle.std.specs.Prelude.{ℕ, List, [], ◌∷◌, ◌++◌, ◌-◌, ◌==◌, length, take, codes, is_none, is_some, Bool}
+use Rattle.std.specs.Prelude.{true, false, ◌&&◌, ◌||◌, Option, Some, None, Result, Ok, Err, if◌then◌else◌}
 use Rattle.acap_lexer.specs.Token.{Token}
 use Rattle.acap_entries.specs.Names.{is_attribute, ends_with, star}
 use Rattle.acap_grammar.specs.declared.command_fault.CommandFault.{CommandFault}
@@ -22,8 +23,10 @@ use Rattle.acap_grammar.specs.declared.words.SearchWord.{SearchWord}
 use Rattle.acap_grammar.specs.declared.words.SearchWord.TheVariants as search_word
 use Rattle.acap_grammar.specs.Outcome.{◌>>=◌, Read, fault_here, verdict_at}
 use Rattle.acap_grammar.specs.Several.{several, in_parenthesis}
-use Rattle.acap_grammar.specs.Marks.{is_string, is_open, is_close, starts, behind, text_in, word_at, behind_word}
-use Rattle.acap_grammar.specs.Arguments.{or_fault, if_named, attribute_named, context_named, target_named, named_at, number_at, comparator_named}
+use Rattle.acap_grammar.specs.Marks.{is_string, is_open, is_close, starts, behind, text_in, word_at}
+use Rattle.acap_grammar.specs.Marks.{behind_word}
+use Rattle.acap_grammar.specs.Arguments.{or_fault, if_named, attribute_named, context_named, target_named}
+use Rattle.acap_grammar.specs.Arguments.{named_at, number_at, comparator_named}
 use Rattle.acap_grammar.specs.Storing.{once}
 use Rattle.acap_grammar.specs.Keys.{key_at}
 
@@ -33,12 +36,14 @@ use Rattle.acap_grammar.specs.Keys.{key_at}
 unfoldable pub return_named : List ℕ → Result ReturnName CommandFault
 return_named text =
     if ends_with star text
-    then (let front = take (length text - 1) text in if_named (length front == 0 || is_attribute front) (name.Beginning front))
+    then (let front = take (length text - 1) text
+    in if_named (length front == 0 || is_attribute front) (name.Beginning front))
     else (attribute_named text >>= λ attribute. Ok (name.Named attribute))
 
 abbrev pub metadata_names : List (List ℕ × Metadata)
 metadata_names =
-    (codes "acl", metadata.Acl) ∷ (codes "attribute", metadata.Attribute) ∷ (codes "myrights", metadata.MyRights) ∷ (codes "size", metadata.Size)
+    (codes "acl", metadata.Acl) ∷ (codes "attribute", metadata.Attribute)
+    ∷ (codes "myrights", metadata.MyRights) ∷ (codes "size", metadata.Size)
     ∷ (codes "value", metadata.Value) ∷ []
 
 abbrev pub metadata_named : List ℕ → Result Metadata CommandFault
@@ -109,14 +114,17 @@ unfoldable pub make_context_at : List Token → Read MakeContext
 make_context_at tokens =
     let enumerate = flag_at (codes "ENUMERATE") tokens in
     let notify = flag_at (codes "NOTIFY") enumerate.1 in
-    (named_at context_named notify.1 >>= λ x. Ok (record { enumerate = enumerate.0; notify = notify.0; name = x.0 }, x.1))
+    (named_at context_named notify.1
+    >>= λ x. Ok (record { enumerate = enumerate.0; notify = notify.0; name = x.0 }, x.1))
 
 -- ---- all modifiers
 
 abbrev pub search_words : List (List ℕ × SearchWord)
 search_words =
-    (codes "DEPTH", search_word.Depth) ∷ (codes "HARDLIMIT", search_word.HardLimit) ∷ (codes "LIMIT", search_word.Limit)
-    ∷ (codes "MAKECONTEXT", search_word.MakeContext) ∷ (codes "NOINHERIT", search_word.NoInherit) ∷ (codes "RETURN", search_word.Return)
+    (codes "DEPTH", search_word.Depth) ∷ (codes "HARDLIMIT", search_word.HardLimit)
+    ∷ (codes "LIMIT", search_word.Limit)
+    ∷ (codes "MAKECONTEXT", search_word.MakeContext) ∷ (codes "NOINHERIT", search_word.NoInherit)
+    ∷ (codes "RETURN", search_word.Return)
     ∷ (codes "SORT", search_word.Sort) ∷ []
 
 -- whether that modifier stands among those before
@@ -132,11 +140,14 @@ has_modifier m search_word.Sort = is_some m.sort
 -- behind the word of a modifier
 unfoldable pub behind_modifier : SearchModifiers → SearchWord → List Token → Read SearchModifiers
 behind_modifier m search_word.Depth tokens = number_at tokens >>= λ x. Ok (record m { depth = Some x.0 }, x.1)
-behind_modifier m search_word.HardLimit tokens = number_at tokens >>= λ x. Ok (record m { hard_limit = Some x.0 }, x.1)
+behind_modifier m search_word.HardLimit tokens =
+    number_at tokens >>= λ x. Ok (record m { hard_limit = Some x.0 }, x.1)
 behind_modifier m search_word.Limit tokens = limit_at tokens >>= λ x. Ok (record m { limit = Some x.0 }, x.1)
-behind_modifier m search_word.MakeContext tokens = make_context_at tokens >>= λ x. Ok (record m { make_context = Some x.0 }, x.1)
+behind_modifier m search_word.MakeContext tokens =
+    make_context_at tokens >>= λ x. Ok (record m { make_context = Some x.0 }, x.1)
 behind_modifier m search_word.NoInherit tokens = Ok (record m { no_inherit = true }, tokens)
-behind_modifier m search_word.Return tokens = returns_at tokens >>= λ x. Ok (record m { returns = Some x.0 }, x.1)
+behind_modifier m search_word.Return tokens =
+    returns_at tokens >>= λ x. Ok (record m { returns = Some x.0 }, x.1)
 behind_modifier m search_word.Sort tokens = sorts_at tokens >>= λ x. Ok (record m { sort = Some x.0 }, x.1)
 
 -- DEPTH, MAKECONTEXT and NOINHERIT stand only over a dataset
@@ -152,7 +163,8 @@ is_context (target.Context name) = true
 
 -- a modifier that may stand over what is looked through, and didn't stand before
 abbrev pub may_modify : Scope → SearchWord → Result (Unit {0}) CommandFault
-may_modify s word = if is_context s.target && is_of_datasets word then Err fault.Arguments else once (has_modifier s.modifiers word)
+may_modify s word = if is_context s.target && is_of_datasets word then Err fault.Arguments
+    else once (has_modifier s.modifiers word)
 
 abbrev pub modifier_by : Scope → List Token → Option (SearchWord × List Token) → Read Scope
 modifier_by s tokens None = fault_here tokens fault.Arguments
@@ -170,7 +182,9 @@ no_modifier tokens = is_none (word_at search_words tokens)
 
 -- modifiers in any order. There are seven and each may stand once, so that an eighth is refused for itself.
 unfoldable pub modifiers_at : Target → List Token → Read Scope
-modifiers_at target tokens = several no_modifier no_modifier modifier_at 8 (record { target = target; modifiers = no_modifiers }) tokens
+modifiers_at target tokens =
+    several no_modifier no_modifier modifier_at 8 (record { target = target; modifiers = no_modifiers })
+    tokens
 
 -- ---- behind SEARCH: (dataset or context) modifier* key, which has at most 32 levels
 unfoldable pub search_at : List Token → Read Search

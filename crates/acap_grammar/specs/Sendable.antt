@@ -1,6 +1,7 @@
--- The commands that can be sent: names that are names, and no more of anything than the limits allow [RFC 2244
--- sections 3, 6 and 8].
-use Rattle.std.specs.Prelude.{◌≡◌, ℕ, zero, suc, ◌+◌, ◌≤◌, ◌<◌, List, [], ◌∷◌, ◌++◌, length, Bool, true, false, ◌&&◌, None, IfSome, Result, Ok, max}
+-- The commands that can be sent: names that are names, and no more
+-- of anything than the limits allow [RFC 2244 sections 3, 6 and 8].
+use Rattle.std.specs.Prelude.{◌≡◌, ℕ, zero, suc, ◌+◌, ◌≤◌, ◌<◌, List, [], ◌∷◌, ◌++◌, length, Bool, true}
+use Rattle.std.specs.Prelude.{false, ◌&&◌, None, IfSome, Result, Ok, max}
 use Rattle.std.specs.Str.{bytes_eq}
 use Rattle.acap_lexer.specs.Token.{Token}
 use Rattle.acap_order.specs.Ranks.{is_numeric}
@@ -22,7 +23,8 @@ use Rattle.acap_commands.specs.declared.target.Target.{Target}
 use Rattle.acap_commands.specs.declared.target.Target.TheVariants as target
 use Rattle.acap_commands.specs.declared.test.Test.{Test}
 use Rattle.acap_commands.specs.declared.test.Test.TheVariants as test
-use Rattle.acap_grammar.specs.Arguments.{attribute_named, context_named, dataset_named, entry_named, path_named, target_named, is_of_texts}
+use Rattle.acap_grammar.specs.Arguments.{attribute_named, context_named, dataset_named, entry_named}
+use Rattle.acap_grammar.specs.Arguments.{path_named, target_named, is_of_texts}
 use Rattle.acap_grammar.specs.Grammar.{command_of}
 use Rattle.acap_grammar.specs.Searching.{return_named}
 use Rattle.acap_grammar.specs.Spelling.{dataset_text, return_text, target_text, tokens_of}
@@ -64,7 +66,8 @@ IsDataset name = Names dataset_named (dataset_text name) name
 abbrev pub IsObject : ObjectName → Type 0
 IsObject (object_name.Dataset dataset) = IsDataset dataset
 IsObject (object_name.Attribute dataset attribute) = IsDataset dataset × IsAttribute attribute
-IsObject (object_name.Entry dataset attribute name) = IsDataset dataset × IsAttribute attribute × Names (entry_named dataset) name name
+IsObject (object_name.Entry dataset attribute name) =
+    IsDataset dataset × IsAttribute attribute × Names (entry_named dataset) name name
 
 -- ---- STORE
 
@@ -72,7 +75,8 @@ IsObject (object_name.Entry dataset attribute name) = IsDataset dataset × IsAtt
 abbrev pub IsNew : List StoreItem → StoreItem → Type 0
 IsNew before i = IsAttribute i.attribute × (has_attribute i.attribute before ≡ false)
 
--- the items of so many attributes at most, behind those before: each attribute is new, and its two items stand together
+-- the items of so many attributes at most, behind those before:
+-- each attribute is new, and its two items stand together
 abbrev pub AreItems : ℕ → List StoreItem → List StoreItem → Type 0
 AreItems room before [] = Unit {0}
 AreItems zero before (i ∷ rest) = ⊥
@@ -130,7 +134,8 @@ Fits (target.Context name) m = (m.depth ≡ None) × (m.make_context ≡ None) �
 abbrev pub IsTest : Test → Type 0
 IsTest test.All = Unit {0}
 IsTest (test.IsNil attribute comparator) = IsAttribute attribute
-IsTest (test.Meets relation attribute comparator value) = IsAttribute attribute × (is_of_texts relation && is_numeric comparator.collation ≡ false)
+IsTest (test.Meets relation attribute comparator value) =
+    IsAttribute attribute × (is_of_texts relation && is_numeric comparator.collation ≡ false)
 IsTest (test.Range first last since) = IsNumber first × IsNumber last × IsMoment since
 
 abbrev pub IsKey : Wanted → Type 0

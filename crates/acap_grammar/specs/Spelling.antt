@@ -1,7 +1,8 @@
--- The tokens with which a command is spelled most plainly: words in capitals, strings quoted, modifiers in the order of
--- the table [RFC 2244 sections 2.2, 6 and 8]. Each step puts its tokens before those behind it. Where a token lies
--- doesn't matter.
-use Rattle.std.specs.Prelude.{ℕ, ◌-◌, nat_le, ℤ, List, [], ◌∷◌, ◌++◌, length, take, codes, decimal, Bool, true, false, Option, Some, None, if◌then◌else◌}
+-- The tokens with which a command is spelled most plainly: words in capitals, strings
+-- quoted, modifiers in the order of the table [RFC 2244 sections 2.2, 6 and 8]. Each
+-- step puts its tokens before those behind it. Where a token lies doesn't matter.
+use Rattle.std.specs.Prelude.{ℕ, ◌-◌, nat_le, ℤ, List, [], ◌∷◌, ◌++◌, length, take, codes, decimal, Bool}
+use Rattle.std.specs.Prelude.{true, false, Option, Some, None, if◌then◌else◌}
 use Rattle.std.specs.Str.{bytes_eq}
 use Rattle.acap_lexer.specs.declared.kind.Kind.{Kind}
 use Rattle.acap_lexer.specs.declared.kind.Kind.TheVariants as kind
@@ -107,7 +108,8 @@ dataset name behind = string (dataset_text name) behind
 abbrev pub object : ObjectName → List Token → List Token
 object (object_name.Dataset of) behind = open_then (dataset of (shut behind))
 object (object_name.Attribute of attribute) behind = open_then (dataset of (string attribute (shut behind)))
-object (object_name.Entry of attribute name) behind = open_then (dataset of (string attribute (string name (shut behind))))
+object (object_name.Entry of attribute name) behind =
+    open_then (dataset of (string attribute (string name (shut behind))))
 
 -- ---- STORE
 
@@ -133,14 +135,17 @@ is_bare stored.Value (given.Put (cell.Multi texts)) = false
 is_bare stored.Value given = true
 
 abbrev pub one_gift : StoreItem → List Token → List Token
-one_gift i behind = if is_bare i.metadata i.given then given_tokens i.given behind else open_then (gift i (shut behind))
+one_gift i behind = if is_bare i.metadata i.given then given_tokens i.given behind
+    else open_then (gift i (shut behind))
 
--- (attribute item)+: an attribute and its item, or in one parenthesis both its items, the value and the list of rights
+-- (attribute item)+: an attribute and its item, or in one
+-- parenthesis both its items, the value and the list of rights
 abbrev pub items : List StoreItem → List Token → List Token
 items [] behind = behind
 items (i ∷ []) behind = string i.attribute (one_gift i behind)
 items (i ∷ j ∷ rest) behind =
-    if bytes_eq i.attribute j.attribute then string i.attribute (open_then (gift i (gift j (shut (items rest behind)))))
+    if bytes_eq i.attribute j.attribute
+    then string i.attribute (open_then (gift i (gift j (shut (items rest behind)))))
     else string i.attribute (one_gift i (items (j ∷ rest) behind))
 
 -- modifier of STORE: `NOCREATE`, `UNCHANGEDSINCE` time
@@ -152,7 +157,8 @@ conditions m behind = flag (codes "NOCREATE") m.no_create (if_there unchanged_si
 
 -- entry: `(` path modifier* (attribute item)+ `)`
 abbrev pub entry : StoreEntry → List Token → List Token
-entry e behind = open_then (string (e.path.dataset ++ e.path.name) (conditions e.modifiers (items e.items (shut behind))))
+entry e behind =
+    open_then (string (e.path.dataset ++ e.path.name) (conditions e.modifiers (items e.items (shut behind))))
 
 -- ---- SEARCH
 
@@ -178,13 +184,15 @@ is_left_out (name.Beginning front) (metadata.Attribute ∷ metadata.Value ∷ []
 is_left_out name metadata = false
 
 abbrev pub return_item : ReturnItem → List Token → List Token
-return_item r behind = string (return_text r.name) (if is_left_out r.name r.metadata then behind else open_then (each metadata_then r.metadata (shut behind)))
+return_item r behind =
+    string (return_text r.name) (if is_left_out r.name r.metadata then behind
+    else open_then (each metadata_then r.metadata (shut behind)))
 
 abbrev pub sort_item : SortItem → List Token → List Token
 sort_item s behind = string s.attribute (comparator s.comparator behind)
 
--- modifier of SEARCH: `DEPTH` number; `HARDLIMIT` number; `LIMIT` number number; `MAKECONTEXT` [`ENUMERATE`] [`NOTIFY`]
--- context; `NOINHERIT`; `RETURN` `(` return* `)`; `SORT` `(` (attribute comparator)+ `)`
+-- modifier of SEARCH: `DEPTH` number; `HARDLIMIT` number; `LIMIT` number number; `MAKECONTEXT` [`ENUMERATE`]
+-- [`NOTIFY`] context; `NOINHERIT`; `RETURN` `(` return* `)`; `SORT` `(` (attribute comparator)+ `)`
 abbrev pub depth : ℕ → List Token → List Token
 depth n behind = word (codes "DEPTH") (number n behind)
 
@@ -196,7 +204,8 @@ limit l behind = word (codes "LIMIT") (number l.over (number l.most behind))
 
 abbrev pub make_context : MakeContext → List Token → List Token
 make_context m behind =
-    word (codes "MAKECONTEXT") (flag (codes "ENUMERATE") m.enumerate (flag (codes "NOTIFY") m.notify (string m.name behind)))
+    word (codes "MAKECONTEXT")
+    (flag (codes "ENUMERATE") m.enumerate (flag (codes "NOTIFY") m.notify (string m.name behind)))
 
 abbrev pub no_inherit : Bool → List Token → List Token
 no_inherit stands behind = flag (codes "NOINHERIT") stands behind
@@ -209,11 +218,12 @@ sort all behind = word (codes "SORT") (open_then (each sort_item all (shut behin
 
 abbrev pub modifiers : SearchModifiers → List Token → List Token
 modifiers m behind =
-    if_there depth m.depth (if_there hard_limit m.hard_limit (if_there limit m.limit (if_there make_context m.make_context
+    if_there depth m.depth
+    (if_there hard_limit m.hard_limit (if_there limit m.limit (if_there make_context m.make_context
     (no_inherit m.no_inherit (if_there returns m.returns (if_there sort m.sort behind))))))
 
--- key: `ALL`; `AND` key key; `OR` key key; `NOT` key; `EQUAL` attribute comparator (string or `NIL`); `COMPARE`,
--- `COMPARESTRICT`, `PREFIX`, `SUBSTRING` attribute comparator string; `RANGE` number number time
+-- key: `ALL`; `AND` key key; `OR` key key; `NOT` key; `EQUAL` attribute comparator (string or `NIL`);
+-- `COMPARE`, `COMPARESTRICT`, `PREFIX`, `SUBSTRING` attribute comparator string; `RANGE` number number time
 abbrev pub relation_word : Relation → List ℕ
 relation_word relation.Equal = codes "EQUAL"
 relation_word relation.AtLeast = codes "COMPARE"
@@ -223,9 +233,12 @@ relation_word relation.Contains = codes "SUBSTRING"
 
 abbrev pub test_tokens : Test → List Token → List Token
 test_tokens test.All behind = word (codes "ALL") behind
-test_tokens (test.IsNil attribute c) behind = word (codes "EQUAL") (string attribute (comparator c (word (codes "NIL") behind)))
-test_tokens (test.Meets r attribute c value) behind = word (relation_word r) (string attribute (comparator c (string value behind)))
-test_tokens (test.Range first last since) behind = word (codes "RANGE") (number first (number last (time since behind)))
+test_tokens (test.IsNil attribute c) behind =
+    word (codes "EQUAL") (string attribute (comparator c (word (codes "NIL") behind)))
+test_tokens (test.Meets r attribute c value) behind =
+    word (relation_word r) (string attribute (comparator c (string value behind)))
+test_tokens (test.Range first last since) behind =
+    word (codes "RANGE") (number first (number last (time since behind)))
 
 abbrev pub key : Wanted → List Token → List Token
 key (One t) behind = test_tokens t behind
@@ -253,10 +266,14 @@ tokens_of tag command.Logout = line tag (codes "LOGOUT") []
 tokens_of tag (command.Authenticate mechanism) = line tag (codes "AUTHENTICATE") (string mechanism [])
 tokens_of tag (command.Store entries) = line tag (codes "STORE") (each entry entries [])
 tokens_of tag (command.Search s) = line tag (codes "SEARCH") (search_tokens s [])
-tokens_of tag (command.SetAcl o identifier rights) = line tag (codes "SETACL") (object o (string identifier (string rights [])))
-tokens_of tag (command.DeleteAcl o identifier) = line tag (codes "DELETEACL") (object o (if_there string identifier []))
+tokens_of tag (command.SetAcl o identifier rights) =
+    line tag (codes "SETACL") (object o (string identifier (string rights [])))
+tokens_of tag (command.DeleteAcl o identifier) =
+    line tag (codes "DELETEACL") (object o (if_there string identifier []))
 tokens_of tag (command.MyRights o) = line tag (codes "MYRIGHTS") (object o [])
-tokens_of tag (command.ListRights o identifier) = line tag (codes "LISTRIGHTS") (object o (string identifier []))
-tokens_of tag (command.DeletedSince name since) = line tag (codes "DELETEDSINCE") (dataset name (time since []))
+tokens_of tag (command.ListRights o identifier) =
+    line tag (codes "LISTRIGHTS") (object o (string identifier []))
+tokens_of tag (command.DeletedSince name since) =
+    line tag (codes "DELETEDSINCE") (dataset name (time since []))
 tokens_of tag (command.FreeContext context) = line tag (codes "FREECONTEXT") (string context [])
 tokens_of tag (command.UpdateContext contexts) = line tag (codes "UPDATECONTEXT") (each string contexts [])

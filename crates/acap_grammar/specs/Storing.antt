@@ -1,5 +1,6 @@
 -- The entries of a STORE [RFC 2244 sections 6.6.1 and 8].
-use Rattle.std.specs.Prelude.{ℕ, List, [], ◌∷◌, ◌++◌, drop, codes, is_none, is_some, Bool, true, false, ◌&&◌, Option, Some, None, Result, Ok, Err, if◌then◌else◌}
+use Rattle.std.specs.Prelude.{ℕ, List, [], ◌∷◌, ◌++◌, drop, codes, is_none, is_some, Bool, true, false, ◌&&◌}
+use Rattle.std.specs.Prelude.{Option, Some, None, Result, Ok, Err, if◌then◌else◌}
 use Rattle.std.specs.List.{list_any}
 use Rattle.std.specs.Str.{bytes_eq}
 use Rattle.acap_lexer.specs.Token.{Token}
@@ -21,7 +22,8 @@ use Rattle.acap_grammar.specs.declared.words.StoreWord.{StoreWord}
 use Rattle.acap_grammar.specs.declared.words.StoreWord.TheVariants as store_word
 use Rattle.acap_grammar.specs.Outcome.{◌>>=◌, Read, fault_here, verdict_at}
 use Rattle.acap_grammar.specs.Several.{several, some_of, in_parenthesis}
-use Rattle.acap_grammar.specs.Marks.{is_string, is_open, is_close, ends, starts, behind, string_at, text_in, word_at}
+use Rattle.acap_grammar.specs.Marks.{is_string, is_open, is_close, ends, starts, behind, string_at, text_in}
+use Rattle.acap_grammar.specs.Marks.{word_at}
 use Rattle.acap_grammar.specs.Arguments.{or_fault, path_named, attribute_named, named_at, time_named}
 
 -- ---- what may stand once
@@ -40,7 +42,8 @@ same_metadata metadata.Acl metadata.Acl = true
 same_metadata _ _ = false
 
 unfoldable pub has_item : List ℕ → StoreMetadata → List StoreItem → Bool
-has_item attribute metadata seen = list_any (λ i. bytes_eq i.attribute attribute && same_metadata i.metadata metadata) seen
+has_item attribute metadata seen =
+    list_any (λ i. bytes_eq i.attribute attribute && same_metadata i.metadata metadata) seen
 
 -- ---- what is given
 
@@ -49,7 +52,8 @@ unfoldable pub strings_at : List (List ℕ) → List Token → Read (List (List 
 strings_at seen [] = fault_here [] fault.Arguments
 strings_at seen (t ∷ rest) =
     if is_close t.kind then Ok (seen, rest)
-    else (if is_string t.kind then strings_at (seen ++ t.value ∷ []) rest else fault_here (t ∷ rest) fault.Arguments)
+    else (if is_string t.kind then strings_at (seen ++ t.value ∷ []) rest
+    else fault_here (t ∷ rest) fault.Arguments)
 
 -- the words that are given in place of a string
 abbrev pub given_words : List (List ℕ × Given)
@@ -64,7 +68,8 @@ plain_at tokens =
 -- one of these, or a list: `(` string* `)`
 unfoldable pub given_at : List Token → Read Given
 given_at tokens =
-    if starts is_open tokens then (strings_at [] (drop 1 tokens) >>= λ x. Ok (given.Put (cell.Multi x.0), x.1))
+    if starts is_open tokens then (strings_at [] (drop 1 tokens)
+    >>= λ x. Ok (given.Put (cell.Multi x.0), x.1))
     else plain_at tokens
 
 -- ---- an item: what an attribute is given
@@ -77,9 +82,11 @@ metadata_named text = or_fault fault.Arguments (text_in store_metadata text)
 
 -- one thing more for an attribute, behind what is given before
 abbrev pub with_gift : Gifts → StoreMetadata → Given → List StoreItem
-with_gift seen stored given = seen.items ++ record { attribute = seen.attribute; metadata = stored; given = given } ∷ []
+with_gift seen stored given =
+    seen.items ++ record { attribute = seen.attribute; metadata = stored; given = given } ∷ []
 
--- what an attribute is given, behind what those before it are given: metadata that it doesn't have yet, and a value
+-- what an attribute is given, behind what those before it
+-- are given: metadata that it doesn't have yet, and a value
 unfoldable pub gift_at : Gifts → List Token → Read Gifts
 gift_at seen tokens = do
   metadata ← named_at metadata_named tokens
@@ -87,11 +94,12 @@ gift_at seen tokens = do
   given ← given_at metadata.1
   Ok (record seen { items = with_gift seen metadata.0 given.0 }, given.1)
 
--- behind an attribute: what its value is given, or `(` (metadata given)+ `)`. There are two metadata and each may stand
--- once, so that a third is refused for itself.
+-- behind an attribute: what its value is given, or `(` (metadata given)+ `)`. There are two metadata and each
+-- may stand once, so that a third is refused for itself.
 unfoldable pub gifts_at : Gifts → List Token → Read (List StoreItem)
 gifts_at seen tokens =
-    if starts is_open tokens then (in_parenthesis (starts is_close) (starts is_string) gift_at 3 seen tokens >>= λ x. Ok (x.0.items, x.1))
+    if starts is_open tokens then (in_parenthesis (starts is_close) (starts is_string) gift_at 3 seen tokens
+    >>= λ x. Ok (x.0.items, x.1))
     else (plain_at tokens >>= λ x. Ok (with_gift seen metadata.Value x.0, x.1))
 
 -- an attribute that isn't among those before, and what it is given
@@ -108,7 +116,8 @@ items_at tokens = some_of (starts is_close) (starts is_string) item_at 256 [] to
 -- ---- modifiers
 
 abbrev pub store_words : List (List ℕ × StoreWord)
-store_words = (codes "NOCREATE", store_word.NoCreate) ∷ (codes "UNCHANGEDSINCE", store_word.UnchangedSince) ∷ []
+store_words = (codes "NOCREATE", store_word.NoCreate) ∷ (codes "UNCHANGEDSINCE", store_word.UnchangedSince)
+    ∷ []
 
 -- whether that modifier stands among those before
 abbrev pub has_condition : StoreModifiers → StoreWord → Bool
@@ -118,11 +127,13 @@ has_condition seen store_word.UnchangedSince = is_some seen.unchanged_since
 -- behind the word of a modifier
 unfoldable pub behind_condition : StoreModifiers → StoreWord → List Token → Read StoreModifiers
 behind_condition seen store_word.NoCreate tokens = Ok (record seen { no_create = true }, tokens)
-behind_condition seen store_word.UnchangedSince tokens = named_at time_named tokens >>= λ x. Ok (record seen { unchanged_since = Some x.0 }, x.1)
+behind_condition seen store_word.UnchangedSince tokens =
+    named_at time_named tokens >>= λ x. Ok (record seen { unchanged_since = Some x.0 }, x.1)
 
 abbrev pub condition_by : StoreModifiers → List Token → Option (StoreWord × List Token) → Read StoreModifiers
 condition_by seen tokens None = fault_here tokens fault.Arguments
-condition_by seen tokens (Some x) = verdict_at tokens (once (has_condition seen x.0)) >>= λ new. behind_condition seen x.0 x.1
+condition_by seen tokens (Some x) =
+    verdict_at tokens (once (has_condition seen x.0)) >>= λ new. behind_condition seen x.0 x.1
 
 unfoldable pub condition_at : StoreModifiers → List Token → Read StoreModifiers
 condition_at seen tokens = condition_by seen tokens (word_at store_words tokens)

@@ -7,7 +7,8 @@ use Rattle.acap_entries.specs.Store.{Stored}
 
 -- the names that have a record in a dataset
 abbrev pub names_in : Stored → List ℕ → List (List ℕ)
-names_in records dataset = each (λ e. e.0.name) (filter (λ e. octets_eq dataset e.0.dataset) (map.entries records))
+names_in records dataset =
+    each (λ e. e.0.name) (filter (λ e. octets_eq dataset e.0.dataset) (map.entries records))
 
 -- the set of some names, as the map that has nothing at each of them
 abbrev pub set_of : List (List ℕ) → map.FinMap octets_cmp (Unit {0})

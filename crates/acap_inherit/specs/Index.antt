@@ -1,5 +1,6 @@
 -- Which datasets inherit from which: the index that leads from a base to its heirs [RFC 2244 section 5.2].
-use Rattle.std.specs.Prelude.{◌≡◌, ℕ, ◌==◌, Bool, false, List, [], ◌∷◌, length, Option, Some, None, map as each, if◌then◌else◌}
+use Rattle.std.specs.Prelude.{◌≡◌, ℕ, ◌==◌, Bool, false, List, [], ◌∷◌, length, Option, Some, None}
+use Rattle.std.specs.Prelude.{map as each, if◌then◌else◌}
 use Rattle.std.specs.FinMap as map
 use Rattle.std.specs.List.{filter, flat_map, list_any}
 use Rattle.std.specs.declared.cmp.Ordering.{Ordering}

@@ -1,4 +1,5 @@
--- What a change touches and leaves, said before it is committed: words of contracts [RFC 2244 sections 5.1 and 5.2].
+-- What a change touches and leaves, said before it is committed:
+-- words of contracts [RFC 2244 sections 5.1 and 5.2].
 use Rattle.std.specs.Prelude.{◌≡◌, ℕ, List, [], Bool}
 use Rattle.acap_entries.specs.Leaving.{records_before, records_ahead, records_left, ForStoreAfter}
 use Rattle.acap_entries.specs.Store.{Store}
@@ -15,14 +16,17 @@ use Rattle.acap_inherit.specs.declared.link.Link.{Link}
 
 -- the touched paths, and those of one dataset
 abbrev pub AreTouched : Change → Store → List Path → Type 0
-AreTouched change old paths = ForStoreAfter change old (λ new. paths ≡ touched_paths change.writes old.records new.records)
+AreTouched change old paths =
+    ForStoreAfter change old (λ new. paths ≡ touched_paths change.writes old.records new.records)
 
 abbrev pub AreTouchedAt : Change → Store → List ℕ → List Path → Type 0
-AreTouchedAt change old dataset paths = ForStoreAfter change old (λ new. paths ≡ touched_at change.writes old.records new.records dataset)
+AreTouchedAt change old dataset paths =
+    ForStoreAfter change old (λ new. paths ≡ touched_at change.writes old.records new.records dataset)
 
 -- what makes the index of afterwards of that of before
 abbrev pub IsPrepared : Change → Store → List Link → List Link × List Link → Type 0
-IsPrepared change old links made = ForStoreAfter change old (λ new. IsIndexOf new.records (index_with made links))
+IsPrepared change old links made =
+    ForStoreAfter change old (λ new. IsIndexOf new.records (index_with made links))
 
 -- the pairs of the datasets whose management entries a change writes, as a store has them
 abbrev pub links_in : Change → Store → List Link
@@ -55,4 +59,5 @@ abbrev pub paths_left : Change → Store → List (List ℕ) → List Path
 paths_left change old datasets = paths_found change.writes old.records (records_left change old) datasets
 
 abbrev pub paths_left_in : Change → Store → List ℕ → List Path
-paths_left_in change old dataset = in_order (paths_in change.writes old.records (records_left change old) dataset)
+paths_left_in change old dataset =
+    in_order (paths_in change.writes old.records (records_left change old) dataset)

@@ -1,5 +1,6 @@
 -- What an attribute of an entry resolves to along a chain of datasets [RFC 2244 sections 3.1.1, 5.1 and 5.2].
-use Rattle.std.specs.Prelude.{ℕ, ℤ, Bool, ◌==◌, List, [], ◌∷◌, length, take, map, Option, Some, None, is_some, codes, if◌then◌else◌}
+use Rattle.std.specs.Prelude.{ℕ, ℤ, Bool, ◌==◌, List, [], ◌∷◌, length, take, map, Option, Some, None, is_some}
+use Rattle.std.specs.Prelude.{codes, if◌then◌else◌}
 use Rattle.std.specs.Int.{int_max}
 use Rattle.std.specs.List.{filter_map}
 use Rattle.std.specs.Option.{option_map_or}
@@ -48,7 +49,8 @@ by_presence (Some entry) name dataset beyond = if entry.present then Some (Singl
 
 abbrev pub entry_on : Stored → List (List ℕ) → List ℕ → Resolution
 entry_on records [] name = None
-entry_on records (dataset ∷ chain) name = by_presence (record_at records dataset name) name dataset (entry_on records chain name)
+entry_on records (dataset ∷ chain) name =
+    by_presence (record_at records dataset name) name dataset (entry_on records chain name)
 
 -- ---- moments
 
@@ -67,7 +69,8 @@ greatest (moment ∷ moments) = Some (option_map_or (int_max moment) (greatest m
 
 -- the greatest moment of these records
 abbrev pub modtime_on : Stored → List (List ℕ) → List ℕ → Option ℤ
-modtime_on records chain name = greatest (map (λ entry. entry.modtime) (until_end (records_along records chain name)))
+modtime_on records chain name =
+    greatest (map (λ entry. entry.modtime) (until_end (records_along records chain name)))
 
 -- as a value it is the moment's stamp, and lies where it was looked for
 abbrev pub stamp_value : List (List ℕ) → Option ℤ → Resolution
@@ -83,13 +86,15 @@ members_for chain name = if length name == 0 then take 1 chain else chain
 
 -- neither is `subdataset`
 abbrev pub members_of : List (List ℕ) → List ℕ → List ℕ → List (List ℕ)
-members_of chain name attribute = if octets_eq attribute (codes "subdataset") then take 1 chain else members_for chain name
+members_of chain name attribute =
+    if octets_eq attribute (codes "subdataset") then take 1 chain else members_for chain name
 
 -- the answer to each attribute: the entry's name, its moment, and what is stored
 unfoldable pub lookup : Stored → List (List ℕ) → List ℕ → List ℕ → Resolution
 lookup records chain name attribute =
     if octets_eq attribute (codes "entry") then entry_on records (members_for chain name) name
-    else (if octets_eq attribute (codes "modtime") then stamp_value chain (modtime_on records (members_for chain name) name)
+    else (if octets_eq attribute (codes "modtime")
+    then stamp_value chain (modtime_on records (members_for chain name) name)
     else value_on records (members_of chain name attribute) name attribute)
 
 -- whether the entry exists

@@ -23,10 +23,12 @@ found_of (At dataset value) = Some (cell_of value, dataset.now)
 
 -- what an attribute resolves to along the chain of a dataset
 abbrev pub resolved_in : Store → List ℕ → Bool → List ℕ → List ℕ → Resolution
-resolved_in store dataset no_inherit name attribute = lookup store.records (chain_of store.records dataset no_inherit) name attribute
+resolved_in store dataset no_inherit name attribute =
+    lookup store.records (chain_of store.records dataset no_inherit) name attribute
 
 abbrev pub Resolves : Store → List ℕ → Bool → List ℕ → List ℕ → Found → Type 0
-Resolves store dataset no_inherit name attribute found = found_of found ≡ resolved_in store dataset no_inherit name attribute
+Resolves store dataset no_inherit name attribute found =
+    found_of found ≡ resolved_in store dataset no_inherit name attribute
 
 -- datasets that are lent, and what an entry has along them: a value, its name, its moment
 abbrev pub names_of : List (Bor (List ℕ)) → List (List ℕ)

@@ -11,4 +11,5 @@ pub record IsSplitAtEscape (text run : List ℕ) (escape : ℕ) (behind : List �
 
 -- the parts at the first such octet, or none where no octet is printed so
 abbrev pub SplitsAtEscape : List ℕ → Option (Bor (List ℕ) × ℕ × Bor (List ℕ)) → Type 0
-SplitsAtEscape text result = MatchOption result (escaped_form text ≡ text) (λ x. IsSplitAtEscape text x.0.now x.1 x.2.now)
+SplitsAtEscape text result =
+    MatchOption result (escaped_form text ≡ text) (λ x. IsSplitAtEscape text x.0.now x.1 x.2.now)

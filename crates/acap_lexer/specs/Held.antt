@@ -1,5 +1,6 @@
 -- What a lexer stands for, what is taken of a piece, and the next answer. [RFC 2244, 2.2 and 2.6.3]
-use Rattle.std.specs.Prelude.{ℕ, ◌+◌, ◌-◌, List, [], ◌∷◌, ◌++◌, drop, Option, Some, None, nat_lt, if◌then◌else◌, replicate}
+use Rattle.std.specs.Prelude.{ℕ, ◌+◌, ◌-◌, List, [], ◌∷◌, ◌++◌, drop, Option, Some, None, nat_lt}
+use Rattle.std.specs.Prelude.{if◌then◌else◌, replicate}
 use Rattle.acap_lexer.specs.declared.fault.LexFault.{LexFault}
 use Rattle.acap_lexer.specs.declared.lexed.Lexed.{Lexed}
 use Rattle.acap_lexer.specs.declared.lexed.Lexed.TheVariants.{More, Plus, Fatal}
@@ -26,8 +27,8 @@ next_by None h p =
     if nat_lt h.told p.waits then (Plus, record { text = h.text; told = h.told + 1; fatal = None })
     else next_by_item h p.item
 
--- The next answer, and what is held then: a Fatal ever after; else each continuation that is due, and then the
--- item; else More.
+-- The next answer, and what is held then: a Fatal ever after; else
+-- each continuation that is due, and then the item; else More.
 unfoldable pub next_of : Mode → Held → Lexed × Held
 next_of mode h = next_by h.fatal h (progress mode h.text)
 

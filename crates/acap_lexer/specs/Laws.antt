@@ -15,11 +15,13 @@ use Rattle.acap_lexer.specs.Token.{Token}
 -- An item that begins a text begins every longer text, with as many continuations before it.
 abbrev pub KeepsItems : Type 0
 KeepsItems = (mode : Mode) (text more : List ℕ) (x : Lexed × ℕ) → (progress mode text).item ≡ Some x →
-    ((progress mode (text ++ more)).item ≡ Some x) × ((progress mode (text ++ more)).waits ≡ (progress mode text).waits)
+    ((progress mode (text ++ more)).item ≡ Some x)
+    × ((progress mode (text ++ more)).waits ≡ (progress mode text).waits)
 
 -- A longer text has no fewer continuations due.
 abbrev pub KeepsWaits : Type 0
-KeepsWaits = (mode : Mode) (text more : List ℕ) → (progress mode text).waits ≤ (progress mode (text ++ more)).waits
+KeepsWaits = (mode : Mode) (text more : List ℕ)
+    → (progress mode text).waits ≤ (progress mode (text ++ more)).waits
 
 -- What begins a text is a line or a fault, and takes some of the text's octets.
 abbrev pub TakesOctets : Type 0
@@ -33,7 +35,8 @@ LeavesRoom = (mode : Mode) (text : List ℕ) → (progress mode text).item ≡ N
 -- How far a text leads from a stage on is what comes of the stage: the bound on the stages changes nothing.
 abbrev pub GoesByStages : Type 0
 GoesByStages = (mode : Mode) (stage : Stage) (text : List ℕ) → octets_of stage ≤ length text →
-    progress_from mode stage text ≡ progress_by (λ next. progress_from mode next text) (step_of mode stage text)
+    progress_from mode stage text
+    ≡ progress_by (λ next. progress_from mode next text) (step_of mode stage text)
 
 -- A part is read to its end: its octets are a bound on its tokens, and a greater bound changes nothing.
 abbrev pub ReadsParts : Type 0
@@ -47,10 +50,12 @@ ReadsQuoted = (text rest : List ℕ) → IsTrue (may_quote text) →
 
 -- A text that is written so is read as that line, with so many continuations due before it, whatever follows.
 abbrev pub ReadsSpellings : Type 0
-ReadsSpellings = (mode : Mode) (text rest : List ℕ) (tokens : List Token) (waits : ℕ) → IsSpelling mode tokens waits text →
+ReadsSpellings = (mode : Mode) (text rest : List ℕ) (tokens : List Token) (waits : ℕ)
+    → IsSpelling mode tokens waits text →
     progress mode (text ++ rest) ≡ record { waits = waits; item = Some (Line tokens, length text) }
 
 -- What is read as a line is written so: no other text is.
 abbrev pub SpellsLines : Type 0
-SpellsLines = (mode : Mode) (text : List ℕ) (tokens : List Token) (octets : ℕ) → (progress mode text).item ≡ Some (Line tokens, octets) →
+SpellsLines = (mode : Mode) (text : List ℕ) (tokens : List Token) (octets : ℕ)
+    → (progress mode text).item ≡ Some (Line tokens, octets) →
     IsSpelling mode tokens (progress mode text).waits (take octets text)

@@ -1,6 +1,7 @@
 -- The tokens of a part of a command, which goes up to the first CR LF behind its beginning. A part may end in
 -- a literal mark, whose octets follow the CR LF, and then the next part. [RFC 2244, 2.2 and 2.6.3]
-use Rattle.std.specs.Prelude.{ℕ, zero, suc, ◌-◌, List, [], ◌∷◌, ◌++◌, length, Option, Some, None, option_map, Result, Ok, Err, slice_get}
+use Rattle.std.specs.Prelude.{ℕ, zero, suc, ◌-◌, List, [], ◌∷◌, ◌++◌, length, Option, Some, None, option_map}
+use Rattle.std.specs.Prelude.{Result, Ok, Err, slice_get}
 use Rattle.acap_lexer.specs.declared.found.Announced.{Announced}
 use Rattle.acap_lexer.specs.declared.fault.LexFault.{LexFault}
 use Rattle.acap_lexer.specs.declared.fault.LexFault.TheVariants.{BadToken}
@@ -22,19 +23,22 @@ last_kind tokens = option_map (λ t. t.kind) (slice_get tokens (length tokens - 
 
 -- what was read at the front of a text that goes up to the place `end` of the command
 abbrev pub token_of_lexeme : ℕ → List ℕ → Lexeme × List ℕ → Token
-token_of_lexeme end front x = record { kind = x.0.kind; value = x.0.value; start = end - length front; end = end - length x.1 }
+token_of_lexeme end front x =
+    record { kind = x.0.kind; value = x.0.value; start = end - length front; end = end - length x.1 }
 
 -- the tokens with the one that was read at the front, and what is left
 abbrev pub with_token : List Token → ℕ → List ℕ → Read Lexeme → Read (List Token)
 with_token seen end front read = read >>= λ x. Ok (seen ++ token_of_lexeme end front x ∷ [], x.1)
 
 -- from where the next token begins: the part's mark, or that token and what goes on behind it
-abbrev pub part_by : (List Token → List ℕ → Result Part LexFault) → ℕ → List Token → List ℕ → Option Announced → Result Part LexFault
+abbrev pub part_by : (List Token → List ℕ → Result Part LexFault) → ℕ → List Token → List ℕ → Option Announced
+    → Result Part LexFault
 part_by go end seen front (Some mark) = Ok (record { tokens = seen; mark = Some (end - length front, mark) })
 part_by go end seen front None = with_token seen end front (token_at front) >>= λ x. go x.0 x.1
 
 -- the next token of a text that isn't empty, or its mark
-abbrev pub next_at : (List Token → List ℕ → Result Part LexFault) → ℕ → List Token → List ℕ → Result Part LexFault
+abbrev pub next_at : (List Token → List ℕ → Result Part LexFault) → ℕ → List Token → List ℕ
+    → Result Part LexFault
 next_at go end seen text = gap_at (last_kind seen) text >>= λ front. part_by go end seen front (mark_of front)
 
 -- The tokens of a text that goes up to the place `end` of the command, behind those seen before. The first

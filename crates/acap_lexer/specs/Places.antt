@@ -5,7 +5,13 @@ use Rattle.acap_lexer.specs.declared.kind.TokenPlace.{TokenPlace}
 use Rattle.acap_lexer.specs.Token.{Token}
 
 abbrev pub token_in : List ℕ → TokenPlace → Token
-token_in text m = record { kind = m.kind; value = take (m.value_end - m.value_start) (drop m.value_start text); start = m.start; end = m.end }
+token_in text m =
+    record {
+      kind = m.kind;
+      value = take (m.value_end - m.value_start) (drop m.value_start text);
+      start = m.start;
+      end = m.end;
+    }
 
 abbrev pub tokens_in : List ℕ → List TokenPlace → List Token
 tokens_in text places = map (token_in text) places

@@ -1,8 +1,10 @@
 -- The printed form of a string.
-use Rattle.std.specs.Prelude.{◌≡◌, ℕ, List, [], ◌∷◌, ◌++◌, length, take, Bool, not, nat_le, ◌==◌, ◌||◌, ◌&&◌, if◌then◌else◌, flat_map, decimal}
+use Rattle.std.specs.Prelude.{◌≡◌, ℕ, List, [], ◌∷◌, ◌++◌, length, take, Bool, not, nat_le, ◌==◌, ◌||◌, ◌&&◌}
+use Rattle.std.specs.Prelude.{if◌then◌else◌, flat_map, decimal}
 use Rattle.std.specs.List.{list_all}
 use Rattle.std.specs.Str.{is_utf8}
-use Rattle.acap_lexer.specs.Octets.{is_escaped, backslash, brace, carriage_return, closing_brace, line_feed, quote}
+use Rattle.acap_lexer.specs.Octets.{is_escaped, backslash, brace, carriage_return, closing_brace, line_feed}
+use Rattle.acap_lexer.specs.Octets.{quote}
 
 abbrev pub escape : ℕ → List ℕ
 escape c = if is_escaped c then backslash ∷ c ∷ [] else c ∷ []

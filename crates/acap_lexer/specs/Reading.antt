@@ -1,6 +1,8 @@
 -- What stands at the front of a text that goes up to the CR LF of its part: a value and what is left behind
 -- it, or the first fault from the left. [RFC 2244, 2.2 and 2.6]
-use Rattle.std.specs.Prelude.{◌≡◌, ℕ, ◌+◌, ◌-◌, ◌*◌, List, [], ◌∷◌, ◌++◌, length, take, drop, fold, Bool, true, false, Option, Some, None, Result, Ok, Err, nat_le, ◌==◌, ◌||◌, ◌&&◌, if◌then◌else◌, slice_index, is_none}
+use Rattle.std.specs.Prelude.{◌≡◌, ℕ, ◌+◌, ◌-◌, ◌*◌, List, [], ◌∷◌, ◌++◌, length, take, drop, fold, Bool}
+use Rattle.std.specs.Prelude.{true, false, Option, Some, None, Result, Ok, Err, nat_le, ◌==◌, ◌||◌, ◌&&◌}
+use Rattle.std.specs.Prelude.{if◌then◌else◌, slice_index, is_none}
 use Rattle.std.specs.Borrow.{Bor}
 use Rattle.std.specs.List.{prefix_len}
 use Rattle.acap_lexer.specs.declared.found.Announced.{Announced}
@@ -10,7 +12,8 @@ use Rattle.acap_lexer.specs.declared.fault.LexError.{LexError}
 use Rattle.acap_lexer.specs.declared.fault.LexError.TheVariants as errors
 use Rattle.acap_lexer.specs.declared.kind.Kind.{Kind}
 use Rattle.acap_lexer.specs.declared.kind.Kind.TheVariants as kinds
-use Rattle.acap_lexer.specs.Octets.{is_word, is_tag, is_quotable, is_escaped, is_digit, backslash, brace, closing_brace, closing_parenthesis, parenthesis, plus, quote, space}
+use Rattle.acap_lexer.specs.Octets.{is_word, is_tag, is_quotable, is_escaped, is_digit, backslash, brace}
+use Rattle.acap_lexer.specs.Octets.{closing_brace, closing_parenthesis, parenthesis, plus, quote, space}
 
 infixl 10 ◌>>=◌
 abbrev pub ◌>>=◌ : {A B : Type 0} → Result A LexFault → (A → Result B LexFault) → Result B LexFault
@@ -27,7 +30,8 @@ Gives view (Ok x) read = read ≡ Ok (view x)
 Gives view (Err e) read = Fails e read
 
 -- the same of what a function made beside the octets that it returned as left
-abbrev pub GivesLeft : {Y : Type 0} → Y → Result (Bor (List ℕ)) LexError → Result (Y × List ℕ) LexFault → Type 0
+abbrev pub GivesLeft : {Y : Type 0} → Y → Result (Bor (List ℕ)) LexError → Result (Y × List ℕ) LexFault
+    → Type 0
 GivesLeft made result read = Gives (λ left. (made, left.now)) result read
 
 -- a value, and what is left
@@ -68,7 +72,8 @@ number_of digits = fold (λ n d. 10 * n + (d - 48)) 0 digits
 
 -- one to ten digits of a number up to 4294967295
 unfoldable pub is_count : List ℕ → Bool
-is_count digits = nat_le 1 (length digits) && nat_le (length digits) 10 && nat_le (number_of digits) 4294967295
+is_count digits = nat_le 1 (length digits) && nat_le (length digits) 10
+    && nat_le (number_of digits) 4294967295
 
 -- what closes a mark, and whether the client waits then: `}`, or `+}` where it doesn't
 unfoldable pub closing_of : List ℕ → Option Bool
@@ -91,7 +96,9 @@ announcement None closing = None
 unfoldable pub mark_of : List ℕ → Option Announced
 mark_of [] = None
 mark_of (c ∷ rest) =
-    if c == brace then announcement (count_of (take (prefix_len is_digit rest) rest)) (closing_of (drop (prefix_len is_digit rest) rest)) else None
+    if c == brace
+    then announcement (count_of (take (prefix_len is_digit rest) rest))
+    (closing_of (drop (prefix_len is_digit rest) rest)) else None
 
 -- what an octet that may not stand here is
 unfoldable pub stray : List ℕ → LexFault
@@ -112,13 +119,19 @@ token_at (c ∷ rest) =
     if c == parenthesis then Ok (record { kind = kinds.Open; value = [] }, rest)
     else (if c == closing_parenthesis then Ok (record { kind = kinds.Close; value = [] }, rest)
     else (if c == quote then as_string (string_at rest)
-    else (if is_word c then Ok (record { kind = kinds.Word; value = take (prefix_len is_word (c ∷ rest)) (c ∷ rest) }, drop (prefix_len is_word (c ∷ rest)) (c ∷ rest))
+    else (if is_word c
+    then Ok (
+      record { kind = kinds.Word; value = take (prefix_len is_word (c ∷ rest)) (c ∷ rest) },
+      drop (prefix_len is_word (c ∷ rest)) (c ∷ rest),
+    )
     else Err (stray (c ∷ rest)))))
 
--- the token of a text that begins with no string: its kind, how many octets at the front it stands for, and what is left
+-- the token of a text that begins with no string: its kind,
+-- how many octets at the front it stands for, and what is left
 abbrev pub GivesPlain : List ℕ → Result (Kind × ℕ × Bor (List ℕ)) LexError → Type 0
 GivesPlain text result =
-    (slice_index text 0 ≡ 34 → ⊥) → Gives (λ x. (record { kind = x.0; value = take x.1 text }, x.2.now)) result (token_at text)
+    (slice_index text 0 ≡ 34 → ⊥)
+    → Gives (λ x. (record { kind = x.0; value = take x.1 text }, x.2.now)) result (token_at text)
 
 -- whether the octet may stand directly behind a token of this kind
 unfoldable pub may_touch : Kind → ℕ → Bool
@@ -156,4 +169,5 @@ tag_limit = 32
 unfoldable pub tag_at : List ℕ → Read (List ℕ)
 tag_at part =
     let n = prefix_len is_tag part in
-    if nat_le 1 n && nat_le n tag_limit && ends_tag (drop n part) then Ok (take n part, drop n part) else Err BadTag
+    if nat_le 1 n && nat_le n tag_limit && ends_tag (drop n part) then Ok (take n part, drop n part)
+    else Err BadTag

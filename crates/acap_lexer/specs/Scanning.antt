@@ -1,5 +1,6 @@
 -- How far a scan has read a command.
-use Rattle.std.specs.Prelude.{◌≡◌, ℕ, ◌+◌, ◌-◌, ◌<◌, ◌≤◌, List, ◌++◌, length, drop, Option, Some, None, is_some, Result, IfOk, if◌then◌else◌}
+use Rattle.std.specs.Prelude.{◌≡◌, ℕ, ◌+◌, ◌-◌, ◌<◌, ◌≤◌, List, ◌++◌, length, drop, Option, Some, None}
+use Rattle.std.specs.Prelude.{is_some, Result, IfOk, if◌then◌else◌}
 use Rattle.acap_lexer.specs.declared.found.Announced.{Announced}
 use Rattle.acap_lexer.specs.declared.outcomes.Due.{Due}
 use Rattle.acap_lexer.specs.declared.outcomes.Due.TheVariants as dues
@@ -9,7 +10,8 @@ use Rattle.acap_lexer.specs.declared.scan.Scan.{Scan}
 use Rattle.acap_lexer.specs.declared.outcomes.StageOutcome.{StageOutcome}
 use Rattle.acap_lexer.specs.declared.outcomes.StageOutcome.TheVariants as outcomes
 use Rattle.acap_lexer.specs.Ends.{NoEnd}
-use Rattle.acap_lexer.specs.Stream.{Front, step_by_mark, step_of_part, step_of, Stage, AtPart, InLiteral, Step, Waits, Ends, Goes, progress, progress_from, waiting}
+use Rattle.acap_lexer.specs.Stream.{Front, step_by_mark, step_of_part, step_of, Stage, AtPart, InLiteral}
+use Rattle.acap_lexer.specs.Stream.{Step, Waits, Ends, Goes, progress, progress_from, waiting}
 
 abbrev pub front_of : Scan → Front
 front_of scan = record { tokens = scan.draft.tokens; octets = scan.octets }
@@ -50,11 +52,13 @@ Turns step old new outcomes.Goes = GoesOn step old new
 
 -- a turn at the end of a part that ends in the mark of a literal
 abbrev pub TurnsAtMark : ℕ → ℕ → Announced → Scan → Scan → StageOutcome → Type 0
-TurnsAtMark end start announced old new turn = Turns (step_by_mark end old.draft.tokens (Some (start, announced))) old new turn
+TurnsAtMark end start announced old new turn =
+    Turns (step_by_mark end old.draft.tokens (Some (start, announced))) old new turn
 
 -- a turn at a whole part, unless memory was refused
 abbrev pub ReadsWhole : {E : Type 0} → List ℕ → Scan → Scan → Result StageOutcome E → Type 0
-ReadsWhole part old new result = IfOk result (λ turn. Turns (step_of_part old.mode (front_of old) part) old new turn)
+ReadsWhole part old new result =
+    IfOk result (λ turn. Turns (step_of_part old.mode (front_of old) part) old new turn)
 
 -- a turn at what comes of the stage, unless memory was refused
 abbrev pub Steps : {E : Type 0} → List ℕ → Scan → Scan → Result StageOutcome E → Type 0
@@ -88,13 +92,15 @@ IsNearer text old new outcomes.Goes = turns_left text new < turns_left text old
 
 -- the scan has gone through stages of the command that begins the text, however that goes on
 abbrev pub Reaches : List ℕ → Scan → Type 0
-Reaches text scan = (more : List ℕ) → progress scan.mode (text ++ more) ≡ waiting scan.waits (progress_from scan.mode (stage_of scan) (text ++ more))
+Reaches text scan = (more : List ℕ) → progress scan.mode (text ++ more)
+    ≡ waiting scan.waits (progress_from scan.mode (stage_of scan) (text ++ more))
 
 -- what is due next, when so many continuations have been told
 abbrev pub IsDue : Mode → ℕ → List ℕ → Due → Type 0
 IsDue mode told text dues.Plus = told < (progress mode text).waits
 IsDue mode told text dues.More = ((progress mode text).waits ≤ told) × ((progress mode text).item ≡ None)
-IsDue mode told text (dues.Item lexed n) = ((progress mode text).waits ≤ told) × ((progress mode text).item ≡ Some (lexed, n))
+IsDue mode told text (dues.Item lexed n) =
+    ((progress mode text).waits ≤ told) × ((progress mode text).item ≡ Some (lexed, n))
 
 -- what a scan keeps while a command isn't whole
 abbrev pub KeepsScan : List ℕ → Mode → Scan → Due → Type 0

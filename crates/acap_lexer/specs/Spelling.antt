@@ -1,5 +1,7 @@
--- Which texts stand for the tokens of a line: a line as it is written, from its tokens on. [RFC 2244, 2.2, 2.6 and 2.6.3]
-use Rattle.std.specs.Prelude.{◌≡◌, ℕ, ◌+◌, ◌-◌, ◌*◌, ◌^◌, ◌≤◌, List, [], ◌∷◌, ◌++◌, length, Bool, true, false, not, Option, Some, None, IsTrue, if◌then◌else◌, codes}
+-- Which texts stand for the tokens of a line: a line as it is
+-- written, from its tokens on. [RFC 2244, 2.2, 2.6 and 2.6.3]
+use Rattle.std.specs.Prelude.{◌≡◌, ℕ, ◌+◌, ◌-◌, ◌*◌, ◌^◌, ◌≤◌, List, [], ◌∷◌, ◌++◌, length, Bool, true, false}
+use Rattle.std.specs.Prelude.{not, Option, Some, None, IsTrue, if◌then◌else◌, codes}
 use Rattle.std.specs.List.{AllByRecursion, list_all}
 use Rattle.acap_lexer.specs.declared.kind.Kind.{Kind}
 use Rattle.acap_lexer.specs.declared.kind.Kind.TheVariants as kinds
@@ -9,8 +11,8 @@ use Rattle.acap_lexer.specs.Octets.{is_word, is_tag, is_digit, carriage_return, 
 use Rattle.acap_lexer.specs.Printing.{escaped_form, is_printable, quoted_form}
 use Rattle.acap_lexer.specs.Token.{Token}
 
--- A token behind the tag, as it is written. A literal has the digits of its mark, whether the client waits to be
--- told to go on, and its octets.
+-- A token behind the tag, as it is written. A literal has the digits of
+-- its mark, whether the client waits to be told to go on, and its octets.
 pub data Written : Type 0 where
   Word : List ℕ → Written
   Quoted : List ℕ → Written
@@ -61,8 +63,8 @@ pub record IsCount (digits : List ℕ) (count : ℕ) : Type 0 where
   pub number_is : number digits ≡ count
   pub small : count ≤ 4294967295
 
--- What each may be: a word of word octets, one at least; between quotes any but NUL, CR and LF, 1,024 at most with
--- the backslashes; in a literal any, as many as its mark says.
+-- What each may be: a word of word octets, one at least; between quotes any but NUL, CR and LF, 1,024 at most
+-- with the backslashes; in a literal any, as many as its mark says.
 abbrev pub IsSpelled : Written → Type 0
 IsSpelled (Word octets) = IsTrue (list_all is_word octets) × (1 ≤ length octets)
 IsSpelled (Quoted octets) = IsTrue (list_all is_printable octets) × (length (escaped_form octets) ≤ 1024)
@@ -101,7 +103,8 @@ gap spaced = if spaced then codes " " else []
 
 abbrev pub Stand : Option Kind → List Piece → Type 0
 Stand last [] = Unit {0}
-Stand last (p ∷ ps) = IsTrue (may_follow last p.spaced (kind_of p.written)) × IsSpelled p.written × Stand (Some (kind_of p.written)) ps
+Stand last (p ∷ ps) = IsTrue (may_follow last p.spaced (kind_of p.written)) × IsSpelled p.written
+    × Stand (Some (kind_of p.written)) ps
 
 -- what is written: each token behind its gap, and CR LF at the end
 abbrev pub text_of : List Piece → List ℕ
@@ -114,7 +117,8 @@ token start w = record { kind = kind_of w; value = value_of w; start = start; en
 
 abbrev pub tokens_from : ℕ → List Piece → List Token
 tokens_from at [] = []
-tokens_from at (p ∷ ps) = token (at + length (gap p.spaced)) p.written ∷ tokens_from (at + length (gap p.spaced) + length (own p.written)) ps
+tokens_from at (p ∷ ps) = token (at + length (gap p.spaced)) p.written
+    ∷ tokens_from (at + length (gap p.spaced) + length (own p.written)) ps
 
 -- how many of the literals wait
 abbrev pub wait : Written → ℕ
@@ -125,7 +129,8 @@ abbrev pub waits_of : List Piece → ℕ
 waits_of [] = 0
 waits_of (p ∷ ps) = wait p.written + waits_of ps
 
--- how many octets each part has, which ends at a CR LF outside the literals' octets; the first has some before these
+-- how many octets each part has, which ends at a CR LF outside
+-- the literals' octets; the first has some before these
 abbrev pub lengths_by : (ℕ → List ℕ) → ℕ → Written → List ℕ
 lengths_by go before (Literal digits waits octets) = (before + length (mark digits waits) + 2) ∷ go 0
 lengths_by go before w = go (before + length (own w))

@@ -1,6 +1,7 @@
 -- Which item begins a text, and how many synchronizing literals it follows before. An item is a line with its
 -- tokens, a line with a fault, or a fault after which nothing is read. [RFC 2244, 2.2 and 2.6.3]
-use Rattle.std.specs.Prelude.{ℕ, zero, suc, ◌+◌, List, [], ◌∷◌, ◌++◌, length, take, drop, Option, Some, None, option_map, Result, Ok, Err, nat_lt, ◌==◌, ◌&&◌, if◌then◌else◌, slice_index}
+use Rattle.std.specs.Prelude.{ℕ, zero, suc, ◌+◌, List, [], ◌∷◌, ◌++◌, length, take, drop, Option, Some, None}
+use Rattle.std.specs.Prelude.{option_map, Result, Ok, Err, nat_lt, ◌==◌, ◌&&◌, if◌then◌else◌, slice_index}
 use Rattle.acap_lexer.specs.Octets.{carriage_return, line_feed}
 use Rattle.acap_lexer.specs.declared.found.Announced.{Announced}
 use Rattle.acap_lexer.specs.declared.found.PartEnd.{PartEnd}
@@ -26,7 +27,8 @@ command_limit = 262144
 -- where the first CR LF begins
 unfoldable pub end_of : List ℕ → Option ℕ
 end_of [] = None
-end_of (c ∷ rest) = if c == carriage_return && slice_index rest 0 == line_feed then Some 0 else option_map (λ n. n + 1) (end_of rest)
+end_of (c ∷ rest) = if c == carriage_return && slice_index rest 0 == line_feed then Some 0
+    else option_map (λ n. n + 1) (end_of rest)
 
 -- where a part ends: there, nowhere within the limit, or not yet
 abbrev pub part_end_by : Option ℕ → ℕ → PartEnd
@@ -67,7 +69,8 @@ abbrev pub step_by_mark : ℕ → List Token → Option (ℕ × Announced) → S
 step_by_mark end tokens None = Ends (Line tokens) (end + 2)
 step_by_mark end tokens (Some m) =
     if nat_lt command_limit (end + 2 + m.1.count + 2) then Ends (Fatal CommandTooLong) (end + 2)
-    else Goes (if m.1.waits then 1 else 0) (InLiteral m.0 m.1.count (record { tokens = tokens; octets = end + 2 }))
+    else Goes (if m.1.waits then 1 else 0)
+    (InLiteral m.0 m.1.count (record { tokens = tokens; octets = end + 2 }))
 
 abbrev pub step_by_part : Option (List ℕ) → ℕ → Result Part LexFault → Step
 step_by_part tag end (Err fault) = Ends (Bad fault tag) (end + 2)
@@ -91,11 +94,13 @@ step_by_end mode front text NotYet = Waits
 
 -- the token of a literal with these octets
 abbrev pub literal_token : ℕ → ℕ → Front → List ℕ → Token
-literal_token start count front octets = record { kind = kinds.Literal; value = octets; start = start; end = front.octets + count }
+literal_token start count front octets =
+    record { kind = kinds.Literal; value = octets; start = start; end = front.octets + count }
 
 -- what comes of a stage of the command that begins the text
 unfoldable pub step_of : Mode → Stage → List ℕ → Step
-step_of mode (AtPart front) text = step_by_end mode front (drop front.octets text) (part_end (drop front.octets text))
+step_of mode (AtPart front) text =
+    step_by_end mode front (drop front.octets text) (part_end (drop front.octets text))
 step_of mode (InLiteral start count front) text =
     if nat_lt (length text) (front.octets + count) then Waits
     else Goes 0 (AtPart (record {
@@ -131,7 +136,8 @@ progress_by go (Goes n stage) = waiting n (go stage)
 -- from a stage on; the number bounds the stages
 unfoldable pub progress_within : ℕ → Mode → Stage → List ℕ → Progress
 progress_within zero mode stage text = nothing
-progress_within (suc most) mode stage text = progress_by (λ s. progress_within most mode s text) (step_of mode stage text)
+progress_within (suc most) mode stage text =
+    progress_by (λ s. progress_within most mode s text) (step_of mode stage text)
 
 -- each part has two octets at least, so that these are enough
 unfoldable pub progress_from : Mode → Stage → List ℕ → Progress

@@ -27,10 +27,14 @@ TakesEscaped text (Err e) = Fails e (escaped_at text)
 -- the next token of a part, or the mark that it ends in, whatever is read behind it
 abbrev pub TakesNext : ℕ → List Token → List Token → List ℕ → Result Coming LexError → Type 0
 TakesNext end old new text (Ok (Mark start announced)) =
-    ((go : List Token → List ℕ → Result Part LexFault) → next_at go end old text ≡ Ok (record { tokens = old; mark = Some (start, announced) })) × (new ≡ old)
+    ((go : List Token → List ℕ → Result Part LexFault)
+    → next_at go end old text ≡ Ok (record { tokens = old; mark = Some (start, announced) }))
+    × (new ≡ old)
 TakesNext end old new text (Ok (Rest left)) =
-    ((go : List Token → List ℕ → Result Part LexFault) → next_at go end old text ≡ go new left.now) × (length left.now ≤ length text)
-TakesNext end old new text (Err e) = (go : List Token → List ℕ → Result Part LexFault) → Fails e (next_at go end old text)
+    ((go : List Token → List ℕ → Result Part LexFault) → next_at go end old text ≡ go new left.now)
+    × (length left.now ≤ length text)
+TakesNext end old new text (Err e) =
+    (go : List Token → List ℕ → Result Part LexFault) → Fails e (next_at go end old text)
 
 -- a string without escapes at the front, and what is left behind its closing quote
 pub record IsPlainString (text : List ℕ) (n : ℕ) (left : List ℕ) : Type 0 where

@@ -17,13 +17,18 @@ use Rattle.acap_locked.specs.Shelf.{Shelf}
 abbrev pub with_item : Held → Item → Held
 with_item h item = record h { items = h.items ++ item ∷ [] }
 
--- the pass has one more item, which is the caller's event and moment and the answer's place and reply, and the caller is given it too
+-- the pass has one more item, which is the caller's event and moment
+-- and the answer's place and reply, and the caller is given it too
 pub record Gains (old : Held) (event : Event) (now : ℤ) (answer : Answer) (new : Held) : Type 0 where
-  pub pass : new ≡ with_item (held_in answer.epoch old) (item_of answer.epoch answer.place (call_of event now answer.reply))
+  pub pass : new
+      ≡ with_item (held_in answer.epoch old)
+      (item_of answer.epoch answer.place (call_of event now answer.reply))
   pub kept : answer.kept ≡ Some (item_of answer.epoch answer.place (call_of event now answer.reply))
 
--- exactly one step of the machine before it, which is answered, noted in the history and in the pass, and rung for
-pub record IsCalled (old : Shelf) (held : Held) (event : Event) (now : ℤ) (answer : Answer) (new : Shelf) (left : Held) : Type 0 where
+-- exactly one step of the machine before it, which is
+-- answered, noted in the history and in the pass, and rung for
+pub record IsCalled (old : Shelf) (held : Held) (event : Event) (now : ℤ) (answer : Answer) (new : Shelf)
+    (left : Held) : Type 0 where
   pub below : length old.history < 1000000
   pub step : Stepped old.machine held.seat event now answer.reply new.machine
   pub history : new.history ≡ old.history ++ entry_of held.seat (call_of event now answer.reply) ∷ []
@@ -36,11 +41,14 @@ pub record IsCalled (old : Shelf) (held : Held) (event : Event) (now : ℤ) (ans
 
 -- a new epoch may begin, and then the call is made
 abbrev pub IsServed : Shelf → Held → Event → ℤ → Answer → Shelf → Held → Type 0
-IsServed old held event now answer new left = (mid : Shelf) × Turns old mid × IsCalled mid held event now answer new left
+IsServed old held event now answer new left =
+    (mid : Shelf) × Turns old mid × IsCalled mid held event now answer new left
 
 -- why an event is refused: first of all since the history is full, and else as the machine refuses it
 abbrev pub IsRefused : Shelf → ℕ → Event → ℤ → Fault → Type 0
 IsRefused s seat event now fault.Memory = length s.history < 1000000
-IsRefused s seat event now fault.NotEntered = (length s.history < 1000000) × IsFault (step_of s.machine seat event now) fault.NotEntered
-IsRefused s seat event now fault.AlreadyEntered = (length s.history < 1000000) × IsFault (step_of s.machine seat event now) fault.AlreadyEntered
+IsRefused s seat event now fault.NotEntered =
+    (length s.history < 1000000) × IsFault (step_of s.machine seat event now) fault.NotEntered
+IsRefused s seat event now fault.AlreadyEntered =
+    (length s.history < 1000000) × IsFault (step_of s.machine seat event now) fault.AlreadyEntered
 IsRefused s seat event now fault.HistoryFull = 1000000 ≤ length s.history

@@ -1,5 +1,6 @@
 -- Epochs: when a history is long, a new one begins from the machine that was reached.
-use Rattle.std.specs.Prelude.{◌≡◌, ◌≤◌, ◌<◌, ◌+◌, ◌==◌, ◌⊎◌, ℕ, List, [], ◌∷◌, length, sum, slice_index, slice_set, if◌then◌else◌}
+use Rattle.std.specs.Prelude.{◌≡◌, ◌≤◌, ◌<◌, ◌+◌, ◌==◌, ◌⊎◌, ℕ, List, [], ◌∷◌, length, sum, slice_index}
+use Rattle.std.specs.Prelude.{slice_set, if◌then◌else◌}
 use Rattle.acap_locked.specs.declared.entry.Entry.{Entry}
 use Rattle.acap_locked.specs.declared.held.Held.{Held}
 use Rattle.acap_locked.specs.Shelf.{Shelf}

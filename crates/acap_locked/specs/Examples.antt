@@ -41,9 +41,11 @@ pub record HistoryExamples : Type 0 where
   pub counts : (a b c : Call) → retire (4 ∷ 0 ∷ 1 ∷ []) (three a b c) ≡ 5 ∷ 2 ∷ 1 ∷ []
   pub stands : (a b c : Call) → Stands 2 (three a b c) 5 (pass_of a c)
   pub keeps : (a c : Call) → held_in 2 (pass_of a c) ≡ pass_of a c
-  pub retires : (a c : Call) → held_in 3 (pass_of a c) ≡ record { seat = 1; epoch = 3; items = []; retired = 7 }
+  pub retires : (a c : Call) → held_in 3 (pass_of a c)
+      ≡ record { seat = 1; epoch = 3; items = []; retired = 7 }
   -- a call is legal by the machine that the one before it left
-  pub replays : (base mid machine : Machine) (a b : Call) → Stepped base 1 a.event a.moment a.reply mid → Stepped mid 0 b.event b.moment b.reply machine
+  pub replays : (base mid machine : Machine) (a b : Call) → Stepped base 1 a.event a.moment a.reply mid
+      → Stepped mid 0 b.event b.moment b.reply machine
       → IsReplay base (entry_of 1 a ∷ entry_of 0 b ∷ []) machine
 
 pub record PassExamples : Type 0 where
@@ -52,12 +54,17 @@ pub record PassExamples : Type 0 where
   pub missing : IsMissing (new_pass 2 ∷ new_pass 0 ∷ []) 1
   -- a pass that lacks its seat's only call differs, and so does one that has a call of its own
   pub lacks : (a : Call) → IsUnequal (new_pass 0 ∷ []) 0 (entry_of 0 a ∷ []) (0 ∷ []) 0
-  pub invents : (a : Call) → IsUnequal (record { seat = 0; epoch = 0; items = item_of 0 0 a ∷ []; retired = 0 } ∷ []) 0 [] (0 ∷ []) 0
+  pub invents : (a : Call)
+      → IsUnequal (record { seat = 0; epoch = 0; items = item_of 0 0 a ∷ []; retired = 0 } ∷ []) 0 [] (0 ∷ [])
+      0
 
 pub record EpochExamples : Type 0 where
   pub short : (s : Shelf) → length s.history ≡ 499999 → MayBegin s → ⊥
   pub last : (s : Shelf) → s.epoch ≡ 4611686018427387904 → MayBegin s → ⊥
-  pub begins : (m base : Machine) (a : Call) → next_epoch (shelf_of m (entry_of 1 a ∷ []) 6 3 base (2 ∷ 0 ∷ [])) ≡ shelf_of m [] 6 4 m (2 ∷ 1 ∷ [])
+  pub begins : (m base : Machine) (a : Call)
+      → next_epoch (shelf_of m (entry_of 1 a ∷ []) 6 3 base (2 ∷ 0 ∷ [])) ≡ shelf_of m [] 6 4 m (2 ∷ 1 ∷ [])
   -- a history is full at 1,000,000 calls, and then nothing else is told
-  pub full : (s : Shelf) (seat : ℕ) (e : Event) (now : ℤ) → length s.history ≡ 999999 → IsRefused s seat e now fault.HistoryFull → ⊥
-  pub only : (s : Shelf) (seat : ℕ) (e : Event) (now : ℤ) → length s.history ≡ 1000000 → IsRefused s seat e now fault.NotEntered → ⊥
+  pub full : (s : Shelf) (seat : ℕ) (e : Event) (now : ℤ) → length s.history ≡ 999999
+      → IsRefused s seat e now fault.HistoryFull → ⊥
+  pub only : (s : Shelf) (seat : ℕ) (e : Event) (now : ℤ) → length s.history ≡ 1000000
+      → IsRefused s seat e now fault.NotEntered → ⊥

@@ -6,14 +6,17 @@ use Rattle.acap_locked.specs.declared.entry.Entry.{Entry}
 use Rattle.acap_locked.specs.Epochs.{retire}
 use Rattle.acap_locked.specs.Shelf.{Shelf}
 
--- each call is one step of the machine that the calls before it left, with that reply, and the last machine is this one
+-- each call is one step of the machine that the calls before
+-- it left, with that reply, and the last machine is this one
 abbrev pub IsReplay : Machine → List Entry → Machine → Type 0
 IsReplay base [] machine = machine ≡ base
 IsReplay base (e ∷ es) machine =
-    (mid : Machine) × Stepped base e.seat e.exchange.event e.exchange.moment e.exchange.reply mid × IsReplay mid es machine
+    (mid : Machine) × Stepped base e.seat e.exchange.event e.exchange.moment e.exchange.reply mid
+    × IsReplay mid es machine
 
--- The calls of the epochs before, in their order: they lead from the first machine of all to that with which this epoch began, the
--- counts are how many of them each seat made, and each of those epochs had 500,000 calls to 1,000,000.
+-- The calls of the epochs before, in their order: they lead from the first
+-- machine of all to that with which this epoch began, the counts are how many of
+-- them each seat made, and each of those epochs had 500,000 calls to 1,000,000.
 pub record IsEarlier (first : Machine) (shelf : Shelf) (earlier : List Entry) : Type 0 where
   pub replays : IsReplay first earlier shelf.base
   pub counted : shelf.retired ≡ retire (replicate 64 0) earlier

@@ -15,7 +15,8 @@ step_in e = record { seat = e.seat; event = e.exchange.event; clock = e.exchange
 abbrev pub answer_in : Entry → Result Reply Fault
 answer_in e = Ok e.exchange.reply
 
--- a machine is the replay of a history exactly where the run of its steps answers what it says, and ends in that machine
+-- a machine is the replay of a history exactly where the run
+-- of its steps answers what it says, and ends in that machine
 abbrev pub ReplayLaw : Type 0
 ReplayLaw = (base machine : Machine) (history : List Entry)
     → IsReplay base history machine ↔ (run_of base (map step_in history) ≡ (map answer_in history, machine))

@@ -1,5 +1,6 @@
 -- Passes, and what they say of a history.
-use Rattle.std.specs.Prelude.{◌≡◌, ◌==◌, ◌+◌, ◌<◌, ℕ, zero, suc, List, [], ◌∷◌, ◌++◌, Bool, true, false, if◌then◌else◌, length, slice_index}
+use Rattle.std.specs.Prelude.{◌≡◌, ◌==◌, ◌+◌, ◌<◌, ℕ, zero, suc, List, [], ◌∷◌, ◌++◌, Bool, true, false}
+use Rattle.std.specs.Prelude.{if◌then◌else◌, length, slice_index}
 use Rattle.std.specs.List.{list_any}
 use Rattle.acap_locked.specs.declared.entry.Entry.{Entry}
 use Rattle.acap_locked.specs.declared.held.Held.{Held}
@@ -20,7 +21,8 @@ new_passes (suc n) = new_passes n ++ new_pass n ∷ []
 abbrev pub items_from : ℕ → ℕ → ℕ → List Entry → List Item
 items_from epoch seat place [] = []
 items_from epoch seat place (e ∷ es) =
-    if e.seat == seat then item_of epoch place e.exchange ∷ items_from epoch seat (place + 1) es else items_from epoch seat (place + 1) es
+    if e.seat == seat then item_of epoch place e.exchange ∷ items_from epoch seat (place + 1) es
+    else items_from epoch seat (place + 1) es
 
 -- how many calls were made through a pass, and through all of them
 abbrev pub calls_through : Held → ℕ
@@ -42,20 +44,25 @@ pub record IsMissing (passes : List Held) (seat : ℕ) : Type 0 where
   pub missing : list_any (is_of seat) passes ≡ false
   pub before : HereBelow passes seat
 
--- in the epoch of the history, the pass has exactly its seat's calls, in order, and their count in the epochs before
+-- in the epoch of the history, the pass has exactly its seat's
+-- calls, in order, and their count in the epochs before
 abbrev pub Stands : ℕ → List Entry → ℕ → Held → Type 0
-Stands epoch history count h = ((held_in epoch h).items ≡ items_from epoch h.seat 0 history) × ((held_in epoch h).retired ≡ count)
+Stands epoch history count h =
+    ((held_in epoch h).items ≡ items_from epoch h.seat 0 history) × ((held_in epoch h).retired ≡ count)
 
 -- so does each pass of a seat
 abbrev pub IsSame : List Held → ℕ → List Entry → ℕ → ℕ → Type 0
 IsSame [] epoch history count seat = Unit {0}
-IsSame (h ∷ hs) epoch history count seat = (is_of seat h ≡ true → Stands epoch history count h) × IsSame hs epoch history count seat
+IsSame (h ∷ hs) epoch history count seat =
+    (is_of seat h ≡ true → Stands epoch history count h) × IsSame hs epoch history count seat
 
 -- and that of each of the first seats
-pub record SameBelow (passes : List Held) (epoch : ℕ) (history : List Entry) (retired : List ℕ) (m : ℕ) : Type 0 where
+pub record SameBelow (passes : List Held) (epoch : ℕ) (history : List Entry) (retired : List ℕ)
+    (m : ℕ) : Type 0 where
   pub same : (n : ℕ) → n < m → IsSame passes epoch history (slice_index retired n) n
 
 -- the least seat with a pass that differs
-pub record IsUnequal (passes : List Held) (epoch : ℕ) (history : List Entry) (retired : List ℕ) (seat : ℕ) : Type 0 where
+pub record IsUnequal (passes : List Held) (epoch : ℕ) (history : List Entry) (retired : List ℕ)
+    (seat : ℕ) : Type 0 where
   pub differs : IsSame passes epoch history (slice_index retired seat) seat → ⊥
   pub before : SameBelow passes epoch history retired seat

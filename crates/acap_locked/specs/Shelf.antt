@@ -5,8 +5,8 @@ use Rattle.acap_machine.specs.Machine.{Machine, machine_code, new_machine}
 use Rattle.acap_locked.specs.contracts.entry.Entry as entry
 use Rattle.acap_locked.specs.declared.entry.Entry.{Entry}
 
--- the machine, the calls of this epoch in their order, which seats are rung (a bit for each), the number of the epoch, the
--- machine with which the epoch began, and how many calls each seat made in the epochs before
+-- the machine, the calls of this epoch in their order, which seats are rung (a bit for each), the number of
+-- the epoch, the machine with which the epoch began, and how many calls each seat made in the epochs before
 pub record Shelf : Type 0 where
   pub machine : Machine
   pub history : List Entry
@@ -17,7 +17,14 @@ pub record Shelf : Type 0 where
 
 abbrev pub shelf_of : Machine → List Entry → ℕ → ℕ → Machine → List ℕ → Shelf
 shelf_of machine history flags epoch base retired =
-    record { machine = machine; history = history; flags = flags; epoch = epoch; base = base; retired = retired }
+    record {
+      machine = machine;
+      history = history;
+      flags = flags;
+      epoch = epoch;
+      base = base;
+      retired = retired;
+    }
 
 -- a book without calls
 abbrev pub new_shelf : Machine → Shelf
@@ -31,6 +38,15 @@ no_machine = new_machine (record { administrators = []; groups = [] })
 abbrev pub shelf_code : Coded Shelf
 shelf_code =
     code_by (Machine × (List Entry × (ℕ × (ℕ × (Machine × List ℕ)))))
-    (coded× machine_code (coded× (coded_list entry.the_row.coded) (coded× coded_ℕ (coded× coded_ℕ (coded× machine_code (coded_list coded_ℕ))))))
+    (coded× machine_code
+    (coded× (coded_list entry.the_row.coded)
+    (coded× coded_ℕ (coded× coded_ℕ (coded× machine_code (coded_list coded_ℕ))))))
     (λ s. (s.machine, (s.history, (s.flags, (s.epoch, (s.base, s.retired))))))
-    (λ p. record { machine = p.0; history = p.1.0; flags = p.1.1.0; epoch = p.1.1.1.0; base = p.1.1.1.1.0; retired = p.1.1.1.1.1 }) (λ _. refl)
+    (λ p. record {
+      machine = p.0;
+      history = p.1.0;
+      flags = p.1.1.0;
+      epoch = p.1.1.1.0;
+      base = p.1.1.1.1.0;
+      retired = p.1.1.1.1.1;
+    }) (λ _. refl)

@@ -10,4 +10,5 @@ HasNoParts answer = (name digits : List ℕ) → length digits ≡ 32 → answer
 
 -- whether a name and digits are the answer of a user with a secret
 abbrev pub is_answer_of : List ℕ → List ℕ → List ℕ → List ℕ × Vec ℕ Global → Bool
-is_answer_of challenge name digits user = bytes_eq (name ++ space ∷ digits) (answer_of challenge (user.0, user.1.items))
+is_answer_of challenge name digits user =
+    bytes_eq (name ++ space ∷ digits) (answer_of challenge (user.0, user.1.items))

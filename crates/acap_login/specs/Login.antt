@@ -1,5 +1,6 @@
 -- CRAM-MD5 [RFC 2195 section 2]: the challenge, the answer of a user, and whom an answer logs in.
-use Rattle.std.specs.Prelude.{◌≡◌, ℕ, ◌<◌, ◌==◌, Bool, false, List, [], ◌∷◌, ◌++◌, length, codes, decimal, Option, option_map}
+use Rattle.std.specs.Prelude.{◌≡◌, ℕ, ◌<◌, ◌==◌, Bool, false, List, [], ◌∷◌, ◌++◌, length, codes, decimal}
+use Rattle.std.specs.Prelude.{Option, option_map}
 use Rattle.std.specs.List.{list_all, list_any, position, slice_get, slice_index_or}
 use Rattle.std.specs.Str.{bytes_eq}
 use Rattle.hex.specs.Hex.{encode_lower}
@@ -34,7 +35,8 @@ pub record IsCut (text before behind : List ℕ) : Type 0 where
   pub whole : text ≡ before ++ space ∷ behind
   pub last : list_any is_space behind ≡ false
 
--- an answer to a challenge fits a user: the name stands before its last SP, the digits of the secret stand behind it
+-- an answer to a challenge fits a user: the name stands before
+-- its last SP, the digits of the secret stand behind it
 abbrev pub Fits : List ℕ → List ℕ → User → Type 0
 Fits challenge answer user = IsCut answer user.0 (digest_of user.1 challenge)
 

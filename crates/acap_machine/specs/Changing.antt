@@ -1,4 +1,5 @@
--- What a change of the store makes of a machine, and what is so of machines between two events [RFC 2244 sections 3.1 and 3.3].
+-- What a change of the store makes of a machine, and what is so
+-- of machines between two events [RFC 2244 sections 3.1 and 3.3].
 use Rattle.std.specs.Prelude.{◌≡◌, ℕ, List, Ok}
 use Rattle.acap_entries.specs.Changes.{store_after}
 use Rattle.acap_entries.specs.Sound.{IsSoundStore}
@@ -21,7 +22,8 @@ changed_by change m = record m {
   seats = changed_seats m.realm m.store (store_after change m.store) m.seats;
 }
 
--- the store is sound, and each live context keeps the list that a search finds now, to which the notices that wait lead
+-- the store is sound, and each live context keeps the list
+-- that a search finds now, to which the notices that wait lead
 pub record IsSound (m : Machine) : Type 0 where
   pub store : IsSoundStore m.store.records
   pub current : IsCurrent m.store m.realm m.seats
@@ -31,7 +33,9 @@ pub record IsKept (m : Machine) (links : List Link) : Type 0 where
   pub sound : IsSound m
   pub index : IsIndexOf m.store.records links
 
--- the context that a search makes which found these matches: where there is a place for it, all live contexts are current with it
+-- the context that a search makes which found these matches: where
+-- there is a place for it, all live contexts are current with it
 abbrev pub IsOpenable : Machine → ℕ → MakeContext → SearchSpec → List Match → Type 0
 IsOpenable m seat make sought found =
-    (new : Seated) → with_context m.seats seat make sought found m.store.last ≡ Ok new → IsCurrent m.store m.realm new
+    (new : Seated) → with_context m.seats seat make sought found m.store.last ≡ Ok new
+    → IsCurrent m.store m.realm new

@@ -1,5 +1,6 @@
 -- What the client of a context holds, by what its own session is told [RFC 2244 sections 3.3, 6.4.1 and 6.5].
-use Rattle.std.specs.Prelude.{◌≡◌, ℕ, ◌==◌, ℤ, Bool, true, false, ◌&&◌, is_some, is_none, List, ◌∷◌, ◌++◌, Option, Some, None, Ok, if◌then◌else◌}
+use Rattle.std.specs.Prelude.{◌≡◌, ℕ, ◌==◌, ℤ, Bool, true, false, ◌&&◌, is_some, is_none, List, ◌∷◌, ◌++◌}
+use Rattle.std.specs.Prelude.{Option, Some, None, Ok, if◌then◌else◌}
 use Rattle.std.specs.FinMap as table
 use Rattle.std.specs.Option.{option_map, option_and_then}
 use Rattle.acap_entries.specs.Orders.{octets_eq}
@@ -53,16 +54,19 @@ makes_named name (Some make) = octets_eq name make.name
 abbrev pub makes : List ℕ → Search → Bool
 makes name search = makes_named name (made_over search.target search.modifiers.make_context)
 
--- the client of a context that is made begins with the rows that are told, if these are all: in their order with ENUMERATE, by
--- name without
+-- the client of a context that is made begins with the rows that are
+-- told, if these are all: in their order with ENUMERATE, by name without
 abbrev pub begun_with : Search → SearchReply → Option MakeContext → Client
 begun_with search found None = None
-begun_with search found (Some make) = if is_told_whole search found then Some (holding make.enumerate found.rows) else None
+begun_with search found (Some make) =
+    if is_told_whole search found then Some (holding make.enumerate found.rows) else None
 
 abbrev pub searched_on : List ℕ → Search → SearchReply → Client → Client
-searched_on name search found held = if makes name search then begun_with search found search.modifiers.make_context else held
+searched_on name search found held =
+    if makes name search then begun_with search found search.modifiers.make_context else held
 
--- of what an UPDATECONTEXT or a drain tells, the notices of that context, one after the other; one that misfits ends it
+-- of what an UPDATECONTEXT or a drain tells, the notices of
+-- that context, one after the other; one that misfits ends it
 abbrev pub client_after_tolds : List ℕ → List Told → Client → Client
 client_after_tolds name tolds held = option_and_then (λ h. holding_after_all h (notices_for name tolds)) held
 
@@ -79,7 +83,8 @@ client_after name e other held = held
 
 -- whether the list of the SEARCH that made the context last was told whole; of misfits nothing is said
 abbrev pub whole_over : List ℕ → Event → SearchReply → Bool → Bool
-whole_over name (event.Command (command.Search search)) found whole = if makes name search then is_told_whole search found else whole
+whole_over name (event.Command (command.Search search)) found whole =
+    if makes name search then is_told_whole search found else whole
 whole_over name other found whole = whole
 
 abbrev pub whole_after : List ℕ → Event → Said → Bool → Bool
@@ -132,25 +137,30 @@ IsFresh m seat x = fresh_for m seat x.0 ≡ Some x.1.1
 
 -- ---- the law
 
--- Each event keeps that so, at its own seat and at every other; and where the client is told all, the rows that it holds are those
--- that a search finds then. That is so at each MODTIME of the context too, for the client that has read as far as that. Who leaves has
--- no context
+-- Each event keeps that so, at its own seat and at every other; and where the client is told all, the rows
+-- that it holds are those that a search finds then. That is so at each MODTIME of the context too, for the
+-- client that has read as far as that. Who leaves has no context
 pub record HeldLaw : Type 0 where
   pub own : (m : Machine) (seat : ℕ) (e : Event) (clock : ℤ) (reply : Reply) (new : Machine)
       → (name : List ℕ) (whole : Bool) (held : Client)
-      → step_of m seat e clock ≡ Ok (reply, new) → IsCurrentMachine m → IsHeld (live_at m seat name) whole held
-      → IsHeld (live_at new seat name) (whole_after name e reply.said whole) (client_after name e reply.said held)
+      → step_of m seat e clock ≡ Ok (reply, new) → IsCurrentMachine m
+      → IsHeld (live_at m seat name) whole held
+      → IsHeld (live_at new seat name) (whole_after name e reply.said whole)
+      (client_after name e reply.said held)
   pub others : (m : Machine) (seat : ℕ) (e : Event) (clock : ℤ) (reply : Reply) (new : Machine)
       → (other : ℕ) (name : List ℕ) (whole : Bool) (held : Client)
       → step_of m seat e clock ≡ Ok (reply, new) → (other == seat) ≡ false
       → IsHeld (live_at m other name) whole held → IsHeld (live_at new other name) whole held
-  pub told : (m : Machine) (seat : ℕ) (e : Event) (clock : ℤ) (reply : Reply) (new : Machine) (name : List ℕ) (x : View)
+  pub told : (m : Machine) (seat : ℕ) (e : Event) (clock : ℤ) (reply : Reply) (new : Machine) (name : List ℕ)
+      (x : View)
       → step_of m seat e clock ≡ Ok (reply, new) → IsCurrentMachine m → tells name e reply.said ≡ true
       → live_at new seat name ≡ Some x → IsFresh new seat x
   pub modtimes : (m : Machine) (seat : ℕ) (names : List (List ℕ)) (clock : ℤ) (reply : Reply) (new : Machine)
       → (name : List ℕ) (whole : Bool) (held : Client) (front back : List Told) (moment : ℤ)
-      → step_of m seat (event.Command (command.UpdateContext names)) clock ≡ Ok (reply, new) → IsCurrentMachine m
-      → IsHeld (live_at m seat name) whole held → reply.said ≡ said.Updated (front ++ told_as.Upto name moment ∷ back)
+      → step_of m seat (event.Command (command.UpdateContext names)) clock ≡ Ok (reply, new)
+      → IsCurrentMachine m
+      → IsHeld (live_at m seat name) whole held
+      → reply.said ≡ said.Updated (front ++ told_as.Upto name moment ∷ back)
       → (x : View) → live_at new seat name ≡ Some x → whole ≡ true
       → (client_after_tolds name front held ≡ with_rows x) × IsFresh new seat x
   pub left : (m : Machine) (seat : ℕ) (clock : ℤ) (reply : Reply) (new : Machine) (name : List ℕ)
@@ -164,10 +174,13 @@ pub record IsSeenAlike (m : Machine) (seat : ℕ) (n : Machine) (other : ℕ) (s
   pub two : Occupant
   pub sits : table.get m.seats seat ≡ Some one
   pub other_sits : table.get n.seats other ≡ Some two
-  pub same : IsSameSight (sight_for m.realm m.store one.user sought) (sight_for n.realm n.store two.user sought)
+  pub same : IsSameSight (sight_for m.realm m.store one.user sought)
+      (sight_for n.realm n.store two.user sought)
 
--- then clients who are told all of such a search, with positions both or neither, hold the same rows in the same places
+-- then clients who are told all of such a search, with positions
+-- both or neither, hold the same rows in the same places
 abbrev pub SeenLaw : Type 0
 SeenLaw =
-    (m n : Machine) (seat other : ℕ) (x y : View) → IsFresh m seat x → IsFresh n other y → x.0 ≡ y.0 → x.1.0 ≡ y.1.0
+    (m n : Machine) (seat other : ℕ) (x y : View) → IsFresh m seat x → IsFresh n other y → x.0 ≡ y.0
+    → x.1.0 ≡ y.1.0
     → IsSeenAlike m seat n other x.0 → with_rows x ≡ with_rows y

@@ -1,5 +1,5 @@
--- Live contexts over all that happens: each keeps what a search finds now, and the notices that wait lead a client there
--- [RFC 2244 section 3.3].
+-- Live contexts over all that happens: each keeps what a search finds now,
+-- and the notices that wait lead a client there [RFC 2244 section 3.3].
 use Rattle.std.specs.Prelude.{◌≡◌, ℕ, ℤ, Bool, true, List, Some, Ok}
 use Rattle.std.specs.List.{list_all}
 use Rattle.std.specs.Option.{option_map_or}
@@ -21,10 +21,12 @@ use Rattle.acap_views.specs.Contexts.{Context}
 use Rattle.acap_views.specs.Current.{IsCurrentContext}
 use Rattle.acap_views.specs.Seats.{Occupant}
 
--- the user has a name, and the paths that a command writes are well formed: so it is of each event that there is in memory
+-- the user has a name, and the paths that a command writes are
+-- well formed: so it is of each event that there is in memory
 abbrev pub is_named : Event → Bool
 is_named (event.Enter user) = is_user_name user
-is_named (event.Command c) = option_map_or (λ write. list_all is_well_formed (paths_named write)) (write_of c) true
+is_named (event.Command c) =
+    option_map_or (λ write. list_all is_well_formed (paths_named write)) (write_of c) true
 is_named event.Drain = true
 is_named event.Leave = true
 
@@ -37,9 +39,11 @@ pub record IsCurrentMachine (m : Machine) : Type 0 where
 pub record CurrentLaw : Type 0 where
   pub begins : (realm : Realm) → IsCurrentMachine (new_machine realm)
   pub stays : (m : Machine) (seat : ℕ) (e : Event) (clock : ℤ) (reply : Reply) (new : Machine)
-      → step_of m seat e clock ≡ Ok (reply, new) → is_named e ≡ true → IsCurrentMachine m → IsCurrentMachine new
+      → step_of m seat e clock ≡ Ok (reply, new) → is_named e ≡ true → IsCurrentMachine m
+      → IsCurrentMachine new
 
--- so after every list of steps: what each live context keeps is what a search finds in the machine of that moment
+-- so after every list of steps: what each live context keeps
+-- is what a search finds in the machine of that moment
 abbrev pub FollowedLaw : Type 0
 FollowedLaw =
     (realm : Realm) (steps : List Step) → list_all (λ s. is_named s.event) steps ≡ true

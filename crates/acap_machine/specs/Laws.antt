@@ -17,11 +17,12 @@ use Rattle.acap_store.specs.declared.write.Write.{Write}
 
 -- a refused event leaves the machine as it was, whichever event it is
 abbrev pub RefusedLaw : Type 0
-RefusedLaw = (m : Machine) (seat : ℕ) (e : Event) (clock : ℤ) (reply : Reply) (new : Machine) (refusal : Refusal) →
+RefusedLaw = (m : Machine) (seat : ℕ) (e : Event) (clock : ℤ) (reply : Reply) (new : Machine)
+    (refusal : Refusal) →
     step_of m seat e clock ≡ Ok (reply, new) → reply.said ≡ said.Refused refusal → new ≡ m
 
--- the change that an event made of the store: one that the user of its seat asked for, by a command that writes. All contexts follow
--- it, and it is later than the one before it, whatever the clock
+-- the change that an event made of the store: one that the user of its seat asked for, by a command that
+-- writes. All contexts follow it, and it is later than the one before it, whatever the clock
 pub record IsChange (m : Machine) (seat : ℕ) (e : Event) (clock : ℤ) (new : Machine) : Type 0 where
   pub user : List ℕ
   pub asks : Command
@@ -34,8 +35,8 @@ pub record IsChange (m : Machine) (seat : ℕ) (e : Event) (clock : ℤ) (new : 
   pub made : new ≡ changed_by change m
   pub later : int_lt m.store.last new.store.last ≡ true
 
--- what an event does elsewhere: where it changes the store all contexts follow that; else the store stays, and what stands at
--- every other seat
+-- what an event does elsewhere: where it changes the store all contexts
+-- follow that; else the store stays, and what stands at every other seat
 pub record OthersStay (m : Machine) (seat : ℕ) (new : Machine) : Type 0 where
   pub store : new.store ≡ m.store
   pub seats : (other : ℕ) → (other == seat) ≡ false → table.get new.seats other ≡ table.get m.seats other
@@ -45,10 +46,11 @@ pub record OthersLaw : Type 0 where
   pub realm : (m : Machine) (seat : ℕ) (e : Event) (clock : ℤ) (reply : Reply) (new : Machine) →
       step_of m seat e clock ≡ Ok (reply, new) → new.realm ≡ m.realm
   pub users : (m : Machine) (seat : ℕ) (e : Event) (clock : ℤ) (reply : Reply) (new : Machine) →
-      step_of m seat e clock ≡ Ok (reply, new) → (other : ℕ) → (other == seat) ≡ false → user_at new other ≡ user_at m other
+      step_of m seat e clock ≡ Ok (reply, new) → (other : ℕ) → (other == seat) ≡ false
+      → user_at new other ≡ user_at m other
 
--- an event makes a change of the store that a command of its seat asks for, and contexts follow it; or the store stays, and at other
--- seats nothing changes
+-- an event makes a change of the store that a command of its seat asks for, and contexts follow it; or the
+-- store stays, and at other seats nothing changes
 abbrev pub ChangeLaw : Type 0
 ChangeLaw = (m : Machine) (seat : ℕ) (e : Event) (clock : ℤ) (reply : Reply) (new : Machine) →
     step_of m seat e clock ≡ Ok (reply, new) → IsChange m seat e clock new ⊎ OthersStay m seat new

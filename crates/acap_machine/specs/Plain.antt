@@ -1,6 +1,8 @@
--- The machine without any list that is kept beside: of a context there is what its client was told and what waits, and a search is made
--- anew wherever its matches are needed [RFC 2244 sections 2, 3.3, 6.4.1 and 6.5].
-use Rattle.std.specs.Prelude.{◌≡◌, ℕ, ℤ, ◌+◌, Bool, true, false, ◌&&◌, not, nat_le, nat_lt, if◌then◌else◌, List, [], ◌∷◌, ◌++◌, length, Option, Some, None, Result, Ok, Err, flat_map, map as each}
+-- The machine without any list that is kept beside: of a context there is what its client was told and what
+-- waits, and a search is made anew wherever its matches are needed [RFC 2244 sections 2, 3.3, 6.4.1 and 6.5].
+use Rattle.std.specs.Prelude.{◌≡◌, ℕ, ℤ, ◌+◌, Bool, true, false, ◌&&◌, not, nat_le, nat_lt, if◌then◌else◌}
+use Rattle.std.specs.Prelude.{List, [], ◌∷◌, ◌++◌, length, Option, Some, None, Result, Ok, Err, flat_map}
+use Rattle.std.specs.Prelude.{map as each}
 use Rattle.std.specs.List.{list_all}
 use Rattle.std.specs.Option.{option_map_or, option_or}
 use Rattle.std.specs.Ordering.{nat_cmp}
@@ -98,7 +100,8 @@ contexts_at seats seat = option_map_or (λ o. o.contexts) (table.get seats seat)
 
 abbrev pub with_contexts : PlainMachine → ℕ → Contexts → PlainMachine
 with_contexts m seat contexts = record m {
-  seats = option_map_or (λ o. table.insert m.seats seat (record o { contexts = contexts })) (table.get m.seats seat) m.seats;
+  seats = option_map_or (λ o. table.insert m.seats seat (record o { contexts = contexts }))
+      (table.get m.seats seat) m.seats;
 }
 
 -- ---- a change of the store: its notices wait behind the others, or the context is freed
@@ -106,12 +109,15 @@ with_contexts m seat contexts = record m {
 abbrev pub follows : List Notice → Kept → Kept
 follows notices (Snapshot shown) = Snapshot shown
 follows notices (Notified shown pending) =
-    if nat_lt most_waiting (length pending + length notices) then Freed else Notified shown (pending ++ notices)
+    if nat_lt most_waiting (length pending + length notices) then Freed
+    else Notified shown (pending ++ notices)
 follows notices Freed = Freed
 
 abbrev pub follows_in : Realm → Store → Store → List ℕ → Context → Context
 follows_in realm old new user c = record c {
-  kept = follows (event_notices c.enumerated c.sought (sight_for realm old user c.sought) (sight_for realm new user c.sought)) c.kept;
+  kept = follows
+      (event_notices c.enumerated c.sought (sight_for realm old user c.sought)
+      (sight_for realm new user c.sought)) c.kept;
 }
 
 abbrev pub follows_for : Realm → Store → Store → Occupant → Occupant
@@ -133,7 +139,8 @@ fault_in Freed = Some view.FreedContext
 abbrev pub fault_of : Contexts → List (List ℕ) → Option ViewRefusal
 fault_of contexts [] = None
 fault_of contexts (name ∷ names) =
-    option_or (option_map_or (λ c. fault_in c.kept) (table.get contexts name) (Some view.NoContext)) (fault_of contexts names)
+    option_or (option_map_or (λ c. fault_in c.kept) (table.get contexts name) (Some view.NoContext))
+    (fault_of contexts names)
 
 abbrev pub pending_in : Kept → List Notice
 pending_in (Snapshot shown) = []
@@ -150,15 +157,18 @@ told_all m user c = record c { kept = told_kept (matches_of m.store.records m.re
 
 abbrev pub updated_one : PlainMachine → List ℕ → Contexts → List ℕ → Contexts
 updated_one m user contexts name =
-    option_map_or (λ c. table.insert contexts name (record (told_all m user c) { told = m.store.last })) (table.get contexts name) contexts
+    option_map_or (λ c. table.insert contexts name (record (told_all m user c) { told = m.store.last }))
+    (table.get contexts name) contexts
 
 abbrev pub tolds_of_one : PlainMachine → Contexts → List ℕ → List Told
 tolds_of_one m contexts name =
-    option_map_or (λ c. each (told.Note name) (pending_in c.kept)) (table.get contexts name) [] ++ told.Upto name m.store.last ∷ []
+    option_map_or (λ c. each (told.Note name) (pending_in c.kept)) (table.get contexts name) []
+    ++ told.Upto name m.store.last ∷ []
 
 abbrev pub tolds_of : PlainMachine → List ℕ → Contexts → List (List ℕ) → List Told
 tolds_of m user contexts [] = []
-tolds_of m user contexts (name ∷ names) = tolds_of_one m contexts name ++ tolds_of m user (updated_one m user contexts name) names
+tolds_of m user contexts (name ∷ names) =
+    tolds_of_one m contexts name ++ tolds_of m user (updated_one m user contexts name) names
 
 abbrev pub updated_all : PlainMachine → List ℕ → Contexts → List (List ℕ) → Contexts
 updated_all m user contexts [] = contexts
@@ -166,8 +176,10 @@ updated_all m user contexts (name ∷ names) = updated_all m user (updated_one m
 
 abbrev pub updated_or : PlainMachine → ℕ → List ℕ → List (List ℕ) → Option ViewRefusal → Said × PlainMachine
 updated_or m seat user names (Some why) = (said.Refused (view_refused_as why), m)
-updated_or m seat user names None =
-    (said.Updated (tolds_of m user (contexts_at m.seats seat) names), with_contexts m seat (updated_all m user (contexts_at m.seats seat) names))
+updated_or m seat user names None = (
+  said.Updated (tolds_of m user (contexts_at m.seats seat) names),
+  with_contexts m seat (updated_all m user (contexts_at m.seats seat) names),
+)
 
 -- ---- a drain
 
@@ -196,20 +208,29 @@ kept_of false found = Snapshot found
 abbrev pub is_full : Contexts → List ℕ → Bool
 is_full contexts name = not (table.contains_key contexts name) && nat_le most_contexts (table.len contexts)
 
-abbrev pub kept_if : PlainMachine → ℕ → Option MakeContext → SearchSpec → List Match → Said → Said × PlainMachine
+abbrev pub kept_if : PlainMachine → ℕ → Option MakeContext → SearchSpec → List Match → Said
+    → Said × PlainMachine
 kept_if m seat None sought matches words = (words, m)
 kept_if m seat (Some make) sought matches words =
     if is_full (contexts_at m.seats seat) make.name then (said.Refused refusals.TryFreeContext, m)
     else (
       words,
       with_contexts m seat (table.insert (contexts_at m.seats seat) make.name
-          (record { sought = sought; enumerated = make.enumerate; told = m.store.last; kept = kept_of make.notify matches })),
+          (record {
+            sought = sought;
+            enumerated = make.enumerate;
+            told = m.store.last;
+            kept = kept_of make.notify matches;
+          })),
     )
 
-abbrev pub found_or : PlainMachine → ℕ → SearchRequest → Option SearchRefusal → List Match → Said × PlainMachine
-found_or m seat asked (Some refusal) matches = (said.Refused (refused_as asked.query.sought.dataset refusal), m)
+abbrev pub found_or : PlainMachine → ℕ → SearchRequest → Option SearchRefusal → List Match
+    → Said × PlainMachine
+found_or m seat asked (Some refusal) matches =
+    (said.Refused (refused_as asked.query.sought.dataset refusal), m)
 found_or m seat asked None matches =
-    kept_if m seat asked.make_context asked.query.sought matches (said.Searched (found_of m.store.last asked.query.sought asked.limit matches))
+    kept_if m seat asked.make_context asked.query.sought matches
+    (said.Searched (found_of m.store.last asked.query.sought asked.limit matches))
 
 abbrev pub ranged_as : Context → List Match → Ranged
 ranged_as c shown = record { sought = c.sought; enumerated = c.enumerated; told = c.told; shown = shown }
@@ -226,9 +247,13 @@ ranged_of (Some c) = ranged_in c c.kept
 abbrev pub search_answer : PlainMachine → ℕ → List ℕ → Target → SearchModifiers → Wanted → Said × PlainMachine
 search_answer m seat user (target.Dataset dataset) modifiers key =
     let asked = asked_of user dataset modifiers key in
-    found_or m seat asked (refusal_of m.store.records m.realm user asked.query) (matches_of m.store.records m.realm user asked.query.sought)
-search_answer m seat user (target.Context name) modifiers key =
-    (searched_within m.store m.realm user (ranged_of (table.get (contexts_at m.seats seat) name)) modifiers key, m)
+    found_or m seat asked (refusal_of m.store.records m.realm user asked.query)
+    (matches_of m.store.records m.realm user asked.query.sought)
+search_answer m seat user (target.Context name) modifiers key = (
+  searched_within m.store m.realm user (ranged_of (table.get (contexts_at m.seats seat) name)) modifiers
+      key,
+  m,
+)
 
 -- ---- commands, and events
 
@@ -240,29 +265,38 @@ unfoldable pub answer_to : PlainMachine → ℕ → List ℕ → Command → ℤ
 answer_to m seat user command.Noop clock = (said.Done verb.Noop, m)
 answer_to m seat user command.Logout clock = (said.GoodBye, m)
 answer_to m seat user (command.Authenticate mechanism) clock = (said.Refused refusals.LoggedIn, m)
-answer_to m seat user (command.Store entries) clock = write_answer m verb.Store (plan m.store m.realm user (write.Store entries) clock)
-answer_to m seat user (command.Search search) clock = search_answer m seat user search.target search.modifiers search.key
+answer_to m seat user (command.Store entries) clock =
+    write_answer m verb.Store (plan m.store m.realm user (write.Store entries) clock)
+answer_to m seat user (command.Search search) clock =
+    search_answer m seat user search.target search.modifiers search.key
 answer_to m seat user (command.SetAcl object identifier letters) clock =
     write_answer m verb.SetAcl (plan m.store m.realm user (write.SetAcl object identifier letters) clock)
 answer_to m seat user (command.DeleteAcl object identifier) clock =
     write_answer m verb.DeleteAcl (plan m.store m.realm user (write.DeleteAcl object identifier) clock)
 answer_to m seat user (command.MyRights object) clock =
     (said.Rights (letters_of (rights_of m.store.records m.realm user (target_for user object))), m)
-answer_to m seat user (command.ListRights object identifier) clock =
-    (said.RightsList (rights_list (implicit_rights m.realm identifier (dataset_in (target_for user object)))), m)
-answer_to m seat user (command.DeletedSince dataset since) clock = (names_or (deleted_since m.store m.realm user dataset since), m)
+answer_to m seat user (command.ListRights object identifier) clock = (
+  said.RightsList (rights_list (implicit_rights m.realm identifier (dataset_in (target_for user object)))),
+  m,
+)
+answer_to m seat user (command.DeletedSince dataset since) clock =
+    (names_or (deleted_since m.store m.realm user dataset since), m)
 answer_to m seat user (command.FreeContext name) clock =
     if table.contains_key (contexts_at m.seats seat) name
     then (said.Done verb.FreeContext, with_contexts m seat (table.remove (contexts_at m.seats seat) name))
     else (said.Refused refusals.NoContext, m)
-answer_to m seat user (command.UpdateContext names) clock = updated_or m seat user names (fault_of (contexts_at m.seats seat) names)
+answer_to m seat user (command.UpdateContext names) clock =
+    updated_or m seat user names (fault_of (contexts_at m.seats seat) names)
 
 abbrev pub reply_of : Said × PlainMachine → Reply × PlainMachine
 reply_of answer = (plain answer.0, answer.1)
 
 abbrev pub enter_answer : PlainMachine → ℕ → List ℕ → Option Occupant → Result (Reply × PlainMachine) Fault
 enter_answer m seat user None =
-    Ok (plain said.Greeting, record m { seats = table.insert m.seats seat (record { user = user; contexts = table.empty }) })
+    Ok (
+      plain said.Greeting,
+      record m { seats = table.insert m.seats seat (record { user = user; contexts = table.empty }) },
+    )
 enter_answer m seat user (Some other) = Err fault.AlreadyEntered
 
 abbrev pub by_user : Option Occupant → (List ℕ → Reply × PlainMachine) → Result (Reply × PlainMachine) Fault
@@ -270,9 +304,12 @@ by_user occupant does = option_map_or (λ o. Ok (does o.user)) occupant (Err fau
 
 abbrev pub plain_step : PlainMachine → ℕ → Event → ℤ → Result (Reply × PlainMachine) Fault
 plain_step m seat (event.Enter user) clock = enter_answer m seat user (table.get m.seats seat)
-plain_step m seat (event.Command c) clock = by_user (table.get m.seats seat) (λ user. reply_of (answer_to m seat user c clock))
+plain_step m seat (event.Command c) clock =
+    by_user (table.get m.seats seat) (λ user. reply_of (answer_to m seat user c clock))
 plain_step m seat event.Drain clock = by_user (table.get m.seats seat) (λ user. drain_answer m seat user)
-plain_step m seat event.Leave clock = by_user (table.get m.seats seat) (λ user. (plain said.Left, record m { seats = table.remove m.seats seat }))
+plain_step m seat event.Leave clock =
+    by_user (table.get m.seats seat)
+    (λ user. (plain said.Left, record m { seats = table.remove m.seats seat }))
 
 -- ---- whole runs
 
@@ -299,7 +336,8 @@ forgotten_kept (live.Live shown present pending) = Notified shown pending
 forgotten_kept live.Freed = Freed
 
 abbrev pub forgotten_context : live.Context → Context
-forgotten_context c = record { sought = c.sought; enumerated = c.enumerated; told = c.told; kept = forgotten_kept c.kept }
+forgotten_context c =
+    record { sought = c.sought; enumerated = c.enumerated; told = c.told; kept = forgotten_kept c.kept }
 
 abbrev pub forgotten_occupant : live_seats.Occupant → Occupant
 forgotten_occupant o = record { user = o.user; contexts = each_value forgotten_context o.contexts }
@@ -310,4 +348,5 @@ forgotten m = record { realm = m.realm; store = m.store; seats = each_value forg
 -- for every list of steps it answers the same, and it is that machine with the present lists forgotten
 abbrev pub PlainLaw : Type 0
 PlainLaw = (realm : Realm) (steps : List Step) → list_all (λ s. is_named s.event) steps ≡ true
-    → plain_run (new_plain realm) steps ≡ ((run_of (new_machine realm) steps).0, forgotten (run_of (new_machine realm) steps).1)
+    → plain_run (new_plain realm) steps
+    ≡ ((run_of (new_machine realm) steps).0, forgotten (run_of (new_machine realm) steps).1)

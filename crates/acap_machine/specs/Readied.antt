@@ -39,9 +39,11 @@ pending_of seat deed reply work = record { seat = seat; deed = deed; reply = rep
 abbrev pub after_deed : Effect → ℕ → Machine → Machine
 after_deed deed.Nothing seat m = m
 after_deed (deed.Enters user) seat m = record m { seats = with_user m.seats seat user }
-after_deed (deed.Changes change links delta) seat m = record m { store = store_after change m.store; seats = with_delta delta m.seats }
+after_deed (deed.Changes change links delta) seat m =
+    record m { store = store_after change m.store; seats = with_delta delta m.seats }
 after_deed (deed.Makes new) seat m = record m { seats = with_context m.seats seat new }
-after_deed (deed.Frees name) seat m = record m { seats = with_contexts m.seats seat (table.remove (contexts_at m.seats seat) name) }
+after_deed (deed.Frees name) seat m =
+    record m { seats = with_contexts m.seats seat (table.remove (contexts_at m.seats seat) name) }
 after_deed (deed.Tells names last) seat m =
     record m { seats = with_contexts m.seats seat (after_updates (contexts_at m.seats seat) names last) }
 after_deed deed.Drains seat m = record m { seats = (drain_of m.seats seat).1 }
@@ -74,13 +76,16 @@ HasRoom deed.Leaves seat kept = Unit {0}
 abbrev pub StaysKept : Effect → ℕ → Roomed → Type 0
 StaysKept deed seat state = IsKept (after_deed deed seat state.machine) (links_after deed state.kept.index.0)
 
--- the state is one for which it was made ready: there is room, and what is so of machines between two events is so afterwards
+-- the state is one for which it was made ready: there is room,
+-- and what is so of machines between two events is so afterwards
 pub record IsReadied (pending : Pending) (state : Roomed) : Type 0 where
   pub room : HasRoom pending.deed pending.seat state.kept
   pub sound : StaysKept pending.deed pending.seat state
 
--- it was made ready of a step: that is what the step says and leaves, and the state is one for which it is ready
-pub record IsReady (old : Roomed) (stepped : Result (Reply × Machine) Fault) (pending : Pending) (new : Roomed) : Type 0 where
+-- it was made ready of a step: that is what the step says
+-- and leaves, and the state is one for which it is ready
+pub record IsReady (old : Roomed) (stepped : Result (Reply × Machine) Fault) (pending : Pending)
+    (new : Roomed) : Type 0 where
   pub step : stepped ≡ Ok (pending.reply, after_deed pending.deed pending.seat old.machine)
   pub readied : IsReadied pending new
 
@@ -98,7 +103,8 @@ abbrev pub IsIndexReady : Change → Roomed → List Link × List Link → Type 
 IsIndexReady change old prepared = IsPrepared change old.machine.store old.kept.index.0 prepared
 
 abbrev pub AreViewsReady : Change → Roomed → Prepared → Type 0
-AreViewsReady change old delta = IsPreparedFor change old.machine.store old.machine.realm old.machine.seats delta
+AreViewsReady change old delta =
+    IsPreparedFor change old.machine.store old.machine.realm old.machine.seats delta
 
 -- how far a counter rose meanwhile: so far as is told, and at most so far
 abbrev pub IsWork : Result Pending Fault → ℕ → ℕ → ℕ → Type 0
@@ -108,5 +114,7 @@ IsWork (Err fault) old new most = (old ≤ new) × (new ≤ old + most)
 -- how they are told apart in proofs
 abbrev pub pending_code : Coded Pending
 pending_code =
-    code_by (ℕ × (Effect × (Reply × ℕ))) (coded× coded_ℕ (coded× deeds.the_row.coded (coded× reply.the_row.coded coded_ℕ)))
-    (λ p. (p.seat, (p.deed, (p.reply, p.work)))) (λ q. record { seat = q.0; deed = q.1.0; reply = q.1.1.0; work = q.1.1.1 }) (λ _. refl)
+    code_by (ℕ × (Effect × (Reply × ℕ)))
+    (coded× coded_ℕ (coded× deeds.the_row.coded (coded× reply.the_row.coded coded_ℕ)))
+    (λ p. (p.seat, (p.deed, (p.reply, p.work))))
+    (λ q. record { seat = q.0; deed = q.1.0; reply = q.1.1.0; work = q.1.1.1 }) (λ _. refl)

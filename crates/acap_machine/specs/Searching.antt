@@ -1,5 +1,6 @@
 -- What is said to a SEARCH, and which context it makes [RFC 2244 sections 3.3 and 6.4.1].
-use Rattle.std.specs.Prelude.{ℕ, ℤ, Bool, true, false, List, [], length, min, take, Option, Some, None, Result, Ok, Err, option_map, map as each}
+use Rattle.std.specs.Prelude.{ℕ, ℤ, Bool, true, false, List, [], length, min, take, Option, Some, None}
+use Rattle.std.specs.Prelude.{Result, Ok, Err, option_map, map as each}
 use Rattle.acap_entries.specs.Store.{Store}
 use Rattle.acap_entries.specs.declared.row.Row.{Row}
 use Rattle.acap_commands.specs.Wanted.{Wanted}
@@ -109,21 +110,26 @@ seated_or m words (Ok seats) = (words, record m { seats = seats })
 seated_or m words (Err why) = (said.Refused (view_refused_as why), m)
 
 -- MAKECONTEXT keeps all matches, whatever LIMIT tells of them; where there is no place for it nothing is told
-abbrev pub context_answer : Machine → ℕ → MakeContext → SearchSpec → Option Limit → List Match → Said × Machine
+abbrev pub context_answer : Machine → ℕ → MakeContext → SearchSpec → Option Limit → List Match
+    → Said × Machine
 context_answer m seat make sought limit matches =
-    seated_or m (said.Searched (found_of m.store.last sought limit matches)) (with_context m.seats seat make sought matches m.store.last)
+    seated_or m (said.Searched (found_of m.store.last sought limit matches))
+    (with_context m.seats seat make sought matches m.store.last)
 
-abbrev pub kept_if : Machine → ℕ → Option MakeContext → SearchSpec → Option Limit → List Match → Said × Machine
+abbrev pub kept_if : Machine → ℕ → Option MakeContext → SearchSpec → Option Limit → List Match
+    → Said × Machine
 kept_if m seat None sought limit matches = (said.Searched (found_of m.store.last sought limit matches), m)
 kept_if m seat (Some make) sought limit matches = context_answer m seat make sought limit matches
 
 abbrev pub found_or : Machine → ℕ → SearchRequest → Option SearchRefusal → List Match → Said × Machine
-found_or m seat asked (Some refusal) matches = (said.Refused (refused_as asked.query.sought.dataset refusal), m)
+found_or m seat asked (Some refusal) matches =
+    (said.Refused (refused_as asked.query.sought.dataset refusal), m)
 found_or m seat asked None matches = kept_if m seat asked.make_context asked.query.sought asked.limit matches
 
 unfoldable pub searched_over : Machine → ℕ → List ℕ → SearchRequest → Said × Machine
 searched_over m seat user asked =
-    found_or m seat asked (refusal_of m.store.records m.realm user asked.query) (matches_of m.store.records m.realm user asked.query.sought)
+    found_or m seat asked (refusal_of m.store.records m.realm user asked.query)
+    (matches_of m.store.records m.realm user asked.query.sought)
 
 -- where no context is made the machine stays as it was, and this is said
 abbrev pub searched_alone : Machine → List ℕ → Query → Option Limit → Said
@@ -133,7 +139,8 @@ searched_alone m user query limit =
 
 -- ---- over a context: what is said
 
--- dataset, DEPTH and NOINHERIT are those of the context's own search; key, SORT, RETURN and HARDLIMIT those of the new one
+-- dataset, DEPTH and NOINHERIT are those of the context's own
+-- search; key, SORT, RETURN and HARDLIMIT those of the new one
 abbrev pub query_within : SearchSpec → SearchModifiers → Wanted → Query
 query_within own modifiers key = record {
   sought = record {
@@ -154,17 +161,22 @@ shown_within from = context_of (each (λ found. found.path) from.shown) from.tol
 unfoldable pub searched_from : Store → Realm → List ℕ → Ranged → Query → Option Limit → Said
 searched_from s realm user from query limit =
     found_unless query.sought.dataset (refusal_within s.records realm user query (shown_within from))
-    (found_of s.last query.sought limit (matches_within s.records realm user query.sought (shown_within from).paths))
+    (found_of s.last query.sought limit
+    (matches_within s.records realm user query.sought (shown_within from).paths))
 
-abbrev pub searched_within : Store → Realm → List ℕ → Result Ranged ViewRefusal → SearchModifiers → Wanted → Said
-searched_within s realm user (Ok from) modifiers key = searched_from s realm user from (query_within from.sought modifiers key) modifiers.limit
+abbrev pub searched_within : Store → Realm → List ℕ → Result Ranged ViewRefusal → SearchModifiers → Wanted
+    → Said
+searched_within s realm user (Ok from) modifiers key =
+    searched_from s realm user from (query_within from.sought modifiers key) modifiers.limit
 searched_within s realm user (Err why) modifiers key = said.Refused (view_refused_as why)
 
 -- ---- over either
 
 abbrev pub searched_in : Machine → ℕ → List ℕ → Target → SearchModifiers → Wanted → Said × Machine
-searched_in m seat user (target.Dataset dataset) modifiers key = searched_over m seat user (asked_of user dataset modifiers key)
-searched_in m seat user (target.Context name) modifiers key = (searched_within m.store m.realm user (range_at m.seats seat name) modifiers key, m)
+searched_in m seat user (target.Dataset dataset) modifiers key =
+    searched_over m seat user (asked_of user dataset modifiers key)
+searched_in m seat user (target.Context name) modifiers key =
+    (searched_within m.store m.realm user (range_at m.seats seat name) modifiers key, m)
 
 abbrev pub search_answer : Machine → ℕ → List ℕ → Search → Said × Machine
 search_answer m seat user search = searched_in m seat user search.target search.modifiers search.key

@@ -1,4 +1,5 @@
--- What a command of a user comes to: what is said, and the machine afterwards [RFC 2244 sections 6.2, 6.4.1, 6.5, 6.6 and 6.7].
+-- What a command of a user comes to: what is said, and the machine
+-- afterwards [RFC 2244 sections 6.2, 6.4.1, 6.5, 6.6 and 6.7].
 use Rattle.std.specs.Prelude.{ℕ, ℤ, List, Option, Some, None, Result, Ok, Err}
 use Rattle.acap_entries.specs.declared.change.Change.{Change}
 use Rattle.acap_commands.specs.declared.command.Command.{Command}
@@ -38,12 +39,15 @@ write_answer m user done write clock = written_or m done (plan m.store m.realm u
 -- ---- MYRIGHTS and LISTRIGHTS, of any object, be it there or not
 
 abbrev pub rights_told : Machine → List ℕ → ObjectName → Said × Machine
-rights_told m user object = (said.Rights (letters_of (rights_of m.store.records m.realm user (target_for user object))), m)
+rights_told m user object =
+    (said.Rights (letters_of (rights_of m.store.records m.realm user (target_for user object))), m)
 
 -- what the identifier always has there, and then each other right apart: no list is looked at
 abbrev pub rights_listed : Machine → List ℕ → ObjectName → List ℕ → Said × Machine
-rights_listed m user object identifier =
-    (said.RightsList (rights_list (implicit_rights m.realm identifier (dataset_in (target_for user object)))), m)
+rights_listed m user object identifier = (
+  said.RightsList (rights_list (implicit_rights m.realm identifier (dataset_in (target_for user object)))),
+  m,
+)
 
 -- ---- DELETEDSINCE
 
@@ -67,14 +71,15 @@ updated_or m (Err why) = (said.Refused (view_refused_as why), m)
 abbrev pub update_answer : Machine → ℕ → List (List ℕ) → Said × Machine
 update_answer m seat names = updated_or m (told_of m.seats seat names m.store.last)
 
--- ---- every command. NOOP, LOGOUT and AUTHENTICATE concern the session alone, which answers them without the machine; to the
--- user of a seat the machine would say this
+-- ---- every command. NOOP, LOGOUT and AUTHENTICATE concern the session alone, which answers them without the
+-- machine; to the user of a seat the machine would say this
 
 unfoldable pub answer_to : Machine → ℕ → List ℕ → Command → ℤ → Said × Machine
 answer_to m seat user command.Noop clock = (said.Done verb.Noop, m)
 answer_to m seat user command.Logout clock = (said.GoodBye, m)
 answer_to m seat user (command.Authenticate mechanism) clock = (said.Refused refusals.LoggedIn, m)
-answer_to m seat user (command.Store entries) clock = write_answer m user verb.Store (write.Store entries) clock
+answer_to m seat user (command.Store entries) clock =
+    write_answer m user verb.Store (write.Store entries) clock
 answer_to m seat user (command.Search search) clock = search_answer m seat user search
 answer_to m seat user (command.SetAcl object identifier letters) clock =
     write_answer m user verb.SetAcl (write.SetAcl object identifier letters) clock

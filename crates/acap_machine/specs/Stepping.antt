@@ -28,7 +28,8 @@ enter_answer m seat user (Some other) = Err fault.AlreadyEntered
 
 -- all that waits at a seat is told, and its live contexts show their present lists
 abbrev pub drained_at : Machine → ℕ → Reply × Machine
-drained_at m seat = (plain (said.Drained (drain_of m.seats seat).0), record m { seats = (drain_of m.seats seat).1 })
+drained_at m seat =
+    (plain (said.Drained (drain_of m.seats seat).0), record m { seats = (drain_of m.seats seat).1 })
 
 -- who leaves takes all contexts along
 abbrev pub left_at : Machine → ℕ → Reply × Machine
@@ -43,16 +44,18 @@ answer_at m seat does = by_user (user_at m seat) (λ user. reply_of (does m user
 
 abbrev pub step_of : Machine → ℕ → Event → ℤ → Result (Reply × Machine) Fault
 step_of m seat (event.Enter user) clock = enter_answer m seat user (user_at m seat)
-step_of m seat (event.Command command) clock = answer_at m seat (λ n user. answer_to n seat user command clock)
+step_of m seat (event.Command command) clock =
+    answer_at m seat (λ n user. answer_to n seat user command clock)
 step_of m seat event.Drain clock = by_user (user_at m seat) (λ user. drained_at m seat)
 step_of m seat event.Leave clock = by_user (user_at m seat) (λ user. left_at m seat)
 
 -- a step that was performed
-pub record Stepped (old : Machine) (seat : ℕ) (e : Event) (clock : ℤ) (reply : Reply) (new : Machine) : Type 0 where
+pub record Stepped (old : Machine) (seat : ℕ) (e : Event) (clock : ℤ) (reply : Reply)
+    (new : Machine) : Type 0 where
   pub step : step_of old seat e clock ≡ Ok (reply, new)
 
--- a fault that may be told of a step: the one that it ends in, or that memory was refused, which the definition of a
--- step doesn't speak of
+-- a fault that may be told of a step: the one that it ends in, or that
+-- memory was refused, which the definition of a step doesn't speak of
 abbrev pub IsFault : Result (Reply × Machine) Fault → Fault → Type 0
 IsFault stepped fault.Memory = ⊤
 IsFault stepped fault.NotEntered = stepped ≡ Err fault.NotEntered

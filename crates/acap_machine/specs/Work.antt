@@ -23,7 +23,8 @@ touched_or m (Ok change) = touched_by m change
 touched_or m (Err refusal) = 0
 
 abbrev pub work_at : Machine → ℕ → Write → ℤ → ℕ
-work_at m seat write clock = option_map_or (λ user. touched_or m (plan m.store m.realm user write clock)) (user_at m seat) 0
+work_at m seat write clock =
+    option_map_or (λ user. touched_or m (plan m.store m.realm user write clock)) (user_at m seat) 0
 
 -- no other event touches anything
 abbrev pub work_of : Machine → ℕ → Event → ℤ → ℕ

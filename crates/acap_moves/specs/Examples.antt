@@ -1,5 +1,6 @@
 -- Notices of one change, computed from the definitions alone.
-use Rattle.std.specs.Prelude.{◌≡◌, ℕ, Bool, true, false, if◌then◌else◌, List, [], ◌∷◌, Option, Some, None, codes}
+use Rattle.std.specs.Prelude.{◌≡◌, ℕ, Bool, true, false, if◌then◌else◌, List, [], ◌∷◌, Option, Some, None}
+use Rattle.std.specs.Prelude.{codes}
 use Rattle.std.specs.Ordering.{nat_cmp, ordering_then}
 use Rattle.acap_entries.specs.Orders.{octets_cmp, octets_eq}
 use Rattle.acap_entries.specs.declared.row.Row.{Row}
@@ -26,7 +27,8 @@ by_rank = record {
 -- the hit of a name, by its rank
 abbrev pub hits : List (Name × ℕ) → Name → Option Ranked
 hits [] name = None
-hits (pair ∷ pairs) name = if octets_eq pair.0 name then Some (record { rank = pair.1; name = name }) else hits pairs name
+hits (pair ∷ pairs) name = if octets_eq pair.0 name then Some (record { rank = pair.1; name = name })
+    else hits pairs name
 
 abbrev pub abcd : List (Name × ℕ)
 abcd = (codes "a", 1) ∷ (codes "b", 2) ∷ (codes "c", 3) ∷ (codes "d", 4) ∷ []
@@ -54,8 +56,11 @@ abbrev pub other_place : List (Name × ℕ)
 other_place = (codes "a", 1) ∷ (codes "b", 2) ∷ (codes "c", 3) ∷ (codes "d", 0) ∷ []
 
 pub record MoveExamples : Type 0 where
-  pub with_positions : notices_after true one_store four_names ≡ Change 1 4 (bare_row (codes "a")) ∷ AddTo 2 (bare_row (codes "bb")) ∷ RemoveFrom (codes "c") 3 ∷ Change 3 1 (bare_row (codes "d")) ∷ []
-  pub without_positions : notices_after false one_store four_names ≡ AddTo 0 (bare_row (codes "bb")) ∷ RemoveFrom (codes "c") 0 ∷ []
+  pub with_positions : notices_after true one_store four_names
+      ≡ Change 1 4 (bare_row (codes "a")) ∷ AddTo 2 (bare_row (codes "bb")) ∷ RemoveFrom (codes "c") 3
+      ∷ Change 3 1 (bare_row (codes "d")) ∷ []
+  pub without_positions : notices_after false one_store four_names
+      ≡ AddTo 0 (bare_row (codes "bb")) ∷ RemoveFrom (codes "c") 0 ∷ []
   pub rank_alone : (enumerated : Bool) → notices_after enumerated other_rank (codes "b" ∷ []) ≡ []
   pub place_told : notices_after true other_place (codes "d" ∷ []) ≡ Change 4 1 (bare_row (codes "d")) ∷ []
   pub place_alone : notices_after false other_place (codes "d" ∷ []) ≡ []

@@ -3,7 +3,8 @@ use Rattle.std.specs.Prelude.{◌≡◌, Bool, false, Option, Some, List, [], �
 use Rattle.std.specs.Option.{option_and_then}
 use Rattle.acap_notices.specs.declared.notice.Notice.{Notice}
 use Rattle.acap_notices.specs.Holding.{Holding, holding, holding_after_all}
-use Rattle.acap_moves.specs.Hits.{Name, Shape, IsLawful, is_among, IsDistinct, fresh, rows, IsOfNames, Supports}
+use Rattle.acap_moves.specs.Hits.{Name, Shape, IsLawful, is_among, IsDistinct, fresh, rows, IsOfNames}
+use Rattle.acap_moves.specs.Hits.{Supports}
 use Rattle.acap_moves.specs.Notices.{notices}
 use Rattle.acap_moves.specs.Moves.{Move, after_moves, moves_notices}
 
@@ -23,7 +24,8 @@ pub data Happening (H : Type 0) : Type 0 where
   Changes : (change : Change H) → Happening H
   Tells : Happening H
 
--- the list last told, the notices that wait, what is there now, and what the client holds: none after a misfit
+-- the list last told, the notices that wait, what is there
+-- now, and what the client holds: none after a misfit
 pub record Followed (H : Type 0) : Type 0 where
   pub told : List H
   pub pending : List Notice
@@ -57,7 +59,13 @@ module _ {H : Type 0} (v : Shape H) where
 
   -- a client that was given the rows of the list
   abbrev pub opened : Bool → Scene H → Followed H
-  opened enumerated s = record { told = list_of s; pending = []; now = s; client = Some (holding enumerated (rows v (list_of s))) }
+  opened enumerated s =
+      record {
+        told = list_of s;
+        pending = [];
+        now = s;
+        client = Some (holding enumerated (rows v (list_of s)));
+      }
 
   abbrev pub after_one : Bool → Followed H → Happening H → Followed H
   after_one enumerated f (Changes change) = record f {
@@ -72,12 +80,14 @@ module _ {H : Type 0} (v : Shape H) where
 
   abbrev pub after_all : Bool → Followed H → List (Happening H) → Followed H
   after_all enumerated f [] = f
-  after_all enumerated f (happening ∷ happenings) = after_all enumerated (after_one enumerated f happening) happenings
+  after_all enumerated f (happening ∷ happenings) =
+      after_all enumerated (after_one enumerated f happening) happenings
 
   -- what waits takes the list last told to the present one, and the client holds the list last told
   pub record IsFollowing (enumerated : Bool) (f : Followed H) : Type 0 where
     pub scene : IsScene f.now
-    pub leads : holding_after_all (holding enumerated (rows v f.told)) f.pending ≡ Some (holding enumerated (rows v (list_of f.now)))
+    pub leads : holding_after_all (holding enumerated (rows v f.told)) f.pending
+        ≡ Some (holding enumerated (rows v (list_of f.now)))
     pub client : f.client ≡ Some (holding enumerated (rows v f.told))
 
 -- whatever changes and whenever the client is told
@@ -87,12 +97,17 @@ FollowingLaw H =
     → IsScene v s → AreChanges v s happenings
     → IsFollowing v enumerated (after_all v enumerated (opened v enumerated s) happenings)
 
--- the notices of two changes one after the other are both lists joined: those that wait, those that lead from the first list to the
--- last, and those of moves
+-- the notices of two changes one after the other are both lists joined: those that wait, those that lead from
+-- the first list to the last, and those of moves
 pub record PendingLaw (H : Type 0) : Type 0 where
   pub wait : (v : Shape H) (enumerated : Bool) (f : Followed H) (one two : Change H)
-      → (after_all v enumerated f (Changes one ∷ Changes two ∷ [])).pending ≡ f.pending ++ (notices_of v enumerated f.now one ++ notices_of v enumerated one.after two)
-  pub lead : (v : Shape H) → IsLawful v → (enumerated : Bool) (s : Scene H) (one two : Change H) → IsScene v s → IsChange v s one → IsChange v one.after two
-      → holding_after_all (holding enumerated (rows v (list_of v s))) (notices_of v enumerated s one ++ notices_of v enumerated one.after two) ≡ Some (holding enumerated (rows v (list_of v two.after)))
+      → (after_all v enumerated f (Changes one ∷ Changes two ∷ [])).pending
+      ≡ f.pending ++ (notices_of v enumerated f.now one ++ notices_of v enumerated one.after two)
+  pub lead : (v : Shape H) → IsLawful v → (enumerated : Bool) (s : Scene H) (one two : Change H) → IsScene v s
+      → IsChange v s one → IsChange v one.after two
+      → holding_after_all (holding enumerated (rows v (list_of v s)))
+      (notices_of v enumerated s one ++ notices_of v enumerated one.after two)
+      ≡ Some (holding enumerated (rows v (list_of v two.after)))
   pub moved : (v : Shape H) (enumerated : Bool) (one two : List (Move H)) (hits : List H)
-      → moves_notices v enumerated (one ++ two) hits ≡ moves_notices v enumerated one hits ++ moves_notices v enumerated two (after_moves v one hits)
+      → moves_notices v enumerated (one ++ two) hits
+      ≡ moves_notices v enumerated one hits ++ moves_notices v enumerated two (after_moves v one hits)

@@ -1,5 +1,7 @@
--- The hits of a live search: one for a name at the most, in the order of the search [RFC 2244 sections 3.3 and 6.4].
-use Rattle.std.specs.Prelude.{◌≡◌, ℕ, suc, ◌+◌, Bool, false, ◌||◌, if◌then◌else◌, Option, Some, None, List, [], ◌∷◌, map}
+-- The hits of a live search: one for a name at the most, in
+-- the order of the search [RFC 2244 sections 3.3 and 6.4].
+use Rattle.std.specs.Prelude.{◌≡◌, ℕ, suc, ◌+◌, Bool, false, ◌||◌, if◌then◌else◌, Option, Some, None, List}
+use Rattle.std.specs.Prelude.{[], ◌∷◌, map}
 use Rattle.std.specs.declared.cmp.Ordering.{Ordering}
 use Rattle.std.specs.declared.cmp.Ordering.TheVariants.{Less, Equal}
 use Rattle.std.specs.Option.{option_map}
@@ -73,7 +75,8 @@ module _ {H : Type 0} (v : Shape H) where
   -- how many stand before a name's hit, and that hit
   unfoldable pub found : Name → List H → Option (ℕ × H)
   found name [] = None
-  found name (h ∷ hs) = if octets_eq name (v.name h) then Some (0, h) else option_map (λ s. (suc s.0, s.1)) (found name hs)
+  found name (h ∷ hs) = if octets_eq name (v.name h) then Some (0, h)
+      else option_map (λ s. (suc s.0, s.1)) (found name hs)
 
   -- where a name stands, from 1, and its hit
   unfoldable pub spot : Name → List H → Option (ℕ × H)

@@ -1,10 +1,12 @@
 -- A list of hits kept by moving one name's hit after the other, and taking that back.
-use Rattle.std.specs.Prelude.{◌≡◌, ℕ, Bool, true, false, if◌then◌else◌, Option, Some, None, List, [], ◌∷◌, ◌++◌}
+use Rattle.std.specs.Prelude.{◌≡◌, ℕ, Bool, true, false, if◌then◌else◌, Option, Some, None, List, [], ◌∷◌}
+use Rattle.std.specs.Prelude.{◌++◌}
 use Rattle.std.specs.List.{insert, remove}
 use Rattle.std.specs.Option.{option_map}
 use Rattle.acap_entries.specs.Orders.{octets_eq}
 use Rattle.acap_notices.specs.declared.notice.Notice.{Notice}
-use Rattle.acap_moves.specs.Hits.{Name, Shape, IsLawful, is_among, IsDistinct, IsAscending, put_some, fresh, rank, found, IsOfNames, Supports}
+use Rattle.acap_moves.specs.Hits.{Name, Shape, IsLawful, is_among, IsDistinct, IsAscending, put_some, fresh}
+use Rattle.acap_moves.specs.Hits.{rank, found, IsOfNames, Supports}
 use Rattle.acap_moves.specs.Notices.{notice_at, notices}
 
 -- a name, and the hit that it has then
@@ -54,7 +56,8 @@ module _ {H : Type 0} (v : Shape H) where
   abbrev pub moves_notices : Bool → List (Move H) → List H → List Notice
   moves_notices enumerated [] hits = []
   moves_notices enumerated (move ∷ moves) hits =
-      notice_at v enumerated move.0 hits (after_move move hits) ++ moves_notices enumerated moves (after_move move hits)
+      notice_at v enumerated move.0 hits (after_move move hits)
+      ++ moves_notices enumerated moves (after_move move hits)
 
   abbrev pub undo_of : Move H → List H → Undo H
   undo_of move hits = record {
@@ -66,16 +69,19 @@ module _ {H : Type 0} (v : Shape H) where
   undos [] hits = []
   undos (move ∷ moves) hits = undo_of move hits ∷ undos moves (after_move move hits)
 
--- moving the hits of the touched names gives the new list and the notices of the changed ones, whatever else is touched
+-- moving the hits of the touched names gives the new list and
+-- the notices of the changed ones, whatever else is touched
 abbrev pub MovesLaw : (H : Type 0) → Type 0
 MovesLaw H =
-    (v : Shape H) → IsLawful v → (enumerated : Bool) (old new : Name → Option H) (names changed touched : List Name)
+    (v : Shape H) → IsLawful v → (enumerated : Bool) (old new : Name → Option H)
+    (names changed touched : List Name)
     → IsDistinct names → IsOfNames v old → IsOfNames v new → Supports new names
     → ((name : Name) → is_among name changed ≡ false → old name ≡ new name)
     → IsAscending changed → IsAscending touched
     → ((name : Name) → is_among name changed ≡ true → is_among name touched ≡ true)
     → (after_moves v (moves_to new touched) (fresh v old names) ≡ fresh v new names)
-    × (moves_notices v enumerated (moves_to new touched) (fresh v old names) ≡ notices v enumerated old new names changed)
+    × (moves_notices v enumerated (moves_to new touched) (fresh v old names)
+    ≡ notices v enumerated old new names changed)
 
 -- undoing moves from the last to the first gives the list that was, whatever the list and the moves
 abbrev pub UndoLaw : (H : Type 0) → Type 0

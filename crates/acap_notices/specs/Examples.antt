@@ -14,10 +14,12 @@ with_value name value = record { name = name; items = One (Single value) ∷ [] 
 
 -- the rows of three entries
 abbrev pub abc : List Row
-abc = with_value (codes "a") (codes "1") ∷ with_value (codes "b") (codes "2") ∷ with_value (codes "c") (codes "3") ∷ []
+abc = with_value (codes "a") (codes "1") ∷ with_value (codes "b") (codes "2")
+    ∷ with_value (codes "c") (codes "3") ∷ []
 
 abbrev pub bdf : List Row
-bdf = with_value (codes "b") (codes "2") ∷ with_value (codes "d") (codes "4") ∷ with_value (codes "f") (codes "6") ∷ []
+bdf = with_value (codes "b") (codes "2") ∷ with_value (codes "d") (codes "4")
+    ∷ with_value (codes "f") (codes "6") ∷ []
 
 -- a comes, b goes, and f has another value, at these positions
 abbrev pub a_comes : ℕ → Notice
@@ -30,7 +32,8 @@ abbrev pub f_changes : ℕ → ℕ → Notice
 f_changes from to = Change from to (with_value (codes "f") (codes "9"))
 
 abbrev pub adf : List Row
-adf = with_value (codes "a") (codes "1") ∷ with_value (codes "d") (codes "4") ∷ with_value (codes "f") (codes "9") ∷ []
+adf = with_value (codes "a") (codes "1") ∷ with_value (codes "d") (codes "4")
+    ∷ with_value (codes "f") (codes "9") ∷ []
 
 -- what is held of a list, and of a map, after notices
 abbrev pub listed_all : List Row → List Notice → Option Holding
@@ -40,11 +43,18 @@ abbrev pub mapped_all : List Row → List Notice → Option Holding
 mapped_all rows notices = holding_after_all (Mapped (by_name rows)) notices
 
 pub record RowExamples : Type 0 where
-  pub moved_down : listed_all abc (Change 1 3 (with_value (codes "a") (codes "9")) ∷ []) ≡ Some (Listed (with_value (codes "b") (codes "2") ∷ with_value (codes "c") (codes "3") ∷ with_value (codes "a") (codes "9") ∷ []))
-  pub moved_up : listed_all abc (Change 3 1 (with_value (codes "c") (codes "0")) ∷ []) ≡ Some (Listed (with_value (codes "c") (codes "0") ∷ with_value (codes "a") (codes "1") ∷ with_value (codes "b") (codes "2") ∷ []))
+  pub moved_down : listed_all abc (Change 1 3 (with_value (codes "a") (codes "9")) ∷ [])
+      ≡ Some (Listed (with_value (codes "b") (codes "2") ∷ with_value (codes "c") (codes "3")
+      ∷ with_value (codes "a") (codes "9") ∷ []))
+  pub moved_up : listed_all abc (Change 3 1 (with_value (codes "c") (codes "0")) ∷ [])
+      ≡ Some (Listed (with_value (codes "c") (codes "0") ∷ with_value (codes "a") (codes "1")
+      ∷ with_value (codes "b") (codes "2") ∷ []))
   pub mixed : listed_all bdf (a_comes 1 ∷ b_goes 2 ∷ f_changes 3 3 ∷ []) ≡ Some (Listed adf)
-  pub mixed_at_any_positions : (i j k l : ℕ) → mapped_all bdf (a_comes i ∷ b_goes j ∷ f_changes k l ∷ []) ≡ Some (Mapped (by_name adf))
-  pub at_the_end : listed_all bdf (a_comes 4 ∷ []) ≡ Some (Listed (with_value (codes "b") (codes "2") ∷ with_value (codes "d") (codes "4") ∷ with_value (codes "f") (codes "6") ∷ with_value (codes "a") (codes "1") ∷ []))
+  pub mixed_at_any_positions : (i j k l : ℕ)
+      → mapped_all bdf (a_comes i ∷ b_goes j ∷ f_changes k l ∷ []) ≡ Some (Mapped (by_name adf))
+  pub at_the_end : listed_all bdf (a_comes 4 ∷ [])
+      ≡ Some (Listed (with_value (codes "b") (codes "2") ∷ with_value (codes "d") (codes "4")
+      ∷ with_value (codes "f") (codes "6") ∷ with_value (codes "a") (codes "1") ∷ []))
   pub gone_again : listed_all bdf (a_comes 2 ∷ RemoveFrom (codes "a") 2 ∷ []) ≡ Some (Listed bdf)
   pub first_of_all : listed_all [] (a_comes 1 ∷ []) ≡ Some (Listed (with_value (codes "a") (codes "1") ∷ []))
   pub nothing_told : listed_all bdf [] ≡ Some (Listed bdf)

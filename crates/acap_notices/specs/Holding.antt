@@ -46,4 +46,7 @@ parts_back (Listed rows) = refl
 parts_back (Mapped rows) = refl
 
 abbrev pub holding_code : Coded Holding
-holding_code = code_by (List Row ⊎ RowMap) (coded⊎ (coded_list row.the_row.coded) (finite.code (coded_list coded_ℕ) row.the_row.coded)) in_parts from_parts parts_back
+holding_code =
+    code_by (List Row ⊎ RowMap)
+    (coded⊎ (coded_list row.the_row.coded) (finite.code (coded_list coded_ℕ) row.the_row.coded)) in_parts
+    from_parts parts_back

@@ -1,5 +1,6 @@
 -- The rows that a client holds of a context, one for each entry [RFC 2244 sections 3.3 and 6.4.1].
-use Rattle.std.specs.Prelude.{ℕ, ◌+◌, ◌-◌, Bool, true, false, not, ◌&&◌, nat_le, IsTrue, List, [], ◌∷◌, length, map, Option, Some, None, slice_get}
+use Rattle.std.specs.Prelude.{ℕ, ◌+◌, ◌-◌, Bool, true, false, not, ◌&&◌, nat_le, IsTrue, List, [], ◌∷◌}
+use Rattle.std.specs.Prelude.{length, map, Option, Some, None, slice_get}
 use Rattle.std.specs.List.{list_any}
 use Rattle.std.specs.FinMap as finite
 use Rattle.acap_entries.specs.Orders.{octets_eq, octets_cmp}

@@ -30,4 +30,6 @@ pub record HasRoom (more : ℕ) (w : Waiting) : Type 0 where
   pub room : min more (most_waiting - length w.notices) ≤ w.room
 
 abbrev pub waiting_code : Coded Waiting
-waiting_code = code_by (List Notice × ℕ) (coded× (coded_list notice.the_row.coded) coded_ℕ) (λ w. (w.notices, w.room)) (λ p. record { notices = p.0; room = p.1 }) (λ _. refl)
+waiting_code =
+    code_by (List Notice × ℕ) (coded× (coded_list notice.the_row.coded) coded_ℕ) (λ w. (w.notices, w.room))
+    (λ p. record { notices = p.0; room = p.1 }) (λ _. refl)

@@ -1,5 +1,6 @@
 -- What holds of every comparator.
-use Rattle.std.specs.Prelude.{◌≡◌, ◌↔◌, ℕ, Bool, true, false, List, [], ◌∷◌, map, IsTrue, Option, Some, None, option_map, codes}
+use Rattle.std.specs.Prelude.{◌≡◌, ◌↔◌, ℕ, Bool, true, false, List, [], ◌∷◌, map, IsTrue, Option, Some, None}
+use Rattle.std.specs.Prelude.{option_map, codes}
 use Rattle.std.specs.Cmp.{IsTotalOrder}
 use Rattle.std.specs.Ordering.{ordering_reverse}
 use Rattle.std.specs.declared.cmp.Ordering.{Ordering}
@@ -12,7 +13,8 @@ use Rattle.acap_order.specs.Matching.{has_prefix, has_substring}
 use Rattle.acap_order.specs.Ranks.{rank_of, is_numeric, upper_case, comparator_cmp, comparator_eq}
 use Rattle.acap_order.specs.Spellings.{ascending, descending, collation_of, comparator_of}
 
--- each comparator orders all strings: of two one is before the other or they are equal, and the order is transitive
+-- each comparator orders all strings: of two one is before
+-- the other or they are equal, and the order is transitive
 abbrev pub OrderLaw : Type 0
 OrderLaw = (comparator : Comparator) → IsTotalOrder (comparator_cmp comparator)
 
@@ -26,12 +28,17 @@ ReverseLaw =
 abbrev pub IsBefore : Comparator → List ℕ → List ℕ → Type 0
 IsBefore comparator a b = comparator_cmp comparator a b ≡ Less
 
--- strings are equal to a comparator exactly if neither is before the other, and exactly if they have one rank; its sign changes nothing; to i;octet and -i;octet a string equals itself alone
+-- strings are equal to a comparator exactly if neither is before the other, and exactly if they have one
+-- rank; its sign changes nothing; to i;octet and -i;octet a string equals itself alone
 pub record EqualityLaw : Type 0 where
-  pub neither_before : (comparator : Comparator) (a b : List ℕ) → IsTrue (comparator_eq comparator a b) ↔ ((¬ IsBefore comparator a b) × (¬ IsBefore comparator b a))
-  pub same_rank : (comparator : Comparator) (a b : List ℕ) → IsTrue (comparator_eq comparator a b) ↔ (rank_of comparator.collation a ≡ rank_of comparator.collation b)
-  pub any_sign : (collation : Collation) (a b : List ℕ) → comparator_eq (descending collation) a b ≡ comparator_eq (ascending collation) a b
-  pub by_octets : (direction : Direction) (a b : List ℕ) → IsTrue (comparator_eq (record { collation = Octet; direction = direction }) a b) ↔ (a ≡ b)
+  pub neither_before : (comparator : Comparator) (a b : List ℕ) → IsTrue (comparator_eq comparator a b)
+      ↔ ((¬ IsBefore comparator a b) × (¬ IsBefore comparator b a))
+  pub same_rank : (comparator : Comparator) (a b : List ℕ) → IsTrue (comparator_eq comparator a b)
+      ↔ (rank_of comparator.collation a ≡ rank_of comparator.collation b)
+  pub any_sign : (collation : Collation) (a b : List ℕ)
+      → comparator_eq (descending collation) a b ≡ comparator_eq (ascending collation) a b
+  pub by_octets : (direction : Direction) (a b : List ℕ)
+      → IsTrue (comparator_eq (record { collation = Octet; direction = direction }) a b) ↔ (a ≡ b)
 
 -- how the comparator of a name orders two texts
 abbrev pub ordered_by : List ℕ → List ℕ → List ℕ → Option Ordering
@@ -39,10 +46,12 @@ ordered_by name a b = option_map (λ comparator. comparator_cmp comparator a b) 
 
 -- whether the comparator of a name finds a pattern in front of a text, and anywhere in it
 abbrev pub prefixed_by : List ℕ → List ℕ → List ℕ → Option Bool
-prefixed_by name text pattern = option_map (λ comparator. has_prefix comparator text pattern) (comparator_of name)
+prefixed_by name text pattern =
+    option_map (λ comparator. has_prefix comparator text pattern) (comparator_of name)
 
 abbrev pub found_by : List ℕ → List ℕ → List ℕ → Option Bool
-found_by name text pattern = option_map (λ comparator. has_substring comparator text pattern) (comparator_of name)
+found_by name text pattern =
+    option_map (λ comparator. has_substring comparator text pattern) (comparator_of name)
 
 -- what comparators say of some texts, by the definitions alone
 pub record Examples : Type 0 where
@@ -78,14 +87,21 @@ pub record Examples : Type 0 where
   pub only_letters : upper_case (codes "@AZ[`az{") ≡ codes "@AZ[`AZ{"
   pub letters_reversed : ordered_by (codes "-i;ascii-casemap") (codes "a") (codes "B") ≡ Some Greater
   pub unsigned_octets : ordered_by (codes "i;octet") (127 ∷ []) (128 ∷ []) ≡ Some Less
-  pub many_digits : ordered_by (codes "i;ascii-numeric") (codes "18446744073709551615") (codes "18446744073709551616") ≡ Some Less
+  pub many_digits : ordered_by (codes "i;ascii-numeric") (codes "18446744073709551615")
+      (codes "18446744073709551616") ≡ Some Less
   pub numbers : map is_numeric (Octet ∷ AsciiCasemap ∷ AsciiNumeric ∷ []) ≡ false ∷ false ∷ true ∷ []
   pub no_prefix_of_numbers : prefixed_by (codes "i;ascii-numeric") (codes "12") (codes "1") ≡ Some false
   pub no_part_of_numbers : found_by (codes "i;ascii-numeric") (codes "12") (codes "1") ≡ Some false
-  pub no_signs : map comparator_of (codes "i;octet" ∷ codes "i;ascii-casemap" ∷ codes "i;ascii-numeric" ∷ []) ≡ Some (ascending Octet) ∷ Some (ascending AsciiCasemap) ∷ Some (ascending AsciiNumeric) ∷ []
-  pub pluses : map comparator_of (codes "+i;octet" ∷ codes "+i;ascii-casemap" ∷ codes "+i;ascii-numeric" ∷ []) ≡ Some (ascending Octet) ∷ Some (ascending AsciiCasemap) ∷ Some (ascending AsciiNumeric) ∷ []
-  pub minuses : map comparator_of (codes "-i;octet" ∷ codes "-i;ascii-casemap" ∷ codes "-i;ascii-numeric" ∷ []) ≡ Some (descending Octet) ∷ Some (descending AsciiCasemap) ∷ Some (descending AsciiNumeric) ∷ []
-  pub collations : map collation_of (codes "i;octet" ∷ codes "I;ASCII-casemap" ∷ codes "i;ascii-numeric" ∷ codes "+i;octet" ∷ []) ≡ Some Octet ∷ Some AsciiCasemap ∷ Some AsciiNumeric ∷ None ∷ []
+  pub no_signs : map comparator_of (codes "i;octet" ∷ codes "i;ascii-casemap" ∷ codes "i;ascii-numeric" ∷ [])
+      ≡ Some (ascending Octet) ∷ Some (ascending AsciiCasemap) ∷ Some (ascending AsciiNumeric) ∷ []
+  pub pluses : map comparator_of (codes "+i;octet" ∷ codes "+i;ascii-casemap" ∷ codes "+i;ascii-numeric" ∷ [])
+      ≡ Some (ascending Octet) ∷ Some (ascending AsciiCasemap) ∷ Some (ascending AsciiNumeric) ∷ []
+  pub minuses : map comparator_of
+      (codes "-i;octet" ∷ codes "-i;ascii-casemap" ∷ codes "-i;ascii-numeric" ∷ [])
+      ≡ Some (descending Octet) ∷ Some (descending AsciiCasemap) ∷ Some (descending AsciiNumeric) ∷ []
+  pub collations : map collation_of
+      (codes "i;octet" ∷ codes "I;ASCII-casemap" ∷ codes "i;ascii-numeric" ∷ codes "+i;octet" ∷ [])
+      ≡ Some Octet ∷ Some AsciiCasemap ∷ Some AsciiNumeric ∷ None ∷ []
   pub two_signs : comparator_of (codes "+-i;octet") ≡ None
   pub longer_name : comparator_of (codes "i;octets") ≡ None
   pub no_name : comparator_of [] ≡ None

@@ -1,4 +1,5 @@
--- PREFIX and SUBSTRING (RFC 2244, sections 3.4 and 6.4.1) look for the octets that a comparator compares. A comparator of numbers has neither.
+-- PREFIX and SUBSTRING (RFC 2244, sections 3.4 and 6.4.1) look for the
+-- octets that a comparator compares. A comparator of numbers has neither.
 use Rattle.std.specs.Prelude.{◌≡◌, ℕ, Bool, false, ◌||◌, nat_eq, List, [], ◌∷◌, ◌++◌}
 use Rattle.std.specs.List.{starts_with}
 use Rattle.acap_order.specs.declared.comparator.Comparator.{Comparator}
@@ -31,14 +32,18 @@ of_octets test (Number text) pattern = false
 
 -- PREFIX: what is compared of the text begins with what is compared of the pattern
 abbrev pub HasPrefix : Comparator → List ℕ → List ℕ → Type 0
-HasPrefix comparator text pattern = OfOctets Begins (rank_of comparator.collation text) (rank_of comparator.collation pattern)
+HasPrefix comparator text pattern =
+    OfOctets Begins (rank_of comparator.collation text) (rank_of comparator.collation pattern)
 
 abbrev pub has_prefix : Comparator → List ℕ → List ℕ → Bool
-has_prefix comparator text pattern = of_octets (starts_with nat_eq) (rank_of comparator.collation text) (rank_of comparator.collation pattern)
+has_prefix comparator text pattern =
+    of_octets (starts_with nat_eq) (rank_of comparator.collation text) (rank_of comparator.collation pattern)
 
 -- SUBSTRING: what is compared of the pattern stands somewhere in what is compared of the text
 abbrev pub HasSubstring : Comparator → List ℕ → List ℕ → Type 0
-HasSubstring comparator text pattern = OfOctets Stands (rank_of comparator.collation text) (rank_of comparator.collation pattern)
+HasSubstring comparator text pattern =
+    OfOctets Stands (rank_of comparator.collation text) (rank_of comparator.collation pattern)
 
 abbrev pub has_substring : Comparator → List ℕ → List ℕ → Bool
-has_substring comparator text pattern = of_octets stands (rank_of comparator.collation text) (rank_of comparator.collation pattern)
+has_substring comparator text pattern =
+    of_octets stands (rank_of comparator.collation text) (rank_of comparator.collation pattern)

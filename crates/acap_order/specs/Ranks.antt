@@ -1,5 +1,7 @@
--- How comparators order strings of octets (RFC 2244, section 3.4): a string has a rank, and strings stand to each other as their ranks do.
-use Rattle.std.specs.Prelude.{ℕ, ◌+◌, ◌-◌, ◌*◌, Bool, true, false, ◌&&◌, nat_le, if◌then◌else◌, List, [], ◌∷◌, Option, None, Some, map}
+-- How comparators order strings of octets (RFC 2244, section 3.4): a
+-- string has a rank, and strings stand to each other as their ranks do.
+use Rattle.std.specs.Prelude.{ℕ, ◌+◌, ◌-◌, ◌*◌, Bool, true, false, ◌&&◌, nat_le, if◌then◌else◌, List, [], ◌∷◌}
+use Rattle.std.specs.Prelude.{Option, None, Some, map}
 use Rattle.std.specs.List.{fold, take_while}
 use Rattle.std.specs.Char.{is_ascii_digit}
 use Rattle.std.specs.Cmp.Lexicographic.{slice_cmp}
@@ -12,7 +14,8 @@ use Rattle.acap_order.specs.declared.comparator.Direction.{Direction}
 use Rattle.acap_order.specs.declared.comparator.Direction.TheVariants.{Ascending, Descending}
 use Rattle.acap_order.specs.declared.comparator.Comparator.{Comparator}
 
--- i;ascii-casemap of section 3.4: an octet from 0x61 to 0x7A, a small letter, counts as the one from 0x41 to 0x5A
+-- i;ascii-casemap of section 3.4: an octet from 0x61 to
+-- 0x7A, a small letter, counts as the one from 0x41 to 0x5A
 abbrev pub upper_case_of : ℕ → ℕ
 upper_case_of octet = if nat_le 0x61 octet && nat_le octet 0x7A then octet - 0x20 else octet
 
@@ -29,7 +32,8 @@ abbrev pub spelled_number : List ℕ → Option ℕ
 spelled_number [] = None
 spelled_number (digit ∷ digits) = Some (number_of (digit ∷ digits))
 
--- i;ascii-numeric of section 3.4: the number that the leading digits of a string spell, however many, if it begins with a digit
+-- i;ascii-numeric of section 3.4: the number that the leading
+-- digits of a string spell, however many, if it begins with a digit
 abbrev pub leading_number : List ℕ → Option ℕ
 leading_number text = spelled_number (take_while is_ascii_digit text)
 
@@ -50,11 +54,13 @@ is_numeric Octet = false
 is_numeric AsciiCasemap = false
 is_numeric AsciiNumeric = true
 
--- octets as unsigned numbers, the first that differ deciding; a proper prefix comes first (i;octet of section 3.4)
+-- octets as unsigned numbers, the first that differ deciding;
+-- a proper prefix comes first (i;octet of section 3.4)
 abbrev pub octets_cmp : List ℕ → List ℕ → Ordering
 octets_cmp a b = slice_cmp nat_cmp a b
 
--- numbers by their size; no number is above every number, and equal to no number (i;ascii-numeric of section 3.4)
+-- numbers by their size; no number is above every number,
+-- and equal to no number (i;ascii-numeric of section 3.4)
 abbrev pub number_cmp : Option ℕ → Option ℕ → Ordering
 number_cmp (Some m) (Some n) = nat_cmp m n
 number_cmp (Some m) None = Less
@@ -76,7 +82,8 @@ in_direction Descending order = ordering_reverse order
 -- how a comparator orders two strings: as their ranks, in its direction
 abbrev pub comparator_cmp : Comparator → List ℕ → List ℕ → Ordering
 comparator_cmp comparator a b =
-    in_direction comparator.direction (rank_cmp (rank_of comparator.collation a) (rank_of comparator.collation b))
+    in_direction comparator.direction
+    (rank_cmp (rank_of comparator.collation a) (rank_of comparator.collation b))
 
 -- whether two strings are equal to a comparator: neither is before the other
 abbrev pub comparator_eq : Comparator → List ℕ → List ℕ → Bool

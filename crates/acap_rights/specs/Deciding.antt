@@ -54,7 +54,8 @@ kept_list records dataset attribute = list_as attribute (map.get records (path_o
 abbrev pub own_list : Stored → Target → Option (List (List ℕ))
 own_list records (OfDataset dataset) = None
 own_list records (OfAttribute dataset attribute) = None
-own_list records (OfEntry dataset attribute name) = list_for attribute (map.get records (path_of dataset name))
+own_list records (OfEntry dataset attribute name) =
+    list_for attribute (map.get records (path_of dataset name))
 
 -- the attributes of a management entry that are lists: of an attribute in the dataset, and of the dataset
 abbrev pub attribute_list_name : List ℕ → List ℕ
@@ -73,13 +74,16 @@ dataset_list_in management = list_as dataset_list_name management
 -- the list of an attribute in a dataset, else that of the dataset
 abbrev pub shared_list : Store → List ℕ → List ℕ → Option (List (List ℕ))
 shared_list store dataset attribute =
-    option_or (kept_list store.records dataset (attribute_list_name attribute)) (kept_list store.records dataset dataset_list_name)
+    option_or (kept_list store.records dataset (attribute_list_name attribute))
+    (kept_list store.records dataset dataset_list_name)
 
 -- the list for the attribute in the dataset, `dataset.acl.ATTRIBUTE`
 abbrev pub attribute_list : Stored → Target → Option (List (List ℕ))
 attribute_list records (OfDataset dataset) = None
-attribute_list records (OfAttribute dataset attribute) = kept_list records dataset (attribute_list_name attribute)
-attribute_list records (OfEntry dataset attribute name) = kept_list records dataset (attribute_list_name attribute)
+attribute_list records (OfAttribute dataset attribute) =
+    kept_list records dataset (attribute_list_name attribute)
+attribute_list records (OfEntry dataset attribute name) =
+    kept_list records dataset (attribute_list_name attribute)
 
 -- the list for the dataset, `dataset.acl`
 abbrev pub dataset_list : Stored → Target → Option (List (List ℕ))
@@ -87,28 +91,34 @@ dataset_list records target = kept_list records (dataset_in target) dataset_list
 
 -- the first of these that there is
 abbrev pub stored_list : Stored → Target → Option (List (List ℕ))
-stored_list records target = option_or (own_list records target) (option_or (attribute_list records target) (dataset_list records target))
+stored_list records target =
+    option_or (own_list records target)
+    (option_or (attribute_list records target) (dataset_list records target))
 
 -- decides, and else the default
 unfoldable pub deciding_list : Stored → Target → List (List ℕ)
 deciding_list records target = unwrap_or (stored_list records target) (default_list (dataset_in target))
 
--- the rights that no list takes away: an administrator has all, the owner of a dataset may read and administer it
+-- the rights that no list takes away: an administrator has
+-- all, the owner of a dataset may read and administer it
 unfoldable pub implicit_rights : Realm → List ℕ → List ℕ → Rights
 implicit_rights realm identifier dataset =
     if is_administrator realm identifier
     then all_rights
-    else if is_owner identifier dataset then record { x = false; r = true; w = false; i = false; a = true } else no_rights
+    else if is_owner identifier dataset then record { x = false; r = true; w = false; i = false; a = true }
+    else no_rights
 
 -- the rights of a user in a dataset by a stored list, if there is one
 abbrev pub rights_by_list : Realm → List ℕ → List ℕ → Option (List (List ℕ)) → Rights
 rights_by_list realm user dataset stored =
-    union (rights_in realm user (unwrap_or stored (default_list dataset))) (implicit_rights realm user dataset)
+    union (rights_in realm user (unwrap_or stored (default_list dataset)))
+    (implicit_rights realm user dataset)
 
 -- the rights of a user
 unfoldable pub rights_of : Stored → Realm → List ℕ → Target → Rights
 rights_of records realm user target =
-    union (rights_in realm user (deciding_list records target)) (implicit_rights realm user (dataset_in target))
+    union (rights_in realm user (deciding_list records target))
+    (implicit_rights realm user (dataset_in target))
 
 -- the same of a store and what is lent: the stored list, the one that decides, and the rights of a user
 abbrev pub stored_at : Store → Object → Option (List (List ℕ))

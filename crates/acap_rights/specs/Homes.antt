@@ -18,10 +18,11 @@ home_of dataset = if begins_with slash dataset then third_of (components dataset
 
 -- it is NAME's, where that is the name of a user
 unfoldable pub is_owner : List ℕ → List ℕ → Bool
-is_owner user dataset = option_map_or (λ name. if is_user_name name then octets_eq name user else false) (home_of dataset) false
+is_owner user dataset =
+    option_map_or (λ name. if is_user_name name then octets_eq name user else false) (home_of dataset) false
 
--- the list that decides in a dataset where none is stored: in a home its owner has all rights, and nobody has any if NAME is
--- no user's; elsewhere anyone may search and read
+-- the list that decides in a dataset where none is stored: in a home its owner has all rights, and nobody has
+-- any if NAME is no user's; elsewhere anyone may search and read
 abbrev pub home_list : List ℕ → List (List ℕ)
 home_list name = if is_user_name name then string_of name (codes "xrwia") ∷ [] else []
 

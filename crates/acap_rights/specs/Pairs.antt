@@ -1,5 +1,7 @@
--- The strings of access control lists: each pairs an identifier with the letters of rights [RFC 2244 sections 3.5 and 8].
-use Rattle.std.specs.Prelude.{◌≡◌, ℕ, ◌==◌, Bool, true, false, not, ◌&&◌, nat_lt, if◌then◌else◌, List, [], ◌∷◌, ◌++◌, length, drop, codes, Option, Some, None}
+-- The strings of access control lists: each pairs an identifier
+-- with the letters of rights [RFC 2244 sections 3.5 and 8].
+use Rattle.std.specs.Prelude.{◌≡◌, ℕ, ◌==◌, Bool, true, false, not, ◌&&◌, nat_lt, if◌then◌else◌, List, []}
+use Rattle.std.specs.Prelude.{◌∷◌, ◌++◌, length, drop, codes, Option, Some, None}
 use Rattle.std.specs.List.{list_any, list_all, slice_split}
 use Rattle.std.specs.Option.{option_map_or, is_some}
 use Rattle.acap_entries.specs.Names.{tab, minus, has, begins_with}
@@ -46,13 +48,14 @@ pub record IsPair (text : List ℕ) (pair : Pair) : Type 0 where
   pub identifier : is_identifier pair.identifier ≡ true
   pub letters : list_all is_letter pair.letters ≡ true
 
--- the same as a function: the two texts of a string with one TAB between them, where they are an identifier and
--- letters. Any other string says nothing
+-- the same as a function: the two texts of a string with one TAB between them, where they are an identifier
+-- and letters. Any other string says nothing
 abbrev pub pair_in : List (List ℕ) → Option Pair
 pair_in [] = None
 pair_in (identifier ∷ []) = None
 pair_in (identifier ∷ letters ∷ []) =
-    if is_identifier identifier && list_all is_letter letters then Some (pair_with identifier letters) else None
+    if is_identifier identifier && list_all is_letter letters then Some (pair_with identifier letters)
+    else None
 pair_in (identifier ∷ letters ∷ more ∷ others) = None
 
 unfoldable pub pair_of : List ℕ → Option Pair
@@ -66,7 +69,8 @@ says test text = option_map_or test (pair_of text) false
 abbrev pub is_acl : List (List ℕ) → Bool
 is_acl strings = list_all (λ text. is_some (pair_of text)) strings
 
--- a pair gives its letters to whom its identifier names; where that begins with `-` it takes them away from whom the rest names
+-- a pair gives its letters to whom its identifier names; where
+-- that begins with `-` it takes them away from whom the rest names
 abbrev pub gives : Realm → List ℕ → ℕ → Pair → Bool
 gives realm user letter pair =
     not (begins_with minus pair.identifier) && names realm user pair.identifier && has letter pair.letters

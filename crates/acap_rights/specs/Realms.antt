@@ -15,14 +15,16 @@ identifier_of group = group_prefix ++ group.name
 
 -- whether a group of the name has the user
 abbrev pub has_in_group : Realm → List ℕ → List ℕ → Bool
-has_in_group realm user name = list_any (λ group. octets_eq name group.name && has_member user group) realm.groups
+has_in_group realm user name =
+    list_any (λ group. octets_eq name group.name && has_member user group) realm.groups
 
 -- whether an identifier is that of a group that has the user
 abbrev pub names_in_group : Realm → List ℕ → List ℕ → Bool
 names_in_group realm user identifier =
     list_any (λ group. octets_eq identifier (identifier_of group) && has_member user group) realm.groups
 
--- whether an identifier names a user: it is the user's name, or `anyone`, or that of a group that has the user
+-- whether an identifier names a user: it is the user's
+-- name, or `anyone`, or that of a group that has the user
 unfoldable pub names : Realm → List ℕ → List ℕ → Bool
 names realm user identifier =
     octets_eq identifier user || octets_eq identifier (codes "anyone") || names_in_group realm user identifier

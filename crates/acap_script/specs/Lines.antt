@@ -1,5 +1,7 @@
 -- What the text of a script's line says.
-use Rattle.std.specs.Prelude.{◌≡◌, ℕ, ℤ, pos, ◌+◌, ◌-◌, ◌*◌, ◌==◌, Bool, true, ◌&&◌, nat_le, nat_lt, if◌then◌else◌, List, [], ◌∷◌, length, take, drop, codes, fold, position, Option, Some, None, option_map, option_and_then, Result, Ok, Err}
+use Rattle.std.specs.Prelude.{◌≡◌, ℕ, ℤ, pos, ◌+◌, ◌-◌, ◌*◌, ◌==◌, Bool, true, ◌&&◌, nat_le, nat_lt}
+use Rattle.std.specs.Prelude.{if◌then◌else◌, List, [], ◌∷◌, length, take, drop, codes, fold, position, Option}
+use Rattle.std.specs.Prelude.{Some, None, option_map, option_and_then, Result, Ok, Err}
 use Rattle.std.specs.List.{list_all}
 use Rattle.hex.specs.Hex.{decode_of}
 use Rattle.hex.specs.declared.error.FromHexError.{FromHexError}
@@ -95,8 +97,8 @@ both made None b = None
 abbrev pub by_parts : (List ℕ → List ℕ → Option ScriptLine) → List ℕ → Option ScriptLine
 by_parts made text = option_and_then (λ parts. made parts.0 parts.1) (parts_of text)
 
--- `user NAME SECRET`, `group NAME USER`, `enter K NAME`, `send K TEXT`, `raw K HEX`, `piece K HEX`, behind the word and its SP; what is the
--- rest of a line may be empty
+-- `user NAME SECRET`, `group NAME USER`, `enter K NAME`, `send K TEXT`, `raw K HEX`, `piece K HEX`, behind
+-- the word and its SP; what is the rest of a line may be empty
 abbrev pub user_line : List ℕ → Option ScriptLine
 user_line text = by_parts (λ name secret. both line.User (name_in name) (Some secret)) text
 
@@ -104,16 +106,22 @@ abbrev pub group_line : List ℕ → Option ScriptLine
 group_line text = by_parts (λ name member. both line.Group (name_in name) (name_in member)) text
 
 abbrev pub enter_line : List ℕ → Option ScriptLine
-enter_line text = by_parts (λ seat name. both (λ k user. line.At k (act.Enter user)) (seat_in seat) (name_in name)) text
+enter_line text =
+    by_parts (λ seat name. both (λ k user. line.At k (act.Enter user)) (seat_in seat) (name_in name)) text
 
 abbrev pub send_line : List ℕ → Option ScriptLine
-send_line text = by_parts (λ seat sent. both (λ k sent. line.At k (act.Send sent)) (seat_in seat) (Some sent)) text
+send_line text =
+    by_parts (λ seat sent. both (λ k sent. line.At k (act.Send sent)) (seat_in seat) (Some sent)) text
 
 abbrev pub raw_line : List ℕ → Option ScriptLine
-raw_line text = by_parts (λ seat digits. both (λ k octets. line.At k (act.Raw octets)) (seat_in seat) (octets_in digits)) text
+raw_line text =
+    by_parts (λ seat digits. both (λ k octets. line.At k (act.Raw octets)) (seat_in seat) (octets_in digits))
+    text
 
 abbrev pub piece_line : List ℕ → Option ScriptLine
-piece_line text = by_parts (λ seat digits. both (λ k octets. line.At k (act.Piece octets)) (seat_in seat) (octets_in digits)) text
+piece_line text =
+    by_parts
+    (λ seat digits. both (λ k octets. line.At k (act.Piece octets)) (seat_in seat) (octets_in digits)) text
 
 -- by the word
 abbrev pub line_by : ScriptWord → List ℕ → Option ScriptLine

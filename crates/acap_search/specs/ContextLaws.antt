@@ -14,21 +14,25 @@ use Rattle.acap_search.specs.Once.{EachOnce}
 use Rattle.acap_search.specs.Within.{matches_within}
 use Rattle.acap_search.specs.declared.query.SearchSpec.{SearchSpec}
 
--- under which name an entry is told, by the octets of its full path: all of them where DEPTH was written, else those behind the
--- searched dataset
+-- under which name an entry is told, by the octets of its full path: all of them where DEPTH was written,
+-- else those behind the searched dataset
 abbrev pub name_by : Option ℕ → List ℕ → List ℕ → List ℕ
 name_by None dataset full = drop (length dataset) full
 name_by (Some depth) dataset full = full
 
--- in a sound store the matches of one search ascend strictly, so that no two stand in one place; no two have one full path;
--- and the name under which each is told is one that its full path gives
+-- in a sound store the matches of one search ascend strictly, so that no two stand in one place; no two have
+-- one full path; and the name under which each is told is one that its full path gives
 pub record HitLaw : Type 0 where
-  pub ascend : (records : Stored) (realm : Realm) (user : List ℕ) (sought : SearchSpec) → IsSoundStore records → dataset_exists records sought.dataset ≡ true
+  pub ascend : (records : Stored) (realm : Realm) (user : List ℕ) (sought : SearchSpec) → IsSoundStore records
+      → dataset_exists records sought.dataset ≡ true
       → Ascending match_cmp (matches_of records realm user sought)
-  pub paths : (records : Stored) (realm : Realm) (user : List ℕ) (sought : SearchSpec) → IsSoundStore records → dataset_exists records sought.dataset ≡ true
+  pub paths : (records : Stored) (realm : Realm) (user : List ℕ) (sought : SearchSpec) → IsSoundStore records
+      → dataset_exists records sought.dataset ≡ true
       → EachOnce (each (λ found. full_path found.path) (matches_of records realm user sought))
-  pub names : (records : Stored) (realm : Realm) (user : List ℕ) (sought : SearchSpec) → IsSoundStore records → dataset_exists records sought.dataset ≡ true
-      → (found : Match) → Contains (matches_of records realm user sought) found → found.row.name ≡ name_by sought.depth sought.dataset (full_path found.path)
+  pub names : (records : Stored) (realm : Realm) (user : List ℕ) (sought : SearchSpec) → IsSoundStore records
+      → dataset_exists records sought.dataset ≡ true
+      → (found : Match) → Contains (matches_of records realm user sought) found
+      → found.row.name ≡ name_by sought.depth sought.dataset (full_path found.path)
 
 -- a match as a search without SORT makes it
 abbrev pub without_places : Match → Match
@@ -41,10 +45,15 @@ with_no_sort sought = record sought { sort = None }
 abbrev pub shown_by : Stored → Realm → List ℕ → SearchSpec → List Path
 shown_by records realm user sought = each (λ found. found.path) (matches_of records realm user sought)
 
--- over the list of a search, with nothing changed since and by that search's own key, the same is found in the same order, without SORT
--- and with the same SORT. Such a key has no RANGE, since over a dataset there are no positions
+-- over the list of a search, with nothing changed since and by that search's
+-- own key, the same is found in the same order, without SORT and with the same
+-- SORT. Such a key has no RANGE, since over a dataset there are no positions
 pub record WithinLaw : Type 0 where
-  pub plain : (records : Stored) (realm : Realm) (user : List ℕ) (sought : SearchSpec) → has_range sought.key ≡ false
-      → matches_within records realm user (with_no_sort sought) (shown_by records realm user sought) ≡ each without_places (matches_of records realm user sought)
-  pub ordered : (records : Stored) (realm : Realm) (user : List ℕ) (sought : SearchSpec) → has_range sought.key ≡ false
-      → matches_within records realm user sought (shown_by records realm user sought) ≡ matches_of records realm user sought
+  pub plain : (records : Stored) (realm : Realm) (user : List ℕ) (sought : SearchSpec)
+      → has_range sought.key ≡ false
+      → matches_within records realm user (with_no_sort sought) (shown_by records realm user sought)
+      ≡ each without_places (matches_of records realm user sought)
+  pub ordered : (records : Stored) (realm : Realm) (user : List ℕ) (sought : SearchSpec)
+      → has_range sought.key ≡ false
+      → matches_within records realm user sought (shown_by records realm user sought)
+      ≡ matches_of records realm user sought

@@ -17,4 +17,6 @@ pub record IsGroundOf (quest : Walk) (g : DatasetCursor) : Type 0 where
 
 -- how grounds are told apart in proofs
 abbrev pub ground_code : Coded DatasetCursor
-ground_code = code_by (View × Bool) (coded× view_code coded_bool) (λ g. (g.view, g.is_searched)) (λ p. record { view = p.0; is_searched = p.1 }) (λ _. refl)
+ground_code =
+    code_by (View × Bool) (coded× view_code coded_bool) (λ g. (g.view, g.is_searched))
+    (λ p. record { view = p.0; is_searched = p.1 }) (λ _. refl)

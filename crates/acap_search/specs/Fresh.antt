@@ -1,5 +1,6 @@
 -- What a user sees in a scope, and what a search finds there [RFC 2244 sections 3.5, 5.2 and 6.4.1].
-use Rattle.std.specs.Prelude.{◌≡◌, ℕ, Bool, true, false, not, ◌&&◌, ◌||◌, nat_lt, List, length, flat_map, Option, Some, None, Result, Ok, Err, if◌then◌else◌, map as each}
+use Rattle.std.specs.Prelude.{◌≡◌, ℕ, Bool, true, false, not, ◌&&◌, ◌||◌, nat_lt, List, length, flat_map}
+use Rattle.std.specs.Prelude.{Option, Some, None, Result, Ok, Err, if◌then◌else◌, map as each}
 use Rattle.std.specs.List.{filter, filter_map, list_any, Contains}
 use Rattle.std.specs.Ordering.{is_lt}
 use Rattle.acap_entries.specs.Datasets.{dataset_exists}
@@ -23,8 +24,8 @@ use Rattle.acap_search.specs.declared.query.SearchSpec.{SearchSpec}
 use Rattle.acap_search.specs.declared.refusal.SearchRefusal.{SearchRefusal}
 use Rattle.acap_search.specs.declared.refusal.SearchRefusal.TheVariants as refusal
 
--- all that a search may depend on: the paths of the entries that are seen, the four answers about each, and among which
--- attributes of each all are that have a value which is read
+-- all that a search may depend on: the paths of the entries that are seen, the four answers about each, and
+-- among which attributes of each all are that have a value which is read
 pub record Sight : Type 0 where
   pub paths : List Path
   pub answers : Path → Answers
@@ -37,7 +38,8 @@ pub record IsSameAnswers (a b : Answers) : Type 0 where
   pub acl : (attribute : List ℕ) → a.acl attribute ≡ b.acl attribute
   pub rights : (attribute : List ℕ) → a.rights attribute ≡ b.rights attribute
 
--- two sights are equal where the paths are, and at each of them the answers; which attributes were tried is no part of that
+-- two sights are equal where the paths are, and at each of them
+-- the answers; which attributes were tried is no part of that
 pub record IsSameSight (a b : Sight) : Type 0 where
   pub paths : a.paths ≡ b.paths
   pub answers : (path : Path) → Contains a.paths path → IsSameAnswers (a.answers path) (b.answers path)
@@ -50,7 +52,8 @@ answers_on records realm user no_inherit path =
 -- the paths in a dataset, and in all datasets of a scope, at which a record is or may be inherited
 abbrev pub paths_in : Stored → Bool → List ℕ → List Path
 paths_in records no_inherit dataset =
-    each (λ name. record { dataset = dataset; name = name }) (names_on records (chain_of records dataset no_inherit))
+    each (λ name. record { dataset = dataset; name = name })
+    (names_on records (chain_of records dataset no_inherit))
 
 abbrev pub paths_of : Stored → Scope → List Path
 paths_of records scope = flat_map (paths_in records scope.no_inherit) (datasets_of records scope)
@@ -61,7 +64,9 @@ full_path_lt a b = is_lt (full_path_cmp a b)
 -- the sight of a user in a scope; its paths ascend in octets
 abbrev pub sight_of : Stored → Realm → List ℕ → Scope → Sight
 sight_of records realm user scope = record {
-  paths = sorted_by full_path_lt (filter (λ path. is_seen (answers_on records realm user scope.no_inherit path)) (paths_of records scope));
+  paths = sorted_by full_path_lt
+      (filter (λ path. is_seen (answers_on records realm user scope.no_inherit path))
+      (paths_of records scope));
   answers = answers_on records realm user scope.no_inherit;
   attributes = λ path. attributes_at records path.name (chain_of records path.dataset scope.no_inherit);
 }
@@ -73,12 +78,13 @@ same_path a b = octets_eq a.dataset b.dataset && octets_eq a.name b.name
 abbrev pub is_among : List Path → Path → Bool
 is_among paths path = list_any (same_path path) paths
 
--- the tuple of a path: what is made of the entry there. Out of the scope, out of sight, and where the key doesn't want it, there
--- is none
+-- the tuple of a path: what is made of the entry there. Out of the
+-- scope, out of sight, and where the key doesn't want it, there is none
 abbrev pub tuple_of : Sight → SearchSpec → Path → Option Match
 tuple_of sight sought path =
     if is_among sight.paths path
-    then tuple_for sought None path (sight.answers path) (stars_of (sight.answers path).read (sight.attributes path))
+    then tuple_for sought None path (sight.answers path)
+    (stars_of (sight.answers path).read (sight.attributes path))
     else None
 
 -- what a search finds: the tuples of all paths in sight, in order. LIMIT and HARDLIMIT have no part in it
@@ -108,23 +114,29 @@ abbrev pub is_over : Option ℕ → ℕ → Bool
 is_over None count = false
 is_over (Some most) count = nat_lt most count
 
--- why a search over a dataset is refused, the first reason being told: a key that asks for positions, a dataset that doesn't
--- exist, more matches than HARDLIMIT
+-- why a search over a dataset is refused, the first reason being told: a key that asks for positions, a
+-- dataset that doesn't exist, more matches than HARDLIMIT
 abbrev pub refusal_of : Stored → Realm → List ℕ → Query → Option SearchRefusal
 refusal_of records realm user query =
     if has_range query.sought.key then Some refusal.RangeHere
     else if not (dataset_exists records query.sought.dataset) then Some refusal.NoExist
-    else if is_over query.hard_limit (length (matches_of records realm user query.sought)) then Some refusal.WayTooMany
+    else if is_over query.hard_limit (length (matches_of records realm user query.sought))
+    then Some refusal.WayTooMany
     else None
 
--- what is answered to a search over a dataset: what holds of all matches, or why it is refused. Memory is wanted only where the
--- key and the dataset are right
-abbrev pub IsAnswer : {X : Type 0} → Stored → Realm → List ℕ → Query → (X → List Match → Type 0) → Result X SearchRefusal → Type 0
+-- what is answered to a search over a dataset: what holds of all matches, or why it is refused. Memory is
+-- wanted only where the key and the dataset are right
+abbrev pub IsAnswer : {X : Type 0} → Stored → Realm → List ℕ → Query → (X → List Match → Type 0)
+    → Result X SearchRefusal → Type 0
 IsAnswer records realm user query holds (Ok found) =
     (refusal_of records realm user query ≡ None) × holds found (matches_of records realm user query.sought)
-IsAnswer records realm user query holds (Err refusal.RangeHere) = refusal_of records realm user query ≡ Some refusal.RangeHere
-IsAnswer records realm user query holds (Err refusal.NoExist) = refusal_of records realm user query ≡ Some refusal.NoExist
-IsAnswer records realm user query holds (Err refusal.TooOld) = refusal_of records realm user query ≡ Some refusal.TooOld
-IsAnswer records realm user query holds (Err refusal.WayTooMany) = refusal_of records realm user query ≡ Some refusal.WayTooMany
+IsAnswer records realm user query holds (Err refusal.RangeHere) =
+    refusal_of records realm user query ≡ Some refusal.RangeHere
+IsAnswer records realm user query holds (Err refusal.NoExist) =
+    refusal_of records realm user query ≡ Some refusal.NoExist
+IsAnswer records realm user query holds (Err refusal.TooOld) =
+    refusal_of records realm user query ≡ Some refusal.TooOld
+IsAnswer records realm user query holds (Err refusal.WayTooMany) =
+    refusal_of records realm user query ≡ Some refusal.WayTooMany
 IsAnswer records realm user query holds (Err refusal.Memory) =
     (has_range query.sought.key ≡ false) × (dataset_exists records query.sought.dataset ≡ true)

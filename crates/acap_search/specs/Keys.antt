@@ -50,14 +50,17 @@ tested_cell by_octets answers attribute = if by_octets then answers.test attribu
 
 -- RANGE: from one position to another, both included, where there are positions
 abbrev pub is_within : ℕ → ℕ → Option ℕ → Bool
-is_within first last place = option_map_or (λ position. nat_le first position && nat_le position last) place false
+is_within first last place =
+    option_map_or (λ position. nat_le first position && nat_le position last) place false
 
 -- one test of an entry, which has this place in the context that is looked through, or none in a dataset
 abbrev pub passes : Test → Option ℕ → Answers → Bool
 passes test.All place answers = true
-passes (test.IsNil attribute comparator) place answers = is_nil (tested_cell (is_octet comparator.collation) answers attribute)
+passes (test.IsNil attribute comparator) place answers =
+    is_nil (tested_cell (is_octet comparator.collation) answers attribute)
 passes (test.Meets rel attribute comparator wanted) place answers =
-    some_text (stands_so rel comparator wanted) (tested_cell (is_equal rel && is_octet comparator.collation) answers attribute)
+    some_text (stands_so rel comparator wanted)
+    (tested_cell (is_equal rel && is_octet comparator.collation) answers attribute)
 passes (test.Range first last since) place answers = is_within first last place
 
 -- whether an entry is wanted

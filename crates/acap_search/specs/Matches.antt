@@ -42,8 +42,8 @@ sorted_from lt (x ∷ xs) = put_by lt x (sorted_from lt xs)
 unfoldable pub sorted_by : {X : Type 0} → (X → X → Bool) → List X → List X
 sorted_by lt xs = sorted_from lt xs
 
--- matches that come in the order of their paths, or in that of a context: SORT reorders them, and without it they stay as they
--- come
+-- matches that come in the order of their paths, or in that of a
+-- context: SORT reorders them, and without it they stay as they come
 abbrev pub ordered_by : Option (List SortItem) → List Match → List Match
 ordered_by None matches = matches
 ordered_by (Some sort) matches = sorted_by match_lt matches
@@ -51,5 +51,6 @@ ordered_by (Some sort) matches = sorted_by match_lt matches
 -- how matches are told apart in proofs
 abbrev pub match_code : Coded Match
 match_code =
-    code_by (Path × (List SortTerm × Row)) (coded× path.the_row.coded (coded× (coded_list place.the_row.coded) row.the_row.coded))
+    code_by (Path × (List SortTerm × Row))
+    (coded× path.the_row.coded (coded× (coded_list place.the_row.coded) row.the_row.coded))
     (λ m. (m.path, (m.places, m.row))) (λ p. record { path = p.0; places = p.1.0; row = p.1.1 }) (λ _. refl)

@@ -17,10 +17,12 @@ abbrev pub name_in : Test → Option (List ℕ)
 name_in test.All = None
 name_in (test.IsNil attribute comparator) = None
 name_in (test.Meets rel attribute comparator wanted) =
-    if (is_equal rel && is_octet comparator.collation) && octets_eq attribute (codes "entry") then Some wanted else None
+    if (is_equal rel && is_octet comparator.collation) && octets_eq attribute (codes "entry") then Some wanted
+    else None
 name_in (test.Range first last since) = None
 
--- a name that each entry which the key wants has, if the key gives one: that of the first such test, alone or among keys joined by AND
+-- a name that each entry which the key wants has, if the key gives
+-- one: that of the first such test, alone or among keys joined by AND
 abbrev pub only_name : Wanted → Option (List ℕ)
 only_name (One t) = name_in t
 only_name (And a b) = first_of (only_name a) (only_name b)

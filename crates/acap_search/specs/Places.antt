@@ -22,8 +22,8 @@ use Rattle.acap_search.specs.declared.sort_term.SortTerm.TheVariants.{Rising, Fa
 use Rattle.acap_search.specs.declared.sort_term.Rank.{Rank}
 use Rattle.acap_search.specs.declared.sort_term.Rank.TheVariants.{Octets, Number, NoNumber}
 
--- what a string is compared by, as it is kept: its octets, those in upper case, or the digits of the number that it begins
--- with, without zeros in front, where it begins with a number
+-- what a string is compared by, as it is kept: its octets, those in upper case, or the digits of the number
+-- that it begins with, without zeros in front, where it begins with a number
 abbrev pub number_rank : List ℕ → Rank
 number_rank [] = NoNumber
 number_rank (digit ∷ digits) = Number (significant_digits (digit ∷ digits))
@@ -47,8 +47,8 @@ place_in comparator (Multi texts) = Behind
 abbrev pub places_in : (List ℕ → Cell) → List SortItem → List SortTerm
 places_in read sort = each (λ item. place_in item.comparator (read item.attribute)) sort
 
--- octet by octet, and numbers by the count of their digits and then digit by digit, no number being behind all numbers. Those
--- of one comparator are all octets or all numbers
+-- octet by octet, and numbers by the count of their digits and then digit by digit, no number being behind
+-- all numbers. Those of one comparator are all octets or all numbers
 abbrev pub rank_cmp : Rank → Rank → Ordering
 rank_cmp (Octets a) (Octets b) = octets_cmp a b
 rank_cmp (Octets a) (Number b) = Less

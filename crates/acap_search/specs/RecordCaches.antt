@@ -25,7 +25,8 @@ own_value entry name attribute =
 
 -- a dataset inherits nothing, and those are the user's rights on its attributes
 abbrev pub IsPlain : View → SharedRights → Type 0
-IsPlain view shared = (view.chain ≡ view.dataset ∷ []) × AreShared view.records view.realm view.user view.dataset shared
+IsPlain view shared = (view.chain ≡ view.dataset ∷ [])
+    × AreShared view.records view.realm view.user view.dataset shared
 
 -- those rights, where they are at hand
 abbrev pub AreSharedBy : View → Option (Bor SharedRights) → Type 0
@@ -34,7 +35,8 @@ AreSharedBy view shared = ForSome shared (λ rights. IsPlain view rights.now)
 -- what is at hand of an entry is its record, and the rights in its dataset, which is such a one
 abbrev pub IsNear : Spotted → Option OwnRecord → Type 0
 IsNear spot kept =
-    ForSome kept (λ kept. IsPlain spot.by kept.shared.now × (record_at spot.by.records spot.by.dataset spot.name ≡ Some kept.entry.now))
+    ForSome kept (λ kept. IsPlain spot.by kept.shared.now
+    × (record_at spot.by.records spot.by.dataset spot.name ≡ Some kept.entry.now))
 
 -- the rights at hand are those in the searched dataset, and in its base
 abbrev pub AreAlong : View → Option ChainRights → Type 0

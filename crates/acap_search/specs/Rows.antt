@@ -1,5 +1,6 @@
 -- What a RETURN tells of an entry, of what is seen of it [RFC 2244 sections 3.1.2 and 6.4.1].
-use Rattle.std.specs.Prelude.{ℕ, Bool, true, ◌&&◌, not, nat_eq, List, [], ◌∷◌, ◌++◌, length, decimal, codes, Option, Some, None, if◌then◌else◌, map as each}
+use Rattle.std.specs.Prelude.{ℕ, Bool, true, ◌&&◌, not, nat_eq, List, [], ◌∷◌, ◌++◌, length, decimal, codes}
+use Rattle.std.specs.Prelude.{Option, Some, None, if◌then◌else◌, map as each}
 use Rattle.std.specs.FinMap as map
 use Rattle.std.specs.List.{starts_with}
 use Rattle.acap_entries.specs.Orders.{octets_cmp}
@@ -57,14 +58,17 @@ item_of_cells (cell ∷ second ∷ cells) = Several (cell ∷ second ∷ cells)
 abbrev pub Names : Type 0
 Names = map.FinMap octets_cmp Bool
 
--- the attributes that begin with some octets and have a value that is seen, in the order of their octets, found among some
+-- the attributes that begin with some octets and have a value
+-- that is seen, in the order of their octets, found among some
 abbrev pub put_star : (List ℕ → Cell) → List ℕ → List ℕ → Names → Names
 put_star read front attribute stars =
-    if starts_with nat_eq attribute front && not (is_nil (read attribute)) then map.insert stars attribute true else stars
+    if starts_with nat_eq attribute front && not (is_nil (read attribute))
+    then map.insert stars attribute true else stars
 
 abbrev pub stars_from : (List ℕ → Cell) → List ℕ → List (List ℕ) → Names → Names
 stars_from read front [] stars = stars
-stars_from read front (attribute ∷ rest) stars = stars_from read front rest (put_star read front attribute stars)
+stars_from read front (attribute ∷ rest) stars =
+    stars_from read front rest (put_star read front attribute stars)
 
 unfoldable pub stars_of : (List ℕ → Cell) → List (List ℕ) → List ℕ → Names
 stars_of read names front = stars_from read front names map.empty
@@ -76,7 +80,8 @@ attributes_in (Some entry) = map.keys entry.cells
 
 abbrev pub attributes_on : Stored → List ℕ → List (List ℕ) → List (List ℕ)
 attributes_on records name [] = []
-attributes_on records name (dataset ∷ chain) = attributes_in (record_at records dataset name) ++ attributes_on records name chain
+attributes_on records name (dataset ∷ chain) =
+    attributes_in (record_at records dataset name) ++ attributes_on records name chain
 
 abbrev pub attributes_at : Stored → List ℕ → List (List ℕ) → List (List ℕ)
 attributes_at records name chain = codes "entry" ∷ codes "modtime" ∷ attributes_on records name chain
@@ -84,7 +89,8 @@ attributes_at records name chain = codes "entry" ∷ codes "modtime" ∷ attribu
 -- what one item of RETURN tells
 abbrev pub item_of : Answers → (List ℕ → Names) → ReturnName → List Metadata → Item
 item_of answers stars (name.Named attribute) wanted = item_of_cells (data_of answers wanted attribute)
-item_of answers stars (name.Beginning front) wanted = PerAttribute (each (data_of answers wanted) (map.keys (stars front)))
+item_of answers stars (name.Beginning front) wanted =
+    PerAttribute (each (data_of answers wanted) (map.keys (stars front)))
 
 -- what a RETURN tells
 abbrev pub items_of : Answers → (List ℕ → Names) → List ReturnItem → List Item

@@ -1,5 +1,6 @@
 -- What a user may see of an entry [RFC 2244 sections 3.5 and 6.4.1].
-use Rattle.std.specs.Prelude.{ℕ, Bool, true, false, not, ◌&&◌, ◌||◌, List, Option, Some, None, codes, if◌then◌else◌}
+use Rattle.std.specs.Prelude.{ℕ, Bool, true, false, not, ◌&&◌, ◌||◌, List, Option, Some, None, codes}
+use Rattle.std.specs.Prelude.{if◌then◌else◌}
 use Rattle.std.specs.FinMap as map
 use Rattle.std.specs.Option.{option_and_then}
 use Rattle.acap_entries.specs.Store.{Stored}
@@ -41,25 +42,31 @@ cell_at may here rights_in (Some found) = if is_held may here rights_in (Some fo
 
 -- the list of an attribute in the record of an entry
 abbrev pub own_acl : Stored → List ℕ → List ℕ → List ℕ → Option (List (List ℕ))
-own_acl records dataset name attribute = option_and_then (λ entry. map.get entry.acls attribute) (record_at records dataset name)
+own_acl records dataset name attribute =
+    option_and_then (λ entry. map.get entry.acls attribute) (record_at records dataset name)
 
 -- the rights of a user on an attribute of an entry, in some dataset
 abbrev pub rights_on : Stored → Realm → List ℕ → List ℕ → List ℕ → List ℕ → Rights
-rights_on records realm user attribute name dataset = rights_of records realm user (OfEntry dataset attribute name)
+rights_on records realm user attribute name dataset =
+    rights_of records realm user (OfEntry dataset attribute name)
 
 -- whether what an attribute of the entry of a name resolves to is at the level read, be it NIL
 abbrev pub is_readable : Stored → Realm → List ℕ → List ℕ → List (List ℕ) → List ℕ → List ℕ → Bool
 is_readable records realm user dataset chain name attribute =
-    is_held may_read (rights_on records realm user attribute name dataset) (rights_on records realm user attribute name) (lookup records chain name attribute)
+    is_held may_read (rights_on records realm user attribute name dataset)
+    (rights_on records realm user attribute name) (lookup records chain name attribute)
 
 -- the answers about the entry of a name in a dataset that has this chain
 abbrev pub answers_at : Stored → Realm → List ℕ → List ℕ → List (List ℕ) → List ℕ → Answers
 answers_at records realm user dataset chain name =
     let rights_in : List ℕ → List ℕ → Rights = λ attribute. rights_on records realm user attribute name in
     record {
-      read = λ attribute. cell_at may_read (rights_in attribute dataset) (rights_in attribute) (lookup records chain name attribute);
-      test = λ attribute. cell_at may_test (rights_in attribute dataset) (rights_in attribute) (lookup records chain name attribute);
-      acl = λ attribute. if is_readable records realm user dataset chain name attribute then own_acl records dataset name attribute else None;
+      read = λ attribute. cell_at may_read (rights_in attribute dataset) (rights_in attribute)
+          (lookup records chain name attribute);
+      test = λ attribute. cell_at may_test (rights_in attribute dataset) (rights_in attribute)
+          (lookup records chain name attribute);
+      acl = λ attribute. if is_readable records realm user dataset chain name attribute
+          then own_acl records dataset name attribute else None;
       rights = λ attribute. rights_in attribute dataset;
     }
 

@@ -1,4 +1,5 @@
--- What a change leaves as it is for a search: the entries that it doesn't touch [RFC 2244 sections 5.1, 5.2 and 6.4.1].
+-- What a change leaves as it is for a search: the entries that
+-- it doesn't touch [RFC 2244 sections 5.1, 5.2 and 6.4.1].
 use Rattle.std.specs.Prelude.{◌≡◌, ◌↔◌, ℕ, true, false, List}
 use Rattle.std.specs.List.{Contains}
 use Rattle.acap_entries.specs.Datasets.{dataset_exists}

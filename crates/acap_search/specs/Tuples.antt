@@ -20,7 +20,10 @@ abbrev pub match_of : SearchSpec → Path → Answers → (List ℕ → Names) �
 match_of sought path answers stars = record {
   path = path;
   places = places_in answers.read (unwrap_or sought.sort []);
-  row = record { name = name_told sought.depth path; items = option_map_or (items_of answers stars) sought.returns [] };
+  row = record {
+    name = name_told sought.depth path;
+    items = option_map_or (items_of answers stars) sought.returns [];
+  };
 }
 
 -- the same where the key wants the entry; its position is that in the context that is searched, if one is
@@ -30,4 +33,5 @@ tuple_for sought place path answers stars =
 
 -- and where the entry is seen
 abbrev pub seen_tuple : SearchSpec → Option ℕ → Path → Answers → (List ℕ → Names) → Option Match
-seen_tuple sought place path answers stars = if is_seen answers then tuple_for sought place path answers stars else None
+seen_tuple sought place path answers stars =
+    if is_seen answers then tuple_for sought place path answers stars else None

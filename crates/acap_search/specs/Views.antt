@@ -19,7 +19,8 @@ use Rattle.acap_rights.specs.declared.realm.Realm.{Realm}
 use Rattle.acap_rights.specs.declared.rights.Rights.{Rights}
 use Rattle.acap_search.specs.Matches.{Match}
 use Rattle.acap_search.specs.Places.{places_in}
-use Rattle.acap_search.specs.Rows.{Names, attributes_at, attributes_in, attributes_on, data_of, item_of, items_of, stars_of, stars_from}
+use Rattle.acap_search.specs.Rows.{Names, attributes_at, attributes_in, attributes_on, data_of, item_of}
+use Rattle.acap_search.specs.Rows.{items_of, stars_of, stars_from}
 use Rattle.acap_search.specs.Sight.{Answers, answers_at, is_readable, own_acl, rights_on}
 use Rattle.acap_search.specs.Tuples.{match_of, seen_tuple}
 use Rattle.acap_search.specs.declared.query.SearchSpec.{SearchSpec}
@@ -57,7 +58,8 @@ path_of spot = record { dataset = spot.by.dataset; name = spot.name }
 
 -- what is seen of it
 abbrev pub answers_of : Spotted → Answers
-answers_of spot = answers_at spot.by.records spot.by.realm spot.by.user spot.by.dataset spot.by.chain spot.name
+answers_of spot =
+    answers_at spot.by.records spot.by.realm spot.by.user spot.by.dataset spot.by.chain spot.name
 
 -- a user's rights on an attribute of the entry of a name, in some dataset
 abbrev pub rights_in : View → List ℕ → List ℕ → List ℕ → Rights
@@ -65,7 +67,8 @@ rights_in view dataset attribute name = rights_on view.records view.realm view.u
 
 -- whether what an attribute resolves to may be read, be it NIL
 abbrev pub is_readable_at : Spotted → List ℕ → Bool
-is_readable_at spot = is_readable spot.by.records spot.by.realm spot.by.user spot.by.dataset spot.by.chain spot.name
+is_readable_at spot =
+    is_readable spot.by.records spot.by.realm spot.by.user spot.by.dataset spot.by.chain spot.name
 
 -- the list of an attribute in the record of the searched dataset
 abbrev pub acl_at : Spotted → List ℕ → Option (List (List ℕ))
@@ -84,7 +87,8 @@ stars_among spot = stars_from (answers_of spot).read
 
 -- of the attributes in the record of one dataset, and in those along a chain
 abbrev pub stars_by : Spotted → List ℕ → List ℕ → Names → Names
-stars_by spot front dataset = stars_among spot front (attributes_in (record_at spot.by.records dataset spot.name))
+stars_by spot front dataset =
+    stars_among spot front (attributes_in (record_at spot.by.records dataset spot.name))
 
 abbrev pub stars_along : Spotted → List ℕ → List (List ℕ) → Names → Names
 stars_along spot front chain = stars_among spot front (attributes_on spot.by.records spot.name chain)
@@ -115,9 +119,13 @@ abbrev pub view_code : Coded View
 view_code =
     code_by (Stored × (Realm × (List ℕ × (List ℕ × List (List ℕ)))))
     (coded× (map.code path.the_row.coded row.the_row.coded)
-    (coded× realm.the_row.coded (coded× (coded_list coded_ℕ) (coded× (coded_list coded_ℕ) (coded_list (coded_list coded_ℕ))))))
+    (coded× realm.the_row.coded
+    (coded× (coded_list coded_ℕ) (coded× (coded_list coded_ℕ) (coded_list (coded_list coded_ℕ))))))
     (λ v. (v.records, (v.realm, (v.user, (v.dataset, v.chain)))))
-    (λ p. record { records = p.0; realm = p.1.0; user = p.1.1.0; dataset = p.1.1.1.0; chain = p.1.1.1.1 }) (λ _. refl)
+    (λ p. record { records = p.0; realm = p.1.0; user = p.1.1.0; dataset = p.1.1.1.0; chain = p.1.1.1.1 })
+    (λ _. refl)
 
 abbrev pub spotted_code : Coded Spotted
-spotted_code = code_by (View × List ℕ) (coded× view_code (coded_list coded_ℕ)) (λ s. (s.by, s.name)) (λ p. record { by = p.0; name = p.1 }) (λ _. refl)
+spotted_code =
+    code_by (View × List ℕ) (coded× view_code (coded_list coded_ℕ)) (λ s. (s.by, s.name))
+    (λ p. record { by = p.0; name = p.1 }) (λ _. refl)

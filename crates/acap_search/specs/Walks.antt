@@ -64,8 +64,8 @@ hits_beneath quest depth = flat_map (hits_in quest) (beneath quest.records quest
 abbrev pub hits_over : Walk → List Match
 hits_over quest = flat_map (hits_in quest) (datasets_of quest.records (scope_of quest.sought))
 
--- at how many paths a search looks in one dataset, in the one that an entry makes, where it is reached, beneath the searched one in so
--- many levels, and in all of the scope
+-- at how many paths a search looks in one dataset, in the one that an entry makes, where it is reached,
+-- beneath the searched one in so many levels, and in all of the scope
 abbrev pub names_count : View → ℕ
 names_count view = length (names_on view.records view.chain)
 
@@ -79,17 +79,20 @@ abbrev pub count_beneath : Walk → ℕ → ℕ
 count_beneath quest depth = sum_by (count_in quest) (beneath quest.records quest.sought.dataset depth)
 
 unfoldable pub count_over : Walk → ℕ
-count_over quest = count_in quest quest.sought.dataset + option_map_or (count_beneath quest) quest.sought.depth 0
+count_over quest = count_in quest quest.sought.dataset
+    + option_map_or (count_beneath quest) quest.sought.depth 0
 
 abbrev pub datasets_by : Walk → List (List ℕ)
 datasets_by quest = datasets_of quest.records (scope_of quest.sought)
 
--- over a context, what is made of the entry at a position, of all that it shows, and of these in the order that is asked for
+-- over a context, what is made of the entry at a position, of
+-- all that it shows, and of these in the order that is asked for
 abbrev pub tuple_by : Walk → Option ℕ → Path → Option Match
 tuple_by quest = tuple_at (sight_by quest) quest.sought
 
 abbrev pub tuples_by : Walk → List (Bor Match) → List Match
-tuples_by quest shown = filter_map (tuple_within (sight_by quest) quest.sought) (numbered_paths (paths_shown shown))
+tuples_by quest shown =
+    filter_map (tuple_within (sight_by quest) quest.sought) (numbered_paths (paths_shown shown))
 
 abbrev pub matches_among : Walk → List (Bor Match) → List Match
 matches_among quest shown = matches_in (sight_by quest) quest.sought (paths_shown shown)
@@ -106,5 +109,7 @@ matches_by quest = matches_of quest.records quest.realm quest.user quest.sought
 abbrev pub quest_code : Coded Walk
 quest_code =
     code_by (Stored × (Realm × (List ℕ × SearchSpec)))
-    (coded× (map.code path.the_row.coded row.the_row.coded) (coded× realm.the_row.coded (coded× (coded_list coded_ℕ) query.the_row.coded)))
-    (λ q. (q.records, (q.realm, (q.user, q.sought)))) (λ p. record { records = p.0; realm = p.1.0; user = p.1.1.0; sought = p.1.1.1 }) (λ _. refl)
+    (coded× (map.code path.the_row.coded row.the_row.coded)
+    (coded× realm.the_row.coded (coded× (coded_list coded_ℕ) query.the_row.coded)))
+    (λ q. (q.records, (q.realm, (q.user, q.sought))))
+    (λ p. record { records = p.0; realm = p.1.0; user = p.1.1.0; sought = p.1.1.1 }) (λ _. refl)

@@ -13,8 +13,8 @@ use Rattle.acap_search.specs.Sight.{is_nil, may_test, rights_on}
 use Rattle.acap_search.specs.declared.query.Query.{Query}
 use Rattle.acap_search.specs.declared.query.SearchSpec.{SearchSpec}
 
--- two stores that differ in one cell alone: not of a management entry, a string or a list in both, stored at one moment; its
--- entry makes a dataset in both or in neither
+-- two stores that differ in one cell alone: not of a management entry, a string or a list in both, stored at
+-- one moment; its entry makes a dataset in both or in neither
 pub record IsOneCellApart (old new : Stored) (path : Path) (attribute : List ℕ) : Type 0 where
   pub before : Record
   pub after : Record
@@ -36,17 +36,26 @@ pub record IsOneCellApart (old new : Stored) (path : Path) (attribute : List ℕ
   pub entry : path.name ≢ []
 
 -- and on which a user holds neither x nor r
-pub record IsWithheld (old new : Stored) (realm : Realm) (user : List ℕ) (path : Path) (attribute : List ℕ) : Type 0 where
+pub record IsWithheld (old new : Stored) (realm : Realm) (user : List ℕ) (path : Path)
+    (attribute : List ℕ) : Type 0 where
   pub apart : IsOneCellApart old new path attribute
   pub rights : may_test (rights_on old realm user attribute path.name path.dataset) ≡ false
 
--- the user sees the same in both, whatever is inherited, has the same tuples, by which notices go, finds the same, and is refused the same
+-- the user sees the same in both, whatever is inherited, has the same
+-- tuples, by which notices go, finds the same, and is refused the same
 pub record WithheldLaw : Type 0 where
-  pub sight : (old new : Stored) (realm : Realm) (user : List ℕ) (path : Path) (attribute : List ℕ) → IsWithheld old new realm user path attribute
+  pub sight : (old new : Stored) (realm : Realm) (user : List ℕ) (path : Path) (attribute : List ℕ)
+      → IsWithheld old new realm user path attribute
       → (scope : Scope) → IsSameSight (sight_of old realm user scope) (sight_of new realm user scope)
-  pub tuples : (old new : Stored) (realm : Realm) (user : List ℕ) (path : Path) (attribute : List ℕ) → IsWithheld old new realm user path attribute
-      → (sought : SearchSpec) (p : Path) → tuple_of (sight_of old realm user (scope_of sought)) sought p ≡ tuple_of (sight_of new realm user (scope_of sought)) sought p
-  pub fresh : (old new : Stored) (realm : Realm) (user : List ℕ) (path : Path) (attribute : List ℕ) → IsWithheld old new realm user path attribute
-      → (sought : SearchSpec) → fresh_of (sight_of old realm user (scope_of sought)) sought ≡ fresh_of (sight_of new realm user (scope_of sought)) sought
-  pub refusal : (old new : Stored) (realm : Realm) (user : List ℕ) (path : Path) (attribute : List ℕ) → IsWithheld old new realm user path attribute
+  pub tuples : (old new : Stored) (realm : Realm) (user : List ℕ) (path : Path) (attribute : List ℕ)
+      → IsWithheld old new realm user path attribute
+      → (sought : SearchSpec) (p : Path)
+      → tuple_of (sight_of old realm user (scope_of sought)) sought p
+      ≡ tuple_of (sight_of new realm user (scope_of sought)) sought p
+  pub fresh : (old new : Stored) (realm : Realm) (user : List ℕ) (path : Path) (attribute : List ℕ)
+      → IsWithheld old new realm user path attribute
+      → (sought : SearchSpec) → fresh_of (sight_of old realm user (scope_of sought)) sought
+      ≡ fresh_of (sight_of new realm user (scope_of sought)) sought
+  pub refusal : (old new : Stored) (realm : Realm) (user : List ℕ) (path : Path) (attribute : List ℕ)
+      → IsWithheld old new realm user path attribute
       → (query : Query) → refusal_of old realm user query ≡ refusal_of new realm user query

@@ -1,10 +1,13 @@
--- The keys of a settings file, and which values are good: a document is a list of members, each a key with its value.
-use Rattle.std.specs.Prelude.{ℕ, pos, int_le, Bool, true, false, ◌&&◌, ◌||◌, if◌then◌else◌, List, [], ◌∷◌, Option, Some, None, codes}
+-- The keys of a settings file, and which values are good: a
+-- document is a list of members, each a key with its value.
+use Rattle.std.specs.Prelude.{ℕ, pos, int_le, Bool, true, false, ◌&&◌, ◌||◌, if◌then◌else◌, List, [], ◌∷◌}
+use Rattle.std.specs.Prelude.{Option, Some, None, codes}
 use Rattle.std.specs.List.{list_any}
 use Rattle.std.specs.Option.{option_or}
 use Rattle.std.specs.Str.{bytes_eq}
 use Rattle.acap_entries.specs.Names.{is_user_name}
-use Rattle.toml.specs.Data.{Data, Items, Members, string, integer, array, table, no_items, item, no_members, member, get_member}
+use Rattle.toml.specs.Data.{Data, Items, Members, string, integer, array, table, no_items, item, no_members}
+use Rattle.toml.specs.Data.{member, get_member}
 
 -- each item of an array passes
 abbrev pub all_items : (Data → Bool) → Items → Bool
@@ -86,7 +89,10 @@ judged_keys settings =
     ∷ (codes "host", is_there_and_good is_text (get_member (codes "host") settings))
     ∷ (codes "workers", is_there_and_good (is_number 1 16) (get_member (codes "workers") settings))
     ∷ (codes "turns", is_there_and_good (is_number 1 1_000_000_000) (get_member (codes "turns") settings))
-    ∷ (codes "sessions", is_there_and_good (is_number 0 1_000_000_000) (get_member (codes "sessions") settings))
+    ∷ (
+      codes "sessions",
+      is_there_and_good (is_number 0 1_000_000_000) (get_member (codes "sessions") settings),
+    )
     ∷ (codes "administrators", is_there_and_good is_user_list (get_member (codes "administrators") settings))
     ∷ (codes "users", is_there_and_good is_secret_table (get_member (codes "users") settings))
     ∷ (codes "start", start_is_good settings)

@@ -17,7 +17,8 @@ administrators_in settings = member_at (codes "administrators") settings
 
 -- whether each key passes with what stands there
 abbrev pub all_entries : (List ℕ → Data → Bool) → BTreeMap (String Global) Value → Bool
-all_entries passes settings = list_all (λ entry. passes (string_bytes entry.0) (view entry.1)) settings.entries
+all_entries passes settings =
+    list_all (λ entry. passes (string_bytes entry.0) (view entry.1)) settings.entries
 
 -- a member that is lent: what it is, and its octets and data
 abbrev pub member_of : Bor (String Global) × Bor Value → String Global × Value

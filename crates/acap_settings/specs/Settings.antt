@@ -1,7 +1,9 @@
 -- What settings stand for in a document.
 use Rattle.std.specs.declared.alloc.Global.{Global}
-use Rattle.std.specs.Prelude.{◌≡◌, ℕ, pos, Vec, List, [], ◌∷◌, Option, Some, None, codes, map, option_map, IsSomeAnd}
-use Rattle.toml.specs.Data.{Data, Items, Members, string, integer, array, table, no_items, item, no_members, member, get_member}
+use Rattle.std.specs.Prelude.{◌≡◌, ℕ, pos, Vec, List, [], ◌∷◌, Option, Some, None, codes, map, option_map}
+use Rattle.std.specs.Prelude.{IsSomeAnd}
+use Rattle.toml.specs.Data.{Data, Items, Members, string, integer, array, table, no_items, item, no_members}
+use Rattle.toml.specs.Data.{member, get_member}
 use Rattle.acap_settings.specs.declared.settings.Settings.{Settings}
 use Rattle.acap_rights.specs.declared.group.Group.{Group}
 use Rattle.acap_settings.specs.declared.fault.SettingsFault.{SettingsFault}

@@ -30,7 +30,8 @@ abbrev pub rights_for : Asking → Target → Rights
 rights_for asking target = rights_of asking.store.records asking.realm asking.user target
 
 abbrev pub AreSharedIn : Asking → List ℕ → SharedRights → Type 0
-AreSharedIn asking dataset shared = rights.AreShared asking.store.records asking.realm asking.user dataset shared
+AreSharedIn asking dataset shared =
+    rights.AreShared asking.store.records asking.realm asking.user dataset shared
 
 abbrev pub AreSharedAt : Asking → Path → Option SharedRights → Type 0
 AreSharedAt asking p shared = AreShared asking.store.records asking.realm asking.user p shared
@@ -76,4 +77,6 @@ asking_code =
     (λ a. (a.store, (a.realm, a.user))) (λ p. record { store = p.0; realm = p.1.0; user = p.1.1 }) (λ _. refl)
 
 abbrev pub matter_code : Coded Matter
-matter_code = code_by (Asking × Path) (coded× asking_code path.the_row.coded) (λ m. (m.by, m.path)) (λ p. record { by = p.0; path = p.1 }) (λ _. refl)
+matter_code =
+    code_by (Asking × Path) (coded× asking_code path.the_row.coded) (λ m. (m.by, m.path))
+    (λ p. record { by = p.0; path = p.1 }) (λ _. refl)

@@ -1,5 +1,6 @@
 -- Which entries a STORE deletes, and what DELETEDSINCE tells of them [RFC 2244 section 6.6.2].
-use Rattle.std.specs.Prelude.{ℕ, ℤ, List, [], ◌∷◌, Bool, false, not, ◌&&◌, int_lt, codes, Result, Ok, Err, filter, map, if◌then◌else◌}
+use Rattle.std.specs.Prelude.{ℕ, ℤ, List, [], ◌∷◌, Bool, false, not, ◌&&◌, int_lt, codes, Result, Ok, Err}
+use Rattle.std.specs.Prelude.{filter, map, if◌then◌else◌}
 use Rattle.std.specs.Option.{option_map_or}
 use Rattle.std.specs.FinMap as table
 use Rattle.acap_entries.specs.Datasets.{dataset_exists}

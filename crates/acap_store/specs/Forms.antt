@@ -36,7 +36,8 @@ is_of attribute item = is_value item.metadata && octets_eq item.attribute attrib
 abbrev pub is_ending : StoreItem → Bool
 is_ending item = is_of (codes "entry") item && is_nothing item.given
 
--- what an attribute of the entry at a path resolves to along the chain of its dataset, and whether that entry exists
+-- what an attribute of the entry at a path resolves to along
+-- the chain of its dataset, and whether that entry exists
 abbrev pub resolved_at : Stored → Path → List ℕ → Resolution
 resolved_at records p attribute = lookup records (chain_of records p.dataset false) p.name attribute
 

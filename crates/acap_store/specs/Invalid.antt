@@ -1,5 +1,6 @@
 -- What may not be stored [RFC 2244 sections 3.1.1, 3.5, 5.2 and 6.6.1].
-use Rattle.std.specs.Prelude.{ℕ, List, [], ◌∷◌, ◌++◌, length, Bool, true, false, not, ◌&&◌, ◌||◌, ◌==◌, nat_eq, codes, Option, Some, None, is_some, find, option_map, if◌then◌else◌}
+use Rattle.std.specs.Prelude.{ℕ, List, [], ◌∷◌, ◌++◌, length, Bool, true, false, not, ◌&&◌, ◌||◌, ◌==◌}
+use Rattle.std.specs.Prelude.{nat_eq, codes, Option, Some, None, is_some, find, option_map, if◌then◌else◌}
 use Rattle.std.specs.List.{list_any, starts_with}
 use Rattle.std.specs.Option.{option_or}
 use Rattle.acap_entries.specs.Datasets.{is_dot_list}
@@ -53,25 +54,28 @@ may_be_base Default = true
 abbrev pub lies_beneath : Path → Path → Bool
 lies_beneath p other = starts_with nat_eq other.dataset (p.dataset ++ p.name ++ slash ∷ [])
 
--- an entry other than the management entry, which has no `subdataset`; nothing else is given to it, and no other path of the
--- command lies beneath it
+-- an entry other than the management entry, which has no `subdataset`; nothing else is given to it, and no
+-- other path of the command lies beneath it
 abbrev pub may_end : Stored → List StoreEntry → StoreEntry → Bool
 may_end records all e =
-    (length e.items == 1) && not (is_management e.path) && not (is_some (resolved_at records e.path (codes "subdataset")))
+    (length e.items == 1) && not (is_management e.path)
+    && not (is_some (resolved_at records e.path (codes "subdataset")))
     && not (list_any (λ other. lies_beneath e.path other.path) all)
 
 -- ---- items
 
 -- `entry` NIL or DEFAULT where the entry may end, and else its own name
 abbrev pub may_be_entry : Stored → List StoreEntry → StoreEntry → Given → Bool
-may_be_entry records all e given = if is_nothing given then may_end records all e else is_string e.path.name given
+may_be_entry records all e given =
+    if is_nothing given then may_end records all e else is_string e.path.name given
 
 -- a value, by its attribute
 abbrev pub may_be_value : Stored → List StoreEntry → StoreEntry → StoreItem → Bool
 may_be_value records all e item =
     if octets_eq item.attribute (codes "subdataset") then is_dot item.given
     else (if octets_eq item.attribute (codes "entry") then may_be_entry records all e item.given
-    else (if is_management e.path && octets_eq item.attribute (codes "dataset.inherit") then may_be_base item.given
+    else (if is_management e.path && octets_eq item.attribute (codes "dataset.inherit")
+    then may_be_base item.given
     else true))
 
 -- `modtime` is the server's; lists are lists
@@ -90,11 +94,13 @@ abbrev pub first_refused : Stored → ResolvedWrite → StoreEntry → Option St
 first_refused records meant e = find (is_refused records meant e) e.items
 
 abbrev pub invalid_in : Stored → ResolvedWrite → StoreEntry → Option Refusal
-invalid_in records meant e = option_map (λ item. refusals.Invalid e.path item.attribute) (first_refused records meant e)
+invalid_in records meant e =
+    option_map (λ item. refusals.Invalid e.path item.attribute) (first_refused records meant e)
 
 abbrev pub first_invalid : Stored → ResolvedWrite → List StoreEntry → Option Refusal
 first_invalid records meant [] = None
-first_invalid records meant (e ∷ entries) = option_or (invalid_in records meant e) (first_invalid records meant entries)
+first_invalid records meant (e ∷ entries) =
+    option_or (invalid_in records meant e) (first_invalid records meant entries)
 
 -- the list of a dataset may not be dropped as a whole: then the one item that says so is invalid
 unfoldable pub invalid : Stored → ResolvedWrite → Option Refusal

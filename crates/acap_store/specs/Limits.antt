@@ -38,4 +38,5 @@ is_full_after records written = nat_lt 65_536 (table.len (after_writes (table.en
 
 -- too much is given, as said, or too much is written
 abbrev pub is_too_much : Stored → Bool → Written → Bool
-is_too_much records is_given_large written = is_given_large || writes_crowded written || is_full_after records written
+is_too_much records is_given_large written =
+    is_given_large || writes_crowded written || is_full_after records written

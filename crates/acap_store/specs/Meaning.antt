@@ -1,5 +1,5 @@
--- What a command that writes means: the entries that it stores. SETACL and DELETEACL are the STORE, with NOCREATE, of one
--- access control list [RFC 2244 sections 4.1, 6.6.1 and 6.7].
+-- What a command that writes means: the entries that it stores. SETACL and DELETEACL are the STORE, with
+-- NOCREATE, of one access control list [RFC 2244 sections 4.1, 6.6.1 and 6.7].
 use Rattle.std.specs.Prelude.{ℕ, List, [], ◌∷◌, map, Bool, true, false, Some, None}
 use Rattle.acap_entries.specs.Homes.{for_user}
 use Rattle.acap_entries.specs.Store.{Stored}
@@ -13,7 +13,8 @@ use Rattle.acap_commands.specs.declared.store.StoreEntry.{StoreEntry}
 use Rattle.acap_commands.specs.declared.store.StoreItem.{StoreItem}
 use Rattle.acap_commands.specs.declared.store.StoreMetadata.TheVariants as metadata
 use Rattle.acap_commands.specs.declared.store.StoreModifiers.{StoreModifiers}
-use Rattle.acap_rights.specs.Deciding.{Target, OfDataset, OfAttribute, OfEntry, attribute_list_name, dataset_list_name, deciding_list}
+use Rattle.acap_rights.specs.Deciding.{Target, OfDataset, OfAttribute, OfEntry, attribute_list_name}
+use Rattle.acap_rights.specs.Deciding.{dataset_list_name, deciding_list}
 use Rattle.acap_rights.specs.Edits.{with_pair, without}
 use Rattle.acap_store.specs.declared.write.ResolvedWrite.{ResolvedWrite}
 use Rattle.acap_store.specs.declared.write.Write.{Write}
@@ -44,8 +45,8 @@ target_for user (object_name.Dataset dataset) = OfDataset (for_user user dataset
 target_for user (object_name.Attribute dataset attribute) = OfAttribute (for_user user dataset) attribute
 target_for user (object_name.Entry dataset attribute name) = OfEntry (for_user user dataset) attribute name
 
--- the list of a dataset, and that of an attribute in it, are values of its management entry; that of an entry's attribute is
--- kept with the entry
+-- the list of a dataset, and that of an attribute in it, are values of its management entry; that of an
+-- entry's attribute is kept with the entry
 abbrev pub list_path : Target → Path
 list_path (OfDataset dataset) = record { dataset = dataset; name = [] }
 list_path (OfAttribute dataset attribute) = record { dataset = dataset; name = [] }
@@ -57,7 +58,8 @@ value_item attribute given = record { attribute = attribute; metadata = metadata
 abbrev pub list_item : Target → Given → StoreItem
 list_item (OfDataset dataset) given = value_item dataset_list_name given
 list_item (OfAttribute dataset attribute) given = value_item (attribute_list_name attribute) given
-list_item (OfEntry dataset attribute name) given = record { attribute = attribute; metadata = metadata.Acl; given = given }
+list_item (OfEntry dataset attribute name) given =
+    record { attribute = attribute; metadata = metadata.Acl; given = given }
 
 -- NOCREATE
 abbrev pub no_create : StoreModifiers
@@ -67,7 +69,8 @@ abbrev pub entry_with : Path → StoreItem → StoreEntry
 entry_with p item = record { path = p; modifiers = no_create; items = item ∷ [] }
 
 abbrev pub management_entry : List ℕ → List ℕ → Given → StoreEntry
-management_entry dataset attribute given = entry_with (list_path (OfDataset dataset)) (value_item attribute given)
+management_entry dataset attribute given =
+    entry_with (list_path (OfDataset dataset)) (value_item attribute given)
 
 abbrev pub list_entry : Target → Given → StoreEntry
 list_entry target given = entry_with (list_path target) (list_item target given)
@@ -79,11 +82,13 @@ is_dataset_list (OfAttribute dataset attribute) = false
 is_dataset_list (OfEntry dataset attribute name) = false
 
 abbrev pub list_store : Target → List (List ℕ) → ResolvedWrite
-list_store target acl = record { entries = list_entry target (Put (Multi acl)) ∷ []; drops_dataset_list = false }
+list_store target acl =
+    record { entries = list_entry target (Put (Multi acl)) ∷ []; drops_dataset_list = false }
 
 -- the list that decides at a target, with letters for an identifier, or without it
 abbrev pub with_pair_in : Stored → Target → List ℕ → List ℕ → ResolvedWrite
-with_pair_in records target identifier letters = list_store target (with_pair identifier letters (deciding_list records target))
+with_pair_in records target identifier letters =
+    list_store target (with_pair identifier letters (deciding_list records target))
 
 abbrev pub set_in : Stored → ObjectName → List ℕ → List ℕ → ResolvedWrite
 set_in records object identifier letters = with_pair_in records (target_in object) identifier letters
@@ -95,12 +100,17 @@ abbrev pub taken_off_in : Stored → ObjectName → List ℕ → ResolvedWrite
 taken_off_in records object identifier = without_in records (target_in object) identifier
 
 abbrev pub list_removal : Target → ResolvedWrite
-list_removal target = record { entries = list_entry target Default ∷ []; drops_dataset_list = is_dataset_list target }
+list_removal target =
+    record { entries = list_entry target Default ∷ []; drops_dataset_list = is_dataset_list target }
 
--- ---- each command. An edit starts from the list that decides at the object: that is the list stored there, if one is
+-- ---- each command. An edit starts from the list that decides
+-- at the object: that is the list stored there, if one is
 
 unfoldable pub meaning : Stored → List ℕ → Write → ResolvedWrite
-meaning records user (write.Store entries) = record { entries = entries_for user entries; drops_dataset_list = false }
-meaning records user (write.SetAcl object identifier letters) = with_pair_in records (target_for user object) identifier letters
-meaning records user (write.DeleteAcl object (Some identifier)) = without_in records (target_for user object) identifier
+meaning records user (write.Store entries) =
+    record { entries = entries_for user entries; drops_dataset_list = false }
+meaning records user (write.SetAcl object identifier letters) =
+    with_pair_in records (target_for user object) identifier letters
+meaning records user (write.DeleteAcl object (Some identifier)) =
+    without_in records (target_for user object) identifier
 meaning records user (write.DeleteAcl object None) = list_removal (target_for user object)

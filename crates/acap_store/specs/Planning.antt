@@ -18,8 +18,8 @@ use Rattle.acap_store.specs.Writing.{written_for}
 use Rattle.acap_store.specs.declared.write.ResolvedWrite.{ResolvedWrite}
 use Rattle.acap_store.specs.declared.write.Write.{Write}
 
--- the moment of what is written: the change's, and where none is left that of the last change, by which alone it is then judged
--- whether it is too much
+-- the moment of what is written: the change's, and where none is left that of the last change, by which alone
+-- it is then judged whether it is too much
 abbrev pub written_at : Store → ℤ → ℤ
 written_at s now = unwrap_or (moment_after s.last now) s.last
 
@@ -35,7 +35,8 @@ refusals_by_asking records realm user meant =
 
 abbrev pub refusals_by_terms : Stored → Realm → List ℕ → ResolvedWrite → List (Option Refusal)
 refusals_by_terms records realm user meant =
-    refused_if (has_twice meant.entries) refusals.NotPermittedTwice ∷ refusals_by_asking records realm user meant
+    refused_if (has_twice meant.entries) refusals.NotPermittedTwice
+    ∷ refusals_by_asking records realm user meant
 
 abbrev pub refusals_by_room : Store → Bool → Written → ℤ → List (Option Refusal)
 refusals_by_room s is_given_large written now =
@@ -48,7 +49,9 @@ room_refusal s is_given_large written now = first_of (refusals_by_room s is_give
 
 unfoldable pub refusals_of : Store → Realm → List ℕ → ResolvedWrite → ℤ → List (Option Refusal)
 refusals_of s realm user meant now =
-    refusals_by_terms s.records realm user meant ++ refusals_by_room s (gives_large meant.entries) (written_for s.records user meant.entries (written_at s now)) now
+    refusals_by_terms s.records realm user meant
+    ++ refusals_by_room s (gives_large meant.entries)
+    (written_for s.records user meant.entries (written_at s now)) now
 
 -- ---- the change: all is stored, at one moment
 
@@ -60,7 +63,8 @@ change_with records entries written moment = record {
 }
 
 unfoldable pub change_of : Store → List ℕ → List StoreEntry → ℤ → Change
-change_of s user entries moment = change_with s.records entries (written_for s.records user entries moment) moment
+change_of s user entries moment =
+    change_with s.records entries (written_for s.records user entries moment) moment
 
 -- ---- the answer
 
@@ -70,7 +74,8 @@ unless_refused None change = Ok change
 
 unfoldable pub planned_for : Store → Realm → List ℕ → ResolvedWrite → ℤ → Result Change Refusal
 planned_for s realm user meant now =
-    unless_refused (first_of (refusals_of s realm user meant now)) (change_of s user meant.entries (written_at s now))
+    unless_refused (first_of (refusals_of s realm user meant now))
+    (change_of s user meant.entries (written_at s now))
 
 abbrev pub plan : Store → Realm → List ℕ → Write → ℤ → Result Change Refusal
 plan s realm user write now = planned_for s realm user (meaning s.records user write) now

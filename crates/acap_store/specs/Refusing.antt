@@ -1,5 +1,6 @@
 -- What stands twice in a STORE, and its conditions [RFC 2244 section 6.6.1].
-use Rattle.std.specs.Prelude.{ℤ, List, [], ◌∷◌, Bool, false, not, ◌&&◌, ◌||◌, int_lt, Option, Some, None, find, option_map, if◌then◌else◌}
+use Rattle.std.specs.Prelude.{ℤ, List, [], ◌∷◌, Bool, false, not, ◌&&◌, ◌||◌, int_lt, Option, Some, None}
+use Rattle.std.specs.Prelude.{find, option_map, if◌then◌else◌}
 use Rattle.std.specs.List.{list_any}
 use Rattle.std.specs.Option.{option_or, option_map_or}
 use Rattle.acap_entries.specs.Datasets.{dataset_exists}
@@ -38,7 +39,8 @@ abbrev pub lacks_dataset : Stored → StoreEntry → Bool
 lacks_dataset records e = e.modifiers.no_create && not (dataset_exists records e.path.dataset)
 
 unfoldable pub no_exist : Stored → List StoreEntry → Option Refusal
-no_exist records entries = option_map (λ e. refusals.NoExist e.path.dataset) (find (lacks_dataset records) entries)
+no_exist records entries =
+    option_map (λ e. refusals.NoExist e.path.dataset) (find (lacks_dataset records) entries)
 
 -- ---- UNCHANGEDSINCE: an entry that exists may not have changed later than that
 
@@ -50,7 +52,8 @@ is_later changed since = option_map_or (int_lt since) changed false
 
 abbrev pub has_changed : Stored → StoreEntry → Bool
 has_changed records e =
-    option_map_or (λ since. exists_at records e.path && is_later (modtime_at records e.path) since) e.modifiers.unchanged_since false
+    option_map_or (λ since. exists_at records e.path && is_later (modtime_at records e.path) since)
+    e.modifiers.unchanged_since false
 
 unfoldable pub modified : Stored → List StoreEntry → Option Refusal
 modified records entries = option_map (λ e. refusals.Modified e.path) (find (has_changed records) entries)

@@ -15,4 +15,5 @@ HasNoLists records p = (attribute : List ℕ) → own_list records (OfEntry p.da
 -- where there are such rights, they are those on each attribute of the entry
 abbrev pub AreShared : Stored → Realm → List ℕ → Path → Option SharedRights → Type 0
 AreShared records realm user p shared =
-    ForSome shared (λ shared. (attribute : List ℕ) → rights_of records realm user (OfEntry p.dataset attribute p.name) ≡ shared_on shared attribute)
+    ForSome shared (λ shared. (attribute : List ℕ)
+    → rights_of records realm user (OfEntry p.dataset attribute p.name) ≡ shared_on shared attribute)

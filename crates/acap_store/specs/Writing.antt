@@ -1,5 +1,6 @@
 -- What a STORE writes [RFC 2244 sections 3.1, 3.1.1, 5.2 and 6.6.1].
-use Rattle.std.specs.Prelude.{ℕ, zero, suc, ℤ, List, [], ◌∷◌, ◌++◌, length, Bool, true, false, ◌&&◌, Option, codes, flat_map, map, if◌then◌else◌}
+use Rattle.std.specs.Prelude.{ℕ, zero, suc, ℤ, List, [], ◌∷◌, ◌++◌, length, Bool, true, false, ◌&&◌, Option}
+use Rattle.std.specs.Prelude.{codes, flat_map, map, if◌then◌else◌}
 use Rattle.std.specs.List.{list_any}
 use Rattle.std.specs.Option.{option_map_or}
 use Rattle.std.specs.FinMap as table
@@ -33,8 +34,8 @@ cells_of old = option_map_or (λ entry. entry.cells) old table.empty
 abbrev pub acls_of : Option Record → Listed
 acls_of old = option_map_or (λ entry. entry.acls) old table.empty
 
--- what a path has once it is written: it is present with these cells and lists and the moment of the change. Where inheritance
--- ended it still ends
+-- what a path has once it is written: it is present with these cells and
+-- lists and the moment of the change. Where inheritance ended it still ends
 abbrev pub record_after : Option Record → Celled → Listed → ℤ → Record
 record_after old cells acls moment = record {
   present = true;
@@ -46,7 +47,14 @@ record_after old cells acls moment = record {
 
 -- what a path has once its entry is deleted: nothing is inherited there from then on
 abbrev pub deleted_record : ℤ → Record
-deleted_record moment = record { present = false; blocks_inheritance = true; cells = table.empty; acls = table.empty; modtime = moment }
+deleted_record moment =
+    record {
+      present = false;
+      blocks_inheritance = true;
+      cells = table.empty;
+      acls = table.empty;
+      modtime = moment;
+    }
 
 -- the writes of a list
 abbrev pub put_all : List (Path × Fate) → Written → Written
@@ -55,15 +63,18 @@ put_all (w ∷ ws) written = table.insert (put_all ws written) w.0 w.1
 
 -- ---- missing datasets are made
 
--- the own entries of the datasets that are missing on the way to a dataset: of those on the way to its parent, and of
--- itself. Each parent's name is shorter, so that as many steps as the name has octets are enough
+-- the own entries of the datasets that are missing on the way to a
+-- dataset: of those on the way to its parent, and of itself. Each parent's
+-- name is shorter, so that as many steps as the name has octets are enough
 abbrev pub own_if_missing : Stored → List ℕ → List ℕ × List ℕ → List Path
-own_if_missing records dataset own = if dataset_exists records dataset then [] else record { dataset = own.0; name = own.1 } ∷ []
+own_if_missing records dataset own =
+    if dataset_exists records dataset then [] else record { dataset = own.0; name = own.1 } ∷ []
 
 abbrev pub missing_within : ℕ → Stored → List ℕ → List Path
 missing_within zero records dataset = []
 missing_within (suc steps) records dataset =
-    option_map_or (λ own. missing_within steps records own.0 ++ own_if_missing records dataset own) (own_entry dataset) []
+    option_map_or (λ own. missing_within steps records own.0 ++ own_if_missing records dataset own)
+    (own_entry dataset) []
 
 abbrev pub missing_to : Stored → List ℕ → List Path
 missing_to records dataset = missing_within (length dataset) records dataset
@@ -73,8 +84,13 @@ missing_for records entries = flat_map (λ e. missing_to records e.path.dataset)
 
 -- the own entry of a missing dataset gets `subdataset` (".")
 abbrev pub step_at : Stored → ℤ → Path → Path × Fate
-step_at records moment p =
-    (p, fate.Put (record_after (table.get records p) (table.insert (cells_of (table.get records p)) (codes "subdataset") (Multi (codes "." ∷ []))) (acls_of (table.get records p)) moment))
+step_at records moment p = (
+  p,
+  fate.Put
+      (record_after (table.get records p)
+      (table.insert (cells_of (table.get records p)) (codes "subdataset") (Multi (codes "." ∷ [])))
+      (acls_of (table.get records p)) moment),
+)
 
 -- those at some paths, beside other writes
 abbrev pub with_steps : Stored → ℤ → List Path → Written → Written
@@ -106,7 +122,8 @@ as_base user (Single text) = Single (base_for user text)
 as_base user (Multi texts) = Multi texts
 
 abbrev pub kept_as : List ℕ → Path → List ℕ → Cell → Cell
-kept_as user p attribute value = if is_management p && octets_eq attribute (codes "dataset.inherit") then as_base user value else value
+kept_as user p attribute value =
+    if is_management p && octets_eq attribute (codes "dataset.inherit") then as_base user value else value
 
 -- an attribute gets its value, or loses it; an entry's `entry` is its name, and is not kept
 abbrev pub with_given : List ℕ → Path → Celled → List ℕ → Given → Celled
@@ -114,10 +131,12 @@ with_given user p cells attribute (Put value) = table.insert cells attribute (ke
 with_given user p cells attribute Default = table.remove cells attribute
 
 abbrev pub with_named : List ℕ → Path → Celled → List ℕ → Given → Celled
-with_named user p cells attribute given = if octets_eq attribute (codes "entry") then cells else with_given user p cells attribute given
+with_named user p cells attribute given =
+    if octets_eq attribute (codes "entry") then cells else with_given user p cells attribute given
 
 abbrev pub with_value : List ℕ → Path → Celled → StoreItem → Celled
-with_value user p cells item = if is_value item.metadata then with_named user p cells item.attribute item.given else cells
+with_value user p cells item =
+    if is_value item.metadata then with_named user p cells item.attribute item.given else cells
 
 abbrev pub with_values : List ℕ → Path → Celled → List StoreItem → Celled
 with_values user p cells [] = cells
@@ -159,7 +178,8 @@ record_with_steps records steps p = after_fate (table.get steps p) (table.get re
 
 -- any other entry gets its items
 abbrev pub given_record : List ℕ → Path → Option Record → List StoreItem → ℤ → Record
-given_record user p old items moment = record_after old (with_values user p (cells_of old) items) (with_lists (acls_of old) items) moment
+given_record user p old items moment =
+    record_after old (with_values user p (cells_of old) items) (with_lists (acls_of old) items) moment
 
 abbrev pub fate_of : List ℕ → Option Record → ℤ → StoreEntry → Fate
 fate_of user old moment e =
@@ -167,7 +187,8 @@ fate_of user old moment e =
     else (if ends e then fate.Remove else fate.Put (given_record user e.path old e.items moment))
 
 abbrev pub entry_at : Stored → List ℕ → Written → ℤ → StoreEntry → Path × Fate
-entry_at records user steps moment e = (e.path, fate_of user (record_with_steps records steps e.path) moment e)
+entry_at records user steps moment e =
+    (e.path, fate_of user (record_with_steps records steps e.path) moment e)
 
 abbrev pub entries_at : Stored → List ℕ → Written → ℤ → List StoreEntry → List (Path × Fate)
 entries_at records user steps moment entries = map (entry_at records user steps moment) entries

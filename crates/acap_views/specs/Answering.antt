@@ -1,4 +1,5 @@
--- What is answered to calls on contexts, where memory may be refused; and contexts that are made before they are put in place.
+-- What is answered to calls on contexts, where memory may be
+-- refused; and contexts that are made before they are put in place.
 use Rattle.std.specs.Prelude.{◌≡◌, ℕ, ◌<◌, ℤ, List, Result, Ok, Err, IsOk, refl}
 use Rattle.std.specs.Coded.{Coded, code_by, coded×, coded_list, coded_ℕ}
 use Rattle.std.specs.FinMap as table
@@ -31,11 +32,13 @@ pub record NamedContext : Type 0 where
 
 abbrev pub named_code : Coded NamedContext
 named_code =
-    code_by (List ℕ × RoomyContext) (coded× (coded_list coded_ℕ) roomy_context_code) (λ c. (c.name, c.kept)) (λ p. record { name = p.0; kept = p.1 }) (λ _. refl)
+    code_by (List ℕ × RoomyContext) (coded× (coded_list coded_ℕ) roomy_context_code) (λ c. (c.name, c.kept))
+    (λ p. record { name = p.0; kept = p.1 }) (λ _. refl)
 
 -- that context put at a seat; one of its name makes way
 abbrev pub with_context : Seated → ℕ → NamedContext → Seated
-with_context seats seat new = with_contexts seats seat (table.insert (contexts_at seats seat) new.name new.kept.context)
+with_context seats seat new =
+    with_contexts seats seat (table.insert (contexts_at seats seat) new.name new.kept.context)
 
 -- somebody sits at a seat, and there is room for one context more
 abbrev pub HasPlace : RoomySeats → ℕ → Type 0

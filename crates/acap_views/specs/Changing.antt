@@ -19,13 +19,16 @@ use Rattle.acap_views.specs.Seats.{Occupant, Seated}
 pub record IsSoundStep (old new : Store) : Type 0 where
   pub old_sound : IsSoundStore old.records
   pub new_sound : IsSoundStore new.records
-  pub kept : (dataset : List ℕ) → dataset_exists old.records dataset ≡ true → dataset_exists new.records dataset ≡ true
+  pub kept : (dataset : List ℕ) → dataset_exists old.records dataset ≡ true
+      → dataset_exists new.records dataset ≡ true
 
--- all notices of a change wait behind the others; with more than 4,096 together the context is freed, and they are lost
+-- all notices of a change wait behind the others; with more
+-- than 4,096 together the context is freed, and they are lost
 abbrev pub follows : List Notice → List Match → Kept → Kept
 follows notices after (Snapshot shown) = Snapshot shown
 follows notices after (Live shown before pending) =
-    if nat_lt most_waiting (length pending + length notices) then Freed else Live shown after (pending ++ notices)
+    if nat_lt most_waiting (length pending + length notices) then Freed
+    else Live shown after (pending ++ notices)
 follows notices after Freed = Freed
 
 -- what a user sees for a search
@@ -36,12 +39,14 @@ sight_for realm store user sought = sight_of store.records realm user (scope_of 
 abbrev pub changed_context : Realm → Store → Store → List ℕ → Context → Context
 changed_context realm old new user context = record context {
   kept = follows
-      (event_notices context.enumerated context.sought (sight_for realm old user context.sought) (sight_for realm new user context.sought))
+      (event_notices context.enumerated context.sought (sight_for realm old user context.sought)
+      (sight_for realm new user context.sought))
       (matches_of new.records realm user context.sought) context.kept;
 }
 
 abbrev pub changed_occupant : Realm → Store → Store → Occupant → Occupant
-changed_occupant realm old new occupant = record occupant { contexts = each_value (changed_context realm old new occupant.user) occupant.contexts }
+changed_occupant realm old new occupant =
+    record occupant { contexts = each_value (changed_context realm old new occupant.user) occupant.contexts }
 
 abbrev pub changed_seats : Realm → Store → Store → Seated → Seated
 changed_seats realm old new seats = each_value (changed_occupant realm old new) seats

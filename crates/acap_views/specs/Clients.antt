@@ -35,20 +35,26 @@ pending_in Freed = []
 abbrev pub pending_of : Option Context → List Notice
 pending_of found = option_map_or (λ context. pending_in context.kept) found []
 
--- an UPDATECONTEXT tells of each named context all that waits, each notice once however often the name is said, and of others
--- nothing; a drain tells all that waits of every context. So a client that holds the rows of the list last told to it, and applies
--- what it is told of the context, holds the rows that a search finds then
+-- an UPDATECONTEXT tells of each named context all that waits, each notice once
+-- however often the name is said, and of others nothing; a drain tells all that waits
+-- of every context. So a client that holds the rows of the list last told to it, and
+-- applies what it is told of the context, holds the rows that a search finds then
 pub record ClientLaw : Type 0 where
   pub updated : (contexts : Contexts) (names : List (List ℕ)) (name : List ℕ) (last : ℤ)
-      → notices_for name (told_in_turn contexts names last) ≡ (if is_among name names then pending_of (table.get contexts name) else [])
+      → notices_for name (told_in_turn contexts names last)
+      ≡ (if is_among name names then pending_of (table.get contexts name) else [])
   pub drained : (contexts : Contexts) (name : List ℕ)
-      → notices_for name (flat_map (λ e. drain_told e.0 e.1.kept) (table.entries contexts)) ≡ pending_of (table.get contexts name)
-  pub after_update : (store : Store) (realm : Realm) (occupant : Occupant) (name : List ℕ) (context : Context) (shown now : List Match) (pending : List Notice) (names : List (List ℕ)) (last : ℤ)
-      → IsCurrentOccupant store realm occupant → table.get occupant.contexts name ≡ Some context → context.kept ≡ Live shown now pending → is_among name names ≡ true
-      → holding_after_all (holding context.enumerated (rows shown)) (notices_for name (told_in_turn occupant.contexts names last))
+      → notices_for name (flat_map (λ e. drain_told e.0 e.1.kept) (table.entries contexts))
+      ≡ pending_of (table.get contexts name)
+  pub after_update : (store : Store) (realm : Realm) (occupant : Occupant) (name : List ℕ) (context : Context)
+      (shown now : List Match) (pending : List Notice) (names : List (List ℕ)) (last : ℤ)
+      → IsCurrentOccupant store realm occupant → table.get occupant.contexts name ≡ Some context
+      → context.kept ≡ Live shown now pending → is_among name names ≡ true
+      → holding_after_all (holding context.enumerated (rows shown))
+      (notices_for name (told_in_turn occupant.contexts names last))
       ≡ Some (holding context.enumerated (rows (matches_of store.records realm occupant.user context.sought)))
-  -- and at each MODTIME of a context, which is one that was named, all that waited for it is told, so that the client which has read
-  -- as far as that holds these rows
+  -- and at each MODTIME of a context, which is one that was named, all that waited for it is told, so that
+  -- the client which has read as far as that holds these rows
   pub modtimes : (contexts : Contexts) (names : List (List ℕ)) (name : List ℕ) (last : ℤ)
       (front back : List Told) (moment : ℤ)
       → told_in_turn contexts names last ≡ front ++ told.Upto name moment ∷ back
@@ -64,7 +70,10 @@ pub record ClientLaw : Type 0 where
       → told_in_turn occupant.contexts names last ≡ front ++ told.Upto name moment ∷ back
       → holding_after_all (holding context.enumerated (rows shown)) (notices_for name front)
       ≡ Some (holding context.enumerated (rows (matches_of store.records realm occupant.user context.sought)))
-  pub after_drain : (store : Store) (realm : Realm) (occupant : Occupant) (name : List ℕ) (context : Context) (shown now : List Match) (pending : List Notice)
-      → IsCurrentOccupant store realm occupant → table.get occupant.contexts name ≡ Some context → context.kept ≡ Live shown now pending
-      → holding_after_all (holding context.enumerated (rows shown)) (notices_for name (flat_map (λ e. drain_told e.0 e.1.kept) (table.entries occupant.contexts)))
+  pub after_drain : (store : Store) (realm : Realm) (occupant : Occupant) (name : List ℕ) (context : Context)
+      (shown now : List Match) (pending : List Notice)
+      → IsCurrentOccupant store realm occupant → table.get occupant.contexts name ≡ Some context
+      → context.kept ≡ Live shown now pending
+      → holding_after_all (holding context.enumerated (rows shown))
+      (notices_for name (flat_map (λ e. drain_told e.0 e.1.kept) (table.entries occupant.contexts)))
       ≡ Some (holding context.enumerated (rows (matches_of store.records realm occupant.user context.sought)))

@@ -64,7 +64,8 @@ pub record IsShelfOf (scene : ContextView) (shelf : RecordCursor) : Type 0 where
   pub dataset : shelf.dataset ≡ scene.sought.dataset
 
 -- so do those two, and those are the records
-pub record IsField (scene : ContextView) (before : Option View) (after : View) (shelf : Option RecordCursor) : Type 0 where
+pub record IsField (scene : ContextView) (before : Option View) (after : View)
+    (shelf : Option RecordCursor) : Type 0 where
   pub sees_before : ForSome before (λ view. view ≡ view_before scene)
   pub sees_after : after ≡ view_after scene
   pub at_hand : ForSome shelf (IsShelfOf scene)
@@ -89,7 +90,9 @@ shift_in scene path = shift_for scene.old scene.new scene.realm scene.user scene
 abbrev pub scene_code : Coded ContextView
 scene_code =
     code_by (Stored × (Stored × (Realm × (List ℕ × SearchSpec))))
-    (coded× (map.code path.the_row.coded row.the_row.coded) (coded× (map.code path.the_row.coded row.the_row.coded)
+    (coded× (map.code path.the_row.coded row.the_row.coded)
+    (coded× (map.code path.the_row.coded row.the_row.coded)
     (coded× realm.the_row.coded (coded× (coded_list coded_ℕ) query.the_row.coded))))
     (λ s. (s.old, (s.new, (s.realm, (s.user, s.sought)))))
-    (λ p. record { old = p.0; new = p.1.0; realm = p.1.1.0; user = p.1.1.1.0; sought = p.1.1.1.1 }) (λ _. refl)
+    (λ p. record { old = p.0; new = p.1.0; realm = p.1.1.0; user = p.1.1.1.0; sought = p.1.1.1.1 })
+    (λ _. refl)

@@ -1,4 +1,5 @@
--- A context: what a search found, kept by a session under a name, and how it follows the store [RFC 2244 sections 3.3 and 6.4.1].
+-- A context: what a search found, kept by a session under a name,
+-- and how it follows the store [RFC 2244 sections 3.3 and 6.4.1].
 use Rattle.std.specs.Prelude.{ℤ, Bool, true, false, List, [], ◌≡◌, Option, Some, None, refl}
 use Rattle.std.specs.Coded.{Coded, code_by, coded×, coded_list, coded_option, coded_bool, coded_ℕ, coded_ℤ}
 use Rattle.std.specs.FinMap as table
@@ -10,14 +11,15 @@ use Rattle.acap_search.specs.Matches.{Match, match_code}
 use Rattle.acap_search.specs.contracts.query.SearchSpec as query
 use Rattle.acap_search.specs.declared.query.SearchSpec.{SearchSpec}
 
--- the list that its client was told, which stays as it is; that list, the present one and the notices that wait; or neither, where
--- too many notices came
+-- the list that its client was told, which stays as it is; that list, the present one and the notices that
+-- wait; or neither, where too many notices came
 pub data Kept : Type 0 where
   Snapshot : (shown : List Match) → Kept
   Live : (shown now : List Match) (pending : List Notice) → Kept
   Freed : Kept
 
--- what the search looked for, whether positions are told, up to which moment its client was told, and what is kept
+-- what the search looked for, whether positions are told,
+-- up to which moment its client was told, and what is kept
 pub record Context : Type 0 where
   pub sought : SearchSpec
   pub enumerated : Bool
@@ -61,13 +63,17 @@ kept_back Freed = refl
 abbrev pub kept_code : Coded Kept
 kept_code =
     code_by (Option (List Match × Option (List Match × List Notice)))
-    (coded_option (coded× (coded_list match_code) (coded_option (coded× (coded_list match_code) (coded_list notice.the_row.coded)))))
+    (coded_option
+    (coded× (coded_list match_code)
+    (coded_option (coded× (coded_list match_code) (coded_list notice.the_row.coded)))))
     kept_parts kept_from kept_back
 
 abbrev pub context_code : Coded Context
 context_code =
-    code_by (SearchSpec × (Bool × (ℤ × Kept))) (coded× query.the_row.coded (coded× coded_bool (coded× coded_ℤ kept_code)))
-    (λ c. (c.sought, (c.enumerated, (c.told, c.kept)))) (λ p. record { sought = p.0; enumerated = p.1.0; told = p.1.1.0; kept = p.1.1.1 }) (λ _. refl)
+    code_by (SearchSpec × (Bool × (ℤ × Kept)))
+    (coded× query.the_row.coded (coded× coded_bool (coded× coded_ℤ kept_code)))
+    (λ c. (c.sought, (c.enumerated, (c.told, c.kept))))
+    (λ p. record { sought = p.0; enumerated = p.1.0; told = p.1.1.0; kept = p.1.1.1 }) (λ _. refl)
 
 abbrev pub contexts_code : Coded Contexts
 contexts_code = table.code (coded_list coded_ℕ) context_code

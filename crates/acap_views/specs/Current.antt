@@ -17,11 +17,13 @@ use Rattle.acap_views.specs.Seats.{Occupant, Seated}
 abbrev pub rows : List Match → List Row
 rows matches = map (λ found. found.row) matches
 
--- of a live context: the present list is the one that a search finds now, and the notices that wait lead a client from the list
--- that it was told to that one
-pub record IsFollowing (fresh : List Match) (enumerated : Bool) (shown now : List Match) (pending : List Notice) : Type 0 where
+-- of a live context: the present list is the one that a search finds now, and the notices that wait lead a
+-- client from the list that it was told to that one
+pub record IsFollowing (fresh : List Match) (enumerated : Bool) (shown now : List Match)
+    (pending : List Notice) : Type 0 where
   pub fresh_now : now ≡ fresh
-  pub leads : holding_after_all (holding enumerated (rows shown)) pending ≡ Some (holding enumerated (rows now))
+  pub leads : holding_after_all (holding enumerated (rows shown)) pending
+      ≡ Some (holding enumerated (rows now))
   pub once : IsEachOnce (rows shown)
   pub once_now : IsEachOnce (rows now)
   pub few : length pending ≤ most_waiting
@@ -40,10 +42,13 @@ IsToldAll fresh Freed = Unit {0}
 -- its dataset exists, as it did when the context was made
 pub record IsCurrentContext (store : Store) (realm : Realm) (user : List ℕ) (context : Context) : Type 0 where
   pub exists : dataset_exists store.records context.sought.dataset ≡ true
-  pub kept : IsCurrentKept (matches_of store.records realm user context.sought) context.enumerated context.kept
+  pub kept : IsCurrentKept (matches_of store.records realm user context.sought) context.enumerated
+      context.kept
 
 pub record IsCurrentOccupant (store : Store) (realm : Realm) (occupant : Occupant) : Type 0 where
-  pub each : (name : List ℕ) (context : Context) → table.get occupant.contexts name ≡ Some context → IsCurrentContext store realm occupant.user context
+  pub each : (name : List ℕ) (context : Context) → table.get occupant.contexts name ≡ Some context
+      → IsCurrentContext store realm occupant.user context
 
 pub record IsCurrent (store : Store) (realm : Realm) (seats : Seated) : Type 0 where
-  pub all : (seat : ℕ) (occupant : Occupant) → table.get seats seat ≡ Some occupant → IsCurrentOccupant store realm occupant
+  pub all : (seat : ℕ) (occupant : Occupant) → table.get seats seat ≡ Some occupant
+      → IsCurrentOccupant store realm occupant

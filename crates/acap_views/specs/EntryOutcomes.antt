@@ -33,9 +33,12 @@ IsTold (Here found row) = row ≡ found.row
 
 -- what is told of an entry whose match has gone, if there was one, and of one that is found now
 abbrev pub IsGoneNotice : Bool → List ℕ → Option (ℕ × Match) → Option Notice → Type 0
-IsGoneNotice enumerated name gone told = cons_option told [] ≡ notice_between told_shape enumerated name (from_one gone) None
+IsGoneNotice enumerated name gone told =
+    cons_option told [] ≡ notice_between told_shape enumerated name (from_one gone) None
 
 abbrev pub IsHereNotice : Bool → Row → Option (ℕ × Match) → Option ℕ → Option Notice → Type 0
 IsHereNotice enumerated row gone come told =
     (found : Match) → row ≡ found.row
-    → cons_option told [] ≡ notice_between told_shape enumerated row.name (from_one gone) (from_one (option_map (λ place. (place, found)) come))
+    → cons_option told []
+    ≡ notice_between told_shape enumerated row.name (from_one gone)
+    (from_one (option_map (λ place. (place, found)) come))

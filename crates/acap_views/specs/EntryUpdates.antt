@@ -1,5 +1,6 @@
 -- A live list is brought up to date entry by entry: what stood where, and what is put where.
-use Rattle.std.specs.Prelude.{◌≡◌, ℕ, ◌+◌, ◌<◌, Bool, true, false, List, [], ◌∷◌, ◌++◌, length, Option, Some, None, is_some, not, nat_lt, refl, if◌then◌else◌}
+use Rattle.std.specs.Prelude.{◌≡◌, ℕ, ◌+◌, ◌<◌, Bool, true, false, List, [], ◌∷◌, ◌++◌, length, Option, Some}
+use Rattle.std.specs.Prelude.{None, is_some, not, nat_lt, refl, if◌then◌else◌}
 use Rattle.std.specs.Coded.{Coded, code_by, coded×, coded_list, coded_option, coded_ℕ}
 use Rattle.std.specs.List.{cons_option, filter}
 use Rattle.std.specs.Option.{option_map, option_and_then}
@@ -15,7 +16,8 @@ use Rattle.acap_search.specs.declared.sort_term.SortTerm.{SortTerm}
 use Rattle.acap_views.specs.Notices.{told_shape, same_tuple}
 use Rattle.acap_views.specs.Room.{Watched}
 
--- of one entry: its name as it is told; its places and its path as they were, by which a match is found that it had; and its match now
+-- of one entry: its name as it is told; its places and its path as
+-- they were, by which a match is found that it had; and its match now
 pub record EntryUpdate : Type 0 where
   pub name : List ℕ
   pub old : Match
@@ -39,13 +41,15 @@ without_old old matches = without_item match_cmp old matches
 abbrev pub with_exchange : Match → Option Match → List Match → List Match
 with_exchange old come matches = with_match come (without_old old matches)
 
--- what stood there and how many stood before it; and how many stand before what is put in, which is put nowhere where another one
--- stands: in the lists of contexts none ever does
+-- what stood there and how many stood before it; and how many stand before what is put in, which is put
+-- nowhere where another one stands: in the lists of contexts none ever does
 abbrev pub old_place : Match → List Match → Option (ℕ × Match)
-old_place old matches = option_map (λ found. (rank_of match_cmp old matches, found)) (item_at match_cmp old matches)
+old_place old matches =
+    option_map (λ found. (rank_of match_cmp old matches, found)) (item_at match_cmp old matches)
 
 abbrev pub placed_among : Match → List Match → Option (ℕ × Match)
-placed_among found others = if is_some (item_at match_cmp found others) then None else Some (rank_of match_cmp found others, found)
+placed_among found others = if is_some (item_at match_cmp found others) then None
+    else Some (rank_of match_cmp found others, found)
 
 abbrev pub stands : Match → Option Match → List Match → Option (ℕ × Match)
 stands old come matches = option_and_then (λ found. placed_among found (without_old old matches)) come
@@ -63,10 +67,12 @@ from_one place = option_map (λ s. (s.0 + 1, s.1)) place
 -- what is told of it
 abbrev pub swap_notices : Bool → List ℕ → Match → Option Match → List Match → List Notice
 swap_notices enumerated name old come matches =
-    notice_between told_shape enumerated name (from_one (old_place old matches)) (from_one (stands old come matches))
+    notice_between told_shape enumerated name (from_one (old_place old matches))
+    (from_one (stands old come matches))
 
 abbrev pub IsSwapNotice : Bool → List ℕ → Match → Option Match → List Match → Option Notice → Type 0
-IsSwapNotice enumerated name old come matches told = cons_option told [] ≡ swap_notices enumerated name old come matches
+IsSwapNotice enumerated name old come matches told =
+    cons_option told [] ≡ swap_notices enumerated name old come matches
 
 abbrev pub shift_notices : Bool → EntryUpdate → List Match → List Notice
 shift_notices enumerated shift matches = swap_notices enumerated shift.name shift.old shift.come matches
@@ -81,7 +87,8 @@ after_shifts (shift ∷ shifts) matches = after_shifts shifts (after_shift shift
 
 abbrev pub shifts_notices : Bool → List EntryUpdate → List Match → List Notice
 shifts_notices enumerated [] matches = []
-shifts_notices enumerated (shift ∷ shifts) matches = shift_notices enumerated shift matches ++ shifts_notices enumerated shifts (after_shift shift matches)
+shifts_notices enumerated (shift ∷ shifts) matches =
+    shift_notices enumerated shift matches ++ shifts_notices enumerated shifts (after_shift shift matches)
 
 -- what is told of one entry, and of some, waits behind the rest; or more notices would wait than may
 abbrev pub IsTold : Bool → EntryUpdate → Watched → Watched → Type 0
@@ -91,10 +98,12 @@ abbrev pub AreTold : Bool → List EntryUpdate → Watched → Watched → Type 
 AreTold enumerated shifts old new = new.pending ≡ old.pending ++ shifts_notices enumerated shifts old.present
 
 abbrev pub IsTooMuch : Bool → EntryUpdate → Watched → Type 0
-IsTooMuch enumerated shift old = most_waiting < length old.pending + length (shift_notices enumerated shift old.present)
+IsTooMuch enumerated shift old =
+    most_waiting < length old.pending + length (shift_notices enumerated shift old.present)
 
 abbrev pub AreTooMany : Bool → List EntryUpdate → Watched → Type 0
-AreTooMany enumerated shifts old = most_waiting < length old.pending + length (shifts_notices enumerated shifts old.present)
+AreTooMany enumerated shifts old =
+    most_waiting < length old.pending + length (shifts_notices enumerated shifts old.present)
 
 -- something is told for certain of a match that goes, of one that comes, and of one whose row is another
 abbrev pub tells_between : Option Match → Option Match → Bool
@@ -110,12 +119,13 @@ surely_tells matches shift = tells_between (item_at match_cmp shift.old matches)
 abbrev pub count_with : List Match → EntryUpdate → ℕ → ℕ
 count_with matches shift count = if surely_tells matches shift then count + 1 else count
 
--- of what becomes of entries as much as is needed: where more notices than may are certain to wait, the context is freed whatever
--- becomes of the rest
+-- of what becomes of entries as much as is needed: where more notices than may are certain to wait, the
+-- context is freed whatever becomes of the rest
 abbrev pub until_full : List Match → ℕ → List EntryUpdate → List EntryUpdate
 until_full matches count [] = []
 until_full matches count (shift ∷ shifts) =
-    if nat_lt most_waiting count then [] else shift ∷ until_full matches (count_with matches shift count) shifts
+    if nat_lt most_waiting count then []
+    else shift ∷ until_full matches (count_with matches shift count) shifts
 
 -- whether the match of an entry has changed: it isn't the one that stood there
 abbrev pub has_changed : List Match → EntryUpdate → Bool
@@ -142,5 +152,6 @@ move_by shift = (shift.name, shift.come)
 -- how they are told apart in proofs
 abbrev pub shift_code : Coded EntryUpdate
 shift_code =
-    code_by (List ℕ × (Match × Option Match)) (coded× (coded_list coded_ℕ) (coded× match_code (coded_option match_code)))
+    code_by (List ℕ × (Match × Option Match))
+    (coded× (coded_list coded_ℕ) (coded× match_code (coded_option match_code)))
     (λ s. (s.name, (s.old, s.come))) (λ p. record { name = p.0; old = p.1.0; come = p.1.1 }) (λ _. refl)

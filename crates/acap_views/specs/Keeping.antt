@@ -1,5 +1,5 @@
--- The contexts of all seats as they are kept in memory: each beside the room of its lists, and each map beside the number of values more
--- that there is room for. Machines are told apart by the contexts alone.
+-- The contexts of all seats as they are kept in memory: each beside the room of its lists, and each map
+-- beside the number of values more that there is room for. Machines are told apart by the contexts alone.
 use Rattle.std.specs.Prelude.{ℕ, List, refl}
 use Rattle.std.specs.Coded.{Coded, code_by, coded×, coded_list, coded_ℕ}
 use Rattle.std.specs.FinMap as table
@@ -39,12 +39,15 @@ seats_in seats = each_value occupant_in seats.seats
 -- how they are told apart in proofs
 abbrev pub roomy_context_code : Coded RoomyContext
 roomy_context_code =
-    code_by (Context × Space) (coded× context_code space_code) (λ c. (c.context, c.space)) (λ p. record { context = p.0; space = p.1 }) (λ _. refl)
+    code_by (Context × Space) (coded× context_code space_code) (λ c. (c.context, c.space))
+    (λ p. record { context = p.0; space = p.1 }) (λ _. refl)
 
 abbrev pub roomy_occupant_code : Coded RoomyOccupant
 roomy_occupant_code =
-    code_by (List ℕ × (RoomyContexts × ℕ)) (coded× (coded_list coded_ℕ) (coded× (table.code (coded_list coded_ℕ) roomy_context_code) coded_ℕ))
-    (λ o. (o.user, (o.contexts, o.spare))) (λ p. record { user = p.0; contexts = p.1.0; spare = p.1.1 }) (λ _. refl)
+    code_by (List ℕ × (RoomyContexts × ℕ))
+    (coded× (coded_list coded_ℕ) (coded× (table.code (coded_list coded_ℕ) roomy_context_code) coded_ℕ))
+    (λ o. (o.user, (o.contexts, o.spare))) (λ p. record { user = p.0; contexts = p.1.0; spare = p.1.1 })
+    (λ _. refl)
 
 abbrev pub roomy_seats_code : Coded RoomySeats
 roomy_seats_code =

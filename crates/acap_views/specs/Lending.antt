@@ -1,4 +1,5 @@
--- The list of a context that was told last, as it is lent to a search, and what a search over the context starts from.
+-- The list of a context that was told last, as it is lent to
+-- a search, and what a search over the context starts from.
 use Rattle.std.specs.Prelude.{List}
 use Rattle.acap_search.specs.Matches.{Match}
 use Rattle.acap_views.specs.declared.context_lists.LentLists.{LentLists}

@@ -37,7 +37,8 @@ as_seated entries = each_value occupant_in (table.from_sorted entries)
 -- the notices that wait of the context of a name, when those of other names have been told of
 abbrev pub waiting_after : Contexts → List (List ℕ) → ℤ → List ℕ → List Told
 waiting_after contexts seen last name =
-    option_map_or (λ context. notes_of name context.kept) (table.get (after_updates contexts seen last) name) []
+    option_map_or (λ context. notes_of name context.kept) (table.get (after_updates contexts seen last) name)
+    []
 
 -- and all that it is told then
 abbrev pub told_by : List (List ℕ × RoomyContext) → List (List ℕ) → ℤ → List ℕ → List Told

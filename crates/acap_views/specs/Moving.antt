@@ -19,18 +19,27 @@ use Rattle.acap_views.specs.Work.{touched_for}
 abbrev pub moves_of : SearchSpec → Sight → List Path → List (Move Match)
 moves_of sought now paths = each (λ path. (name_told sought.depth path, tuple_of now sought path)) paths
 
--- a change as a tree takes it: from a sound store to a sound store, path by path, by writes at well-formed paths
+-- a change as a tree takes it: from a sound store to a
+-- sound store, path by path, by writes at well-formed paths
 pub record IsTaken (written : Written) (old new : Store) : Type 0 where
   pub sound : IsSoundStep old new
   pub paths : IsPathByPath written old.records new.records
   pub formed : AreWellFormed written
 
--- to take each touched entry out of the list that there was, and to put in what is made of it now, one after the other, gives the list
--- that a search finds now; and what is told of these steps is what is told of the change
+-- to take each touched entry out of the list that there was, and to put in
+-- what is made of it now, one after the other, gives the list that a search
+-- finds now; and what is told of these steps is what is told of the change
 pub record TouchedMovesLaw : Type 0 where
-  pub list : (written : Written) (old new : Store) (realm : Realm) (user : List ℕ) (context : Context) → IsTaken written old new → dataset_exists old.records context.sought.dataset ≡ true
-      → after_moves told_shape (moves_of context.sought (sight_for realm new user context.sought) (touched_for written old new context)) (matches_of old.records realm user context.sought)
+  pub list : (written : Written) (old new : Store) (realm : Realm) (user : List ℕ) (context : Context)
+      → IsTaken written old new → dataset_exists old.records context.sought.dataset ≡ true
+      → after_moves told_shape
+      (moves_of context.sought (sight_for realm new user context.sought)
+      (touched_for written old new context)) (matches_of old.records realm user context.sought)
       ≡ matches_of new.records realm user context.sought
-  pub told : (written : Written) (old new : Store) (realm : Realm) (user : List ℕ) (context : Context) → IsTaken written old new → dataset_exists old.records context.sought.dataset ≡ true
-      → moves_notices told_shape context.enumerated (moves_of context.sought (sight_for realm new user context.sought) (touched_for written old new context)) (matches_of old.records realm user context.sought)
-      ≡ event_notices context.enumerated context.sought (sight_for realm old user context.sought) (sight_for realm new user context.sought)
+  pub told : (written : Written) (old new : Store) (realm : Realm) (user : List ℕ) (context : Context)
+      → IsTaken written old new → dataset_exists old.records context.sought.dataset ≡ true
+      → moves_notices told_shape context.enumerated
+      (moves_of context.sought (sight_for realm new user context.sought)
+      (touched_for written old new context)) (matches_of old.records realm user context.sought)
+      ≡ event_notices context.enumerated context.sought (sight_for realm old user context.sought)
+      (sight_for realm new user context.sought)

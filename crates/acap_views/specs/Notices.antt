@@ -35,13 +35,15 @@ match_told matches name = find (λ found. octets_eq name found.row.name) matches
 
 -- the names of two lists, each once
 abbrev pub names_of_both : List Match → List Match → List Name
-names_of_both old new = names_told old ++ filter (λ name. not (hits.is_among name (names_told old))) (names_told new)
+names_of_both old new =
+    names_told old ++ filter (λ name. not (hits.is_among name (names_told old))) (names_told new)
 
 -- ---- what has changed
 
 -- whether a path has the same place and the same row, or is wanted neither before nor after
 abbrev pub same_match : Match → Match → Bool
-same_match a b = same_path a.path b.path && (pointwise place.ghosts.eq a.places b.places && same_row a.row b.row)
+same_match a b = same_path a.path b.path
+    && (pointwise place.ghosts.eq a.places b.places && same_row a.row b.row)
 
 abbrev pub same_tuple : Option Match → Option Match → Bool
 same_tuple None None = true
@@ -54,17 +56,20 @@ abbrev pub paths_of_both : Sight → Sight → List Path
 paths_of_both old new = old.paths ++ filter (λ path. not (is_among old.paths path)) new.paths
 
 abbrev pub changed_paths : SearchSpec → Sight → Sight → List Path
-changed_paths sought old new = filter (λ path. not (same_tuple (tuple_of old sought path) (tuple_of new sought path))) (paths_of_both old new)
+changed_paths sought old new =
+    filter (λ path. not (same_tuple (tuple_of old sought path) (tuple_of new sought path)))
+    (paths_of_both old new)
 
--- the names by which they are told, ascending in octets: with DEPTH these are the full paths, and without it what stands behind
--- the one dataset, so that the paths ascend too
+-- the names by which they are told, ascending in octets: with DEPTH these are the full paths, and without it
+-- what stands behind the one dataset, so that the paths ascend too
 abbrev pub ascending : List Name → List Name
 ascending names = table.keys (table.from_entries {R = octets_cmp} (each (λ name. (name, name)) names))
 
 abbrev pub changed_names : SearchSpec → Sight → Sight → List Name
 changed_names sought old new = ascending (each (name_told sought.depth) (changed_paths sought old new))
 
--- the notices by mixed lists: in list k the first k of these have their new matches, and all others their old ones
+-- the notices by mixed lists: in list k the first k of these
+-- have their new matches, and all others their old ones
 abbrev pub list_notices : Bool → List Match → List Match → List Name → List Notice
 list_notices enumerated old new changed =
     notices told_shape enumerated (match_told old) (match_told new) (names_of_both old new) changed

@@ -20,7 +20,8 @@ is_full contexts name = not (table.contains_key contexts name) && nat_le most_co
 abbrev pub with_context : Seated → ℕ → MakeContext → SearchSpec → List Match → ℤ → Result Seated ViewRefusal
 with_context seats seat make sought found last =
     if is_full (contexts_at seats seat) make.name then Err refusal.TryFreeContext
-    else Ok (with_contexts seats seat (table.insert (contexts_at seats seat) make.name (context_of make sought found last)))
+    else Ok (with_contexts seats seat
+    (table.insert (contexts_at seats seat) make.name (context_of make sought found last)))
 
 abbrev pub freed_by : Seated → ℕ → List ℕ → Result Seated ViewRefusal
 freed_by seats seat name =

@@ -1,4 +1,5 @@
--- What a change that is about to be committed comes to, seat by seat and context by context: words of private contracts.
+-- What a change that is about to be committed comes to, seat
+-- by seat and context by context: words of private contracts.
 use Rattle.std.specs.Prelude.{ℕ, ◌==◌, Bool, List, [], length, map as each, if◌then◌else◌}
 use Rattle.std.specs.FinMap as table
 use Rattle.std.specs.List.{list_all, sum_by}
@@ -14,7 +15,8 @@ use Rattle.acap_views.specs.Work.{work_for}
 
 abbrev pub live_shifts : Planned → List ℕ → SearchSpec → List EntryUpdate
 live_shifts plan user sought =
-    each (shift_for plan.old.records (store_ahead plan).records plan.realm user sought) (looked_at_by plan sought)
+    each (shift_for plan.old.records (store_ahead plan).records plan.realm user sought)
+    (looked_at_by plan sought)
 
 abbrev pub live_needed : Planned → List ℕ → SearchSpec → Watched → List EntryUpdate
 live_needed plan user sought watched = due_shifts watched (live_shifts plan user sought)
@@ -23,7 +25,8 @@ abbrev pub work_in : Planned → Context → ℕ
 work_in plan context = work_for plan.change.writes plan.old (store_ahead plan) context
 
 abbrev pub shifts_in : Planned → List ℕ → Context → List EntryUpdate
-shifts_in plan user context = shifts_for plan.change.writes plan.old (store_ahead plan) plan.realm user context
+shifts_in plan user context =
+    shifts_for plan.change.writes plan.old (store_ahead plan) plan.realm user context
 
 -- as many of them as are needed
 abbrev pub needed_in : Planned → List ℕ → Context → List EntryUpdate

@@ -16,14 +16,17 @@ use Rattle.acap_views.specs.Changing.{follows, changed_seats}
 use Rattle.acap_views.specs.Contexts.{Kept, Snapshot, Live, Freed, Context}
 use Rattle.acap_views.specs.Keeping.{RoomySeats, seats_in}
 use Rattle.acap_views.specs.Seats.{Occupant, Seated}
-use Rattle.acap_views.specs.EntryUpdates.{EntryUpdate, standing, after_shifts, shifts_notices, due_among, shift_code}
+use Rattle.acap_views.specs.EntryUpdates.{EntryUpdate, standing, after_shifts, shifts_notices, due_among}
+use Rattle.acap_views.specs.EntryUpdates.{shift_code}
 use Rattle.acap_views.specs.Work.{touched_for, touched_within}
 
 -- the entry at a path, as a user sees it in a search
 abbrev pub seen_at : Stored → Realm → List ℕ → SearchSpec → Path → Spotted
-seen_at records realm user sought path = spot_in (view_in (quest_of records realm user sought) path.dataset) path.name
+seen_at records realm user sought path =
+    spot_in (view_in (quest_of records realm user sought) path.dataset) path.name
 
--- what becomes of one entry: it is found by its places before the change, and what is found of it afterwards is put in
+-- what becomes of one entry: it is found by its places before
+-- the change, and what is found of it afterwards is put in
 abbrev pub shift_for : Stored → Stored → Realm → List ℕ → SearchSpec → Path → EntryUpdate
 shift_for old new realm user sought path = record {
   name = name_told sought.depth path;
@@ -39,7 +42,9 @@ shifts_if Freed shifts = []
 
 abbrev pub shifts_for : Written → Store → Store → Realm → List ℕ → Context → List EntryUpdate
 shifts_for written old new realm user context =
-    shifts_if context.kept (each (shift_for old.records new.records realm user context.sought) (touched_for written old new context))
+    shifts_if context.kept
+    (each (shift_for old.records new.records realm user context.sought)
+    (touched_for written old new context))
 
 -- of these what is due
 abbrev pub needed_if : Kept → List EntryUpdate → List EntryUpdate
@@ -57,14 +62,16 @@ kept_after enumerated shifts Freed = Freed
 abbrev pub context_after : List EntryUpdate → Context → Context
 context_after shifts context = record context { kept = kept_after context.enumerated shifts context.kept }
 
--- and what those for each context make of all of them, in the order of their names, and for each seat in the order of the seats
+-- and what those for each context make of all of them, in the order
+-- of their names, and for each seat in the order of the seats
 abbrev pub contexts_after : List (List EntryUpdate) → List (List ℕ × Context) → List (List ℕ × Context)
 contexts_after [] contexts = contexts
 contexts_after (shifts ∷ more) [] = []
 contexts_after (shifts ∷ more) (c ∷ contexts) = (c.0, context_after shifts c.1) ∷ contexts_after more contexts
 
 abbrev pub occupant_after : List (List EntryUpdate) → Occupant → Occupant
-occupant_after turns occupant = record occupant { contexts = table.from_entries (contexts_after turns (table.entries occupant.contexts)) }
+occupant_after turns occupant =
+    record occupant { contexts = table.from_entries (contexts_after turns (table.entries occupant.contexts)) }
 
 abbrev pub seats_after : List (List (List EntryUpdate)) → List (ℕ × Occupant) → List (ℕ × Occupant)
 seats_after [] seats = seats
@@ -82,7 +89,8 @@ with_delta delta seats = table.from_entries (seats_after delta.seats (table.entr
 
 -- it stands for the change, in all contexts; and so many touched entries are looked at for it
 abbrev pub IsPreparedFor : Change → Store → Realm → Seated → Prepared → Type 0
-IsPreparedFor change old realm seats delta = with_delta delta seats ≡ changed_seats realm old (store_after change old) seats
+IsPreparedFor change old realm seats delta =
+    with_delta delta seats ≡ changed_seats realm old (store_after change old) seats
 
 abbrev pub touched_for_all : Change → Store → Seated → ℕ
 touched_for_all change old seats = touched_within change.writes old (store_after change old) seats
@@ -93,5 +101,6 @@ touched_in change old seats = touched_for_all change old (seats_in seats)
 -- how they are told apart in proofs
 abbrev pub prepared_code : Coded Prepared
 prepared_code =
-    code_by (List (List (List EntryUpdate)) × ℕ) (coded× (coded_list (coded_list (coded_list shift_code))) coded_ℕ)
+    code_by (List (List (List EntryUpdate)) × ℕ)
+    (coded× (coded_list (coded_list (coded_list shift_code))) coded_ℕ)
     (λ d. (d.seats, d.work)) (λ p. record { seats = p.0; work = p.1 }) (λ _. refl)

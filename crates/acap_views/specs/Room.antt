@@ -1,4 +1,5 @@
--- What is kept in memory beside contexts: for how much more there is room. No equality of contexts speaks of it.
+-- What is kept in memory beside contexts: for how much more
+-- there is room. No equality of contexts speaks of it.
 use Rattle.std.specs.Prelude.{ℕ, suc, ◌≤◌, List, Option, IfSome, refl}
 use Rattle.std.specs.Coded.{Coded, code_by, coded×, coded_list, coded_option, coded_ℕ}
 use Rattle.acap_notices.specs.Waiting as waiting
@@ -12,7 +13,8 @@ pub record Space : Type 0 where
   pub moves : Option ℕ
   pub notices : ℕ
 
--- the lists of a live context: the one last told, the present one and the notices that wait, with room for more of these
+-- the lists of a live context: the one last told, the present
+-- one and the notices that wait, with room for more of these
 pub record Watched : Type 0 where
   pub shown : List Match
   pub present : List Match
@@ -36,10 +38,13 @@ LeavesNotices old new = (more : ℕ) → waiting.HasRoom (suc more) old → wait
 abbrev pub space_code : Coded Space
 space_code =
     code_by (ℕ × (Option ℕ × ℕ)) (coded× coded_ℕ (coded× (coded_option coded_ℕ) coded_ℕ))
-    (λ s. (s.hits, (s.moves, s.notices))) (λ p. record { hits = p.0; moves = p.1.0; notices = p.1.1 }) (λ _. refl)
+    (λ s. (s.hits, (s.moves, s.notices))) (λ p. record { hits = p.0; moves = p.1.0; notices = p.1.1 })
+    (λ _. refl)
 
 abbrev pub watched_code : Coded Watched
 watched_code =
     code_by ((List Match × List Match) × (List Notice × Space))
-    (coded× (coded× (coded_list match_code) (coded_list match_code)) (coded× (coded_list notice.the_row.coded) space_code))
-    (λ w. ((w.shown, w.present), (w.pending, w.space))) (λ p. record { shown = p.0.0; present = p.0.1; pending = p.1.0; space = p.1.1 }) (λ _. refl)
+    (coded× (coded× (coded_list match_code) (coded_list match_code))
+    (coded× (coded_list notice.the_row.coded) space_code))
+    (λ w. ((w.shown, w.present), (w.pending, w.space)))
+    (λ p. record { shown = p.0.0; present = p.0.1; pending = p.1.0; space = p.1.1 }) (λ _. refl)

@@ -31,11 +31,14 @@ contexts_at seats seat = option_map_or (λ occupant. occupant.contexts) (table.g
 
 abbrev pub with_contexts : Seated → ℕ → Contexts → Seated
 with_contexts seats seat contexts =
-    option_map_or (λ occupant. table.insert seats seat (record occupant { contexts = contexts })) (table.get seats seat) seats
+    option_map_or (λ occupant. table.insert seats seat (record occupant { contexts = contexts }))
+    (table.get seats seat) seats
 
 -- how seats are told apart in proofs
 abbrev pub occupant_code : Coded Occupant
-occupant_code = code_by (List ℕ × Contexts) (coded× (coded_list coded_ℕ) contexts_code) (λ o. (o.user, o.contexts)) (λ p. record { user = p.0; contexts = p.1 }) (λ _. refl)
+occupant_code =
+    code_by (List ℕ × Contexts) (coded× (coded_list coded_ℕ) contexts_code) (λ o. (o.user, o.contexts))
+    (λ p. record { user = p.0; contexts = p.1 }) (λ _. refl)
 
 abbrev pub seated_code : Coded Seated
 seated_code = table.code coded_ℕ occupant_code

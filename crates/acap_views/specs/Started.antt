@@ -3,4 +3,5 @@ use Rattle.acap_views.specs.Ranging.{Ranged}
 use Rattle.acap_views.specs.declared.lent_context.LentContext.{LentContext}
 
 abbrev pub as_ranged : LentContext → Ranged
-as_ranged lent = record { sought = lent.sought.now; enumerated = lent.enumerated; told = lent.told; shown = lent.shown }
+as_ranged lent =
+    record { sought = lent.sought.now; enumerated = lent.enumerated; told = lent.told; shown = lent.shown }

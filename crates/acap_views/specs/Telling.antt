@@ -1,5 +1,6 @@
 -- What a client is told of its contexts, and when [RFC 2244 sections 3.3 and 6.5].
-use Rattle.std.specs.Prelude.{ℕ, ℤ, List, [], ◌∷◌, ◌++◌, Option, Some, None, Result, Ok, Err, flat_map, map as each}
+use Rattle.std.specs.Prelude.{ℕ, ℤ, List, [], ◌∷◌, ◌++◌, Option, Some, None, Result, Ok, Err, flat_map}
+use Rattle.std.specs.Prelude.{map as each}
 use Rattle.std.specs.FinMap as table
 use Rattle.std.specs.Option.{option_map_or, option_or}
 use Rattle.acap_notices.specs.declared.told.Told.{Told}
@@ -31,7 +32,8 @@ fault_in (Live shown now pending) = None
 fault_in Freed = Some refusal.FreedContext
 
 abbrev pub fault_at : Contexts → List ℕ → Option ViewRefusal
-fault_at contexts name = option_map_or (λ context. fault_in context.kept) (table.get contexts name) (Some refusal.NoContext)
+fault_at contexts name =
+    option_map_or (λ context. fault_in context.kept) (table.get contexts name) (Some refusal.NoContext)
 
 -- the first fault in the order of the names
 abbrev pub fault_of : Contexts → List (List ℕ) → Option ViewRefusal
@@ -41,19 +43,22 @@ fault_of contexts (name ∷ names) = option_or (fault_at contexts name) (fault_o
 -- a context is told all that waits, and then the store's last moment
 abbrev pub told_by_name : Contexts → List ℕ → ℤ → List Told
 told_by_name contexts name last =
-    option_map_or (λ context. notes_of name context.kept) (table.get contexts name) [] ++ told.Upto name last ∷ []
+    option_map_or (λ context. notes_of name context.kept) (table.get contexts name) [] ++ told.Upto name last
+    ∷ []
 
 abbrev pub updated_to : ℤ → Context → Context
 updated_to last context = record context { told = last; kept = shown_now context.kept }
 
 abbrev pub after_update : Contexts → List ℕ → ℤ → Contexts
 after_update contexts name last =
-    option_map_or (λ context. table.insert contexts name (updated_to last context)) (table.get contexts name) contexts
+    option_map_or (λ context. table.insert contexts name (updated_to last context)) (table.get contexts name)
+    contexts
 
 -- one name after the other, so that for a name that is said again nothing waits
 abbrev pub told_in_turn : Contexts → List (List ℕ) → ℤ → List Told
 told_in_turn contexts [] last = []
-told_in_turn contexts (name ∷ names) last = told_by_name contexts name last ++ told_in_turn (after_update contexts name last) names last
+told_in_turn contexts (name ∷ names) last =
+    told_by_name contexts name last ++ told_in_turn (after_update contexts name last) names last
 
 abbrev pub after_updates : Contexts → List (List ℕ) → ℤ → Contexts
 after_updates contexts [] last = contexts
@@ -66,8 +71,10 @@ unless_faulty (Some refusal) x = Err refusal
 
 abbrev pub told_of : Seated → ℕ → List (List ℕ) → ℤ → Result (List Told × Seated) ViewRefusal
 told_of seats seat names last =
-    unless_faulty (fault_of (contexts_at seats seat) names)
-    (told_in_turn (contexts_at seats seat) names last, with_contexts seats seat (after_updates (contexts_at seats seat) names last))
+    unless_faulty (fault_of (contexts_at seats seat) names) (
+      told_in_turn (contexts_at seats seat) names last,
+      with_contexts seats seat (after_updates (contexts_at seats seat) names last),
+    )
 
 -- ---- a drain
 

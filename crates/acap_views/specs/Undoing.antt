@@ -1,5 +1,6 @@
 -- The list that a client was told last, as the present one with the moves since then taken back.
-use Rattle.std.specs.Prelude.{◌≡◌, ℕ, ◌-◌, ◌≤◌, List, Option, Some, None, IfSome, vec_len, vec_capacity, map as each}
+use Rattle.std.specs.Prelude.{◌≡◌, ℕ, ◌-◌, ◌≤◌, List, Option, Some, None, IfSome, vec_len, vec_capacity}
+use Rattle.std.specs.Prelude.{map as each}
 use Rattle.std.specs.Borrow.{Bor}
 use Rattle.acap_moves.specs.Moves.{Undo, undone, all_undone}
 use Rattle.acap_search.specs.Matches.{Match}

@@ -29,12 +29,15 @@ is_looked_at records sought path = list_any (octets_eq path.dataset) (datasets_o
 
 -- those in the scope of a context, as it is after the change; a context that isn't live looks at none
 abbrev pub touched_for : Written → Store → Store → Context → List Path
-touched_for written old new context = filter (is_looked_at new.records context.sought) (touched_paths written old.records new.records)
+touched_for written old new context =
+    filter (is_looked_at new.records context.sought) (touched_paths written old.records new.records)
 
 abbrev pub work_for : Written → Store → Store → Context → ℕ
-work_for written old new context = if is_live context.kept then length (touched_for written old new context) else 0
+work_for written old new context =
+    if is_live context.kept then length (touched_for written old new context) else 0
 
 -- of the contexts of all seats together
 abbrev pub touched_within : Written → Store → Store → Seated → ℕ
 touched_within written old new seats =
-    sum_by (λ occupant. sum_by (work_for written old new) (table.values occupant.contexts)) (table.values seats)
+    sum_by (λ occupant. sum_by (work_for written old new) (table.values occupant.contexts))
+    (table.values seats)

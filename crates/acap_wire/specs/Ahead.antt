@@ -49,8 +49,8 @@ acts_in seat (x ∷ xs) w acts =
     let more = with_more w x acts (acts_of w x) in
     acts_in seat xs (after_step w x) (if x.occasion.seat == seat then more else acts)
 
--- However far ahead a client sends its commands, its follower is the same: after all steps of a seat it is that
--- of the seat.
+-- However far ahead a client sends its commands, its follower is
+-- the same: after all steps of a seat it is that of the seat.
 pub record AheadLaw : Type 0 where
   pub same : (acts others : List Act) (f : Follower) → IsAhead acts others
       → follow_acts acts f ≡ follow_acts others f

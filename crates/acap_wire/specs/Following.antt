@@ -87,8 +87,8 @@ abbrev pub IsFound : Telling → View → Type 0
 IsFound t x = IsFresh (live.after t).machine t.seat x
 
 -- The follower of a seat is told the commands of its session, each before the lines of its reply, and reads
--- all lines in the octets that are said there, from the greeting of the present session on. In every run of a new
--- world:
+-- all lines in the octets that are said there, from the greeting
+-- of the present session on. In every run of a new world:
 pub record FollowerLawOf (Named : List User → List Step → Type 0) : Type 0 where
   -- what is said in a step is whole lines, whatever was heard before
   pub heard : (t : Telling) → IsReadable t → IsOwn t → (before : List (Option Line))
